@@ -1,0 +1,11 @@
+use Rattle.std.proofs.Common.{arith}
+use Rattle.mg_model.specs.Filled.{IsFilled-pop, length-filled}
+use Rattle.mg_model.proofs.few.Few.pop.Goals as goal
+
+pub invariant_of-self : goal.invariant_of-self
+invariant_of-self g c =
+    let filled = c.self.invariant in
+    let some = c.requires in
+    let view = c.self.view_is in
+    let same = length-filled _ _ c.self.inside.items c.self.inside.count filled in
+    IsFilled-pop _ _ c.self.inside.items c.self.inside.count c.blank.result filled (Prim.grind arith) c.blank.ensures

@@ -1,0 +1,74 @@
+-- Which access is allowed: a search made anew on the state of the moment.
+--
+-- Everything here is a function of the objects, the period and the slots of the thread's present frame alone.
+use Rattle.std.specs.Prelude.{ℕ, zero, suc, ◌+◌, ◌-◌, ◌*◌, ◌==◌, ◌&&◌, nat_le, nat_lt, min, Bool, false, List, [], ◌∷◌, slice_index, if◌then◌else◌, find, flat_map, length, slice_get, Option}
+use Rattle.std.specs.Option.{option_map_or}
+use Rattle.std.specs.List.{list_any}
+use Rattle.mg_model.specs.declared.slots.Pw.{Pw}
+use Rattle.mg_model.specs.declared.slots.Slot.{Slot}
+use Rattle.mg_model.specs.declared.rights.Right.{Right}
+use Rattle.mg_model.specs.declared.rights.Right.TheVariants.{R}
+use Rattle.mg_model.specs.Rights.{has_right}
+use Rattle.mg_model.specs.State.{State, Object, ObjectRow, Thread, CallFrame}
+
+-- whether an address lies in an object
+abbrev pub covers : ObjectRow → ℕ → Bool
+covers row address = nat_le row.base address && nat_lt address (row.base + 4096 * row.pages)
+
+-- the object that has the address
+abbrev pub at : List Object → ℕ → Option Object
+at objects address = find (λ (object : Object). covers object.row address) objects
+
+-- the object with this base
+abbrev pub based_at : List Object → ℕ → Option Object
+based_at objects base = find (λ (object : Object). object.row.base == base) objects
+
+-- whether a password row is current and gives the right for this password
+abbrev pub gives : ℕ → Pw → ℕ → Right → Bool
+gives period row password right = row.password == password && (has_right row.rights right && nat_lt period row.until)
+
+-- whether the object holds the password with the right
+abbrev pub holds : ℕ → ObjectRow → ℕ → Right → Bool
+holds period row password right = list_any (λ (pw : Pw). gives period pw password right) row.passwords
+
+-- the entries of a capability list from place j on, so many of them: pairs of a base and a password
+abbrev pub entries_from : List ℕ → ℕ → ℕ → List (ℕ × ℕ)
+entries_from words j zero = []
+entries_from words j (suc n) = (slice_index words (2 + 2 * j), slice_index words (3 + 2 * j)) ∷ entries_from words (j + 1) n
+
+-- of a count above 255 only 255 entries are read
+abbrev pub entry_limit : ℕ
+entry_limit = 255
+
+abbrev pub entries_of : List ℕ → List (ℕ × ℕ)
+entries_of words = entries_from words 0 (min (slice_index words 0) entry_limit)
+
+-- what a slot gives: the entries of its capability list, while the list's object holds the slot's password with R
+abbrev pub entries_under : List Object → ℕ → Slot → List (ℕ × ℕ)
+entries_under objects period slot =
+    option_map_or (λ (clist : Object). if holds period clist.row slot.password R then entries_of clist.words else []) (based_at objects slot.base) []
+
+-- the capabilities of these slots, in order
+abbrev pub capabilities : List Object → ℕ → List Slot → List (ℕ × ℕ)
+capabilities objects period slots = flat_map (λ slot. entries_under objects period slot) slots
+
+-- whether these slots reach the address with the right
+abbrev pub reaches : List Object → ℕ → List Slot → ℕ → Right → Bool
+reaches objects period slots address right =
+    option_map_or (λ (object : Object). list_any (λ (entry : ℕ × ℕ). entry.0 == object.row.base && holds period object.row entry.1 right) (capabilities objects period slots)) (at objects address) false
+
+-- the thread with this number
+abbrev pub thread_of : State → ℕ → Option Thread
+thread_of state t = find (λ (thread : Thread). thread.number == t) state.threads
+
+-- the slots of the present frame
+abbrev pub last_slots : List CallFrame → List Slot
+last_slots frames = option_map_or (λ (frame : CallFrame). frame.slots) (slice_get frames (length frames - 1)) []
+
+-- a thread's protection domain; none where no such thread lives
+abbrev pub domain_of : State → ℕ → List Slot
+domain_of state t = option_map_or (λ (thread : Thread). last_slots thread.row.frames) (thread_of state t) []
+
+-- whether the thread may reach the address with the right
+abbrev pub allowed : State → ℕ → ℕ → Right → Bool
+allowed state t address right = reaches state.objects state.counters.period (domain_of state t) address right

@@ -1,0 +1,35 @@
+-- Numbers and rows as bytes. All numbers are little-endian.
+use Rattle.std.specs.Prelude.{ℕ, zero, suc, ◌+◌, ◌-◌, ◌==◌, Bool, List, [], ◌∷◌, ◌++◌, drop, flat_map, length, replicate, take}
+use Rattle.std.specs.Int.{from_le_bytes, to_le_bytes, w64}
+use Rattle.std.specs.List.{list_all}
+
+-- a number in 8 bytes
+abbrev pub word_bytes : ℕ → List ℕ
+word_bytes n = to_le_bytes w64 n
+
+abbrev pub words_bytes : List ℕ → List ℕ
+words_bytes ns = flat_map word_bytes ns
+
+-- filled up with zeros to so many bytes
+abbrev pub padded_to : ℕ → List ℕ → List ℕ
+padded_to n bytes = bytes ++ replicate (n - length bytes) 0
+
+-- so many bytes from an offset on
+abbrev pub bytes_at : List ℕ → ℕ → ℕ → List ℕ
+bytes_at bytes offset n = take n (drop offset bytes)
+
+-- the number in the 8 bytes at an offset
+abbrev pub number_at : List ℕ → ℕ → ℕ
+number_at bytes offset = from_le_bytes w64 (bytes_at bytes offset 8)
+
+-- so many numbers from an offset on
+abbrev pub numbers_at : List ℕ → ℕ → ℕ → List ℕ
+numbers_at bytes offset zero = []
+numbers_at bytes offset (suc n) = number_at bytes offset ∷ numbers_at bytes (offset + 8) n
+
+abbrev pub are_zeros : List ℕ → Bool
+are_zeros bytes = list_all (λ b. b == 0) bytes
+
+-- the 512 words of a block
+abbrev pub block_words : List ℕ → List ℕ
+block_words block = numbers_at block 0 512

@@ -1,0 +1,169 @@
+-- How the lines of an input come from those of its parts.
+use Rattle.std.specs.Prelude.{ℕ, zero, suc, ◌+◌, ◌<◌, ◌≡◌, ◌||◌, Bool, true, false, List, [], ◌∷◌, ◌++◌, length, if◌then◌else◌, nat_lt, replicate, Option, Some, None}
+use Rattle.std.specs.Option.{option_to_list}
+use Rattle.std.specs.List.{list_any, filter_map, cons_option}
+use Rattle.std.proofs.Common.{refl, sym, ap, ◌∙◌, append-nil, arith, length-append, rules}
+use Rattle.std.proofs.lemmas.List.{length-replicate}
+use Rattle.std.proofs.lemmas.List.Folds.{list_any-append}
+use Rattle.mg_model.specs.declared.calls.Line.{Line}
+use Rattle.mg_model.specs.Words.{split_at, onto_first, is_newline, words}
+use Rattle.mg_model.specs.Lines.{bad_line, line_limit, line_of, line_of_words, lines}
+
+-- bytes go to the front of the first piece
+abbrev pub all_onto_first : List ℕ → List (List ℕ) → List (List ℕ)
+all_onto_first bytes [] = bytes ∷ []
+all_onto_first bytes (piece ∷ pieces) = (bytes ++ piece) ∷ pieces
+
+-- bytes go to the end of the last piece
+abbrev pub onto_last : List (List ℕ) → List ℕ → List (List ℕ)
+onto_last [] bytes = bytes ∷ []
+onto_last (piece ∷ []) bytes = (piece ++ bytes) ∷ []
+onto_last (piece ∷ next ∷ pieces) bytes = piece ∷ onto_last (next ∷ pieces) bytes
+
+-- all pieces but the last
+abbrev pub all_but_last : List (List ℕ) → List (List ℕ)
+all_but_last [] = []
+all_but_last (piece ∷ []) = []
+all_but_last (piece ∷ next ∷ pieces) = piece ∷ all_but_last (next ∷ pieces)
+
+-- the calls of the lines that are ended by a newline
+abbrev pub ended_lines : List (List ℕ) → List ℕ → List Line
+ended_lines built bytes = filter_map (line_of built) (all_but_last (split_at is_newline bytes))
+
+onto_then : (b : ℕ) (bytes : List ℕ) (pieces : List (List ℕ)) → onto_first b (all_onto_first bytes pieces) ≡ all_onto_first (b ∷ bytes) pieces
+onto_then b bytes [] = refl
+onto_then b bytes (piece ∷ pieces) = refl
+
+nothing_onto : (cuts : ℕ → Bool) (bytes : List ℕ) → all_onto_first [] (split_at cuts bytes) ≡ split_at cuts bytes
+nothing_onto cuts [] = refl
+nothing_onto cuts (b ∷ bytes) = elim (cuts b) as (λ v. all_onto_first [] (if v then [] ∷ split_at cuts bytes else onto_first b (split_at cuts bytes)) ≡ (if v then [] ∷ split_at cuts bytes else onto_first b (split_at cuts bytes)))
+    [ true ↦ refl | false ↦ onto_none b (split_at cuts bytes) ]
+  where
+    onto_none : (b : ℕ) (pieces : List (List ℕ)) → all_onto_first [] (onto_first b pieces) ≡ onto_first b pieces
+    onto_none b [] = refl
+    onto_none b (piece ∷ pieces) = refl
+
+any-head : (x y : Bool) → (x || y) ≡ false → x ≡ false
+any-head true y h = h
+any-head false y h = refl
+
+any-tail : (x y : Bool) → (x || y) ≡ false → y ≡ false
+any-tail true y h = cc
+any-tail false y h = h
+
+-- bytes with no cut among them, and then others
+pub split_at-append : (cuts : ℕ → Bool) (bytes rest : List ℕ) → list_any cuts bytes ≡ false → split_at cuts (bytes ++ rest) ≡ all_onto_first bytes (split_at cuts rest)
+split_at-append cuts [] rest none = sym (nothing_onto cuts rest)
+split_at-append cuts (b ∷ bytes) rest none =
+    let off : cuts b ≡ false = any-head (cuts b) (list_any cuts bytes) none in
+    let others : list_any cuts bytes ≡ false = any-tail (cuts b) (list_any cuts bytes) none in
+    let here : split_at cuts (b ∷ (bytes ++ rest)) ≡ onto_first b (split_at cuts (bytes ++ rest)) = ap (λ v. if v then [] ∷ split_at cuts (bytes ++ rest) else onto_first b (split_at cuts (bytes ++ rest))) off in
+    here ∙ ap (onto_first b) (split_at-append cuts bytes rest others) ∙ onto_then b bytes (split_at cuts rest)
+
+-- bytes with no cut among them
+pub split_at-whole : (cuts : ℕ → Bool) (bytes : List ℕ) → list_any cuts bytes ≡ false → split_at cuts bytes ≡ bytes ∷ []
+split_at-whole cuts bytes none =
+    ap (split_at cuts) (sym (append-nil bytes)) ∙ split_at-append cuts bytes [] none ∙ ap (λ v. v ∷ []) (append-nil bytes)
+
+-- there is a piece always
+pub split_at-some : (cuts : ℕ → Bool) (bytes : List ℕ) → (piece : List ℕ) × (pieces : List (List ℕ)) × (split_at cuts bytes ≡ piece ∷ pieces)
+split_at-some cuts [] = ([], [], refl)
+split_at-some cuts (b ∷ bytes) = elim (cuts b) as (λ v. (piece : List ℕ) × (pieces : List (List ℕ)) × ((if v then [] ∷ split_at cuts bytes else onto_first b (split_at cuts bytes)) ≡ piece ∷ pieces))
+    [ true ↦ ([], split_at cuts bytes, refl) | false ↦ first (split_at cuts bytes) ]
+  where
+    first : (pieces : List (List ℕ)) → (piece : List ℕ) × (more : List (List ℕ)) × (onto_first b pieces ≡ piece ∷ more)
+    first [] = (b ∷ [], [], refl)
+    first (piece ∷ pieces) = (b ∷ piece, pieces, refl)
+
+onto_last-cons : (piece bytes next : List ℕ) (pieces all : List (List ℕ)) → all ≡ next ∷ pieces → onto_last (piece ∷ all) bytes ≡ piece ∷ onto_last all bytes
+onto_last-cons piece bytes next pieces all e =
+    ap (λ v. onto_last (piece ∷ v) bytes) e ∙ ap (λ v. piece ∷ onto_last v bytes) (sym e)
+
+onto_last-first : (b : ℕ) (bytes : List ℕ) (pieces : List (List ℕ)) → onto_first b (onto_last pieces bytes) ≡ onto_last (onto_first b pieces) bytes
+onto_last-first b bytes [] = refl
+onto_last-first b bytes (piece ∷ []) = refl
+onto_last-first b bytes (piece ∷ next ∷ pieces) = refl
+
+-- bytes, and then others with no cut among them
+pub split_at-more : (cuts : ℕ → Bool) (bytes rest : List ℕ) → list_any cuts rest ≡ false → split_at cuts (bytes ++ rest) ≡ onto_last (split_at cuts bytes) rest
+split_at-more cuts [] rest none = split_at-whole cuts rest none
+split_at-more cuts (b ∷ bytes) rest none =
+    by_cut (cuts b) (split_at-more cuts bytes rest none) (split_at-some cuts bytes)
+  where
+    by_cut : (v : Bool) → split_at cuts (bytes ++ rest) ≡ onto_last (split_at cuts bytes) rest
+        → (piece : List ℕ) × (pieces : List (List ℕ)) × (split_at cuts bytes ≡ piece ∷ pieces)
+        → (if v then [] ∷ split_at cuts (bytes ++ rest) else onto_first b (split_at cuts (bytes ++ rest))) ≡ onto_last (if v then [] ∷ split_at cuts bytes else onto_first b (split_at cuts bytes)) rest
+    by_cut true h (piece, pieces, e) = ap (λ v. [] ∷ v) h ∙ sym (onto_last-cons [] rest piece pieces (split_at cuts bytes) e)
+    by_cut false h some = ap (onto_first b) h ∙ onto_last-first b rest (split_at cuts bytes)
+
+-- a line that is ended
+pub lines-ended : (built : List (List ℕ)) (bytes rest : List ℕ) → list_any is_newline bytes ≡ false → lines built (bytes ++ 10 ∷ rest) ≡ option_to_list (line_of built bytes) ++ lines built rest
+lines-ended built bytes rest none =
+    ap (filter_map (line_of built)) (split_at-append is_newline bytes (10 ∷ rest) none ∙ ap (λ v. v ∷ split_at is_newline rest) (append-nil bytes))
+    ∙ one (line_of built bytes)
+  where
+    one : (o : Option Line) → cons_option o (lines built rest) ≡ option_to_list o ++ lines built rest
+    one None = refl
+    one (Some x) = refl
+
+-- a line that is not ended
+pub lines-last : (built : List (List ℕ)) (bytes : List ℕ) → list_any is_newline bytes ≡ false → lines built bytes ≡ option_to_list (line_of built bytes)
+lines-last built bytes none = ap (filter_map (line_of built)) (split_at-whole is_newline bytes none) ∙ one (line_of built bytes)
+  where
+    one : (o : Option Line) → cons_option o [] ≡ option_to_list o
+    one None = refl
+    one (Some x) = refl
+
+-- a line that is too long is bad, whatever it holds
+pub line_of-long : (built : List (List ℕ)) (bytes : List ℕ) → line_limit < length bytes → line_of built bytes ≡ Some bad_line
+line_of-long built bytes long =
+    let yes : nat_lt line_limit (length bytes) ≡ true = search rules in
+    ap (λ v. if v then Some bad_line else line_of_words built (words bytes)) yes
+
+-- so its further bytes change nothing
+pub lines-long : (built : List (List ℕ)) (bytes : List ℕ) (b : ℕ) (rest : List ℕ) → list_any is_newline bytes ≡ false → is_newline b ≡ false → line_limit < length bytes
+    → lines built (bytes ++ b ∷ rest) ≡ lines built (bytes ++ rest)
+lines-long built bytes b rest none off long =
+    ap (filter_map (line_of built)) (split_at-append is_newline bytes (b ∷ rest) none ∙ ap (λ v. all_onto_first bytes (if v then [] ∷ split_at is_newline rest else onto_first b (split_at is_newline rest))) off)
+    ∙ dropped (split_at is_newline rest)
+    ∙ sym (ap (filter_map (line_of built)) (split_at-append is_newline bytes rest none))
+  where
+    longer : (more : List ℕ) → line_limit < length (bytes ++ more)
+    longer more = omega (arith, length-append bytes more)
+
+    dropped : (pieces : List (List ℕ)) → filter_map (line_of built) (all_onto_first bytes (onto_first b pieces)) ≡ filter_map (line_of built) (all_onto_first bytes pieces)
+    dropped [] = ap (λ o. cons_option o []) (line_of-long built (bytes ++ b ∷ []) (longer (b ∷ [])) ∙ sym (line_of-long built bytes long))
+    dropped (piece ∷ pieces) = ap (λ o. cons_option o (filter_map (line_of built) pieces)) (line_of-long built (bytes ++ b ∷ piece) (longer (b ∷ piece)) ∙ sym (line_of-long built (bytes ++ piece) (longer piece)))
+
+-- a row of bytes that is no line of any call: too long, and with no newline
+abbrev long_row : List ℕ
+long_row = replicate 257 120
+
+row_whole : (n : ℕ) → list_any is_newline (replicate n 120) ≡ false
+row_whole zero = refl
+row_whole (suc n) = row_whole n
+
+behind_row : (built : List (List ℕ)) (bytes : List ℕ) → line_of built (bytes ++ long_row) ≡ Some bad_line
+behind_row built bytes = line_of-long built (bytes ++ long_row) (omega (arith, length-append bytes long_row, length-replicate {A = ℕ} 257 120))
+
+-- of the pieces with a row behind them, the last is bad and the others are as they were
+rows : (built : List (List ℕ)) (pieces : List (List ℕ)) → length (filter_map (line_of built) (onto_last pieces long_row)) ≡ length (filter_map (line_of built) (all_but_last pieces)) + 1
+rows built [] = ap (λ o. length (cons_option o [])) (behind_row built [])
+rows built (piece ∷ []) = ap (λ o. length (cons_option o [])) (behind_row built piece)
+rows built (piece ∷ next ∷ pieces) = by_option (line_of built piece) (rows built (next ∷ pieces))
+  where
+    by_option : (o : Option Line) → length (filter_map (line_of built) (onto_last (next ∷ pieces) long_row)) ≡ length (filter_map (line_of built) (all_but_last (next ∷ pieces))) + 1
+        → length (cons_option o (filter_map (line_of built) (onto_last (next ∷ pieces) long_row))) ≡ length (cons_option o (filter_map (line_of built) (all_but_last (next ∷ pieces)))) + 1
+    by_option None h = h
+    by_option (Some x) h = omega arith
+
+-- what stands before a part without a newline are the calls of the ended lines
+pub ended_lines-exact : (built : List (List ℕ)) (bytes part : List ℕ) (ls : List Line) → ((rest : List ℕ) → lines built (bytes ++ rest) ≡ ls ++ lines built (part ++ rest)) → list_any is_newline part ≡ false
+    → length (ended_lines built bytes) ≡ length ls
+ended_lines-exact built bytes part ls cuts none =
+    let all : length (lines built (bytes ++ long_row)) ≡ length (ended_lines built bytes) + 1 =
+    ap (λ v. length (filter_map (line_of built) v)) (split_at-more is_newline bytes long_row (row_whole 257)) ∙ rows built (split_at is_newline bytes) in
+    let whole : list_any is_newline (part ++ long_row) ≡ false = list_any-append is_newline part long_row ∙ ap (λ v. v || list_any is_newline long_row) none ∙ row_whole 257 in
+    let last : length (lines built (part ++ long_row)) ≡ 1 = ap length (lines-last built (part ++ long_row) whole ∙ ap (λ o. option_to_list o) (behind_row built part)) in
+    let both : length (lines built (bytes ++ long_row)) ≡ length ls + length (lines built (part ++ long_row)) = ap length (cuts long_row) ∙ length-append ls (lines built (part ++ long_row)) in
+    omega arith

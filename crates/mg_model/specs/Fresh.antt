@@ -1,0 +1,43 @@
+-- The fresh state.
+use Rattle.std.specs.Prelude.{ℕ, List, [], ◌∷◌, replicate}
+use Rattle.mg_model.specs.declared.threads.ThrState.TheVariants.{Stopped}
+use Rattle.mg_model.specs.Draw.{password_drawn}
+use Rattle.mg_model.specs.Objects.{new_object}
+use Rattle.mg_model.specs.Settings.{Settings}
+use Rattle.mg_model.specs.State.{State, Object, Thread}
+
+-- where the root object lies
+abbrev pub root_base : ℕ
+root_base = 0x0000000100000000
+
+-- the root's words: a capability list with one entry, for the root itself
+abbrev pub root_words : ℕ → List ℕ
+root_words password = 1 ∷ 0 ∷ root_base ∷ password ∷ replicate 508 0
+
+-- one page, paid by account 1, with all rights for password 0
+abbrev pub root_object : ℕ → Object
+root_object password = record { row = (new_object root_base 1 1 password).row; words = root_words password }
+
+-- the first thread runs under the root's own password
+abbrev pub first_thread : ℕ → Thread
+first_thread password = record {
+  number = 1;
+  row = record {
+    birth = 1;
+    creator = 0;
+    pc = 0;
+    state = Stopped;
+    registers = replicate 8 0;
+    frames = record { back = 0; slots = record { base = root_base; password = password } ∷ [] } ∷ [];
+  };
+}
+
+-- the fresh state of these settings: two passwords are drawn, for the root object and for the treasury
+abbrev pub fresh : Settings → State
+fresh settings = record {
+  settings = settings;
+  counters = record { draws = 2; period = 0; cursor = 0; births = 1 };
+  objects = root_object (password_drawn settings.seed 0) ∷ [];
+  accounts = record { password = password_drawn settings.seed 1; balance = settings.credits; owed = 0 } ∷ [];
+  threads = first_thread (password_drawn settings.seed 0) ∷ [];
+}

@@ -1,0 +1,81 @@
+-- Where objects lie, and how their list changes.
+use Rattle.std.specs.Prelude.{ℕ, ◌+◌, ◌-◌, ◌*◌, ◌/◌, ◌^◌, ◌==◌, ◌||◌, nat_le, nat_lt, min, Bool, not, List, [], ◌∷◌, if◌then◌else◌, filter, map, replicate, slice_index, slice_set, None}
+use Rattle.std.specs.Option.{option_map_or}
+use Rattle.std.specs.List.{list_all}
+use Rattle.mg_model.specs.State.{Object, ObjectRow}
+use Rattle.mg_model.specs.Access.{covers, at}
+
+-- objects lie in the pages from here on, and below `page_end`
+abbrev pub first_page : ℕ
+first_page = 2 ^ 20
+
+abbrev pub page_end : ℕ
+page_end = 2 ^ 40
+
+-- the page of a base, and the page right behind an object
+abbrev pub page_of : ObjectRow → ℕ
+page_of row = row.base / 4096
+
+abbrev pub page_behind : ObjectRow → ℕ
+page_behind row = row.base / 4096 + row.pages
+
+-- whether so many pages from this one on meet no page of the object
+abbrev pub is_apart : ℕ → ℕ → Object → Bool
+is_apart page n object = nat_le (page + n) (page_of object.row) || nat_le (page_behind object.row) page
+
+-- whether they meet no object
+abbrev pub is_free : List Object → ℕ → ℕ → Bool
+is_free objects n page = list_all (λ object. is_apart page n object) objects
+
+-- the least of these numbers, which are at least one
+abbrev pub least : ℕ → List ℕ → ℕ
+least n [] = n
+least n (m ∷ ms) = least (min n m) ms
+
+-- The least page from `first_page` on at which n pages meet no object. It is the first page or one right behind an
+-- object, so the least is taken among those.
+abbrev pub lowest_free : List Object → ℕ → ℕ
+lowest_free objects n = least page_end (filter (λ page. is_free objects n page) (first_page ∷ map (λ (object : Object). page_behind object.row) objects))
+
+-- the objects with one more, in its place in the order of the bases
+abbrev pub with_object : Object → List Object → List Object
+with_object new [] = new ∷ []
+with_object new (object ∷ objects) = if nat_lt new.row.base object.row.base then new ∷ object ∷ objects else object ∷ with_object new objects
+
+-- the objects without the one with this base
+abbrev pub without_object : ℕ → List Object → List Object
+without_object base objects = filter (λ (object : Object). not (object.row.base == base)) objects
+
+-- the objects with a change of the one that has this base
+abbrev pub with_row : ℕ → (ObjectRow → ObjectRow) → List Object → List Object
+with_row base change objects = map (λ (object : Object). if object.row.base == base then record object { row = change object.row } else object) objects
+
+-- the word at an address of an object
+abbrev pub word_in : Object → ℕ → ℕ
+word_in object address = slice_index object.words ((address - object.row.base) / 8)
+
+abbrev pub word_at : List Object → ℕ → ℕ
+word_at objects address = option_map_or (λ object. word_in object address) (at objects address) 0
+
+-- the objects with another word at an address
+abbrev pub with_word : List Object → ℕ → ℕ → List Object
+with_word objects address value =
+    map (λ (object : Object). if covers object.row address then record object { words = slice_set object.words ((address - object.row.base) / 8) value } else object) objects
+
+-- the until of a password that never ends
+abbrev pub never : ℕ
+never = 2 ^ 24
+
+-- a new object: all rights for its first password, and all words 0
+abbrev pub new_object : ℕ → ℕ → ℕ → ℕ → Object
+new_object base pages account password = record {
+  row = record {
+    base = base;
+    pages = pages;
+    account = account;
+    passwords = record { password = password; rights = 63; until = never } ∷ [];
+    entries = [];
+    extension = None;
+  };
+  words = replicate (512 * pages) 0;
+}

@@ -1,0 +1,97 @@
+-- Replies as text.
+use Rattle.std.specs.Prelude.{ℕ, zero, suc, ◌+◌, ◌/◌, ◌%◌, nat_lt, List, [], ◌∷◌, ◌++◌, if◌then◌else◌, codes, map, take}
+use Rattle.std.specs.Fmt.{decimal}
+use Rattle.mg_model.specs.declared.calls.Line.{Line}
+use Rattle.mg_model.specs.declared.replies.After.{After}
+use Rattle.mg_model.specs.declared.replies.After.TheVariants as after
+use Rattle.mg_model.specs.declared.replies.Refusal.{Refusal}
+use Rattle.mg_model.specs.declared.replies.Refusal.TheVariants as refusal
+use Rattle.mg_model.specs.declared.replies.Reply.{Reply}
+use Rattle.mg_model.specs.declared.replies.Reply.TheVariants as reply
+use Rattle.mg_model.specs.declared.threads.Fault.{Fault}
+use Rattle.mg_model.specs.declared.threads.Fault.TheVariants as fault
+use Rattle.mg_model.specs.State.{State}
+use Rattle.mg_model.specs.Step.{step}
+
+-- a hexadecimal digit in lower case
+abbrev pub hex_digit : ℕ → ℕ
+hex_digit d = if nat_lt d 10 then 48 + d else 87 + d
+
+-- the last n hexadecimal digits of a number
+abbrev pub hex_digits : ℕ → ℕ → List ℕ
+hex_digits zero w = []
+hex_digits (suc n) w = hex_digits n (w / 16) ++ hex_digit (w % 16) ∷ []
+
+-- an address, a password or a word: 0x and 16 digits
+unfoldable pub hex_text : ℕ → List ℕ
+hex_text w = codes "0x" ++ hex_digits 16 w
+
+abbrev pub refusal_text : Refusal → List ℕ
+refusal_text refusal.Syntax = codes "Syntax"
+refusal_text refusal.NoThread = codes "NoThread"
+refusal_text refusal.Align = codes "Align"
+refusal_text refusal.Denied = codes "Denied"
+refusal_text refusal.Size = codes "Size"
+refusal_text refusal.Account = codes "Account"
+refusal_text refusal.Debt = codes "Debt"
+refusal_text refusal.Limit = codes "Limit"
+refusal_text refusal.Full = codes "Full"
+refusal_text refusal.NoPassword = codes "NoPassword"
+refusal_text refusal.Range = codes "Range"
+refusal_text refusal.SlotFull = codes "SlotFull"
+refusal_text refusal.NoSlot = codes "NoSlot"
+refusal_text refusal.NoEntry = codes "NoEntry"
+refusal_text refusal.Depth = codes "Depth"
+refusal_text refusal.NoFrame = codes "NoFrame"
+refusal_text refusal.NotYours = codes "NotYours"
+refusal_text refusal.NotReady = codes "NotReady"
+refusal_text refusal.Idle = codes "Idle"
+refusal_text refusal.Credit = codes "Credit"
+refusal_text refusal.Calendar = codes "Calendar"
+refusal_text refusal.Past = codes "Past"
+refusal_text refusal.Later = codes "Later"
+
+abbrev pub fault_text : Fault → List ℕ
+fault_text fault.Align = codes "Align"
+fault_text fault.Denied = codes "Denied"
+fault_text fault.Opcode = codes "Opcode"
+
+abbrev pub after_text : After → List ℕ
+after_text after.Ready = codes "Ready"
+after_text after.Stopped = codes "Stopped"
+after_text (after.Faulted kind) = codes "Faulted " ++ fault_text kind
+after_text after.Ended = codes "Ended"
+
+-- each text after one space
+abbrev pub spaced : List (List ℕ) → List ℕ
+spaced [] = []
+spaced (text ∷ texts) = 32 ∷ text ++ spaced texts
+
+-- ok and its values
+abbrev pub ok_text : List (List ℕ) → List ℕ
+ok_text values = codes "ok" ++ spaced values
+
+-- a reply, without its newline
+abbrev pub reply_text : Reply → List ℕ
+reply_text (reply.No word) = codes "no " ++ refusal_text word
+reply_text reply.Done = ok_text []
+reply_text (reply.Value w) = ok_text (hex_text w ∷ [])
+reply_text (reply.Count n) = ok_text (decimal n ∷ [])
+reply_text (reply.Made base password) = ok_text (hex_text base ∷ hex_text password ∷ [])
+reply_text (reply.Opened number password) = ok_text (decimal number ∷ hex_text password ∷ [])
+reply_text (reply.About base pages account passwords entries extension) =
+    ok_text (hex_text base ∷ decimal pages ∷ decimal account ∷ decimal passwords ∷ decimal entries ∷ decimal extension ∷ [])
+reply_text (reply.Slots count bases) = ok_text (decimal count ∷ map hex_text (take count bases))
+reply_text (reply.Turned state) = ok_text (after_text state ∷ [])
+reply_text (reply.Ran number state) = ok_text (decimal number ∷ after_text state ∷ [])
+reply_text (reply.Funds balance owed pages) = ok_text (decimal balance ∷ decimal owed ∷ decimal pages ∷ [])
+reply_text (reply.Collected period rate paid) = ok_text (decimal period ∷ decimal rate ∷ decimal paid ∷ [])
+
+-- a reply as it is put: ended by a newline
+abbrev pub reply_line : Reply → List ℕ
+reply_line answer = reply_text answer ++ 10 ∷ []
+
+-- the replies to these lines, a line each
+abbrev pub text : State → List Line → List ℕ
+text state [] = []
+text state (line ∷ more) = reply_line (step state line).1 ++ text (step state line).0 more

@@ -1,0 +1,82 @@
+-- What the fields of a live row keep.
+use Rattle.std.specs.Prelude.{◌≡◌, ◌≢◌, ℕ, ◌+◌, ◌-◌, ◌*◌, ◌/◌, ◌%◌, ◌^◌, ◌<◌, ◌≤◌, List, [], length, slice_index_or, All, AllPairs}
+use Rattle.std.specs.Option.{ForSome}
+use Rattle.mg_model.specs.declared.slots.Pw.{Pw}
+use Rattle.mg_model.specs.declared.slots.Slot.{Slot}
+use Rattle.mg_model.specs.Objects.{first_page, page_end, never}
+use Rattle.mg_model.specs.Rights.{IsRights}
+use Rattle.mg_model.specs.State.{ObjectRow, CallFrame, ThreadRow, Counters}
+
+-- a number of 64 bits
+abbrev pub IsWord : ℕ → Type 0
+IsWord n = n < 2 ^ 64
+
+pub record IsPassword (row : Pw) : Type 0 where
+  pub password : IsWord row.password
+  pub rights : IsRights row.rights
+  pub begins : 1 ≤ row.until
+  pub ends : row.until ≤ never
+
+pub record IsSlot (slot : Slot) : Type 0 where
+  pub base : IsWord slot.base
+  pub password : IsWord slot.password
+
+-- an extension has a base
+pub record IsExtension (slot : Slot) : Type 0 where
+  pub fields : IsSlot slot
+  pub some : slot.base ≢ 0
+
+-- an entry is the address of a word of the object
+pub record IsEntryOf (base pages address : ℕ) : Type 0 where
+  pub aligned : address % 8 ≡ 0
+  pub above : base ≤ address
+  pub below : address < base + 4096 * pages
+
+-- where an object lies
+pub record IsPlace (base pages : ℕ) : Type 0 where
+  pub aligned : base % 4096 ≡ 0
+  pub low : first_page ≤ base / 4096
+  pub some : 1 ≤ pages
+  pub few : pages ≤ 1024
+  pub high : base / 4096 + pages ≤ page_end
+
+pub record IsObjectRow (row : ObjectRow) : Type 0 where
+  pub place : IsPlace row.base row.pages
+  pub account_some : 1 ≤ row.account
+  pub account_few : row.account ≤ 1024
+  pub few_passwords : length row.passwords ≤ 32
+  pub passwords : All IsPassword row.passwords
+  pub few_entries : length row.entries ≤ 16
+  pub entries : All (IsEntryOf row.base row.pages) row.entries
+  pub distinct : AllPairs (λ x y. x ≢ y) row.entries
+  pub extension : ForSome row.extension IsExtension
+
+pub record IsCallFrame (frame : CallFrame) : Type 0 where
+  pub back : IsWord frame.back
+  pub aligned : frame.back % 8 ≡ 0
+  pub few : length frame.slots ≤ 8
+  pub slots : All IsSlot frame.slots
+
+-- where the first frame returns to
+abbrev pub first_back : List CallFrame → ℕ
+first_back frames = (slice_index_or frames 0 (record { back = 0; slots = [] })).back
+
+pub record IsThreadRow (row : ThreadRow) : Type 0 where
+  pub birth : IsWord row.birth
+  pub creator : row.creator < row.birth
+  pub pc : IsWord row.pc
+  pub aligned : row.pc % 8 ≡ 0
+  pub eight : length row.registers ≡ 8
+  pub registers : All IsWord row.registers
+  pub some_frame : 1 ≤ length row.frames
+  pub few_frames : length row.frames ≤ 16
+  pub frames : All IsCallFrame row.frames
+  pub bottom : first_back row.frames ≡ 0
+
+pub record IsCounters (counters : Counters) : Type 0 where
+  pub some_draws : 2 ≤ counters.draws
+  pub draws : counters.draws ≤ 2 ^ 32
+  pub period : counters.period ≤ 2 ^ 24 - 1
+  pub cursor : counters.cursor ≤ 256
+  pub some_births : 1 ≤ counters.births
+  pub births : counters.births ≤ 2 ^ 32 - 1

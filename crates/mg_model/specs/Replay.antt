@@ -1,0 +1,54 @@
+-- What an image's journal says: the open segments' bodies, written over the blocks that their indexes name.
+use Rattle.std.specs.Prelude.{ℕ, zero, suc, ◌+◌, ◌*◌, ◌==◌, ◌&&◌, nat_le, nat_lt, Bool, true, List, [], ◌∷◌, ◌++◌, if◌then◌else◌, slice_index, slice_index_or, slice_set, Option, Some, None}
+use Rattle.std.specs.List.{list_all}
+use Rattle.mg_model.specs.Bytes.{number_at}
+use Rattle.mg_model.specs.Layout.{body_limit, gate_open, globals_block, segment_body, segment_count, segment_gate, segment_index}
+
+-- an image is a list of blocks, each a list of bytes; past its end every block is empty
+abbrev pub block_of : List (List ℕ) → ℕ → List ℕ
+block_of image i = slice_index_or image i []
+
+abbrev pub is_open : List (List ℕ) → ℕ → Bool
+is_open image s = slice_index (block_of image (segment_gate s)) 0 == gate_open
+
+-- how many bodies a segment says that it has, and the block that body j belongs to
+abbrev pub body_count : List (List ℕ) → ℕ → ℕ
+body_count image s = number_at (block_of image (segment_index s)) 0
+
+abbrev pub home_of : List (List ℕ) → ℕ → ℕ → ℕ
+home_of image s j = number_at (block_of image (segment_index s)) (8 + 8 * j)
+
+-- the writes of a segment from body j on, so many of them: pairs of a block's number and what is written there
+abbrev pub writes_from : List (List ℕ) → ℕ → ℕ → ℕ → List (ℕ × List ℕ)
+writes_from image s j zero = []
+writes_from image s j (suc n) = (home_of image s j, block_of image (segment_body s j)) ∷ writes_from image s (j + 1) n
+
+-- what a segment writes, which is nothing where it is closed
+abbrev pub writes_of : List (List ℕ) → ℕ → List (ℕ × List ℕ)
+writes_of image s = if is_open image s then writes_from image s 0 (body_count image s) else []
+
+-- a closed segment is ignored; an open one has at most 160 bodies, each of a block behind the journal and below the total
+abbrev pub homes_fit : ℕ → List (ℕ × List ℕ) → Bool
+homes_fit total writes = list_all (λ (write : ℕ × List ℕ). nat_le globals_block write.0 && nat_lt write.0 total) writes
+
+abbrev pub segment_fits : ℕ → List (List ℕ) → ℕ → Bool
+segment_fits total image s = if is_open image s then nat_le (body_count image s) body_limit && homes_fit total (writes_of image s) else true
+
+-- from segment s on, so many of them
+abbrev pub segments_fit : ℕ → List (List ℕ) → ℕ → ℕ → Bool
+segments_fit total image s zero = true
+segments_fit total image s (suc n) = segment_fits total image s && segments_fit total image (s + 1) n
+
+abbrev pub writes_since : List (List ℕ) → ℕ → ℕ → List (ℕ × List ℕ)
+writes_since image s zero = []
+writes_since image s (suc n) = writes_of image s ++ writes_since image (s + 1) n
+
+-- the image after these writes, in order
+abbrev pub written : List (List ℕ) → List (ℕ × List ℕ) → List (List ℕ)
+written image [] = image
+written image ((i, block) ∷ writes) = written (slice_set image i block) writes
+
+-- the image after the open segments in order, if each of them fits
+abbrev pub replay : List (List ℕ) → ℕ → Option (List (List ℕ))
+replay image total =
+    if segments_fit total image 0 segment_count then Some (written image (writes_since image 0 segment_count)) else None

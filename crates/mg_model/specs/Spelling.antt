@@ -1,0 +1,175 @@
+-- How rows are spelled in bytes: each row in one way alone, so a row is read where writing it gives the bytes back.
+use Rattle.std.specs.Prelude.{ℕ, zero, suc, ◌+◌, ◌*◌, ◌==◌, ◌&&◌, nat_lt, Bool, true, not, min, List, [], ◌∷◌, ◌++◌, flat_map, if◌then◌else◌, is_some, length, map, replicate, slice_index, Option, Some, None}
+use Rattle.std.specs.Option.{option_map_or}
+use Rattle.mg_model.specs.declared.accounts.AccRow.{AccRow}
+use Rattle.mg_model.specs.declared.slots.Pw.{Pw}
+use Rattle.mg_model.specs.declared.slots.Slot.{Slot}
+use Rattle.mg_model.specs.declared.threads.Fault.TheVariants as fault
+use Rattle.mg_model.specs.declared.threads.ThrState.{ThrState}
+use Rattle.mg_model.specs.declared.threads.ThrState.TheVariants.{Ready, Stopped, Faulted}
+use Rattle.mg_model.specs.Bytes.{are_zeros, bytes_at, number_at, numbers_at, padded_to, words_bytes}
+use Rattle.mg_model.specs.Layout.{magic, version}
+use Rattle.mg_model.specs.Settings.{Settings, within_limits}
+use Rattle.mg_model.specs.State.{CallFrame, Counters, ObjectRow, ThreadRow}
+use Rattle.mg_model.specs.Tariff.{is_tariff}
+use Rattle.mg_model.specs.Tests.{are_counters, is_object_row, is_thread_row}
+use Rattle.mg_model.specs.Words.{same_bytes}
+
+-- What some bytes spell of a row: nothing, that the row is free, or a live row.
+abbrev pub Read : Type 0 → Type 0
+Read R = Option (Option R)
+
+-- a live row, where it keeps its rule and these are its bytes
+abbrev pub live_if : {R : Type 0} → Bool → List ℕ → List ℕ → R → Read R
+live_if rule written bytes row = if rule && same_bytes written bytes then Some (Some row) else None
+
+-- a free row is all zeros
+abbrev pub free_or : {R : Type 0} → List ℕ → Read R → Read R
+free_or bytes live = if are_zeros bytes then Some None else live
+
+-- an account: 64 bytes
+abbrev pub account_bytes : AccRow → List ℕ
+account_bytes row = padded_to 64 (words_bytes (1 ∷ row.password ∷ row.balance ∷ row.owed ∷ []))
+
+abbrev pub account_fields : List ℕ → AccRow
+account_fields bytes = record { password = number_at bytes 8; balance = number_at bytes 16; owed = number_at bytes 24 }
+
+abbrev pub account_read : List ℕ → Read AccRow
+account_read bytes = free_or bytes (live_if true (account_bytes (account_fields bytes)) bytes (account_fields bytes))
+
+-- an object: 1,024 bytes
+abbrev pub object_head : ObjectRow → List ℕ
+object_head row =
+    words_bytes (
+    1 ∷ row.base ∷ row.pages ∷ row.account ∷ length row.passwords ∷ length row.entries
+    ∷ (if is_some row.extension then 1 else 0)
+    ∷ option_map_or (λ (slot : Slot). slot.base) row.extension 0
+    ∷ option_map_or (λ (slot : Slot). slot.password) row.extension 0
+    ∷ [])
+
+abbrev pub object_bytes : ObjectRow → List ℕ
+object_bytes row =
+    padded_to 80 (object_head row)
+    ++ (padded_to 256 (words_bytes (map (λ (pw : Pw). pw.password) row.passwords))
+    ++ (padded_to 32 (map (λ (pw : Pw). pw.rights) row.passwords)
+    ++ (padded_to 128 (words_bytes row.entries)
+    ++ (padded_to 256 (words_bytes (map (λ (pw : Pw). pw.until) row.passwords))
+    ++ replicate 272 0))))
+
+-- the password rows that begin at place k, so many of them
+abbrev pub passwords_at : List ℕ → ℕ → ℕ → List Pw
+passwords_at bytes k zero = []
+passwords_at bytes k (suc n) =
+    record { password = number_at bytes (80 + 8 * k); rights = slice_index bytes (336 + k); until = number_at bytes (496 + 8 * k) } ∷ passwords_at bytes (k + 1) n
+
+abbrev pub extension_at : List ℕ → Option Slot
+extension_at bytes = if number_at bytes 48 == 1 then Some record { base = number_at bytes 56; password = number_at bytes 64 } else None
+
+-- the fields; of a count past its limit one more is read, which no rule lets pass
+abbrev pub object_fields : List ℕ → ObjectRow
+object_fields bytes = record {
+  base = number_at bytes 8;
+  pages = number_at bytes 16;
+  account = number_at bytes 24;
+  passwords = passwords_at bytes 0 (min (number_at bytes 32) 33);
+  entries = numbers_at bytes 368 (min (number_at bytes 40) 17);
+  extension = extension_at bytes;
+}
+
+abbrev pub object_read : List ℕ → Read ObjectRow
+object_read bytes = free_or bytes (live_if (is_object_row (object_fields bytes)) (object_bytes (object_fields bytes)) bytes (object_fields bytes))
+
+-- a thread: a block
+abbrev pub state_number : ThrState → ℕ
+state_number Ready = 0
+state_number Stopped = 1
+state_number (Faulted fault.Align) = 2
+state_number (Faulted fault.Denied) = 3
+state_number (Faulted fault.Opcode) = 4
+
+abbrev pub state_numbered : ℕ → ThrState
+state_numbered n =
+    if n == 0 then Ready
+    else if n == 1 then Stopped
+    else if n == 2 then Faulted fault.Align
+    else if n == 3 then Faulted fault.Denied
+    else Faulted fault.Opcode
+
+abbrev pub slot_words : Slot → List ℕ
+slot_words slot = slot.base ∷ slot.password ∷ []
+
+-- a frame of a thread: 144 bytes
+abbrev pub frame_bytes : CallFrame → List ℕ
+frame_bytes frame = padded_to 144 (words_bytes (frame.back ∷ length frame.slots ∷ flat_map slot_words frame.slots))
+
+abbrev pub thread_bytes : ThreadRow → List ℕ
+thread_bytes row =
+    padded_to 64 (words_bytes (1 ∷ row.birth ∷ row.creator ∷ row.pc ∷ state_number row.state ∷ length row.frames ∷ []))
+    ++ padded_to 4032 (words_bytes row.registers ++ flat_map frame_bytes row.frames)
+
+abbrev pub slots_at : List ℕ → ℕ → ℕ → List Slot
+slots_at bytes offset zero = []
+slots_at bytes offset (suc n) = record { base = number_at bytes offset; password = number_at bytes (offset + 8) } ∷ slots_at bytes (offset + 16) n
+
+abbrev pub frame_at : List ℕ → ℕ → CallFrame
+frame_at bytes offset = record { back = number_at bytes offset; slots = slots_at bytes (offset + 16) (min (number_at bytes (offset + 8)) 9) }
+
+abbrev pub frames_at : List ℕ → ℕ → ℕ → List CallFrame
+frames_at bytes offset zero = []
+frames_at bytes offset (suc n) = frame_at bytes offset ∷ frames_at bytes (offset + 144) n
+
+abbrev pub thread_fields : List ℕ → ThreadRow
+thread_fields bytes = record {
+  birth = number_at bytes 8;
+  creator = number_at bytes 16;
+  pc = number_at bytes 24;
+  state = state_numbered (number_at bytes 32);
+  registers = numbers_at bytes 64 8;
+  frames = frames_at bytes 128 (min (number_at bytes 40) 17);
+}
+
+abbrev pub thread_read : List ℕ → Read ThreadRow
+thread_read bytes = free_or bytes (live_if (is_thread_row (thread_fields bytes)) (thread_bytes (thread_fields bytes)) bytes (thread_fields bytes))
+
+-- the globals: a block, never free
+abbrev pub globals_bytes : Counters → List ℕ
+globals_bytes counters = padded_to 4096 (words_bytes (counters.draws ∷ counters.period ∷ counters.cursor ∷ counters.births ∷ []))
+
+abbrev pub globals_fields : List ℕ → Counters
+globals_fields bytes = record { draws = number_at bytes 0; period = number_at bytes 8; cursor = number_at bytes 16; births = number_at bytes 24 }
+
+abbrev pub globals_read : List ℕ → Option Counters
+globals_read bytes =
+    if are_counters (globals_fields bytes) && same_bytes (globals_bytes (globals_fields bytes)) bytes then Some (globals_fields bytes) else None
+
+-- the superblock
+abbrev pub step_words : List (ℕ × ℕ) → List ℕ
+step_words steps = flat_map (λ (step : ℕ × ℕ). step.0 ∷ step.1 ∷ []) steps
+
+abbrev pub super_bytes : Settings → List ℕ
+super_bytes settings =
+    magic ++ padded_to 4088 (words_bytes (version ∷ settings.frames ∷ settings.credits ∷ []) ++ (settings.seed ++ words_bytes (step_words settings.tariff)))
+
+abbrev pub steps_at : List ℕ → ℕ → ℕ → List (ℕ × ℕ)
+steps_at bytes offset zero = []
+steps_at bytes offset (suc n) = (number_at bytes offset, number_at bytes (offset + 8)) ∷ steps_at bytes (offset + 16) n
+
+abbrev pub super_fields : List ℕ → Settings
+super_fields bytes = record { frames = number_at bytes 16; seed = bytes_at bytes 32 32; credits = number_at bytes 24; tariff = steps_at bytes 64 4 }
+
+abbrev pub are_settings : Settings → Bool
+are_settings settings = within_limits settings.frames settings.credits && is_tariff settings.tariff
+
+-- What a superblock spells: none, one of an older version, a damaged one, or the settings of a volume.
+pub data SuperRead : Type 0 where
+  NotSuper : SuperRead
+  OldSuper : SuperRead
+  BadSuper : SuperRead
+  Spells : Settings → SuperRead
+
+abbrev pub super_read : List ℕ → SuperRead
+super_read bytes =
+    if not (same_bytes magic (bytes_at bytes 0 8)) then NotSuper
+    else if nat_lt (number_at bytes 8) version then OldSuper
+    else if are_settings (super_fields bytes) && same_bytes (super_bytes (super_fields bytes)) bytes then Spells (super_fields bytes)
+    else BadSuper

@@ -1,0 +1,54 @@
+-- What the machine holds.
+use Rattle.std.specs.Prelude.{ℕ, List, Option}
+use Rattle.mg_model.specs.declared.accounts.AccRow.{AccRow}
+use Rattle.mg_model.specs.declared.slots.Pw.{Pw}
+use Rattle.mg_model.specs.declared.slots.Slot.{Slot}
+use Rattle.mg_model.specs.declared.threads.ThrState.{ThrState}
+use Rattle.mg_model.specs.Settings.{Settings}
+
+-- what is known of an object beside its words
+pub record ObjectRow : Type 0 where
+  pub base : ℕ
+  pub pages : ℕ
+  pub account : ℕ
+  pub passwords : List Pw
+  pub entries : List ℕ
+  pub extension : Option Slot
+
+-- an object: every word of it stands in the list, one that was never stored to as 0
+pub record Object : Type 0 where
+  pub row : ObjectRow
+  pub words : List ℕ
+
+-- a frame of a thread: where its call returns to, and the slots that it runs under
+pub record CallFrame : Type 0 where
+  pub back : ℕ
+  pub slots : List Slot
+
+-- what is known of a thread; its present frame is the last
+pub record ThreadRow : Type 0 where
+  pub birth : ℕ
+  pub creator : ℕ
+  pub pc : ℕ
+  pub state : ThrState
+  pub registers : List ℕ
+  pub frames : List CallFrame
+
+pub record Thread : Type 0 where
+  pub number : ℕ
+  pub row : ThreadRow
+
+-- how many passwords were drawn, the period, the thread that `next` ran last, and the last birth number
+pub record Counters : Type 0 where
+  pub draws : ℕ
+  pub period : ℕ
+  pub cursor : ℕ
+  pub births : ℕ
+
+-- the objects stand in the order of their bases, the threads in that of their numbers; account n stands at place n - 1
+pub record State : Type 0 where
+  pub settings : Settings
+  pub counters : Counters
+  pub objects : List Object
+  pub accounts : List AccRow
+  pub threads : List Thread

@@ -1,0 +1,242 @@
+-- Turns: a thread runs one word of its script.
+use Rattle.std.specs.Prelude.{ℕ, ◌+◌, ◌-◌, ◌*◌, ◌%◌, ◌^◌, ◌==◌, ◌&&◌, nat_le, nat_lt, Bool, true, false, not, List, [], ◌∷◌, if◌then◌else◌, find, Option, Some, None}
+use Rattle.std.specs.Option.{option_map_or, option_or}
+use Rattle.mg_model.specs.declared.calls.Call.{Call}
+use Rattle.mg_model.specs.declared.calls.Call.TheVariants as call
+use Rattle.mg_model.specs.declared.instructions.Instr.{Instr}
+use Rattle.mg_model.specs.declared.instructions.Instr.TheVariants as op
+use Rattle.mg_model.specs.declared.replies.After.{After}
+use Rattle.mg_model.specs.declared.replies.After.TheVariants as after
+use Rattle.mg_model.specs.declared.replies.Refusal.{Refusal}
+use Rattle.mg_model.specs.declared.replies.Refusal.TheVariants as refusal
+use Rattle.mg_model.specs.declared.replies.Reply.{Reply}
+use Rattle.mg_model.specs.declared.replies.Reply.TheVariants as reply
+use Rattle.mg_model.specs.declared.rights.Right.TheVariants.{R, W, X}
+use Rattle.mg_model.specs.declared.threads.Fault.{Fault}
+use Rattle.mg_model.specs.declared.threads.Fault.TheVariants as fault
+use Rattle.mg_model.specs.declared.threads.ThrState.{ThrState}
+use Rattle.mg_model.specs.declared.threads.ThrState.TheVariants.{Ready, Stopped, Faulted}
+use Rattle.mg_model.specs.Access.{allowed}
+use Rattle.mg_model.specs.BankCalls.{balance, open_account, pay}
+use Rattle.mg_model.specs.Domains.{apdadd, apddel, apdlist, pdx, ret, row_of, with_thread}
+use Rattle.mg_model.specs.ObjectCalls.{create, delete, entry, ext, info, is_aligned, load, pwadd, pwdel, recharge, store}
+use Rattle.mg_model.specs.Objects.{with_word, word_at}
+use Rattle.mg_model.specs.Refused.{Answer, row}
+use Rattle.mg_model.specs.Script.{decoded, jumped, operand, register, with_register, word_end}
+use Rattle.mg_model.specs.State.{State, Thread, ThreadRow}
+use Rattle.mg_model.specs.Threads.{end_thread, make_thread, resume}
+
+-- The calls of a thread that lives, but for its turn: what a line reaches, and a script too. `turn`, `next` and `rent`
+-- are no calls of this kind.
+abbrev pub thread_call : State → ℕ → Call → Answer
+thread_call state t (call.Load a) = load state t a
+thread_call state t (call.Store a value) = store state t a value
+thread_call state t (call.Create n account password) = create state n account password
+thread_call state t (call.Delete b) = delete state t b
+thread_call state t (call.Info b) = info state t b
+thread_call state t (call.Pwadd b rights until) = pwadd state t b rights until
+thread_call state t (call.Pwdel b password) = pwdel state t b password
+thread_call state t (call.Entry b off) = entry state t b off
+thread_call state t (call.Ext b clist password) = ext state t b clist password
+thread_call state t (call.Recharge b account password) = recharge state t b account password
+thread_call state t (call.Apdadd clist password) = apdadd state t clist password
+thread_call state t (call.Apddel index) = apddel state t index
+thread_call state t call.Apdlist = apdlist state t
+thread_call state t (call.Pdx a mask) = pdx state t a mask
+thread_call state t call.Ret = ret state t
+thread_call state t (call.Thread pc) = make_thread state t pc
+thread_call state t (call.End i) = end_thread state t i
+thread_call state t (call.Resume i) = resume state t i
+thread_call state t (call.Account account password amount) = open_account state account password amount
+thread_call state t (call.Pay account password to amount) = pay state account password to amount
+thread_call state t (call.Balance account password) = balance state account password
+thread_call state t call.Turn = (state, reply.No refusal.Syntax)
+thread_call state t call.Next = (state, reply.No refusal.Syntax)
+thread_call state t call.Rent = (state, reply.No refusal.Syntax)
+thread_call state t call.Bad = (state, reply.No refusal.Syntax)
+thread_call state t call.Later = (state, reply.No refusal.Later)
+
+-- the number of a refusal, as a script sees it
+abbrev pub refusal_number : Refusal → ℕ
+refusal_number refusal.Syntax = 1
+refusal_number refusal.NoThread = 2
+refusal_number refusal.Align = 3
+refusal_number refusal.Denied = 4
+refusal_number refusal.Size = 5
+refusal_number refusal.Account = 6
+refusal_number refusal.Debt = 7
+refusal_number refusal.Limit = 8
+refusal_number refusal.Full = 9
+refusal_number refusal.NoPassword = 10
+refusal_number refusal.Range = 11
+refusal_number refusal.SlotFull = 12
+refusal_number refusal.NoSlot = 13
+refusal_number refusal.NoEntry = 14
+refusal_number refusal.Depth = 15
+refusal_number refusal.NoFrame = 16
+refusal_number refusal.NotYours = 17
+refusal_number refusal.NotReady = 18
+refusal_number refusal.Idle = 19
+refusal_number refusal.Credit = 20
+refusal_number refusal.Calendar = 21
+refusal_number refusal.Past = 22
+refusal_number refusal.Later = 0
+
+-- the rights of a `pwadd` by a script are given as their bits
+abbrev pub spelled_pwadd : ℕ → ℕ → Option ℕ → Call
+spelled_pwadd b rights until = if nat_le 1 rights && nat_le rights 63 then call.Pwadd b rights until else call.Bad
+
+-- the call that a thread's registers spell: register 0 has its number, and from register 1 on come its arguments
+abbrev pub spelled : ThreadRow → Call
+spelled thread =
+    let r = λ (k : ℕ). register thread k in
+    if r 0 == 1 then call.Load (r 1)
+    else if r 0 == 2 then call.Store (r 1) (r 2)
+    else if r 0 == 3 then call.Create (r 1) (r 2) (r 3)
+    else if r 0 == 4 then call.Delete (r 1)
+    else if r 0 == 5 then call.Info (r 1)
+    else if r 0 == 6 then spelled_pwadd (r 1) (r 2) None
+    else if r 0 == 7 then call.Pwdel (r 1) (r 2)
+    else if r 0 == 8 then call.Entry (r 1) (r 2)
+    else if r 0 == 9 then call.Ext (r 1) (r 2) (r 3)
+    else if r 0 == 10 then call.Recharge (r 1) (r 2) (r 3)
+    else if r 0 == 11 then call.Apdadd (r 1) (r 2)
+    else if r 0 == 12 then call.Apddel (r 1)
+    else if r 0 == 13 then call.Thread (r 1)
+    else if r 0 == 14 then call.End (r 1)
+    else if r 0 == 15 then call.Resume (r 1)
+    else if r 0 == 16 then call.Account (r 1) (r 2) (r 3)
+    else if r 0 == 17 then call.Pay (r 1) (r 2) (r 3) (r 4)
+    else if r 0 == 18 then call.Balance (r 1) (r 2)
+    else if r 0 == 19 then spelled_pwadd (r 1) (r 2) (Some (r 3))
+    else call.Bad
+
+-- the values of an ok reply, in order
+abbrev pub values_of : Reply → List ℕ
+values_of (reply.No word) = []
+values_of reply.Done = []
+values_of (reply.Value w) = w ∷ []
+values_of (reply.Count n) = n ∷ []
+values_of (reply.Made base password) = base ∷ password ∷ []
+values_of (reply.Opened number password) = number ∷ password ∷ []
+values_of (reply.About base pages account passwords entries extension) = base ∷ pages ∷ account ∷ passwords ∷ entries ∷ extension ∷ []
+values_of (reply.Slots count bases) = []
+values_of (reply.Turned state) = []
+values_of (reply.Ran number state) = []
+values_of (reply.Funds balance owed pages) = balance ∷ owed ∷ pages ∷ []
+values_of (reply.Collected period rate paid) = period ∷ rate ∷ paid ∷ []
+
+-- these values stand in the registers from one on
+abbrev pub with_registers : ThreadRow → ℕ → List ℕ → ThreadRow
+with_registers thread k [] = thread
+with_registers thread k (value ∷ values) = with_registers (with_register thread k value) (k + 1) values
+
+-- what a script sees of a reply: register 0 is 0 and the values follow, or it is the refusal's number
+abbrev pub settled : Reply → ThreadRow → ThreadRow
+settled (reply.No word) thread = with_register thread 0 (refusal_number word)
+settled said thread = with_registers thread 0 (0 ∷ values_of said)
+
+-- the same where only a refusal is seen, and register 0 becomes this where the call was ok
+abbrev pub settled_call : (ThreadRow → ThreadRow) → Reply → ThreadRow → ThreadRow
+settled_call on_ok (reply.No word) thread = with_register thread 0 (refusal_number word)
+settled_call on_ok said thread = on_ok thread
+
+-- a call made by a script, and what the thread sees of its reply
+abbrev pub call_settled : Answer → ℕ → (Reply → ThreadRow → ThreadRow) → State
+call_settled answer t sees = with_thread answer.0 t (sees answer.1)
+
+-- the thread faults, and nothing else of it changes
+abbrev pub faulted : State → ℕ → Fault → State
+faulted state t kind = with_thread state t (λ thread. record thread { state = Faulted kind })
+
+-- the state with this row in place of the thread's
+abbrev pub put_row : State → ℕ → ThreadRow → State
+put_row state t thread = with_thread state t (λ _. thread)
+
+-- a load or a store by a script: the address is tested first, then the right
+abbrev pub unless_faulted : State → ℕ → ℕ → Bool → State → State
+unless_faulted state t address may done =
+    if not (is_aligned address) then faulted state t fault.Align
+    else if not may then faulted state t fault.Denied
+    else done
+
+-- Runs an instruction that stands at `here`; the row is the thread's, its pc advanced.
+abbrev pub run : State → ℕ → ℕ → ThreadRow → Instr → State
+run state t here thread op.Halt = put_row state t (record thread { state = Stopped })
+run state t here thread (op.Set a i) = put_row state t (with_register thread a i)
+run state t here thread (op.High a i) = put_row state t (with_register thread a (register thread a % 2 ^ 32 + i * 2 ^ 32))
+run state t here thread (op.Add a b c) = put_row state t (with_register thread a ((register thread b + register thread c) % word_end))
+run state t here thread (op.Sub a b c) = put_row state t (with_register thread a ((register thread b + word_end - register thread c) % word_end))
+run state t here thread (op.Lt a b c) = put_row state t (with_register thread a (if nat_lt (register thread b) (register thread c) then 1 else 0))
+run state t here thread (op.Load a b i) =
+    let address = operand thread b i in
+    unless_faulted state t address (allowed state t address R) (put_row state t (with_register thread a (word_at state.objects address)))
+run state t here thread (op.Store a b i) =
+    let address = operand thread b i in
+    unless_faulted state t address (allowed state t address W) (put_row (record state { objects = with_word state.objects address (register thread a) }) t thread)
+run state t here thread (op.Jump i) = put_row state t (jumped thread here i)
+run state t here thread (op.Jz a i) = put_row state t (if register thread a == 0 then jumped thread here i else thread)
+run state t here thread (op.Jnz a i) = put_row state t (if register thread a == 0 then thread else jumped thread here i)
+run state t here thread (op.Pdx a b) =
+    let mask = register thread b in
+    let before = put_row state t thread in
+    call_settled (if nat_lt 255 mask then (before, reply.No refusal.Syntax) else pdx before t (register thread a) mask) t (settled_call (λ entered. with_register entered 0 0))
+run state t here thread op.Ret = call_settled (ret (put_row state t thread) t) t (settled_call (λ returned. returned))
+run state t here thread op.Yield = put_row state t thread
+run state t here thread op.Sys = call_settled (thread_call (put_row state t thread) t (spelled thread)) t settled
+
+-- the pc is first advanced by the width of a word
+abbrev pub advanced : ThreadRow → ThreadRow
+advanced thread = record thread { pc = (thread.pc + 8) % word_end }
+
+abbrev pub run_word : State → ℕ → ThreadRow → Option Instr → State
+run_word state t thread None = faulted state t fault.Opcode
+run_word state t thread (Some instr) = run state t thread.pc (advanced thread) instr
+
+-- what is left of the thread after its turn
+abbrev pub as_after : ThrState → After
+as_after Ready = after.Ready
+as_after Stopped = after.Stopped
+as_after (Faulted kind) = after.Faulted kind
+
+abbrev pub after_of : State → ℕ → After
+after_of state t = option_map_or (λ (thread : ThreadRow). as_after thread.state) (row_of state t) after.Ended
+
+-- the state after the turn of a thread with this row
+abbrev pub turned : State → ℕ → ThreadRow → State
+turned state t thread = if allowed state t thread.pc X then run_word state t thread (decoded (word_at state.objects thread.pc)) else faulted state t fault.Denied
+
+abbrev pub turn_state : State → ℕ → State
+turn_state state t = option_map_or (λ thread. turned state t thread) (row_of state t) state
+
+abbrev pub is_ready : ThrState → Bool
+is_ready Ready = true
+is_ready Stopped = false
+is_ready (Faulted kind) = false
+
+abbrev pub thread_is_ready : State → ℕ → Bool
+thread_is_ready state t = option_map_or (λ (thread : ThreadRow). is_ready thread.state) (row_of state t) false
+
+-- `turn`
+abbrev pub turn : State → ℕ → Answer
+turn state t =
+    row state ((not (thread_is_ready state t), refusal.NotReady) ∷ [])
+    (turn_state state t, reply.Turned (after_of (turn_state state t) t))
+
+-- the least number above the cursor of a thread that is Ready, else the least; the threads stand in order
+abbrev pub ready_above : ℕ → List Thread → Option Thread
+ready_above cursor threads = find (λ (thread : Thread). is_ready thread.row.state && nat_lt cursor thread.number) threads
+
+abbrev pub picked : State → Option Thread
+picked state = option_or (ready_above state.counters.cursor state.threads) (ready_above 0 state.threads)
+
+-- the cursor becomes the thread that runs, and then it has its turn
+abbrev pub run_next : State → Option Thread → Answer
+run_next state None = (state, reply.No refusal.Idle)
+run_next state (Some thread) =
+    let before = record state { counters = record state.counters { cursor = thread.number } } in
+    (turn_state before thread.number, reply.Ran thread.number (after_of (turn_state before thread.number) thread.number))
+
+-- `next`
+abbrev pub next : State → Answer
+next state = run_next state (picked state)

@@ -1,0 +1,186 @@
+-- What an image spells: no volume, an older one, a damaged one, or a state of the machine.
+use Rattle.std.specs.Prelude.{ℕ, zero, suc, ◌+◌, ◌*◌, ◌/◌, ◌%◌, ◌^◌, ◌==◌, ◌&&◌, nat_le, nat_lt, Bool, true, false, not, List, [], ◌∷◌, ◌++◌, drop, filter, if◌then◌else◌, length, map, position, replicate, slice_index, sum_by, take, Option, Some, None}
+use Rattle.std.specs.Option.{option_map_or}
+use Rattle.std.specs.List.{list_all, list_any}
+use Rattle.mg_model.specs.declared.accounts.AccRow.{AccRow}
+use Rattle.mg_model.specs.Bank.{used}
+use Rattle.mg_model.specs.Bytes.{are_zeros, block_words, bytes_at}
+use Rattle.mg_model.specs.Layout.{account_rows, account_size, first_account_block, first_frame, first_object_block, first_thread_block, gate_block, gate_open, globals_block, object_rows, object_size, super_block, table_block, table_blocks, thread_rows, total_blocks}
+use Rattle.mg_model.specs.Objects.{page_behind, page_of, with_object}
+use Rattle.mg_model.specs.Replay.{block_of, replay}
+use Rattle.mg_model.specs.Settings.{Settings}
+use Rattle.mg_model.specs.Spelling.{Read, account_read, globals_read, object_read, super_read, NotSuper, OldSuper, BadSuper, Spells, SuperRead, thread_read}
+use Rattle.mg_model.specs.State.{Counters, Object, ObjectRow, State, Thread, ThreadRow}
+use Rattle.mg_model.specs.Tests.{all_distinct}
+use Rattle.mg_model.specs.Words.{and_then}
+
+pub data VolumeRead : Type 0 where
+  NotVolume : VolumeRead
+  OldVolume : VolumeRead
+  Damaged : VolumeRead
+  Is : State → VolumeRead
+
+-- row i of a table whose rows of this size begin at a block
+abbrev pub row_bytes : List (List ℕ) → ℕ → ℕ → ℕ → List ℕ
+row_bytes image first size i = bytes_at (block_of image (first + i / (4096 / size))) (size * (i % (4096 / size))) size
+
+abbrev pub account_row_bytes : List (List ℕ) → ℕ → List ℕ
+account_row_bytes image i = row_bytes image first_account_block account_size i
+
+abbrev pub thread_row_bytes : List (List ℕ) → ℕ → List ℕ
+thread_row_bytes image i = block_of image (first_thread_block + i)
+
+abbrev pub object_row_bytes : List (List ℕ) → ℕ → List ℕ
+object_row_bytes image i = row_bytes image first_object_block object_size i
+
+-- a live row joins the others with its place, a free one does not
+abbrev pub with_live : {R : Type 0} → ℕ → Option R → List (ℕ × R) → List (ℕ × R)
+with_live i None rows = rows
+with_live i (Some row) rows = (i, row) ∷ rows
+
+-- the live rows from place i on, so many places, each with its place; none where one of them spells nothing
+abbrev pub live_rows : {R : Type 0} → (ℕ → Read R) → ℕ → ℕ → Option (List (ℕ × R))
+live_rows read i zero = Some []
+live_rows read i (suc n) = and_then (read i) (λ row. and_then (live_rows read (i + 1) n) (λ rows. Some (with_live i row rows)))
+
+-- the entries of the frame table: the page that each frame holds, or 0
+abbrev pub table_entries : List (List ℕ) → ℕ → ℕ → List ℕ
+table_entries image block zero = []
+table_entries image block (suc n) = block_words (block_of image block) ++ table_entries image (block + 1) n
+
+abbrev pub whole_table : List (List ℕ) → ℕ → List ℕ
+whole_table image frames = table_entries image table_block (table_blocks frames)
+
+abbrev pub table_of : List (List ℕ) → ℕ → List ℕ
+table_of image frames = take frames (whole_table image frames)
+
+-- the rows of an image, which is replayed already
+pub record Rows : Type 0 where
+  pub counters : Counters
+  pub accounts : List (ℕ × AccRow)
+  pub threads : List (ℕ × ThreadRow)
+  pub objects : List (ℕ × ObjectRow)
+  pub table : List ℕ
+
+-- every row, the globals, and the bytes of the frame table past its last entry are spelled
+abbrev pub rows_of : List (List ℕ) → ℕ → Option Rows
+rows_of image frames =
+    and_then (globals_read (block_of image globals_block)) (λ counters.
+    and_then (live_rows (λ i. account_read (account_row_bytes image i)) 0 account_rows) (λ accounts.
+    and_then (live_rows (λ i. thread_read (thread_row_bytes image i)) 0 thread_rows) (λ threads.
+    and_then (live_rows (λ i. object_read (object_row_bytes image i)) 0 object_rows) (λ objects.
+    if are_zeros (drop frames (whole_table image frames))
+    then Some record { counters = counters; accounts = accounts; threads = threads; objects = objects; table = table_of image frames }
+    else None))))
+
+-- the words of a page: those of the frame that holds it, or zeros
+abbrev pub page_words : List (List ℕ) → ℕ → List ℕ → ℕ → List ℕ
+page_words image frames table page =
+    option_map_or (λ frame. block_words (block_of image (first_frame frames + frame))) (position (λ entry. entry == page) table) (replicate 512 0)
+
+abbrev pub pages_words : List (List ℕ) → ℕ → List ℕ → ℕ → ℕ → List ℕ
+pages_words image frames table page zero = []
+pages_words image frames table page (suc n) = page_words image frames table page ++ pages_words image frames table (page + 1) n
+
+abbrev pub object_spelled : List (List ℕ) → ℕ → List ℕ → ObjectRow → Object
+object_spelled image frames table row = record { row = row; words = pages_words image frames table (page_of row) row.pages }
+
+-- the objects in the order of their bases, whatever rows they have
+abbrev pub objects_spelled : List (List ℕ) → ℕ → List ℕ → List (ℕ × ObjectRow) → List Object
+objects_spelled image frames table [] = []
+objects_spelled image frames table ((place, row) ∷ rows) = with_object (object_spelled image frames table row) (objects_spelled image frames table rows)
+
+abbrev pub threads_spelled : List (ℕ × ThreadRow) → List Thread
+threads_spelled rows = map (λ (r : ℕ × ThreadRow). record { number = r.0 + 1; row = r.1 }) rows
+
+abbrev pub accounts_spelled : List (ℕ × AccRow) → List AccRow
+accounts_spelled rows = map (λ (r : ℕ × AccRow). r.1) rows
+
+-- the state that these rows and the frames spell
+abbrev pub state_spelled : List (List ℕ) → Settings → Rows → State
+state_spelled image settings rows = record {
+  settings = settings;
+  counters = rows.counters;
+  objects = objects_spelled image settings.frames rows.table rows.objects;
+  accounts = accounts_spelled rows.accounts;
+  threads = threads_spelled rows.threads;
+}
+
+-- live accounts stand without a gap from the first row on
+abbrev pub has_no_gap : ℕ → List (ℕ × AccRow) → Bool
+has_no_gap i [] = true
+has_no_gap i ((place, row) ∷ rows) = place == i && has_no_gap (i + 1) rows
+
+-- there is a treasury, the balances sum to the credits, and no account owes more than it may by the period
+abbrev pub accounts_fit : ℕ → ℕ → List AccRow → Bool
+accounts_fit credits period accounts =
+    nat_le 1 (length accounts)
+    && sum_by (λ (row : AccRow). row.balance) accounts == credits
+    && list_all (λ (row : AccRow). nat_le row.owed (period * 2 ^ 36)) accounts
+
+-- no object reaches past the first page of the next; they stand in the order of their bases
+abbrev pub are_apart : List Object → Bool
+are_apart [] = true
+are_apart (object ∷ []) = true
+are_apart (object ∷ next ∷ objects) = nat_le (page_behind object.row) (page_of next.row) && are_apart (next ∷ objects)
+
+abbrev pub objects_fit : ℕ → ℕ → List Object → Bool
+objects_fit frames accounts objects =
+    are_apart objects
+    && list_all (λ (object : Object). nat_le object.row.account accounts) objects
+    && nat_le (used objects) frames
+
+-- thread 1 lives, was born first and was created by none
+abbrev pub begins_with_first : List Thread → Bool
+begins_with_first [] = false
+begins_with_first (thread ∷ threads) = thread.number == 1 && thread.row.birth == 1 && thread.row.creator == 0
+
+abbrev pub threads_fit : ℕ → List Thread → Bool
+threads_fit births threads =
+    begins_with_first threads
+    && all_distinct (map (λ (thread : Thread). thread.row.birth) threads)
+    && list_all (λ (thread : Thread). nat_le thread.row.birth births) threads
+
+-- each page in the frame table lies in an object, and none stands there twice
+abbrev pub is_page_of : ℕ → Object → Bool
+is_page_of page object = nat_le (page_of object.row) page && nat_lt page (page_behind object.row)
+
+abbrev pub bound_pages : List ℕ → List ℕ
+bound_pages table = filter (λ page. not (page == 0)) table
+
+abbrev pub table_fits : List Object → List ℕ → Bool
+table_fits objects table = list_all (λ page. list_any (λ object. is_page_of page object) objects) (bound_pages table) && all_distinct (bound_pages table)
+
+abbrev pub state_fits : Rows → State → Bool
+state_fits rows state =
+    has_no_gap 0 rows.accounts
+    && accounts_fit state.settings.credits state.counters.period state.accounts
+    && objects_fit state.settings.frames (length state.accounts) state.objects
+    && threads_fit state.counters.births state.threads
+    && table_fits state.objects rows.table
+
+abbrev pub fitting : Rows → State → VolumeRead
+fitting rows state = if state_fits rows state then Is state else Damaged
+
+-- what a replayed image spells under these settings
+abbrev pub replayed_volume : Settings → List (List ℕ) → VolumeRead
+replayed_volume settings image = option_map_or (λ rows. fitting rows (state_spelled image settings rows)) (rows_of image settings.frames) Damaged
+
+-- an image has at least as many blocks as its frames need, and its journal can be replayed
+abbrev pub settled_volume : List (List ℕ) → Settings → VolumeRead
+settled_volume image settings =
+    if nat_le (total_blocks settings.frames) (length image)
+    then option_map_or (λ replayed. replayed_volume settings replayed) (replay image (total_blocks settings.frames)) Damaged
+    else Damaged
+
+abbrev pub volume_behind : List (List ℕ) → SuperRead → VolumeRead
+volume_behind image NotSuper = NotVolume
+volume_behind image OldSuper = OldVolume
+volume_behind image BadSuper = Damaged
+volume_behind image (Spells settings) = settled_volume image settings
+
+abbrev pub is_gated : List (List ℕ) → Bool
+is_gated image = nat_le 2 (length image) && slice_index (block_of image gate_block) 0 == gate_open
+
+unfoldable pub volume : List (List ℕ) → VolumeRead
+volume image = if is_gated image then volume_behind image (super_read (block_of image super_block)) else NotVolume

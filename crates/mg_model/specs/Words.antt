@@ -1,0 +1,94 @@
+-- From bytes to words, and from a word to what it spells.
+use Rattle.std.specs.Prelude.{ℕ, ◌+◌, ◌-◌, ◌*◌, ◌/◌, ◌%◌, ◌^◌, ◌==◌, ◌&&◌, ◌||◌, nat_le, nat_lt, Bool, true, false, List, [], ◌∷◌, length, if◌then◌else◌, filter, Option, Some, None}
+use Rattle.std.specs.Option.{option_map_or}
+use Rattle.std.specs.Cmp.Lexicographic.{pointwise}
+
+-- a byte goes to the front of the first piece
+abbrev pub onto_first : ℕ → List (List ℕ) → List (List ℕ)
+onto_first b [] = (b ∷ []) ∷ []
+onto_first b (piece ∷ pieces) = (b ∷ piece) ∷ pieces
+
+-- the pieces between the bytes that pass the test: one more than there are such bytes
+abbrev pub split_at : (ℕ → Bool) → List ℕ → List (List ℕ)
+split_at cuts [] = [] ∷ []
+split_at cuts (b ∷ bytes) = if cuts b then [] ∷ split_at cuts bytes else onto_first b (split_at cuts bytes)
+
+abbrev pub is_newline : ℕ → Bool
+is_newline b = b == 10
+
+-- a space, a tab or a carriage return
+abbrev pub is_blank : ℕ → Bool
+is_blank b = b == 32 || (b == 9 || b == 13)
+
+abbrev pub is_some_word : List ℕ → Bool
+is_some_word [] = false
+is_some_word (b ∷ bytes) = true
+
+-- the words of a line
+abbrev pub words : List ℕ → List (List ℕ)
+words bytes = filter is_some_word (split_at is_blank bytes)
+
+-- what a digit to base 10 or 16 stands for
+abbrev pub digit_of : ℕ → ℕ → Option ℕ
+digit_of base b =
+    if nat_le 48 b && nat_lt b 58 then Some (b - 48)
+    else if base == 16 && (nat_le 97 b && nat_lt b 103) then Some (b - 87)
+    else if base == 16 && (nat_le 65 b && nat_lt b 71) then Some (b - 55)
+    else None
+
+-- what follows of a value, if there is one
+abbrev pub and_then : {X Y : Type 0} → Option X → (X → Option Y) → Option Y
+and_then None f = None
+and_then (Some x) f = f x
+
+-- the number that these digits spell behind those that were read
+abbrev pub value_from : ℕ → ℕ → List ℕ → Option ℕ
+value_from base n [] = Some n
+value_from base n (b ∷ bytes) = and_then (digit_of base b) (λ d. value_from base (n * base + d) bytes)
+
+-- a number of one digit to so many
+abbrev pub value_of_digits : ℕ → ℕ → List ℕ → Option ℕ
+value_of_digits base most bytes = if nat_le 1 (length bytes) && nat_le (length bytes) most then value_from base 0 bytes else None
+
+-- numbers have 64 bits
+abbrev pub below_word : Option ℕ → Option ℕ
+below_word None = None
+below_word (Some n) = if nat_lt n (2 ^ 64) then Some n else None
+
+-- the bytes behind "0x", if the word begins so
+abbrev pub hex_part : List ℕ → Option (List ℕ)
+hex_part [] = None
+hex_part (a ∷ []) = None
+hex_part (a ∷ b ∷ bytes) = if a == 48 && b == 120 then Some bytes else None
+
+-- the number that a word spells: 1 to 20 decimal digits, or 0x and 1 to 16 hexadecimal ones
+abbrev pub number_of : List ℕ → Option ℕ
+number_of word = below_word (option_map_or (λ digits. value_of_digits 16 16 digits) (hex_part word) (value_of_digits 10 20 word))
+
+-- the numbers that these words spell, if each spells one
+abbrev pub numbers_of : List (List ℕ) → Option (List ℕ)
+numbers_of [] = Some []
+numbers_of (word ∷ more) = and_then (number_of word) (λ n. and_then (numbers_of more) (λ ns. Some (n ∷ ns)))
+
+-- the bit of a letter out of RWXDPO
+abbrev pub letter_weight : ℕ → Option ℕ
+letter_weight b =
+    if b == 82 then Some 1
+    else if b == 87 then Some 2
+    else if b == 88 then Some 4
+    else if b == 68 then Some 8
+    else if b == 80 then Some 16
+    else if b == 79 then Some 32
+    else None
+
+-- the rights that these letters spell beside those that were read; no letter comes twice
+abbrev pub rights_from : ℕ → List ℕ → Option ℕ
+rights_from bits [] = Some bits
+rights_from bits (b ∷ bytes) = and_then (letter_weight b) (λ weight. if bits / weight % 2 == 1 then None else rights_from (bits + weight) bytes)
+
+-- the rights that a word of one to six letters spells
+abbrev pub rights_of : List ℕ → Option ℕ
+rights_of word = if is_some_word word then rights_from 0 word else None
+
+abbrev pub same_bytes : List ℕ → List ℕ → Bool
+same_bytes xs ys = pointwise ◌==◌ xs ys

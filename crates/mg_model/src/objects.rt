@@ -1,0 +1,219 @@
+// What is known of an object.
+ghost use Rattle.std.specs.Prelude.{◌≡◌, ◌≢◌, ◌≤◌, ◌<◌, ◌+◌, ◌++◌, ◌∷◌, [], length, not, filter, false, Option};
+ghost use Rattle.std.specs.List.{list_any};
+ghost use Rattle.std.specs.Option.{IfSome};
+ghost use Rattle.mg_model.specs.Access.{covers, holds};
+ghost use Rattle.mg_model.specs.ObjectCalls.{is_entry, is_password};
+ghost use Rattle.mg_model.specs.Objects.{never};
+ghost use Rattle.mg_model.specs.Ranges.{IsEntryOf, IsObjectRow, IsPlace};
+
+use crate::few::{Few, Filler};
+use crate::rights::{Right, Rights};
+use crate::slots::{Pw, Slot};
+use std::marker::Model;
+
+/// How many password rows and how many entries an object may have.
+const PASSWORD_LIMIT: usize = 32;
+
+const ENTRY_LIMIT: usize = 16;
+
+/// The bytes of a page.
+const PAGE: u64 = 4096;
+
+impl Filler for Pw {
+    ghost blank = { record { password = 0; rights = 63; until = 1 } };
+
+    fn blank() -> Pw {
+        Pw {
+            password: 0,
+            rights: Rights::all(),
+            until: 1,
+        }
+    }
+}
+
+impl Filler for u64 {
+    ghost blank = { 0 };
+
+    fn blank() -> u64 {
+        0
+    }
+}
+
+/// What is known of an object beside its words: where it lies, the account that pays for it (1 to 1024), up to 32
+/// password rows, up to 16 entries, and its extension, whose base is not 0. Each entry is the address of a word of the
+/// object, and none comes twice.
+#[derive(Clone, Copy, Debug, PartialEq, Eq)]
+pub struct ObjRow {
+    base: u64,
+    pages: u64,
+    account: u64,
+    passwords: Few<Pw, PASSWORD_LIMIT>,
+    entries: Few<u64, ENTRY_LIMIT>,
+    extension: Option<Slot>,
+}
+
+impl Model for ObjRow {
+    ghost use Rattle.mg_model.specs.State.{ObjectRow};
+    ghost use Rattle.mg_model.specs.Ranges.{IsObjectRow};
+
+    ghost Value = { ObjectRow };
+
+    ghost view = { λ row. record { base = row.base; pages = row.pages; account = row.account; passwords = row.passwords; entries = row.entries; extension = row.extension } };
+
+    ghost invariant = { λ row. IsObjectRow (record { base = row.base; pages = row.pages; account = row.account; passwords = row.passwords; entries = row.entries; extension = row.extension }) };
+
+    ghost inverse = { λ row. record { base = row.base; pages = row.pages; account = row.account; passwords = row.passwords; entries = row.entries; extension = row.extension } };
+}
+
+impl ObjRow {
+    /// An object of so many pages (1 to 1024) at this base (a multiple of 4096, from page `2^20` on and below page
+    /// `2^40` whole), paid by this account (1 to 1024): without passwords, entries and extension.
+    pub fn new(base: u64, pages: u64, account: u64) -> ObjRow
+        requires place { IsPlace base pages }
+        requires account_some { 1 ≤ account }
+        requires account_few { account ≤ 1024 }
+        ensures { result ≡ record { base = base; pages = pages; account = account; passwords = []; entries = []; extension = None } }
+    {
+        ObjRow {
+            base,
+            pages,
+            account,
+            passwords: Few::new(),
+            entries: Few::new(),
+            extension: None,
+        }
+    }
+
+    /// The address of its first byte.
+    pub fn base(&self) -> u64
+        ensures value { result ≡ self.now.base }
+        ensures kept { IsObjectRow self.now }
+    {
+        self.base
+    }
+
+    /// How many pages it has.
+    pub fn pages(&self) -> u64
+        ensures { result ≡ self.now.pages }
+    {
+        self.pages
+    }
+
+    /// The number of the account that pays for it.
+    pub fn account(&self) -> u64
+        ensures { result ≡ self.now.account }
+    {
+        self.account
+    }
+
+    /// Its extension.
+    pub fn ext(&self) -> Option<Slot>
+        ensures { result ≡ self.now.extension }
+    {
+        self.extension
+    }
+
+    /// Its password rows, in the order in which they were added.
+    pub fn passwords(&self) -> &[Pw]
+        ensures { result.now ≡ self.now.passwords }
+    {
+        self.passwords.as_slice()
+    }
+
+    /// Its entries, in the order in which they were added.
+    pub fn entries(&self) -> &[u64]
+        ensures { result.now ≡ self.now.entries }
+    {
+        self.entries.as_slice()
+    }
+
+    /// Whether this address lies in it.
+    pub fn covers(&self, a: u64) -> bool
+        ensures { result ≡ covers self.now a }
+    {
+        self.base <= a && a < self.base + PAGE * self.pages
+    }
+
+    /// Whether it holds this password with this right at this period.
+    pub fn holds(&self, p: u64, r: Right, period: u64) -> bool
+        ensures { result ≡ holds period self.now p r }
+    {
+        self.passwords
+            .as_slice()
+            .iter()
+            .any(|pw| pw.gives(p, r, period))
+    }
+
+    /// Whether a row of it has this password, be it current or not.
+    pub fn has_password(&self, p: u64) -> bool
+        ensures { result ≡ list_any (λ pw. is_password p pw) self.now.passwords }
+    {
+        self.passwords.as_slice().iter().any(|pw| pw.password == p)
+    }
+
+    /// Whether this address is an entry of it.
+    pub fn is_entry(&self, a: u64) -> bool
+        ensures { result ≡ is_entry self.now a }
+    {
+        self.entries.as_slice().iter().any(|entry| *entry == a)
+    }
+
+    /// One password row more, the last; its until is from 1 to `2^24`.
+    pub fn add_password(&mut self, pw: Pw)
+        requires room { length self.old.passwords < 32 }
+        requires begins { 1 ≤ pw.until }
+        requires ends { pw.until ≤ never }
+        ensures { self.new ≡ record self.old { passwords = self.old.passwords ++ pw ∷ [] } }
+    {
+        self.passwords.add(pw);
+    }
+
+    /// Every row with this password goes.
+    pub fn remove_passwords(&mut self, p: u64)
+        ensures { self.new ≡ record self.old { passwords = filter (λ pw. not (is_password p pw)) self.old.passwords } }
+    {
+        self.passwords = without(self.passwords.as_slice(), p);
+    }
+
+    /// One entry more, the last: the address of a word of the object that is no entry yet.
+    pub fn add_entry(&mut self, a: u64)
+        requires room { length self.old.entries < 16 }
+        requires place { IsEntryOf self.old.base self.old.pages a }
+        requires once { is_entry self.old a ≡ false }
+        ensures { self.new ≡ record self.old { entries = self.old.entries ++ a ∷ [] } }
+    {
+        self.entries.add(a);
+    }
+
+    /// Another extension, or none. One whose base is 0 is no extension.
+    pub fn set_ext(&mut self, ext: Option<Slot>)
+        requires { IfSome ext (λ slot. slot.base ≢ 0) }
+        ensures { self.new ≡ record self.old { extension = ext } }
+    {
+        self.extension = ext;
+    }
+
+    /// Another account that pays for it, from 1 to 1024.
+    pub fn set_account(&mut self, n: u64)
+        requires some { 1 ≤ n }
+        requires few { n ≤ 1024 }
+        ensures { self.new ≡ record self.old { account = n } }
+    {
+        self.account = n;
+    }
+}
+
+// The rows that do not have this password.
+fn without(passwords: &[Pw], p: u64) -> Few<Pw, PASSWORD_LIMIT>
+    requires { length passwords.now ≤ 32 }
+    ensures { result ≡ filter (λ pw. not (is_password p pw)) passwords.now }
+{
+    let mut left = Few::new();
+    for pw in passwords {
+        if pw.password != p {
+            left.add(*pw);
+        }
+    }
+    left
+}

@@ -1,0 +1,80 @@
+// What the machine answers.
+use crate::threads::Fault;
+
+/// Why a call is refused. A refused call changes nothing.
+#[derive(Clone, Copy, Debug, PartialEq, Eq)]
+pub enum Refusal {
+    Syntax,
+    NoThread,
+    Align,
+    Denied,
+    Size,
+    Account,
+    Debt,
+    Limit,
+    Full,
+    NoPassword,
+    Range,
+    SlotFull,
+    NoSlot,
+    NoEntry,
+    Depth,
+    NoFrame,
+    NotYours,
+    NotReady,
+    Idle,
+    Credit,
+    Calendar,
+    Past,
+    /// The call is not built yet.
+    Later,
+}
+
+/// What a thread is after its turn.
+#[derive(Clone, Copy, Debug, PartialEq, Eq)]
+pub enum After {
+    Ready,
+    Stopped,
+    Faulted(Fault),
+    /// The thread ended itself.
+    Ended,
+}
+
+/// The answer to a line.
+#[derive(Clone, Copy, Debug, PartialEq, Eq)]
+pub enum Reply {
+    No(Refusal),
+    /// Ok, with no value.
+    Done,
+    /// A word or an address.
+    Value(u64),
+    /// A number of slots, frames or threads.
+    Count(u64),
+    /// A new object: its base address and its password.
+    Made(u64, u64),
+    /// A new account: its number and its password.
+    Opened(u64, u64),
+    /// An object: its base address, its pages, the account that pays for it, how many password rows and entries it has,
+    /// and 1 with an extension, else 0.
+    About {
+        base: u64,
+        pages: u64,
+        account: u64,
+        passwords: u64,
+        entries: u64,
+        ext: u64,
+    },
+    /// How many slots the present frame has, and their bases in order; 0 past the count, which is at most 8.
+    Slots {
+        count: u64,
+        bases: [u64; 8],
+    },
+    /// What the thread is after its turn.
+    Turned(After),
+    /// Which thread had the turn, and what it is after it.
+    Ran(u64, After),
+    /// An account: its balance, what it owes, and the pages that it pays for.
+    Funds(u64, u64, u64),
+    /// A collection of rent: the new period, the rate, and the sum of all that was paid.
+    Collected(u64, u64, u64),
+}

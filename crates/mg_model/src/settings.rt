@@ -1,0 +1,80 @@
+// What a volume is made with.
+ghost use Rattle.std.specs.Prelude.{◌≡◌, ◌≤◌, IsTrue, if◌then◌else◌};
+ghost use Rattle.mg_model.specs.Settings.{within_limits};
+
+use crate::tariffs::Tariff;
+use std::marker::Model;
+
+/// What a volume is made with and keeps: frames (16 to 65,536), a seed, credits (at most `2^62`), and a tariff.
+#[derive(Clone, Copy, Debug, PartialEq, Eq)]
+pub struct Params {
+    frames: u64,
+    seed: [u8; 32],
+    credits: u64,
+    tariff: Tariff,
+}
+
+impl Model for Params {
+    ghost use Rattle.std.specs.Prelude.{IsTrue, ◌≡◌, length};
+    ghost use Rattle.mg_model.specs.Settings.{Settings, within_limits};
+
+    ghost Value = { Settings };
+
+    ghost view = { λ p. record { frames = p.frames; seed = p.seed; credits = p.credits; tariff = p.tariff } };
+
+    ghost invariant = { λ p. IsTrue (within_limits p.frames p.credits) };
+
+    ghost inverse = { λ s. record { frames = s.frames; seed = s.seed; credits = s.credits; tariff = s.tariff } };
+}
+
+/// The most credits that a volume is made with.
+const CREDIT_LIMIT: u64 = 1 << 62;
+
+impl Params {
+    /// The settings of a volume; None exactly where frames or credits are outside their limits.
+    pub fn new(frames: u64, seed: [u8; 32], credits: u64, tariff: Tariff) -> Option<Params>
+        ensures { result ≡ (if within_limits frames credits then Some (record { frames = frames; seed = seed; credits = credits; tariff = tariff }) else None) }
+    {
+        if frames >= 16 && frames <= 65536 && credits <= CREDIT_LIMIT {
+            Some(Params {
+                frames,
+                seed,
+                credits,
+                tariff,
+            })
+        } else {
+            None
+        }
+    }
+
+    /// How many frames the volume has: the most pages that its objects may have together.
+    pub fn frames(&self) -> u64
+        ensures value { result ≡ self.now.frames }
+        ensures some { 16 ≤ result }
+        ensures few { result ≤ 65536 }
+    {
+        self.frames
+    }
+
+    /// The seed of its passwords.
+    pub fn seed(&self) -> [u8; 32]
+        ensures { result ≡ self.now.seed }
+    {
+        self.seed
+    }
+
+    /// The credits that all balances sum to.
+    pub fn credits(&self) -> u64
+        ensures value { result ≡ self.now.credits }
+        ensures few { result ≤ 4611686018427387904 }
+    {
+        self.credits
+    }
+
+    /// What rent costs.
+    pub fn tariff(&self) -> Tariff
+        ensures { result ≡ self.now.tariff }
+    {
+        self.tariff
+    }
+}
