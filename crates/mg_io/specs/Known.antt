@@ -1,0 +1,94 @@
+-- What takes and puts do to the bytes left and the bytes taken, where those are told, and how this adds up over a run of calls.
+use Rattle.std.specs.Prelude.{◌≡◌, ℕ, ◌<◌, ◌↔◌, List, [], ◌++◌, length, Option, Some, None, Result, IfOk, IfSome}
+use Rattle.std.specs.Io.KnownBytes.{Appends, Keeps, Consumes, IsAtEnd}
+use Rattle.std.proofs.Common.{refl, sym, ap, ◌∙◌, append_assoc, append-nil}
+
+-- a take answers 0 exactly where no byte is left
+abbrev pub StopsAtEnd : {E : Type 0} → Option (List ℕ) → Result ℕ E → Type 0
+StopsAtEnd left result = IfOk result (λ n. IfSome left (λ bytes. (n ≡ 0) ↔ (bytes ≡ [])))
+
+-- a put answers 0 only of an empty piece
+abbrev pub TakesSome : {E : Type 0} → Result ℕ E → List ℕ → Type 0
+TakesSome result from = IfOk result (λ n. 0 < length from → 0 < n)
+
+-- some first bytes of the text were taken, and no others
+abbrev pub AppendsPrefix : Option (List ℕ) → Option (List ℕ) → List ℕ → Type 0
+AppendsPrefix old new text = (put more : List ℕ) × (put ++ more ≡ text) × Appends old new put
+
+-- one text is taken after another
+pub Appends-then : (a b c : Option (List ℕ)) (p q : List ℕ) → Appends a b p → Appends b c q → Appends a c (p ++ q)
+Appends-then None b c p q h k = tt
+Appends-then (Some x) None c p q h k = absurd h
+Appends-then (Some x) (Some y) None p q h k = absurd k
+Appends-then (Some x) (Some y) (Some z) p q h k = k ∙ ap (λ v. v ++ q) h ∙ append_assoc x p q
+
+pub Appends-kept : (a b c : Option (List ℕ)) (p : List ℕ) → Appends a b p → Keeps b c → Appends a c p
+Appends-kept None b c p h k = tt
+Appends-kept (Some x) None c p h k = absurd h
+Appends-kept (Some x) (Some y) None p h k = absurd k
+Appends-kept (Some x) (Some y) (Some z) p h k = k ∙ h
+
+pub Appends-none : (a : Option (List ℕ)) → Appends a a []
+Appends-none None = tt
+Appends-none (Some x) = sym (append-nil x)
+
+-- to take nothing is to stay
+pub Appends-nothing : (a b : Option (List ℕ)) → Appends a b [] → Keeps a b
+Appends-nothing None b h = tt
+Appends-nothing (Some x) None h = absurd h
+Appends-nothing (Some x) (Some y) h = h ∙ append-nil x
+
+-- told before, told after
+pub Appends-told : (x : List ℕ) (b : Option (List ℕ)) (p : List ℕ) → Appends (Some x) b p → b ≡ Some (x ++ p)
+Appends-told x None p h = absurd h
+Appends-told x (Some y) p h = ap (λ v. Some v) h
+
+-- nothing is a prefix of each text
+pub AppendsPrefix-none : (a : Option (List ℕ)) (p : List ℕ) → AppendsPrefix a a p
+AppendsPrefix-none a p = ([], p, refl, Appends-none a)
+
+pub AppendsPrefix-kept : (a b c : Option (List ℕ)) (p : List ℕ) → AppendsPrefix a b p → Keeps b c → AppendsPrefix a c p
+AppendsPrefix-kept a b c p (put, more, parts, h) k = (put, more, parts, Appends-kept a b c put h k)
+
+-- a whole text is a prefix of each longer one
+pub AppendsPrefix-whole : (a b : Option (List ℕ)) (p more : List ℕ) → Appends a b p → AppendsPrefix a b (p ++ more)
+AppendsPrefix-whole a b p more h = (p, more, refl, h)
+
+-- what is taken of the next text counts too
+pub AppendsPrefix-then : (a b c : Option (List ℕ)) (p q : List ℕ) → Appends a b p → AppendsPrefix b c q → AppendsPrefix a c (p ++ q)
+AppendsPrefix-then a b c p q h (put, more, parts, k) =
+    (p ++ put, more, append_assoc p put more ∙ ap (λ v. p ++ v) parts, Appends-then a b c p put h k)
+
+-- a prefix of a text is one of each longer text
+pub AppendsPrefix-longer : (a b : Option (List ℕ)) (p q : List ℕ) → AppendsPrefix a b p → AppendsPrefix a b (p ++ q)
+AppendsPrefix-longer a b p q (put, more, parts, h) =
+    (put, more ++ q, sym (append_assoc put more q) ∙ ap (λ v. v ++ q) parts, h)
+
+-- one piece is given after another
+pub Consumes-then : (a b c : Option (List ℕ)) (p q : List ℕ) → Consumes a b p → Consumes b c q → Consumes a c (p ++ q)
+Consumes-then None b c p q h k = tt
+Consumes-then (Some x) None c p q h k = absurd h
+Consumes-then (Some x) (Some y) None p q h k = absurd k
+Consumes-then (Some x) (Some y) (Some z) p q h k = h ∙ ap (λ v. p ++ v) k ∙ sym (append_assoc p q z)
+
+pub Consumes-kept : (a b c : Option (List ℕ)) (p : List ℕ) → Consumes a b p → Keeps b c → Consumes a c p
+Consumes-kept None b c p h k = tt
+Consumes-kept (Some x) None c p h k = absurd h
+Consumes-kept (Some x) (Some y) None p h k = absurd k
+Consumes-kept (Some x) (Some y) (Some z) p h k = h ∙ ap (λ v. p ++ v) (sym k)
+
+pub Consumes-none : (a : Option (List ℕ)) → Consumes a a []
+Consumes-none None = tt
+Consumes-none (Some x) = refl
+
+-- told before, told after
+pub Consumes-told : (x : List ℕ) (b : Option (List ℕ)) (p : List ℕ) → Consumes (Some x) b p →
+    (y : List ℕ) × (b ≡ Some y) × (x ≡ p ++ y)
+Consumes-told x None p h = absurd h
+Consumes-told x (Some y) p h = (y, refl, h)
+
+-- at the end, what was given is all that there was
+pub Consumes-end : (a b : Option (List ℕ)) (p : List ℕ) → Consumes a b p → IsAtEnd b → IfSome a (λ x. x ≡ p)
+Consumes-end None b p h k = tt
+Consumes-end (Some x) None p h k = absurd h
+Consumes-end (Some x) (Some y) p h k = h ∙ ap (λ v. p ++ v) k ∙ append-nil p

@@ -1,0 +1,3 @@
+pub mod Known
+pub mod Memory
+pub use Rattle.mg_faults.specs.Faults
