@@ -1,0 +1,33 @@
+-- The calls of the trait, each as one word: what a disk's own method says, beside what it says of itself.
+use Rattle.std.specs.Prelude.{◌≡◌, ℕ, List, Result, OnOk, OnErr, option_map, slice_set}
+use Rattle.std.specs.Option.{ForSome}
+use Rattle.mg_disk.specs.Disk.{Image, block_at, SeenBut, only_place, no_image, Torn}
+use Rattle.mg_disk.specs.Stops.{NothingPending, TimeGoes, CountGoes, CountRose}
+use Rattle.mg_disk.specs.declared.disk.Disk.{Ghosts}
+
+module _ {D T E : Type 0} (facts : Ghosts D) (old new : D) where
+  -- whatever a call answers
+  pub record KeepsRules (fresh : Image → Type 0) (result : Result T E) : Type 0 where
+    pub stops : TimeGoes facts old new fresh
+    pub blocks : facts.block_count new ≡ facts.block_count old
+    pub tells : facts.tells_stops new ≡ facts.tells_stops old
+    pub count : CountGoes facts old new
+    pub cause : OnErr result (CountRose facts old new)
+
+  -- a read of block i
+  pub record IsRead (i : ℕ) (out : List ℕ) (result : Result T E) : Type 0 where
+    pub block : OnOk result (ForSome (facts.seen old) (λ image. out ≡ block_at image i))
+    pub seen : facts.seen new ≡ facts.seen old
+    pub rules : KeepsRules no_image result
+
+  -- a write of block i
+  pub record IsWrite (i : ℕ) (from : List ℕ) (result : Result T E) : Type 0 where
+    pub written : OnOk result (facts.seen new ≡ option_map (λ image. slice_set image i from) (facts.seen old))
+    pub unknown : OnErr result (SeenBut (only_place i) (facts.seen old) (facts.seen new))
+    pub rules : KeepsRules (Torn i (facts.left_since old (facts.moment old))) result
+
+  -- a sync
+  pub record IsSync (result : Result T E) : Type 0 where
+    pub durable : OnOk result (NothingPending facts new)
+    pub seen : facts.seen new ≡ facts.seen old
+    pub rules : KeepsRules no_image result

@@ -1,0 +1,53 @@
+-- What a disk's calls are said to do: images, moments, and what a stop may leave. These words are over values.
+use Rattle.std.specs.Prelude.{◌≡◌, ◌⊎◌, ℕ, List, [], length, slice_index_or, Option, Some, None}
+
+-- An image is a list of blocks, each a list of bytes.
+abbrev pub Image : Type 0
+Image = List (List ℕ)
+
+-- the block at a place, empty past the end
+abbrev pub block_at : Image → ℕ → List ℕ
+block_at image k = slice_index_or image k []
+
+-- A moment of a disk: a number for a plain one; for a disk made of two, a moment of each, or of the one that is in use.
+pub data Moment : Type 0 where
+  At : ℕ → Moment
+  Both : Moment → Moment → Moment
+  Alone : Moment → Moment
+
+-- as many blocks, and the same ones but at these places
+pub record SameBut (places : ℕ → Type 0) (old new : Image) : Type 0 where
+  pub count : length new ≡ length old
+  pub others : (k : ℕ) → (places k → ⊥) → block_at new k ≡ block_at old k
+
+-- this place alone
+abbrev pub only_place : ℕ → ℕ → Type 0
+only_place i k = k ≡ i
+
+-- what reads give differs at these places alone, where it is told
+abbrev pub SeenBut : (ℕ → Type 0) → Option Image → Option Image → Type 0
+SeenBut places (Some old) (Some new) = SameBut places old new
+SeenBut places None None = Unit {0}
+SeenBut places (Some old) None = ⊥
+SeenBut places None (Some new) = ⊥
+
+-- Time goes on: since a moment that has been, a stop may leave what it might have left before, or a fresh image.
+pub record GoesOn (old_moment new_moment : Moment) (old_been new_been : Moment → Type 0) (old_since new_since : Moment → Image → Type 0) (fresh : Image → Type 0) : Type 0 where
+  pub begins : old_been old_moment
+  pub past : (t : Moment) → old_been t → new_been t
+  pub keeps : (t : Moment) (c : Image) → old_been t → old_since t c → new_since t c
+  pub nothing_else : (t : Moment) (c : Image) → old_been t → new_since t c → old_since t c ⊎ fresh c
+  -- the same of what it may leave now
+  pub now : (c : Image) → new_since new_moment c → old_since old_moment c ⊎ fresh c
+
+-- no image is fresh
+abbrev pub no_image : Image → Type 0
+no_image c = ⊥
+
+-- one of these images, with any bytes in block i: what is fresh at a write
+abbrev pub Torn : ℕ → (Image → Type 0) → Image → Type 0
+Torn i now c = (d : Image) × now d × SameBut (only_place i) d c
+
+-- a stop that may leave these images leaves what reads give and nothing else
+abbrev pub OnlySeen : Option Image → (Image → Type 0) → Type 0
+OnlySeen told now = (c : Image) → now c → told ≡ Some c

@@ -1,0 +1,11 @@
+pub mod Blocks
+pub mod Calls
+pub mod Disk
+pub mod Fuse
+pub mod Held
+pub mod Memory
+pub mod MemoryTurn
+pub mod Places
+pub mod Runs
+pub mod Stops
+pub use Rattle.mg_faults.specs.Faults

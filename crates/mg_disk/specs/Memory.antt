@@ -1,0 +1,77 @@
+-- What a `MemDisk` shows, and how it numbers its calls.
+use Rattle.std.specs.Prelude.{◌≡◌, ◌⊎◌, ◌↔◌, ◌+◌, ◌<◌, ◌≤◌, ℕ, List, length, Contains, Result, IsErr}
+use Rattle.std.proofs.Common.{sym, subst, arith}
+use Rattle.mg_disk.specs.Blocks.{IsGated}
+use Rattle.mg_disk.specs.Disk.{Image, SameBut, At}
+use Rattle.mg_disk.specs.Held.{MayLeave, LeftIn, since}
+use Rattle.mg_disk.specs.Places.{same_as}
+use Rattle.mg_disk.specs.declared.memory.Counts.{Counts}
+use Rattle.mg_disk.specs.declared.memory.Left.{Left}
+use Rattle.mg_disk.specs.declared.memory.Left.TheVariants.{Old, New, Gates}
+use Rattle.mg_disk.specs.declared.memory.MemDisk.{MemDisk}
+
+-- the calls that were made and recorded
+abbrev pub counts_of : MemDisk → Counts
+counts_of disk = disk.made
+
+-- the number of the next call: how many were recorded
+abbrev pub number_of : MemDisk → ℕ
+number_of disk = disk.made.reads + disk.made.writes + disk.made.syncs
+
+abbrev pub room_of : MemDisk → ℕ
+room_of disk = disk.room
+
+-- the numbers of the calls that fail
+abbrev pub fails_of : MemDisk → List ℕ
+fails_of disk = disk.fails.items
+
+-- what reads give
+abbrev pub content_of : MemDisk → Image
+content_of disk = disk.content.items
+
+-- what the last good sync left
+abbrev pub synced_of : MemDisk → Image
+synced_of disk = disk.synced.items
+
+-- the blocks written since then
+abbrev pub unsynced_of : MemDisk → List ℕ
+unsynced_of disk = disk.touched.items
+
+-- a new disk, with no call yet
+pub record IsFresh (disk : MemDisk) (room : ℕ) (fails : List ℕ) : Type 0 where
+  pub room_is : room_of disk ≡ room
+  pub fails_are : fails_of disk ≡ fails
+  pub counts : counts_of disk ≡ record { reads = 0; writes = 0; syncs = 0 }
+
+-- one call of a kind more
+abbrev pub one_read : Counts → Counts
+one_read made = record made { reads = made.reads + 1 }
+
+abbrev pub one_write : Counts → Counts
+one_write made = record made { writes = made.writes + 1 }
+
+abbrev pub one_sync : Counts → Counts
+one_sync made = record made { syncs = made.syncs + 1 }
+
+-- a call: it fails exactly by its number, and past the room it changes nothing but the count of faults
+pub record Numbered {T E : Type 0} (old new : MemDisk) (made : Counts) (result : Result T E) : Type 0 where
+  pub exact : IsErr result ↔ ((room_of old ≤ number_of old) ⊎ Contains (fails_of old) (number_of old))
+  pub recorded : number_of old < room_of old → counts_of new ≡ made
+  pub past : room_of old ≤ number_of old → new ≡ record old { count = new.count }
+  pub same_room : room_of new ≡ room_of old
+  pub same_fails : fails_of new ≡ fails_of old
+
+may_be : (disk : MemDisk) (image : Image) → SameBut (Contains disk.touched.items) disk.synced.items image → LeftIn disk.first.items disk.events.items (At (length disk.events.items)) image
+may_be disk image same = since disk.first.items disk.events.items (length disk.events.items) image (omega arith) (subst (λ h. MayLeave h image) (sym disk.held) same)
+
+-- what a stop leaves: the blocks written since the last good sync as they were, as they are, or with gates
+abbrev pub IsLeft : Left → MemDisk → Image → Type 0
+IsLeft Old disk image = image ≡ synced_of disk
+IsLeft New disk image = image ≡ content_of disk
+IsLeft Gates disk image = IsGated (unsynced_of disk) (synced_of disk) image
+
+-- it is one of the images that a stop may leave
+pub left_may : (left : Left) (disk : MemDisk) (image : Image) → IsLeft left disk image → LeftIn disk.first.items disk.events.items (At (length disk.events.items)) image
+left_may Old disk image is = may_be disk image (same_as (Contains disk.touched.items) disk.synced.items image is)
+left_may New disk image is = may_be disk image (subst (SameBut (Contains disk.touched.items) disk.synced.items) (sym is) disk.pending)
+left_may Gates disk image is = may_be disk image is.elsewhere

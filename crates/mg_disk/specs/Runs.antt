@@ -1,0 +1,126 @@
+-- How what a stop may leave is followed over a run of calls of a disk, one short line a call.
+use Rattle.std.specs.Prelude.{◌≡◌, ◌⊎◌, ℕ, Some}
+use Rattle.std.proofs.Common.{refl, inl, inr, ⊎_elim, sym, ◌∙◌}
+use Rattle.mg_disk.specs.Disk.{Image, SameBut, no_image, Torn}
+use Rattle.mg_disk.specs.Places.{same_as, same_still}
+use Rattle.mg_disk.specs.Stops.{NothingPending, StandsAt, TimeGoes, Leaves, WritesNothing}
+use Rattle.mg_disk.specs.declared.disk.Disk.{Ghosts}
+
+-- Over a run of calls: what a stop left since it began has P, and what it may leave now has Q.
+pub record Tracks {D : Type 0} (facts : Ghosts D) (old new : D) (P Q : Image → Type 0) : Type 0 where
+  pub leaves : Leaves facts old new P
+  pub now : (c : Image) → facts.left_since new (facts.moment new) c → Q c
+
+module _ {D : Type 0} (facts : Ghosts D) where
+  -- no call, no time
+  pub time_none : (disk : D) (P : Image → Type 0) → facts.has_been disk (facts.moment disk) → TimeGoes facts disk disk P
+  time_none disk P been = record {
+    begins = been;
+    past = λ t was. was;
+    keeps = λ t c was left. left;
+    nothing_else = λ t c was left. inl left;
+    now = λ c left. inl left;
+  }
+
+  -- one run after another
+  pub time_then : (old mid new : D) (F P : Image → Type 0) → TimeGoes facts old mid P → TimeGoes facts mid new F → ((c : Image) → F c → P c) → TimeGoes facts old new P
+  time_then old mid new F P a b sub = record {
+    begins = a.begins;
+    past = λ t was. b.past t (a.past t was);
+    keeps = λ t c was left. b.keeps t c (a.past t was) (a.keeps t c was left);
+    nothing_else = λ t c was left. ⊎_elim (a.nothing_else t c was) (λ f. inr (sub c f)) (b.nothing_else t c (a.past t was) left);
+    now = λ c left. ⊎_elim (a.now c) (λ f. inr (sub c f)) (b.now c left);
+  }
+
+  -- before the first call
+  pub begun : (old : D) (P Q : Image → Type 0) → facts.has_been old (facts.moment old) → ((c : Image) → facts.left_since old (facts.moment old) c → Q c) → ((c : Image) → Q c → P c) → Tracks facts old old P Q
+  begun old P Q been here sub = record { leaves = record { each = λ c left. sub c (here c left); time = time_none old P been }; now = here }
+
+  -- one call more, whose fresh images have P
+  pub more : (old mid new : D) (P Q F Q' : Image → Type 0) → Tracks facts old mid P Q → TimeGoes facts mid new F
+      → ((c : Image) → F c → P c) → ((c : Image) → facts.left_since mid (facts.moment mid) c ⊎ F c → Q' c) → Tracks facts old new P Q'
+  more old mid new P Q F Q' so_far call fresh now = record {
+    leaves = record {
+      each = λ c left. ⊎_elim (so_far.leaves.each c) (fresh c) (call.nothing_else (facts.moment old) c (so_far.leaves.time.past (facts.moment old) so_far.leaves.time.begins) left);
+      time = time_then old mid new F P so_far.leaves.time call fresh;
+    };
+    now = λ c left. now c (call.now c left);
+  }
+
+  -- a read or a sync, whatever it answers
+  pub quiet : (old mid new : D) (P Q : Image → Type 0) → Tracks facts old mid P Q → TimeGoes facts mid new no_image → Tracks facts old new P Q
+  quiet old mid new P Q so_far call =
+      more old mid new P Q no_image Q so_far call (λ c none. absurd none) (λ c left. ⊎_elim (so_far.now c) (λ none. absurd none) left)
+
+  -- what may be left now is known better, as after a good sync
+  pub better : (old new : D) (P Q Q' : Image → Type 0) → Tracks facts old new P Q → ((c : Image) → facts.left_since new (facts.moment new) c → Q' c) → Tracks facts old new P Q'
+  better old new P Q Q' so_far here = record { leaves = so_far.leaves; now = here }
+
+  -- two whole runs, one after the other, each with its own fact
+  pub leaves_then : (old mid new : D) (F P : Image → Type 0) → Leaves facts old mid P → Leaves facts mid new F → ((c : Image) → F c → P c) → Leaves facts old new P
+  leaves_then old mid new F P a b sub = record {
+    each = λ c left. ⊎_elim (a.each c) (λ f. sub c f) (b.time.nothing_else (facts.moment old) c (a.time.past (facts.moment old) a.time.begins) left);
+    time = time_then old mid new F P a.time b.time sub;
+  }
+
+  -- a weaker fact
+  pub leaves_wider : (old new : D) (F P : Image → Type 0) → Leaves facts old new F → ((c : Image) → F c → P c) → Leaves facts old new P
+  leaves_wider old new F P a sub = record {
+    each = λ c left. sub c (a.each c left);
+    time = record {
+      begins = a.time.begins;
+      past = a.time.past;
+      keeps = a.time.keeps;
+      nothing_else = λ t c was left. ⊎_elim (λ o. inl o) (λ f. inr (sub c f)) (a.time.nothing_else t c was left);
+      now = λ c left. ⊎_elim (λ o. inl o) (λ f. inr (sub c f)) (a.time.now c left);
+    };
+  }
+
+  -- before the first call
+  pub leaves_yet : (old : D) (P : Image → Type 0) → facts.has_been old (facts.moment old) → ((c : Image) → facts.left_since old (facts.moment old) c → P c) → Leaves facts old old P
+  leaves_yet old P been here = record { each = here; time = time_none old P been }
+
+  -- a run, and then calls that write nothing
+  pub leaves_quiet : (old mid new : D) (P : Image → Type 0) → Leaves facts old mid P → TimeGoes facts mid new no_image → Leaves facts old new P
+  leaves_quiet old mid new P a call = record {
+    each = λ c left. ⊎_elim (a.each c) (λ none. absurd none) (call.nothing_else (facts.moment old) c (a.time.past (facts.moment old) a.time.begins) left);
+    time = time_then old mid new no_image P a.time call (λ c none. absurd none);
+  }
+
+  -- after calls that write nothing, nothing is pending where nothing was
+  pub still_seen : (mid new : D) → NothingPending facts mid → facts.seen new ≡ facts.seen mid → TimeGoes facts mid new no_image → NothingPending facts new
+  still_seen mid new only same call = λ c left. same ∙ ⊎_elim (only c) (λ none. absurd none) (call.now c left)
+
+  -- no call writes nothing
+  pub nothing_none : (disk : D) → facts.has_been disk (facts.moment disk) → WritesNothing facts disk disk
+  nothing_none disk been = record { same = refl; stops = time_none disk no_image been }
+
+  -- nor do two runs that write nothing
+  pub nothing_then : (old mid new : D) → WritesNothing facts old mid → WritesNothing facts mid new → WritesNothing facts old new
+  nothing_then old mid new a b = record { same = b.same ∙ a.same; stops = time_then old mid new no_image no_image a.stops b.stops (λ c none. none) }
+
+some_inj : (s c : Image) → Some s ≡ Some c → c ≡ s
+some_inj s c is = cc
+
+-- an image of a settled disk is the one that reads give
+pub only_image : {D : Type 0} (facts : Ghosts D) (disk : D) (s c : Image) → StandsAt facts disk s → facts.left_since disk (facts.moment disk) c → c ≡ s
+only_image facts disk s c at left = some_inj s c (sym at.told ∙ at.settled c left)
+
+-- The three steps of a run that writes only at some places of an image s, where an image that differs there alone has P.
+module _ {D : Type 0} (facts : Ghosts D) (places : ℕ → Type 0) (s : Image) where
+  -- a disk that stands at s, before the first call
+  pub stands : (old : D) (P : Image → Type 0) → facts.has_been old (facts.moment old) → StandsAt facts old s → ((c : Image) → SameBut places s c → P c) → Tracks facts old old P (SameBut places s)
+  stands old P been at sub = begun facts old P (SameBut places s) been (λ c left. same_as places s c (only_image facts old s c at left)) sub
+
+  -- a write at one of the places, whatever it answers
+  pub torn : (old mid new : D) (i : ℕ) (P : Image → Type 0) → Tracks facts old mid P (SameBut places s) → TimeGoes facts mid new (Torn i (facts.left_since mid (facts.moment mid)))
+      → places i → ((c : Image) → SameBut places s c → P c) → Tracks facts old new P (SameBut places s)
+  torn old mid new i P so_far call at_i sub =
+      more facts old mid new P (SameBut places s) (Torn i (facts.left_since mid (facts.moment mid))) (SameBut places s) so_far call (λ c t. sub c (step c t)) (λ c left. ⊎_elim (so_far.now c) (step c) left)
+    where
+      step : (c : Image) → Torn i (facts.left_since mid (facts.moment mid)) c → SameBut places s c
+      step c t = same_still places i s t.0 c at_i (so_far.now t.0 t.1) t.2
+
+  -- after a good sync it stands at s
+  pub settles : (old new : D) (P Q : Image → Type 0) → Tracks facts old new P Q → StandsAt facts new s → Tracks facts old new P (SameBut places s)
+  settles old new P Q so_far at = better facts old new P Q (SameBut places s) so_far (λ c left. same_as places s c (only_image facts new s c at left))

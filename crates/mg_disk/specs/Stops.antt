@@ -1,0 +1,38 @@
+-- What the layers above say of a disk, each in one word. The trait's members come as one value, `D.Disk` in a clause.
+use Rattle.std.specs.Prelude.{◌≡◌, Some}
+use Rattle.mg_faults.specs.Faults.{CountGoesOn, Rose}
+use Rattle.mg_disk.specs.Disk.{Image, GoesOn, no_image, OnlySeen}
+use Rattle.mg_disk.specs.declared.disk.Disk.{Ghosts}
+
+-- nothing is pending: a stop now leaves what reads give and nothing else
+abbrev pub NothingPending : {D : Type 0} → Ghosts D → D → Type 0
+NothingPending facts disk = OnlySeen (facts.seen disk) (facts.left_since disk (facts.moment disk))
+
+-- the disk stands at this image: reads give it, and a stop now leaves it and no other
+pub record StandsAt {D : Type 0} (facts : Ghosts D) (disk : D) (image : Image) : Type 0 where
+  pub told : facts.seen disk ≡ Some image
+  pub settled : NothingPending facts disk
+
+-- time went on from old to new, and these images are fresh
+abbrev pub TimeGoes : {D : Type 0} → Ghosts D → D → D → (Image → Type 0) → Type 0
+TimeGoes facts old new fresh =
+    GoesOn (facts.moment old) (facts.moment new) (facts.has_been old) (facts.has_been new) (facts.left_since old) (facts.left_since new) fresh
+
+-- at each moment since old, each image that a stop may leave has P
+pub record Leaves {D : Type 0} (facts : Ghosts D) (old new : D) (P : Image → Type 0) : Type 0 where
+  pub each : (c : Image) → facts.left_since new (facts.moment old) c → P c
+  -- for a run that began earlier
+  pub time : TimeGoes facts old new P
+
+-- no write was made: reads give what they gave, and a stop may leave what it might have left
+pub record WritesNothing {D : Type 0} (facts : Ghosts D) (old new : D) : Type 0 where
+  pub same : facts.seen new ≡ facts.seen old
+  pub stops : TimeGoes facts old new no_image
+
+-- the count of faults has not fallen, and where it stood at its last value it still does
+abbrev pub CountGoes : {D : Type 0} → Ghosts D → D → D → Type 0
+CountGoes facts old new = CountGoesOn (facts.faults old) (facts.faults new) (facts.is_spent old) (facts.is_spent new)
+
+-- the count of faults rose, or stands at its last value at the end
+abbrev pub CountRose : {D : Type 0} → Ghosts D → D → D → Type 0
+CountRose facts old new = Rose (facts.faults old) (facts.faults new) (facts.is_spent new)

@@ -1,0 +1,46 @@
+// Vectors of blocks.
+ghost use Rattle.std.specs.Prelude.{◌≡◌, ◌<◌, ℕ, Contains, vec_len, vec_capacity, IfOk};
+ghost use Rattle.mg_disk.specs.Disk.{SameBut};
+ghost use Rattle.mg_disk.specs.Blocks.{zeros_of, IsGated};
+
+use crate::{BLOCK_SIZE, Block};
+use std::alloc::{AllocError, Global};
+
+/// The byte that a stop leaves under `Left::Gates`.
+pub(crate) const GATE: u8 = 0xA5;
+
+/// That many blocks of zeros, in a vector that has room for no more.
+pub(crate) fn zeros(alloc: Global, blocks: u64) -> Result<Vec<Block>, AllocError>
+    ensures zeros { IfOk result (λ content. content.items ≡ zeros_of blocks) }
+    ensures count { IfOk result (λ content. vec_len content ≡ blocks) }
+{
+    let mut content = Vec::with_capacity(alloc, blocks as usize)?;
+    for _ in 0..blocks {
+        content.push([0; BLOCK_SIZE])?;
+    }
+    Ok(content)
+}
+
+/// Puts gates at these places.
+pub(crate) fn put_gates(content: &mut Vec<Block>, places: &[u64])
+    requires { (k : ℕ) → Contains places.now k → k < vec_len content.old }
+    ensures gates { IsGated places.now content.old.items content.new.items }
+    ensures len { vec_len content.new ≡ vec_len content.old }
+{
+    for &i in places {
+        content[i as usize] = [GATE; BLOCK_SIZE];
+    }
+}
+
+/// Copies the blocks at these places, which are all that differ.
+pub(crate) fn copy_at(places: &[u64], from: &Vec<Block>, to: &mut Vec<Block>)
+    requires in_range { (k : ℕ) → Contains places.now k → k < vec_len from.now }
+    requires differ { SameBut (Contains places.now) to.old.items from.now.items }
+    ensures same { to.new.items ≡ from.now.items }
+    ensures len { vec_len to.new ≡ vec_len to.old }
+    ensures capacity { vec_capacity to.new ≡ vec_capacity to.old }
+{
+    for &i in places {
+        to[i as usize] = from[i as usize];
+    }
+}

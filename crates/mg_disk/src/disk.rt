@@ -1,0 +1,98 @@
+// The trait that the layers above are proved against.
+ghost use Rattle.std.specs.Prelude.{◌≡◌, ◌<◌, ℕ, Bool, IsTrue, Option, length, slice_set, option_map, OnOk, OnErr, IsSomeAnd};
+ghost use Rattle.std.specs.Option.{ForSome};
+ghost use Rattle.mg_faults.specs.Faults.{CountGoesOn, Rose};
+ghost use Rattle.mg_disk.specs.Disk.{Moment, Image, block_at, SeenBut, only_place, GoesOn, no_image, Torn, OnlySeen};
+
+use mg_faults::Failed;
+
+/// The bytes of a block.
+pub const BLOCK_SIZE: usize = 4096;
+
+/// A block.
+pub type Block = [u8; BLOCK_SIZE];
+
+/// A disk of fixed blocks. Any call may fail; what was written is safe from a stop once a later sync answered Ok.
+///
+/// What reads give, and what a stop may leave, are told by some disks and not by others. Where they are not told, the
+/// clauses on them say nothing; those on the count of faults hold of every disk.
+pub trait Disk {
+    /// How many blocks it has. This never changes.
+    ghost block_count: { Self → ℕ };
+
+    /// What reads give now, where the disk tells it.
+    ghost seen: { Self → Option Image };
+
+    /// Whether the disk tells which images a stop may leave.
+    ghost tells_stops: { Self → Bool };
+
+    /// The moment now.
+    ghost moment: { Self → Moment };
+
+    /// The moments up to now.
+    ghost has_been: { Self → Moment → Type 0 };
+
+    /// A stop at some moment since that one may leave this image: none, where the disk does not tell, and none since a
+    /// moment of a form that the disk does not name.
+    ghost left_since: { Self → Moment → Image → Type 0 };
+
+    /// The count of faults.
+    ghost faults: { Self → ℕ };
+
+    /// The count stands at its last value.
+    ghost is_spent: { Self → Bool };
+
+    /// How many blocks it has.
+    fn blocks(&self) -> u64
+        ensures count { result ≡ block_count self.now };
+
+    /// Gives block `i`. A read that fails leaves any bytes in `out`.
+    fn read(&mut self, i: u64, out: &mut Block) -> Result<(), Failed>
+        requires in_range { i < block_count self.old }
+        ensures block { OnOk result (ForSome (seen self.old) (λ image. out.new ≡ block_at image i)) }
+        ensures seen { seen self.new ≡ seen self.old }
+        ensures stops { GoesOn (moment self.old) (moment self.new) (has_been self.old) (has_been self.new)
+            (left_since self.old) (left_since self.new) no_image }
+        ensures blocks { block_count self.new ≡ block_count self.old }
+        ensures tells { tells_stops self.new ≡ tells_stops self.old }
+        ensures count { CountGoesOn (faults self.old) (faults self.new) (is_spent self.old) (is_spent self.new) }
+        ensures cause { OnErr result (Rose (faults self.old) (faults self.new) (is_spent self.new)) };
+
+    /// Puts a block at `i`. Until a good sync a stop may leave any bytes there, also after a write that failed.
+    fn write(&mut self, i: u64, from: &Block) -> Result<(), Failed>
+        requires in_range { i < block_count self.old }
+        ensures written { OnOk result (seen self.new ≡ option_map (λ image. slice_set image i from.now) (seen self.old)) }
+        ensures unknown { OnErr result (SeenBut (only_place i) (seen self.old) (seen self.new)) }
+        ensures stops { GoesOn (moment self.old) (moment self.new) (has_been self.old) (has_been self.new)
+            (left_since self.old) (left_since self.new) (Torn i (left_since self.old (moment self.old))) }
+        ensures blocks { block_count self.new ≡ block_count self.old }
+        ensures tells { tells_stops self.new ≡ tells_stops self.old }
+        ensures count { CountGoesOn (faults self.old) (faults self.new) (is_spent self.old) (is_spent self.new) }
+        ensures cause { OnErr result (Rose (faults self.old) (faults self.new) (is_spent self.new)) };
+
+    /// After Ok a stop leaves what reads give. A sync that fails changes nothing.
+    fn sync(&mut self) -> Result<(), Failed>
+        ensures durable { OnOk result (OnlySeen (seen self.new) (left_since self.new (moment self.new))) }
+        ensures seen { seen self.new ≡ seen self.old }
+        ensures stops { GoesOn (moment self.old) (moment self.new) (has_been self.old) (has_been self.new)
+            (left_since self.old) (left_since self.new) no_image }
+        ensures blocks { block_count self.new ≡ block_count self.old }
+        ensures tells { tells_stops self.new ≡ tells_stops self.old }
+        ensures count { CountGoesOn (faults self.old) (faults self.new) (is_spent self.old) (is_spent self.new) }
+        ensures cause { OnErr result (Rose (faults self.old) (faults self.new) (is_spent self.new)) };
+
+    /// The moment now has been.
+    ghost now_has_been: { (disk : Self) → has_been disk (moment disk) };
+
+    /// What a stop may leave now, it may leave since any earlier moment.
+    ghost counts_now: { (disk : Self) (t : Moment) (c : Image) → has_been disk t → left_since disk (moment disk) c → left_since disk t c };
+
+    /// What reads give is one of the images that a stop may leave now. So a disk that tells of stops tells its reads.
+    ghost seen_may_stay: { (disk : Self) → IsTrue (tells_stops disk) → IsSomeAnd (seen disk) (left_since disk (moment disk)) };
+
+    /// Where the disk does not tell of stops, no image may be left.
+    ghost only_told: { (disk : Self) (t : Moment) (c : Image) → left_since disk t c → IsTrue (tells_stops disk) };
+
+    /// What reads give has that many blocks.
+    ghost seen_count: { (disk : Self) → ForSome (seen disk) (λ image. length image ≡ block_count disk) };
+}

@@ -1,0 +1,198 @@
+//! A disk in a file: the trusted edge, which tells nothing of its content.
+ghost use Rattle.std.specs.Prelude.{◌≡◌, ◌<◌, ◌^◌, false, None};
+ghost use Rattle.std.proofs.Common.{rules};
+ghost use Rattle.mg_faults.specs.Faults.{is_last};
+ghost use Rattle.mg_disk.specs.Disk.{At};
+
+use crate::counted::counted;
+use crate::{BLOCK_SIZE, Block, Disk, Failed};
+use mg_faults::FaultCount;
+use std::fs::{OpenFile, OpenOptions};
+use std::io;
+use std::os::unix::fs::FileExt;
+use std::rt::Files;
+
+/// How many blocks a [`FileDisk`] has.
+const BLOCKS: u64 = 70_000;
+
+/// A disk of 70,000 blocks in a file, which is opened at the first read, write or sync and made empty where there is
+/// none. Past the end of the file it reads zeros.
+///
+/// A call fails where the file cannot be opened, where the system answers an error, and where it takes less than the
+/// whole of a block that is written; the next call tries again. A sync that answers Ok has brought the file to its
+/// medium, by the strongest call that the standard library has.
+#[derive(Drop)]
+pub struct FileDisk<'a, R: Files>
+where
+    R::File: FileExt,
+{
+    rt: &'a R,
+    path: &'a str,
+    file: Option<R::File>,
+    count: FaultCount,
+}
+
+impl<'a, R: Files> FileDisk<'a, R>
+where
+    R::File: FileExt,
+{
+    /// The disk in the file at `path`. The file is not touched yet, and no memory is taken.
+    pub fn new(rt: &'a R, path: &'a str) -> FileDisk<'a, R>
+        ensures { ⟦<FileDisk<'a, R> as Disk>⟧.faults result ≡ 0 }
+    {
+        FileDisk {
+            rt,
+            path,
+            file: None,
+            count: FaultCount::new(),
+        }
+    }
+
+    /// The file, opened where it is not yet. The caller puts it back.
+    fn take_file(&mut self) -> io::Result<R::File>
+        ensures { self.new.count ≡ self.old.count }
+    {
+        match self.file.take() {
+            Some(file) => Ok(file),
+            None => OpenOptions::new()
+                .read(true)
+                .write(true)
+                .create(true)
+                .open(self.rt, self.path),
+        }
+    }
+}
+
+/// Reads the block at an offset. Where the file ends within it, the rest is zeros.
+fn read_block<F: FileExt>(file: &F, offset: u64, out: &mut Block) -> io::Result<()>
+    requires { offset < 2 ^ 60 }
+{
+    let mut filled = 0;
+    while filled < BLOCK_SIZE {
+        let count = file.read_at(&mut out[filled..], offset + filled as u64)?;
+        if count == 0 {
+            break;
+        }
+        filled += count;
+    }
+    out[filled..].fill(0);
+    Ok(())
+}
+
+/// Writes the block at an offset, in one call of the system.
+fn write_block<F: FileExt>(file: &F, offset: u64, from: &Block) -> io::Result<()> {
+    if file.write_at(from, offset)? == BLOCK_SIZE {
+        Ok(())
+    } else {
+        Err(io::ErrorKind::WriteZero.into())
+    }
+}
+
+/// An error of the system is a fault.
+fn fault(outcome: io::Result<()>) -> Result<(), Failed> {
+    outcome.map_err(|_| Failed)
+}
+
+impl<'a, R: Files> Disk for FileDisk<'a, R>
+where
+    R::File: FileExt,
+{
+    ghost block_count = { λ _. 70000 };
+
+    ghost seen = { λ _. None };
+
+    ghost tells_stops = { λ _. false };
+
+    ghost moment = { λ _. At 0 };
+
+    ghost has_been = { λ _ _. Unit {0} };
+
+    ghost left_since = { λ _ _ _. ⊥ };
+
+    ghost faults = { λ d. d.count };
+
+    ghost is_spent = { λ d. is_last d.count };
+
+    ghost now_has_been = { λ _. tt };
+
+    ghost counts_now = { λ _ _ _ _ left. left };
+
+    ghost seen_may_stay = { λ _ told. Prim.search rules };
+
+    ghost only_told = { λ _ _ _ left. absurd left };
+
+    ghost seen_count = { λ _ image is. Prim.search rules };
+
+    fn blocks(&self) -> u64 {
+        BLOCKS
+    }
+
+    fn read(&mut self, i: u64, out: &mut Block) -> Result<(), Failed> {
+        let outcome = match self.take_file() {
+            Ok(file) => {
+                let outcome = read_block(&file, i * BLOCK_SIZE as u64, out);
+                self.file = Some(file);
+                outcome
+            }
+            Err(e) => Err(e),
+        };
+        counted(fault(outcome), &mut self.count)
+    }
+
+    fn write(&mut self, i: u64, from: &Block) -> Result<(), Failed> {
+        let outcome = match self.take_file() {
+            Ok(file) => {
+                let outcome = write_block(&file, i * BLOCK_SIZE as u64, from);
+                self.file = Some(file);
+                outcome
+            }
+            Err(e) => Err(e),
+        };
+        counted(fault(outcome), &mut self.count)
+    }
+
+    fn sync(&mut self) -> Result<(), Failed> {
+        let outcome = match self.take_file() {
+            Ok(file) => {
+                let outcome = file.sync_all();
+                self.file = Some(file);
+                outcome
+            }
+            Err(e) => Err(e),
+        };
+        counted(fault(outcome), &mut self.count)
+    }
+}
+
+#[cfg(test)]
+mod tests {
+    use super::*;
+    use std::fs;
+
+    #[test]
+    fn a_file_keeps_what_was_synced(rt: HostRuntime) -> io::Result<()> {
+        let _ = fs::remove_file(&rt, "volume");
+        let block: Block = [7; BLOCK_SIZE];
+        let mut first = FileDisk::new(&rt, "volume");
+        assert!(rt; first.write(2, &block).is_ok());
+        assert!(rt; first.sync().is_ok());
+        let mut second = FileDisk::new(&rt, "volume");
+        for (i, byte) in [(0, 0), (2, 7), (3, 0), (69_999, 0)] {
+            let mut out: Block = [1; BLOCK_SIZE];
+            assert!(rt; second.read(i, &mut out).is_ok());
+            assert!(rt; out.iter().all(|&b| b == byte), "block {i}");
+        }
+        assert_eq!(rt; second.count.get(), 0);
+        fs::remove_file(&rt, "volume")
+    }
+
+    #[test]
+    fn a_folder_fails_at_each_call(rt: HostRuntime) {
+        let mut block: Block = [0; BLOCK_SIZE];
+        let mut disk = FileDisk::new(&rt, ".");
+        assert!(rt; disk.read(0, &mut block).is_err());
+        assert!(rt; disk.write(0, &block).is_err());
+        assert!(rt; disk.sync().is_err());
+        assert_eq!(rt; disk.count.get(), 3);
+    }
+}

@@ -1,0 +1,125 @@
+//! A disk that dies after some calls.
+ghost use Rattle.std.specs.Prelude.{◌≡◌, ◌-◌, ◌<◌, ◌↔◌, IsErr};
+ghost use Rattle.mg_faults.specs.Faults.{is_last};
+
+use crate::counted::counted;
+use crate::{Block, Disk, Failed};
+use mg_faults::FaultCount;
+
+/// A disk that passes a number of calls of read, write and sync on, and fails each one after.
+///
+/// Its count of faults is its own: 0 at first, raised by each call that answers [`Failed`], whether it passed or not.
+#[derive(Drop)]
+pub struct Fuse<D: Disk> {
+    inner: D,
+    calls_left: u64,
+    count: FaultCount,
+}
+
+impl<D: Disk> Fuse<D> {
+    ghost use Rattle.mg_disk.specs.Stops.{NothingPending};
+    ghost use Rattle.mg_disk.specs.Fuse.{inner_of, calls_left};
+
+    /// Passes `calls` calls to `inner`. No call is made here.
+    pub fn new(inner: D, calls: u64) -> Fuse<D>
+        ensures inner { inner_of result ≡ inner }
+        ensures calls { calls_left result ≡ calls }
+        ensures settled { NothingPending D.Disk inner → NothingPending ⟦<Fuse<D> as Disk>⟧ result }
+        ensures count { ⟦<Fuse<D> as Disk>⟧.faults result ≡ 0 }
+    {
+        Fuse {
+            inner,
+            calls_left: calls,
+            count: FaultCount::new(),
+        }
+    }
+
+    /// The disk as its calls left it.
+    pub fn into_inner(self) -> D
+        ensures { result ≡ inner_of self }
+    {
+        self.inner
+    }
+}
+
+impl<D: Disk> Disk for Fuse<D> {
+    ghost use Rattle.mg_disk.specs.Fuse.{Burns};
+    ghost use Rattle.mg_disk.specs.Calls.{IsRead, IsWrite, IsSync};
+
+    ghost block_count = { λ f. D.Disk.block_count f.inner };
+
+    ghost seen = { λ f. D.Disk.seen f.inner };
+
+    ghost tells_stops = { λ f. D.Disk.tells_stops f.inner };
+
+    ghost moment = { λ f. D.Disk.moment f.inner };
+
+    ghost has_been = { λ f. D.Disk.has_been f.inner };
+
+    ghost left_since = { λ f. D.Disk.left_since f.inner };
+
+    ghost faults = { λ f. f.count };
+
+    ghost is_spent = { λ f. is_last f.count };
+
+    ghost now_has_been = { λ f. D.Disk.now_has_been f.inner };
+
+    ghost counts_now = { λ f. D.Disk.counts_now f.inner };
+
+    ghost seen_may_stay = { λ f. D.Disk.seen_may_stay f.inner };
+
+    ghost only_told = { λ f. D.Disk.only_told f.inner };
+
+    ghost seen_count = { λ f. D.Disk.seen_count f.inner };
+
+    fn blocks(&self) -> u64 {
+        self.inner.blocks()
+    }
+
+    fn read(&mut self, i: u64, out: &mut Block) -> Result<(), Failed>
+        requires in_range { i < ⟦<Fuse<D> as Disk>⟧.block_count self.old }
+        ensures meets { IsRead ⟦<Fuse<D> as Disk>⟧ self.old self.new i out.new result }
+        ensures burns { Burns D.Disk self.old self.new result }
+    {
+        let outcome = match spend(&mut self.calls_left) {
+            Ok(()) => self.inner.read(i, out),
+            Err(e) => Err(e),
+        };
+        counted(outcome, &mut self.count)
+    }
+
+    fn write(&mut self, i: u64, from: &Block) -> Result<(), Failed>
+        requires in_range { i < ⟦<Fuse<D> as Disk>⟧.block_count self.old }
+        ensures meets { IsWrite ⟦<Fuse<D> as Disk>⟧ self.old self.new i from.now result }
+        ensures burns { Burns D.Disk self.old self.new result }
+    {
+        let outcome = match spend(&mut self.calls_left) {
+            Ok(()) => self.inner.write(i, from),
+            Err(e) => Err(e),
+        };
+        counted(outcome, &mut self.count)
+    }
+
+    fn sync(&mut self) -> Result<(), Failed>
+        ensures meets { IsSync ⟦<Fuse<D> as Disk>⟧ self.old self.new result }
+        ensures burns { Burns D.Disk self.old self.new result }
+    {
+        let outcome = match spend(&mut self.calls_left) {
+            Ok(()) => self.inner.sync(),
+            Err(e) => Err(e),
+        };
+        counted(outcome, &mut self.count)
+    }
+}
+
+/// One call fewer is left. It fails where none was.
+fn spend(calls_left: &mut u64) -> Result<(), Failed>
+    ensures blown { IsErr result ↔ (calls_left.old ≡ 0) }
+    ensures spent { calls_left.new ≡ calls_left.old - 1 }
+{
+    if *calls_left == 0 {
+        return Err(Failed);
+    }
+    *calls_left -= 1;
+    Ok(())
+}

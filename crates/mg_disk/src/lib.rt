@@ -1,0 +1,25 @@
+//! Disks: what a disk promises, also across a stop of the machine, and four that keep the promise.
+//!
+//! A layer above takes any `D: Disk`. It learns what reads give, which images a stop may leave since a moment, and that
+//! an answer [`Failed`] comes only where the disk's count of faults rose. [`MemDisk`] stands for a disk in tests, with
+//! calls that fail and stops at will, [`Fuse`] lets a disk die after some calls, [`ScratchDisk`] is a disk for one
+//! session alone, and [`FileDisk`] is the file that a volume is kept in.
+//!
+//! `specs/Disk.antt` has the words of the trait, `specs/Stops.antt` what the layers above say of a disk in one word,
+//! and `specs/Runs.antt` the steps by which what a stop may leave is followed over a run of calls.
+#![tactic(auto)]
+
+mod blocks;
+mod counted;
+mod disk;
+mod file;
+mod fuse;
+mod memory;
+mod scratch;
+
+pub use disk::{BLOCK_SIZE, Block, Disk};
+pub use file::FileDisk;
+pub use fuse::Fuse;
+pub use memory::{Counts, Left, MemDisk};
+pub use mg_faults::Failed;
+pub use scratch::ScratchDisk;
