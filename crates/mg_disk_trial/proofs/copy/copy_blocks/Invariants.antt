@@ -1,0 +1,15 @@
+use Rattle.std.proofs.Common.{◌≡◌}
+use Rattle.mg_disk.specs.Stops.{WritesNothing, CountGoes}
+use Rattle.mg_disk_trial.specs.Copy.{IsCopied}
+use Rattle.mg_disk_trial.proofs.copy.copy_blocks.Given as goal
+
+-- the blocks so far are copied, and nothing was written on the disk that is read
+abbrev pub invariant-loop-i : goal.invariant-loop-i
+invariant-loop-i g l = record {
+  copied : IsCopied l.i (g.D.Disk.seen l.initial.from) (g.E.Disk.seen l.to);
+  reads : WritesNothing g.D.Disk l.initial.from l.from;
+  from_blocks : g.D.Disk.block_count l.from ≡ g.D.Disk.block_count l.initial.from;
+  to_blocks : g.E.Disk.block_count l.to ≡ g.E.Disk.block_count l.initial.to;
+  from_count : CountGoes g.D.Disk l.initial.from l.from;
+  to_count : CountGoes g.E.Disk l.initial.to l.to;
+}

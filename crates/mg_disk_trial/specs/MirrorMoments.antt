@@ -1,0 +1,173 @@
+-- Time goes on for a mirror where it goes on for its sides.
+use Rattle.std.specs.Prelude.{◌≡◌, ◌⊎◌, ℕ, Bool, IsTrue, take, Option, Some, None, IsSomeAnd}
+use Rattle.std.proofs.Common.{refl, sym, ◌∙◌, subst, inl, inr, ⊎_elim}
+use Rattle.mg_disk.specs.Disk.{Image, Moment, At, Both, Alone, only_place, GoesOn, no_image, Torn, OnlySeen}
+use Rattle.mg_disk_trial.specs.Mirror.{told_cut, seen_of, moment_of, Been, CutOf, LeftSince, same_cut, only_cut}
+use Rattle.mg_disk_trial.specs.declared.mirror.Side.{Side}
+use Rattle.mg_disk_trial.specs.declared.mirror.Side.TheVariants.{Left, Right}
+
+-- fresh images of a side are fresh ones of the mirror, once cut
+abbrev pub Cuts : ℕ → Bool → (Image → Type 0) → (Image → Type 0) → Type 0
+Cuts n told F H = (d : Image) → IsTrue told → F d → H (take n d)
+
+-- one run after another
+pub goes_then : (a b c : Moment) (ab bb cb : Moment → Type 0) (sa sb sc : Moment → Image → Type 0) (F G : Image → Type 0) → GoesOn a b ab bb sa sb F → GoesOn b c bb cb sb sc G → ((x : Image) → G x → F x) → GoesOn a c ab cb sa sc F
+goes_then a b c ab bb cb sa sb sc F G first second sub = record {
+  begins = first.begins;
+  past = λ t was. second.past t (first.past t was);
+  keeps = λ t x was left. second.keeps t x (first.past t was) (first.keeps t x was left);
+  nothing_else = λ t x was left. ⊎_elim (first.nothing_else t x was) (λ g. inr (sub x g)) (second.nothing_else t x (first.past t was) left);
+  now = λ x left. ⊎_elim (first.now x) (λ g. inr (sub x g)) (second.now x left);
+}
+
+-- an image of a side that is old or fresh, cut, is an old or a fresh one of the mirror
+cut_cases : (n : ℕ) (told : Bool) (new old F H : Image → Type 0) (c : Image) (Old : Type 0) → IsTrue told → Cuts n told F H → (CutOf n old c → Old) → CutOf n new c
+    → ((d : Image) → new d → old d ⊎ F d) → Old ⊎ H c
+cut_cases n told new old F H c Old tells cuts keep left else = ⊎_elim older fresh (else left.whole left.is_one)
+  where
+    older : old left.whole → Old ⊎ H c
+    older o = inl (keep (record { whole = left.whole; is_one = o; cut = left.cut }))
+
+    fresh : F left.whole → Old ⊎ H c
+    fresh f = inr (subst H (sym left.cut) (cuts left.whole tells f))
+
+is_some : (o : Option Image) (P : Image → Type 0) → IsSomeAnd o P → (x : Image) × (o ≡ Some x)
+is_some (Some x) P p = (x, refl)
+is_some None P p = absurd p
+
+-- a side is in used
+abbrev pub IsLeftInUse : Option Side → Type 0
+IsLeftInUse None = Unit {0}
+IsLeftInUse (Some Left) = Unit {0}
+IsLeftInUse (Some Right) = ⊥
+
+abbrev pub IsRightInUse : Option Side → Type 0
+IsRightInUse None = Unit {0}
+IsRightInUse (Some Left) = ⊥
+IsRightInUse (Some Right) = Unit {0}
+
+still_cut : (n : ℕ) (old new : Image → Type 0) (c : Image) → ((d : Image) → old d → new d) → CutOf n old c → CutOf n new c
+still_cut n old new c keep left = record { whole = left.whole; is_one = keep left.whole left.is_one; cut = left.cut }
+
+module _ (n : ℕ) (told : Bool) (l l' r r' : Moment) (lb lb' rb rb' : Moment → Type 0) (ls ls' rs rs' : Moment → Image → Type 0) (F G H : Image → Type 0) where
+  -- the sides that are in used stay the same
+  pub goes_same : (alone : Option Side) → GoesOn l l' lb lb' ls ls' F → GoesOn r r' rb rb' rs rs' G → Cuts n told F H → Cuts n told G H
+      → GoesOn (moment_of alone l r) (moment_of alone l' r') (Been alone lb rb) (Been alone lb' rb') (LeftSince n alone told ls rs) (LeftSince n alone told ls' rs') H
+  goes_same alone a b f g = record { begins = begins alone; past = past alone; keeps = keeps alone; nothing_else = nothing_else alone; now = now alone }
+    where
+      begins : (alone : Option Side) → Been alone lb rb (moment_of alone l r)
+      begins None = (a.begins, b.begins)
+      begins (Some Left) = a.begins
+      begins (Some Right) = b.begins
+
+      past : (alone : Option Side) (t : Moment) → Been alone lb rb t → Been alone lb' rb' t
+      past alone (At k) was = was
+      past alone (Both x y) was = (a.past x was.0, b.past y was.1)
+      past None (Alone x) was = was
+      past (Some Left) (Alone x) was = a.past x was
+      past (Some Right) (Alone x) was = b.past x was
+
+      keeps : (alone : Option Side) (t : Moment) (c : Image) → Been alone lb rb t → LeftSince n alone told ls rs t c → LeftSince n alone told ls' rs' t c
+      keeps alone (At k) c was left = left
+      keeps alone (Both x y) c was left = (
+        left.0,
+        ⊎_elim (λ d. inl (still_cut n (ls x) (ls' x) c (λ i o. a.keeps x i was.0 o) d)) (λ d. inr (still_cut n (rs y) (rs' y) c (λ i o. b.keeps y i was.1 o) d)) left.1,
+      )
+      keeps None (Alone x) c was left = absurd was
+      keeps (Some Left) (Alone x) c was left = (left.0, still_cut n (ls x) (ls' x) c (λ i o. a.keeps x i was o) left.1)
+      keeps (Some Right) (Alone x) c was left = (left.0, still_cut n (rs x) (rs' x) c (λ i o. b.keeps x i was o) left.1)
+
+      nothing_else : (alone : Option Side) (t : Moment) (c : Image) → Been alone lb rb t → LeftSince n alone told ls' rs' t c → LeftSince n alone told ls rs t c ⊎ H c
+      nothing_else alone (At k) c was left = absurd was
+      nothing_else alone (Both x y) c was left =
+          ⊎_elim (λ d. cut_cases n told (ls' x) (ls x) F H c (LeftSince n alone told ls rs (Both x y) c) left.0 f (λ o. (left.0, inl o)) d (λ i e. a.nothing_else x i was.0 e))
+          (λ d. cut_cases n told (rs' y) (rs y) G H c (LeftSince n alone told ls rs (Both x y) c) left.0 g (λ o. (left.0, inr o)) d (λ i e. b.nothing_else y i was.1 e))
+          left.1
+      nothing_else None (Alone x) c was left = absurd was
+      nothing_else (Some Left) (Alone x) c was left = cut_cases n told (ls' x) (ls x) F H c (LeftSince n (Some Left) told ls rs (Alone x) c) left.0 f (λ o. (left.0, o)) left.1 (λ i e. a.nothing_else x i was e)
+      nothing_else (Some Right) (Alone x) c was left = cut_cases n told (rs' x) (rs x) G H c (LeftSince n (Some Right) told ls rs (Alone x) c) left.0 g (λ o. (left.0, o)) left.1 (λ i e. b.nothing_else x i was e)
+
+      now : (alone : Option Side) (c : Image) → LeftSince n alone told ls' rs' (moment_of alone l' r') c → LeftSince n alone told ls rs (moment_of alone l r) c ⊎ H c
+      now None c left =
+          ⊎_elim (λ d. cut_cases n told (ls' l') (ls l) F H c (LeftSince n None told ls rs (Both l r) c) left.0 f (λ o. (left.0, inl o)) d a.now)
+          (λ d. cut_cases n told (rs' r') (rs r) G H c (LeftSince n None told ls rs (Both l r) c) left.0 g (λ o. (left.0, inr o)) d b.now)
+          left.1
+      now (Some Left) c left = cut_cases n told (ls' l') (ls l) F H c (LeftSince n (Some Left) told ls rs (Alone l) c) left.0 f (λ o. (left.0, o)) left.1 a.now
+      now (Some Right) c left = cut_cases n told (rs' r') (rs r) G H c (LeftSince n (Some Right) told ls rs (Alone r) c) left.0 g (λ o. (left.0, o)) left.1 b.now
+
+module _ (n : ℕ) (told : Bool) (l r : Moment) (lb rb : Moment → Type 0) (ls rs : Moment → Image → Type 0) where
+  -- a side is dropped: no time goes by
+  pub goes_alone : (side : Side) → lb l → rb r → GoesOn (Both l r) (moment_of (Some side) l r) (Been None lb rb) (Been (Some side) lb rb) (LeftSince n None told ls rs) (LeftSince n (Some side) told ls rs) no_image
+  goes_alone side left_been right_been = record { begins = (left_been, right_been); past = past; keeps = keeps; nothing_else = nothing_else; now = now side }
+    where
+      past : (t : Moment) → Been None lb rb t → Been (Some side) lb rb t
+      past (At k) was = was
+      past (Both x y) was = was
+      past (Alone x) was = absurd was
+
+      keeps : (t : Moment) (c : Image) → Been None lb rb t → LeftSince n None told ls rs t c → LeftSince n (Some side) told ls rs t c
+      keeps (At k) c was left = left
+      keeps (Both x y) c was left = left
+      keeps (Alone x) c was left = absurd was
+
+      nothing_else : (t : Moment) (c : Image) → Been None lb rb t → LeftSince n (Some side) told ls rs t c → LeftSince n None told ls rs t c ⊎ no_image c
+      nothing_else (At k) c was left = inl left
+      nothing_else (Both x y) c was left = inl left
+      nothing_else (Alone x) c was left = absurd was
+
+      now : (side : Side) (c : Image) → LeftSince n (Some side) told ls rs (moment_of (Some side) l r) c → LeftSince n None told ls rs (Both l r) c ⊎ no_image c
+      now Left c left = inl (left.0, inl left.1)
+      now Right c left = inl (left.0, inr left.1)
+
+  -- what is fresh at a write of a side is fresh at one of the mirror
+  pub torn_left : (i : ℕ) (alone : Option Side) → IsLeftInUse alone → Cuts n told (Torn i (ls l)) (Torn i (LeftSince n alone told ls rs (moment_of alone l r)))
+  torn_left i None used d tells t = (take n t.0, (tells, inl (record { whole = t.0; is_one = t.1; cut = refl })), same_cut n (only_place i) t.0 d t.2)
+  torn_left i (Some Left) used d tells t = (take n t.0, (tells, record { whole = t.0; is_one = t.1; cut = refl }), same_cut n (only_place i) t.0 d t.2)
+  torn_left i (Some Right) used d tells t = absurd used
+
+  pub torn_right : (i : ℕ) (alone : Option Side) → IsRightInUse alone → Cuts n told (Torn i (rs r)) (Torn i (LeftSince n alone told ls rs (moment_of alone l r)))
+  torn_right i None used d tells t = (take n t.0, (tells, inr (record { whole = t.0; is_one = t.1; cut = refl })), same_cut n (only_place i) t.0 d t.2)
+  torn_right i (Some Right) used d tells t = (take n t.0, (tells, record { whole = t.0; is_one = t.1; cut = refl }), same_cut n (only_place i) t.0 d t.2)
+  torn_right i (Some Left) used d tells t = absurd used
+
+  -- the laws of the trait
+  pub been_now : (alone : Option Side) → lb l → rb r → Been alone lb rb (moment_of alone l r)
+  been_now None left right = (left, right)
+  been_now (Some Left) left right = left
+  been_now (Some Right) left right = right
+
+  pub counted_now : (alone : Option Side) → ((t : Moment) (c : Image) → lb t → ls l c → ls t c) → ((t : Moment) (c : Image) → rb t → rs r c → rs t c)
+      → (t : Moment) (c : Image) → Been alone lb rb t → LeftSince n alone told ls rs (moment_of alone l r) c → LeftSince n alone told ls rs t c
+  counted_now alone a b (At k) c was left = absurd was
+  counted_now None a b (Both x y) c was left =
+      (left.0, ⊎_elim (λ d. inl (still_cut n (ls l) (ls x) c (λ i o. a x i was.0 o) d)) (λ d. inr (still_cut n (rs r) (rs y) c (λ i o. b y i was.1 o) d)) left.1)
+  counted_now (Some Left) a b (Both x y) c was left = (left.0, inl (still_cut n (ls l) (ls x) c (λ i o. a x i was.0 o) left.1))
+  counted_now (Some Right) a b (Both x y) c was left = (left.0, inr (still_cut n (rs r) (rs y) c (λ i o. b y i was.1 o) left.1))
+  counted_now None a b (Alone x) c was left = absurd was
+  counted_now (Some Left) a b (Alone x) c was left = (left.0, still_cut n (ls l) (ls x) c (λ i o. a x i was o) left.1)
+  counted_now (Some Right) a b (Alone x) c was left = (left.0, still_cut n (rs r) (rs x) c (λ i o. b x i was o) left.1)
+
+  pub seen_stays : (alone : Option Side) (sl sr : Option Image) → (IsTrue told → IsSomeAnd sl (ls l)) → (IsTrue told → IsSomeAnd sr (rs r))
+      → IsTrue told → IsSomeAnd (seen_of n alone sl sr) (LeftSince n alone told ls rs (moment_of alone l r))
+  seen_stays alone sl sr a b tells = stays alone sl sr (a tells) (b tells)
+    where
+      stays : (alone : Option Side) (sl sr : Option Image) → IsSomeAnd sl (ls l) → IsSomeAnd sr (rs r) → IsSomeAnd (seen_of n alone sl sr) (LeftSince n alone told ls rs (moment_of alone l r))
+      stays None (Some x) (Some y) p q = (tells, inl (record { whole = x; is_one = p; cut = refl }))
+      stays (Some Left) (Some x) (Some y) p q = (tells, record { whole = x; is_one = p; cut = refl })
+      stays (Some Right) (Some x) (Some y) p q = (tells, record { whole = y; is_one = q; cut = refl })
+      stays alone None sr p q = absurd p
+      stays alone (Some x) None p q = absurd q
+
+  -- after a good sync of the sides in used a stop leaves what reads give
+  pub only_both : (sl sr : Option Image) → told_cut n sl sr ≡ told_cut n sr sl → (IsTrue told → IsSomeAnd sl (ls l)) → (IsTrue told → IsSomeAnd sr (rs r))
+      → OnlySeen sl (ls l) → OnlySeen sr (rs r) → OnlySeen (told_cut n sl sr) (LeftSince n None told ls rs (Both l r))
+  only_both sl sr same a b p q c left =
+      ⊎_elim (λ d. let y = is_some sr (rs r) (b left.0) in only_cut n sl sr (ls l) c p y.0 y.1 d)
+      (λ d. let x = is_some sl (ls l) (a left.0) in same ∙ only_cut n sr sl (rs r) c q x.0 x.1 d)
+      left.1
+
+  pub only_left : (sl sr : Option Image) → (IsTrue told → IsSomeAnd sr (rs r)) → OnlySeen sl (ls l) → OnlySeen (told_cut n sl sr) (LeftSince n (Some Left) told ls rs (Alone l))
+  only_left sl sr b p c left = let y = is_some sr (rs r) (b left.0) in only_cut n sl sr (ls l) c p y.0 y.1 left.1
+
+  pub only_right : (sl sr : Option Image) → (IsTrue told → IsSomeAnd sl (ls l)) → OnlySeen sr (rs r) → OnlySeen (told_cut n sr sl) (LeftSince n (Some Right) told ls rs (Alone r))
+  only_right sl sr a q c left = let x = is_some sl (ls l) (a left.0) in only_cut n sr sl (rs r) c q x.0 x.1 left.1

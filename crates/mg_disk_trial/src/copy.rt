@@ -1,0 +1,34 @@
+// A copy of one disk's first blocks on another.
+ghost use Rattle.std.specs.Prelude.{◌≡◌, ◌≤◌, false, IfOk, IsTrue, OnErr};
+ghost use Rattle.mg_disk.specs.Stops.{NothingPending, WritesNothing, CountGoes, CountRose};
+ghost use Rattle.mg_disk_trial.specs.Copy.{IsCopied};
+
+use mg_disk::{BLOCK_SIZE, Block, Disk, Failed};
+
+/// Copies the first blocks of `from` to `to` and makes sure of them, or says that `to` failed, whose count then rose. It fails where `from` does.
+pub(crate) fn copy_blocks<D: Disk, E: Disk>(
+    from: &mut D,
+    to: &mut E,
+    blocks: u64,
+) -> Result<bool, Failed>
+    requires from_long { blocks ≤ D.block_count from.old }
+    requires to_long { blocks ≤ E.block_count to.old }
+    ensures copied { IfOk result (λ good. IsTrue good → IsCopied blocks (D.seen from.old) (E.seen to.new)) }
+    ensures settled { IfOk result (λ good. IsTrue good → NothingPending E.Disk to.new) }
+    ensures reads { WritesNothing D.Disk from.old from.new }
+    ensures from_blocks { D.block_count from.new ≡ D.block_count from.old }
+    ensures to_blocks { E.block_count to.new ≡ E.block_count to.old }
+    ensures from_count { CountGoes D.Disk from.old from.new }
+    ensures to_count { CountGoes E.Disk to.old to.new }
+    ensures to_cause { IfOk result (λ good. good ≡ false → CountRose E.Disk to.old to.new) }
+    ensures cause { OnErr result (CountRose D.Disk from.old from.new) }
+{
+    let mut block: Block = [0; BLOCK_SIZE];
+    for i in 0..blocks {
+        from.read(i, &mut block)?;
+        if to.write(i, &block).is_err() {
+            return Ok(false);
+        }
+    }
+    Ok(to.sync().is_ok())
+}

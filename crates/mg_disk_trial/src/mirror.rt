@@ -1,0 +1,354 @@
+// One disk of two.
+ghost use Rattle.std.specs.Prelude.{◌≡◌, ◌<◌, ◌≤◌, ℕ, Some, ◌&&◌, None, take, option_map, slice_set, IfOk, IfErr, OnOk, OnErr};
+ghost use Rattle.std.specs.Option.{ForSome};
+ghost use Rattle.mg_disk.specs.Stops.{NothingPending, TimeGoes, CountGoes, CountRose};
+ghost use Rattle.mg_disk.specs.Disk.{SeenBut, Torn, block_at, no_image, only_place};
+ghost use Rattle.mg_disk.specs.Calls.{IsSync};
+ghost use Rattle.mg_disk_trial.specs.Sides.{FailsWithSides};
+ghost use Rattle.mg_disk_trial.specs.declared.mirror.Side.{Side};
+ghost use Rattle.mg_disk_trial.specs.Opened.{RoseFrom, BothRose};
+ghost use Rattle.mg_faults.specs.Faults.{is_last};
+ghost use Rattle.mg_disk_trial.specs.Mirror.{seen_of, SameWhileBoth, moment_of, Been, LeftSince, seen_long, and_left, and_right};
+ghost use Rattle.mg_disk_trial.specs.MirrorMoments.{been_now, counted_now, seen_stays};
+
+use crate::copy::copy_blocks;
+use mg_disk::{Block, Disk, Failed};
+use mg_faults::FaultCount;
+use std::marker::{Brand, PhantomData};
+
+/// A side of a mirror.
+#[derive(Clone, Copy, Debug, PartialEq, Eq)]
+pub enum Side {
+    Left,
+    Right,
+}
+
+/// What the counts of faults of the two disks were as opening began. A run picks them.
+pub trait Opened {
+    /// The count of the left disk.
+    ghost left_faults: { ℕ };
+
+    /// The count of the right disk.
+    ghost right_faults: { ℕ };
+}
+
+impl Opened for Brand {
+    ghost left_faults = { 0 };
+
+    ghost right_faults = { 0 };
+}
+
+/// One disk of two. A side whose write or sync fails is dropped, and the mirror goes on with the other.
+/// A side is dropped only where its count of faults rose since opening began, or stands at its last value, and the
+/// mirror's own count is above 0 only where that holds of both sides.
+#[derive(Drop)]
+pub struct Mirror<D: Disk, E: Disk, K: Opened = Brand> {
+    left: D,
+    right: E,
+    blocks: u64,
+    /// The one side in use, or none while both are.
+    alone: Option<Side>,
+    count: FaultCount,
+    of: PhantomData<K>,
+    ghost left_long: { blocks ≤ D.block_count left },
+    ghost right_long: { blocks ≤ E.block_count right },
+    ghost same: { SameWhileBoth blocks alone (D.seen left) (E.seen right) },
+    ghost left_no_less: { K.left_faults ≤ D.faults left },
+    ghost right_no_less: { K.right_faults ≤ E.faults right },
+    ghost dropped_right: { alone ≡ Some Side.Left → RoseFrom K.right_faults (E.faults right) (E.is_spent right) },
+    ghost dropped_left: { alone ≡ Some Side.Right → RoseFrom K.left_faults (D.faults left) (D.is_spent left) },
+    ghost both_rose: { 0 < count → BothRose K.left_faults (D.faults left) (D.is_spent left) K.right_faults (E.faults right) (E.is_spent right) },
+}
+
+/// A mirror was not opened. Both disks, as they are.
+#[derive(Drop)]
+pub struct MirrorFailed<D: Disk, E: Disk> {
+    pub left: D,
+    pub right: E,
+}
+
+impl<D: Disk, E: Disk, K: Opened> Mirror<D, E, K> {
+    /// Opens a mirror with what the disk on the side `from` has, whose first blocks are read and written to the other.
+    /// It fails where `from` does; where the other fails, the mirror stands alone on `from`. `K` has the counts of both disks.
+    pub fn open(left: D, right: E, from: Side) -> Result<Mirror<D, E, K>, MirrorFailed<D, E>>
+        requires left_faults { D.faults left ≡ K.left_faults }
+        requires right_faults { E.faults right ≡ K.right_faults }
+        ensures left_reads { from ≡ Side.Left → IfOk result (λ m. ForSome (⟦<Mirror<D, E, K> as Disk>⟧.seen m) (λ image. ForSome (D.seen left) (λ x. image ≡ take (⟦<Mirror<D, E, K> as Disk>⟧.block_count m) x))) }
+        ensures right_reads { from ≡ Side.Right → IfOk result (λ m. ForSome (⟦<Mirror<D, E, K> as Disk>⟧.seen m) (λ image. ForSome (E.seen right) (λ x. image ≡ take (⟦<Mirror<D, E, K> as Disk>⟧.block_count m) x))) }
+        ensures left_settled { from ≡ Side.Left → IfOk result (λ m. NothingPending D.Disk left → NothingPending ⟦<Mirror<D, E, K> as Disk>⟧ m) }
+        ensures right_settled { from ≡ Side.Right → IfOk result (λ m. NothingPending E.Disk right → NothingPending ⟦<Mirror<D, E, K> as Disk>⟧ m) }
+        ensures no_faults { IfOk result (λ m. ⟦<Mirror<D, E, K> as Disk>⟧.faults m ≡ 0) }
+        ensures left_cause { from ≡ Side.Left → IfErr result (λ e. CountRose D.Disk left e.left) }
+        ensures right_cause { from ≡ Side.Right → IfErr result (λ e. CountRose E.Disk right e.right) }
+    {
+        match from {
+            Side::Left => Mirror::open_left(left, right),
+            Side::Right => Mirror::open_right(left, right),
+        }
+    }
+
+    fn open_left(left: D, right: E) -> Result<Mirror<D, E, K>, MirrorFailed<D, E>>
+        requires left_faults { D.faults left ≡ K.left_faults }
+        requires right_faults { E.faults right ≡ K.right_faults }
+        ensures reads { IfOk result (λ m. ForSome (⟦<Mirror<D, E, K> as Disk>⟧.seen m) (λ image. ForSome (D.seen left) (λ x. image ≡ take (⟦<Mirror<D, E, K> as Disk>⟧.block_count m) x))) }
+        ensures settled { IfOk result (λ m. NothingPending D.Disk left → NothingPending ⟦<Mirror<D, E, K> as Disk>⟧ m) }
+        ensures no_faults { IfOk result (λ m. ⟦<Mirror<D, E, K> as Disk>⟧.faults m ≡ 0) }
+        ensures cause { IfErr result (λ e. CountRose D.Disk left e.left) }
+    {
+        let (mut left, mut right) = (left, right);
+        let blocks = left.blocks().min(right.blocks());
+        let alone = match copy_blocks(&mut left, &mut right, blocks) {
+            Ok(true) => None,
+            Ok(false) => Some(Side::Left),
+            Err(_) => return Err(MirrorFailed { left, right }),
+        };
+        Ok(Mirror {
+            left,
+            right,
+            blocks,
+            alone,
+            count: FaultCount::new(),
+            of: PhantomData,
+        })
+    }
+
+    fn open_right(left: D, right: E) -> Result<Mirror<D, E, K>, MirrorFailed<D, E>>
+        requires left_faults { D.faults left ≡ K.left_faults }
+        requires right_faults { E.faults right ≡ K.right_faults }
+        ensures reads { IfOk result (λ m. ForSome (⟦<Mirror<D, E, K> as Disk>⟧.seen m) (λ image. ForSome (E.seen right) (λ x. image ≡ take (⟦<Mirror<D, E, K> as Disk>⟧.block_count m) x))) }
+        ensures settled { IfOk result (λ m. NothingPending E.Disk right → NothingPending ⟦<Mirror<D, E, K> as Disk>⟧ m) }
+        ensures no_faults { IfOk result (λ m. ⟦<Mirror<D, E, K> as Disk>⟧.faults m ≡ 0) }
+        ensures cause { IfErr result (λ e. CountRose E.Disk right e.right) }
+    {
+        let (mut left, mut right) = (left, right);
+        let blocks = left.blocks().min(right.blocks());
+        let alone = match copy_blocks(&mut right, &mut left, blocks) {
+            Ok(true) => None,
+            Ok(false) => Some(Side::Right),
+            Err(_) => return Err(MirrorFailed { left, right }),
+        };
+        Ok(Mirror {
+            left,
+            right,
+            blocks,
+            alone,
+            count: FaultCount::new(),
+            of: PhantomData,
+        })
+    }
+
+    /// Both disks, as they are. Where the mirror's own count is above 0, the counts of both rose since opening began.
+    pub fn sides(self) -> (D, E)
+        ensures left { result.0 ≡ self.left }
+        ensures right { result.1 ≡ self.right }
+        ensures left_count { K.left_faults ≤ D.faults result.0 }
+        ensures right_count { K.right_faults ≤ E.faults result.1 }
+        ensures cause { 0 < ⟦<Mirror<D, E, K> as Disk>⟧.faults self → BothRose K.left_faults (D.faults result.0) (D.is_spent result.0) K.right_faults (E.faults result.1) (E.is_spent result.1) }
+    {
+        (self.left, self.right)
+    }
+
+    /// The one side in use, or none while both are. It is one only where the count of the other rose since opening began.
+    pub fn alone(&self) -> Option<Side>
+        ensures alone { result ≡ self.now.alone }
+        ensures right_cause { result ≡ Some Side.Left → RoseFrom K.right_faults (E.faults self.now.right) (E.is_spent self.now.right) }
+        ensures left_cause { result ≡ Some Side.Right → RoseFrom K.left_faults (D.faults self.now.left) (D.is_spent self.now.left) }
+    {
+        self.alone
+    }
+}
+
+impl<D: Disk, E: Disk, K: Opened> Disk for Mirror<D, E, K> {
+    ghost block_count = { λ m. m.blocks };
+
+    ghost seen = { λ m. seen_of m.blocks m.alone (D.seen m.left) (E.seen m.right) };
+
+    ghost tells_stops = { λ m. D.tells_stops m.left && E.tells_stops m.right };
+
+    ghost moment = { λ m. moment_of m.alone (D.moment m.left) (E.moment m.right) };
+
+    ghost has_been = { λ m. Been m.alone (D.has_been m.left) (E.has_been m.right) };
+
+    ghost left_since = { λ m. LeftSince m.blocks m.alone (D.tells_stops m.left && E.tells_stops m.right) (D.left_since m.left) (E.left_since m.right) };
+
+    ghost faults = { λ m. m.count };
+
+    ghost is_spent = { λ m. is_last m.count };
+
+    ghost now_has_been = { λ m. been_now m.blocks (D.tells_stops m.left && E.tells_stops m.right) (D.moment m.left) (E.moment m.right) (D.has_been m.left) (E.has_been m.right)
+        (D.left_since m.left) (E.left_since m.right) m.alone (D.now_has_been m.left) (E.now_has_been m.right) };
+
+    ghost counts_now = { λ m. counted_now m.blocks (D.tells_stops m.left && E.tells_stops m.right) (D.moment m.left) (E.moment m.right) (D.has_been m.left) (E.has_been m.right)
+        (D.left_since m.left) (E.left_since m.right) m.alone (D.counts_now m.left) (E.counts_now m.right) };
+
+    ghost seen_may_stay = { λ m. seen_stays m.blocks (D.tells_stops m.left && E.tells_stops m.right) (D.moment m.left) (E.moment m.right) (D.has_been m.left) (E.has_been m.right)
+        (D.left_since m.left) (E.left_since m.right) m.alone (D.seen m.left) (E.seen m.right)
+        (λ t. D.seen_may_stay m.left (and_left (D.tells_stops m.left) (E.tells_stops m.right) t)) (λ t. E.seen_may_stay m.right (and_right (D.tells_stops m.left) (E.tells_stops m.right) t)) };
+
+    ghost only_told = { λ m t c left. left.0 };
+
+    ghost seen_count = { λ m. seen_long m.blocks (D.block_count m.left) (E.block_count m.right) m.alone (D.seen m.left) (E.seen m.right) m.left_long m.right_long (D.seen_count m.left) (E.seen_count m.right) };
+
+    fn blocks(&self) -> u64 {
+        self.blocks
+    }
+
+    fn read(&mut self, i: u64, out: &mut Block) -> Result<(), Failed>
+        requires in_range { i < ⟦<Mirror<D, E, K> as Disk>⟧.block_count self.old }
+        ensures block { OnOk result (ForSome (⟦<Mirror<D, E, K> as Disk>⟧.seen self.old) (λ image. out.new ≡ block_at image i)) }
+        ensures seen { ⟦<Mirror<D, E, K> as Disk>⟧.seen self.new ≡ ⟦<Mirror<D, E, K> as Disk>⟧.seen self.old }
+        ensures stops { TimeGoes ⟦<Mirror<D, E, K> as Disk>⟧ self.old self.new no_image }
+        ensures blocks { ⟦<Mirror<D, E, K> as Disk>⟧.block_count self.new ≡ ⟦<Mirror<D, E, K> as Disk>⟧.block_count self.old }
+        ensures tells { ⟦<Mirror<D, E, K> as Disk>⟧.tells_stops self.new ≡ ⟦<Mirror<D, E, K> as Disk>⟧.tells_stops self.old }
+        ensures count { CountGoes ⟦<Mirror<D, E, K> as Disk>⟧ self.old self.new }
+        ensures cause { OnErr result (CountRose ⟦<Mirror<D, E, K> as Disk>⟧ self.old self.new) }
+        ensures fails { FailsWithSides D.Disk E.Disk self.old.alone self.old.left self.new.left self.old.right self.new.right result }
+    {
+        match self.alone {
+            None => match self.left.read(i, out) {
+                Ok(()) => Ok(()),
+                Err(_) => match self.right.read(i, out) {
+                    Ok(()) => Ok(()),
+                    Err(e) => {
+                        self.count.raise();
+                        Err(e)
+                    }
+                },
+            },
+            Some(Side::Left) => match self.left.read(i, out) {
+                Ok(()) => Ok(()),
+                Err(e) => {
+                    self.count.raise();
+                    Err(e)
+                }
+            },
+            Some(Side::Right) => match self.right.read(i, out) {
+                Ok(()) => Ok(()),
+                Err(e) => {
+                    self.count.raise();
+                    Err(e)
+                }
+            },
+        }
+    }
+
+    fn write(&mut self, i: u64, from: &Block) -> Result<(), Failed>
+        requires in_range { i < ⟦<Mirror<D, E, K> as Disk>⟧.block_count self.old }
+        ensures written { OnOk result (⟦<Mirror<D, E, K> as Disk>⟧.seen self.new ≡ option_map (λ image. slice_set image i from.now) (⟦<Mirror<D, E, K> as Disk>⟧.seen self.old)) }
+        ensures unknown { OnErr result (SeenBut (only_place i) (⟦<Mirror<D, E, K> as Disk>⟧.seen self.old) (⟦<Mirror<D, E, K> as Disk>⟧.seen self.new)) }
+        ensures stops { TimeGoes ⟦<Mirror<D, E, K> as Disk>⟧ self.old self.new (Torn i (⟦<Mirror<D, E, K> as Disk>⟧.left_since self.old (⟦<Mirror<D, E, K> as Disk>⟧.moment self.old))) }
+        ensures blocks { ⟦<Mirror<D, E, K> as Disk>⟧.block_count self.new ≡ ⟦<Mirror<D, E, K> as Disk>⟧.block_count self.old }
+        ensures tells { ⟦<Mirror<D, E, K> as Disk>⟧.tells_stops self.new ≡ ⟦<Mirror<D, E, K> as Disk>⟧.tells_stops self.old }
+        ensures count { CountGoes ⟦<Mirror<D, E, K> as Disk>⟧ self.old self.new }
+        ensures cause { OnErr result (CountRose ⟦<Mirror<D, E, K> as Disk>⟧ self.old self.new) }
+        ensures fails { FailsWithSides D.Disk E.Disk self.old.alone self.old.left self.new.left self.old.right self.new.right result }
+    {
+        match self.alone {
+            None => {
+                let left = self.left.write(i, from);
+                let right = self.right.write(i, from);
+                match (left, right) {
+                    (Ok(()), Ok(())) => Ok(()),
+                    (Ok(()), Err(_)) => {
+                        self.alone = Some(Side::Left);
+                        Ok(())
+                    }
+                    (Err(_), Ok(())) => {
+                        self.alone = Some(Side::Right);
+                        Ok(())
+                    }
+                    (Err(_), Err(e)) => {
+                        self.alone = Some(Side::Left);
+                        self.count.raise();
+                        Err(e)
+                    }
+                }
+            }
+            Some(Side::Left) => match self.left.write(i, from) {
+                Ok(()) => Ok(()),
+                Err(e) => {
+                    self.count.raise();
+                    Err(e)
+                }
+            },
+            Some(Side::Right) => match self.right.write(i, from) {
+                Ok(()) => Ok(()),
+                Err(e) => {
+                    self.count.raise();
+                    Err(e)
+                }
+            },
+        }
+    }
+
+    fn sync(&mut self) -> Result<(), Failed>
+        ensures meets { IsSync ⟦<Mirror<D, E, K> as Disk>⟧ self.old self.new result }
+        ensures fails { FailsWithSides D.Disk E.Disk self.old.alone self.old.left self.new.left self.old.right self.new.right result }
+    {
+        match self.alone {
+            None => {
+                let left = self.left.sync();
+                let right = self.right.sync();
+                match (left, right) {
+                    (Ok(()), Ok(())) => Ok(()),
+                    (Ok(()), Err(_)) => {
+                        self.alone = Some(Side::Left);
+                        Ok(())
+                    }
+                    (Err(_), Ok(())) => {
+                        self.alone = Some(Side::Right);
+                        Ok(())
+                    }
+                    (Err(_), Err(e)) => {
+                        self.alone = Some(Side::Left);
+                        self.count.raise();
+                        Err(e)
+                    }
+                }
+            }
+            Some(Side::Left) => match self.left.sync() {
+                Ok(()) => Ok(()),
+                Err(e) => {
+                    self.count.raise();
+                    Err(e)
+                }
+            },
+            Some(Side::Right) => match self.right.sync() {
+                Ok(()) => Ok(()),
+                Err(e) => {
+                    self.count.raise();
+                    Err(e)
+                }
+            },
+        }
+    }
+}
+
+#[cfg(test)]
+mod tests {
+    use super::*;
+    use mg_disk::{BLOCK_SIZE, Fuse, MemDisk};
+    use std::alloc::AllocError;
+
+    #[test]
+    fn goes_on_with_one_side(rt: HostRuntime) -> Result<(), AllocError> {
+        let left = MemDisk::new(rt.alloc(), 2, 9, Vec::new(rt.alloc()))?;
+        let right = MemDisk::new(rt.alloc(), 3, 9, Vec::new(rt.alloc()))?;
+        // Opening makes two writes and a sync on the right side.
+        let Ok(mut mirror) = Mirror::<_, _, Brand>::open(left, Fuse::new(right, 3), Side::Left)
+        else {
+            panic!(rt; "the left side does not fail")
+        };
+        assert_eq!(rt; mirror.blocks(), 2);
+        assert_eq!(rt; mirror.alone(), None);
+        assert!(rt; mirror.write(1, &[7; BLOCK_SIZE]).is_ok());
+        assert_eq!(rt; mirror.alone(), Some(Side::Left));
+        let mut out: Block = [0; BLOCK_SIZE];
+        assert!(rt; mirror.read(1, &mut out).is_ok());
+        assert_eq!(rt; out[0], 7);
+        assert!(rt; mirror.sync().is_ok());
+        let (left, _right) = mirror.sides();
+        assert_eq!(rt; left.counts().reads, 3);
+        Ok(())
+    }
+}

@@ -1,0 +1,87 @@
+// A block written on two disks through a mirror. It is for this run that the mirror says whose counts rose.
+ghost use Rattle.std.specs.Prelude.{◌≡◌, true, IfOk, IfErr};
+ghost use Rattle.mg_disk.specs.Stops.{CountRose};
+ghost use Rattle.mg_disk_trial.specs.Opened.{BothRose};
+
+use crate::mirror::{Mirror, MirrorFailed, Opened, Side};
+use mg_disk::{Block, Disk};
+use std::marker::Brand;
+
+/// Two disks after a run, and whether the run failed.
+#[derive(Drop)]
+pub struct Pair<D: Disk, E: Disk> {
+    pub left: D,
+    pub right: E,
+    pub failed: bool,
+}
+
+/// Opens a mirror with what the left disk has, writes block `i` there, where it has one, and makes sure of it.
+/// It gives the disks back as an error where the left one failed while the mirror was opened. Else it has failed only
+/// where the counts of both rose since it was called, or stand at their last value.
+pub fn write_pair<D: Disk, E: Disk>(
+    left: D,
+    right: E,
+    i: u64,
+    from: &Block,
+) -> Result<Pair<D, E>, MirrorFailed<D, E>>
+    ensures both { IfOk result (λ p. p.failed ≡ true → BothRose (D.faults left) (D.faults p.left) (D.is_spent p.left) (E.faults right) (E.faults p.right) (E.is_spent p.right)) }
+    ensures cause { IfErr result (λ e. CountRose D.Disk left e.left) }
+{
+    write_at::<D, E, Brand>(left, right, i, from)
+}
+
+fn write_at<D: Disk, E: Disk, K: Opened>(
+    left: D,
+    right: E,
+    i: u64,
+    from: &Block,
+) -> Result<Pair<D, E>, MirrorFailed<D, E>>
+    requires left_faults { D.faults left ≡ K.left_faults }
+    requires right_faults { E.faults right ≡ K.right_faults }
+    ensures both { IfOk result (λ p. p.failed ≡ true → BothRose K.left_faults (D.faults p.left) (D.is_spent p.left) K.right_faults (E.faults p.right) (E.is_spent p.right)) }
+    ensures cause { IfErr result (λ e. CountRose D.Disk left e.left) }
+{
+    let mut mirror = match Mirror::<D, E, K>::open(left, right, Side::Left) {
+        Ok(mirror) => mirror,
+        Err(e) => return Err(e),
+    };
+    let failed = i < mirror.blocks() && (mirror.write(i, from).is_err() || mirror.sync().is_err());
+    let (left, right) = mirror.sides();
+    Ok(Pair {
+        left,
+        right,
+        failed,
+    })
+}
+
+#[cfg(test)]
+mod tests {
+    use super::*;
+    use mg_disk::{BLOCK_SIZE, Fuse, MemDisk};
+    use std::alloc::AllocError;
+
+    #[test]
+    fn fails_where_both_fail(rt: HostRuntime) -> Result<(), AllocError> {
+        let left = MemDisk::new(rt.alloc(), 2, 9, Vec::new(rt.alloc()))?;
+        let right = MemDisk::new(rt.alloc(), 2, 9, Vec::new(rt.alloc()))?;
+        // The right side fails as the mirror is opened, and the left one after one read.
+        let Ok(pair) = write_pair(Fuse::new(left, 1), Fuse::new(right, 0), 0, &[7; BLOCK_SIZE])
+        else {
+            panic!(rt; "the left side gives its block")
+        };
+        assert!(rt; pair.failed);
+        Ok(())
+    }
+
+    #[test]
+    fn goes_on_where_one_does(rt: HostRuntime) -> Result<(), AllocError> {
+        let left = MemDisk::new(rt.alloc(), 2, 9, Vec::new(rt.alloc()))?;
+        let right = MemDisk::new(rt.alloc(), 2, 9, Vec::new(rt.alloc()))?;
+        let Ok(pair) = write_pair(left, Fuse::new(right, 0), 0, &[7; BLOCK_SIZE]) else {
+            panic!(rt; "the left side does not fail")
+        };
+        assert!(rt; !pair.failed);
+        assert_eq!(rt; pair.left.counts().writes, 1);
+        Ok(())
+    }
+}
