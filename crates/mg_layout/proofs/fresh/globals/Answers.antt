@@ -1,0 +1,5 @@
+use Rattle.std.proofs.Common.{◌∙◌, refl}
+use Rattle.mg_layout.proofs.fresh.globals.Goals as goal
+
+pub returns : goal.returns
+returns c = c.whole.ensures ∙ rw (c.add_words.ensures.value, c.new-filling.ensures) refl

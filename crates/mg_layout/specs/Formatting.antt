@@ -1,0 +1,151 @@
+-- How making a volume goes on, from the gate closed to the gate open.
+use Rattle.std.specs.Prelude.{◌≡◌, ◌≢◌, ℕ, ◌+◌, ◌<◌, ◌≤◌, IsTrue, List, [], ◌∷◌, drop, if◌then◌else◌, false, Bool, length, option_map, replicate, slice_index, slice_set, Option, Some, None}
+use Rattle.std.proofs.Common.{refl, inl, inr, sym, ap, subst, ◌∙◌, ⊎_elim, arith}
+use Rattle.std.proofs.lemmas.Bool.{cases_eq, cases_lt}
+use Rattle.std.proofs.lemmas.Bool.Decides.{nat_tests}
+use Rattle.std.proofs.lemmas.List.{get_or-set_other, get_or-set_same, length-set}
+use Rattle.mg_disk.specs.Disk.{Image, SameBut, only_place}
+use Rattle.mg_disk.specs.Runs.{leaves_then, leaves_wider}
+use Rattle.mg_disk.specs.Stops.{Leaves}
+use Rattle.mg_disk.specs.declared.disk.Disk.{Ghosts}
+use Rattle.mg_model.specs.Fresh.{fresh}
+use Rattle.mg_model.specs.Layout.{first_frame, gate_block, gate_open, total_blocks}
+use Rattle.mg_model.specs.Replay.{block_of}
+use Rattle.mg_model.specs.Settings.{Settings, within_limits}
+use Rattle.mg_model.specs.Volume.{Is, NotVolume, VolumeRead, volume}
+use Rattle.mg_model.specs.VolumeReads.{gate_byte, volume-closed, volume-same_behind, volume-short}
+use Rattle.mg_model.specs.WellFormed.{IsSettings}
+use Rattle.mg_layout.specs.FreshBelow.{fresh_until, length-until, until-block, until-more, until-none, with_block, written-low}
+use Rattle.mg_layout.specs.FreshImage.{IsFreshImage, gate_bytes}
+use Rattle.mg_layout.specs.FreshVolume.{fresh_volume}
+use Rattle.mg_layout.specs.MayFormat.{IsNoState, MayFormat, ReadsFresh, opened}
+
+-- what options of images become
+pub map_if : (o : Option Image) (b : Bool) (f : Image → Image) → b ≡ false → o ≡ option_map (λ image. if b then f image else image) o
+map_if None b f is = refl
+map_if (Some image) b f is = ap (λ t. Some (if t then f image else image)) (sym is)
+
+pub map_none : (settings : Settings) (o : Option Image) → o ≡ option_map (fresh_until settings 0) o
+map_none settings None = refl
+map_none settings (Some image) = ap (λ i. Some i) (sym (until-none settings image))
+
+pub map_more : (settings : Settings) (n : ℕ) (o : Option Image) → option_map (with_block settings (n + 1)) (option_map (fresh_until settings n) o) ≡ option_map (fresh_until settings (n + 1)) o
+map_more settings n None = refl
+map_more settings n (Some image) = ap (λ i. Some i) (sym (until-more settings n image))
+
+not_volume : (c : Image) → volume c ≡ NotVolume → IsNoState (volume c)
+not_volume c is = let P : VolumeRead → Type 0 = λ v. IsNoState v in subst P (sym is) (tt {0})
+
+-- The gate is closed: a stop leaves no volume, or what is behind the gate.
+pub opened_is : (image : Image) → 1 ≤ length image → block_of (opened image) gate_block ≡ gate_open ∷ drop 1 (block_of image gate_block)
+opened_is image some = get_or-set_same image gate_block (gate_open ∷ drop 1 (block_of image gate_block)) [] (omega arith)
+
+pub close_may : (settings : Settings) (image c : Image) → SameBut (only_place gate_block) image c → MayFormat image settings c
+close_may settings image c same = ⊎_elim opens closed (cases_eq (gate_byte c) gate_open)
+  where
+    closed : (gate_byte c ≡ gate_open → ⊥) → MayFormat image settings c
+    closed not = inl (not_volume c (volume-closed c not))
+
+    opens : gate_byte c ≡ gate_open → MayFormat image settings c
+    opens gate = ⊎_elim short long (cases_lt (length c) 2)
+      where
+        short : length c < 2 → MayFormat image settings c
+        short s = inl (not_volume c (volume-short c s))
+
+        long : 2 ≤ length c → MayFormat image settings c
+        long l =
+            let count = same.count in
+            let count_opened = length-set image gate_block (gate_open ∷ drop 1 (block_of image gate_block)) in
+            inr (inl (volume-same_behind c (opened image) (record { long = l; gate = gate })
+            (record { long = omega arith; gate = ap (λ (block : List ℕ). slice_index block 0) (opened_is image (omega arith)) })
+            (same.count ∙ sym count_opened)
+            (λ k low. same.others k (λ e. omega arith) ∙ sym (get_or-set_other image gate_block k (gate_open ∷ drop 1 (block_of image gate_block)) [] (λ e. omega arith)))))
+
+-- The blocks behind it are written: it is no volume while the gate stays closed.
+pub behind_may : (s c : Image) → gate_byte s ≢ gate_open → SameBut (λ i. 1 ≤ i) s c → IsNoState (volume c)
+behind_may s c closed same =
+    not_volume c (volume-closed c (λ e. closed (ap (λ (block : List ℕ). slice_index block 0) (sym (same.others gate_block (λ low. omega arith))) ∙ e)))
+
+-- the image with the gate closed, and then with everything behind it
+abbrev pub with_closed : Image → Image
+with_closed image = slice_set image gate_block (replicate 4096 0)
+
+abbrev pub with_rest : Settings → Image → Image
+with_rest settings image = fresh_until settings (first_frame settings.frames) (with_closed image)
+
+pub closed_gate : (image : Image) → 1 ≤ length image → gate_byte (with_closed image) ≢ gate_open
+closed_gate image some e =
+    let zero : gate_byte (with_closed image) ≡ 0 = ap (λ (block : List ℕ). slice_index block 0) (get_or-set_same image gate_block (replicate 4096 0) [] (omega arith)) in
+    omega arith
+
+length-with_rest : (settings : Settings) (image : Image) → length (with_rest settings image) ≡ length image
+length-with_rest settings image = length-until settings (first_frame settings.frames) (with_closed image) ∙ length-set image gate_block (replicate 4096 0)
+
+some_frames : (frames credits : ℕ) → IsTrue (within_limits frames credits) → 16 ≤ frames
+some_frames frames credits within = grind (arith, nat_tests)
+
+-- With the gate open it is a fresh image.
+module _ (settings : Settings) (keeps : IsSettings settings) (image : Image) (room : total_blocks settings.frames ≤ length image) where
+  pub is_fresh : (c : Image) → SameBut (only_place gate_block) (with_rest settings image) c → gate_byte c ≡ gate_open → IsFreshImage settings c
+  is_fresh c same gate = record {
+    long = let a = same.count in let b = length-with_rest settings image in omega arith;
+    opened = gate;
+    blocks = λ i low t.
+        let high = written-low settings.frames i t in
+        let some = some_frames settings.frames settings.credits keeps.limits in
+        let count = length-set image gate_block (replicate 4096 0) in
+        same.others i (λ e. omega arith) ∙ until-block settings (first_frame settings.frames) i (with_closed image) low high (omega arith) t;
+  }
+
+  pub open_may : (c : Image) → SameBut (only_place gate_block) (with_rest settings image) c → MayFormat image settings c
+  open_may c same = ⊎_elim opens closed (cases_eq (gate_byte c) gate_open)
+    where
+      closed : (gate_byte c ≡ gate_open → ⊥) → MayFormat image settings c
+      closed not = inl (not_volume c (volume-closed c not))
+
+      opens : gate_byte c ≡ gate_open → MayFormat image settings c
+      opens gate = inr (inr (fresh_volume settings c keeps (is_fresh c same gate)))
+
+  pub made_fresh : (c : Image) → c ≡ slice_set (with_rest settings image) gate_block gate_bytes → volume c ≡ Is (fresh settings)
+  made_fresh c is =
+      let P : Image → Type 0 = λ c. volume c ≡ Is (fresh settings) in
+      let count = length-set (with_rest settings image) gate_block gate_bytes in
+      let long = length-with_rest settings image in
+      subst P (sym is)
+      (fresh_volume settings (slice_set (with_rest settings image) gate_block gate_bytes) keeps
+      (is_fresh (slice_set (with_rest settings image) gate_block gate_bytes)
+      (record { count = count; others = λ k out. get_or-set_other (with_rest settings image) gate_block k gate_bytes [] out })
+      (ap (λ (block : List ℕ). slice_index block 0) (get_or-set_same (with_rest settings image) gate_block gate_bytes [] (omega arith)))))
+
+-- what reads give at the end, from what they gave at first
+pub all_made : (settings : Settings) → IsSettings settings → (first closed behind last : Option Image) (gate : List ℕ) → gate ≡ gate_bytes
+    → closed ≡ option_map with_closed first
+    → behind ≡ option_map (fresh_until settings (first_frame settings.frames)) closed
+    → last ≡ option_map (λ image. slice_set image gate_block gate) behind
+    → ((image : Image) → first ≡ Some image → total_blocks settings.frames ≤ length image)
+    → ReadsFresh settings first last
+all_made settings keeps first closed behind last gate is one two three room =
+    let P : Option Image → Type 0 = λ o. ReadsFresh settings first o in
+    subst P
+    (sym (three ∙ ap (option_map (λ image. slice_set image gate_block gate)) (two ∙ ap (option_map (fresh_until settings (first_frame settings.frames))) one)))
+    (from_first first room)
+  where
+    from_first : (o : Option Image) → ((image : Image) → o ≡ Some image → total_blocks settings.frames ≤ length image)
+        → ReadsFresh settings o (option_map (λ image. slice_set image gate_block gate) (option_map (fresh_until settings (first_frame settings.frames)) (option_map with_closed o)))
+    from_first None long = refl
+    from_first (Some image) long =
+        made_fresh settings keeps image (long image refl) (slice_set (with_rest settings image) gate_block gate) (ap (slice_set (with_rest settings image) gate_block) is)
+
+-- the three phases
+module _ {D : Type 0} (facts : Ghosts D) (settings : Settings) (image : Image) where
+  pub first_phase : (old new : D) → Leaves facts old new (SameBut (only_place gate_block) image) → Leaves facts old new (MayFormat image settings)
+  first_phase old new leaves = leaves_wider facts old new (SameBut (only_place gate_block) image) (MayFormat image settings) leaves (λ c same. close_may settings image c same)
+
+  pub second_phase : (old mid new : D) → 1 ≤ length image → Leaves facts old mid (MayFormat image settings) → Leaves facts mid new (SameBut (λ i. 1 ≤ i) (with_closed image)) → Leaves facts old new (MayFormat image settings)
+  second_phase old mid new some a b =
+      leaves_then facts old mid new (SameBut (λ i. 1 ≤ i) (with_closed image)) (MayFormat image settings) a b (λ c same. inl (behind_may (with_closed image) c (closed_gate image some) same))
+
+  pub third_phase : IsSettings settings → (old mid new : D) → total_blocks settings.frames ≤ length image → Leaves facts old mid (MayFormat image settings) → Leaves facts mid new (SameBut (only_place gate_block) (with_rest settings image))
+      → Leaves facts old new (MayFormat image settings)
+  third_phase keeps old mid new room a b =
+      leaves_then facts old mid new (SameBut (only_place gate_block) (with_rest settings image)) (MayFormat image settings) a b (λ c same. open_may settings keeps image room c same)

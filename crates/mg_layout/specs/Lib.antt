@@ -1,0 +1,9 @@
+pub mod ChangedImages
+pub mod Formatting
+pub mod FreshBelow
+pub mod FreshBlocks
+pub mod FreshImage
+pub mod FreshVolume
+pub mod Laws
+pub mod MayFormat
+pub mod SuperBlock

@@ -1,0 +1,48 @@
+-- What a stop may leave while a volume is made, and what the call answers.
+use Rattle.std.specs.Prelude.{◌≡◌, ◌⊎◌, ℕ, ◌<◌, ◌≤◌, ◌∷◌, drop, slice_set, Option, Some, None, IsSomeAnd, Result, Ok, Err}
+use Rattle.mg_disk.specs.Disk.{Image}
+use Rattle.mg_layout.specs.declared.formatting.FormatFault.{FormatFault}
+use Rattle.mg_layout.specs.declared.formatting.FormatFault.TheVariants as fault
+use Rattle.mg_model.specs.Fresh.{fresh}
+use Rattle.mg_model.specs.Layout.{gate_block, gate_open}
+use Rattle.mg_model.specs.Replay.{block_of}
+use Rattle.mg_model.specs.Settings.{Settings}
+use Rattle.mg_model.specs.Volume.{Damaged, Is, NotVolume, OldVolume, VolumeRead, volume}
+
+-- it is not a state of the machine
+abbrev pub IsNoState : VolumeRead → Type 0
+IsNoState NotVolume = Unit {0}
+IsNoState OldVolume = Unit {0}
+IsNoState Damaged = Unit {0}
+IsNoState (Is state) = ⊥
+
+-- this image with its gate open: what its blocks spell, whatever the gate says
+abbrev pub opened : Image → Image
+opened image = slice_set image gate_block (gate_open ∷ drop 1 (block_of image gate_block))
+
+-- no volume, what the blocks behind the gate spelled before, or the fresh state
+abbrev pub MayFormat : Image → Settings → Image → Type 0
+MayFormat image settings c = IsNoState (volume c) ⊎ ((volume c ≡ volume (opened image)) ⊎ (volume c ≡ Is (fresh settings)))
+
+-- what reads give is told as it was before, and spells the fresh state
+abbrev pub ReadsFresh : Settings → Option Image → Option Image → Type 0
+ReadsFresh settings None new = new ≡ None
+ReadsFresh settings (Some image) new = IsSomeAnd new (λ c. volume c ≡ Is (fresh settings))
+
+-- the disk is found too small exactly where the need exceeds what it has, and both are told
+abbrev pub TellsSmall : {T : Type 0} → ℕ → ℕ → Result T FormatFault → Type 0
+TellsSmall need have (Ok x) = need ≤ have
+TellsSmall need have (Err fault.Disk) = need ≤ have
+TellsSmall need have (Err (fault.TooSmall n h)) = (n ≡ need) × (h ≡ have) × (have < need)
+
+-- where the disk is too small, no call was made on it
+abbrev pub IsUntouchedSmall : {T D : Type 0} → D → D → Result T FormatFault → Type 0
+IsUntouchedSmall old new (Ok x) = Unit {0}
+IsUntouchedSmall old new (Err fault.Disk) = Unit {0}
+IsUntouchedSmall old new (Err (fault.TooSmall n h)) = new ≡ old
+
+-- where the disk is said to have failed, this holds
+abbrev pub OnDisk : {T : Type 0} → Result T FormatFault → Type 0 → Type 0
+OnDisk (Ok x) P = Unit {0}
+OnDisk (Err fault.Disk) P = P
+OnDisk (Err (fault.TooSmall n h)) P = Unit {0}

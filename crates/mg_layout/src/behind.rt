@@ -1,0 +1,61 @@
+// The blocks behind the gate, as they are written where a volume is made.
+ghost use Rattle.std.specs.Prelude.{◌≡◌, ◌≤◌, ◌<◌, ◌+◌, OnErr, OnOk, option_map};
+ghost use Rattle.std.specs.Option.{ForSome};
+ghost use Rattle.mg_disk.specs.Disk.{SameBut, Torn};
+ghost use Rattle.mg_disk.specs.Stops.{CountGoes, CountRose, Leaves, NothingPending, TimeGoes};
+ghost use Rattle.mg_model.specs.Layout.{first_frame, total_blocks};
+ghost use Rattle.mg_layout.specs.FreshBelow.{fresh_until, with_block};
+ghost use Rattle.mg_layout.specs.FreshImage.{is_written};
+
+use crate::fresh::fresh_block;
+use crate::geometry::{FIRST_SEGMENT, GLOBALS_BLOCK, Geometry, SEGMENT_SIZE, SUPER_BLOCK};
+use mg_disk::{BLOCK_SIZE, Disk};
+use mg_faults::Failed;
+use mg_model::Params;
+
+/// Writes the blocks behind the gate and makes sure of them.
+pub(crate) fn write_behind<D: Disk>(disk: &mut D, p: &Params) -> Result<(), Failed>
+    requires room { total_blocks p.now.frames ≤ D.block_count disk.old }
+    ensures any_moment { NothingPending D.Disk disk.old → ForSome (D.seen disk.old) (λ image. Leaves D.Disk disk.old disk.new (SameBut (λ i. 1 ≤ i) image)) }
+    ensures written { OnOk result (D.seen disk.new ≡ option_map (fresh_until p.now (first_frame p.now.frames)) (D.seen disk.old)) }
+    ensures settled { OnOk result (NothingPending D.Disk disk.new) }
+    ensures cause { OnErr result (CountRose D.Disk disk.old disk.new) }
+    ensures count { CountGoes D.Disk disk.old disk.new }
+    ensures blocks { D.block_count disk.new ≡ D.block_count disk.old }
+{
+    let last = Geometry::of(p.frames()).first_frame;
+    for i in 0..last {
+        write_fresh(disk, p, i + 1)?;
+    }
+    disk.sync()
+}
+
+// Writes a block of a fresh volume, where it is one of those that are written.
+fn write_fresh<D: Disk>(disk: &mut D, p: &Params, i: u64) -> Result<(), Failed>
+    requires room { total_blocks p.now.frames ≤ D.block_count disk.old }
+    requires in_range { i < total_blocks p.now.frames }
+    ensures stops { TimeGoes D.Disk disk.old disk.new (Torn i (D.left_since disk.old (D.moment disk.old))) }
+    ensures written { OnOk result (D.seen disk.new ≡ option_map (with_block p.now i) (D.seen disk.old)) }
+    ensures cause { OnErr result (CountRose D.Disk disk.old disk.new) }
+    ensures count { CountGoes D.Disk disk.old disk.new }
+    ensures blocks { D.block_count disk.new ≡ D.block_count disk.old }
+{
+    if !is_written(p.frames(), i) {
+        return Ok(());
+    }
+    let mut block = [0; BLOCK_SIZE];
+    fresh_block(p, i, &mut block);
+    disk.write(i, &block)
+}
+
+/// Whether block `i` is one of those that are written where a volume is made.
+pub(crate) fn is_written(frames: u64, i: u64) -> bool
+    requires some { 16 ≤ frames }
+    requires few { frames ≤ 65536 }
+    ensures { result ≡ is_written frames i }
+{
+    let last = Geometry::of(frames).first_frame;
+    i <= SUPER_BLOCK
+        || (i % SEGMENT_SIZE == FIRST_SEGMENT && i < GLOBALS_BLOCK)
+        || (GLOBALS_BLOCK <= i && i <= last)
+}

@@ -1,0 +1,219 @@
+// The blocks of a fresh volume.
+ghost use Rattle.std.specs.Prelude.{◌≡◌, ◌<◌, [], ◌∷◌};
+ghost use Rattle.mg_model.specs.Bytes.{padded_to, words_bytes};
+ghost use Rattle.mg_model.specs.Fresh.{fresh};
+ghost use Rattle.mg_model.specs.Layout.{total_blocks};
+ghost use Rattle.mg_layout.specs.FreshImage.{accounts_bytes, frame_bytes, fresh_bytes, gate_bytes, objects_bytes, table_bytes, threads_bytes};
+
+use crate::filling::Filling;
+use crate::geometry::{
+    FIRST_ACCOUNT_BLOCK, FIRST_OBJECT_BLOCK, FIRST_THREAD_BLOCK, GATE_BLOCK, GATE_OPEN,
+    GLOBALS_BLOCK, Geometry, SUPER_BLOCK, TABLE_BLOCK,
+};
+use crate::superblock::write_super;
+use mg_disk::{BLOCK_SIZE, Block};
+use mg_model::{Params, draw};
+
+/// Where the root object lies.
+const ROOT_BASE: u64 = 0x0000_0001_0000_0000;
+
+/// The page of that address.
+const ROOT_PAGE: u64 = 0x0010_0000;
+
+/// The until of a password that never ends.
+const NEVER: u64 = 1 << 24;
+
+/// All six rights.
+const ALL_RIGHTS: u8 = 63;
+
+/// Spells block `i` of a fresh volume. Of the blocks that no row, frame or gate fills it gives zeros.
+pub fn fresh_block(p: &Params, i: u64, out: &mut Block)
+    requires { i < total_blocks p.now.frames }
+    ensures { out.new ≡ fresh_bytes p.now i }
+{
+    let geometry = Geometry::of(p.frames());
+    if i == GATE_BLOCK {
+        *out = gate();
+    } else if i == SUPER_BLOCK {
+        write_super(p, out);
+    } else if i == GLOBALS_BLOCK {
+        *out = globals();
+    } else if i == FIRST_ACCOUNT_BLOCK {
+        *out = treasury(p);
+    } else if i == FIRST_THREAD_BLOCK {
+        *out = first_thread(p);
+    } else if i == FIRST_OBJECT_BLOCK {
+        *out = root_row(p);
+    } else if i == TABLE_BLOCK {
+        *out = table();
+    } else if i == geometry.first_frame {
+        *out = root_page(p);
+    } else {
+        *out = [0; BLOCK_SIZE];
+    }
+}
+
+// The gate, open.
+fn gate() -> Block
+    ensures { result ≡ gate_bytes }
+{
+    let mut filling = Filling::new();
+    filling.add(&[GATE_OPEN]);
+    filling.whole()
+}
+
+// Two passwords were drawn, and one thread was born.
+fn globals() -> Block
+    ensures { result ≡ padded_to 4096 (words_bytes (2 ∷ 0 ∷ 0 ∷ 1 ∷ [])) }
+{
+    let mut filling = Filling::new();
+    filling.add_words(&[2, 0, 0, 1]);
+    filling.whole()
+}
+
+// Account 1 has all credits.
+fn treasury(p: &Params) -> Block
+    ensures { result ≡ accounts_bytes (fresh p.now) }
+{
+    let mut filling = Filling::new();
+    filling.add_words(&[1, draw(&p.seed(), 1), p.credits(), 0]);
+    filling.whole()
+}
+
+// Thread 1 is stopped at 0, and its one frame has one slot: the root under its own password.
+fn first_thread(p: &Params) -> Block
+    ensures { result ≡ threads_bytes (fresh p.now) }
+{
+    let mut filling = Filling::new();
+    filling.add_words(&[1, 1, 0, 0, 1, 1, 0, 0]);
+    filling.add_words(&[0; 8]);
+    filling.add_words(&[0, 1, ROOT_BASE, draw(&p.seed(), 0)]);
+    filling.whole()
+}
+
+// The root object has one page, paid by account 1, and one password that never ends.
+fn root_row(p: &Params) -> Block
+    ensures { result ≡ objects_bytes (fresh p.now) }
+{
+    let mut filling = Filling::new();
+    filling.add_words(&[1, ROOT_BASE, 1, 1, 1, 0, 0, 0, 0, 0]);
+    filling.add_words(&[draw(&p.seed(), 0)]);
+    filling.add_words(&[0; 31]);
+    filling.add(&[ALL_RIGHTS]);
+    filling.add(&[0; 31]);
+    filling.add_words(&[0; 16]);
+    filling.add_words(&[NEVER]);
+    filling.whole()
+}
+
+// Frame 0 has the page of the root object.
+fn table() -> Block
+    ensures { result ≡ padded_to 4096 (words_bytes (0x100000 ∷ [])) }
+{
+    let mut filling = Filling::new();
+    filling.add_words(&[ROOT_PAGE]);
+    filling.whole()
+}
+
+// The root's page is a capability list with one entry, for the root itself.
+fn root_page(p: &Params) -> Block
+    ensures { result ≡ frame_bytes (fresh p.now) }
+{
+    let mut filling = Filling::new();
+    filling.add_words(&[1, 0, ROOT_BASE, draw(&p.seed(), 0)]);
+    filling.whole()
+}
+
+#[cfg(test)]
+mod tests {
+    use super::*;
+    use mg_model::Tariff;
+
+    /// Block `i` of a fresh volume of 64 frames and 1000 credits.
+    fn block(seed: [u8; 32], i: u64) -> Option<Block> {
+        let p = Params::new(64, seed, 1000, Tariff::usual(64))?;
+        let mut out = [1; BLOCK_SIZE];
+        if i < Geometry::of(p.frames()).total {
+            fresh_block(&p, i, &mut out);
+        }
+        Some(out)
+    }
+
+    /// The seed with the bytes from 0 to 31.
+    fn counting() -> [u8; 32] {
+        [
+            0, 1, 2, 3, 4, 5, 6, 7, 8, 9, 10, 11, 12, 13, 14, 15, 16, 17, 18, 19, 20, 21, 22, 23,
+            24, 25, 26, 27, 28, 29, 30, 31,
+        ]
+    }
+
+    /// The words of a block at these places, low byte first; all other words are 0.
+    fn has_words(block: Option<Block>, words: &[(u8, [u8; 8])]) -> bool {
+        let Some(block) = block else { return false };
+        let mut want: Block = [0; BLOCK_SIZE];
+        for (at, word) in words {
+            for (k, byte) in word.iter().enumerate() {
+                if let Some(place) = want.get_mut(usize::from(*at) * 8 + k) {
+                    *place = *byte;
+                }
+            }
+        }
+        block == want
+    }
+
+    /// The words of a number below 256.
+    fn small(n: u8) -> [u8; 8] {
+        [n, 0, 0, 0, 0, 0, 0, 0]
+    }
+
+    #[test]
+    fn the_roots_page(rt: HostRuntime) {
+        let base = [0, 0, 0, 0, 1, 0, 0, 0];
+        let zero = [0x76, 0xb8, 0xe0, 0xad, 0xa0, 0xf1, 0x3d, 0x90];
+        let other = [0x39, 0xfd, 0x2b, 0x7d, 0xd9, 0xc5, 0x19, 0x6a];
+        assert!(rt; has_words(block([0; 32], 2596), &[(0, small(1)), (2, base), (3, zero)]));
+        assert!(rt;
+            has_words(
+                block(counting(), 2596),
+                &[(0, small(1)), (2, base), (3, other)]
+            )
+        );
+    }
+
+    #[test]
+    fn the_superblock(rt: HostRuntime) {
+        let (magic, credits) = (*b"MUNGIVOL", [0xe8, 0x03, 0, 0, 0, 0, 0, 0]);
+        let zero = [
+            (0, magic),
+            (1, small(2)),
+            (2, small(64)),
+            (3, credits),
+            (9, small(1)),
+            (10, small(16)),
+            (11, small(2)),
+            (12, small(32)),
+            (13, small(4)),
+            (14, small(48)),
+            (15, small(8)),
+        ];
+        let other = [
+            (0, magic),
+            (1, small(2)),
+            (2, small(64)),
+            (3, credits),
+            (4, [0, 1, 2, 3, 4, 5, 6, 7]),
+            (5, [8, 9, 10, 11, 12, 13, 14, 15]),
+            (6, [16, 17, 18, 19, 20, 21, 22, 23]),
+            (7, [24, 25, 26, 27, 28, 29, 30, 31]),
+            (9, small(1)),
+            (10, small(16)),
+            (11, small(2)),
+            (12, small(32)),
+            (13, small(4)),
+            (14, small(48)),
+            (15, small(8)),
+        ];
+        assert!(rt; has_words(block([0; 32], 1), &zero));
+        assert!(rt; has_words(block(counting(), 1), &other));
+    }
+}

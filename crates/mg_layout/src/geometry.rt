@@ -1,0 +1,83 @@
+// Where the parts of a volume lie.
+ghost use Rattle.std.specs.Prelude.{◌≡◌, ◌≤◌};
+ghost use Rattle.mg_model.specs.Layout.{first_frame, table_blocks, total_blocks};
+
+/// The gate of the volume.
+pub(crate) const GATE_BLOCK: u64 = 0;
+
+/// What byte 0 of a gate holds where it is open.
+pub(crate) const GATE_OPEN: u8 = 0xA5;
+
+pub(crate) const SUPER_BLOCK: u64 = 1;
+
+/// The blocks of a journal segment, of which the first is its gate.
+pub(crate) const SEGMENT_SIZE: u64 = 162;
+
+/// The gate of the first segment.
+pub(crate) const FIRST_SEGMENT: u64 = 2;
+
+/// The first block behind the journal.
+pub(crate) const GLOBALS_BLOCK: u64 = 1298;
+
+pub(crate) const FIRST_ACCOUNT_BLOCK: u64 = 1299;
+
+pub(crate) const FIRST_THREAD_BLOCK: u64 = 1315;
+
+pub(crate) const FIRST_OBJECT_BLOCK: u64 = 1571;
+
+/// The first block of the frame table.
+pub(crate) const TABLE_BLOCK: u64 = 2595;
+
+/// How many entries of the frame table a block has.
+const ENTRIES: u64 = 512;
+
+/// What lies at different places on volumes of different sizes, in blocks.
+#[derive(Clone, Copy, Debug, PartialEq, Eq)]
+pub struct Geometry {
+    /// How many blocks a volume needs.
+    pub total: u64,
+    /// How many of them the frame table takes.
+    pub table: u64,
+    /// The block of frame 0.
+    pub first_frame: u64,
+}
+
+impl Geometry {
+    /// The places of a volume of so many frames, from 16 to 65,536.
+    pub fn of(frames: u64) -> Geometry
+        requires some { 16 ≤ frames }
+        requires few { frames ≤ 65536 }
+        ensures total { result.total ≡ total_blocks frames }
+        ensures table { result.table ≡ table_blocks frames }
+        ensures first { result.first_frame ≡ first_frame frames }
+    {
+        let table = (frames + ENTRIES - 1) / ENTRIES;
+        let first_frame = TABLE_BLOCK + table;
+        Geometry {
+            total: first_frame + frames,
+            table,
+            first_frame,
+        }
+    }
+}
+
+#[cfg(test)]
+mod tests {
+    use super::*;
+
+    #[test]
+    fn places(rt: HostRuntime) {
+        let small = Geometry {
+            total: 2660,
+            table: 1,
+            first_frame: 2596,
+        };
+        let large = Geometry {
+            total: 68_259,
+            table: 128,
+            first_frame: 2723,
+        };
+        assert_eq!(rt; Geometry::of(64), small);
+        assert_eq!(rt; Geometry::of(65_536), large);
+    }
+}

@@ -1,0 +1,159 @@
+// The superblock: what a volume was made with.
+ghost use Rattle.std.specs.Prelude.{◌≡◌, ◌≤◌, ◌+◌, if◌then◌else◌};
+ghost use Rattle.mg_model.specs.Bytes.{bytes_at, number_at};
+ghost use Rattle.mg_model.specs.Spelling.{are_settings, steps_at, super_bytes, super_fields, super_read, Spells};
+ghost use Rattle.mg_model.specs.Tariff.{is_tariff};
+ghost use Rattle.mg_model.specs.Words.{same_bytes};
+ghost use Rattle.mg_model.specs.WellFormed.{IsSettings};
+ghost use Rattle.mg_layout.specs.SuperBlock.{IsSuper};
+
+use crate::filling::Filling;
+use mg_disk::{BLOCK_SIZE, Block};
+use mg_model::{Params, Tariff};
+
+/// The eight bytes that a superblock begins with.
+const MAGIC: [u8; 8] = *b"MUNGIVOL";
+
+/// The version of the layout that is written here.
+const VERSION: u64 = 2;
+
+/// What a superblock spells.
+#[derive(Clone, Copy, Debug, PartialEq, Eq)]
+pub enum Super {
+    /// No volume: it does not begin with the eight bytes.
+    Not,
+    /// A volume of an older version.
+    Old,
+    /// Neither, and it is not spelled as this version does.
+    Damaged,
+    /// What the volume was made with.
+    Is(Params),
+}
+
+/// Spells the superblock of a volume with these settings. It is read back.
+pub fn write_super(p: &Params, out: &mut Block)
+    ensures spelled { out.new ≡ super_bytes p.now }
+    ensures read_back { super_read out.new ≡ Spells p.now }
+{
+    let steps = p.tariff().steps();
+    let mut filling = Filling::new();
+    filling.add(&MAGIC);
+    filling.add_words(&[VERSION, p.frames(), p.credits()]);
+    filling.add(&p.seed());
+    filling.add_words(&[
+        steps[0].0, steps[0].1, steps[1].0, steps[1].1, steps[2].0, steps[2].1, steps[3].0,
+        steps[3].1,
+    ]);
+    *out = filling.whole();
+}
+
+/// What a superblock spells.
+pub fn read_super(b: &Block) -> Super
+    ensures { IsSuper result (super_read b.now) }
+{
+    if MAGIC[..] != b[..8] {
+        return Super::Not;
+    }
+    if word_at(b, 8) < VERSION {
+        return Super::Old;
+    }
+    match fields(b) {
+        Some(p) => {
+            if is_spelling(&p, b) {
+                Super::Is(p)
+            } else {
+                Super::Damaged
+            }
+        }
+        None => Super::Damaged,
+    }
+}
+
+// Whether a superblock with these settings has these bytes.
+fn is_spelling(p: &Params, b: &Block) -> bool
+    ensures { result ≡ same_bytes (super_bytes p.now) b.now }
+{
+    let mut spelled = [0; BLOCK_SIZE];
+    write_super(p, &mut spelled);
+    spelled == *b
+}
+
+// The fields of a superblock, where they keep their rules.
+fn fields(b: &Block) -> Option<Params>
+    ensures { result ≡ (if are_settings (super_fields b.now) then Some (super_fields b.now) else None) }
+{
+    match tariff_in(b) {
+        Some(tariff) => Params::new(word_at(b, 16), seed_in(b), word_at(b, 24), tariff),
+        None => None,
+    }
+}
+
+fn tariff_in(b: &Block) -> Option<Tariff>
+    ensures { result ≡ (if is_tariff (steps_at b.now 64 4) then Some (steps_at b.now 64 4) else None) }
+{
+    Tariff::new([
+        (word_at(b, 64), word_at(b, 72)),
+        (word_at(b, 80), word_at(b, 88)),
+        (word_at(b, 96), word_at(b, 104)),
+        (word_at(b, 112), word_at(b, 120)),
+    ])
+}
+
+fn seed_in(b: &Block) -> [u8; 32]
+    ensures { result ≡ bytes_at b.now 32 32 }
+{
+    let mut seed = [0; 32];
+    seed.copy_from_slice(&b[32..64]);
+    seed
+}
+
+// The number in the 8 bytes at this place.
+fn word_at(b: &Block, at: usize) -> u64
+    requires { at + 8 ≤ 4096 }
+    ensures { result ≡ number_at b.now at }
+{
+    let mut bytes = [0; 8];
+    bytes.copy_from_slice(&b[at..at + 8]);
+    u64::from_le_bytes(bytes)
+}
+
+/// What the settings of every volume keep. It does nothing.
+pub(crate) fn settings_keep_rules(p: &Params)
+    ensures { IsSettings p.now }
+{
+    let _frames = p.frames();
+    let _credits = p.credits();
+    let _seed = p.seed();
+    let _steps = p.tariff().steps();
+}
+
+#[cfg(test)]
+mod tests {
+    use super::*;
+
+    #[test]
+    fn a_changed_superblock(rt: HostRuntime) {
+        let mut block: Block = [0; BLOCK_SIZE];
+        let params = Params::new(64, [0; 32], 1000, Tariff::usual(64));
+        if let Some(p) = params {
+            write_super(&p, &mut block);
+            assert_eq!(rt; read_super(&block), Super::Is(p));
+        }
+        let changes = [
+            (0, 0x6d, Super::Not),
+            (8, 0, Super::Old),
+            (8, 1, Super::Old),
+            (8, 9, Super::Damaged),
+            (16, 15, Super::Damaged),
+            (31, 0x40, Super::Damaged),
+            (200, 1, Super::Damaged),
+        ];
+        for (at, byte, answer) in changes {
+            let mut changed = block;
+            if let Some(place) = changed.get_mut(at) {
+                *place = byte;
+            }
+            assert_eq!(rt; read_super(&changed), answer, "byte {at}");
+        }
+    }
+}
