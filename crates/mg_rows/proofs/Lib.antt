@@ -1,0 +1,3 @@
+pub mod ObjectKeeps
+pub mod ObjectRows
+pub mod Reading

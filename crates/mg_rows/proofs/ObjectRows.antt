@@ -1,0 +1,62 @@
+-- An object's row as bytes, and what is read of them.
+use Rattle.std.proofs.Common.{◌≡◌, ◌*◌, ◌-◌, ◌++◌, [], ◌∷◌, ℕ, List, length, map, replicate, sym, ap, ◌∙◌, append_assoc}
+use Rattle.std.proofs.lemmas.List.{length-map}
+use Rattle.mg_model.specs.declared.slots.Pw.{Pw}
+use Rattle.mg_model.specs.Bytes.{padded_to, words_bytes}
+use Rattle.mg_model.specs.BytesReads.{length-words_bytes}
+use Rattle.mg_model.specs.Spelling.{object_bytes, object_head}
+use Rattle.mg_model.specs.State.{ObjectRow}
+use Rattle.mg_rows.specs.Answers.{extension_words}
+
+pub head-spelled : (row : ObjectRow) (new mid old ext entries : List ℕ) (passwords : List Pw) (base pages account : ℕ) → old ≡ []
+    → mid ≡ old ++ words_bytes (1 ∷ base ∷ pages ∷ account ∷ length passwords ∷ length entries ∷ []) → new ≡ mid ++ words_bytes ext
+    → base ≡ row.base → pages ≡ row.pages → account ≡ row.account → passwords ≡ row.passwords → entries ≡ row.entries → ext ≡ extension_words row.extension
+    → new ++ replicate 8 0 ≡ padded_to 80 (object_head row)
+head-spelled row new mid old ext entries passwords base pages account e_old e_mid e_new b p a pws es x =
+    let words = 1 ∷ base ∷ pages ∷ account ∷ length passwords ∷ length entries ∷ [] in
+    let same : words ≡ 1 ∷ row.base ∷ row.pages ∷ row.account ∷ length row.passwords ∷ length row.entries ∷ [] = cc in
+    ap (λ v. v ++ replicate 8 0) (e_new
+    ∙ ap (λ m. m ++ words_bytes ext) (e_mid ∙ ap (λ o. o ++ words_bytes words) e_old ∙ ap words_bytes same)
+    ∙ ap (λ v. words_bytes (1 ∷ row.base ∷ row.pages ∷ row.account ∷ length row.passwords ∷ length row.entries ∷ []) ++ words_bytes v) x)
+
+-- what is added, and what fills it up
+pub padded : (new mid old part : List ℕ) (n used : ℕ) → mid ≡ old ++ part → length part ≡ used → new ≡ mid ++ replicate (n - used) 0 → new ≡ old ++ padded_to n part
+padded new mid old part n used e_mid long e_new =
+    e_new ∙ ap (λ m. m ++ replicate (n - used) 0) e_mid ∙ append_assoc old part (replicate (n - used) 0) ∙ ap (λ k. old ++ (part ++ replicate (n - k) 0)) (sym long)
+
+pub length-words : {X : Type 0} (f : X → ℕ) (xs : List X) → length (words_bytes (map f xs)) ≡ 8 * length xs
+length-words f xs = length-words_bytes (map f xs) ∙ ap (λ n. 8 * n) (length-map xs f)
+
+-- parts that are added one by one
+five_parts : (s1 s2 s3 s4 s5 a b c d e z : List ℕ) → s1 ≡ a → s2 ≡ s1 ++ b → s3 ≡ s2 ++ c → s4 ≡ s3 ++ d → s5 ≡ s4 ++ e → s5 ++ z ≡ a ++ (b ++ (c ++ (d ++ (e ++ z))))
+five_parts s1 s2 s3 s4 s5 a b c d e z e1 e2 e3 e4 e5 =
+    ap (λ v. v ++ z) e5
+    ∙ append_assoc s4 e z
+    ∙ ap (λ v. v ++ (e ++ z)) e4
+    ∙ append_assoc s3 d (e ++ z)
+    ∙ ap (λ v. v ++ (d ++ (e ++ z))) e3
+    ∙ append_assoc s2 c (d ++ (e ++ z))
+    ∙ ap (λ v. v ++ (c ++ (d ++ (e ++ z)))) e2
+    ∙ append_assoc s1 b (c ++ (d ++ (e ++ z)))
+    ∙ ap (λ v. v ++ (b ++ (c ++ (d ++ (e ++ z))))) e1
+
+pub object-spelled : (row : ObjectRow) (s1 s2 s3 s4 s5 es : List ℕ) (ps rs us : List Pw) → ps ≡ row.passwords → rs ≡ row.passwords → es ≡ row.entries → us ≡ row.passwords
+    → s1 ≡ padded_to 80 (object_head row)
+    → s2 ≡ s1 ++ padded_to 256 (words_bytes (map (λ (pw : Pw). pw.password) ps))
+    → s3 ≡ s2 ++ padded_to 32 (map (λ (pw : Pw). pw.rights) rs)
+    → s4 ≡ s3 ++ padded_to 128 (words_bytes es)
+    → s5 ≡ s4 ++ padded_to 256 (words_bytes (map (λ (pw : Pw). pw.until) us))
+    → s5 ++ replicate 272 0 ≡ object_bytes row
+object-spelled row s1 s2 s3 s4 s5 es ps rs us e_ps e_rs e_es e_us e1 e2 e3 e4 e5 =
+    five_parts s1 s2 s3 s4 s5
+    (padded_to 80 (object_head row)) (padded_to 256 (words_bytes (map (λ (pw : Pw). pw.password) row.passwords))) (padded_to 32 (map (λ (pw : Pw). pw.rights) row.passwords))
+    (padded_to 128 (words_bytes row.entries)) (padded_to 256 (words_bytes (map (λ (pw : Pw). pw.until) row.passwords))) (replicate 272 0)
+    e1
+    (e2 ∙ ap (λ (v : List Pw). s1 ++ padded_to 256 (words_bytes (map (λ (pw : Pw). pw.password) v))) e_ps)
+    (e3 ∙ ap (λ (v : List Pw). s2 ++ padded_to 32 (map (λ (pw : Pw). pw.rights) v)) e_rs)
+    (e4 ∙ ap (λ (v : List ℕ). s3 ++ padded_to 128 (words_bytes v)) e_es)
+    (e5 ∙ ap (λ (v : List Pw). s4 ++ padded_to 256 (words_bytes (map (λ (pw : Pw). pw.until) v))) e_us)
+
+-- a block of so many bytes that is filled up
+pub filled-up : (whole part : List ℕ) (n used left : ℕ) → whole ≡ padded_to n part → length part ≡ used → n - used ≡ left → whole ≡ part ++ replicate left 0
+filled-up whole part n used left is long rest = is ∙ ap (λ k. part ++ replicate (n - k) 0) long ∙ ap (λ k. part ++ replicate k 0) rest

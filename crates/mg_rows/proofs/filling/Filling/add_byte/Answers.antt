@@ -1,0 +1,11 @@
+use Rattle.std.proofs.Common.{arith}
+use Rattle.mg_model.specs.Filled.{IsFilled-add, length-filled}
+use Rattle.mg_rows.proofs.filling.Filling.add_byte.Goals as goal
+
+pub invariant_of-self : goal.invariant_of-self
+invariant_of-self g c =
+    let filled = c.self.invariant in
+    let few = c.requires in
+    let view = c.self.view_is in
+    let same = length-filled _ _ c.self.inside.bytes c.self.inside.count filled in
+    IsFilled-add _ _ c.self.inside.bytes c.self.inside.count c.args.byte filled (Prim.grind arith)

@@ -1,0 +1,47 @@
+use Rattle.std.proofs.Common.{◌≡◌, ◌≤◌, ◌+◌, ◌-◌, ◌++◌, ℕ, List, drop, take, length, replicate, sym, ap, ◌∙◌, arith}
+use Rattle.std.proofs.lemmas.List.{drop-drop, drop-replicate, take-replicate}
+use Rattle.std.proofs.Math.Seq.{take-append-add}
+use Rattle.mg_model.specs.Filled.{IsFilled, filled-take, length-filled}
+use Rattle.mg_rows.proofs.filling.Filling.skip.Goals as goal
+
+module _ (size : ℕ) (items : List ℕ) (count n : ℕ) (is : IsFilled 0 size items count) (room : length (take count items) + n ≤ size) where
+  more : take (count + n) items ≡ take count items ++ replicate n 0
+  more =
+      let xs = take count items in
+      let short : length xs ≡ count = length-filled 0 size items count is in
+      let whole : xs ++ replicate (size - length xs) 0 ≡ items = filled-take 0 size items count is in
+      ap (take (count + n)) (sym whole)
+      ∙ ap (λ k. take (k + n) (xs ++ replicate (size - length xs) 0)) (sym short)
+      ∙ take-append-add xs (replicate (size - length xs) 0) n
+      ∙ ap (λ v. xs ++ v) (take-replicate n (size - length xs) 0 (omega arith))
+
+  filled : IsFilled 0 size items (count + n)
+  filled =
+      let short : length (take count items) ≡ count = length-filled 0 size items count is in
+      let left : size - count - n ≡ size - (count + n) = omega arith in
+      record {
+        size = is.size;
+        within = omega arith;
+        rest = sym (drop-drop n count items) ∙ ap (drop n) is.rest ∙ drop-replicate n (size - count) 0 ∙ ap (λ k. replicate k 0) left;
+      }
+
+pub invariant_of-self : goal.invariant_of-self
+invariant_of-self g c =
+    let few = c.requires in
+    let view = c.self.view_is in
+    filled g.row.N c.self.inside.bytes c.self.inside.count c.args.n c.self.invariant (Prim.grind arith)
+
+pub returns-clause-value : goal.returns-clause-value
+returns-clause-value g c =
+    let few = c.requires in
+    let view = c.self.view_is in
+    more g.row.N c.self.inside.bytes c.self.inside.count c.args.n c.self.invariant (Prim.grind arith) ∙ ap (λ v. v ++ replicate c.args.n 0) view
+
+pub returns-clause-long : goal.returns-clause-long
+returns-clause-long g c =
+    let few = c.requires in
+    let view = c.self.view_is in
+    let short = length-filled 0 g.row.N c.self.inside.bytes c.self.inside.count c.self.invariant in
+    let is = filled g.row.N c.self.inside.bytes c.self.inside.count c.args.n c.self.invariant (Prim.grind arith) in
+    let short_2 = length-filled 0 g.row.N c.self.inside.bytes (c.self.inside.count + c.args.n) is in
+    Prim.grind arith

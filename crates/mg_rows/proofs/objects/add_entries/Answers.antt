@@ -1,0 +1,8 @@
+use Rattle.mg_model.specs.Bytes.{words_bytes}
+use Rattle.mg_model.specs.BytesReads.{length-words_bytes}
+use Rattle.mg_rows.proofs.ObjectRows.{padded}
+use Rattle.mg_rows.proofs.objects.add_entries.Goals as goal
+
+pub returns-clause-value : goal.returns-clause-value
+returns-clause-value c =
+    padded c.skip.new.self c.add_words.new.self c.args.filling.now (words_bytes c.args.entries.now) 128 _ c.add_words.ensures.value (length-words_bytes c.args.entries.now) c.skip.ensures.value

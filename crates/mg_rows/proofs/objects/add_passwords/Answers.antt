@@ -1,0 +1,12 @@
+use Rattle.std.proofs.Common.{◌≡◌, ◌++◌, List, map, ap, ◌∙◌}
+use Rattle.std.proofs.lemmas.List.{take_all}
+use Rattle.mg_model.specs.declared.slots.Pw.{Pw}
+use Rattle.mg_model.specs.Bytes.{words_bytes}
+use Rattle.mg_rows.proofs.ObjectRows.{length-words, padded}
+use Rattle.mg_rows.proofs.objects.add_passwords.Goals as goal
+
+pub returns-clause-value : goal.returns-clause-value
+returns-clause-value c =
+    let part = words_bytes (map (λ (pw : Pw). pw.password) c.args.passwords.now) in
+    let mid : c.loop-pw.filling ≡ c.args.filling.now ++ part = c.loop-pw.invariant.value ∙ ap (λ (v : List Pw). c.args.filling.now ++ words_bytes (map (λ (pw : Pw). pw.password) v)) (take_all c.loop-pw.pw-index c.args.passwords.now c.loop-pw-test.false) in
+    padded c.skip.new.self c.loop-pw.filling c.args.filling.now part 256 _ mid (length-words (λ (pw : Pw). pw.password) c.args.passwords.now) c.skip.ensures.value

@@ -1,0 +1,10 @@
+use Rattle.std.proofs.Common.{◌≡◌, ◌+◌, ◌*◌, ◌++◌, length, map, take}
+use Rattle.mg_model.specs.declared.slots.Pw.{Pw}
+use Rattle.mg_model.specs.Bytes.{words_bytes}
+use Rattle.mg_rows.proofs.objects.add_passwords.Given as goal
+
+abbrev pub invariant-loop-pw : goal.invariant-loop-pw
+invariant-loop-pw l = record {
+  value : l.filling ≡ l.initial.filling ++ words_bytes (map (λ (pw : Pw). pw.password) (take l.pw-index l.passwords));
+  long : length l.filling ≡ length l.initial.filling + 8 * l.pw-index;
+}

@@ -1,0 +1,81 @@
+// The rows of accounts.
+ghost use Rattle.std.specs.Prelude.{◌≡◌, replicate, length, Some};
+ghost use Rattle.std.specs.Option.{option_map_or};
+ghost use Rattle.mg_model.specs.Spelling.{account_bytes, account_read};
+ghost use Rattle.mg_rows.specs.Answers.{as_read};
+
+use crate::bytes::{are_zeros, copy_to, number_at};
+use crate::filling::Filling;
+use crate::spelled::Spelled;
+use mg_model::AccRow;
+
+/// The bytes of an account's row.
+const ROW: usize = 64;
+
+/// What 64 bytes spell of an account.
+pub fn read_account(b: &[u8]) -> Option<Spelled<AccRow>>
+    requires { length b.now ≡ 64 }
+    ensures { as_read result ≡ account_read b.now }
+{
+    if are_zeros(b) {
+        return Some(Spelled::Free);
+    }
+    let row = AccRow {
+        password: number_at(b, 8),
+        balance: number_at(b, 16),
+        owed: number_at(b, 24),
+    };
+    let spelled = spelling(&row);
+    if spelled[..] == b[..] {
+        Some(Spelled::Row(row))
+    } else {
+        None
+    }
+}
+
+/// Spells an account, or a free row, in 64 bytes. It is read back.
+pub fn write_account(r: Option<&AccRow>, out: &mut [u8])
+    requires { length out.old ≡ 64 }
+    ensures spelled { out.new ≡ option_map_or (λ row. account_bytes row.now) r.entry (replicate 64 0) }
+    ensures read_back { account_read out.new ≡ Some (option_map_or (λ row. Some row.now) r.entry None) }
+{
+    match r {
+        Some(row) => copy_to(&spelling(row), out),
+        None => copy_to(&[0; ROW], out),
+    }
+}
+
+// The bytes of this account.
+fn spelling(row: &AccRow) -> [u8; ROW]
+    ensures spelled { result ≡ account_bytes row.now }
+    ensures read_back { account_read result ≡ Some (Some row.now) }
+{
+    let mut filling = Filling::new();
+    filling.add_words(&[1, row.password, row.balance, row.owed]);
+    filling.whole()
+}
+
+#[cfg(test)]
+mod tests {
+    use super::*;
+
+    #[test]
+    fn an_account_and_a_free_row(rt: HostRuntime) {
+        let row = AccRow {
+            password: 0x0102,
+            balance: 7,
+            owed: 256,
+        };
+        let mut bytes = [9; 64];
+        write_account(None, &mut bytes);
+        assert_eq!(rt; read_account(&bytes), Some(Spelled::Free));
+        write_account(Some(&row), &mut bytes);
+        assert_eq!(rt;
+            bytes[..18],
+            [1, 0, 0, 0, 0, 0, 0, 0, 2, 1, 0, 0, 0, 0, 0, 0, 7, 0][..]
+        );
+        assert_eq!(rt; read_account(&bytes), Some(Spelled::Row(row)));
+        bytes[63] = 1;
+        assert_eq!(rt; read_account(&bytes), None);
+    }
+}

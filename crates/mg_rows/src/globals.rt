@@ -1,0 +1,68 @@
+// The globals.
+ghost use Rattle.std.specs.Prelude.{◌≡◌, ◌&&◌, if◌then◌else◌, Some};
+ghost use Rattle.mg_model.specs.Spelling.{globals_bytes, globals_fields, globals_read};
+ghost use Rattle.mg_model.specs.Tests.{are_counters};
+
+use crate::bytes::number_at;
+use crate::filling::Filling;
+use mg_disk::Block;
+use mg_model::Globals;
+
+/// What a block spells of the globals, which are never free.
+pub fn read_globals(b: &Block) -> Option<Globals>
+    ensures { result ≡ globals_read b.now }
+{
+    let draws = number_at(b, 0);
+    let period = number_at(b, 8);
+    let cursor = number_at(b, 16);
+    let births = number_at(b, 24);
+    if draws < 2 || draws > 1 << 32 || period >= 1 << 24 || cursor > 256 {
+        return None;
+    }
+    if births < 1 || births >= 1 << 32 {
+        return None;
+    }
+    let globals = Globals::new(draws, period, cursor, births);
+    if spelling(&globals) == *b {
+        Some(globals)
+    } else {
+        None
+    }
+}
+
+/// Spells the globals in a block. They are read back.
+pub fn write_globals(g: &Globals, out: &mut Block)
+    ensures spelled { out.new ≡ globals_bytes g.now }
+    ensures read_back { globals_read out.new ≡ Some g.now }
+{
+    *out = spelling(g);
+}
+
+// The bytes of these globals.
+fn spelling(g: &Globals) -> Block
+    ensures spelled { result ≡ globals_bytes g.now }
+    ensures read_back { globals_read result ≡ Some g.now }
+{
+    let mut filling = Filling::new();
+    filling.add_words(&[g.draws(), g.period(), g.cursor(), g.births()]);
+    filling.whole()
+}
+
+#[cfg(test)]
+mod tests {
+    use super::*;
+
+    #[test]
+    fn globals_and_one_byte_off(rt: HostRuntime) {
+        let globals = Globals::new(2, 3, 256, 1);
+        let mut block: Block = [7; 4096];
+        write_globals(&globals, &mut block);
+        assert_eq!(rt; block[16..26], [0, 1, 0, 0, 0, 0, 0, 0, 1, 0][..]);
+        assert_eq!(rt; read_globals(&block), Some(globals));
+        for at in [0, 11, 18, 24, 4095] {
+            let mut other = block;
+            other[at] = if at == 24 { 0 } else { 1 };
+            assert_eq!(rt; read_globals(&other), None, "byte {at}");
+        }
+    }
+}
