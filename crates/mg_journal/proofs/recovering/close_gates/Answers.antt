@@ -1,0 +1,36 @@
+use Rattle.std.proofs.Common.{rules, refl, ◌∙◌, ◌≡◌, subst, arith}
+use Rattle.std.specs.Prelude.{IsSomeAnd}
+use Rattle.mg_model.specs.Layout.{segment_count}
+use Rattle.mg_journal.specs.Recovery.{IsClosedUpTo}
+use Rattle.mg_journal.specs.RecoverySteps.{begin_closing, close_more, close_run}
+use Rattle.mg_journal.proofs.recovering.close_gates.Goals as goal
+
+pub loop-segment-init : goal.loop-segment-init
+loop-segment-init g c = record {
+  blocks = refl;
+  count = search rules;
+  settled = c.requires.settled;
+  closing = λ image told total own. begin_closing g.D.Disk total image c.args.disk.now (g.met.D.Disk.now_has_been c.args.disk.now) told c.requires.settled own;
+}
+
+pub returns-in_err-close_gate-clause-any_moment : goal.returns-in_err-close_gate-clause-any_moment
+returns-in_err-close_gate-clause-any_moment g c image told total own =
+    close_run g.D.Disk total image c.loop-segment.segment c.args.disk.now c.loop-segment.disk c.close_gate.new.disk c.loop-segment-test.true (c.loop-segment.invariant.closing image told total own) c.close_gate.ensures.any_moment
+
+pub loop-segment-preserved : goal.loop-segment-preserved
+loop-segment-preserved g c = record {
+  blocks = c.close_gate.ensures.blocks ∙ c.loop-segment.invariant.blocks;
+  count = search rules;
+  settled = c.in_ok-close_gate.ensures.settled;
+  closing = λ image told total own.
+      close_more g.D.Disk total image c.loop-segment.segment c.args.disk.now c.loop-segment.disk c.close_gate.new.disk c.loop-segment-test.true (c.loop-segment.invariant.closing image told total own)
+      c.close_gate.ensures.any_moment c.in_ok-close_gate.ensures.closed;
+}
+
+pub returns-clause-any_moment : goal.returns-clause-any_moment
+returns-clause-any_moment g c image told total own = (c.loop-segment.invariant.closing image told total own).run
+
+pub returns-clause-closed : goal.returns-clause-closed
+returns-clause-closed g c image told total own =
+    let at_end : c.loop-segment.segment ≡ segment_count = let past = c.loop-segment-test.false in let end = c.loop-segment.auto.segment-end in omega arith in
+    subst (λ n. IsSomeAnd (g.D.Disk.seen c.loop-segment.disk) (IsClosedUpTo n total image)) at_end (c.loop-segment.invariant.closing image told total own).shows

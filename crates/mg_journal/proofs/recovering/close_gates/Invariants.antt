@@ -1,0 +1,15 @@
+use Rattle.std.proofs.Common.{◌≡◌, ℕ, Some}
+use Rattle.std.specs.Option.{ForSome}
+use Rattle.mg_disk.specs.Stops.{CountGoes, NothingPending}
+use Rattle.mg_model.specs.Replay.{replay}
+use Rattle.mg_journal.specs.RecoverySteps.{IsClosing}
+use Rattle.mg_journal.proofs.recovering.close_gates.Given as goal
+
+-- the segments before this one are closed
+abbrev pub invariant-loop-segment : goal.invariant-loop-segment
+invariant-loop-segment g l = record {
+  blocks : g.D.Disk.block_count l.disk ≡ g.D.Disk.block_count l.initial.disk;
+  count : CountGoes g.D.Disk l.initial.disk l.disk;
+  settled : NothingPending g.D.Disk l.disk;
+  closing : ForSome (g.D.Disk.seen l.initial.disk) (λ image. (total : ℕ) → replay image total ≡ Some image → IsClosing g.D.Disk total image l.segment l.initial.disk l.disk);
+}

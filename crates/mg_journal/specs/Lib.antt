@@ -1,0 +1,15 @@
+pub mod Blank
+pub mod CommitRuns
+pub mod CommitSteps
+pub mod Contents
+pub mod Facts
+pub mod Homes
+pub mod PhaseSteps
+pub mod Phases
+pub mod Recovery
+pub mod RecoverySteps
+pub mod Segments
+pub mod Staged
+pub mod Standing
+pub mod Words
+pub mod WrittenOver

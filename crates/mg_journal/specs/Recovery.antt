@@ -1,0 +1,25 @@
+-- What recovery does to an image: homes are written, and then the gates are closed first to last.
+use Rattle.std.specs.Prelude.{◌≡◌, ◌⊎◌, ◌<◌, ℕ, true, false, Some}
+use Rattle.mg_disk.specs.Disk.{Image, SameBut, only_place}
+use Rattle.mg_model.specs.Layout.{segment_gate}
+use Rattle.mg_model.specs.Replay.{is_open, replay}
+use Rattle.mg_journal.specs.Contents.{InJournal}
+
+-- while a gate is closed: nothing has changed, or any bytes stand in that gate, which was open
+abbrev pub MayCloseOne : ℕ → Image → Image → Type 0
+MayCloseOne s a c = (c ≡ a) ⊎ ((is_open a s ≡ true) × SameBut (only_place (segment_gate s)) a c)
+
+-- once it is closed
+pub record ClosedOne (s : ℕ) (a b : Image) : Type 0 where
+  pub may : MayCloseOne s a b
+  pub shut : is_open b s ≡ false
+
+-- b is its own replay, and differs from a within the journal alone
+pub record IsStill (total : ℕ) (a b : Image) : Type 0 where
+  pub own : replay b total ≡ Some b
+  pub same : SameBut InJournal a b
+
+-- so it is, and the segments before s are closed
+pub record IsClosedUpTo (s total : ℕ) (a b : Image) : Type 0 where
+  pub still : IsStill total a b
+  pub shut : (t : ℕ) → t < s → is_open b t ≡ false

@@ -1,0 +1,20 @@
+-- A number that is put into a block leaves those beside it.
+use Rattle.std.specs.Prelude.{◌≡◌, ◌⊎◌, ◌+◌, ◌≤◌, ℕ, List, drop, length, take}
+use Rattle.std.specs.Int.{from_le_bytes, w64}
+use Rattle.std.proofs.Common.{sym, ap, ◌∙◌, ⊎_elim, arith}
+use Rattle.std.proofs.lemmas.List.{drop-take}
+use Rattle.std.proofs.lemmas.Slice.{drop-put_mid, take-put_mid_below}
+use Rattle.mg_model.specs.Bytes.{bytes_at, number_at}
+use borrow.Rule.Slice.PartMut.{put_mid}
+
+pub beside : (old bytes : List ℕ) (at k b : ℕ) → k ≡ 8 → length bytes ≡ 8 → at + 8 ≤ length old → (b + 8 ≤ at) ⊎ (at + 8 ≤ b) → number_at (put_mid at k old bytes) b ≡ number_at old b
+beside old bytes at k b eight long room apart = ap (from_le_bytes w64) (⊎_elim before behind apart)
+  where
+    before : b + 8 ≤ at → bytes_at (put_mid at k old bytes) b 8 ≡ bytes_at old b 8
+    before low =
+        sym (drop-take b 8 (put_mid at k old bytes))
+        ∙ ap (drop b) (take-put_mid_below at k old bytes (b + 8) low (omega arith))
+        ∙ drop-take b 8 old
+
+    behind : at + 8 ≤ b → bytes_at (put_mid at k old bytes) b 8 ≡ bytes_at old b 8
+    behind high = ap (take 8) (drop-put_mid at k old bytes b (omega arith) (omega arith) (omega arith))

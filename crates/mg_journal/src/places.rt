@@ -1,0 +1,53 @@
+// Where the parts of the journal lie, in blocks.
+ghost use Rattle.std.specs.Prelude.{◌≡◌, ◌<◌, ◌==◌, false, slice_index};
+ghost use Rattle.mg_model.specs.Layout.{gate_open, segment_count, segment_gate, segment_index};
+
+use mg_disk::{BLOCK_SIZE, Block};
+
+/// How many segments there are.
+pub(crate) const SEGMENTS: u64 = 8;
+
+/// The gate of segment 0.
+pub(crate) const FIRST_GATE: u64 = 2;
+
+/// The byte that a gate begins with where it is open.
+const OPEN: u8 = 0xA5;
+
+/// The block of a segment's gate.
+pub(crate) fn gate_of(segment: u64) -> u64
+    requires few { segment < segment_count }
+    ensures { result ≡ segment_gate segment }
+{
+    2 + 162 * segment
+}
+
+/// The block of a segment's index.
+pub(crate) fn index_of(segment: u64) -> u64
+    requires few { segment < segment_count }
+    ensures { result ≡ segment_index segment }
+{
+    gate_of(segment) + 1
+}
+
+/// What is written at a gate to open it.
+pub(crate) fn opened_gate() -> Block
+    ensures { slice_index result 0 ≡ gate_open }
+{
+    let mut gate = [0; BLOCK_SIZE];
+    gate[0] = OPEN;
+    gate
+}
+
+/// What is written at a gate to close it.
+pub(crate) fn closed_gate() -> Block
+    ensures { (slice_index result 0 == gate_open) ≡ false }
+{
+    [0; BLOCK_SIZE]
+}
+
+/// Whether a gate with these bytes is open.
+pub(crate) fn is_opened(gate: &Block) -> bool
+    ensures { result ≡ (slice_index gate.now 0 == gate_open) }
+{
+    gate[0] == OPEN
+}

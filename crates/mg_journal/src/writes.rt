@@ -1,0 +1,106 @@
+// Writes that wait for a commit.
+ghost use Rattle.std.specs.Prelude.{◌≡◌, ◌<◌, ◌≤◌, ◌⊎◌, [], ◌∷◌, ◌++◌, IfOk, IsSome, MatchOption, None, Some, find, length, option_copied, position};
+ghost use Rattle.mg_model.specs.Layout.{body_limit};
+ghost use Rattle.mg_journal.specs.Staged.{goes_to, staged, waiting};
+
+use mg_disk::Block;
+use std::alloc::{AllocError, Global};
+use std::marker::Model;
+
+/// How many writes a commit takes at most.
+pub const MOST_WRITES: usize = 160;
+
+/// Up to 160 blocks that wait for a commit, each with what will be written there. No block is there twice.
+#[derive(Drop)]
+pub struct Writes {
+    items: Vec<(u64, Block)>,
+}
+
+impl Model for Writes {
+    ghost use Rattle.std.specs.Prelude.{◌≤◌, ℕ, List, length, vec_capacity};
+
+    ghost Value = { List (ℕ × List ℕ) };
+
+    ghost view = { λ w. w.items.items };
+
+    ghost invariant = { λ w. (160 ≤ vec_capacity w.items) × (length w.items.items ≤ 160) };
+}
+
+impl Writes {
+    /// No writes, with room for 160. All memory that they will need is taken here.
+    pub fn new(alloc: Global) -> Result<Writes, AllocError>
+        ensures empty { IfOk result (λ writes. writes ≡ []) }
+    {
+        Ok(Writes {
+            items: Vec::with_capacity(alloc, MOST_WRITES)?,
+        })
+    }
+
+    /// How many blocks wait, 0 to 160.
+    pub fn len(&self) -> usize
+        ensures count { result ≡ length self.now }
+        ensures few { result ≤ body_limit }
+    {
+        self.items.len()
+    }
+
+    // The place of the write to this block.
+    fn place_of(&self, block: u64) -> Option<usize>
+        ensures { result ≡ position (goes_to block) self.now }
+    {
+        self.items.iter().position(|write| write.0 == block)
+    }
+
+    // The write to this block.
+    fn found(&self, block: u64) -> Option<&(u64, Block)>
+        ensures { option_copied result ≡ find (goes_to block) self.now }
+    {
+        self.items.iter().find(|write| write.0 == block)
+    }
+
+    /// The writes, in the order in which their blocks were first staged.
+    pub(crate) fn as_slice(&self) -> &[(u64, Block)]
+        ensures same { result.now ≡ self.now }
+        ensures few { length result.now ≤ body_limit }
+    {
+        &self.items
+    }
+
+    /// What waits for this block.
+    pub fn get(&self, block: u64) -> Option<&Block>
+        ensures { MatchOption result (waiting self.now block ≡ None) (λ bytes. waiting self.now block ≡ Some bytes.now) }
+    {
+        match self.found(block) {
+            Some(write) => Some(&write.1),
+            None => None,
+        }
+    }
+
+    /// Stages a write, in place of the one to that block if there is one. It takes no memory.
+    pub fn stage(&mut self, block: u64, from: &Block)
+        requires room { IsSome (position (goes_to block) self.old) ⊎ (length self.old < body_limit) }
+        ensures { self.new ≡ staged self.old block from.now }
+    {
+        match self.place_of(block) {
+            Some(place) => self.items[place] = (block, *from),
+            None => self.add(block, from),
+        }
+    }
+
+    // Stages a write behind the others.
+    fn add(&mut self, block: u64, from: &Block)
+        requires room { length self.old < body_limit }
+        ensures { self.new ≡ self.old ++ (block, from.now) ∷ [] }
+    {
+        if self.items.push((block, *from)).is_err() {
+            unreachable!()
+        }
+    }
+
+    /// Nothing waits.
+    pub fn clear(&mut self)
+        ensures { self.new ≡ [] }
+    {
+        self.items.clear();
+    }
+}
