@@ -1,0 +1,8 @@
+use Rattle.std.proofs.Common.{◌++◌, ap, ◌∙◌}
+use Rattle.mg_model.specs.Print.{hex_digits}
+use Rattle.mg_text.proofs.Texts.{word_after}
+use Rattle.mg_text.proofs.replies.push_word.Goals as goal
+
+pub returns-clause-text : goal.returns-clause-text
+returns-clause-text c =
+    c.push_digits.ensures.text ∙ ap (λ v. v ++ hex_digits 16 c.args.w) c.push_text.ensures.text ∙ word_after c.args.out.now.items c.args.w

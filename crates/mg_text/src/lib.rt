@@ -1,0 +1,19 @@
+//! Lines to calls, and replies to bytes.
+//!
+//! A line of the input is read in one pass, with its words as slices of it, and a reply is written into a buffer of 256
+//! bytes; neither allocates. What the layer above learns is an equation for each call: what was read or written is what
+//! the definitions in `mg_model` say (`Words`, `Lines`, `Print`). Only the words for the code's own steps stand in `specs/`.
+#![tactic(auto)]
+
+mod lines;
+mod numbers;
+mod outcomes;
+mod replies;
+mod rights;
+mod words;
+
+pub use lines::read_line;
+pub use numbers::{digit, read_number};
+pub use outcomes::{print_small, print_words};
+pub use replies::print_reply;
+pub use rights::read_rights;

@@ -1,0 +1,260 @@
+// From a reply to its line.
+ghost use Rattle.std.specs.Prelude.{◌≡◌, ◌+◌, ◌≤◌, ◌<◌, [], ◌∷◌, ◌++◌, length, map};
+ghost use Rattle.std.specs.Fmt.{decimal};
+ghost use Rattle.arrayvec.specs.ArrayVec.{array_vec_len};
+ghost use Rattle.mg_model.specs.Print.{after_text, hex_digit, hex_digits, hex_text, refusal_text, reply_line, reply_text, spaced};
+ghost use Rattle.mg_text.specs.Replies.{HasFewSlots};
+
+use arrayvec::ArrayVec;
+use mg_model::{After, Fault, Refusal, Reply};
+
+/// The line of a reply.
+pub(crate) type Buffer = ArrayVec<u8, 256>;
+
+/// Writes a reply as a line, with its newline, into an empty buffer. Slots are at most 8, so every line fits: the longest,
+/// that of 8 slots, has 157 bytes.
+pub fn print_reply(r: &Reply, out: &mut ArrayVec<u8, 256>)
+    requires empty { out.old.items ≡ [] }
+    requires slots { HasFewSlots r.now }
+    ensures { out.new.items ≡ reply_line r.now }
+{
+    push_reply(r, out);
+    out.push(b'\n');
+}
+
+/// Writes a reply without its newline.
+fn push_reply(r: &Reply, out: &mut Buffer)
+    requires empty { out.old.items ≡ [] }
+    requires slots { HasFewSlots r.now }
+    ensures text { out.new.items ≡ reply_text r.now }
+    ensures short { array_vec_len out.new < 256 }
+{
+    if let Reply::No(refusal) = r {
+        push_text(out, b"no ");
+        push_text(out, refusal_word(*refusal));
+        return;
+    }
+    push_text(out, b"ok");
+    match r {
+        Reply::No(_) | Reply::Done => {}
+        Reply::Value(w) => push_word(out, *w),
+        Reply::Count(n) => push_number(out, *n),
+        Reply::Made(base, password) => {
+            push_word(out, *base);
+            push_word(out, *password);
+        }
+        Reply::Opened(number, password) => {
+            push_number(out, *number);
+            push_word(out, *password);
+        }
+        Reply::About {
+            base,
+            pages,
+            account,
+            passwords,
+            entries,
+            ext,
+        } => {
+            push_word(out, *base);
+            push_number(out, *pages);
+            push_number(out, *account);
+            push_number(out, *passwords);
+            push_number(out, *entries);
+            push_number(out, *ext);
+        }
+        Reply::Slots { count, bases } => {
+            push_number(out, *count);
+            push_words(out, &bases[..*count as usize]);
+        }
+        Reply::Turned(state) => push_after(out, *state),
+        Reply::Ran(number, state) => {
+            push_number(out, *number);
+            push_after(out, *state);
+        }
+        Reply::Funds(a, b, c) | Reply::Collected(a, b, c) => {
+            push_number(out, *a);
+            push_number(out, *b);
+            push_number(out, *c);
+        }
+    }
+}
+
+fn refusal_word(refusal: Refusal) -> &'static [u8]
+    ensures text { result.now ≡ refusal_text refusal }
+    ensures short { length result.now ≤ 10 }
+{
+    match refusal {
+        Refusal::Syntax => b"Syntax",
+        Refusal::NoThread => b"NoThread",
+        Refusal::Align => b"Align",
+        Refusal::Denied => b"Denied",
+        Refusal::Size => b"Size",
+        Refusal::Account => b"Account",
+        Refusal::Debt => b"Debt",
+        Refusal::Limit => b"Limit",
+        Refusal::Full => b"Full",
+        Refusal::NoPassword => b"NoPassword",
+        Refusal::Range => b"Range",
+        Refusal::SlotFull => b"SlotFull",
+        Refusal::NoSlot => b"NoSlot",
+        Refusal::NoEntry => b"NoEntry",
+        Refusal::Depth => b"Depth",
+        Refusal::NoFrame => b"NoFrame",
+        Refusal::NotYours => b"NotYours",
+        Refusal::NotReady => b"NotReady",
+        Refusal::Idle => b"Idle",
+        Refusal::Credit => b"Credit",
+        Refusal::Calendar => b"Calendar",
+        Refusal::Past => b"Past",
+        Refusal::Later => b"Later",
+    }
+}
+
+fn after_words(state: After) -> &'static [u8]
+    ensures text { result.now ≡ after_text state }
+    ensures short { length result.now ≤ 14 }
+{
+    match state {
+        After::Ready => b"Ready",
+        After::Stopped => b"Stopped",
+        After::Faulted(Fault::Align) => b"Faulted Align",
+        After::Faulted(Fault::Denied) => b"Faulted Denied",
+        After::Faulted(Fault::Opcode) => b"Faulted Opcode",
+        After::Ended => b"Ended",
+    }
+}
+
+pub(crate) fn push_text(out: &mut Buffer, text: &[u8])
+    requires { array_vec_len out.old + length text.now ≤ 256 }
+    ensures text { out.new.items ≡ out.old.items ++ text.now }
+    ensures len { array_vec_len out.new ≡ array_vec_len out.old + length text.now }
+{
+    let _ = out.try_extend_from_slice(text);
+}
+
+fn push_after(out: &mut Buffer, state: After)
+    requires { array_vec_len out.old ≤ 200 }
+    ensures text { out.new.items ≡ out.old.items ++ spaced (after_text state ∷ []) }
+    ensures short { array_vec_len out.new ≤ array_vec_len out.old + 15 }
+{
+    out.push(b' ');
+    push_text(out, after_words(state));
+}
+
+/// A space and a word in hexadecimal.
+pub(crate) fn push_word(out: &mut Buffer, w: u64)
+    requires { array_vec_len out.old ≤ 200 }
+    ensures text { out.new.items ≡ out.old.items ++ spaced (hex_text w ∷ []) }
+    ensures short { array_vec_len out.new ≤ array_vec_len out.old + 19 }
+{
+    push_text(out, b" 0x");
+    push_digits(out, 16, w);
+}
+
+/// The last n hexadecimal digits of w.
+fn push_digits(out: &mut Buffer, n: u8, w: u64)
+    requires { array_vec_len out.old + n ≤ 256 }
+    ensures text { out.new.items ≡ out.old.items ++ hex_digits n w }
+    ensures len { array_vec_len out.new ≡ array_vec_len out.old + n }
+{
+    if n > 0 {
+        push_digits(out, n - 1, w / 16);
+        out.push(hex_glyph((w % 16) as u8));
+    }
+}
+
+fn hex_glyph(d: u8) -> u8
+    requires { d < 16 }
+    ensures { result ≡ hex_digit d }
+{
+    if d < 10 { b'0' + d } else { b'a' + d - 10 }
+}
+
+fn push_words(out: &mut Buffer, ws: &[u64])
+    requires few { length ws.now ≤ 8 }
+    requires room { array_vec_len out.old ≤ 40 }
+    ensures text { out.new.items ≡ out.old.items ++ spaced (map hex_text ws.now) }
+    ensures short { array_vec_len out.new ≤ array_vec_len out.old + 152 }
+{
+    for w in ws {
+        push_word(out, *w);
+    }
+}
+
+/// A space and a number in decimal.
+pub(crate) fn push_number(out: &mut Buffer, n: u64)
+    requires { array_vec_len out.old ≤ 200 }
+    ensures text { out.new.items ≡ out.old.items ++ spaced (decimal n ∷ []) }
+    ensures short { array_vec_len out.new ≤ array_vec_len out.old + 21 }
+{
+    let mut digits = itoa::Buffer::new();
+    out.push(b' ');
+    push_text(out, digits.format(n).as_bytes());
+}
+
+#[cfg(test)]
+mod tests {
+    use super::*;
+    use std::process::Abort;
+
+    fn prints(rt: &impl Abort, r: Reply, line: &[u8])
+        requires { HasFewSlots r }
+    {
+        let mut out = ArrayVec::new();
+        print_reply(&r, &mut out);
+        assert_eq!(rt; out.as_slice(), line);
+    }
+
+    #[test]
+    fn one_of_each_kind(rt: HostRuntime) {
+        let base = 1 << 32;
+        prints(&rt, Reply::No(Refusal::NoThread), b"no NoThread\n");
+        prints(&rt, Reply::Done, b"ok\n");
+        prints(
+            &rt,
+            Reply::Value(0x0123_4567_89ab_cdef),
+            b"ok 0x0123456789abcdef\n",
+        );
+        prints(&rt, Reply::Count(0), b"ok 0\n");
+        prints(
+            &rt,
+            Reply::Made(base, u64::MAX),
+            b"ok 0x0000000100000000 0xffffffffffffffff\n",
+        );
+        prints(
+            &rt,
+            Reply::Opened(1024, 10),
+            b"ok 1024 0x000000000000000a\n",
+        );
+        let about = Reply::About {
+            base,
+            pages: 2,
+            account: 3,
+            passwords: 4,
+            entries: 5,
+            ext: 1,
+        };
+        prints(&rt, about, b"ok 0x0000000100000000 2 3 4 5 1\n");
+        let slots = Reply::Slots {
+            count: 2,
+            bases: [base, 0, 0, 0, 0, 0, 0, 0],
+        };
+        prints(&rt, slots, b"ok 2 0x0000000100000000 0x0000000000000000\n");
+        prints(
+            &rt,
+            Reply::Turned(After::Faulted(Fault::Opcode)),
+            b"ok Faulted Opcode\n",
+        );
+        prints(&rt, Reply::Ran(255, After::Ended), b"ok 255 Ended\n");
+        prints(
+            &rt,
+            Reply::Funds(u64::MAX, 0, 7),
+            b"ok 18446744073709551615 0 7\n",
+        );
+        prints(
+            &rt,
+            Reply::Collected(16_777_215, 8, 9),
+            b"ok 16777215 8 9\n",
+        );
+    }
+}
