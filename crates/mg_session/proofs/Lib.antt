@@ -1,0 +1,5 @@
+mod PartialLemmas
+mod Results
+mod Searching
+mod Seed
+mod Spelled

@@ -1,0 +1,62 @@
+// The line that is not ended yet.
+ghost use Rattle.std.specs.Prelude.{◌≡◌, ℕ, List, [], ◌∷◌, ◌++◌, false, IfSome};
+ghost use Rattle.std.specs.List.{list_any};
+ghost use Rattle.mg_model.specs.Built.{IsBuilt};
+ghost use Rattle.mg_model.specs.Lines.{built_words, line_of, lines};
+ghost use Rattle.mg_model.specs.Words.{is_newline};
+
+use arrayvec::ArrayVec;
+use mg_model::Line;
+use mg_text::read_line;
+use std::marker::Model;
+
+/// The bytes of a line whose newline has not come yet. Of a line that is too long to be one, no more than its first 257
+/// bytes are kept, which tell as much as all of it.
+#[derive(Drop)]
+pub struct PartialLine {
+    bytes: ArrayVec<u8, 257>,
+}
+
+impl Model for PartialLine {
+    ghost use Rattle.std.specs.Prelude.{◌≡◌, ℕ, List, false};
+    ghost use Rattle.std.specs.List.{list_any};
+    ghost use Rattle.mg_model.specs.Words.{is_newline};
+
+    ghost Value = { List ℕ };
+
+    ghost view = { λ p. p.bytes.items };
+
+    ghost invariant = { λ p. list_any is_newline p.bytes.items ≡ false };
+}
+
+impl PartialLine {
+    /// A line of which nothing has come.
+    pub fn new() -> PartialLine
+        ensures { result ≡ [] }
+    {
+        PartialLine {
+            bytes: ArrayVec::new(),
+        }
+    }
+
+    /// A byte of the line, which is no newline, came. Whatever comes behind it, the lines are the same.
+    pub fn add(&mut self, b: u8)
+        requires { is_newline b ≡ false }
+        ensures same { (rest : List ℕ) → lines built_words (self.old ++ b ∷ rest) ≡ lines built_words (self.new ++ rest) }
+        ensures whole { list_any is_newline self.new ≡ false }
+    {
+        let _ = self.bytes.try_push(b);
+    }
+
+    /// The line's newline came, or the end of the input: what the line spells. The next line begins with nothing.
+    pub fn finish(&mut self) -> Option<Line>
+        ensures line { result ≡ line_of built_words self.old }
+        ensures empty { self.new ≡ [] }
+        ensures whole { list_any is_newline self.old ≡ false }
+        ensures built { IfSome result IsBuilt }
+    {
+        let line = read_line(self.bytes.as_slice());
+        self.bytes.clear();
+        line
+    }
+}

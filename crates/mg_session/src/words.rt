@@ -1,0 +1,294 @@
+// The words of the command line.
+ghost use Rattle.std.specs.Prelude.{◌≡◌, ◌≤◌, length};
+ghost use Rattle.mg_model.specs.Words.{same_bytes};
+ghost use Rattle.mg_session.specs.Commands.{before_colon, byte_of, command_of, dry_of, dry_words, format_of, format_usual, format_with, format_words, seed_of, settings_of, settings_to_make, settings_to_run, settings_with, step_of, step_parts, tariff_of, words_of};
+
+use mg_model::{Params, Tariff};
+use mg_text::{digit, read_number};
+
+/// What the program is asked to do.
+#[derive(Clone, Copy, Debug, PartialEq, Eq)]
+pub enum Command {
+    /// Run the lines of the input on a fresh machine that is kept nowhere.
+    Dry(Params),
+    /// Make a volume.
+    Format(Params),
+}
+
+/// The command that these words spell, which are those behind the program's name; None exactly where they spell none.
+///
+/// They are `VOLUME dry FRAMES SEED CREDITS`, or `VOLUME format FRAMES SEED CREDITS` with nothing behind it (the usual
+/// tariff) or with a tariff, `F:R F:R F:R F:R`, whose steps keep the rule of [`Tariff`]. FRAMES is 16 to 65,536, SEED has 64
+/// hexadecimal digits of either case, CREDITS is at most `2^62`, and numbers are spelled as in a line.
+pub fn read_words(words: &[String]) -> Option<Command>
+    ensures command { result ≡ command_of (words_of words.now) }
+    ensures dry { dry_of (words_of words.now) ≡ settings_to_run result }
+    ensures format { format_of (words_of words.now) ≡ settings_to_make result }
+{
+    match dry(words) {
+        Some(params) => Some(Command::Dry(params)),
+        None => Some(Command::Format(format(words)?)),
+    }
+}
+
+/// The settings that `VOLUME dry FRAMES SEED CREDITS` gives.
+fn dry(words: &[String]) -> Option<Params>
+    ensures { result ≡ dry_of (words_of words.now) }
+{
+    if words.len() != 5 {
+        return None;
+    }
+    dry_words(
+        words[1].as_bytes(),
+        words[2].as_bytes(),
+        words[3].as_bytes(),
+        words[4].as_bytes(),
+    )
+}
+
+/// The settings that these words give, if the first is `dry`.
+fn dry_words(word: &[u8], frames: &[u8], seed: &[u8], credits: &[u8]) -> Option<Params>
+    ensures { result ≡ dry_words word.now frames.now seed.now credits.now }
+{
+    if is_word(word, b"dry") {
+        settings(frames, seed, credits)
+    } else {
+        None
+    }
+}
+
+/// The settings that `VOLUME format FRAMES SEED CREDITS` gives, with or without a tariff.
+fn format(words: &[String]) -> Option<Params>
+    ensures { result ≡ format_words (words_of words.now) }
+{
+    match words {
+        [_, word, frames, seed, credits] => format_usual(
+            word.as_bytes(),
+            frames.as_bytes(),
+            seed.as_bytes(),
+            credits.as_bytes(),
+        ),
+        [_, word, frames, seed, credits, a, b, c, d] => format_with(
+            tariff(a.as_bytes(), b.as_bytes(), c.as_bytes(), d.as_bytes()),
+            word.as_bytes(),
+            frames.as_bytes(),
+            seed.as_bytes(),
+            credits.as_bytes(),
+        ),
+        _ => None,
+    }
+}
+
+/// The settings that these words give with the usual tariff, if the first is `format`.
+fn format_usual(word: &[u8], frames: &[u8], seed: &[u8], credits: &[u8]) -> Option<Params>
+    ensures { result ≡ format_usual word.now frames.now seed.now credits.now }
+{
+    if is_word(word, b"format") {
+        settings(frames, seed, credits)
+    } else {
+        None
+    }
+}
+
+/// The settings that these words give with a tariff, if there is one and the first is `format`.
+fn format_with(
+    tariff: Option<Tariff>,
+    word: &[u8],
+    frames: &[u8],
+    seed: &[u8],
+    credits: &[u8],
+) -> Option<Params>
+    ensures { result ≡ format_with tariff word.now frames.now seed.now credits.now }
+{
+    if is_word(word, b"format") {
+        settings_with(tariff?, frames, seed, credits)
+    } else {
+        None
+    }
+}
+
+/// Whether a word is this one.
+fn is_word(word: &[u8], known: &[u8]) -> bool
+    ensures { result ≡ same_bytes word.now known.now }
+{
+    word == known
+}
+
+/// The settings of a volume with the usual tariff.
+fn settings(frames: &[u8], seed: &[u8], credits: &[u8]) -> Option<Params>
+    ensures { result ≡ settings_of frames.now seed.now credits.now }
+{
+    let frames = read_number(frames)?;
+    let seed = read_seed(seed)?;
+    let credits = read_number(credits)?;
+    if frames < 16 || frames > 65536 {
+        return None;
+    }
+    Params::new(frames, seed, credits, Tariff::usual(frames))
+}
+
+/// The settings of a volume with this tariff.
+fn settings_with(tariff: Tariff, frames: &[u8], seed: &[u8], credits: &[u8]) -> Option<Params>
+    ensures { result ≡ settings_with tariff frames.now seed.now credits.now }
+{
+    Params::new(
+        read_number(frames)?,
+        read_seed(seed)?,
+        read_number(credits)?,
+        tariff,
+    )
+}
+
+/// The tariff that four words give, if it keeps the rule.
+fn tariff(a: &[u8], b: &[u8], c: &[u8], d: &[u8]) -> Option<Tariff>
+    ensures { result ≡ tariff_of a.now b.now c.now d.now }
+{
+    Tariff::new([step(a)?, step(b)?, step(c)?, step(d)?])
+}
+
+/// The step that `F:R` gives.
+fn step(word: &[u8]) -> Option<(u64, u64)>
+    ensures { result ≡ step_of word.now }
+{
+    let (from, rest) = word.split_at(before_colon(word));
+    step_parts(from, rest)
+}
+
+/// The step of a number and what stands behind it, which begins with a colon.
+fn step_parts(from: &[u8], rest: &[u8]) -> Option<(u64, u64)>
+    ensures { result ≡ step_parts from.now rest.now }
+{
+    match rest {
+        [_, rate @ ..] => Some((read_number(from)?, read_number(rate)?)),
+        [] => None,
+    }
+}
+
+/// How many bytes stand before the first colon.
+fn before_colon(word: &[u8]) -> usize
+    ensures count { result ≡ before_colon word.now }
+    ensures within { result ≤ length word.now }
+{
+    word.iter().take_while(|b| **b != b':').count()
+}
+
+/// The byte of two hexadecimal digits, the high one first.
+fn byte(high: u8, low: u8) -> Option<u8>
+    ensures { result ≡ byte_of high low }
+{
+    Some(16 * digit(16, high)? + digit(16, low)?)
+}
+
+/// The seed that 64 hexadecimal digits spell.
+fn read_seed(word: &[u8]) -> Option<[u8; 32]>
+    ensures { result ≡ seed_of word.now }
+{
+    if word.len() != 64 {
+        return None;
+    }
+    let mut seed = [0; 32];
+    for i in 0..32 {
+        seed[i] = byte(word[2 * i], word[2 * i + 1])?;
+    }
+    Some(seed)
+}
+
+#[cfg(test)]
+mod tests {
+    use super::*;
+    use std::alloc::{AllocError, Global};
+    use std::test::Fail;
+
+    /// A seed in both cases of its digits.
+    const SEED: &str = "000102030405060708090a0b0c0d0e0fF0E0D0C0B0A090807060504030201000";
+
+    /// What the words before and behind a seed spell with it; words are parted by single spaces.
+    fn read(
+        alloc: Global,
+        before: &str,
+        seed: &str,
+        behind: &str,
+    ) -> Result<Option<Command>, AllocError> {
+        let text = format!(in alloc; "{before}{seed}{behind}")?;
+        let mut words = Vec::new(alloc);
+        for word in text.as_str().split(' ') {
+            words.push(String::from_str(alloc, word)?)?;
+        }
+        Ok(read_words(&words))
+    }
+
+    #[test]
+    fn reads_each_form(rt: HostRuntime) -> Result<(), Fail> {
+        let rows = [
+            ("vol dry 64 ", SEED, " 1000", true),
+            ("dry dry 0x10 ", SEED, " 0x3e8", true),
+            ("vol dry 16 ", SEED, " 0", true),
+            ("vol dry 65536 ", SEED, " 4611686018427387904", true),
+            ("vol dry 15 ", SEED, " 0", false),
+            ("vol dry 65537 ", SEED, " 0", false),
+            ("vol dry 64 ", SEED, " 4611686018427387905", false),
+            ("vol dry 64 ", SEED, "", false),
+            ("vol dry 64 ", SEED, " 1000 1", false),
+            ("dry 64 ", SEED, " 1000", false),
+            ("vol Dry 64 ", SEED, " 1000", false),
+            ("vol dry -1 ", SEED, " 1000", false),
+            ("vol dry 64 ", SEED, " x", false),
+            ("vol dry 64 0", SEED, " 1000", false),
+            ("vol dry 64 ", "0g", " 1000", false),
+            ("vol dry 64 0x", SEED, " 1000", false),
+            ("vol dry 64 ", SEED, " 1000 0:1 16:2 32:4 48:8", false),
+            ("vol format 64 ", SEED, " 1000", true),
+            ("vol format 15 ", SEED, " 1000", false),
+            ("vol Format 64 ", SEED, " 1000", false),
+            ("vol format 64 ", SEED, " 1000 0:1 1:0 2:0 3:0", true),
+            (
+                "vol format 64 ",
+                SEED,
+                " 1000 0:1048576 1:2 2:4 1048576:8",
+                true,
+            ),
+            // Three steps, five, not from 0, not rising, and numbers above 2^20.
+            ("vol format 64 ", SEED, " 1000 0:1 16:2 32:4", false),
+            (
+                "vol format 64 ",
+                SEED,
+                " 1000 0:1 16:2 32:4 48:8 64:9",
+                false,
+            ),
+            ("vol format 64 ", SEED, " 1000 1:1 16:2 32:4 48:8", false),
+            ("vol format 64 ", SEED, " 1000 0:1 16:2 16:4 48:8", false),
+            ("vol format 64 ", SEED, " 1000 0:1 1:2 2:4 1048577:8", false),
+            ("vol format 64 ", SEED, " 1000 0:1 1:2 2:4 3:1048577", false),
+            ("vol format 64 ", SEED, " 1000 0:1 1:2 2:4 3", false),
+            ("vol format 64 ", SEED, " 1000 0:1 1:2 2:4 3:4:5", false),
+            ("vol format 64 ", SEED, " 1000 0:1 1:2 2:4 :8", false),
+            ("vol format 15 ", SEED, " 1000 0:1 1:2 2:4 3:8", false),
+        ];
+        for (before, seed, behind, spelled) in rows {
+            let command = read(rt.alloc(), before, seed, behind)?;
+            assert_eq!(rt; command.is_some(), spelled, "{before}{seed}{behind}");
+        }
+        Ok(())
+    }
+
+    #[test]
+    fn reads_what_is_spelled(rt: HostRuntime) -> Result<(), Fail> {
+        let seed = [
+            0, 1, 2, 3, 4, 5, 6, 7, 8, 9, 10, 11, 12, 13, 14, 15, 0xf0, 0xe0, 0xd0, 0xc0, 0xb0,
+            0xa0, 0x90, 0x80, 0x70, 0x60, 0x50, 0x40, 0x30, 0x20, 0x10, 0,
+        ];
+        let params = Params::new(0x40, seed, 1000, Tariff::usual(64)).ok_or("limits")?;
+        let command = read(rt.alloc(), "vol dry 0x40 ", SEED, " 1000")?;
+        assert_eq!(rt; command, Some(Command::Dry(params)));
+        let tariff = Tariff::new([(0, 1), (16, 20), (32, 3), (48, 0)]).ok_or("tariff")?;
+        let params = Params::new(64, seed, 0, tariff).ok_or("limits")?;
+        let command = read(
+            rt.alloc(),
+            "vol format 64 ",
+            SEED,
+            " 0 0:1 0x10:020 32:3 48:0",
+        )?;
+        assert_eq!(rt; command, Some(Command::Format(params)));
+        Ok(())
+    }
+}
