@@ -1,0 +1,124 @@
+//! The program: the words of its command line, the file that the first of them names, its standard input and its standard
+//! output, handed to [`mg_session::top`].
+//!
+//! What it then does, and with which status it ends, is what `top` ensures of the words, the disk, the source and the sink.
+//! Nothing is held back on the way: each reply is written by the time that the next line is waited for.
+#![tactic(auto)]
+
+ghost use Rattle.std.specs.Prelude.{◌≡◌, ◌<◌};
+
+use mg_disk::{Disk, FileDisk};
+use mg_io::{ReaderSource, Sink, Source, WriterSink};
+use mg_model::Steps;
+use mg_session::{Status, top};
+use std::alloc::Global;
+use std::marker::Brand;
+use std::process::ExitCode;
+use std::rt::Env;
+use std::sync::ledger::{Blank, Ledger};
+use std::{env, io};
+
+/// The exit status where the program cannot have its words: one is no text, or memory is wanting.
+const NO_WORDS: u8 = 9;
+
+fn main(rt: HostRuntime) -> ExitCode {
+    let Ok(words) = words_of(&rt) else {
+        return ExitCode::from(NO_WORDS);
+    };
+    let mut disk = FileDisk::new(&rt, volume(&words));
+    let mut source = ReaderSource::new(rt.stdin());
+    let mut sink = WriterSink::new(rt.stdout());
+    let status = run::<_, _, _, Brand>(
+        rt.alloc(),
+        &words,
+        &mut disk,
+        &mut source,
+        &mut sink,
+        Blank::new(1),
+    );
+    ExitCode::from(status.code())
+}
+
+/// The words behind the program's name.
+fn words_of<R: Env + AllocGlobal>(rt: &R) -> io::Result<Vec<String>> {
+    Ok(env::args(rt)?.skip(1).collect(rt.alloc())?)
+}
+
+/// The file of the volume: the first word, or the empty one where there is none.
+fn volume(words: &[String]) -> &str {
+    match words.first() {
+        Some(word) => word.as_str(),
+        None => "",
+    }
+}
+
+/// The top call, with a count of steps of its own.
+fn run<D: Disk, S: Source, K: Sink, L: Ledger>(
+    alloc: Global,
+    words: &[String],
+    disk: &mut D,
+    source: &mut S,
+    sink: &mut K,
+    blank: Blank,
+) -> Status
+    requires name { blank.name ≡ L.name }
+    requires parts { blank.parts ≡ L.parts }
+    requires some { 0 < blank.parts }
+{
+    let mut steps = Steps::<L>::new(blank);
+    top(alloc, words, disk, source, sink, &mut steps)
+}
+
+#[cfg(test)]
+mod tests {
+    use super::*;
+    use mg_io::{MemSink, MemSource};
+    use std::fs;
+    use std::test::Fail;
+
+    const SEED: &str = "0000000000000000000000000000000000000000000000000000000000000000";
+
+    fn made(alloc: Global, words: &[String], disk: &mut impl Disk, sink: &mut MemSink) -> Status {
+        let mut source = MemSource::new(Vec::new(alloc), 1, Vec::new(alloc));
+        run::<_, _, _, Brand>(alloc, words, disk, &mut source, sink, Blank::new(1))
+    }
+
+    #[test]
+    fn a_file_becomes_a_fresh_volume(rt: HostRuntime) -> Result<(), Fail> {
+        let _ = fs::remove_file(&rt, "fresh");
+        let mut words = Vec::new(rt.alloc());
+        for word in ["fresh", "format", "64", SEED, "1000"] {
+            words.push(String::from_str(rt.alloc(), word)?)?;
+        }
+        let mut sink = MemSink::new(rt.alloc(), 256, Vec::new(rt.alloc()))?;
+        let mut disk = FileDisk::new(&rt, volume(&words));
+        let status = made(rt.alloc(), &words, &mut disk, &mut sink);
+        assert_eq!(rt; status.code(), 0);
+        let line = b"ok 0x0000000100000000 0x903df1a0ade0b876 0x28bd8653e56a5d40\n";
+        assert_eq!(rt; sink.bytes(), line.as_slice());
+        let bytes = fs::read(&rt, "fresh")?;
+        // The gate, the superblock's first fields, the root's page in the frame table, and the page itself.
+        for (place, part) in [
+            (0, b"\xa5\0\0\0\0\0\0\0".as_slice()),
+            (
+                4096,
+                b"MUNGIVOL\x02\0\0\0\0\0\0\0\x40\0\0\0\0\0\0\0".as_slice(),
+            ),
+            (2595 * 4096, b"\0\0\x10\0\0\0\0\0\0".as_slice()),
+            (
+                2596 * 4096,
+                b"\x01\0\0\0\0\0\0\0\0\0\0\0\0\0\0\0\0\0\0\0\x01\0\0\0".as_slice(),
+            ),
+            (
+                2596 * 4096 + 24,
+                b"\x76\xb8\xe0\xad\xa0\xf1\x3d\x90\0".as_slice(),
+            ),
+        ] {
+            let there = bytes.get(place..place + part.len());
+            assert_eq!(rt; there, Some(part), "at {place}");
+        }
+        assert_eq!(rt; bytes.len(), 2597 * 4096);
+        fs::remove_file(&rt, "fresh")?;
+        Ok(())
+    }
+}
