@@ -9,6 +9,7 @@ pub mod Cutting
 pub mod Domains
 pub mod Draw
 pub mod DrawnWords
+pub mod FewSlots
 pub mod Filled
 pub mod Fresh
 pub mod FreshFormed

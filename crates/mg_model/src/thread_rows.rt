@@ -45,10 +45,9 @@ impl Model for ThrRow {
 }
 
 impl ThrRow {
-    /// A thread that is Ready, with registers 0 and this frame alone. The creator's birth number is below its own, which
-    /// is below `2^32`; the pc is a multiple of 8, and the frame returns to 0.
+    /// A thread that is Ready, with registers 0 and this frame alone. The creator's birth number is below its own; the pc
+    /// is a multiple of 8, and the frame returns to 0.
     pub fn new(birth: u64, creator: u64, pc: u64, first: Frame) -> ThrRow
-        requires born { birth < 2 ^ 32 }
         requires created { creator < birth }
         requires aligned { pc % 8 ≡ 0 }
         requires bottom { first.back ≡ 0 }

@@ -2,7 +2,7 @@
 ghost use Rattle.std.specs.Prelude.{◌≡◌, ◌+◌, ◌<◌, ◌≤◌, ◌++◌, IfOk};
 ghost use Rattle.mg_model.specs.Print.{reply_line};
 ghost use Rattle.mg_session.specs.Waiting.{no_replies};
-ghost use Rattle.mg_text.specs.Replies.{HasFewSlots};
+ghost use Rattle.mg_model.specs.FewSlots.{HasFewSlots};
 
 use arrayvec::ArrayVec;
 use mg_model::Reply;

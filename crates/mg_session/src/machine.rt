@@ -6,7 +6,7 @@ ghost use Rattle.mg_model.specs.Built.{IsBuilt};
 ghost use Rattle.mg_model.specs.Fresh.{first_thread, fresh, root_object};
 ghost use Rattle.mg_model.specs.Access.{at};
 ghost use Rattle.mg_session.specs.Searching.{access_refusal};
-ghost use Rattle.mg_text.specs.Replies.{HasFewSlots};
+ghost use Rattle.mg_model.specs.FewSlots.{HasFewSlots};
 
 use crate::access::{known, put_word, reached, thread_of};
 use crate::live::{LiveObject, LiveThread};

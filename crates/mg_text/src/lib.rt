@@ -14,6 +14,6 @@ mod words;
 
 pub use lines::read_line;
 pub use numbers::{digit, read_number};
-pub use outcomes::{print_small, print_words};
+pub use outcomes::{print_numbers, print_small, print_words};
 pub use replies::print_reply;
 pub use rights::read_rights;

@@ -1,5 +1,6 @@
 // From the outcome of a command to its line.
-ghost use Rattle.std.specs.Prelude.{◌≡◌, ◌∷◌, ◌++◌, [], codes};
+ghost use Rattle.std.specs.Prelude.{◌≡◌, ◌+◌, ◌≤◌, ◌∷◌, ◌++◌, [], codes};
+ghost use Rattle.arrayvec.specs.ArrayVec.{array_vec_len};
 ghost use Rattle.std.specs.Fmt.{decimal};
 ghost use Rattle.mg_model.specs.Print.{hex_text, ok_text, spaced};
 
@@ -28,4 +29,36 @@ pub fn print_small(need: u64, have: u64, out: &mut ArrayVec<u8, 256>)
     push_number(out, need);
     push_number(out, have);
     push_text(out, b"\n");
+}
+
+/// Writes `ok` and seven numbers in decimal as a line, with its newline, into an empty buffer.
+pub fn print_numbers(
+    first: u64,
+    second: u64,
+    third: u64,
+    fourth: u64,
+    fifth: u64,
+    sixth: u64,
+    seventh: u64,
+    out: &mut ArrayVec<u8, 256>,
+)
+    requires empty { out.old.items ≡ [] }
+    ensures { out.new.items ≡ ok_text (decimal first ∷ decimal second ∷ decimal third ∷ decimal fourth ∷ decimal fifth ∷ decimal sixth ∷ decimal seventh ∷ []) ++ 10 ∷ [] }
+{
+    push_text(out, b"ok");
+    push_three(out, first, second, third);
+    push_three(out, fourth, fifth, sixth);
+    push_number(out, seventh);
+    push_text(out, b"\n");
+}
+
+/// Three numbers in decimal, each behind a space.
+fn push_three(out: &mut ArrayVec<u8, 256>, first: u64, second: u64, third: u64)
+    requires { array_vec_len out.old ≤ 128 }
+    ensures text { out.new.items ≡ out.old.items ++ spaced (decimal first ∷ decimal second ∷ decimal third ∷ []) }
+    ensures short { array_vec_len out.new ≤ array_vec_len out.old + 63 }
+{
+    push_number(out, first);
+    push_number(out, second);
+    push_number(out, third);
 }

@@ -3,7 +3,7 @@ ghost use Rattle.std.specs.Prelude.{◌≡◌, ◌+◌, ◌≤◌, ◌<◌, [], 
 ghost use Rattle.std.specs.Fmt.{decimal};
 ghost use Rattle.arrayvec.specs.ArrayVec.{array_vec_len};
 ghost use Rattle.mg_model.specs.Print.{after_text, hex_digit, hex_digits, hex_text, refusal_text, reply_line, reply_text, spaced};
-ghost use Rattle.mg_text.specs.Replies.{HasFewSlots};
+ghost use Rattle.mg_model.specs.FewSlots.{HasFewSlots};
 
 use arrayvec::ArrayVec;
 use mg_model::{After, Fault, Refusal, Reply};

@@ -1,4 +1,4 @@
--- What a reply that is printed has to keep.
+-- How many slots a reply may tell of.
 use Rattle.std.specs.Prelude.{◌≤◌}
 use Rattle.mg_model.specs.declared.replies.Reply.{Reply}
 use Rattle.mg_model.specs.declared.replies.Reply.TheVariants as reply
