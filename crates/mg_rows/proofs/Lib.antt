@@ -1,3 +1,9 @@
+pub mod ObjectFields
 pub mod ObjectKeeps
+pub mod ObjectLists
 pub mod ObjectRows
+pub mod ObjectWhole
 pub mod Reading
+pub mod ThreadKeeps
+pub mod ThreadReads
+pub mod ThreadRows

@@ -1,8 +1,8 @@
-//! Rows as bytes: accounts and the globals, read and written, and objects, written.
+//! Rows as bytes: accounts, threads, objects and the globals, read and written.
 //!
 //! A layer above learns what some bytes spell: nothing, that a row is free ([`Spelled::Free`]), or a row. A row is spelled
-//! in one way alone, so a reader takes it exactly where writing it gives the bytes back, and an account or the globals are
-//! read as they were written. Of an object the writer's bytes are told; they are not read back here.
+//! in one way alone, so a reader takes it exactly where its fields keep their rules and writing them gives the bytes back,
+//! and what was written is read as it was.
 //!
 //! How each row is spelled is defined in `mg_model`, in `Spelling`; `specs/Answers.antt` says how a reader's answer stands
 //! for what is read there.
@@ -12,10 +12,13 @@ mod accounts;
 mod bytes;
 mod filling;
 mod globals;
+mod object_parts;
 mod objects;
 mod spelled;
+mod threads;
 
 pub use accounts::{read_account, write_account};
 pub use globals::{read_globals, write_globals};
-pub use objects::write_object;
+pub use objects::{read_object, write_object};
 pub use spelled::Spelled;
+pub use threads::{read_thread, write_thread};

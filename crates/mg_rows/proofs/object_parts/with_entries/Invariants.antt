@@ -1,0 +1,12 @@
+use Rattle.std.proofs.Common.{◌≡◌, true}
+use Rattle.std.specs.List.{list_all}
+use Rattle.mg_model.specs.Bytes.{numbers_at}
+use Rattle.mg_model.specs.Tests.{all_distinct, is_entry_of}
+use Rattle.mg_rows.proofs.object_parts.with_entries.Given as goal
+
+abbrev pub invariant-loop-k : goal.invariant-loop-k
+invariant-loop-k l = record {
+  value : l.filled ≡ record l.row { entries = numbers_at l.b 368 l.k };
+  rule : list_all (is_entry_of l.row.base l.row.pages) (numbers_at l.b 368 l.k) ≡ true;
+  distinct : all_distinct (numbers_at l.b 368 l.k) ≡ true;
+}

@@ -1,0 +1,13 @@
+use Rattle.std.proofs.Common.{◌≡◌, true}
+use Rattle.std.specs.List.{list_all}
+use Rattle.mg_model.specs.Spelling.{frames_at}
+use Rattle.mg_model.specs.Tests.{is_call_frame}
+use Rattle.mg_rows.specs.ThreadParts.{with_frames}
+use Rattle.mg_rows.proofs.threads.with_frames.Given as goal
+
+-- the frames so far are those of the bytes, and each keeps its rule
+abbrev pub invariant-loop-place : goal.invariant-loop-place
+invariant-loop-place l = record {
+  row : l.row ≡ with_frames l.b l.place;
+  kept : list_all is_call_frame (frames_at l.b 128 l.place) ≡ true;
+}

@@ -1,0 +1,29 @@
+-- Parts of a thread's row.
+use Rattle.std.specs.Prelude.{ℕ, ◌%◌, ◌==◌, ◌&&◌, nat_lt, Bool, List, [], ◌∷◌, length}
+use Rattle.mg_model.specs.Bytes.{number_at, numbers_at}
+use Rattle.mg_model.specs.Spelling.{frame_at, frames_at, state_number, state_numbered}
+use Rattle.mg_model.specs.State.{ThreadRow}
+use Rattle.mg_model.specs.Tests.{is_call_frame}
+
+-- the words that it begins with
+abbrev pub head_words : ThreadRow → List ℕ
+head_words row = 1 ∷ row.birth ∷ row.creator ∷ row.pc ∷ state_number row.state ∷ length row.frames ∷ []
+
+-- the thread that these bytes spell, with so many frames
+abbrev pub with_frames : List ℕ → ℕ → ThreadRow
+with_frames bytes n = record {
+  birth = number_at bytes 8;
+  creator = number_at bytes 16;
+  pc = number_at bytes 24;
+  state = state_numbered (number_at bytes 32);
+  registers = numbers_at bytes 64 8;
+  frames = frames_at bytes 128 n;
+}
+
+-- whether all but the later frames keeps its rule
+abbrev pub begins : List ℕ → Bool
+begins bytes =
+    nat_lt (number_at bytes 16) (number_at bytes 8)
+    && number_at bytes 24 % 8 == 0
+    && is_call_frame (frame_at bytes 128)
+    && (frame_at bytes 128).back == 0

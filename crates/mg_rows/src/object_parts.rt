@@ -1,0 +1,159 @@
+// The parts of an object's row, read one after the other.
+ghost use Rattle.std.specs.Prelude.{◌≡◌, ◌<◌, ◌&&◌, [], length, not};
+ghost use Rattle.mg_model.specs.ObjectCalls.{is_entry};
+ghost use Rattle.mg_model.specs.Spelling.{extension_at, object_fields};
+ghost use Rattle.mg_model.specs.Tests.{is_entry_of, is_object_row, is_password, is_place};
+ghost use Rattle.mg_rows.specs.ObjectParts.{are_entries, are_passwords, entries_in, is_extension, is_placed, password_at, passwords_in, placed_row, some_if};
+
+use crate::bytes::number_at;
+use mg_model::{ObjRow, Pw, Rights, Slot};
+
+/// The bytes of a page, the first page that an object may have, and the one behind the last.
+const PAGE: u64 = 4096;
+
+const FIRST_PAGE: u64 = 1 << 20;
+
+const PAGE_END: u64 = 1 << 40;
+
+/// How many password rows and how many entries an object may have.
+const PASSWORD_LIMIT: u64 = 32;
+
+const ENTRY_LIMIT: u64 = 16;
+
+/// The fields of an object's 1,024 bytes, where they keep their rules.
+pub(crate) fn fields(b: &[u8]) -> Option<ObjRow>
+    requires { length b.now ≡ 1024 }
+    ensures { result ≡ some_if (is_object_row (object_fields b.now)) (object_fields b.now) }
+{
+    let placed = placed(b)?;
+    let opened = with_passwords(&placed, b)?;
+    let entered = with_entries(&opened, b)?;
+    with_extension(&entered, b)
+}
+
+// Where it lies and who pays for it.
+fn placed(b: &[u8]) -> Option<ObjRow>
+    requires { length b.now ≡ 1024 }
+    ensures { result ≡ some_if (is_placed (placed_row b.now)) (placed_row b.now) }
+{
+    let base = number_at(b, 8);
+    let pages = number_at(b, 16);
+    let account = number_at(b, 24);
+    if is_place(base, pages) && account >= 1 && account <= 1024 {
+        Some(ObjRow::new(base, pages, account))
+    } else {
+        None
+    }
+}
+
+fn is_place(base: u64, pages: u64) -> bool
+    ensures { result ≡ is_place base pages }
+{
+    base % PAGE == 0
+        && base / PAGE >= FIRST_PAGE
+        && pages >= 1
+        && pages <= 1024
+        && base / PAGE + pages <= PAGE_END
+}
+
+// With its password rows.
+fn with_passwords(row: &ObjRow, b: &[u8]) -> Option<ObjRow>
+    requires long { length b.now ≡ 1024 }
+    requires bare { row.now.passwords ≡ [] }
+    ensures { result ≡ some_if (are_passwords (passwords_in b.now)) (record row.now { passwords = passwords_in b.now }) }
+{
+    let count = number_at(b, 32);
+    if count > PASSWORD_LIMIT {
+        return None;
+    }
+    let mut filled = *row;
+    for k in 0..count as usize {
+        filled.add_password(password_at(b, k)?);
+    }
+    Some(filled)
+}
+
+// The password row at this place.
+fn password_at(b: &[u8], k: usize) -> Option<Pw>
+    requires long { length b.now ≡ 1024 }
+    requires within { k < 32 }
+    ensures { result ≡ some_if (is_password (password_at b.now k)) (password_at b.now k) }
+{
+    let until = number_at(b, 496 + 8 * k);
+    if until < 1 || until > Pw::NEVER {
+        return None;
+    }
+    match Rights::new(b[336 + k]) {
+        Some(rights) => Some(Pw {
+            password: number_at(b, 80 + 8 * k),
+            rights,
+            until,
+        }),
+        None => None,
+    }
+}
+
+// With its entries.
+fn with_entries(row: &ObjRow, b: &[u8]) -> Option<ObjRow>
+    requires long { length b.now ≡ 1024 }
+    requires bare { row.now.entries ≡ [] }
+    ensures { result ≡ some_if (are_entries row.now.base row.now.pages (entries_in b.now)) (record row.now { entries = entries_in b.now }) }
+{
+    let count = number_at(b, 40);
+    if count > ENTRY_LIMIT {
+        return None;
+    }
+    let mut filled = *row;
+    for k in 0..count as usize {
+        let address = number_at(b, 368 + 8 * k);
+        if !may_be_entry(&filled, address) {
+            return None;
+        }
+        filled.add_entry(address);
+    }
+    Some(filled)
+}
+
+// Whether this may be one entry more.
+fn may_be_entry(row: &ObjRow, address: u64) -> bool
+    ensures { result ≡ (is_entry_of row.now.base row.now.pages address && not (is_entry row.now address)) }
+{
+    address % 8 == 0 && row.covers(address) && !row.is_entry(address)
+}
+
+// With its extension.
+fn with_extension(row: &ObjRow, b: &[u8]) -> Option<ObjRow>
+    requires { length b.now ≡ 1024 }
+    ensures { result ≡ some_if (is_extension (extension_at b.now)) (record row.now { extension = extension_at b.now }) }
+{
+    let ext = extension_at(b);
+    if !is_extension(ext) {
+        return None;
+    }
+    let mut filled = *row;
+    filled.set_ext(ext);
+    Some(filled)
+}
+
+fn extension_at(b: &[u8]) -> Option<Slot>
+    requires { length b.now ≡ 1024 }
+    ensures { result ≡ extension_at b.now }
+{
+    if number_at(b, 48) == 1 {
+        Some(Slot {
+            base: number_at(b, 56),
+            password: number_at(b, 64),
+        })
+    } else {
+        None
+    }
+}
+
+fn is_extension(ext: Option<Slot>) -> bool
+    ensures { result ≡ is_extension ext }
+{
+    match ext {
+        Some(slot) => slot.base != 0,
+        None => true,
+    }
+}

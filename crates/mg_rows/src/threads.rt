@@ -1,0 +1,300 @@
+// The rows of threads.
+ghost use Rattle.std.specs.Prelude.{◌≡◌, ◌≤◌, ◌+◌, ◌-◌, ◌*◌, ◌==◌, ◌++◌, ◌∷◌, [], flat_map, if◌then◌else◌, replicate, length, Some, true};
+ghost use Rattle.std.specs.List.{list_all};
+ghost use Rattle.std.specs.Option.{option_map_or};
+ghost use Rattle.mg_model.specs.Bytes.{number_at, numbers_at, padded_to, words_bytes};
+ghost use Rattle.mg_model.specs.Ranges.{IsThreadRow};
+ghost use Rattle.mg_model.specs.Spelling.{frame_at, frame_bytes, frames_at, slot_words, slots_at, state_number, state_numbered, thread_bytes, thread_fields, thread_read};
+ghost use Rattle.mg_model.specs.Tests.{is_call_frame, is_thread_row};
+ghost use Rattle.mg_model.specs.Words.{same_bytes};
+ghost use Rattle.mg_rows.specs.Answers.{as_read};
+ghost use Rattle.mg_rows.specs.ThreadParts.{begins, head_words, with_frames};
+
+use crate::bytes::{are_zeros, number_at};
+use crate::filling::Filling;
+use crate::spelled::Spelled;
+use mg_disk::{BLOCK_SIZE, Block};
+use mg_model::{Fault, Frame, Slot, ThrRow, ThrState};
+
+/// The bytes of a frame.
+const FRAME: usize = 144;
+
+/// Where the first frame begins in a thread's row.
+const FIRST_FRAME: usize = 128;
+
+/// How many frames a thread may have.
+const MOST_FRAMES: u64 = 16;
+
+/// What a block spells of a thread.
+pub fn read_thread(b: &Block) -> Option<Spelled<ThrRow>>
+    ensures { as_read result ≡ thread_read b.now }
+{
+    if are_zeros(b) {
+        return Some(Spelled::Free);
+    }
+    match fields(b) {
+        Some(row) => {
+            if is_spelling(&row, b) {
+                Some(Spelled::Row(row))
+            } else {
+                None
+            }
+        }
+        None => None,
+    }
+}
+
+/// Spells a thread, or a free row, in a block. It is read back.
+pub fn write_thread(r: Option<&ThrRow>, out: &mut Block)
+    ensures spelled { out.new ≡ option_map_or (λ row. thread_bytes row.now) r.entry (replicate 4096 0) }
+    ensures read_back { thread_read out.new ≡ Some (option_map_or (λ row. Some row.now) r.entry None) }
+{
+    match r {
+        Some(row) => *out = spelling(row),
+        None => *out = [0; BLOCK_SIZE],
+    }
+}
+
+// Whether this thread has these bytes.
+fn is_spelling(row: &ThrRow, b: &Block) -> bool
+    ensures { result ≡ same_bytes (thread_bytes row.now) b.now }
+{
+    spelling(row) == *b
+}
+
+// The bytes of this thread.
+fn spelling(row: &ThrRow) -> Block
+    ensures spelled { result ≡ thread_bytes row.now }
+    ensures read_back { thread_read result ≡ Some (Some row.now) }
+{
+    let mut filling = Filling::new();
+    add_head(row, &mut filling);
+    filling.add_words(&row.registers());
+    add_frames(row.frames(), &mut filling);
+    filling.whole()
+}
+
+// What a thread's row begins with.
+fn add_head(row: &ThrRow, filling: &mut Filling<BLOCK_SIZE>)
+    requires { filling.old ≡ [] }
+    ensures spelled { filling.new ≡ padded_to 64 (words_bytes (head_words row.now)) }
+    ensures long { length filling.new ≡ 64 }
+    ensures kept { IsThreadRow row.now }
+{
+    filling.add_words(&[
+        1,
+        row.birth(),
+        row.creator(),
+        row.pc(),
+        state_number(row.state()),
+        row.frames().len() as u64,
+    ]);
+    filling.skip(16);
+}
+
+fn state_number(state: ThrState) -> u64
+    ensures { result ≡ state_number state }
+{
+    match state {
+        ThrState::Ready => 0,
+        ThrState::Stopped => 1,
+        ThrState::Faulted(Fault::Align) => 2,
+        ThrState::Faulted(Fault::Denied) => 3,
+        ThrState::Faulted(Fault::Opcode) => 4,
+    }
+}
+
+fn add_frames(frames: &[Frame], filling: &mut Filling<BLOCK_SIZE>)
+    requires { length filling.old + 144 * length frames.now ≤ 4096 }
+    ensures value { filling.new ≡ filling.old ++ flat_map frame_bytes frames.now }
+    ensures long { length filling.new ≡ length filling.old + 144 * length frames.now }
+{
+    for frame in frames {
+        add_frame(frame, filling);
+    }
+}
+
+// A frame, and zeros in place of the slots that it has not.
+fn add_frame(frame: &Frame, filling: &mut Filling<BLOCK_SIZE>)
+    requires { length filling.old + 144 ≤ 4096 }
+    ensures value { filling.new ≡ filling.old ++ frame_bytes frame.now }
+    ensures long { length filling.new ≡ length filling.old + 144 }
+{
+    let slots = frame.slots();
+    filling.add_words(&[frame.back(), slots.len() as u64]);
+    add_slots(slots, filling);
+    filling.skip(128 - 16 * slots.len());
+}
+
+fn add_slots(slots: &[Slot], filling: &mut Filling<BLOCK_SIZE>)
+    requires { length filling.old + 16 * length slots.now ≤ 4096 }
+    ensures value { filling.new ≡ filling.old ++ words_bytes (flat_map slot_words slots.now) }
+    ensures long { length filling.new ≡ length filling.old + 16 * length slots.now }
+{
+    for slot in slots {
+        filling.add_words(&[slot.base, slot.password]);
+    }
+}
+
+// The fields of a thread, where they keep their rule.
+fn fields(b: &Block) -> Option<ThrRow>
+    ensures { result ≡ (if is_thread_row (thread_fields b.now) then Some (thread_fields b.now) else None) }
+{
+    let count = number_at(b, 40);
+    if count < 1 || count > MOST_FRAMES {
+        return None;
+    }
+    match begun(b) {
+        Some(row) => with_frames(row, b, count as usize),
+        None => None,
+    }
+}
+
+// The thread with its first frame alone, where these keep their rules.
+fn begun(b: &Block) -> Option<ThrRow>
+    ensures { result ≡ (if begins b.now then Some (with_frames b.now 1) else None) }
+{
+    let birth = number_at(b, 8);
+    let creator = number_at(b, 16);
+    let pc = number_at(b, 24);
+    if creator >= birth || pc % 8 != 0 {
+        return None;
+    }
+    match frame_in(b, FIRST_FRAME) {
+        Some(first) => {
+            if !is_bottom(&first) {
+                return None;
+            }
+            let mut row = ThrRow::new(birth, creator, pc, first);
+            row.set_state(state_numbered(number_at(b, 32)));
+            set_registers(&mut row, b);
+            Some(row)
+        }
+        None => None,
+    }
+}
+
+// Whether a frame may be the first: it returns to 0.
+fn is_bottom(frame: &Frame) -> bool
+    ensures { result ≡ (frame.now.back == 0) }
+{
+    frame.back() == 0
+}
+
+fn state_numbered(number: u64) -> ThrState
+    ensures { result ≡ state_numbered number }
+{
+    match number {
+        0 => ThrState::Ready,
+        1 => ThrState::Stopped,
+        2 => ThrState::Faulted(Fault::Align),
+        3 => ThrState::Faulted(Fault::Denied),
+        _ => ThrState::Faulted(Fault::Opcode),
+    }
+}
+
+fn set_registers(row: &mut ThrRow, b: &Block)
+    requires { length row.old.registers ≡ 8 }
+    ensures { row.new ≡ record row.old { registers = numbers_at b.now 64 8 } }
+{
+    for place in 0..8 {
+        row.set_register(place, number_at(b, 64 + 8 * place));
+    }
+}
+
+// The thread with its other frames too, where they keep their rule.
+fn with_frames(begun: ThrRow, b: &Block, count: usize) -> Option<ThrRow>
+    requires begun { begun ≡ with_frames b.now 1 }
+    requires first { is_call_frame (frame_at b.now 128) ≡ true }
+    requires some { 1 ≤ count }
+    requires few { count ≤ 16 }
+    ensures { result ≡ (if list_all is_call_frame (frames_at b.now 128 count) then Some (with_frames b.now count) else None) }
+{
+    let mut row = begun;
+    for place in 1..count {
+        match frame_in(b, FIRST_FRAME + FRAME * place) {
+            Some(frame) => row.push_frame(frame),
+            None => return None,
+        }
+    }
+    Some(row)
+}
+
+// The frame that begins at this place, where it keeps its rule.
+fn frame_in(b: &Block, at: usize) -> Option<Frame>
+    requires { at + 144 ≤ 4096 }
+    ensures { result ≡ (if is_call_frame (frame_at b.now at) then Some (frame_at b.now at) else None) }
+{
+    let back = number_at(b, at);
+    let count = number_at(b, at + 8);
+    if back % 8 != 0 || count > 8 {
+        return None;
+    }
+    let mut frame = Frame::new(back);
+    add_slots_of(&mut frame, b, at + 16, count as usize);
+    Some(frame)
+}
+
+// So many slots, from this place on, for a frame without any.
+fn add_slots_of(frame: &mut Frame, b: &Block, at: usize, count: usize)
+    requires empty { frame.old.slots ≡ [] }
+    requires few { count ≤ 8 }
+    requires within { at + 128 ≤ 4096 }
+    ensures { frame.new ≡ record frame.old { slots = slots_at b.now at count } }
+{
+    for place in 0..count {
+        let offset = at + 16 * place;
+        frame.add(Slot {
+            base: number_at(b, offset),
+            password: number_at(b, offset + 8),
+        });
+    }
+}
+
+#[cfg(test)]
+mod tests {
+    use super::*;
+
+    #[test]
+    fn a_thread_and_one_byte_off(rt: HostRuntime) {
+        let mut row = ThrRow::new(3, 1, 8, Frame::new(0));
+        let mut frame = Frame::new(16);
+        let slot = Slot {
+            base: 3,
+            password: 9,
+        };
+        frame.add(slot);
+        frame.add(slot);
+        frame.add(slot);
+        row.push_frame(frame);
+        row.set_register(7, 5);
+        row.set_state(ThrState::Faulted(Fault::Denied));
+        let mut block: Block = [7; BLOCK_SIZE];
+        write_thread(Some(&row), &mut block);
+        let head = [
+            block[0], block[8], block[16], block[24], block[32], block[40],
+        ];
+        assert_eq!(rt; head, [1, 3, 1, 8, 3, 2]);
+        let parts = [block[120], block[272], block[280], block[320], block[328]];
+        assert_eq!(rt; parts, [5, 16, 3, 3, 9]);
+        assert_eq!(rt; read_thread(&block), Some(Spelled::Row(row)));
+        let changes = [
+            (0, 2),
+            (16, 3),
+            (24, 9),
+            (32, 5),
+            (40, 0),
+            (40, 17),
+            (144, 1),
+            (272, 17),
+            (4095, 1),
+        ];
+        for (at, byte) in changes {
+            let mut other = block;
+            other[at] = byte;
+            assert_eq!(rt; read_thread(&other), None, "byte {at}");
+        }
+        write_thread(None, &mut block);
+        assert_eq!(rt; read_thread(&block), Some(Spelled::Free));
+    }
+}
