@@ -12,8 +12,9 @@ use Rattle.mg_journal.specs.Contents.{InClosed, InJournal, NewContents, bodies_f
 use Rattle.mg_journal.specs.Facts.{any_gate, closed_segments, open_writes, replay-some, same_gate, same_wider, up_to}
 use Rattle.mg_journal.specs.Homes.{first_gate_torn, fit-behind, homes_torn, homes_written}
 use Rattle.mg_journal.specs.Phases.{HoldsWrites, IsBehind}
-use Rattle.mg_journal.specs.Segments.{fits-closed, fits-each, fits-open, same-bodies_fit, same-bodies_of, writes-open, writes_since-none}
+use Rattle.mg_journal.specs.Segments.{fits-closed, fits-each, fits-open, same-bodies_fit, same-bodies_of, writes-open}
 use Rattle.mg_journal.specs.Standing.{AllClosed, OldOrNew}
+pub use Rattle.mg_journal.specs.Standing.{own_replay}
 use Rattle.mg_journal.specs.WrittenOver.{written_elsewhere, written_same}
 
 pub same_then : (P : ℕ → Type 0) (a b c : Image) → SameBut P a b → SameBut P b c → SameBut P a c
@@ -30,12 +31,6 @@ homes_below total n (write ∷ writes) within fit =
     let parts = and_parts (nat_le globals_block write.0 && nat_lt write.0 total) (homes_fit total writes) fit in
     let low = ltb-true write.0 total (and_parts (nat_le globals_block write.0) (nat_lt write.0 total) parts.0).1 in
     All-cons (λ (w : ℕ × List ℕ). w.0 < n) write writes (omega arith) (homes_below total n writes within parts.1)
-
--- an image with no open segment is its own replay
-pub own_replay : (total : ℕ) (a : Image) → AllClosed a → replay a total ≡ Some a
-own_replay total a closed =
-    replay-some total a (fits-each total a 0 segment_count (λ s low high. fits-closed total a s (closed s (omega arith))))
-    ∙ ap (λ w. Some (written a w)) (writes_since-none a 0 segment_count (λ s low high. closed s (omega arith)))
 
 module _ (total : ℕ) (writes : List (ℕ × List ℕ)) (a : Image) (closed : AllClosed a) where
   new_from : (c r : Image) → replay c total ≡ Some r → SameBut InJournal (written a writes) r → NewContents total a writes c

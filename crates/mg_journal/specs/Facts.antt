@@ -25,7 +25,7 @@ seen_none P x y is is' = subst (λ v. SeenBut P v y) (sym is) (subst (λ v. Seen
 pub replay-some : (total : ℕ) (a : Image) → segments_fit total a 0 segment_count ≡ true → replay a total ≡ Some (written a (open_writes a))
 replay-some total a fit = ap (λ t. if t then Some (written a (open_writes a)) else None) fit
 
-replay-none : (total : ℕ) (a : Image) → segments_fit total a 0 segment_count ≡ false → replay a total ≡ None
+pub replay-none : (total : ℕ) (a : Image) → segments_fit total a 0 segment_count ≡ false → replay a total ≡ None
 replay-none total a unfit = ap (λ t. if t then Some (written a (open_writes a)) else None) unfit
 
 some_is : (a b : Image) → Some a ≡ Some b → a ≡ b

@@ -1,11 +1,13 @@
-pub mod Blank
+pub mod Applied
 pub mod CommitRuns
 pub mod CommitSteps
 pub mod Contents
 pub mod Facts
 pub mod Homes
+pub mod Looked
 pub mod PhaseSteps
 pub mod Phases
+pub mod Places
 pub mod Recovery
 pub mod RecoverySteps
 pub mod Segments

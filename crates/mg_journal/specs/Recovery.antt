@@ -3,7 +3,8 @@ use Rattle.std.specs.Prelude.{◌≡◌, ◌⊎◌, ◌<◌, ℕ, true, false, S
 use Rattle.mg_disk.specs.Disk.{Image, SameBut, only_place}
 use Rattle.mg_model.specs.Layout.{segment_gate}
 use Rattle.mg_model.specs.Replay.{is_open, replay}
-use Rattle.mg_journal.specs.Contents.{InJournal}
+use Rattle.mg_journal.specs.Contents.{InJournal, SameContents}
+use Rattle.mg_journal.specs.Standing.{AllClosed}
 
 -- while a gate is closed: nothing has changed, or any bytes stand in that gate, which was open
 abbrev pub MayCloseOne : ℕ → Image → Image → Type 0
@@ -23,3 +24,8 @@ pub record IsStill (total : ℕ) (a b : Image) : Type 0 where
 pub record IsClosedUpTo (s total : ℕ) (a b : Image) : Type 0 where
   pub still : IsStill total a b
   pub shut : (t : ℕ) → t < s → is_open b t ≡ false
+
+-- the contents of b are those of a, and no segment of b is open
+pub record IsRecovered (total : ℕ) (a b : Image) : Type 0 where
+  pub contents : SameContents total a b
+  pub closed : AllClosed b

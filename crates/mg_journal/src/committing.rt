@@ -1,15 +1,11 @@
-// The phases of a commit. Each ends with a sync.
-ghost use Rattle.std.specs.Prelude.{◌≡◌, ◌≤◌, ◌<◌, All, IsSomeAnd, OnErr, OnOk, length, option_map, slice_set, true};
+// Writes that end with a sync.
+ghost use Rattle.std.specs.Prelude.{◌≡◌, ◌<◌, All, OnErr, OnOk, option_map, slice_set, true};
 ghost use Rattle.std.specs.Option.{ForSome};
-ghost use Rattle.mg_disk.specs.Disk.{SameBut, Torn, only_place};
-ghost use Rattle.mg_disk.specs.Stops.{CountGoes, CountRose, Leaves, NothingPending, TimeGoes};
-ghost use Rattle.mg_model.specs.Layout.{body_limit, segment_count, segment_gate, globals_block};
+ghost use Rattle.mg_disk.specs.Disk.{SameBut, only_place};
+ghost use Rattle.mg_disk.specs.Stops.{CountGoes, CountRose, Leaves, NothingPending};
 ghost use Rattle.mg_model.specs.Replay.{written};
 ghost use Rattle.mg_journal.specs.Contents.{names};
-ghost use Rattle.mg_journal.specs.Phases.{HoldsWrites, IsBehind};
 
-use crate::index::index_block;
-use crate::places::{gate_of, index_of};
 use mg_disk::{Block, Disk};
 use mg_faults::Failed;
 
@@ -39,31 +35,6 @@ pub(crate) fn write_homes<D: Disk>(disk: &mut D, writes: &[(u64, Block)]) -> Res
 {
     for write in writes {
         disk.write(write.0, &write.1)?;
-    }
-    disk.sync()
-}
-
-/// Writes the index and the bodies of a segment and makes sure of them.
-pub(crate) fn write_segment<D: Disk>(
-    disk: &mut D,
-    segment: u64,
-    writes: &[(u64, Block)],
-) -> Result<(), Failed>
-    requires place { segment < segment_count }
-    requires few { length writes.now ≤ body_limit }
-    requires room { globals_block ≤ D.block_count disk.old }
-    ensures any_moment { NothingPending D.Disk disk.old → ForSome (D.seen disk.old) (λ image. Leaves D.Disk disk.old disk.new (SameBut (IsBehind segment) image)) }
-    ensures written { OnOk result (ForSome (D.seen disk.old) (λ image. IsSomeAnd (D.seen disk.new) (HoldsWrites segment writes.now image))) }
-    ensures comes_from { OnOk result (ForSome (D.seen disk.new) (λ now. IsSomeAnd (D.seen disk.old) (λ image. HoldsWrites segment writes.now image now))) }
-    ensures settled { OnOk result (NothingPending D.Disk disk.new) }
-    ensures cause { OnErr result (CountRose D.Disk disk.old disk.new) }
-    ensures count { CountGoes D.Disk disk.old disk.new }
-    ensures blocks { D.block_count disk.new ≡ D.block_count disk.old }
-{
-    disk.write(index_of(segment), &index_block(writes))?;
-    let first = index_of(segment) + 1;
-    for (k, write) in writes.iter().enumerate() {
-        disk.write(first + k as u64, &write.1)?;
     }
     disk.sync()
 }

@@ -2,7 +2,8 @@
 //!
 //! A layer above stages blocks in a [`Writes`] and hands them to [`Store::commit`]: at each moment of it a stop leaves the
 //! old contents or the new, and after Ok the new. The contents of an image are its blocks after replay (`replay` of
-//! `mg_model`), the segments' own blocks left aside.
+//! `mg_model`), the segments' own blocks left aside. [`Store::open`] recovers what a stop left of a commit: the contents
+//! stay at each moment of it, and after Ok no segment is open.
 //!
 //! `specs/Contents.antt` and `specs/Standing.antt` have the words of the contracts. What changes inside the journal do to
 //! the contents is told by `specs/Facts.antt` (closed segments, and the gate of a written one) and `specs/Homes.antt`
@@ -10,11 +11,18 @@
 #![tactic(auto)]
 
 mod committing;
+mod faults;
 mod index;
+mod opening;
 mod places;
+mod reading;
 mod recovering;
+mod segment;
 mod store;
+mod view;
 mod writes;
 
+pub use faults::ViewFault;
 pub use store::Store;
+pub use view::View;
 pub use writes::{MOST_WRITES, Writes};

@@ -1,5 +1,5 @@
 // Recovery: what is done with the segments that are open where a store is opened.
-ghost use Rattle.std.specs.Prelude.{◌≡◌, ◌≤◌, ◌<◌, ◌==◌, ℕ, IsSomeAnd, OnErr, OnOk, Some, slice_index};
+ghost use Rattle.std.specs.Prelude.{◌≡◌, ◌≤◌, ◌<◌, ◌==◌, ℕ, IsSomeAnd, OnErr, OnOk, Some, is_some, slice_index};
 ghost use Rattle.std.specs.Option.{ForSome};
 ghost use Rattle.mg_disk.specs.Stops.{CountGoes, CountRose, Leaves, NothingPending, WritesNothing};
 ghost use Rattle.mg_model.specs.Layout.{gate_open, globals_block, segment_count};
@@ -18,6 +18,7 @@ fn close_gate<D: Disk>(disk: &mut D, segment: u64) -> Result<(), Failed>
     requires settled { NothingPending D.Disk disk.old }
     ensures any_moment { ForSome (D.seen disk.old) (λ image. Leaves D.Disk disk.old disk.new (MayCloseOne segment image)) }
     ensures closed { OnOk result (ForSome (D.seen disk.old) (λ image. IsSomeAnd (D.seen disk.new) (ClosedOne segment image))) }
+    ensures tells { OnOk result (is_some (D.seen disk.new) ≡ is_some (D.seen disk.old)) }
     ensures settled { OnOk result (NothingPending D.Disk disk.new) }
     ensures cause { OnErr result (CountRose D.Disk disk.old disk.new) }
     ensures count { CountGoes D.Disk disk.old disk.new }
@@ -39,6 +40,7 @@ pub(crate) fn close_gates<D: Disk>(disk: &mut D) -> Result<(), Failed>
     requires settled { NothingPending D.Disk disk.old }
     ensures any_moment { ForSome (D.seen disk.old) (λ image. (total : ℕ) → replay image total ≡ Some image → Leaves D.Disk disk.old disk.new (IsStill total image)) }
     ensures closed { OnOk result (ForSome (D.seen disk.old) (λ image. (total : ℕ) → replay image total ≡ Some image → IsSomeAnd (D.seen disk.new) (IsClosedUpTo segment_count total image))) }
+    ensures tells { OnOk result (is_some (D.seen disk.new) ≡ is_some (D.seen disk.old)) }
     ensures settled { OnOk result (NothingPending D.Disk disk.new) }
     ensures cause { OnErr result (CountRose D.Disk disk.old disk.new) }
     ensures count { CountGoes D.Disk disk.old disk.new }

@@ -10,6 +10,7 @@ loop-segment-init g c = record {
   blocks = refl;
   count = search rules;
   settled = c.requires.settled;
+  tells = refl;
   closing = λ image told total own. begin_closing g.D.Disk total image c.args.disk.now (g.met.D.Disk.now_has_been c.args.disk.now) told c.requires.settled own;
 }
 
@@ -22,6 +23,7 @@ loop-segment-preserved g c = record {
   blocks = c.close_gate.ensures.blocks ∙ c.loop-segment.invariant.blocks;
   count = search rules;
   settled = c.in_ok-close_gate.ensures.settled;
+  tells = c.in_ok-close_gate.ensures.tells ∙ c.loop-segment.invariant.tells;
   closing = λ image told total own.
       close_more g.D.Disk total image c.loop-segment.segment c.args.disk.now c.loop-segment.disk c.close_gate.new.disk c.loop-segment-test.true (c.loop-segment.invariant.closing image told total own)
       c.close_gate.ensures.any_moment c.in_ok-close_gate.ensures.closed;

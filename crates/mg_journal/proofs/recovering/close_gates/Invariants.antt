@@ -1,4 +1,4 @@
-use Rattle.std.proofs.Common.{◌≡◌, ℕ, Some}
+use Rattle.std.proofs.Common.{◌≡◌, ℕ, Some, is_some}
 use Rattle.std.specs.Option.{ForSome}
 use Rattle.mg_disk.specs.Stops.{CountGoes, NothingPending}
 use Rattle.mg_model.specs.Replay.{replay}
@@ -11,5 +11,6 @@ invariant-loop-segment g l = record {
   blocks : g.D.Disk.block_count l.disk ≡ g.D.Disk.block_count l.initial.disk;
   count : CountGoes g.D.Disk l.initial.disk l.disk;
   settled : NothingPending g.D.Disk l.disk;
+  tells : is_some (g.D.Disk.seen l.disk) ≡ is_some (g.D.Disk.seen l.initial.disk);
   closing : ForSome (g.D.Disk.seen l.initial.disk) (λ image. (total : ℕ) → replay image total ≡ Some image → IsClosing g.D.Disk total image l.segment l.initial.disk l.disk);
 }

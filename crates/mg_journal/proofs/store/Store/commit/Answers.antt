@@ -14,3 +14,13 @@ returns-then-is_empty-clause-done g c image told =
     let total = c.args.self.now.total in
     let empty : c.args.w.now ≡ [] = sym c.as_slice-writes.ensures.same ∙ empty_from c.as_slice-writes.result.now c.is_empty.result c.is_empty.ensures c.if-is_empty.true in
     subst (λ o. IsSomeAnd o (NewContents total image c.args.w.now)) (sym told) (subst (λ w. NewContents total image w image) (sym empty) (new_itself total image))
+
+pub returns-then-is_empty-clause-came_from : goal.returns-then-is_empty-clause-came_from
+returns-then-is_empty-clause-came_from g c now told =
+    let total = c.args.self.now.total in
+    let empty : c.args.w.now ≡ [] = sym c.as_slice-writes.ensures.same ∙ empty_from c.as_slice-writes.result.now c.is_empty.result c.is_empty.ensures c.if-is_empty.true in
+    subst (λ o. IsSomeAnd o (λ image. NewContents total image c.args.w.now now)) (sym told) (subst (λ w. NewContents total now w now) (sym empty) (new_itself total now))
+
+pub returns-in-Ok-clause-came_from : goal.returns-in-Ok-clause-came_from
+returns-in-Ok-clause-came_from g c now told =
+    subst (λ w. IsSomeAnd (g.D.Disk.seen c.args.disk.now) (λ image. NewContents c.args.self.now.total image w now)) c.as_slice-writes.ensures.same (c.in-Ok.ensures.came_from now told)

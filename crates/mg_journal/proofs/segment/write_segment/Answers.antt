@@ -9,7 +9,7 @@ use Rattle.mg_journal.specs.CommitRuns.{mapped}
 use Rattle.mg_journal.specs.Phases.{HoldsWrites, IsBehind, with_bodies}
 use Rattle.mg_journal.specs.PhaseSteps.{bodies_more, holds_all}
 use Rattle.mg_journal.specs.Staged.{bytes_of}
-use Rattle.mg_journal.proofs.committing.write_segment.Goals as goal
+use Rattle.mg_journal.proofs.segment.write_segment.Goals as goal
 
 pub loop-k-preserved : goal.loop-k-preserved
 loop-k-preserved g c =

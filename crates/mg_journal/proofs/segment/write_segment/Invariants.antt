@@ -4,7 +4,7 @@ use Rattle.mg_disk.specs.Disk.{SameBut}
 use Rattle.mg_disk.specs.Runs.{Tracks}
 use Rattle.mg_disk.specs.Stops.{CountGoes, NothingPending}
 use Rattle.mg_journal.specs.Phases.{IsBehind, with_bodies}
-use Rattle.mg_journal.proofs.committing.write_segment.Given as goal
+use Rattle.mg_journal.proofs.segment.write_segment.Given as goal
 
 -- the bodies up to this one are written, and only the index and the bodies differ
 abbrev pub invariant-loop-k : goal.invariant-loop-k

@@ -1,0 +1,5 @@
+mod ApplySteps
+mod Bodies
+mod Lookups
+mod OpenSteps
+mod RecoverSteps

@@ -1,0 +1,133 @@
+-- Why a block of the contents is read at the last body that belongs to it.
+use Rattle.std.specs.Prelude.{◌≡◌, ◌+◌, ◌<◌, ◌==◌, ℕ, Bool, zero, suc, true, false, All, List, [], ◌∷◌, ◌++◌, find, if◌then◌else◌, length, map, reverse, slice_set, Option, Some, None}
+use Rattle.std.specs.Option.{option_map_or, option_or}
+use Rattle.std.proofs.Common.{refl, sym, ap, subst, ◌∙◌, ⊎_elim, arith}
+use Rattle.std.proofs.lemmas.Bool.{cases_Bool, eqb-true, eqb-false}
+use Rattle.std.proofs.lemmas.List.{get_or-set_other, get_or-set_same, length-set, map-append, reverse-append}
+use Rattle.std.proofs.lemmas.List.Elements.{All-head, All-tail}
+use Rattle.std.proofs.lemmas.List.Folds.{find-append}
+use Rattle.mg_disk.specs.Disk.{Image, block_at}
+use Rattle.mg_model.specs.Layout.{segment_body, segment_count}
+use Rattle.mg_model.specs.Replay.{body_count, home_of, is_open, replay, writes_from, writes_of, writes_since, written}
+use Rattle.mg_journal.specs.Facts.{replayed-is}
+use Rattle.mg_journal.specs.Looked.{held_at}
+use Rattle.mg_journal.specs.Places.{Fits, IsPlace, Placed, places_from, places_of, places_since}
+
+-- what stands in block i after these writes, where x stood there
+abbrev value_at : List (ℕ × List ℕ) → ℕ → List ℕ → List ℕ
+value_at [] i x = x
+value_at ((home, bytes) ∷ writes) i x = value_at writes i (if home == i then bytes else x)
+
+-- the block that holds block i, where the other one held it before
+abbrev held_from : List (ℕ × ℕ) → ℕ → ℕ → ℕ
+held_from [] i other = other
+held_from ((home, body) ∷ places) i other = held_from places i (if home == i then body else other)
+
+written_at : (writes : List (ℕ × List ℕ)) (a : Image) (i : ℕ) → i < length a → block_at (written a writes) i ≡ value_at writes i (block_at a i)
+written_at [] a i inside = refl
+written_at ((home, bytes) ∷ writes) a i inside =
+    written_at writes (slice_set a home bytes) i (omega (arith, length-set a home bytes))
+    ∙ ap (value_at writes i) (⊎_elim here there (cases_Bool (home == i)))
+  where
+    here : (home == i) ≡ true → block_at (slice_set a home bytes) i ≡ (if home == i then bytes else block_at a i)
+    here is =
+        ap (λ k. block_at (slice_set a k bytes) i) (eqb-true home i is)
+        ∙ get_or-set_same a i bytes [] inside
+        ∙ ap (λ t. if t then bytes else block_at a i) (sym is)
+
+    there : (home == i) ≡ false → block_at (slice_set a home bytes) i ≡ (if home == i then bytes else block_at a i)
+    there not =
+        get_or-set_other a home i bytes [] (λ is. eqb-false home i not (sym is))
+        ∙ ap (λ t. if t then bytes else block_at a i) (sym not)
+
+-- a place as a write
+abbrev with_bytes : Image → ℕ × ℕ → ℕ × List ℕ
+with_bytes a place = (place.0, block_at a place.1)
+
+either : (a : Image) (test : Bool) (body other : ℕ) → (if test then block_at a body else block_at a other) ≡ block_at a (if test then body else other)
+either a true body other = refl
+either a false body other = refl
+
+value_held : (a : Image) (places : List (ℕ × ℕ)) (i other : ℕ) → value_at (map (with_bytes a) places) i (block_at a other) ≡ block_at a (held_from places i other)
+value_held a [] i other = refl
+value_held a ((home, body) ∷ places) i other =
+    ap (value_at (map (with_bytes a) places) i) (either a (home == i) body other) ∙ value_held a places i (if home == i then body else other)
+
+writes_are : (a : Image) (s j n : ℕ) → writes_from a s j n ≡ map (with_bytes a) (places_from a s j n)
+writes_are a s j zero = refl
+writes_are a s j (suc n) = ap (λ w. (home_of a s j, block_at a (segment_body s j)) ∷ w) (writes_are a s (j + 1) n)
+
+segment_writes_are : (a : Image) (s : ℕ) → writes_of a s ≡ map (with_bytes a) (places_of a s)
+segment_writes_are a s = by_gate (is_open a s)
+  where
+    by_gate : (t : Bool) → (if t then writes_from a s 0 (body_count a s) else []) ≡ map (with_bytes a) (if t then places_from a s 0 (body_count a s) else [])
+    by_gate true = writes_are a s 0 (body_count a s)
+    by_gate false = refl
+
+all_writes_are : (a : Image) (from n : ℕ) → writes_since a from n ≡ map (with_bytes a) (places_since a from n)
+all_writes_are a from zero = refl
+all_writes_are a from (suc n) =
+    ap (λ w. w ++ writes_since a (from + 1) n) (segment_writes_are a from)
+    ∙ ap (λ w. map (with_bytes a) (places_of a from) ++ w) (all_writes_are a (from + 1) n)
+    ∙ sym (map-append (with_bytes a) (places_of a from) (places_since a (from + 1) n))
+
+abbrev pub is_for : ℕ → ℕ × ℕ → Bool
+is_for i place = place.0 == i
+
+abbrev found : Option (ℕ × ℕ) → ℕ → ℕ
+found place other = option_map_or (λ (p : ℕ × ℕ). p.1) place other
+
+later_first : (later : Option (ℕ × ℕ)) (home body i other : ℕ) → found later (if home == i then body else other) ≡ found (option_or later (find (is_for i) ((home, body) ∷ []))) other
+later_first (Some p) home body i other = refl
+later_first None home body i other = by_test (home == i)
+  where
+    by_test : (t : Bool) → (if t then body else other) ≡ found (if t then Some (home, body) else None) other
+    by_test true = refl
+    by_test false = refl
+
+held_is : (places : List (ℕ × ℕ)) (i other : ℕ) → held_from places i other ≡ found (find (is_for i) (reverse places)) other
+held_is [] i other = refl
+held_is ((home, body) ∷ places) i other =
+    held_is places i (if home == i then body else other)
+    ∙ later_first (find (is_for i) (reverse places)) home body i other
+    ∙ ap (λ o. found o other) (sym (find-append (is_for i) (reverse places) ((home, body) ∷ [])))
+    ∙ ap (λ p. found (find (is_for i) p) other) (sym (reverse-append ((home, body) ∷ []) places))
+
+-- it is on the volume
+held_below : (total : ℕ) (places : List (ℕ × ℕ)) (i other : ℕ) → All (IsPlace total) places → other < total → held_from places i other < total
+held_below total [] i other all below = below
+held_below total ((home, body) ∷ places) i other all below =
+    held_below total places i (if home == i then body else other) (All-tail (IsPlace total) (home, body) places all) (by_test (home == i))
+  where
+    by_test : (t : Bool) → (if t then body else other) < total
+    by_test true =
+        let place = All-head (IsPlace total) (home, body) places all in
+        let low = place.low in
+        let high = place.high in
+        let inside = place.body in
+        omega arith
+    by_test false = below
+
+pub held_at-below : (total : ℕ) (places : List (ℕ × ℕ)) (i : ℕ) → All (IsPlace total) places → i < total → held_at places i < total
+held_at-below total places i all below =
+    let P : ℕ → Type 0 = λ n. n < total in
+    subst P (held_is places i i) (held_below total places i i all below)
+
+-- it holds the contents' block i
+pub held_at-reads : (view : Placed) (image r : Image) (i : ℕ) → Fits view image → i < length image → replay image view.total ≡ Some r → block_at image (held_at view.places i) ≡ block_at r i
+held_at-reads view image r i fits inside is =
+    ap (λ p. block_at image (held_at p i)) fits.places
+    ∙ ap (block_at image) (sym (held_is places i i))
+    ∙ sym (value_held image places i i)
+    ∙ ap (λ w. value_at w i (block_at image i)) (sym (all_writes_are image 0 segment_count))
+    ∙ sym (written_at (writes_since image 0 segment_count) image i inside)
+    ∙ ap (λ a. block_at a i) (sym (replayed-is view.total image r is))
+  where
+    places : List (ℕ × ℕ)
+    places = places_since image 0 segment_count
+
+-- so is the last body that belongs to block i
+pub last-below : (total : ℕ) (places shown : List (ℕ × ℕ)) (i : ℕ) (place : ℕ × ℕ) → All (IsPlace total) places → i < total → shown ≡ places → Some place ≡ find (is_for i) (reverse shown) → place.1 < total
+last-below total places shown i place all below same is =
+    let P : ℕ → Type 0 = λ n. n < total in
+    subst P (ap (λ p. held_at p i) (sym same) ∙ ap (λ o. found o i) (sym is)) (held_at-below total places i all below)

@@ -1,0 +1,55 @@
+-- The images of a recovery: homes are written, and then gates are closed.
+use Rattle.std.specs.Prelude.{◌≡◌, ℕ, true, List, Option, Some, None, IsSomeAnd, is_some, option_map}
+use Rattle.std.specs.Option.{ForSome}
+use Rattle.std.proofs.Common.{refl, sym, ap, subst, ◌∙◌}
+use Rattle.mg_disk.specs.Disk.{Image, SameBut}
+use Rattle.mg_disk.specs.Places.{same_as}
+use Rattle.mg_model.specs.Layout.{segment_count}
+use Rattle.mg_model.specs.Replay.{replay, written}
+use Rattle.mg_journal.specs.Applied.{filled}
+use Rattle.mg_journal.specs.Contents.{InJournal, SameContents, names}
+use Rattle.mg_journal.specs.Facts.{open_writes, replay-some, same_wider, seen_both}
+use Rattle.mg_journal.specs.Homes.{homes_torn, homes_written}
+use Rattle.mg_journal.specs.Places.{Fits, Placed}
+use Rattle.mg_journal.specs.Recovery.{IsClosedUpTo, IsRecovered, IsStill}
+use Rattle.mg_journal.proofs.ApplySteps.{filled_since}
+
+pub told_map : (change : Image → Image) (told : Option Image) → is_some (option_map change told) ≡ is_some told
+told_map change None = refl
+told_map change (Some a) = refl
+
+-- what is told now of what was told before, seen from the end
+pub came_back : (P : Image → Image → Type 0) (told now : Option Image) → is_some now ≡ is_some told → ForSome told (λ a. IsSomeAnd now (P a)) → ForSome now (λ b. IsSomeAnd told (λ a. P a b))
+came_back P None None same each b is = absurd (let e : ◌≡◌ {A = Option Image} None (Some b) = is in cc)
+came_back P None (Some x) same each b is = absurd cc
+came_back P (Some a) now same each b is = subst (λ o. IsSomeAnd o (P a)) is (each a refl)
+
+module _ (view : Placed) (places : List (ℕ × ℕ)) (held : places ≡ view.places) (a : Image) (fits : Fits view a) where
+  abbrev pub homed : Image
+  homed = written a (filled a places)
+
+  writes : filled a places ≡ open_writes a
+  writes = ap (filled a) (held ∙ fits.places) ∙ filled_since a 0 segment_count
+
+  replayed : replay a view.total ≡ Some homed
+  replayed = replay-some view.total a fits.fit ∙ ap (λ w. Some (written a w)) (sym writes)
+
+  -- once the homes are written
+  pub own : replay homed view.total ≡ Some homed
+  own = homes_written view.total a homed replayed
+
+  -- while they are written
+  pub while_applied : (c : Image) → SameBut (λ k. names (filled a places) k ≡ true) a c → SameContents view.total a c
+  while_applied c same =
+      seen_both InJournal (replay a view.total) (replay c view.total) homed homed replayed
+      (homes_torn view.total a c homed replayed
+      (same_wider (λ k. names (filled a places) k ≡ true) (λ k. names (open_writes a) k ≡ true) a c (λ k named. ap (λ w. names w k) (sym writes) ∙ named) same))
+      (same_as InJournal homed homed refl)
+
+  -- while the gates are closed
+  pub while_closed : (c : Image) → IsStill view.total homed c → SameContents view.total a c
+  while_closed c still = seen_both InJournal (replay a view.total) (replay c view.total) homed c replayed still.own still.same
+
+  -- once they are
+  pub recovered_to : (c : Image) → IsClosedUpTo segment_count view.total homed c → IsRecovered view.total a c
+  recovered_to c up_to = record { contents = while_closed c up_to.still; closed = up_to.shut }

@@ -1,0 +1,18 @@
+use Rattle.std.proofs.Common.{◌≡◌, option_map, take, true}
+use Rattle.std.specs.Option.{ForSome}
+use Rattle.mg_disk.specs.Disk.{SameBut}
+use Rattle.mg_disk.specs.Runs.{Tracks}
+use Rattle.mg_disk.specs.Stops.{CountGoes, NothingPending}
+use Rattle.mg_model.specs.Replay.{written}
+use Rattle.mg_journal.specs.Applied.{filled}
+use Rattle.mg_journal.specs.Contents.{names}
+use Rattle.mg_journal.proofs.opening.apply.Given as goal
+
+-- the bodies up to this one are at their homes, and only homes differ
+abbrev pub invariant-loop-place : goal.invariant-loop-place
+invariant-loop-place g l = record {
+  blocks : g.D.Disk.block_count l.disk ≡ g.D.Disk.block_count l.initial.disk;
+  count : CountGoes g.D.Disk l.initial.disk l.disk;
+  written : g.D.Disk.seen l.disk ≡ option_map (λ image. written image (filled image (take l.place-index l.places))) (g.D.Disk.seen l.initial.disk);
+  tracks : NothingPending g.D.Disk l.initial.disk → ForSome (g.D.Disk.seen l.initial.disk) (λ image. Tracks g.D.Disk l.initial.disk l.disk (SameBut (λ k. names (filled image l.places) k ≡ true) image) (SameBut (λ k. names (filled image l.places) k ≡ true) image));
+}

@@ -1,0 +1,47 @@
+use Rattle.std.proofs.Common.{◌∙◌, arith, sym, true}
+use Rattle.mg_journal.specs.CommitRuns.{some_of}
+use Rattle.mg_journal.specs.Recovery.{IsRecovered}
+use Rattle.mg_journal.specs.Standing.{closed_fits}
+use Rattle.mg_journal.proofs.OpenSteps.{contents_from, contents_kept, looked, opened, same_error}
+use Rattle.mg_journal.proofs.store.Store.open.Goals as goal
+
+pub returns-in-Err-clause-any_moment : goal.returns-in-Err-clause-any_moment
+returns-in-Err-clause-any_moment g c pending image told =
+    let disk = c.args.disk.now in
+    looked g.D.Disk c.args.total disk c.look.new.disk (g.met.D.Disk.now_has_been disk) c.look.ensures.writes pending image told
+
+pub returns-in-Err-clause-damaged : goal.returns-in-Err-clause-damaged
+returns-in-Err-clause-damaged g c is = c.look.ensures.damaged (c.in-Err.is ∙ same_error _ _ is)
+
+pub recover-requires-clause-fits : goal.recover-requires-clause-fits
+recover-requires-clause-fits g c image told = c.in-Ok.ensures.fits image (sym c.look.ensures.writes.same ∙ told)
+
+pub returns-in-Ok-recover-clause-any_moment : goal.returns-in-Ok-recover-clause-any_moment
+returns-in-Ok-recover-clause-any_moment g c pending image told =
+    let disk = c.args.disk.now in
+    opened g.D.Disk c.args.total disk c.look.new.disk (g.met.D.Disk.now_has_been disk) c.look.ensures.writes pending image told c.recover.new.disk c.in-Ok.view.total c.in-Ok.ensures.total c.recover.ensures.any_moment
+
+pub returns-in-Ok-recover-clause-contents : goal.returns-in-Ok-recover-clause-contents
+returns-in-Ok-recover-clause-contents g c =
+    contents_kept c.in-Ok.view.total c.args.total c.in-Ok.ensures.total (g.D.Disk.seen c.args.disk.now) (g.D.Disk.seen c.look.new.disk) (g.D.Disk.seen c.recover.new.disk)
+    c.look.ensures.writes.same c.in-Ok-recover.ensures.recovered
+
+pub returns-in-Ok-recover-clause-came_from : goal.returns-in-Ok-recover-clause-came_from
+returns-in-Ok-recover-clause-came_from g c =
+    contents_from c.in-Ok.view.total c.args.total c.in-Ok.ensures.total (g.D.Disk.seen c.args.disk.now) (g.D.Disk.seen c.look.new.disk) (g.D.Disk.seen c.recover.new.disk)
+    c.look.ensures.writes.same c.in-Ok-recover.ensures.came_from
+
+pub returns-in-Ok-recover-clause-stands : goal.returns-in-Ok-recover-clause-stands
+returns-in-Ok-recover-clause-stands g c =
+    let total = c.in-Ok.view.total in
+    record {
+      journal = c.requires.journal;
+      room = let room = c.requires.room in omega (arith, c.recover.ensures.blocks, c.look.ensures.blocks);
+      settled = c.in-Ok-recover.ensures.settled;
+      fits = λ now told. closed_fits (record { total = c.args.total; live = true }) now (some_of (λ image. IsRecovered total image now) (g.D.Disk.seen c.look.new.disk) (c.in-Ok-recover.ensures.came_from now told)).2.closed;
+    }
+
+pub returns-clause-any_moment : goal.returns-clause-any_moment
+returns-clause-any_moment g c pending image told =
+    let disk = c.args.disk.now in
+    opened g.D.Disk c.args.total disk c.look.new.disk (g.met.D.Disk.now_has_been disk) c.look.ensures.writes pending image told c.recover.new.disk c.in-Ok.view.total c.in-Ok.ensures.total c.recover.ensures.any_moment

@@ -1,0 +1,62 @@
+use Rattle.std.proofs.Common.{◌≡◌, Result, Err, ◌+◌, ◌++◌, ◌∙◌, ℕ, List, suc, ap, arith, refl, subst, sym, rules}
+use Rattle.mg_disk.specs.Disk.{Image}
+use Rattle.std.specs.Prelude.{IsSome}
+use Rattle.mg_model.specs.Layout.{segment_count}
+use Rattle.mg_model.specs.Replay.{segments_fit}
+use Rattle.mg_disk.specs.Runs.{nothing_then}
+use Rattle.mg_journal.specs.declared.faults.ViewFault.TheVariants.{Damaged}
+use Rattle.mg_journal.specs.Facts.{replay-none, replay-some}
+use Rattle.mg_journal.specs.Places.{places_of, places_since}
+use Rattle.mg_journal.proofs.Bodies.{places_since-last, segments_fit-more, segments_unfit}
+use Rattle.mg_journal.proofs.view.View.look.Goals as goal
+
+abbrev fails : {E : Type 0} (T : Type 0) → E → Result T E
+fails T e = Err e
+
+same_fault : {S T E : Type 0} (e f : E) → fails S e ≡ fails S f → fails T e ≡ fails T f
+same_fault {S} {T} e f is = let same : e ≡ f = cc in ap (fails T) same
+
+one_more : (image : Image) (s : ℕ) (items now : List (ℕ × ℕ)) → items ≡ places_since image 0 s → now ≡ items ++ places_of image s → now ≡ places_since image 0 (s + 1)
+one_more image s items now so_far added =
+    let at : s ≡ 0 + s = omega arith in
+    let next : suc s ≡ s + 1 = omega arith in
+    added
+    ∙ ap (λ p. p ++ places_of image s) so_far
+    ∙ ap (λ t. places_since image 0 s ++ places_of image t) at
+    ∙ sym (places_since-last image 0 s)
+    ∙ ap (places_since image 0) next
+
+pub returns-in-Err-look_segment-clause-damaged : goal.returns-in-Err-look_segment-clause-damaged
+returns-in-Err-look_segment-clause-damaged g c is image told =
+    let now = c.loop-segment.invariant.writes.same ∙ told in
+    replay-none c.args.total image (segments_unfit c.args.total image c.loop-segment.segment segment_count c.loop-segment-test.true (c.in-Err-look_segment.ensures.damaged (same_fault c.in-Err-look_segment.fault Damaged is) image now))
+
+pub loop-segment-preserved : goal.loop-segment-preserved
+loop-segment-preserved g c =
+    let inv = c.loop-segment.invariant in
+    let look = c.in-Ok-look_segment.ensures in
+    let s = c.loop-segment.segment in
+    record {
+      fits = λ image told. segments_fit-more c.args.total image s (inv.fits image told) (look.fits image (inv.writes.same ∙ told));
+      places = λ image told. one_more image s c.loop-segment.places.items c.look_segment.new.places.items (inv.places image told) (look.added image (inv.writes.same ∙ told));
+      fit = look.fit;
+      few = omega (arith, look.few, inv.few);
+      capacity = omega (arith, look.capacity, inv.capacity);
+      writes = nothing_then g.D.Disk c.args.disk.now c.loop-segment.disk c.look_segment.new.disk inv.writes look.writes;
+      count = search rules;
+      blocks = look.block_count ∙ inv.blocks;
+    }
+
+pub returns-clause-fits : goal.returns-clause-fits
+returns-clause-fits g c image told =
+    let inv = c.loop-segment.invariant in
+    let end : c.loop-segment.segment ≡ segment_count = let past = c.loop-segment-test.false in let last = c.loop-segment.auto.segment-end in omega arith in
+    record {
+      fit = ap (segments_fit c.args.total image 0) (sym end) ∙ inv.fits image told;
+      places = inv.places image told ∙ ap (places_since image 0) end;
+    }
+
+pub returns-clause-replayed : goal.returns-clause-replayed
+returns-clause-replayed g c image told =
+    let end : c.loop-segment.segment ≡ segment_count = let past = c.loop-segment-test.false in let last = c.loop-segment.auto.segment-end in omega arith in
+    subst IsSome (sym (replay-some c.args.total image (ap (segments_fit c.args.total image 0) (sym end) ∙ c.loop-segment.invariant.fits image told))) refl

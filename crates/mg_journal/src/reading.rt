@@ -1,0 +1,157 @@
+// Reading the journal: where the bodies of its open segments lie.
+ghost use Rattle.std.specs.Prelude.{◌≡◌, ◌≤◌, ◌<◌, ◌+◌, ◌++◌, ◌∷◌, ◌&&◌, [], ℕ, All, IfOk, OnErr, OnOk, false, length, nat_le, nat_lt, true, vec_capacity};
+ghost use Rattle.std.specs.Option.{ForSome};
+ghost use Rattle.mg_disk.specs.Disk.{Image, block_at};
+ghost use Rattle.mg_disk.specs.Stops.{CountGoes, CountRose, WritesNothing};
+ghost use Rattle.mg_model.specs.Bytes.{number_at};
+ghost use Rattle.mg_model.specs.Layout.{body_limit, globals_block, segment_count, segment_index};
+ghost use Rattle.mg_model.specs.Replay.{body_count, is_open, segment_fits};
+ghost use Rattle.mg_journal.specs.Contents.{bodies_fit};
+ghost use Rattle.mg_journal.specs.Places.{IsPlace, places_from, places_of};
+
+use crate::faults::ViewFault;
+use crate::places::{gate_of, index_of, is_opened};
+use mg_disk::{BLOCK_SIZE, Block, Disk};
+use mg_faults::Failed;
+
+/// The first block behind the journal.
+const FIRST_HOME: u64 = 1298;
+
+/// How many bodies a segment has at most.
+const MOST_BODIES: u64 = 160;
+
+// The number in the 8 bytes at this place.
+fn number_at(b: &Block, at: usize) -> u64
+    requires { at + 8 ≤ 4096 }
+    ensures { result ≡ number_at b.now at }
+{
+    let mut bytes = [0; 8];
+    bytes.copy_from_slice(&b[at..at + 8]);
+    u64::from_le_bytes(bytes)
+}
+
+// Whether a body may belong to this block: it lies behind the journal and on the volume.
+fn is_home(block: u64, total: u64) -> bool
+    ensures { result ≡ (nat_le globals_block block && nat_lt block total) }
+{
+    block >= FIRST_HOME && block < total
+}
+
+// Adds a place behind the others. It takes no memory.
+fn add(places: &mut Vec<(u64, u64)>, place: (u64, u64))
+    requires room { length places.old.items < vec_capacity places.old }
+    ensures added { places.new.items ≡ places.old.items ++ place ∷ [] }
+    ensures capacity { vec_capacity places.old ≤ vec_capacity places.new }
+{
+    if places.push(place).is_err() {
+        unreachable!()
+    }
+}
+
+// Adds the places of the bodies of a segment with this index, in order. False where the index does not fit: it has more
+// than 160 bodies, or one that belongs to no block behind the journal. It takes no memory.
+fn add_bodies(index: &Block, segment: u64, total: u64, places: &mut Vec<(u64, u64)>) -> bool
+    requires segment { segment < segment_count }
+    requires room { length places.old.items + body_limit ≤ vec_capacity places.old }
+    requires fit { All (IsPlace total) places.old.items }
+    ensures fits { (image : Image) → block_at image (segment_index segment) ≡ index.now → bodies_fit total image segment ≡ result }
+    ensures added { result ≡ true → (image : Image) → block_at image (segment_index segment) ≡ index.now → places.new.items ≡ places.old.items ++ places_from image segment 0 (body_count image segment) }
+    ensures fit { All (IsPlace total) places.new.items }
+    ensures few { length places.new.items ≤ length places.old.items + body_limit }
+    ensures capacity { vec_capacity places.old ≤ vec_capacity places.new }
+{
+    let count = number_at(index, 0);
+    if count > MOST_BODIES {
+        return false;
+    }
+    let first = index_of(segment) + 1;
+    for k in 0..count {
+        let home = number_at(index, 8 + 8 * k as usize);
+        if !is_home(home, total) {
+            return false;
+        }
+        add(places, (home, first + k));
+    }
+    true
+}
+
+// Whether a segment is open.
+fn is_open<D: Disk>(disk: &mut D, segment: u64) -> Result<bool, Failed>
+    requires segment { segment < segment_count }
+    requires room { globals_block ≤ D.block_count disk.old }
+    ensures open_now { IfOk result (λ opened. ForSome (D.seen disk.old) (λ image. is_open image segment ≡ opened)) }
+    ensures writes { WritesNothing D.Disk disk.old disk.new }
+    ensures cause { OnErr result (CountRose D.Disk disk.old disk.new) }
+    ensures count { CountGoes D.Disk disk.old disk.new }
+    ensures blocks { D.block_count disk.new ≡ D.block_count disk.old }
+{
+    let mut gate = [0; BLOCK_SIZE];
+    disk.read(gate_of(segment), &mut gate)?;
+    Ok(is_opened(&gate))
+}
+
+// Adds the places of the bodies of a segment, whether it is open or not.
+fn look_index<D: Disk>(
+    disk: &mut D,
+    segment: u64,
+    total: u64,
+    places: &mut Vec<(u64, u64)>,
+) -> Result<(), ViewFault>
+    requires segment { segment < segment_count }
+    requires blocks { globals_block ≤ D.block_count disk.old }
+    requires room { length places.old.items + body_limit ≤ vec_capacity places.old }
+    requires fit { All (IsPlace total) places.old.items }
+    ensures fits { OnOk result (ForSome (D.seen disk.old) (λ image. bodies_fit total image segment ≡ true)) }
+    ensures added { OnOk result (ForSome (D.seen disk.old) (λ image. places.new.items ≡ places.old.items ++ places_from image segment 0 (body_count image segment))) }
+    ensures damaged { result ≡ Err ViewFault.Damaged → ForSome (D.seen disk.old) (λ image. bodies_fit total image segment ≡ false) }
+    ensures fit { All (IsPlace total) places.new.items }
+    ensures few { length places.new.items ≤ length places.old.items + body_limit }
+    ensures capacity { vec_capacity places.old ≤ vec_capacity places.new }
+    ensures writes { WritesNothing D.Disk disk.old disk.new }
+    ensures cause { result ≡ Err ViewFault.Disk → CountRose D.Disk disk.old disk.new }
+    ensures count { CountGoes D.Disk disk.old disk.new }
+    ensures block_count { D.block_count disk.new ≡ D.block_count disk.old }
+{
+    let mut index = [0; BLOCK_SIZE];
+    match disk.read(index_of(segment), &mut index) {
+        Ok(()) => {
+            if add_bodies(&index, segment, total, places) {
+                Ok(())
+            } else {
+                Err(ViewFault::Damaged)
+            }
+        }
+        Err(Failed) => Err(ViewFault::Disk),
+    }
+}
+
+/// Adds the places of the bodies of a segment, which has none where it is closed. It takes no memory.
+///
+/// [`ViewFault::Damaged`] comes exactly where it is open and does not fit, [`ViewFault::Disk`] only where a read failed.
+pub(crate) fn look_segment<D: Disk>(
+    disk: &mut D,
+    segment: u64,
+    total: u64,
+    places: &mut Vec<(u64, u64)>,
+) -> Result<(), ViewFault>
+    requires segment { segment < segment_count }
+    requires blocks { globals_block ≤ D.block_count disk.old }
+    requires room { length places.old.items + body_limit ≤ vec_capacity places.old }
+    requires fit { All (IsPlace total) places.old.items }
+    ensures fits { OnOk result (ForSome (D.seen disk.old) (λ image. segment_fits total image segment ≡ true)) }
+    ensures added { OnOk result (ForSome (D.seen disk.old) (λ image. places.new.items ≡ places.old.items ++ places_of image segment)) }
+    ensures damaged { result ≡ Err ViewFault.Damaged → ForSome (D.seen disk.old) (λ image. segment_fits total image segment ≡ false) }
+    ensures fit { All (IsPlace total) places.new.items }
+    ensures few { length places.new.items ≤ length places.old.items + body_limit }
+    ensures capacity { vec_capacity places.old ≤ vec_capacity places.new }
+    ensures writes { WritesNothing D.Disk disk.old disk.new }
+    ensures cause { result ≡ Err ViewFault.Disk → CountRose D.Disk disk.old disk.new }
+    ensures count { CountGoes D.Disk disk.old disk.new }
+    ensures block_count { D.block_count disk.new ≡ D.block_count disk.old }
+{
+    match is_open(disk, segment) {
+        Ok(true) => look_index(disk, segment, total, places),
+        Ok(false) => Ok(()),
+        Err(Failed) => Err(ViewFault::Disk),
+    }
+}

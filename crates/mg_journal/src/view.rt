@@ -1,0 +1,178 @@
+// A journal that is looked through and left as it is.
+ghost use Rattle.std.specs.Prelude.{◌≡◌, ◌≤◌, ◌<◌, ◌==◌, All, IfOk, IsSome, None, OnErr, OnOk, find, option_copied, reverse};
+ghost use Rattle.std.specs.Option.{ForSome};
+ghost use Rattle.mg_disk.specs.Disk.{block_at};
+ghost use Rattle.mg_disk.specs.Stops.{CountGoes, CountRose, WritesNothing};
+ghost use Rattle.mg_model.specs.Layout.{globals_block, segment_count};
+ghost use Rattle.mg_model.specs.Replay.{replay};
+ghost use Rattle.mg_journal.specs.Looked.{held_at};
+ghost use Rattle.mg_journal.specs.Places.{Fits, IsPlace};
+
+use crate::faults::ViewFault;
+use crate::places::SEGMENTS;
+use crate::reading::look_segment;
+use mg_disk::{Block, Disk};
+use mg_faults::Failed;
+use std::alloc::Global;
+use std::marker::Model;
+
+/// How many bodies all segments have at most.
+const MOST_PLACES: usize = 1280;
+
+/// The contents of a disk, seen through its journal: where a block was written to an open segment it is read there.
+#[derive(Drop)]
+pub struct View {
+    total: u64,
+    places: Vec<(u64, u64)>,
+}
+
+impl Model for View {
+    ghost use Rattle.std.specs.Prelude.{All};
+    ghost use Rattle.mg_journal.specs.Places.{Placed, IsPlace};
+
+    ghost Value = { Placed };
+
+    ghost view = { λ v. record { total = v.total; places = v.places.items } };
+
+    ghost invariant = { λ v. All (IsPlace v.total) v.places.items };
+}
+
+// The last body that belongs to block `i`.
+fn last_body(places: &[(u64, u64)], i: u64) -> Option<&(u64, u64)>
+    ensures { option_copied result ≡ find (λ place. place.0 == i) (reverse places.now) }
+{
+    places.iter().rev().find(|place| place.0 == i)
+}
+
+impl View {
+    /// Looks through the journal of a disk for a volume of `total` blocks. It only reads: each gate once, and each index of
+    /// an open segment once.
+    ///
+    /// [`ViewFault::Damaged`] comes exactly where the journal cannot be replayed, [`ViewFault::Disk`] only where a call of
+    /// the disk failed.
+    pub fn look<D: Disk>(alloc: Global, disk: &mut D, total: u64) -> Result<View, ViewFault>
+        requires journal { globals_block ≤ total }
+        requires room { total ≤ D.block_count disk.old }
+        ensures fits { IfOk result (λ view. ForSome (D.seen disk.old) (λ image. Fits view image)) }
+        ensures total { IfOk result (λ view. view.total ≡ total) }
+        ensures damaged { result ≡ Err ViewFault.Damaged → ForSome (D.seen disk.old) (λ image. replay image total ≡ None) }
+        ensures replayed { IfOk result (λ _. ForSome (D.seen disk.old) (λ image. IsSome (replay image total))) }
+        ensures writes { WritesNothing D.Disk disk.old disk.new }
+        ensures cause { result ≡ Err ViewFault.Disk → CountRose D.Disk disk.old disk.new }
+        ensures count { CountGoes D.Disk disk.old disk.new }
+        ensures blocks { D.block_count disk.new ≡ D.block_count disk.old }
+    {
+        let mut places = match Vec::with_capacity(alloc, MOST_PLACES) {
+            Ok(places) => places,
+            Err(_) => return Err(ViewFault::Memory),
+        };
+        for segment in 0..SEGMENTS {
+            match look_segment(disk, segment, total, &mut places) {
+                Ok(()) => {}
+                Err(fault) => return Err(fault),
+            }
+        }
+        Ok(View { total, places })
+    }
+
+    /// Where the bodies of the open segments lie, in the order of replay: the block that a body belongs to, and the block
+    /// that holds it.
+    pub(crate) fn places(&self) -> &[(u64, u64)]
+        ensures same { result.now ≡ self.now.places }
+        ensures fit { All (IsPlace self.now.total) result.now }
+    {
+        &self.places
+    }
+
+    /// How many blocks the volume has.
+    pub fn total(&self) -> u64
+        ensures { result ≡ self.now.total }
+    {
+        self.total
+    }
+
+    // The block that holds block `i` of the contents.
+    fn place_of(&self, i: u64) -> u64
+        requires below { i < self.now.total }
+        ensures last { result ≡ held_at self.now.places i }
+        ensures below { result < self.now.total }
+    {
+        match last_body(&self.places, i) {
+            Some(place) => place.1,
+            None => i,
+        }
+    }
+
+    /// Gives block `i` of the contents. A read that fails leaves any bytes in `out`.
+    pub fn read<D: Disk>(&self, disk: &mut D, i: u64, out: &mut Block) -> Result<(), Failed>
+        requires place { i < self.now.total }
+        requires room { self.now.total ≤ D.block_count disk.old }
+        requires fits { ForSome (D.seen disk.old) (λ image. Fits self.now image) }
+        ensures block { OnOk result (ForSome (D.seen disk.old) (λ image. ForSome (replay image self.now.total) (λ r. out.new ≡ block_at r i))) }
+        ensures writes { WritesNothing D.Disk disk.old disk.new }
+        ensures cause { OnErr result (CountRose D.Disk disk.old disk.new) }
+        ensures count { CountGoes D.Disk disk.old disk.new }
+        ensures blocks { D.block_count disk.new ≡ D.block_count disk.old }
+    {
+        disk.read(self.place_of(i), out)
+    }
+}
+
+#[cfg(test)]
+mod tests {
+    use super::*;
+    use crate::places::{gate_of, index_of, opened_gate};
+    use mg_disk::{BLOCK_SIZE, MemDisk};
+    use std::alloc::AllocError;
+
+    /// Opens a segment whose index has this count and this first home, with a body of this byte.
+    fn open_segment(disk: &mut MemDisk, segment: u64, count: u64, home: u64, byte: u8) -> bool
+        requires segment { segment < segment_count }
+        requires room { globals_block ≤ ⟦<MemDisk as Disk>⟧.block_count disk.old }
+        ensures { ⟦<MemDisk as Disk>⟧.block_count disk.new ≡ ⟦<MemDisk as Disk>⟧.block_count disk.old }
+    {
+        let mut index = [0; BLOCK_SIZE];
+        index[0..8].copy_from_slice(&count.to_le_bytes());
+        index[8..16].copy_from_slice(&home.to_le_bytes());
+        disk.write(gate_of(segment), &opened_gate()).is_ok()
+            && disk.write(index_of(segment), &index).is_ok()
+            && disk
+                .write(index_of(segment) + 1, &[byte; BLOCK_SIZE])
+                .is_ok()
+    }
+
+    /// Block `i` of the contents of a volume of 1400 blocks.
+    fn contents_at(alloc: Global, disk: &mut MemDisk, i: u64) -> Option<Block>
+        requires place { i < 1400 }
+        requires room { ⟦<MemDisk as Disk>⟧.block_count disk.old ≡ 1400 }
+        ensures { ⟦<MemDisk as Disk>⟧.block_count disk.new ≡ 1400 }
+    {
+        let mut out = [0; BLOCK_SIZE];
+        match View::look(alloc, disk, 1400) {
+            Ok(view) => view.read(disk, i, &mut out).ok().map(|()| out),
+            Err(_) => None,
+        }
+    }
+
+    #[test]
+    fn reads_the_later_body(rt: HostRuntime) -> Result<(), AllocError> {
+        let mut disk = MemDisk::new(rt.alloc(), 1400, 100, Vec::new(rt.alloc()))?;
+        assert!(rt; open_segment(&mut disk, 2, 1, 1399, 7));
+        assert!(rt; open_segment(&mut disk, 5, 1, 1399, 9));
+        assert!(rt; contents_at(rt.alloc(), &mut disk, 1399) == Some([9; BLOCK_SIZE]));
+        assert!(rt; contents_at(rt.alloc(), &mut disk, 1398) == Some([0; BLOCK_SIZE]));
+        Ok(())
+    }
+
+    #[test]
+    fn damaged_indexes(rt: HostRuntime) -> Result<(), AllocError> {
+        for (count, home) in [(161, 1298), (1, 1297), (1, 1400)] {
+            let mut disk = MemDisk::new(rt.alloc(), 1400, 100, Vec::new(rt.alloc()))?;
+            assert!(rt; open_segment(&mut disk, 7, count, home, 1));
+            let answer = View::look(rt.alloc(), &mut disk, 1400);
+            assert!(rt; matches!(answer, Err(ViewFault::Damaged)), "{count} {home}");
+            assert_eq!(rt; disk.counts().writes, 3);
+        }
+        Ok(())
+    }
+}
