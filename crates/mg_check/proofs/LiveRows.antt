@@ -1,0 +1,76 @@
+-- Live rows, one place after another.
+use Rattle.std.specs.Prelude.{◌≡◌, ℕ, zero, suc, ◌+◌, ◌<◌, ◌≤◌, List, [], ◌∷◌, ◌++◌, Option, Some, None}
+use Rattle.std.proofs.Common.{refl, sym, ap, ◌∙◌, arith, ⊎_elim}
+use Rattle.std.proofs.lemmas.Bool.{cases_eq}
+use Rattle.std.proofs.lemmas.List.{append-nil}
+use Rattle.mg_model.specs.Spelling.{Read}
+use Rattle.mg_model.specs.Volume.{live_rows, with_live}
+use Rattle.mg_model.specs.Words.{and_then}
+use Rattle.mg_check.specs.Told.{IsTold, NotSpelled}
+
+and_then_some : {X Y : Type 0} (o : Option X) (f : X → Option Y) (y : Y) → and_then o f ≡ Some y → (x : X) × (o ≡ Some x) × (f x ≡ Some y)
+and_then_some None f y is = absurd (cc)
+and_then_some (Some x) f y is = (x, refl, is)
+
+and_then_none : {X Y : Type 0} (o : Option X) (f : X → Option Y) → ((x : X) → f x ≡ None) → and_then o f ≡ None
+and_then_none None f each = refl
+and_then_none (Some x) f each = each x
+
+with_live_more : {R : Type 0} (i : ℕ) (row : Option R) (xs ys : List (ℕ × R)) → with_live i row (xs ++ ys) ≡ with_live i row xs ++ ys
+with_live_more i None xs ys = refl
+with_live_more i (Some row) xs ys = refl
+
+module _ {R : Type 0} (read : ℕ → Read R) where
+  step : (i n : ℕ) (row : Option R) (rest : List (ℕ × R)) → read i ≡ Some row → live_rows read (i + 1) n ≡ Some rest → live_rows read i (suc n) ≡ Some (with_live i row rest)
+  step i n row rest here later =
+      ap (λ o. and_then o (λ row. and_then (live_rows read (i + 1) n) (λ rows. Some (with_live i row rows)))) here
+      ∙ ap (λ o. and_then o (λ rows. Some (with_live i row rows))) later
+
+  -- one place more
+  more : (i n j : ℕ) (xs : List (ℕ × R)) (row : Option R) → i + n ≡ j → live_rows read i n ≡ Some xs → read j ≡ Some row → live_rows read i (suc n) ≡ Some (xs ++ with_live j row [])
+  more i zero j xs row at first here =
+      let same : i ≡ j = omega arith in
+      let none : [] ≡ xs = cc in
+      step i zero row [] (ap read same ∙ here) refl
+      ∙ ap (λ k. Some (with_live k row [])) same
+      ∙ ap (λ ys. Some (ys ++ with_live j row [])) none
+  more i (suc n) j xs row at first here =
+      let a = and_then_some (read i) (λ row. and_then (live_rows read (i + 1) n) (λ rows. Some (with_live i row rows))) xs first in
+      let b = and_then_some (live_rows read (i + 1) n) (λ rows. Some (with_live i a.0 rows)) xs a.2 in
+      let same : with_live i a.0 b.0 ≡ xs = (let e = b.2 in cc) in
+      step i (suc n) a.0 (b.0 ++ with_live j row []) a.1 (more (i + 1) n j b.0 row (omega arith) b.1 here)
+      ∙ ap (λ ys. Some ys) (with_live_more i a.0 b.0 (with_live j row []))
+      ∙ ap (λ ys. Some (ys ++ with_live j row [])) same
+
+  -- a row that spells nothing
+  none_spelled : (i n k : ℕ) → read k ≡ None → i ≤ k → k < i + n → live_rows read i n ≡ None
+  none_spelled i zero k missing low high = absurd (omega arith)
+  none_spelled i (suc n) k missing low high =
+      ⊎_elim
+      (λ here. ap (λ o. and_then o (λ row. and_then (live_rows read (i + 1) n) (λ rows. Some (with_live i row rows)))) (ap read (sym here) ∙ missing))
+      (λ other. and_then_none (read i) (λ row. and_then (live_rows read (i + 1) n) (λ rows. Some (with_live i row rows)))
+      (λ row. ap (λ o. and_then o (λ rows. Some (with_live i row rows))) (none_spelled (i + 1) n k missing (omega arith) (omega arith))))
+      (cases_eq k i)
+
+  pub not_spelled : (n k : ℕ) → read k ≡ None → k < n → NotSpelled read n
+  not_spelled n k missing below = record { none = none_spelled 0 n k missing (omega arith) (omega arith) }
+
+  pub told_none : (Q : List (ℕ × R) → Type 0) → Q [] → IsTold read 0 Q
+  told_none Q start = record { rows = []; are = refl; which = start }
+
+  pub told_live : (k : ℕ) (row : R) (P Q : List (ℕ × R) → Type 0) → IsTold read k P → read k ≡ Some (Some row) → ((rows : List (ℕ × R)) → P rows → Q (rows ++ (k, row) ∷ [])) → IsTold read (k + 1) Q
+  told_live k row P Q told here next = record {
+    rows = told.rows ++ (k, row) ∷ [];
+    are = ap (live_rows read 0) (let e : k + 1 ≡ suc k = omega arith in e) ∙ more 0 k k told.rows (Some row) (omega arith) told.are here;
+    which = next told.rows told.which;
+  }
+
+  pub told_free : (k : ℕ) (P : List (ℕ × R) → Type 0) → IsTold read k P → read k ≡ Some None → IsTold read (k + 1) P
+  told_free k P told here = record {
+    rows = told.rows;
+    are = ap (live_rows read 0) (let e : k + 1 ≡ suc k = omega arith in e) ∙ more 0 k k told.rows None (omega arith) told.are here ∙ ap (λ ys. Some ys) (append-nil told.rows);
+    which = told.which;
+  }
+
+  pub told_weaker : (n m : ℕ) (P Q : List (ℕ × R) → Type 0) → n ≡ m → IsTold read n P → ((rows : List (ℕ × R)) → P rows → Q rows) → IsTold read m Q
+  told_weaker n m P Q same told next = record { rows = told.rows; are = ap (live_rows read 0) (sym same) ∙ told.are; which = next told.rows told.which }

@@ -1,0 +1,126 @@
+-- The objects that rows spell, in the order of their bases, and the places of these rows in another order.
+use Rattle.std.specs.Prelude.{◌≡◌, ℕ, ◌+◌, ◌≤◌, ◌&&◌, ◌||◌, nat_le, nat_lt, Bool, true, false, List, [], ◌∷◌, All, if◌then◌else◌, length, map, sum_by}
+use Rattle.std.specs.List.{list_all, list_any}
+use Rattle.std.specs.List.Sorted.{IsPermutation}
+use Rattle.std.proofs.Common.{refl, sym, ap, ◌∙◌, subst, arith, ⊎_elim}
+use Rattle.std.proofs.lemmas.Bool.{and_from, and_parts, cases_Bool, le-leb, ltb-true, ltb-false}
+use Rattle.std.proofs.lemmas.List.Sorted.{IsPermutation-cons, IsPermutation-map, IsPermutation-middle, IsPermutation-refl, IsPermutation-sym, IsPermutation-trans, All-permutation, length_permutation, list_any-IsPermutation, sum_by-IsPermutation}
+use Rattle.std.proofs.lemmas.List.{length-map}
+use Rattle.std.proofs.lemmas.List.Folds.{list_all-map}
+use Rattle.std.proofs.lemmas.List.Sums.{AllPass-from_list_all, list_all-from_AllPass, sum_by-cons}
+use Rattle.std.proofs.lemmas.Simd.{map-map}
+use Rattle.mg_model.specs.Bank.{used}
+use Rattle.mg_model.specs.Objects.{page_behind, page_of, with_object}
+use Rattle.mg_model.specs.State.{Object, ObjectRow}
+use Rattle.mg_model.specs.Volume.{are_apart, is_page_of, object_spelled, objects_spelled}
+use Rattle.mg_check.specs.Spans.{IsSome, apart_from, is_in, ordered_from}
+use Rattle.mg_check.specs.ObjectsTold.{place_of, places_of}
+use Rattle.mg_check.proofs.Apart.{apart-same, both_ways}
+
+-- the place of an object
+abbrev pub object_place : Object → ℕ × ℕ
+object_place object = place_of object.row
+
+inserted : (new : Object) (objects : List Object) → IsPermutation (new ∷ objects) (with_object new objects)
+inserted new [] = IsPermutation-refl (new ∷ [])
+inserted new (object ∷ objects) = ⊎_elim first (later (inserted new objects)) (cases_Bool (nat_lt new.row.base object.row.base))
+  where
+    first : nat_lt new.row.base object.row.base ≡ true → IsPermutation (new ∷ object ∷ objects) (with_object new (object ∷ objects))
+    first t = subst (λ (b : Bool). IsPermutation (new ∷ object ∷ objects) (if b then new ∷ object ∷ objects else object ∷ with_object new objects)) (sym t) (IsPermutation-refl (new ∷ object ∷ objects))
+
+    later : IsPermutation (new ∷ objects) (with_object new objects) → nat_lt new.row.base object.row.base ≡ false → IsPermutation (new ∷ object ∷ objects) (with_object new (object ∷ objects))
+    later rest f =
+        subst (λ (b : Bool). IsPermutation (new ∷ object ∷ objects) (if b then new ∷ object ∷ objects else object ∷ with_object new objects)) (sym f)
+        (IsPermutation-trans (new ∷ object ∷ objects) (object ∷ new ∷ objects) (object ∷ with_object new objects)
+        (IsPermutation-sym (object ∷ new ∷ objects) (new ∷ object ∷ objects) (IsPermutation-middle (object ∷ []) new objects))
+        (IsPermutation-cons object (new ∷ objects) (with_object new objects) rest))
+
+ordered_with : (bound : ℕ) (new : Object) (objects : List Object) → bound ≤ page_of new.row → ordered_from bound (map object_place objects) ≡ true → ordered_from bound (map object_place (with_object new objects)) ≡ true
+ordered_with bound new [] low ordered = and_from (nat_le bound (page_of new.row)) true (le-leb bound (page_of new.row) low) refl
+ordered_with bound new (object ∷ objects) low ordered =
+    let parts = and_parts (nat_le bound (page_of object.row)) (ordered_from (page_of object.row) (map object_place objects)) ordered in
+    ⊎_elim (first parts.1) (λ f. later parts.0 (λ high. ordered_with (page_of object.row) new objects high parts.1) f) (cases_Bool (nat_lt new.row.base object.row.base))
+  where
+    first : ordered_from (page_of object.row) (map object_place objects) ≡ true → nat_lt new.row.base object.row.base ≡ true → ordered_from bound (map object_place (with_object new (object ∷ objects))) ≡ true
+    first rest t =
+        let less = ltb-true new.row.base object.row.base t in
+        let high : page_of new.row ≤ page_of object.row = omega arith in
+        subst (λ (b : Bool). ordered_from bound (map object_place (if b then new ∷ object ∷ objects else object ∷ with_object new objects)) ≡ true) (sym t)
+        (and_from (nat_le bound (page_of new.row)) (nat_le (page_of new.row) (page_of object.row) && ordered_from (page_of object.row) (map object_place objects)) (le-leb bound (page_of new.row) low)
+        (and_from (nat_le (page_of new.row) (page_of object.row)) (ordered_from (page_of object.row) (map object_place objects)) (le-leb (page_of new.row) (page_of object.row) high) rest))
+
+    later : nat_le bound (page_of object.row) ≡ true → (page_of object.row ≤ page_of new.row → ordered_from (page_of object.row) (map object_place (with_object new objects)) ≡ true)
+        → nat_lt new.row.base object.row.base ≡ false → ordered_from bound (map object_place (with_object new (object ∷ objects))) ≡ true
+    later here rest f =
+        let no_less = ltb-false new.row.base object.row.base f in
+        let high : page_of object.row ≤ page_of new.row = omega arith in
+        subst (λ (b : Bool). ordered_from bound (map object_place (if b then new ∷ object ∷ objects else object ∷ with_object new objects)) ≡ true) (sym f)
+        (and_from (nat_le bound (page_of object.row)) (ordered_from (page_of object.row) (map object_place (with_object new objects))) here (rest high))
+
+-- whether objects are apart is a test of their places
+apart_behind : (object : Object) (objects : List Object) → are_apart (object ∷ objects) ≡ apart_from (page_behind object.row) (map object_place objects)
+apart_behind object [] = refl
+apart_behind object (next ∷ objects) = ap (λ t. nat_le (page_behind object.row) (page_of next.row) && t) (apart_behind next objects)
+
+apart_places : (objects : List Object) → are_apart objects ≡ apart_from 0 (map object_place objects)
+apart_places [] = refl
+apart_places (object ∷ objects) = apart_behind object objects ∙ sym (ap (λ t. t && apart_from (page_behind object.row) (map object_place objects)) (le-leb 0 (page_of object.row) (omega arith)))
+
+pub sum-map : {X Y : Type 0} (n : Y → ℕ) (f : X → Y) (xs : List X) → sum_by n (map f xs) ≡ sum_by (λ x. n (f x)) xs
+sum-map n f [] = refl
+sum-map n f (x ∷ xs) = sum_by-cons n (f x) (map f xs) ∙ ap (λ s. n (f x) + s) (sum-map n f xs) ∙ sym (sum_by-cons (λ x. n (f x)) x xs)
+
+any-map : {X Y : Type 0} (p : Y → Bool) (f : X → Y) (xs : List X) → list_any p (map f xs) ≡ list_any (λ x. p (f x)) xs
+any-map p f [] = refl
+any-map p f (x ∷ xs) = ap (λ t. p (f x) || t) (any-map p f xs)
+
+pub all-moved : {X : Type 0} (p : X → Bool) (xs ys : List X) → IsPermutation xs ys → list_all p xs ≡ list_all p ys
+all-moved p xs ys moved =
+    both_ways (list_all p xs) (list_all p ys)
+    (λ all. list_all-from_AllPass p ys (All-permutation (λ x. p x ≡ true) xs ys moved (AllPass-from_list_all p xs all)))
+    (λ all. list_all-from_AllPass p xs (All-permutation (λ x. p x ≡ true) ys xs (IsPermutation-sym xs ys moved) (AllPass-from_list_all p ys all)))
+
+module _ (image : List (List ℕ)) (frames : ℕ) (table : List ℕ) where
+  abbrev spelled : ℕ × ObjectRow → Object
+  spelled row = object_spelled image frames table row.1
+
+  moved : (rows : List (ℕ × ObjectRow)) → IsPermutation (map spelled rows) (objects_spelled image frames table rows)
+  moved [] = IsPermutation-refl []
+  moved ((place, row) ∷ rows) =
+      let object = object_spelled image frames table row in
+      let rest = objects_spelled image frames table rows in
+      IsPermutation-trans (object ∷ map spelled rows) (object ∷ rest) (with_object object rest) (IsPermutation-cons object (map spelled rows) rest (moved rows)) (inserted object rest)
+
+  ordered : (rows : List (ℕ × ObjectRow)) → ordered_from 0 (map object_place (objects_spelled image frames table rows)) ≡ true
+  ordered [] = refl
+  ordered ((place, row) ∷ rows) = ordered_with 0 (object_spelled image frames table row) (objects_spelled image frames table rows) (omega arith) (ordered rows)
+
+  -- what is told of the rows is told of the objects
+  pub spelled-used : (rows : List (ℕ × ObjectRow)) → used (objects_spelled image frames table rows) ≡ sum_by (λ (row : ℕ × ObjectRow). row.1.pages) rows
+  spelled-used rows = sum_by-IsPermutation (λ (object : Object). object.row.pages) (map spelled rows) (objects_spelled image frames table rows) (moved rows) ∙ sum-map (λ (object : Object). object.row.pages) spelled rows
+
+  pub spelled-count : (rows : List (ℕ × ObjectRow)) → length (objects_spelled image frames table rows) ≡ length rows
+  spelled-count rows = length_permutation (map spelled rows) (objects_spelled image frames table rows) (moved rows) ∙ length-map rows spelled
+
+  pub spelled-paid : (accounts : ℕ) (rows : List (ℕ × ObjectRow)) → list_all (λ (object : Object). nat_le object.row.account accounts) (objects_spelled image frames table rows) ≡ list_all (λ (row : ℕ × ObjectRow). nat_le row.1.account accounts) rows
+  spelled-paid accounts rows =
+      sym (all-moved (λ (object : Object). nat_le object.row.account accounts) (map spelled rows) (objects_spelled image frames table rows) (moved rows)) ∙ list_all-map (λ (object : Object). nat_le object.row.account accounts) spelled rows
+
+  -- with their places in another order
+  module _ (rows : List (ℕ × ObjectRow)) (spans : List (ℕ × ℕ)) (sorted : IsPermutation (places_of rows) spans) where
+    places_moved : IsPermutation spans (map object_place (objects_spelled image frames table rows))
+    places_moved =
+        IsPermutation-trans spans (places_of rows) (map object_place (objects_spelled image frames table rows)) (IsPermutation-sym (places_of rows) spans sorted)
+        (subst (λ xs. IsPermutation xs (map object_place (objects_spelled image frames table rows))) (map-map object_place spelled rows) (IsPermutation-map object_place (map spelled rows) (objects_spelled image frames table rows) (moved rows)))
+
+    pub spelled-covered : (page : ℕ) → list_any (is_page_of page) (objects_spelled image frames table rows) ≡ list_any (is_in page) spans
+    spelled-covered page =
+        sym (any-map (is_in page) object_place (objects_spelled image frames table rows))
+        ∙ sym (list_any-IsPermutation (is_in page) spans (map object_place (objects_spelled image frames table rows)) places_moved)
+
+    pub spelled-apart : ordered_from 0 spans ≡ true → All IsSome spans → are_apart (objects_spelled image frames table rows) ≡ apart_from 0 spans
+    spelled-apart in_order some =
+        let objects = objects_spelled image frames table rows in
+        apart_places objects
+        ∙ apart-same (map object_place objects) spans (ordered rows) in_order (All-permutation IsSome spans (map object_place objects) places_moved some) some
+        (λ n. sum_by-IsPermutation (λ (span : ℕ × ℕ). if is_in n span then 1 else 0) spans (map object_place objects) places_moved)

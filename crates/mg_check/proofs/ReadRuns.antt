@@ -1,0 +1,30 @@
+-- How runs of reads join.
+use Rattle.std.specs.Prelude.{◌≡◌, ℕ}
+use Rattle.std.proofs.Common.{refl, sym, ap, ◌∙◌, arith}
+use Rattle.mg_disk.specs.declared.disk.Disk.{Ghosts}
+use Rattle.mg_disk.specs.Runs.{nothing_none, nothing_then}
+use Rattle.mg_faults.specs.Faults.{count_none, count_then}
+use Rattle.mg_journal.specs.Places.{Placed}
+use Rattle.mg_model.specs.Replay.{replay}
+use Rattle.mg_model.specs.Words.{and_then}
+use Rattle.mg_check.specs.Reads.{CanRead, OnlyRead, contents}
+
+module _ {D : Type 0} (facts : Ghosts D) where
+  pub only_none : (disk : D) → facts.has_been disk (facts.moment disk) → OnlyRead facts disk disk
+  only_none disk been = record { writes = nothing_none facts disk been; count = count_none (facts.faults disk) (facts.is_spent disk); blocks = refl }
+
+  pub only_then : (old mid new : D) → OnlyRead facts old mid → OnlyRead facts mid new → OnlyRead facts old new
+  only_then old mid new a b = record {
+    writes = nothing_then facts old mid new a.writes b.writes;
+    count = count_then (facts.faults old) (facts.faults mid) (facts.faults new) (facts.is_spent old) (facts.is_spent mid) (facts.is_spent new) a.count b.count;
+    blocks = b.blocks ∙ a.blocks;
+  }
+
+  pub still_read : (old new : D) (view : Placed) → CanRead facts old view → OnlyRead facts old new → CanRead facts new view
+  still_read old new view can only = record {
+    room = let r = can.room in let e = only.blocks in omega arith;
+    fits = λ image told. can.fits image (sym only.writes.same ∙ told);
+  }
+
+  pub same_contents : (old new : D) (total : ℕ) → OnlyRead facts old new → contents facts new total ≡ contents facts old total
+  same_contents old new total only = ap (λ seen. and_then seen (λ image. replay image total)) only.writes.same

@@ -1,0 +1,49 @@
+use Rattle.std.proofs.Common.{◌≡◌, ◌≢◌, Some, ◌+◌, ◌*◌, ◌/◌, ◌%◌, ◌==◌, Err, ap, sym, ◌∙◌, arith}
+use Rattle.std.proofs.lemmas.Bool.{eqb-false}
+use Rattle.std.proofs.lemmas.Result.{err_from_is_err_and}
+use Rattle.mg_disk.specs.Disk.{Image}
+use Rattle.mg_model.specs.Layout.{table_block, table_blocks}
+use Rattle.mg_model.specs.Replay.{block_of}
+use Rattle.mg_check.specs.declared.faults.RowFault.TheVariants as fault
+use Rattle.mg_check.specs.Reads.{contents}
+use Rattle.mg_check.specs.TableTold.{entry_in, table_entry}
+use Rattle.mg_check.proofs.Apart.{sorted-numbers}
+use Rattle.mg_check.proofs.Entries.{table-rest, table-told}
+use Rattle.mg_check.proofs.ReadRuns.{only_then, same_contents, still_read}
+use Rattle.mg_check.proofs.table.read_table.Goals as goal
+
+pub turn_to-requires-clause-can : goal.turn_to-requires-clause-can
+turn_to-requires-clause-can g c = still_read g.D.Disk c.args.disk.now c.loop-f.disk c.args.view.now c.requires.can c.loop-f.invariant.reads
+
+pub returns-in_err-take-clause-damaged : goal.returns-in_err-take-clause-damaged
+returns-in_err-take-clause-damaged g c is r told =
+    let p = err_from_is_err_and c.from_residual-in_err-take.result c.from_residual-in_err-take.ensures.1 in
+    let was = c.in_err-take.was in
+    let first = p.1 in
+    let same = p.2 in
+    let damaged : c.take.result ≡ Err fault.Damaged = cc in
+    let there = c.in-Ok.ensures.block r (same_contents g.D.Disk c.args.disk.now c.loop-f.disk c.args.view.now.total c.loop-f.invariant.reads ∙ told) in
+    table-rest r c.args.frames (512 * table_blocks c.args.frames) (omega arith) c.loop-f.f (c.take.ensures.behind damaged) (omega arith)
+    (ap (λ block. entry_in block c.loop-f.f == 0) (sym there) ∙ c.take.ensures.damaged damaged)
+
+pub loop-f-preserved : goal.loop-f-preserved
+loop-f-preserved g c =
+    let f = c.loop-f.f in
+    let total = c.args.view.now.total in
+    let at_hand = λ (r : Image) (told : contents g.D.Disk c.args.disk.now total ≡ Some r). c.in-Ok.ensures.block r (same_contents g.D.Disk c.args.disk.now c.loop-f.disk total c.loop-f.invariant.reads ∙ told) in
+    record {
+      reads = only_then g.D.Disk c.args.disk.now c.loop-f.disk c.turn_to.new.disk c.loop-f.invariant.reads c.turn_to.ensures.reads;
+      there = λ test r told.
+          let other : (f + 1) % 512 ≢ 0 = eqb-false ((f + 1) % 512) 0 test in
+          let same : f / 512 ≡ (f + 1) / 512 = omega arith in
+          at_hand r told ∙ ap (λ k. block_of r (table_block + k)) same;
+      told = λ r told. c.in_ok-take.ensures.told (table_entry r) (ap (λ block. entry_in block f) (sym (at_hand r told))) (c.loop-f.invariant.told r told);
+    }
+
+pub returns-clause-told : goal.returns-clause-told
+returns-clause-told g c r told =
+    let at_end : c.loop-f.f ≡ 512 * table_blocks c.args.frames = let past = c.loop-f-test.false in let end = c.loop-f.auto.f-end in omega arith in
+    table-told r c.args.frames c.loop-f.f at_end c.loop-f.pages.items c.sort_unstable.new.self.items (c.loop-f.invariant.told r told) c.sort_unstable.ensures.permutation
+
+pub returns-clause-ordered : goal.returns-clause-ordered
+returns-clause-ordered g c = sorted-numbers c.sort_unstable.new.self.items c.sort_unstable.ensures.sorted

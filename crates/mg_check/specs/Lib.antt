@@ -1,0 +1,10 @@
+pub mod AccountsTold
+pub mod ObjectsTold
+pub mod Reads
+pub mod RowsTold
+pub mod Settled
+pub mod Spans
+pub mod Summaries
+pub mod TableTold
+pub mod ThreadsTold
+pub mod Told

@@ -1,0 +1,24 @@
+-- What is told of a volume.
+use Rattle.std.specs.Prelude.{◌≡◌, length}
+use Rattle.mg_check.specs.declared.examining.Summary.{Summary}
+use Rattle.mg_disk.specs.Disk.{Image}
+use Rattle.mg_model.specs.Bank.{used}
+use Rattle.mg_model.specs.State.{State}
+use Rattle.mg_model.specs.Volume.{Is, volume}
+
+abbrev pub summary_of : State → Summary
+summary_of state = record {
+  frames = state.settings.frames;
+  objects = length state.objects;
+  pages = used state.objects;
+  accounts = length state.accounts;
+  threads = length state.threads;
+  period = state.counters.period;
+  credits = state.settings.credits;
+}
+
+-- the image is a volume, and this is what is told of its state
+pub record Tells (summary : Summary) (image : Image) : Type 0 where
+  pub state : State
+  pub is : volume image ≡ Is state
+  pub told : summary ≡ summary_of state

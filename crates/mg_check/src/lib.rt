@@ -1,0 +1,18 @@
+//! Whether a disk holds a volume.
+//!
+//! A layer above learns from [`examine`] what the image that reads give spells: no volume, an older one, a damaged one, or a
+//! state, exactly by the definition `volume` of `mg_model`, and without a write.
+#![tactic(auto)]
+
+mod accounts;
+mod examining;
+mod faults;
+mod objects;
+mod places;
+mod reading;
+mod sorted;
+mod table;
+mod tables;
+mod threads;
+
+pub use examining::{OpenFault, Summary, examine};
