@@ -1,0 +1,30 @@
+use Rattle.std.proofs.Common.{◌≡◌, ◌<◌, ◌+◌, ◌∙◌, ap, arith, false, true, length, map, rules, slice_index, slice_index_or, subst, sym}
+use Rattle.std.proofs.lemmas.List.{get_or_default, length-map}
+use Rattle.mg_frames.specs.Words.{is_within, unless_within}
+use Rattle.mg_pages.proofs.StagedTables.{more-same, more-staged, same-entries}
+use Rattle.mg_pages.specs.Entries.{HoldsEntries}
+use Rattle.mg_pages.specs.Parts.{StagesTable}
+use Rattle.mg_pages.proofs.releasing.release_pages.Goals as goal
+use Rattle.mg_pages.proofs.releasing.release_pages.Goals.{then-changed-k, else-changed-k}
+
+pub loop-k-preserved : goal.loop-k-preserved
+loop-k-preserved c =
+    let old = c.args.frames.now in
+    let new = map (unless_within c.args.first c.args.pages) old in
+    let k = c.loop-k.k in
+    let was = c.args.writes.now in
+    let many : length c.blocks_with-changed.result ≡ 128 = search rules in
+    let same : length c.release_range.new.self ≡ length old = ap (λ frames. length frames) c.release_range.ensures ∙ length-map old (unless_within c.args.first c.args.pages) in
+    let within : k < length c.blocks_with-changed.result = omega arith in
+    elim c.if-changed-k.branch [
+      | then-changed-k w ↦
+          let hold = subst (λ frames. HoldsEntries frames k w.entries_block.result) (w.as_slice-then-changed-k.ensures ∙ c.release_range.ensures) w.entries_block.ensures in
+          subst (λ writes. StagesTable old new (k + 1) was writes) (sym (w.writes-is ∙ w.stage.ensures)) (more-staged old new k was c.loop-k.writes c.loop-k.invariant w.entries_block.result hold)
+      | else-changed-k w ↦
+          subst (λ writes. StagesTable old new (k + 1) was writes) (sym w.writes-is)
+          (more-same old new k was c.loop-k.writes c.loop-k.invariant
+          (same-entries old c.args.first c.args.pages k (λ i below at.
+          let same = c.as_slice.ensures in
+          ap (λ frames. is_within c.args.first c.args.pages (slice_index frames i)) (sym same)
+          ∙ c.blocks_with-changed.ensures i (let n = ap (λ frames. length frames) same in omega arith) (ap (λ n. slice_index_or c.blocks_with-changed.result n true) at ∙ get_or_default c.blocks_with-changed.result k true false within ∙ w.if-changed-k.false))))
+    ]

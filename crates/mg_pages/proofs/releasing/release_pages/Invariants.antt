@@ -1,0 +1,8 @@
+use Rattle.std.proofs.Common.{map}
+use Rattle.mg_frames.specs.Words.{unless_within}
+use Rattle.mg_pages.specs.Parts.{StagesTable}
+use Rattle.mg_pages.proofs.releasing.release_pages.Given as goal
+
+-- the blocks of the frame table before this one are staged where they change
+abbrev pub invariant-loop-k : goal.invariant-loop-k
+invariant-loop-k l = StagesTable l.fn.frames (map (unless_within l.first l.pages) l.fn.frames) l.k l.fn.writes l.writes

@@ -1,0 +1,58 @@
+-- What the layer above may know of an image that spells the pages.
+use Rattle.std.specs.Prelude.{◌≡◌, ◌≤◌, ℕ, true, List, [], ◌∷◌, drop, length, Option, Some}
+use Rattle.std.specs.Option.{option_map_or}
+use Rattle.std.proofs.Common.{refl, sym, ap, ◌∙◌, arith}
+use Rattle.mg_disk.specs.Disk.{Image}
+use Rattle.mg_journal.specs.Standing as journal
+use Rattle.mg_model.specs.Bytes.{are_zeros}
+use Rattle.mg_model.specs.Layout.{total_blocks}
+use Rattle.mg_model.specs.Replay.{replay, written}
+use Rattle.mg_model.specs.Tests.{all_distinct}
+use Rattle.mg_model.specs.Volume.{bound_pages, table_of, whole_table}
+use Rattle.mg_pages.specs.Held.{PagesHeld}
+use Rattle.mg_pages.specs.Meaning.{IsSpelledBy, Spelled, coming, frame_count, replayed, staged_of, table_in, total_of}
+
+spelled : (p : PagesHeld) (image : Image) → IsSpelledBy p image → Spelled p image
+unfolding IsSpelledBy
+spelled p image is = is
+
+pub long_of : (p : PagesHeld) (image : Image) → IsSpelledBy p image → total_of p ≤ length image
+long_of p image is = (spelled p image is).long
+
+pub some_frames : (p : PagesHeld) (image : Image) → IsSpelledBy p image → 16 ≤ frame_count p
+some_frames p image is = (spelled p image is).some
+
+pub few_frames : (p : PagesHeld) (image : Image) → IsSpelledBy p image → frame_count p ≤ 65536
+few_frames p image is = (spelled p image is).few
+
+pub size_of : (p : PagesHeld) (image : Image) → IsSpelledBy p image → total_of p ≡ total_blocks (frame_count p)
+size_of p image is = (spelled p image is).size
+
+-- what is coming spells the frame table, and no page stands there twice
+pub table_spelled : (p : PagesHeld) (image : Image) → IsSpelledBy p image → table_of (coming p image) (frame_count p) ≡ table_in p
+table_spelled p image is = (spelled p image is).table
+
+pub past_spelled : (p : PagesHeld) (image : Image) → IsSpelledBy p image → are_zeros (drop (frame_count p) (whole_table (coming p image) (frame_count p))) ≡ true
+past_spelled p image is = (spelled p image is).past
+
+pub no_page_twice : (p : PagesHeld) (image : Image) → IsSpelledBy p image → all_distinct (bound_pages (table_in p)) ≡ true
+no_page_twice p image is = (spelled p image is).distinct
+
+-- the journal can be replayed
+replayed_is : (total : ℕ) (image r : Image) → replay image total ≡ Some r → replayed total image ≡ r
+replayed_is total image r is = ap (λ (o : Option Image). option_map_or (λ (v : Image). v) o image) is
+
+pub replays : (p : PagesHeld) (image : Image) → IsSpelledBy p image → (r : Image) × (replay image (total_of p) ≡ Some r)
+unfolding total_of
+replays p image is = journal.fitting_replays p.store image (spelled p image is).fitting
+
+-- with nothing staged, what is coming is the replay
+none_written : (writes : List (ℕ × List ℕ)) (image : Image) → length writes ≡ 0 → written image writes ≡ image
+none_written [] image none = refl
+none_written (w ∷ writes) image none = absurd (omega arith)
+
+pub coming_still : (p : PagesHeld) (image : Image) → IsSpelledBy p image → staged_of p ≡ 0 → replay image (total_of p) ≡ Some (coming p image)
+unfolding total_of coming staged_of
+coming_still p image is none =
+    let r = replays p image is in
+    r.1 ∙ ap (λ (v : Image). Some v) (sym (none_written p.writes (replayed (journal.total_of p.store) image) none ∙ replayed_is (journal.total_of p.store) image r.0 r.1))

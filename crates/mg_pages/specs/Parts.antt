@@ -1,0 +1,70 @@
+-- What the parts of a change of pages do, over the lists that they are given.
+use Rattle.std.specs.Prelude.{◌≡◌, ◌⊎◌, ◌+◌, ◌/◌, ◌≤◌, ◌<◌, ◌==◌, ◌||◌, ℕ, true, false, List, [], ◌∷◌, if◌then◌else◌, length, replicate, slice_set, Option, Some}
+use Rattle.std.specs.List.{list_any, position}
+use Rattle.std.specs.Option.{ForSome}
+use Rattle.mg_disk.specs.Disk.{Image, block_at}
+use Rattle.mg_journal.specs.Contents.{names}
+use Rattle.mg_journal.specs.Staged.{staged}
+use Rattle.mg_journal.specs.declared.store.Store.{Store}
+use Rattle.mg_model.specs.Bytes.{block_words}
+use Rattle.mg_model.specs.Layout.{first_frame, table_block}
+use Rattle.mg_model.specs.Replay.{homes_fit, written}
+use Rattle.mg_pages.specs.Entries.{HoldsEntries}
+use Rattle.mg_pages.specs.Meaning.{replayed}
+use Rattle.mg_pages.specs.Once.{are_once}
+
+-- the blocks that an image will have once these writes are committed
+abbrev pub coming_of : Store → List (ℕ × List ℕ) → Image → Image
+coming_of store writes image = written (replayed store.total image) writes
+
+-- one block more is staged
+pub record StagesBlock (old new : List (ℕ × List ℕ)) (block : ℕ) (is : List ℕ → Type 0) : Type 0 where
+  pub bytes : List ℕ
+  pub more : new ≡ staged old block bytes
+  pub are : is bytes
+
+-- a page is bound to the lowest free frame: the frame's block and the table's block are staged
+pub record Begins (page : ℕ) (old_frames new_frames : List ℕ) (old_writes new_writes : List (ℕ × List ℕ)) (words : List ℕ → Type 0) : Type 0 where
+  pub frame : ℕ
+  pub lowest : position (λ entry. entry == 0) old_frames ≡ Some frame
+  pub bound : new_frames ≡ slice_set old_frames frame page
+  pub block : List ℕ
+  pub are : words block
+  pub entries : List ℕ
+  pub hold : HoldsEntries new_frames (frame / 512) entries
+  pub more : new_writes ≡ staged (staged old_writes (first_frame (length old_frames) + frame) block) (table_block + frame / 512) entries
+
+-- a word is put into the block of a page that has a frame, where the disk tells the block
+pub record ChangesWord (told : Option Image) (store : Store) (page index value : ℕ) (frames : List ℕ) (old new : List (ℕ × List ℕ)) : Type 0 where
+  pub frame : ℕ
+  pub holds : position (λ entry. entry == page) frames ≡ Some frame
+  pub bytes : List ℕ
+  pub more : new ≡ staged old (first_frame (length frames) + frame) bytes
+  pub are : ForSome told (λ image. block_words bytes ≡ slice_set (block_words (block_at (coming_of store old image) (first_frame (length frames) + frame))) index value)
+
+-- or the page is bound first
+pub record BindsWord (page index value : ℕ) (old_frames new_frames : List ℕ) (old new : List (ℕ × List ℕ)) : Type 0 where
+  pub unbound : list_any (λ entry. entry == page) old_frames ≡ false
+  pub begins : Begins page old_frames new_frames old new (λ bytes. block_words bytes ≡ slice_set (replicate 512 0) index value)
+
+abbrev pub Stores : Option Image → Store → ℕ → ℕ → ℕ → List ℕ → List ℕ → List (ℕ × List ℕ) → List (ℕ × List ℕ) → Type 0
+Stores told store page index value old_frames new_frames old new =
+    ((new_frames ≡ old_frames) × ChangesWord told store page index value old_frames old new) ⊎ BindsWord page index value old_frames new_frames old new
+
+-- the frames once these entries are bound from a frame on: an entry whose page is bound already, or past the last frame, is
+-- passed over
+abbrev pub bound_at : List ℕ → ℕ → ℕ → List ℕ
+bound_at frames frame page = if page == 0 || list_any (λ entry. entry == page) frames then frames else slice_set frames frame page
+
+abbrev pub bound_from : List ℕ → ℕ → List ℕ → List ℕ
+bound_from frames frame [] = frames
+bound_from frames frame (page ∷ pages) = bound_from (bound_at frames frame page) (frame + 1) pages
+
+-- the first blocks of a frame table spell other frames: those of them that change are staged
+pub record StagesTable (old_frames new_frames : List ℕ) (n : ℕ) (old new : List (ℕ × List ℕ)) : Type 0 where
+  pub once : are_once new ≡ true
+  pub few : length new ≤ length old + n
+  pub still : (block : ℕ) → names old block ≡ true → names new block ≡ true
+  pub homes : (total : ℕ) → table_block + n ≤ total → homes_fit total old ≡ true → homes_fit total new ≡ true
+  pub apart : (r : Image) (block : ℕ) → (block < table_block) ⊎ (table_block + n ≤ block) → block_at (written r new) block ≡ block_at (written r old) block
+  pub holds : (r : Image) (k : ℕ) → k < n → table_block + n ≤ length r → HoldsEntries old_frames k (block_at (written r old) (table_block + k)) → HoldsEntries new_frames k (block_at (written r new) (table_block + k))

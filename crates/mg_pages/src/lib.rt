@@ -1,0 +1,19 @@
+//! The pages of a volume: words that stand in frames of the disk, and changes that wait for a commit.
+//!
+//! A layer above reads and writes words of pages by the page's number, stages whole blocks before the frame table, and
+//! commits what is staged: at each moment of a commit a stop leaves the old contents or the new. Which frame holds a page
+//! shows in no contract.
+//!
+//! `specs/Meaning.antt` has the words of the contracts: what is `coming` of an image, the words of a page now, and when the
+//! pages stand on a disk.
+#![tactic(auto)]
+
+mod coming;
+mod loading;
+mod pages;
+mod releasing;
+mod storing;
+mod table;
+mod words;
+
+pub use pages::Pages;

@@ -1,0 +1,278 @@
+// The pages of a volume, and what is staged.
+ghost use Rattle.std.specs.Prelude.{[], List, ◌≡◌, ◌≢◌, ◌⊎◌, ◌≤◌, ◌<◌, ◌+◌, ◌%◌, ◌^◌, ◌==◌, ◌&&◌, nat_le, nat_lt, ℕ, true, false, IfOk, IsSomeAnd, OnErr, OnOk, length, map, replicate, slice_index, slice_set, if◌then◌else◌, take, drop};
+ghost use Rattle.std.specs.List.{list_any};
+ghost use Rattle.std.specs.Option.{ForSome};
+ghost use Rattle.mg_disk.specs.Disk.{block_at, SameBut};
+ghost use Rattle.mg_disk.specs.Stops.{CountGoes, CountRose, Leaves, WritesNothing};
+ghost use Rattle.mg_journal.specs.Contents.{InJournal, SameContents};
+ghost use Rattle.mg_journal.specs.Standing as journal;
+ghost use Rattle.mg_model.specs.Bytes.{are_zeros};
+ghost use Rattle.mg_model.specs.Layout.{first_frame, globals_block, table_block, table_blocks, total_blocks};
+ghost use Rattle.mg_model.specs.Replay.{replay};
+ghost use Rattle.mg_model.specs.Tests.{all_distinct};
+ghost use Rattle.mg_model.specs.Volume.{bound_pages, table_of, whole_table};
+ghost use Rattle.mg_pages.specs.Meaning.{BindsOnly, CountsNone, CountsOne, IsKept, IsTable, Keeps, Releases, SameShape, SetsWord, StagesMore, StandsOn, Unbinds, IsSpelledBy, coming, frame_count, is_bound, is_live, is_staged, page_now, replayed, staged_of, store_of, table_in, total_of, words_in};
+ghost use Rattle.mg_pages.specs.Committing.{HasContents};
+
+use crate::coming::page_word;
+use crate::loading::load_entries;
+use crate::releasing::release_pages;
+use crate::storing::store_word;
+use mg_disk::{Block, Disk};
+use mg_faults::Failed;
+use mg_frames::Frames;
+use mg_journal::{Store, Writes};
+use mg_layout::Geometry;
+use mg_model::Steps;
+use std::alloc::{AllocError, Global};
+use std::marker::Model;
+use std::sync::ledger::Ledger;
+
+/// The pages of a volume, with what is staged.
+#[derive(Drop)]
+pub struct Pages {
+    store: Store,
+    frames: Frames,
+    writes: Writes,
+    count: u64,
+}
+
+impl Model for Pages {
+    ghost use Rattle.mg_pages.specs.Held.{IsSound, PagesHeld};
+
+    ghost Value = { PagesHeld };
+
+    ghost view = { λ p. record { store = p.store; frames = p.frames; writes = p.writes; count = p.count } };
+
+    ghost invariant = { λ p. IsSound (record { store = p.store; frames = p.frames; writes = p.writes; count = p.count }) };
+}
+
+impl Pages {
+    /// The pages of a volume with this journal and these places, none bound yet. All memory that they will need is taken
+    /// here.
+    pub fn new(alloc: Global, store: Store, g: Geometry) -> Result<Pages, AllocError>
+        requires frames { (frames : ℕ) × (16 ≤ frames) × (frames ≤ 65536) × (g.total ≡ total_blocks frames) × (g.table ≡ table_blocks frames) × (g.first_frame ≡ first_frame frames) }
+        requires total { journal.total_of store ≡ g.total }
+        ensures store { IfOk result (λ p. store_of p ≡ store) }
+        ensures total { IfOk result (λ p. total_of p ≡ g.total) }
+        ensures frames { IfOk result (λ p. first_frame (frame_count p) ≡ g.first_frame) }
+        ensures none { IfOk result (λ p. table_in p ≡ replicate (frame_count p) 0) }
+        ensures live { IfOk result (λ p. is_live p ≡ journal.is_live store) }
+        ensures staged { IfOk result (λ p. staged_of p ≡ 0) }
+        ensures coming { IfOk result (λ p. (image : List (List ℕ)) → coming p image ≡ replayed g.total image) }
+    {
+        let frames = Frames::new(alloc, g.total - g.first_frame)?;
+        let writes = Writes::new(alloc)?;
+        Ok(Pages {
+            store,
+            frames,
+            writes,
+            count: 0,
+        })
+    }
+
+    /// Binds the pages that the frame table of the disk names. Where the disk does not tell its reads, an entry whose page
+    /// is bound already is passed over. After [`Failed`], which comes only where a call of the disk failed, some pages may
+    /// be bound.
+    pub fn load_table<D: Disk>(&mut self, disk: &mut D) -> Result<(), Failed>
+        requires stands { journal.Stands D.Disk (store_of self.old) disk.old }
+        requires none { table_in self.old ≡ replicate (frame_count self.old) 0 }
+        requires unstaged { staged_of self.old ≡ 0 }
+        requires table { ForSome (D.seen disk.old) (λ image. IsTable (frame_count self.old) (coming self.old image)) }
+        ensures table { OnOk result (ForSome (D.seen disk.old) (λ image. table_in self.new ≡ table_of (coming self.old image) (frame_count self.old))) }
+        ensures stands { OnOk result (StandsOn D.Disk self.new disk.new) }
+        ensures coming { (image : List (List ℕ)) → coming self.new image ≡ coming self.old image }
+        ensures shape { SameShape self.old self.new }
+        ensures unstaged { staged_of self.new ≡ 0 }
+        ensures writes { WritesNothing D.Disk disk.old disk.new }
+        ensures cause { OnErr result (CountRose D.Disk disk.old disk.new) }
+        ensures count { CountGoes D.Disk disk.old disk.new }
+        ensures blocks { D.block_count disk.new ≡ D.block_count disk.old }
+    {
+        load_entries(&self.store, &mut self.frames, disk)
+    }
+
+    /// The page that a frame holds, 0 where it is free.
+    pub fn page_at(&self, frame: u64) -> u64
+        requires { frame < frame_count self.now }
+        ensures { result ≡ slice_index (table_in self.now) frame }
+    {
+        self.frames.page_at(frame)
+    }
+
+    /// Unbinds the pages of a range, 1 to 1024 of them: they read as zeros. At most 32 blocks may be staged before.
+    pub fn release(&mut self, first: u64, pages: u64)
+        requires some { 1 ≤ pages }
+        requires range { first + pages ≤ 2 ^ 40 }
+        requires few { staged_of self.old ≤ 32 }
+        ensures released { (image : List (List ℕ)) → IsSpelledBy self.old image → Releases self.old self.new image first pages }
+        ensures spelled { (image : List (List ℕ)) → IsSpelledBy self.old image → IsSpelledBy self.new image }
+        ensures unbinds { Unbinds first pages self.old self.new }
+        ensures shape { SameShape self.old self.new }
+        ensures staged { StagesMore 128 self.old self.new }
+        ensures words { words_in self.new ≡ words_in self.old }
+    {
+        release_pages(&mut self.frames, &mut self.writes, first, pages);
+    }
+
+    /// The word at an index of a page, below 512: the staged one, else that of the volume, else 0. [`Failed`] comes only
+    /// where a call of the disk failed, and changes nothing. Ok counts one word, here and in `steps`.
+    pub fn word<D: Disk, L: Ledger>(
+        &mut self,
+        disk: &mut D,
+        page: u64,
+        index: u64,
+        steps: &mut Steps<L>,
+    ) -> Result<u64, Failed>
+        requires stands { StandsOn D.Disk self.old disk.old }
+        requires page { page ≢ 0 }
+        requires index { index < 512 }
+        ensures word { IfOk result (λ word. ForSome (D.seen disk.old) (λ image. word ≡ slice_index (page_now self.old image page) index)) }
+        ensures keeps { Keeps self.old self.new }
+        ensures stands { StandsOn D.Disk self.new disk.new }
+        ensures writes { WritesNothing D.Disk disk.old disk.new }
+        ensures counts { OnOk result (CountsOne self.old self.new steps.old steps.new) }
+        ensures counts_failed { OnErr result (CountsNone self.old self.new steps.old steps.new) }
+        ensures cause { OnErr result (CountRose D.Disk disk.old disk.new) }
+        ensures count { CountGoes D.Disk disk.old disk.new }
+        ensures blocks { D.block_count disk.new ≡ D.block_count disk.old }
+    {
+        match page_word(&self.store, &self.frames, &self.writes, disk, page, index) {
+            Ok(word) => {
+                count_word(&mut self.count, steps);
+                Ok(word)
+            }
+            Err(Failed) => Err(Failed),
+        }
+    }
+
+    /// Puts a word at an index of a page, below 512. The first store to a page binds the lowest free frame, which begins
+    /// with zeros. [`Failed`] comes only where a call of the disk failed, and changes nothing. Ok counts one word, here and
+    /// in `steps`.
+    pub fn set_word<D: Disk, L: Ledger>(
+        &mut self,
+        disk: &mut D,
+        page: u64,
+        index: u64,
+        value: u64,
+        steps: &mut Steps<L>,
+    ) -> Result<(), Failed>
+        requires stands { StandsOn D.Disk self.old disk.old }
+        requires page { page ≢ 0 }
+        requires frame { (is_bound self.old page ≡ true) ⊎ (is_bound self.old 0 ≡ true) }
+        requires index { index < 512 }
+        requires few { staged_of self.old ≤ 158 }
+        ensures sets { OnOk result (ForSome (D.seen disk.old) (λ image. SetsWord self.old self.new image page index value)) }
+        ensures binds { BindsOnly page self.old self.new }
+        ensures failed { OnErr result (Keeps self.old self.new) }
+        ensures shape { SameShape self.old self.new }
+        ensures staged { StagesMore 2 self.old self.new }
+        ensures stands { StandsOn D.Disk self.new disk.new }
+        ensures writes { WritesNothing D.Disk disk.old disk.new }
+        ensures counts { OnOk result (CountsOne self.old self.new steps.old steps.new) }
+        ensures counts_failed { OnErr result (CountsNone self.old self.new steps.old steps.new) }
+        ensures cause { OnErr result (CountRose D.Disk disk.old disk.new) }
+        ensures count { CountGoes D.Disk disk.old disk.new }
+        ensures blocks { D.block_count disk.new ≡ D.block_count disk.old }
+    {
+        match store_word(
+            &self.store,
+            &mut self.frames,
+            &mut self.writes,
+            disk,
+            page,
+            index,
+            value,
+        ) {
+            Ok(()) => {
+                count_word(&mut self.count, steps);
+                Ok(())
+            }
+            Err(Failed) => Err(Failed),
+        }
+    }
+
+    /// Stages a block between the journal and the frame table.
+    pub fn stage(&mut self, block: u64, from: &Block)
+        requires low { globals_block ≤ block }
+        requires high { block < table_block }
+        requires room { (is_staged self.old block ≡ true) ⊎ (staged_of self.old < 160) }
+        ensures coming { (image : List (List ℕ)) → coming self.new image ≡ slice_set (coming self.old image) block from.now }
+        ensures table { table_in self.new ≡ table_in self.old }
+        ensures shape { SameShape self.old self.new }
+        ensures staged { StagesMore 1 self.old self.new }
+        ensures here { is_staged self.new block ≡ true }
+        ensures words { words_in self.new ≡ words_in self.old }
+        ensures spelled { (image : List (List ℕ)) → IsSpelledBy self.old image → IsSpelledBy self.new image }
+    {
+        self.writes.stage(block, from);
+    }
+
+    /// Makes what is staged durable. With nothing staged no call is made. After [`Failed`], which comes only where a call
+    /// of the disk failed, the pages are not live: the disk has the old contents or the new.
+    pub fn commit<D: Disk>(&mut self, disk: &mut D) -> Result<(), Failed>
+        requires live { is_live self.old ≡ true }
+        requires stands { StandsOn D.Disk self.old disk.old }
+        ensures any_moment { ForSome (D.seen disk.old) (λ image. Leaves D.Disk disk.old disk.new (λ c.
+            SameContents (total_of self.old) image c ⊎ HasContents (total_of self.old) (coming self.old image) c)) }
+        ensures done { OnOk result (ForSome (D.seen disk.old) (λ image. IsSomeAnd (D.seen disk.new) (HasContents (total_of self.old) (coming self.old image)))) }
+        ensures came_from { OnOk result (ForSome (D.seen disk.new) (λ now. IsSomeAnd (D.seen disk.old) (λ image. HasContents (total_of self.old) (coming self.old image) now))) }
+        ensures stands { OnOk result (StandsOn D.Disk self.new disk.new) }
+        ensures staged { OnOk result (staged_of self.new ≡ 0) }
+        ensures table { table_in self.new ≡ table_in self.old }
+        ensures total { total_of self.new ≡ total_of self.old }
+        ensures frames { frame_count self.new ≡ frame_count self.old }
+        ensures live { OnOk result (is_live self.new ≡ true) }
+        ensures dead { OnErr result (is_live self.new ≡ false) }
+        ensures words { words_in self.new ≡ words_in self.old }
+        ensures cause { OnErr result (CountRose D.Disk disk.old disk.new) }
+        ensures count { CountGoes D.Disk disk.old disk.new }
+        ensures blocks { D.block_count disk.new ≡ D.block_count disk.old }
+    {
+        match self.store.commit(disk, &self.writes) {
+            Ok(()) => {
+                forget(&mut self.writes);
+                Ok(())
+            }
+            Err(Failed) => Err(Failed),
+        }
+    }
+
+    /// How many blocks are staged, 0 to 160.
+    pub fn staged(&self) -> usize
+        ensures staged { result ≡ staged_of self.now }
+        ensures kept { IsKept self.now }
+    {
+        self.writes.len()
+    }
+
+    /// Whether no commit has failed.
+    pub fn live(&self) -> bool
+        ensures { result ≡ is_live self.now }
+    {
+        self.store.live()
+    }
+
+    /// How many words were read and written, modulo `2^64`.
+    pub fn words(&self) -> u64
+        ensures { result ≡ words_in self.now }
+    {
+        self.count
+    }
+}
+
+// One word more, read or written.
+fn count_word<L: Ledger>(count: &mut u64, steps: &mut Steps<L>)
+    ensures words { count.new ≡ (count.old + 1) % 2 ^ 64 }
+    ensures ticks { steps.new ≡ steps.old + 1 }
+{
+    *count = count.wrapping_add(1);
+    steps.tick();
+}
+
+// Nothing waits once it is durable.
+fn forget(writes: &mut Writes)
+    ensures { writes.new ≡ [] }
+{
+    writes.clear();
+}

@@ -1,0 +1,57 @@
+// The frames of released pages, and the blocks of the frame table that change.
+ghost use Rattle.std.specs.Prelude.{◌≡◌, ◌+◌, ◌*◌, ◌/◌, ◌≤◌, ◌<◌, ◌^◌, ℕ, false, true, length, map, slice_index, slice_index_or};
+ghost use Rattle.mg_frames.specs.Words.{is_within, unless_within};
+ghost use Rattle.mg_model.specs.Layout.{body_limit, table_blocks};
+ghost use Rattle.mg_pages.specs.Once.{are_once};
+ghost use Rattle.mg_pages.specs.Parts.{StagesTable};
+
+use crate::table::{TABLE_BLOCK, entries_block};
+use mg_frames::Frames;
+use mg_journal::Writes;
+use mg_layout::Geometry;
+
+/// The most blocks that a frame table has.
+const MOST_BLOCKS: usize = 128;
+
+/// Frees the frames of all pages in a range, and stages each block of the frame table that changes.
+pub(crate) fn release_pages(frames: &mut Frames, writes: &mut Writes, first: u64, pages: u64)
+    requires range { first + pages < 2 ^ 64 }
+    requires some { 16 ≤ length frames.old }
+    requires few { length frames.old ≤ 65536 }
+    requires once { are_once writes.old ≡ true }
+    requires room { length writes.old + 128 ≤ body_limit }
+    ensures frames { frames.new ≡ map (unless_within first pages) frames.old }
+    ensures staged { StagesTable frames.old frames.new (table_blocks (length frames.old)) writes.old writes.new }
+{
+    let changed = blocks_with(frames.as_slice(), first, pages);
+    frames.release_range(first, pages);
+    let blocks = Geometry::of(frames.len()).table;
+    for k in 0..blocks {
+        if changed[k as usize] {
+            writes.stage(TABLE_BLOCK + k, &entries_block(frames.as_slice(), k));
+        }
+    }
+}
+
+// Which blocks of the frame table name a page of a range.
+fn blocks_with(frames: &[u64], first: u64, pages: u64) -> [bool; MOST_BLOCKS]
+    requires range { first + pages < 2 ^ 64 }
+    requires few { length frames.now ≤ 65536 }
+    ensures { (i : ℕ) → i < length frames.now → slice_index_or result (i / 512) true ≡ false → is_within first pages (slice_index frames.now i) ≡ false }
+{
+    let mut found = [false; MOST_BLOCKS];
+    for (i, page) in frames.iter().enumerate() {
+        if lies_within(*page, first, pages) {
+            found[i / 512] = true;
+        }
+    }
+    found
+}
+
+// Whether a page lies in a range.
+fn lies_within(page: u64, first: u64, pages: u64) -> bool
+    requires { first + pages < 2 ^ 64 }
+    ensures { result ≡ is_within first pages page }
+{
+    first <= page && page < first + pages
+}

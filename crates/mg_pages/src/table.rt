@@ -1,0 +1,48 @@
+// The frame table: one entry of 8 bytes a frame.
+ghost use Rattle.std.specs.Prelude.{◌≡◌, ◌+◌, ◌*◌, ◌≤◌, ◌<◌, length, slice_index};
+ghost use Rattle.mg_model.specs.Layout.{first_frame};
+ghost use Rattle.mg_pages.specs.Entries.{HoldsEntries};
+
+use crate::words::put_word;
+use mg_disk::{BLOCK_SIZE, Block};
+use mg_layout::Geometry;
+
+/// The first block of the frame table.
+pub(crate) const TABLE_BLOCK: u64 = 2595;
+
+/// How many entries a block of the frame table has.
+const ENTRIES: usize = 512;
+
+/// The block of a frame, on a volume of so many frames.
+pub(crate) fn frame_block(frames: u64, frame: u64) -> u64
+    requires some { 16 ≤ frames }
+    requires few { frames ≤ 65536 }
+    requires frame { frame < frames }
+    ensures { result ≡ first_frame frames + frame }
+{
+    Geometry::of(frames).first_frame + frame
+}
+
+/// Block `k` of the frame table.
+pub(crate) fn entries_block(frames: &[u64], k: u64) -> Block
+    requires { k < 128 }
+    ensures { HoldsEntries frames.now k result }
+{
+    let first = ENTRIES * k as usize;
+    let mut block = [0; BLOCK_SIZE];
+    for j in 0..ENTRIES {
+        put_word(&mut block, j as u64, entry_at(frames, first + j));
+    }
+    block
+}
+
+// The entry of a frame, 0 past the last one.
+fn entry_at(frames: &[u64], frame: usize) -> u64
+    ensures { result ≡ slice_index frames.now frame }
+{
+    if frame < frames.len() {
+        frames[frame]
+    } else {
+        0
+    }
+}
