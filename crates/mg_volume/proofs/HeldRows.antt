@@ -1,0 +1,25 @@
+-- How the rows that are held grow by one.
+use Rattle.std.specs.Prelude.{◌≡◌, ℕ, ◌+◌, List, [], ◌∷◌, ◌++◌, drop, length, take}
+use Rattle.std.specs.List.{insert}
+use Rattle.std.proofs.Common.{sym, ap, ◌∙◌, arith}
+use Rattle.std.proofs.lemmas.List.{map-append}
+use Rattle.std.proofs.lemmas.List.Elements.{All-append, All-cons, All-drop, All-same, All-take}
+use Rattle.mg_model.specs.declared.accounts.AccRow.{AccRow}
+use Rattle.mg_model.specs.Ranges.{IsObjectRow}
+use Rattle.mg_model.specs.State.{ObjectRow, ThreadRow}
+use Rattle.mg_volume.specs.Loading.{AreAccounts, AreRows, AreThreads}
+use Rattle.mg_volume.specs.Meaning.{placed_from}
+use Rattle.mg_volume.proofs.Gaps.{placed_more}
+
+pub threads_more : (rows old new : List (ℕ × ThreadRow)) (i : ℕ) (row : ThreadRow) → AreThreads old rows → new ≡ old ++ (i + 1, row) ∷ [] → AreThreads new (rows ++ (i, row) ∷ [])
+threads_more rows old new i row are more =
+    map-append (λ (t : ℕ × ThreadRow). (t.0 + 1, t.1)) rows ((i, row) ∷ []) ∙ ap (λ xs. xs ++ (i + 1, row) ∷ []) are ∙ sym more
+
+pub accounts_more : (rows : List (ℕ × AccRow)) (old new : List AccRow) (i : ℕ) (row : AccRow) → AreAccounts old rows → length old ≡ i → new ≡ old ++ row ∷ [] → AreAccounts new (rows ++ (i, row) ∷ [])
+accounts_more rows old new i row are at more =
+    ap (λ xs. xs ++ (i, row) ∷ []) are ∙ sym (placed_more 0 i old row (omega arith)) ∙ ap (placed_from 0) (sym more)
+
+pub rows_more : (old new : List (ℕ × ObjectRow)) (place : ℕ) (o : ℕ × ObjectRow) → AreRows old → IsObjectRow o.1 → new ≡ insert old place o → AreRows new
+rows_more old new place o rows row more =
+    let P : ℕ × ObjectRow → Type 0 = λ o. IsObjectRow o.1 in
+    All-same P new (insert old place o) more (All-append P (take place old) (o ∷ drop place old) (All-take P place old rows) (All-cons P o (drop place old) row (All-drop P place old rows)))

@@ -1,0 +1,171 @@
+-- What a call of the pages does to the volume.
+use Rattle.std.specs.Prelude.{◌≡◌, ◌≢◌, ◌⊎◌, ◌+◌, ◌*◌, ◌%◌, ◌^◌, ◌<◌, ◌==◌, nat_le, nat_lt, ℕ, Bool, true, false, not, All, List, [], ◌∷◌, if◌then◌else◌, map, slice_index, slice_set, OnErr, OnOk, Result, Ok, Err}
+use Rattle.std.specs.List.{list_all, list_any}
+use Rattle.std.specs.Option.{ForSome}
+use Rattle.std.proofs.Common.{refl, sym, ap, ◌∙◌, ⊎_elim, inr, arith}
+use Rattle.std.proofs.lemmas.Bool.{and_from, and_parts, both_ways, cases_Bool, eq-eqb, eqb-true, leb-true, ne_eqb, or_cases, or_left, or_right}
+use Rattle.std.proofs.lemmas.List.Elements.{All-head, All-tail}
+use Rattle.mg_disk.specs.Disk.{Image, block_at}
+use Rattle.mg_disk.specs.declared.disk.Disk.{Ghosts}
+use Rattle.mg_model.specs.Layout.{table_block}
+use Rattle.mg_model.specs.Objects.{page_behind, page_of, with_word, word_at}
+use Rattle.mg_model.specs.Ranges.{IsObjectRow}
+use Rattle.mg_model.specs.State.{ObjectRow}
+use Rattle.mg_model.specs.Volume.{bound_pages, page_words}
+use Rattle.mg_pages.specs.Held.{PagesHeld}
+use Rattle.mg_pages.specs.Meaning as pages
+use Rattle.mg_volume.proofs.FreeFrame.{free_frame}
+use Rattle.mg_volume.specs.Again.{with_pages}
+use Rattle.mg_volume.specs.Held.{VolumeHeld}
+use Rattle.mg_volume.specs.Meaning.{IsHeld, IsKept, Keeps, has_page, is_live, is_page_in, is_sound, now_of, objects_in, staged_of, threads_in, total_of}
+use Rattle.mg_volume.specs.PageWords.{objects-set, word-spelled}
+use Rattle.mg_volume.specs.Sound.{all_spelled, is_sound_held, sound_is}
+
+-- what is not pages stays
+pub same_objects : (v : VolumeHeld) (p : PagesHeld) → objects_in (with_pages v p) ≡ objects_in v
+unfolding objects_in
+same_objects v p = refl
+
+pub same_sound : (v : VolumeHeld) (p : PagesHeld) (image image' : Image) → is_sound (now_of (with_pages v p) image') ≡ is_sound (now_of v image)
+unfolding objects_in threads_in
+same_sound v p image image' =
+    let here : is_sound_held (with_pages v p) ≡ is_sound_held v = refl in
+    sound_is (with_pages v p) image' ∙ here ∙ sym (sound_is v image)
+
+-- a page of an object is no page 0
+page-some : (page : ℕ) (os : List (ℕ × ObjectRow)) → All (λ (o : ℕ × ObjectRow). IsObjectRow o.1) os → list_any (λ row. is_page_in page row) (map (λ (o : ℕ × ObjectRow). o.1) os) ≡ true → page ≢ 0
+page-some page [] kept has = absurd (both_ways false refl has)
+page-some page (o ∷ os) kept has =
+    ⊎_elim
+    (λ inside is.
+    let row = All-head (λ (o : ℕ × ObjectRow). IsObjectRow o.1) o os kept in
+    let low = row.place.low in
+    let above = leb-true (page_of o.1) page (and_parts (nat_le (page_of o.1) page) (nat_lt page (page_behind o.1)) inside).0 in
+    omega arith)
+    (λ rest. page-some page os (All-tail (λ (o : ℕ × ObjectRow). IsObjectRow o.1) o os kept) rest)
+    (or_cases (is_page_in page o.1) (list_any (λ row. is_page_in page row) (map (λ (o : ℕ × ObjectRow). o.1) os)) has)
+
+pub some_page : (v : VolumeHeld) (page : ℕ) → IsKept v → has_page v page ≡ true → page ≢ 0
+unfolding objects_in
+some_page v page kept has = page-some page v.objects kept.rows has
+
+-- bound pages, one by one
+each-bound : (q : ℕ → Bool) (x : ℕ) (table : List ℕ) → list_all q (bound_pages table) ≡ true → x ≢ 0 → list_any (λ entry. entry == x) table ≡ true → q x ≡ true
+each-bound q x [] all other is = absurd (both_ways false refl is)
+each-bound q x (entry ∷ table) all other is =
+    ⊎_elim here
+    (λ there.
+    each-bound q x table
+    (⊎_elim
+    (λ nil. sym (ap (λ b. list_all q (if not b then entry ∷ bound_pages table else bound_pages table)) nil) ∙ all)
+    (λ more. (and_parts (q entry) (list_all q (bound_pages table)) (sym (ap (λ b. list_all q (if not b then entry ∷ bound_pages table else bound_pages table)) more) ∙ all)).1)
+    (cases_Bool (entry == 0)))
+    other there)
+    (or_cases (entry == x) (list_any (λ entry. entry == x) table) is)
+  where
+    here : (entry == x) ≡ true → q x ≡ true
+    here t =
+        let e = eqb-true entry x t in
+        let some_entry : (entry == 0) ≡ false = ne_eqb entry 0 (λ nil. other (sym e ∙ nil)) in
+        let whole : list_all q (entry ∷ bound_pages table) ≡ true = sym (ap (λ b. list_all q (if not b then entry ∷ bound_pages table else bound_pages table)) some_entry) ∙ all in
+        ap q (sym e) ∙ (and_parts (q entry) (list_all q (bound_pages table)) whole).0
+
+pub all-bound : (q : ℕ → Bool) (table : List ℕ) → ((x : ℕ) → x ≢ 0 → list_any (λ entry. entry == x) table ≡ true → q x ≡ true) → list_all q (bound_pages table) ≡ true
+all-bound q [] each = refl
+all-bound q (entry ∷ table) each =
+    let rest : list_all q (bound_pages table) ≡ true = all-bound q table (λ x other is. each x other (or_right (entry == x) (list_any (λ e. e == x) table) is)) in
+    ⊎_elim
+    (λ nil. ap (λ b. list_all q (if not b then entry ∷ bound_pages table else bound_pages table)) nil ∙ rest)
+    (λ more.
+    ap (λ b. list_all q (if not b then entry ∷ bound_pages table else bound_pages table)) more
+    ∙ and_from (q entry) (list_all q (bound_pages table))
+    (each entry (λ is. both_ways (entry == 0) more (eq-eqb entry 0 is)) (or_left (entry == entry) (list_any (λ e. e == entry) table) (eq-eqb entry entry refl))) rest)
+    (cases_Bool (entry == 0))
+
+-- the pages that are bound lie in objects still
+pub held_again : (v : VolumeHeld) (p : PagesHeld) (objects accounts threads : ℕ) → IsHeld v objects accounts threads → pages.frame_count p ≡ pages.frame_count v.pages
+    → ((x : ℕ) → x ≢ 0 → pages.is_bound p x ≡ true → (has_page v x ≡ true) ⊎ (pages.is_bound v.pages x ≡ true)) → IsHeld (with_pages v p) objects accounts threads
+unfolding objects_in
+held_again v p objects accounts threads held frames bound = record {
+  kept = record {
+    frames = frames ∙ kept.frames;
+    rows = kept.rows;
+    used = kept.used;
+    few_objects = kept.few_objects;
+    few_accounts = kept.few_accounts;
+    few_threads = kept.few_threads;
+    inside = all-bound (λ page. has_page v page) (pages.table_in p) (λ x other is. ⊎_elim (λ has. has) (each-bound (λ page. has_page v page) x (pages.table_in v.pages) kept.inside other) (bound x other is));
+  };
+  room_objects = held.room_objects;
+  room_accounts = held.room_accounts;
+  room_threads = held.room_threads;
+}
+  where
+    kept : IsKept v
+    kept = held.kept
+
+-- where the table stays
+pub held_same : (v : VolumeHeld) (p : PagesHeld) (objects accounts threads : ℕ) → IsHeld v objects accounts threads → pages.frame_count p ≡ pages.frame_count v.pages → pages.table_in p ≡ pages.table_in v.pages → IsHeld (with_pages v p) objects accounts threads
+held_same v p objects accounts threads held frames table =
+    held_again v p objects accounts threads held frames (λ x other is. inr (ap (λ t. list_any (λ entry. entry == x) t) (sym table) ∙ is))
+
+-- a frame is free for a page of an object
+pub frame_free : (v : VolumeHeld) (page : ℕ) → IsKept v → pages.IsKept v.pages → has_page v page ≡ true → (pages.is_bound v.pages page ≡ true) ⊎ (pages.is_bound v.pages 0 ≡ true)
+unfolding objects_in
+frame_free v page kept held has =
+    let used = kept.used in
+    let frames = kept.frames in
+    let long = held.long in
+    free_frame v.objects (pages.table_in v.pages) page held.distinct kept.inside has (omega arith)
+
+-- a count
+counted-one : (old new steps steps' : ℕ) → new ≡ (old + 1) % 2 ^ 64 → steps' ≡ steps + 1 → pages.CountsAlike old new steps steps'
+counted-one old new steps steps' words ticks = (1, ticks, omega arith)
+
+counted-none : (old new steps steps' : ℕ) → new ≡ old → steps' ≡ steps → pages.CountsAlike old new steps steps'
+counted-none old new steps steps' words ticks = (0, omega arith, omega arith)
+
+pub counted : {T E : Type 0} (r : Result T E) (p p' : PagesHeld) (steps steps' : ℕ) → OnOk r (pages.CountsOne p p' steps steps') → OnErr r (pages.CountsNone p p' steps steps') → pages.CountsAlike (pages.words_in p) (pages.words_in p') steps steps'
+counted (Ok x) p p' steps steps' one none = counted-one (pages.words_in p) (pages.words_in p') steps steps' one.words one.ticks
+counted (Err e) p p' steps steps' one none = counted-none (pages.words_in p) (pages.words_in p') steps steps' none.words none.ticks
+
+-- nothing changed but the count
+pub keeps_now : (v : VolumeHeld) (p : PagesHeld) → pages.Keeps v.pages p → Keeps v (with_pages v p)
+unfolding now_of staged_of is_live total_of threads_in
+keeps_now v p keeps = record {
+  now = λ image.
+      ap (λ r. record (now_of v image) { objects = all_spelled r v.settings.frames (pages.table_in p) v.objects }) (keeps.coming image)
+      ∙ ap (λ table. record (now_of v image) { objects = all_spelled (pages.coming v.pages image) v.settings.frames table v.objects }) keeps.table;
+  staged = keeps.staged;
+  live = keeps.shape.live;
+  total = keeps.shape.total;
+}
+
+-- the word of a page is that of the state
+pub word_now : (v : VolumeHeld) (image : Image) (page index : ℕ) → IsKept v → has_page v page ≡ true → index < 512 → slice_index (pages.page_now v.pages image page) index ≡ word_at (now_of v image).objects (4096 * page + 8 * index)
+unfolding now_of objects_in
+word_now v image page index kept has within =
+    ap (λ frames. slice_index (page_words (pages.coming v.pages image) frames (pages.table_in v.pages) page) index) kept.frames
+    ∙ sym (word-spelled (pages.coming v.pages image) v.settings.frames (pages.table_in v.pages) page index v.objects kept.rows within has)
+
+-- a word was put
+pub word_set : (v : VolumeHeld) (p : PagesHeld) (image : Image) (page index value : ℕ) → IsKept v → index < 512 → pages.frame_count p ≡ pages.frame_count v.pages → pages.SetsWord v.pages p image page index value
+    → now_of (with_pages v p) image ≡ record (now_of v image) { objects = with_word (now_of v image).objects (4096 * page + 8 * index) value }
+unfolding now_of threads_in
+word_set v p image page index value kept within frames sets =
+    ap (λ objects. record (now_of v image) { objects = objects })
+    (objects-set (pages.coming v.pages image) (pages.coming p image) v.settings.frames (pages.table_in v.pages) (pages.table_in p) page index value v.objects kept.rows within
+    (in_new page ∙ sets.this ∙ ap (λ words. slice_set words index value) (in_old page)) (λ other some not. in_new other ∙ sets.others other some not ∙ in_old other))
+  where
+    in_new : (other : ℕ) → page_words (pages.coming p image) v.settings.frames (pages.table_in p) other ≡ pages.page_now p image other
+    in_new other = ap (λ n. page_words (pages.coming p image) n (pages.table_in p) other) (sym (frames ∙ kept.frames))
+
+    in_old : (other : ℕ) → pages.page_now v.pages image other ≡ page_words (pages.coming v.pages image) v.settings.frames (pages.table_in v.pages) other
+    in_old other = ap (λ n. page_words (pages.coming v.pages image) n (pages.table_in v.pages) other) kept.frames
+
+-- the rows stay, whether it was put or not
+pub rows_same : {T E D : Type 0} (r : Result T E) (facts : Ghosts D) (old : D) (v : VolumeHeld) (p : PagesHeld) (page index value : ℕ)
+    → OnOk r (ForSome (facts.seen old) (λ image. pages.SetsWord v.pages p image page index value)) → OnErr r (pages.Keeps v.pages p)
+    → ForSome (facts.seen old) (λ image. (k : ℕ) → k < table_block → block_at (pages.coming p image) k ≡ block_at (pages.coming v.pages image) k)
+rows_same (Ok x) facts old v p page index value sets keeps image told = (sets image told).rows
+rows_same (Err e) facts old v p page index value sets keeps image told = λ k low. ap (λ i. block_at i k) (keeps.coming image)

@@ -1,0 +1,37 @@
+-- What staging a block leaves as it was.
+use Rattle.std.specs.Prelude.{◌≡◌, ◌⊎◌, ◌+◌, ◌≤◌, ◌<◌, ℕ, true}
+use Rattle.std.proofs.Common.{inr}
+use Rattle.mg_model.specs.State.{Counters}
+use Rattle.mg_pages.specs.Meaning as pages
+use Rattle.mg_volume.specs.Held.{VolumeHeld}
+use Rattle.mg_volume.specs.Meaning.{IsHeld, SameShape, is_live, objects_in, staged_of, total_of, words_in}
+
+pub same_shape : (v w : VolumeHeld) → pages.SameShape v.pages w.pages → pages.words_in w.pages ≡ pages.words_in v.pages → SameShape v w
+unfolding is_live total_of words_in
+same_shape v w shape words = record { total = shape.total; live = shape.live; words = words }
+
+pub staged_more : (v w : VolumeHeld) (most : ℕ) → pages.StagesMore most v.pages w.pages → staged_of w ≤ staged_of v + most
+unfolding staged_of
+staged_more v w most more = more.staged
+
+pub room_for : (v : VolumeHeld) (block : ℕ) → staged_of v < 160 → (pages.is_staged v.pages block ≡ true) ⊎ (pages.staged_of v.pages < 160)
+unfolding staged_of
+room_for v block few = inr few
+
+-- other counters are held as well
+pub held_counters : (v : VolumeHeld) (counters : Counters) (objects accounts threads : ℕ) → IsHeld v objects accounts threads → IsHeld (record v { counters = counters }) objects accounts threads
+unfolding objects_in
+held_counters v counters objects accounts threads held = record {
+  kept = record {
+    frames = held.kept.frames;
+    rows = held.kept.rows;
+    used = held.kept.used;
+    few_objects = held.kept.few_objects;
+    few_accounts = held.kept.few_accounts;
+    few_threads = held.kept.few_threads;
+    inside = held.kept.inside;
+  };
+  room_objects = held.room_objects;
+  room_accounts = held.room_accounts;
+  room_threads = held.room_threads;
+}

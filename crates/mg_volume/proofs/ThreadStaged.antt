@@ -1,0 +1,93 @@
+-- A thread is staged, and the state has its row.
+use Rattle.std.specs.Prelude.{◌≡◌, ◌+◌, ◌≤◌, ◌<◌, ℕ, false, List, length, map, slice_set, Option, Some}
+use Rattle.std.proofs.Common.{sym, ap, ◌∙◌, arith}
+use Rattle.std.proofs.lemmas.List.{get_or-set_other}
+use Rattle.mg_disk.specs.Disk.{Image}
+use Rattle.mg_model.specs.Layout.{first_account_block, first_object_block, first_thread_block, globals_block, table_block, thread_rows}
+use Rattle.mg_model.specs.Replay.{block_of}
+use Rattle.mg_model.specs.Spelling.{globals_read, thread_read}
+use Rattle.mg_model.specs.State.{ThreadRow}
+use Rattle.mg_model.specs.Volume.{thread_row_bytes}
+use Rattle.mg_pages.specs.Held.{PagesHeld}
+use Rattle.mg_pages.specs.Meaning as pages
+use Rattle.mg_volume.proofs.Found.{as_thread}
+use Rattle.mg_volume.specs.RowLists.{ArePlaced, row_set, told, told_set}
+use Rattle.mg_volume.proofs.ThreadLists.{has_room, numbered, numbered_set, threads_mapped}
+use Rattle.mg_volume.specs.Contents.{accounts_within, objects_within}
+use Rattle.mg_volume.specs.Held.{VolumeHeld}
+use Rattle.mg_volume.specs.Meaning.{IsHeld, IsSpelledBy, Spelled, now_of, objects_in, threads_in, threads_with}
+use Rattle.mg_volume.specs.Numbered.{HasRoom, has_number, rows_with}
+use Rattle.mg_volume.specs.Staged.{agree, set_apart, set_there, staged_objects}
+
+abbrev pub with_threads : VolumeHeld → List (ℕ × ThreadRow) → PagesHeld → VolumeHeld
+with_threads v rows p = record v { threads = rows; pages = p }
+
+module _ (v : VolumeHeld) (p : PagesHeld) (image : Image) (t place : ℕ) (row : Option ThreadRow) (rows : List (ℕ × ThreadRow)) (bytes : List ℕ)
+    (number : place + 1 ≡ t) (few : place < 256) (coming : pages.coming p image ≡ slice_set (pages.coming v.pages image) (1314 + t) bytes) (put : HasRoom t v.threads → rows ≡ rows_with t row v.threads) where
+  placed : (s : Spelled v image) → ArePlaced 0 256 s.threads
+  placed s = (told (λ i. thread_read (thread_row_bytes (pages.coming v.pages image) i)) 0 thread_rows s.threads s.threads_are).placed
+
+  -- there is room, since the numbers are places
+  rows_are : (s : Spelled v image) → rows ≡ rows_with t row v.threads
+  rows_are s =
+      put
+      (λ none.
+      let was : has_number (place + 1) (numbered s.threads) ≡ false = ap (λ n. has_number n (numbered s.threads)) number ∙ ap (has_number t) s.numbered ∙ none in
+      let room = has_room 0 256 place s.threads (placed s) (omega arith) few was in
+      let long = ap (λ (l : List (ℕ × ThreadRow)). length l) s.numbered in
+      omega arith)
+
+  pub thread_now : IsSpelledBy v image → pages.table_in p ≡ pages.table_in v.pages → now_of (with_threads v rows p) image ≡ record (now_of v image) { threads = threads_with t row (threads_in v) }
+  unfolding IsSpelledBy now_of threads_in
+  thread_now s table =
+      ap (λ objects. record (now_of v image) { objects = objects; threads = map as_thread rows }) (staged_objects v p image (1314 + t) bytes (omega arith) table coming)
+      ∙ ap (λ threads. record (now_of v image) { threads = threads }) (ap (map as_thread) (rows_are s) ∙ threads_mapped t row v.threads)
+
+  pub thread_spelled : IsSpelledBy v image → (pages.IsSpelledBy v.pages image → pages.IsSpelledBy p image) → pages.frame_count p ≡ pages.frame_count v.pages → thread_read bytes ≡ Some row → IsSpelledBy (with_threads v rows p) image
+  unfolding IsSpelledBy
+  thread_spelled is fitting frames read =
+      let s : Spelled v image = is in
+      let r = pages.coming v.pages image in
+      let block = 1314 + t in
+      record {
+        fitting = fitting s.fitting;
+        frames = frames ∙ s.frames;
+        gated = s.gated;
+        super = s.super;
+        counters_are = ap (λ (i : Image). globals_read (block_of i globals_block)) coming ∙ ap globals_read (get_or-set_other r block globals_block bytes _ (λ is. omega arith)) ∙ s.counters_are;
+        accounts_are = accounts_within (pages.coming p image) r (agree r (slice_set r block bytes) (pages.coming p image) coming first_account_block first_thread_block (set_apart r block first_account_block first_thread_block bytes (λ k low high is. omega arith))) ∙ s.accounts_are;
+        threads = row_set place row s.threads;
+        threads_are =
+            told_set (λ i. thread_read (thread_row_bytes r i)) (λ i. thread_read (thread_row_bytes (pages.coming p image) i)) thread_rows place row s.threads s.threads_are few
+            (let here : first_thread_block + place ≡ block = omega arith in
+            ap (λ k. thread_read (block_of (pages.coming p image) k)) here ∙ ap (λ (i : Image). thread_read (block_of i block)) coming ∙ ap thread_read (set_there v image block bytes s (omega arith)) ∙ read)
+            (λ j within other. ap (λ (i : Image). thread_read (block_of i (first_thread_block + j))) coming ∙ ap thread_read (get_or-set_other r block (first_thread_block + j) bytes _ (λ is. other (omega arith))));
+        numbered =
+            numbered_set 0 256 place row s.threads (placed s)
+            ∙ ap (λ n. rows_with n row (numbered s.threads)) number
+            ∙ ap (rows_with t row) s.numbered
+            ∙ sym (rows_are s);
+        objects = s.objects;
+        objects_are = objects_within (pages.coming p image) r (agree r (slice_set r block bytes) (pages.coming p image) coming first_object_block table_block (set_apart r block first_object_block table_block bytes (λ k low high is. omega arith))) ∙ s.objects_are;
+        ordered = s.ordered;
+        kept = s.kept;
+        is = s.is;
+      }
+
+-- other threads are held as well
+pub held_threads : (v : VolumeHeld) (rows : List (ℕ × ThreadRow)) (objects accounts threads threads' : ℕ) → IsHeld v objects accounts threads → length rows ≤ thread_rows → thread_rows ≤ threads' → IsHeld (record v { threads = rows }) objects accounts threads'
+unfolding objects_in
+held_threads v rows objects accounts threads threads' held few room = record {
+  kept = record {
+    frames = held.kept.frames;
+    rows = held.kept.rows;
+    used = held.kept.used;
+    few_objects = held.kept.few_objects;
+    few_accounts = held.kept.few_accounts;
+    few_threads = few;
+    inside = held.kept.inside;
+  };
+  room_objects = held.room_objects;
+  room_accounts = held.room_accounts;
+  room_threads = room;
+}

@@ -1,0 +1,91 @@
+use Rattle.std.proofs.Common.{◌∙◌}
+use Rattle.std.proofs.lemmas.Result.{on_ok_weaker}
+use Rattle.mg_disk.specs.Runs.{leaves_wider}
+use Rattle.mg_journal.specs.CommitRuns.{on_ok_both, some_of}
+use Rattle.mg_journal.specs.Contents.{SameContents}
+use Rattle.mg_model.specs.Volume.{Is, volume}
+use Rattle.mg_pages.specs.Committing.{HasContents}
+use Rattle.mg_pages.specs.Meaning as pages
+use Rattle.mg_volume.proofs.CommitChange.{held_now, left_volume, stands_now}
+use Rattle.mg_volume.proofs.PagesChange.{held_same, same_objects, same_sound}
+use Rattle.mg_volume.specs.Again.{pages_stand}
+use Rattle.mg_volume.specs.Meaning.{is_live, now_of, staged_of, total_of, words_in}
+use Rattle.mg_volume.specs.contracts.volume.Volume.{the_view}
+use Rattle.std.specs.Prelude.{◌≡◌, ◌⊎◌}
+use Rattle.mg_volume.proofs.volume.Volume.commit.Goals as goal
+
+pub commit-requires-clause-live : goal.commit-requires-clause-live
+unfolding is_live
+commit-requires-clause-live g c = rw (← c.self.view_is) at c.requires.live
+
+pub commit-requires-clause-stands : goal.commit-requires-clause-stands
+commit-requires-clause-stands g c = pages_stand g.D.Disk (the_view c.self.inside) c.args.disk.now (rw (← c.self.view_is) at c.requires.stands)
+
+pub invariant_of-self : goal.invariant_of-self
+invariant_of-self g c = held_same (the_view c.self.inside) c.commit.new.self _ _ _ c.self.invariant c.commit.ensures.frames c.commit.ensures.table
+
+pub returns-clause-any_moment : goal.returns-clause-any_moment
+returns-clause-any_moment g c image told =
+    let v = the_view c.self.inside in
+    let stands = rw (← c.self.view_is) at c.requires.stands in
+    let sound = rw (← c.self.view_is) at c.requires.sound in
+    rw (← c.self.view_is)
+    (leaves_wider g.D.Disk c.args.disk.now c.commit.new.disk
+    (λ left. SameContents (pages.total_of c.self.inside.pages) image left ⊎ HasContents (pages.total_of c.self.inside.pages) (pages.coming c.self.inside.pages image) left)
+    (λ left. (volume left ≡ volume image) ⊎ (volume left ≡ Is (now_of v image)))
+    (c.commit.ensures.any_moment image told)
+    (λ left may. left_volume v image left (stands.fits image told) c.self.invariant.kept (sound image told) may))
+
+pub returns-clause-done : goal.returns-clause-done
+returns-clause-done g c =
+    let v = the_view c.self.inside in
+    let stands = rw (← c.self.view_is) at c.requires.stands in
+    let sound = rw (← c.self.view_is) at c.requires.sound in
+    rw (← c.self.view_is)
+    (on_ok_weaker c.commit.result
+    (λ all image told.
+    held_now g.D.Disk c.args.disk.now c.commit.new.disk v c.commit.new.self stands c.self.invariant.kept sound all.0.0 all.0.1 c.commit.ensures.total c.commit.ensures.table c.commit.ensures.frames image told (all.1 image told))
+    (on_ok_both _ _ c.commit.result (on_ok_both _ _ c.commit.result c.commit.ensures.stands c.commit.ensures.staged) c.commit.ensures.done))
+
+pub returns-clause-rows : goal.returns-clause-rows
+returns-clause-rows g c = rw (← c.self.view_is) (same_objects (the_view c.self.inside) c.commit.new.self)
+
+pub returns-clause-sound : goal.returns-clause-sound
+returns-clause-sound g c image told =
+    let v = the_view c.self.inside in
+    let sound = rw (← c.self.view_is) at c.requires.sound in
+    on_ok_weaker c.commit.result
+    (λ came.
+    let from = some_of (λ before. HasContents (pages.total_of c.self.inside.pages) (pages.coming c.self.inside.pages before) image) (g.D.Disk.seen c.args.disk.now) (came image told) in
+    same_sound v c.commit.new.self from.0 image ∙ sound from.0 from.1)
+    c.commit.ensures.came_from
+
+pub returns-clause-stands : goal.returns-clause-stands
+returns-clause-stands g c =
+    let v = the_view c.self.inside in
+    let stands = rw (← c.self.view_is) at c.requires.stands in
+    let sound = rw (← c.self.view_is) at c.requires.sound in
+    on_ok_weaker c.commit.result
+    (λ all.
+    stands_now g.D.Disk c.args.disk.now c.commit.new.disk v c.commit.new.self stands c.self.invariant.kept sound all.0.0 all.0.1 c.commit.ensures.total c.commit.ensures.table c.commit.ensures.frames all.1)
+    (on_ok_both _ _ c.commit.result (on_ok_both _ _ c.commit.result c.commit.ensures.stands c.commit.ensures.staged) c.commit.ensures.came_from)
+
+pub returns-clause-staged : goal.returns-clause-staged
+unfolding staged_of
+returns-clause-staged g c = c.commit.ensures.staged
+
+pub returns-clause-total : goal.returns-clause-total
+unfolding total_of
+returns-clause-total g c = rw (← c.self.view_is) c.commit.ensures.total
+
+pub returns-clause-live : goal.returns-clause-live
+unfolding is_live
+returns-clause-live g c = c.commit.ensures.live
+
+pub returns-clause-dead : goal.returns-clause-dead
+unfolding is_live
+returns-clause-dead g c = c.commit.ensures.dead
+
+pub returns-clause-words : goal.returns-clause-words
+unfolding words_in
+returns-clause-words g c = rw (← c.self.view_is) c.commit.ensures.words

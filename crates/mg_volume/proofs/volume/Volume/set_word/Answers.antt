@@ -1,0 +1,68 @@
+use Rattle.std.proofs.Common.{◌∙◌, ap, inl, inr, ⊎_elim}
+use Rattle.std.proofs.lemmas.Result.{on_err_weaker, on_ok_weaker}
+use Rattle.mg_volume.proofs.PagesChange.{counted, frame_free, held_again, keeps_now, rows_same, same_objects, same_sound, some_page, word_set}
+use Rattle.mg_volume.specs.Again.{pages_stand, stands_same}
+use Rattle.mg_volume.specs.Meaning.{has_page, is_live, staged_of, total_of, words_in}
+use Rattle.mg_volume.specs.contracts.volume.Volume.{the_view}
+use Rattle.mg_volume.proofs.volume.Volume.set_word.Goals as goal
+
+pub set_word-requires-clause-stands : goal.set_word-requires-clause-stands
+set_word-requires-clause-stands g c = pages_stand g.D.Disk (the_view c.self.inside) c.args.disk.now (rw (← c.self.view_is) at c.requires.stands)
+
+pub set_word-requires-clause-page : goal.set_word-requires-clause-page
+set_word-requires-clause-page g c = some_page (the_view c.self.inside) c.args.page c.self.invariant.kept (rw (← c.self.view_is) at c.requires.page)
+
+pub set_word-requires-clause-frame : goal.set_word-requires-clause-frame
+set_word-requires-clause-frame g c = frame_free (the_view c.self.inside) c.args.page c.self.invariant.kept c.staged-staged.ensures.kept (rw (← c.self.view_is) at c.requires.page)
+
+pub set_word-requires-clause-few : goal.set_word-requires-clause-few
+unfolding staged_of
+set_word-requires-clause-few g c = rw (← c.self.view_is) at c.requires.few
+
+pub invariant_of-self : goal.invariant_of-self
+invariant_of-self g c =
+    let v = the_view c.self.inside in
+    let has = rw (← c.self.view_is) at c.requires.page in
+    held_again v c.set_word.new.self _ _ _ c.self.invariant c.set_word.ensures.shape.frames
+    (λ x other is. ⊎_elim (λ this. inl (ap (λ page. has_page v page) this ∙ has)) (λ before. inr before) (c.set_word.ensures.binds x is))
+
+pub returns-clause-sets : goal.returns-clause-sets
+returns-clause-sets g c =
+    let v = the_view c.self.inside in
+    rw (← c.self.view_is)
+    (on_ok_weaker c.set_word.result
+    (λ sets image told. word_set v c.set_word.new.self image c.args.page c.args.index c.args.value c.self.invariant.kept c.requires.index c.set_word.ensures.shape.frames (sets image told))
+    c.set_word.ensures.sets)
+
+pub returns-clause-failed : goal.returns-clause-failed
+returns-clause-failed g c =
+    rw (← c.self.view_is) (on_err_weaker c.set_word.result (λ keeps. keeps_now (the_view c.self.inside) c.set_word.new.self keeps) c.set_word.ensures.failed)
+
+pub returns-clause-rows : goal.returns-clause-rows
+returns-clause-rows g c = rw (← c.self.view_is) (same_objects (the_view c.self.inside) c.set_word.new.self)
+
+pub returns-clause-sound : goal.returns-clause-sound
+returns-clause-sound g c image told = rw (← c.self.view_is) (same_sound (the_view c.self.inside) c.set_word.new.self image image)
+
+pub returns-clause-live : goal.returns-clause-live
+unfolding is_live
+returns-clause-live g c = rw (← c.self.view_is) c.set_word.ensures.shape.live
+
+pub returns-clause-total : goal.returns-clause-total
+unfolding total_of
+returns-clause-total g c = rw (← c.self.view_is) c.set_word.ensures.shape.total
+
+pub returns-clause-staged : goal.returns-clause-staged
+unfolding staged_of
+returns-clause-staged g c = rw (← c.self.view_is) c.set_word.ensures.staged.staged
+
+pub returns-clause-stands : goal.returns-clause-stands
+returns-clause-stands g c =
+    let v = the_view c.self.inside in
+    stands_same g.D.Disk v c.args.disk.now (rw (← c.self.view_is) at c.requires.stands) c.set_word.new.self c.set_word.new.disk c.set_word.ensures.stands c.set_word.ensures.writes.same c.set_word.ensures.shape.frames
+    (rows_same c.set_word.result g.D.Disk c.args.disk.now v c.set_word.new.self c.args.page c.args.index c.args.value c.set_word.ensures.sets c.set_word.ensures.failed)
+
+pub returns-clause-counted : goal.returns-clause-counted
+unfolding words_in
+returns-clause-counted g c =
+    rw (← c.self.view_is) (counted c.set_word.result c.self.inside.pages c.set_word.new.self c.args.steps.now c.set_word.new.steps c.set_word.ensures.counts c.set_word.ensures.counts_failed)

@@ -1,0 +1,38 @@
+use Rattle.mg_volume.proofs.PagesChange.{held_same, same_objects}
+use Rattle.mg_volume.proofs.Stages.{held_counters, room_for, same_shape, staged_more}
+use Rattle.mg_volume.specs.Meaning.{objects_in}
+use Rattle.mg_volume.specs.Staged.{counters_now, counters_staged, with_counters}
+use Rattle.mg_volume.specs.contracts.volume.Volume.{the_view}
+use Rattle.mg_volume.proofs.volume.Volume.stage_globals.Goals as goal
+
+pub stage-requires-clause-room : goal.stage-requires-clause-room
+stage-requires-clause-room c = room_for (the_view c.self.inside) 1298 (rw (← c.self.view_is) at c.requires.room)
+
+pub invariant_of-self : goal.invariant_of-self
+invariant_of-self c =
+    let v = the_view c.self.inside in
+    held_same (record v { counters = c.args.g }) c.stage.new.self _ _ _ (held_counters v c.args.g _ _ _ c.self.invariant) c.stage.ensures.shape.frames c.stage.ensures.table
+
+pub returns-clause-now : goal.returns-clause-now
+returns-clause-now c image =
+    rw (← c.self.view_is) (counters_now (the_view c.self.inside) c.stage.new.self c.args.g c.write_globals.new.out image c.stage.ensures.table (c.stage.ensures.coming image))
+
+pub returns-clause-rows : goal.returns-clause-rows
+unfolding objects_in
+returns-clause-rows c = rw (← c.self.view_is) (same_objects (the_view c.self.inside) c.stage.new.self)
+
+pub returns-clause-spelled : goal.returns-clause-spelled
+returns-clause-spelled c image is =
+    let v = the_view c.self.inside in
+    let was = rw (← c.self.view_is) at is in
+    counters_staged v c.stage.new.self c.args.g c.write_globals.new.out image was (c.stage.ensures.spelled image) c.stage.ensures.shape.frames (c.stage.ensures.coming image) c.write_globals.ensures.read_back
+
+pub returns-clause-staged : goal.returns-clause-staged
+returns-clause-staged c =
+    let v = the_view c.self.inside in
+    rw (← c.self.view_is) (staged_more v (with_counters v c.stage.new.self c.args.g) 1 c.stage.ensures.staged)
+
+pub returns-clause-shape : goal.returns-clause-shape
+returns-clause-shape c =
+    let v = the_view c.self.inside in
+    rw (← c.self.view_is) (same_shape v (with_counters v c.stage.new.self c.args.g) c.stage.ensures.shape c.stage.ensures.words)

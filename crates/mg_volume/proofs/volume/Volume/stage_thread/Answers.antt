@@ -1,0 +1,42 @@
+use Rattle.std.proofs.Common.{◌≡◌, ◌+◌, ◌-◌, arith}
+use Rattle.mg_volume.proofs.PagesChange.{held_same, same_objects}
+use Rattle.mg_volume.proofs.Stages.{room_for, same_shape, staged_more}
+use Rattle.mg_volume.proofs.ThreadStaged.{held_threads, thread_now, thread_spelled, with_threads}
+use Rattle.mg_volume.specs.Meaning.{objects_in}
+use Rattle.mg_volume.specs.contracts.volume.Volume.{the_view}
+use Rattle.mg_volume.proofs.volume.Volume.stage_thread.Goals as goal
+
+pub stage-requires-clause-room : goal.stage-requires-clause-room
+stage-requires-clause-room c = room_for (the_view c.self.inside) (1314 + c.args.t) (rw (← c.self.view_is) at c.requires.room)
+
+pub invariant_of-self : goal.invariant_of-self
+invariant_of-self c =
+    let v = the_view c.self.inside in
+    held_same (record v { threads = c.put_row.new.rows.items }) c.stage.new.self _ _ _ (held_threads v c.put_row.new.rows.items _ _ _ _ c.self.invariant c.put_row.ensures.few c.put_row.ensures.room) c.stage.ensures.shape.frames c.stage.ensures.table
+
+pub returns-clause-now : goal.returns-clause-now
+returns-clause-now c image is =
+    let was = rw (← c.self.view_is) at is in
+    let number : c.args.t - 1 + 1 ≡ c.args.t = omega arith in
+    rw (← c.self.view_is)
+    (thread_now (the_view c.self.inside) c.stage.new.self image c.args.t (c.args.t - 1) c.args.row c.put_row.new.rows.items c.thread_block-block.result number (omega arith) (c.stage.ensures.coming image) c.put_row.ensures.rows was c.stage.ensures.table)
+
+pub returns-clause-rows : goal.returns-clause-rows
+unfolding objects_in
+returns-clause-rows c = rw (← c.self.view_is) (same_objects (the_view c.self.inside) c.stage.new.self)
+
+pub returns-clause-spelled : goal.returns-clause-spelled
+returns-clause-spelled c image is =
+    let was = rw (← c.self.view_is) at is in
+    let number : c.args.t - 1 + 1 ≡ c.args.t = omega arith in
+    thread_spelled (the_view c.self.inside) c.stage.new.self image c.args.t (c.args.t - 1) c.args.row c.put_row.new.rows.items c.thread_block-block.result number (omega arith) (c.stage.ensures.coming image) c.put_row.ensures.rows was (c.stage.ensures.spelled image) c.stage.ensures.shape.frames c.thread_block-block.ensures
+
+pub returns-clause-staged : goal.returns-clause-staged
+returns-clause-staged c =
+    let v = the_view c.self.inside in
+    rw (← c.self.view_is) (staged_more v (with_threads v c.put_row.new.rows.items c.stage.new.self) 1 c.stage.ensures.staged)
+
+pub returns-clause-shape : goal.returns-clause-shape
+returns-clause-shape c =
+    let v = the_view c.self.inside in
+    rw (← c.self.view_is) (same_shape v (with_threads v c.put_row.new.rows.items c.stage.new.self) c.stage.ensures.shape c.stage.ensures.words)

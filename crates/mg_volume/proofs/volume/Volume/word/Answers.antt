@@ -1,0 +1,47 @@
+use Rattle.std.proofs.Common.{◌≡◌, ◌∙◌, ap}
+use Rattle.std.proofs.lemmas.Result.{IfOk-weaker}
+use Rattle.std.specs.Option.{ForSome}
+use Rattle.mg_disk.specs.Disk.{block_at}
+use Rattle.mg_model.specs.Objects.{word_at}
+use Rattle.mg_pages.specs.Meaning as pages
+use Rattle.std.specs.Prelude.{slice_index, ◌+◌, ◌*◌}
+use Rattle.mg_volume.proofs.PagesChange.{counted, held_same, keeps_now, same_objects, some_page, word_now}
+use Rattle.mg_volume.specs.Again.{pages_stand, stands_same}
+use Rattle.mg_volume.specs.Meaning.{now_of, words_in}
+use Rattle.mg_volume.specs.contracts.volume.Volume.{the_view}
+use Rattle.mg_volume.proofs.volume.Volume.word.Goals as goal
+
+pub word-requires-clause-stands : goal.word-requires-clause-stands
+word-requires-clause-stands g c = pages_stand g.D.Disk (the_view c.self.inside) c.args.disk.now (rw (← c.self.view_is) at c.requires.stands)
+
+pub word-requires-clause-page : goal.word-requires-clause-page
+word-requires-clause-page g c = some_page (the_view c.self.inside) c.args.page c.self.invariant.kept (rw (← c.self.view_is) at c.requires.page)
+
+pub invariant_of-self : goal.invariant_of-self
+invariant_of-self g c = held_same (the_view c.self.inside) c.word.new.self _ _ _ c.self.invariant c.word.ensures.keeps.shape.frames c.word.ensures.keeps.table
+
+pub returns-clause-word : goal.returns-clause-word
+returns-clause-word g c =
+    let v = the_view c.self.inside in
+    rw (← c.self.view_is)
+    (IfOk-weaker c.word.result
+    (λ word. ForSome (g.D.Disk.seen c.args.disk.now) (λ image. word ≡ slice_index (pages.page_now c.self.inside.pages image c.args.page) c.args.index))
+    (λ word. ForSome (g.D.Disk.seen c.args.disk.now) (λ image. word ≡ word_at (now_of v image).objects (4096 * c.args.page + 8 * c.args.index)))
+    (λ word is image told. is image told ∙ word_now v image c.args.page c.args.index c.self.invariant.kept (rw (← c.self.view_is) at c.requires.page) c.requires.index)
+    c.word.ensures.word)
+
+pub returns-clause-keeps : goal.returns-clause-keeps
+returns-clause-keeps g c = rw (← c.self.view_is) (keeps_now (the_view c.self.inside) c.word.new.self c.word.ensures.keeps)
+
+pub returns-clause-rows : goal.returns-clause-rows
+returns-clause-rows g c = rw (← c.self.view_is) (same_objects (the_view c.self.inside) c.word.new.self)
+
+pub returns-clause-stands : goal.returns-clause-stands
+returns-clause-stands g c =
+    stands_same g.D.Disk (the_view c.self.inside) c.args.disk.now (rw (← c.self.view_is) at c.requires.stands) c.word.new.self c.word.new.disk c.word.ensures.stands c.word.ensures.writes.same c.word.ensures.keeps.shape.frames
+    (λ image told k low. ap (λ i. block_at i k) (c.word.ensures.keeps.coming image))
+
+pub returns-clause-counted : goal.returns-clause-counted
+unfolding words_in
+returns-clause-counted g c =
+    rw (← c.self.view_is) (counted c.word.result c.self.inside.pages c.word.new.self c.args.steps.now c.word.new.steps c.word.ensures.counts c.word.ensures.counts_failed)

@@ -1,0 +1,68 @@
+-- A volume whose pages changed stands where it stood.
+use Rattle.std.specs.Prelude.{◌≡◌, ◌<◌, ℕ, Some}
+use Rattle.std.specs.Option.{ForSome}
+use Rattle.std.proofs.Common.{sym, ap, ◌∙◌, arith}
+use Rattle.mg_disk.specs.Disk.{Image, block_at}
+use Rattle.mg_disk.specs.declared.disk.Disk.{Ghosts}
+use Rattle.mg_model.specs.Layout.{globals_block, table_block}
+use Rattle.mg_model.specs.Spelling.{globals_read}
+use Rattle.mg_model.specs.State.{State}
+use Rattle.mg_model.specs.Volume.{Is, volume}
+use Rattle.mg_pages.specs.Held.{PagesHeld}
+use Rattle.mg_pages.specs.Meaning as pages
+use Rattle.mg_volume.specs.Contents.{AgreeBehind, IsSet, accounts-same, objects-same, threads-same}
+use Rattle.mg_volume.specs.Held.{VolumeHeld}
+use Rattle.mg_volume.specs.Laws.{set_of}
+use Rattle.mg_volume.specs.Meaning.{IsSpelledBy, Spelled, StandsOn, total_of}
+
+abbrev pub with_pages : VolumeHeld → PagesHeld → VolumeHeld
+with_pages v p = record v { pages = p }
+
+-- the same rows are spelled, whatever became of the pages and of the image
+pub spelled_again : (v : VolumeHeld) (p : PagesHeld) (image image' : Image) → Spelled v image → pages.IsSpelledBy p image' → pages.frame_count p ≡ pages.frame_count v.pages → IsSet v.settings image' → (kept : State)
+    → volume image' ≡ Is kept → AgreeBehind table_block (pages.coming p image') (pages.coming v.pages image) → Spelled (with_pages v p) image'
+spelled_again v p image image' s fitting frames whole kept spelled same = record {
+  fitting = fitting;
+  frames = frames ∙ s.frames;
+  gated = whole.gated;
+  super = whole.super;
+  counters_are = ap globals_read (same.each globals_block (omega arith) (omega arith)) ∙ s.counters_are;
+  accounts_are = accounts-same (pages.coming p image') (pages.coming v.pages image) same ∙ s.accounts_are;
+  threads = s.threads;
+  threads_are = threads-same (pages.coming p image') (pages.coming v.pages image) same ∙ s.threads_are;
+  numbered = s.numbered;
+  objects = s.objects;
+  objects_are = objects-same (pages.coming p image') (pages.coming v.pages image) same ∙ s.objects_are;
+  ordered = s.ordered;
+  kept = kept;
+  is = spelled;
+}
+
+-- at the same image
+pub spelled_same : (v : VolumeHeld) (p : PagesHeld) (image : Image) → IsSpelledBy v image → pages.IsSpelledBy p image → pages.frame_count p ≡ pages.frame_count v.pages
+    → ((k : ℕ) → k < table_block → block_at (pages.coming p image) k ≡ block_at (pages.coming v.pages image) k) → IsSpelledBy (with_pages v p) image
+unfolding IsSpelledBy
+spelled_same v p image s fitting frames same =
+    let spelled : Spelled v image = s in
+    spelled_again v p image image spelled fitting frames (set_of v image spelled) spelled.kept spelled.is (record { each = λ k low high. same k high })
+
+-- its pages are spelled
+pub pages_spelled : (v : VolumeHeld) (image : Image) → IsSpelledBy v image → pages.IsSpelledBy v.pages image
+unfolding IsSpelledBy
+pages_spelled v image whole = (let s : Spelled v image = whole in s.fitting)
+
+module _ {D : Type 0} (facts : Ghosts D) (v : VolumeHeld) (old : D) (stands : StandsOn facts v old) where
+  -- its pages stand there
+  pub pages_stand : pages.StandsOn facts v.pages old
+  unfolding total_of IsSpelledBy
+  pages_stand = record { room = stands.room; settled = stands.settled; fits = λ image told. (let s : Spelled v image = stands.fits image told in s.fitting) }
+
+  -- after a call that wrote nothing
+  pub stands_same : (p : PagesHeld) (new : D) → pages.StandsOn facts p new → facts.seen new ≡ facts.seen old → pages.frame_count p ≡ pages.frame_count v.pages
+      → ForSome (facts.seen old) (λ image. (k : ℕ) → k < table_block → block_at (pages.coming p image) k ≡ block_at (pages.coming v.pages image) k) → StandsOn facts (with_pages v p) new
+  unfolding total_of
+  stands_same p new standing seen frames same = record {
+    room = standing.room;
+    settled = standing.settled;
+    fits = λ image told. (let was : facts.seen old ≡ Some image = sym seen ∙ told in spelled_same v p image (stands.fits image was) (standing.fits image told) frames (same image was));
+  }

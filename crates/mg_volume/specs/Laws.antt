@@ -1,0 +1,59 @@
+-- What the layers above may know of the state of a volume.
+use Rattle.std.specs.Prelude.{◌≡◌, map, Some}
+use Rattle.std.proofs.Common.{refl, sym, ap, ◌∙◌, arith}
+use Rattle.mg_disk.specs.Disk.{Image}
+use Rattle.mg_model.specs.State.{Object, State}
+use Rattle.mg_model.specs.Volume.{Is, volume}
+use Rattle.mg_model.specs.Layout.{total_blocks}
+use Rattle.mg_model.specs.Replay.{replay}
+use Rattle.mg_pages.specs.Laws as laws
+use Rattle.mg_pages.specs.Meaning as pages
+use Rattle.mg_volume.specs.Contents.{IsSet, volume_of_replay}
+use Rattle.mg_volume.specs.Held.{VolumeHeld}
+use Rattle.mg_volume.specs.Meaning.{IsSpelledBy, Spelled, accounts_in, counters_in, now_of, objects_in, settings_in, staged_of, threads_in}
+use Rattle.mg_volume.specs.Sound.{coming_kept, rows-spelled}
+
+-- an image that spells a volume is one
+pub spelled_volume : (v : VolumeHeld) (image : Image) → IsSpelledBy v image → (state : State) × (volume image ≡ Is state)
+unfolding IsSpelledBy
+spelled_volume v image whole = (whole.kept, whole.is)
+
+-- it has the settings, and as many blocks as they ask for
+pub set_of : (v : VolumeHeld) (image : Image) → Spelled v image → IsSet v.settings image
+set_of v image s = record {
+  gated = s.gated;
+  super = s.super;
+  long = let total = laws.size_of v.pages image s.fitting in let long = laws.long_of v.pages image s.fitting in let frames = ap total_blocks s.frames in omega arith;
+}
+
+-- where nothing is staged the state is the one that is kept
+pub now_kept : (v : VolumeHeld) (image : Image) → IsSpelledBy v image → staged_of v ≡ 0 → volume image ≡ Is (now_of v image)
+unfolding IsSpelledBy staged_of
+now_kept v image held unstaged =
+    let spelled : Spelled v image = held in
+    let whole : IsSet v.settings image = set_of v image spelled in
+    let total : pages.total_of v.pages ≡ total_blocks v.settings.frames = laws.size_of v.pages image spelled.fitting ∙ ap total_blocks spelled.frames in
+    let replayed : replay image (total_blocks v.settings.frames) ≡ Some (pages.coming v.pages image) = ap (replay image) (sym total) ∙ laws.coming_still v.pages image spelled.fitting unstaged in
+    let same : now_of v image ≡ spelled.kept = coming_kept v image spelled spelled.kept (sym (volume_of_replay v.settings image (pages.coming v.pages image) whole replayed) ∙ spelled.is) in
+    spelled.is ∙ ap Is (sym same)
+
+-- the parts of the state that do not lie in pages
+pub now_settings : (v : VolumeHeld) (image : Image) → (now_of v image).settings ≡ settings_in v
+unfolding now_of settings_in
+now_settings v image = refl
+
+pub now_counters : (v : VolumeHeld) (image : Image) → (now_of v image).counters ≡ counters_in v
+unfolding now_of counters_in
+now_counters v image = refl
+
+pub now_accounts : (v : VolumeHeld) (image : Image) → (now_of v image).accounts ≡ accounts_in v
+unfolding now_of accounts_in
+now_accounts v image = refl
+
+pub now_threads : (v : VolumeHeld) (image : Image) → (now_of v image).threads ≡ threads_in v
+unfolding now_of threads_in
+now_threads v image = refl
+
+pub now_rows : (v : VolumeHeld) (image : Image) → map (λ (object : Object). object.row) (now_of v image).objects ≡ objects_in v
+unfolding now_of objects_in
+now_rows v image = rows-spelled (pages.coming v.pages image) v.settings.frames (pages.table_in v.pages) v.objects

@@ -1,0 +1,15 @@
+pub mod Again
+pub mod Contents
+pub mod Formed
+pub mod Held
+pub mod Laws
+pub mod Loading
+pub mod Meaning
+pub mod Numbered
+pub mod Opening
+pub mod PageWords
+pub mod Placed
+pub mod RowLists
+pub mod Sound
+pub mod Staged
+pub mod StagesRows

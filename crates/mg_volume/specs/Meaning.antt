@@ -1,0 +1,151 @@
+-- What a volume is, as functions of the value and an image. The layers above see these words by their names.
+use Rattle.std.specs.Prelude.{◌≡◌, ◌+◌, ◌≤◌, ◌&&◌, nat_le, nat_lt, ℕ, Bool, true, List, [], ◌∷◌, Some, if◌then◌else◌, length, map, sum_by, All, Option, None, filter, not, ◌==◌}
+use Rattle.std.specs.List.{list_all, list_any}
+use Rattle.std.specs.Option.{ForSome}
+use Rattle.mg_disk.specs.Disk.{Image}
+use Rattle.mg_disk.specs.Stops.{NothingPending}
+use Rattle.mg_disk.specs.declared.disk.Disk.{Ghosts}
+use Rattle.mg_model.specs.declared.accounts.AccRow.{AccRow}
+use Rattle.mg_model.specs.Layout.{account_rows, globals_block, object_rows, super_block, thread_rows}
+use Rattle.mg_model.specs.Objects.{page_behind, page_of}
+use Rattle.mg_model.specs.Replay.{block_of}
+use Rattle.mg_model.specs.Settings.{Settings}
+use Rattle.mg_model.specs.Ranges.{IsObjectRow}
+use Rattle.mg_model.specs.Spelling.{Spells, account_read, globals_read, object_read, super_read, thread_read}
+use Rattle.mg_model.specs.State.{Counters, ObjectRow, State, Thread, ThreadRow}
+use Rattle.mg_model.specs.Threads.{with_new_thread}
+use Rattle.mg_model.specs.Volume.{Is, account_row_bytes, accounts_fit, bound_pages, is_gated, live_rows, object_row_bytes, object_spelled, objects_fit, thread_row_bytes, threads_fit, volume}
+use Rattle.mg_pages.specs.Meaning as pages
+use Rattle.mg_volume.specs.Held.{VolumeHeld}
+
+-- the parts of the state that do not lie in pages
+unfoldable pub settings_in : VolumeHeld → Settings
+settings_in v = v.settings
+
+unfoldable pub counters_in : VolumeHeld → Counters
+counters_in v = v.counters
+
+-- the objects' rows, in the order of their bases
+unfoldable pub objects_in : VolumeHeld → List ObjectRow
+objects_in v = map (λ (o : ℕ × ObjectRow). o.1) v.objects
+
+unfoldable pub accounts_in : VolumeHeld → List AccRow
+accounts_in v = v.accounts
+
+unfoldable pub threads_in : VolumeHeld → List Thread
+threads_in v = map (λ (t : ℕ × ThreadRow). record { number = t.0; row = t.1 }) v.threads
+
+-- whether a page lies in an object
+abbrev pub is_page_in : ℕ → ObjectRow → Bool
+is_page_in page row = nat_le (page_of row) page && nat_lt page (page_behind row)
+
+abbrev pub has_page : VolumeHeld → ℕ → Bool
+has_page v page = list_any (λ row. is_page_in page row) (objects_in v)
+
+-- the state: the rows that are held, and the words that are staged, else those of the replayed image, else 0
+unfoldable pub now_of : VolumeHeld → Image → State
+now_of v image = record {
+  settings = v.settings;
+  counters = v.counters;
+  objects = map (λ (o : ℕ × ObjectRow). object_spelled (pages.coming v.pages image) v.settings.frames (pages.table_in v.pages) o.1) v.objects;
+  accounts = v.accounts;
+  threads = threads_in v;
+}
+
+unfoldable pub staged_of : VolumeHeld → ℕ
+staged_of v = pages.staged_of v.pages
+
+unfoldable pub is_live : VolumeHeld → Bool
+is_live v = pages.is_live v.pages
+
+unfoldable pub total_of : VolumeHeld → ℕ
+total_of v = pages.total_of v.pages
+
+unfoldable pub words_in : VolumeHeld → ℕ
+words_in v = pages.words_in v.pages
+
+-- rows with their places, in the order of their bases
+abbrev pub into_place : ℕ × ObjectRow → List (ℕ × ObjectRow) → List (ℕ × ObjectRow)
+into_place new [] = new ∷ []
+into_place new (o ∷ rows) = if nat_lt new.1.base o.1.base then new ∷ o ∷ rows else o ∷ into_place new rows
+
+abbrev pub by_base : List (ℕ × ObjectRow) → List (ℕ × ObjectRow)
+by_base [] = []
+by_base (o ∷ rows) = into_place o (by_base rows)
+
+-- accounts with their places, from place i on
+abbrev pub placed_from : ℕ → List AccRow → List (ℕ × AccRow)
+placed_from i [] = []
+placed_from i (row ∷ rows) = (i, row) ∷ placed_from (i + 1) rows
+
+-- what every value keeps, wherever it stands: rows in their ranges, as few as a volume has room for, and each bound page in an
+-- object
+pub record IsKept (v : VolumeHeld) : Type 0 where
+  pub frames : pages.frame_count v.pages ≡ v.settings.frames
+  pub rows : All (λ (o : ℕ × ObjectRow). IsObjectRow o.1) v.objects
+  pub used : sum_by (λ (o : ℕ × ObjectRow). o.1.pages) v.objects ≤ v.settings.frames
+  pub few_objects : length v.objects ≤ object_rows
+  pub few_accounts : length v.accounts ≤ account_rows
+  pub few_threads : length v.threads ≤ thread_rows
+  pub inside : list_all (λ page. has_page v page) (bound_pages (pages.table_in v.pages)) ≡ true
+
+-- and there is room for as many rows as a volume may have
+pub record IsHeld (v : VolumeHeld) (objects accounts threads : ℕ) : Type 0 where
+  pub kept : IsKept v
+  pub room_objects : object_rows ≤ objects
+  pub room_accounts : account_rows ≤ accounts
+  pub room_threads : thread_rows ≤ threads
+
+-- the image is a volume; what is coming spells the rows and the frame table that are held, and no other row
+pub record Spelled (v : VolumeHeld) (image : Image) : Type 0 where
+  pub fitting : pages.IsSpelledBy v.pages image
+  pub frames : pages.frame_count v.pages ≡ v.settings.frames
+  pub gated : is_gated image ≡ true
+  pub super : super_read (block_of image super_block) ≡ Spells v.settings
+  pub counters_are : globals_read (block_of (pages.coming v.pages image) globals_block) ≡ Some v.counters
+  pub accounts_are : live_rows (λ i. account_read (account_row_bytes (pages.coming v.pages image) i)) 0 account_rows ≡ Some (placed_from 0 v.accounts)
+  pub threads : List (ℕ × ThreadRow)
+  pub threads_are : live_rows (λ i. thread_read (thread_row_bytes (pages.coming v.pages image) i)) 0 thread_rows ≡ Some threads
+  pub numbered : map (λ (t : ℕ × ThreadRow). (t.0 + 1, t.1)) threads ≡ v.threads
+  pub objects : List (ℕ × ObjectRow)
+  pub objects_are : live_rows (λ i. object_read (object_row_bytes (pages.coming v.pages image) i)) 0 object_rows ≡ Some objects
+  pub ordered : by_base objects ≡ v.objects
+  pub kept : State
+  pub is : volume image ≡ Is kept
+
+unfoldable pub IsSpelledBy : VolumeHeld → Image → Type 0
+IsSpelledBy v image = Spelled v image
+
+-- the volume stands on the disk: nothing is pending, and it is what reads give and what is staged
+pub record StandsOn {D : Type 0} (facts : Ghosts D) (v : VolumeHeld) (disk : D) : Type 0 where
+  pub room : total_of v ≤ facts.block_count disk
+  pub settled : NothingPending facts disk
+  pub fits : ForSome (facts.seen disk) (λ image. IsSpelledBy v image)
+
+-- accounts, objects and threads keep the rules that hold between them
+abbrev pub is_sound : State → Bool
+is_sound state =
+    accounts_fit state.settings.credits state.counters.period state.accounts
+    && objects_fit state.settings.frames (length state.accounts) state.objects
+    && threads_fit state.counters.births state.threads
+
+-- nothing changed but the count of words
+pub record Keeps (old new : VolumeHeld) : Type 0 where
+  pub now : (image : Image) → now_of new image ≡ now_of old image
+  pub staged : staged_of new ≡ staged_of old
+  pub live : is_live new ≡ is_live old
+  pub total : total_of new ≡ total_of old
+
+-- the threads with this row for thread t, or without that thread
+abbrev pub threads_with : ℕ → Option ThreadRow → List Thread → List Thread
+threads_with t None threads = filter (λ (thread : Thread). not (thread.number == t)) threads
+threads_with t (Some row) threads =
+    if list_any (λ (thread : Thread). thread.number == t) threads
+    then map (λ (thread : Thread). if thread.number == t then record thread { row = row } else thread) threads
+    else with_new_thread (record { number = t; row = row }) threads
+
+-- the same volume, as live, and as many words counted
+pub record SameShape (old new : VolumeHeld) : Type 0 where
+  pub total : total_of new ≡ total_of old
+  pub live : is_live new ≡ is_live old
+  pub words : words_in new ≡ words_in old

@@ -1,0 +1,36 @@
+// Commits of a volume.
+ghost use Rattle.std.specs.Prelude.{◌≡◌, ◌⊎◌, true, false, IsTrue, OnErr, OnOk};
+ghost use Rattle.std.specs.Option.{ForSome};
+ghost use Rattle.mg_disk.specs.Stops.{CountGoes, CountRose, Leaves};
+ghost use Rattle.mg_model.specs.Volume.{Is, volume};
+ghost use Rattle.mg_volume.specs.Meaning.{StandsOn, is_live, is_sound, now_of, objects_in, staged_of, total_of, words_in};
+ghost use Rattle.mg_volume.specs.Opening.{Holds};
+
+use crate::volume::Volume;
+use mg_disk::Disk;
+use mg_faults::Failed;
+
+impl Volume {
+    /// Makes what is staged durable. After [`Failed`], which comes only where a call of the disk failed, the volume is not
+    /// live: the disk has the old state or the new.
+    pub fn commit<D: Disk>(&mut self, disk: &mut D) -> Result<(), Failed>
+        requires live { IsTrue (is_live self.old) }
+        requires stands { StandsOn D.Disk self.old disk.old }
+        requires sound { ForSome (D.seen disk.old) (λ image. is_sound (now_of self.old image) ≡ true) }
+        ensures any_moment { ForSome (D.seen disk.old) (λ image. Leaves D.Disk disk.old disk.new (λ c. (volume c ≡ volume image) ⊎ (volume c ≡ Is (now_of self.old image)))) }
+        ensures done { OnOk result (ForSome (D.seen disk.old) (λ image. Holds (now_of self.old image) self.new (D.seen disk.new))) }
+        ensures rows { objects_in self.new ≡ objects_in self.old }
+        ensures sound { ForSome (D.seen disk.new) (λ image. OnOk result (is_sound (now_of self.new image) ≡ true)) }
+        ensures stands { OnOk result (StandsOn D.Disk self.new disk.new) }
+        ensures staged { OnOk result (staged_of self.new ≡ 0) }
+        ensures total { total_of self.new ≡ total_of self.old }
+        ensures live { OnOk result (IsTrue (is_live self.new)) }
+        ensures dead { OnErr result (is_live self.new ≡ false) }
+        ensures words { words_in self.new ≡ words_in self.old }
+        ensures cause { OnErr result (CountRose D.Disk disk.old disk.new) }
+        ensures count { CountGoes D.Disk disk.old disk.new }
+        ensures blocks { D.block_count disk.new ≡ D.block_count disk.old }
+    {
+        self.pages.commit(disk)
+    }
+}

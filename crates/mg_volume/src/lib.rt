@@ -1,0 +1,32 @@
+//! A volume: a state of the machine that lives on a disk.
+//!
+//! A layer above reads and changes parts of a state. What stages a change changes `now`; a commit makes what is kept on the
+//! disk equal to it, and at each moment of it a stop leaves one of the two. Where a row or a page lies on the disk shows in
+//! no contract.
+//!
+//! `specs/Meaning.antt` has the words of the contracts: the state `now_of` a volume and an image, and when a volume stands
+//! on a disk. `specs/Laws.antt` says what may be known of them.
+#![tactic(auto)]
+
+mod accounts;
+mod bound;
+mod committing;
+mod faults;
+mod globals;
+mod loading;
+mod object_block;
+mod object_staging;
+mod objects;
+mod opening;
+mod places;
+mod reading;
+mod settings;
+mod staging;
+mod tables;
+mod thread_list;
+mod threads;
+mod volume;
+mod words;
+
+pub use mg_check::OpenFault;
+pub use volume::Volume;

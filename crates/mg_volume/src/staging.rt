@@ -1,0 +1,83 @@
+// What a volume stages.
+ghost use Rattle.std.specs.Prelude.{List, ◌≡◌, ◌≤◌, ◌<◌, ◌+◌, ◌^◌, ℕ, None, Some};
+ghost use Rattle.std.specs.Option.{option_map_or};
+ghost use Rattle.mg_model.specs.Draw.{password_drawn};
+ghost use Rattle.mg_model.specs.Spelling.{thread_read};
+ghost use Rattle.mg_volume.specs.Meaning.{IsSpelledBy, SameShape, counters_in, now_of, objects_in, settings_in, staged_of, threads_in, threads_with};
+
+use crate::thread_list::put_row;
+use crate::volume::Volume;
+use mg_disk::{BLOCK_SIZE, Block};
+use mg_model::{Globals, ThrRow, draw};
+use mg_rows::{write_globals, write_thread};
+
+impl Volume {
+    /// Stages the counters, in place of those that the state has. Fewer than 160 blocks are staged; one more is at most.
+    pub fn stage_globals(&mut self, g: Globals)
+        requires room { staged_of self.old < 160 }
+        ensures now { (image : List (List ℕ)) → now_of self.new image ≡ record (now_of self.old image) { counters = g } }
+        ensures rows { objects_in self.new ≡ objects_in self.old }
+        ensures spelled { (image : List (List ℕ)) → IsSpelledBy self.old image → IsSpelledBy self.new image }
+        ensures staged { staged_of self.new ≤ staged_of self.old + 1 }
+        ensures shape { SameShape self.old self.new }
+    {
+        let mut block = [0; BLOCK_SIZE];
+        write_globals(&g, &mut block);
+        self.globals = g;
+        self.pages.stage(1298, &block);
+    }
+
+    /// Stages the row of thread t, 1 to 256, in place of the one that it has, or that there is no such thread. Fewer than 160
+    /// blocks are staged; one more is at most.
+    pub fn stage_thread(&mut self, t: u64, row: Option<ThrRow>)
+        requires some { 1 ≤ t }
+        requires few { t ≤ 256 }
+        requires room { staged_of self.old < 160 }
+        ensures now { (image : List (List ℕ)) → IsSpelledBy self.old image → now_of self.new image ≡ record (now_of self.old image) { threads = threads_with t row (threads_in self.old) } }
+        ensures rows { objects_in self.new ≡ objects_in self.old }
+        ensures spelled { (image : List (List ℕ)) → IsSpelledBy self.old image → IsSpelledBy self.new image }
+        ensures staged { staged_of self.new ≤ staged_of self.old + 1 }
+        ensures shape { SameShape self.old self.new }
+    {
+        let block = thread_block(&row);
+        put_row(&mut self.threads, t, row);
+        self.pages.stage(1314 + t, &block);
+    }
+
+    /// The next password that is drawn. The count of draws, below `2^32`, rises by one and is staged.
+    pub fn next_password(&mut self) -> u64
+        requires room { staged_of self.old < 160 }
+        requires few { (counters_in self.old).draws < 2 ^ 32 }
+        ensures drawn { result ≡ password_drawn (settings_in self.old).seed (counters_in self.old).draws }
+        ensures now { (image : List (List ℕ)) → now_of self.new image ≡ record (now_of self.old image) { counters = record (counters_in self.old) { draws = (counters_in self.old).draws + 1 } } }
+        ensures rows { objects_in self.new ≡ objects_in self.old }
+        ensures spelled { (image : List (List ℕ)) → IsSpelledBy self.old image → IsSpelledBy self.new image }
+        ensures staged { staged_of self.new ≤ staged_of self.old + 1 }
+        ensures shape { SameShape self.old self.new }
+    {
+        let mut globals = self.globals();
+        let draws = globals.draws();
+        let password = draw(&self.params().seed(), draws);
+        globals.set_draws(draws + 1);
+        self.stage_globals(globals);
+        password
+    }
+}
+
+// The block of a thread's row.
+fn thread_block(row: &Option<ThrRow>) -> Block
+    ensures { thread_read result ≡ Some row.now }
+{
+    match row {
+        Some(row) => thread_written(Some(row)),
+        None => thread_written(None),
+    }
+}
+
+fn thread_written(row: Option<&ThrRow>) -> Block
+    ensures { thread_read result ≡ Some (option_map_or (λ row. Some row.now) row.entry None) }
+{
+    let mut block = [0; BLOCK_SIZE];
+    write_thread(row, &mut block);
+    block
+}

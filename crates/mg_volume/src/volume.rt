@@ -1,0 +1,181 @@
+// A volume that is open.
+ghost use Rattle.std.specs.Prelude.{List, ◌≡◌, ◌≤◌, ◌<◌, ◌+◌, ◌*◌, ◌==◌, ℕ, true, false, IfOk, IsTrue, MatchOption, None, OnErr, OnOk, Some, find, option_copied, option_map, ◌⊎◌};
+ghost use Rattle.std.specs.Option.{ForSome};
+ghost use Rattle.mg_disk.specs.Stops.{CountGoes, CountRose, Leaves, NothingPending, WritesNothing};
+ghost use Rattle.mg_model.specs.Access.{covers, last_slots};
+ghost use Rattle.mg_model.specs.State.{Thread};
+ghost use Rattle.mg_model.specs.Volume.{Damaged, NotVolume, OldVolume, volume};
+ghost use Rattle.mg_volume.specs.Meaning.{StandsOn, counters_in, is_live, is_sound, now_of, objects_in, settings_in, staged_of, threads_in, words_in};
+ghost use Rattle.mg_volume.specs.Opening.{Opens};
+
+use crate::faults::LoadFault;
+use crate::opening::open_as;
+use crate::settings::settings;
+use mg_check::OpenFault;
+use mg_disk::Disk;
+use mg_model::{AccRow, Frame, Globals, ObjRow, Params, ThrRow};
+use mg_pages::Pages;
+use std::alloc::Global;
+use std::marker::Model;
+
+/// A volume that is open: its rows in memory, and its words in pages.
+#[derive(Drop)]
+pub struct Volume {
+    pub(crate) params: Params,
+    pub(crate) globals: Globals,
+    pub(crate) objects: Vec<(u64, ObjRow)>,
+    pub(crate) accounts: Vec<AccRow>,
+    pub(crate) threads: Vec<(u64, ThrRow)>,
+    pub(crate) pages: Pages,
+}
+
+impl Model for Volume {
+    ghost use Rattle.std.specs.Prelude.{vec_capacity};
+    ghost use Rattle.mg_volume.specs.Held.{VolumeHeld};
+
+    ghost Value = { VolumeHeld };
+
+    ghost use Rattle.mg_volume.specs.Meaning.{IsHeld};
+
+    ghost view = { λ v. record { settings = v.params; counters = v.globals; objects = v.objects.items; accounts = v.accounts.items; threads = v.threads.items; pages = v.pages } };
+
+    ghost invariant = { λ v. IsHeld (record { settings = v.params; counters = v.globals; objects = v.objects.items; accounts = v.accounts.items; threads = v.threads.items; pages = v.pages }) (vec_capacity v.objects) (vec_capacity v.accounts) (vec_capacity v.threads) };
+}
+
+impl Volume {
+    /// Opens the volume of a disk, whatever a stop left of a commit. All memory that it will need is taken here.
+    ///
+    /// [`OpenFault::Not`], [`OpenFault::Old`] and [`OpenFault::Damaged`] come exactly where the image that reads give is no
+    /// volume, an older one, or a damaged one, and then nothing is written; on a disk that does not tell its reads, what does
+    /// not fit when it is read again is damaged too. [`OpenFault::Disk`] comes only where a call of the disk failed.
+    pub fn open<D: Disk>(alloc: Global, disk: &mut D) -> Result<Volume, OpenFault>
+        ensures opens { IfOk result (λ v. ForSome (D.seen disk.old) (λ image. Opens (volume image) v (D.seen disk.new))) }
+        ensures stands { IfOk result (λ v. StandsOn D.Disk v disk.new) }
+        ensures sound { IfOk result (λ v. ForSome (D.seen disk.new) (λ image. is_sound (now_of v image) ≡ true)) }
+        ensures staged { IfOk result (λ v. staged_of v ≡ 0) }
+        ensures live { IfOk result (λ v. IsTrue (is_live v)) }
+        ensures any_moment { NothingPending D.Disk disk.old → ForSome (D.seen disk.old) (λ image. Leaves D.Disk disk.old disk.new (λ c. volume c ≡ volume image)) }
+        ensures not { result ≡ Err OpenFault.Not → ForSome (D.seen disk.old) (λ image. volume image ≡ NotVolume) }
+        ensures old { result ≡ Err OpenFault.Old → ForSome (D.seen disk.old) (λ image. volume image ≡ OldVolume) }
+        ensures damaged { result ≡ Err OpenFault.Damaged → ForSome (D.seen disk.old) (λ image. volume image ≡ Damaged) }
+        ensures untouched_not { result ≡ Err OpenFault.Not → WritesNothing D.Disk disk.old disk.new }
+        ensures untouched_old { result ≡ Err OpenFault.Old → WritesNothing D.Disk disk.old disk.new }
+        ensures untouched_damaged { result ≡ Err OpenFault.Damaged → ForSome (D.seen disk.old) (λ image. WritesNothing D.Disk disk.old disk.new) }
+        ensures cause { result ≡ Err OpenFault.Disk → CountRose D.Disk disk.old disk.new }
+        ensures count { CountGoes D.Disk disk.old disk.new }
+        ensures blocks { D.block_count disk.new ≡ D.block_count disk.old }
+    {
+        let params = match settings(alloc, disk) {
+            Ok(params) => params,
+            Err(fault) => return Err(fault),
+        };
+        match open_as(alloc, &params, disk) {
+            Ok(volume) => Ok(volume),
+            Err(LoadFault::Damaged) => Err(OpenFault::Damaged),
+            Err(LoadFault::Disk) => Err(OpenFault::Disk),
+            Err(LoadFault::Memory) => Err(OpenFault::Memory),
+        }
+    }
+
+    /// What it was made with.
+    #[tactic(auto, unfolding(crate::specs::Meaning::settings_in))]
+    pub fn params(&self) -> Params
+        ensures { result ≡ settings_in self.now }
+    {
+        self.params
+    }
+
+    /// The period and the other counters.
+    #[tactic(auto, unfolding(crate::specs::Meaning::counters_in))]
+    pub fn globals(&self) -> Globals
+        ensures { result ≡ counters_in self.now }
+    {
+        self.globals
+    }
+
+    // The object that has an address, with its place.
+    fn found_covering(&self, a: u64) -> Option<&(u64, ObjRow)>
+        ensures { option_copied result ≡ find (λ o. covers o.1 a) self.now.objects }
+    {
+        self.objects.iter().find(|o| o.1.covers(a))
+    }
+
+    // The object with this base address, with its place.
+    fn found_object(&self, base: u64) -> Option<&(u64, ObjRow)>
+        ensures { option_copied result ≡ find (λ o. o.1.base == base) self.now.objects }
+    {
+        self.objects.iter().find(|o| o.1.base() == base)
+    }
+
+    /// The object that has an address.
+    pub fn covering(&self, a: u64) -> Option<ObjRow>
+        ensures { result ≡ find (λ row. covers row a) (objects_in self.now) }
+    {
+        match self.found_covering(a) {
+            Some(o) => Some(o.1),
+            None => None,
+        }
+    }
+
+    /// The object with this base address.
+    pub fn object(&self, base: u64) -> Option<ObjRow>
+        ensures { result ≡ find (λ row. row.base == base) (objects_in self.now) }
+    {
+        match self.found_object(base) {
+            Some(o) => Some(o.1),
+            None => None,
+        }
+    }
+
+    // The thread with this number.
+    fn found(&self, t: u64) -> Option<&(u64, ThrRow)>
+        ensures { option_copied result ≡ find (λ thread. thread.0 == t) self.now.threads }
+    {
+        self.threads.iter().find(|thread| thread.0 == t)
+    }
+
+    /// The thread with this number.
+    pub fn thread(&self, t: u64) -> Option<ThrRow>
+        ensures { option_map (λ thread. thread.row) (find (λ thread. thread.number == t) (threads_in self.now)) ≡ result }
+    {
+        match self.found(t) {
+            Some(thread) => Some(thread.1),
+            None => None,
+        }
+    }
+
+    /// The present frame of the thread with this number.
+    pub fn frame(&self, t: u64) -> Option<Frame>
+        ensures { MatchOption result (find (λ thread. thread.number == t) (threads_in self.now) ≡ None)
+            (λ frame. (thread : Thread) × (find (λ thread. thread.number == t) (threads_in self.now) ≡ Some thread) × (frame.slots ≡ last_slots thread.row.frames)) }
+    {
+        match self.found(t) {
+            Some(thread) => Some(thread.1.last()),
+            None => None,
+        }
+    }
+
+    /// How many blocks are staged, 0 to 160.
+    #[tactic(auto, unfolding(crate::specs::Meaning::staged_of))]
+    pub fn staged(&self) -> usize
+        ensures { result ≡ staged_of self.now }
+    {
+        self.pages.staged()
+    }
+
+    /// Whether no commit has failed.
+    #[tactic(auto, unfolding(crate::specs::Meaning::is_live))]
+    pub fn live(&self) -> bool
+        ensures { result ≡ is_live self.now }
+    {
+        self.pages.live()
+    }
+
+    /// How many words were read and written, modulo `2^64`.
+    #[tactic(auto, unfolding(crate::specs::Meaning::words_in))]
+    pub fn words(&self) -> u64
+        ensures { result ≡ words_in self.now }
+    {
+        self.pages.words()
+    }
+}

@@ -1,0 +1,76 @@
+// The words of a volume.
+ghost use Rattle.std.specs.Prelude.{◌≡◌, ◌≤◌, ◌<◌, ◌+◌, ◌*◌, true, IfOk, OnErr, OnOk};
+ghost use Rattle.std.specs.Option.{ForSome};
+ghost use Rattle.mg_disk.specs.Stops.{CountGoes, CountRose, WritesNothing};
+ghost use Rattle.mg_model.specs.Objects.{with_word, word_at};
+ghost use Rattle.mg_pages.specs.Meaning.{CountsAlike};
+ghost use Rattle.mg_volume.specs.Meaning.{Keeps, StandsOn, has_page, is_live, is_sound, now_of, objects_in, staged_of, total_of, words_in};
+
+use crate::volume::Volume;
+use mg_disk::Disk;
+use mg_faults::Failed;
+use mg_model::Steps;
+use std::sync::ledger::Ledger;
+
+impl Volume {
+    /// The word at an index, below 512, of a page of an object. [`Failed`] comes only where a call of the disk failed, and
+    /// changes nothing. Ok counts one word, here and in `steps`.
+    pub fn word<D: Disk, L: Ledger>(
+        &mut self,
+        disk: &mut D,
+        page: u64,
+        index: u64,
+        steps: &mut Steps<L>,
+    ) -> Result<u64, Failed>
+        requires stands { StandsOn D.Disk self.old disk.old }
+        requires page { has_page self.old page ≡ true }
+        requires index { index < 512 }
+        ensures word { IfOk result (λ word. ForSome (D.seen disk.old) (λ image. word ≡ word_at (now_of self.old image).objects (4096 * page + 8 * index))) }
+        ensures keeps { Keeps self.old self.new }
+        ensures rows { objects_in self.new ≡ objects_in self.old }
+        ensures stands { StandsOn D.Disk self.new disk.new }
+        ensures writes { WritesNothing D.Disk disk.old disk.new }
+        ensures counted { CountsAlike (words_in self.old) (words_in self.new) steps.old steps.new }
+        ensures one { OnOk result (steps.new ≡ steps.old + 1) }
+        ensures none { OnErr result (steps.new ≡ steps.old) }
+        ensures cause { OnErr result (CountRose D.Disk disk.old disk.new) }
+        ensures count { CountGoes D.Disk disk.old disk.new }
+        ensures blocks { D.block_count disk.new ≡ D.block_count disk.old }
+    {
+        self.pages.word(disk, page, index, steps)
+    }
+
+    /// Puts a word at an index, below 512, of a page of an object. [`Failed`] comes only where a call of the disk failed,
+    /// and changes nothing. Ok counts one word, here and in `steps`.
+    pub fn set_word<D: Disk, L: Ledger>(
+        &mut self,
+        disk: &mut D,
+        page: u64,
+        index: u64,
+        value: u64,
+        steps: &mut Steps<L>,
+    ) -> Result<(), Failed>
+        requires stands { StandsOn D.Disk self.old disk.old }
+        requires page { has_page self.old page ≡ true }
+        requires index { index < 512 }
+        requires few { staged_of self.old ≤ 158 }
+        ensures sets { OnOk result (ForSome (D.seen disk.old) (λ image. now_of self.new image ≡ record (now_of self.old image) { objects = with_word (now_of self.old image).objects (4096 * page + 8 * index) value })) }
+        ensures failed { OnErr result (Keeps self.old self.new) }
+        ensures rows { objects_in self.new ≡ objects_in self.old }
+        ensures sound { ForSome (D.seen disk.old) (λ image. is_sound (now_of self.new image) ≡ is_sound (now_of self.old image)) }
+        ensures live { is_live self.new ≡ is_live self.old }
+        ensures total { total_of self.new ≡ total_of self.old }
+        ensures staged { staged_of self.new ≤ staged_of self.old + 2 }
+        ensures stands { StandsOn D.Disk self.new disk.new }
+        ensures writes { WritesNothing D.Disk disk.old disk.new }
+        ensures counted { CountsAlike (words_in self.old) (words_in self.new) steps.old steps.new }
+        ensures one { OnOk result (steps.new ≡ steps.old + 1) }
+        ensures none { OnErr result (steps.new ≡ steps.old) }
+        ensures cause { OnErr result (CountRose D.Disk disk.old disk.new) }
+        ensures count { CountGoes D.Disk disk.old disk.new }
+        ensures blocks { D.block_count disk.new ≡ D.block_count disk.old }
+    {
+        let _staged = self.pages.staged();
+        self.pages.set_word(disk, page, index, value, steps)
+    }
+}
