@@ -1,0 +1,4 @@
+pub mod Meaning
+pub mod Opening
+pub mod Reading
+pub mod Searching

@@ -1,0 +1,62 @@
+-- What a kernel is, as functions of the value and an image. The layers above see these words by their names.
+use Rattle.std.specs.Prelude.{◌≡◌, ◌≤◌, ℕ, Bool, true}
+use Rattle.std.specs.Option.{ForSome}
+use Rattle.mg_disk.specs.Disk.{Image}
+use Rattle.mg_disk.specs.Stops.{NothingPending}
+use Rattle.mg_disk.specs.declared.disk.Disk.{Ghosts}
+use Rattle.mg_kernel.specs.declared.kernel.Kernel.{Kernel}
+use Rattle.mg_model.specs.declared.replies.Reply.{Reply}
+use Rattle.mg_model.specs.declared.replies.Reply.TheVariants as reply
+use Rattle.mg_model.specs.State.{State}
+use Rattle.mg_model.specs.Volume.{Is, volume}
+use Rattle.mg_volume.specs.Laws as laws
+use Rattle.mg_volume.specs.Meaning as held
+
+-- the machine's state
+unfoldable pub now_of : Kernel → Image → State
+now_of k image = held.now_of k.volume image
+
+-- the image is a volume, what the kernel holds is what the image spells and what is staged, and the state is sound
+pub record Spelled (k : Kernel) (image : Image) : Type 0 where
+  pub fitting : held.IsSpelledBy k.volume image
+  pub sound : held.is_sound (held.now_of k.volume image) ≡ true
+
+unfoldable pub IsSpelledBy : Kernel → Image → Type 0
+IsSpelledBy k image = Spelled k image
+
+-- how many blocks are staged
+unfoldable pub staged_of : Kernel → ℕ
+staged_of k = held.staged_of k.volume
+
+-- no commit has failed
+unfoldable pub is_live : Kernel → Bool
+is_live k = held.is_live k.volume
+
+-- how many blocks the volume needs
+unfoldable pub total_of : Kernel → ℕ
+total_of k = held.total_of k.volume
+
+-- how many words were read and written, modulo 2^64
+unfoldable pub words_in : Kernel → ℕ
+words_in k = held.words_in k.volume
+
+-- the kernel stands on the disk: nothing is pending, and it fits what reads give
+pub record StandsOn {D : Type 0} (facts : Ghosts D) (k : Kernel) (disk : D) : Type 0 where
+  pub room : total_of k ≤ facts.block_count disk
+  pub settled : NothingPending facts disk
+  pub fits : ForSome (facts.seen disk) (λ image. IsSpelledBy k image)
+
+-- the line was refused
+abbrev pub IsRefusal : Reply → Type 0
+IsRefusal (reply.No refusal) = Unit {0}
+IsRefusal other = ⊥
+
+-- an image that the kernel fits is a volume
+pub spelled_volume : (k : Kernel) (image : Image) → IsSpelledBy k image → (state : State) × (volume image ≡ Is state)
+unfolding IsSpelledBy
+spelled_volume k image is = laws.spelled_volume k.volume image is.fitting
+
+-- where nothing is staged the kernel's state is the one that is kept
+pub now_kept : (k : Kernel) (image : Image) → IsSpelledBy k image → staged_of k ≡ 0 → volume image ≡ Is (now_of k image)
+unfolding IsSpelledBy staged_of now_of
+now_kept k image is none = laws.now_kept k.volume image is.fitting none

@@ -1,0 +1,159 @@
+// The kernel.
+ghost use Rattle.std.specs.Prelude.{List, ◌≡◌, ◌≤◌, ◌<◌, ◌+◌, ◌⊎◌, ℕ, true, false, IfOk, IsTrue, MatchOption, None, OnErr, OnOk, option_map, if◌then◌else◌};
+ghost use Rattle.std.specs.Option.{ForSome};
+ghost use Rattle.mg_disk.specs.Stops.{CountGoes, CountRose, Leaves, NothingPending, WritesNothing};
+ghost use Rattle.mg_kernel.specs.Meaning.{IsRefusal, StandsOn, is_live, now_of, staged_of, words_in};
+ghost use Rattle.mg_kernel.specs.Opening.{Holds, Opens};
+ghost use Rattle.mg_model.specs.Access.{allowed, at};
+ghost use Rattle.mg_model.specs.Built.{IsBuilt};
+ghost use Rattle.mg_model.specs.Step.{step};
+ghost use Rattle.mg_model.specs.Volume.{Damaged, Is, NotVolume, OldVolume, volume};
+ghost use Rattle.mg_pages.specs.Meaning.{CountsAlike};
+ghost use Rattle.mg_model.specs.FewSlots.{HasFewSlots};
+
+use crate::calls::{info, load, store};
+use crate::validating::validate;
+use mg_disk::Disk;
+use mg_faults::Failed;
+use mg_model::{Call, Line, Refusal, Reply, Right, Steps};
+use mg_volume::{OpenFault, Volume};
+use std::alloc::Global;
+use std::sync::ledger::Ledger;
+
+/// The machine on a volume.
+#[derive(Drop)]
+pub struct Kernel {
+    volume: Volume,
+}
+
+#[tactic(auto, unfolding(crate::specs::Meaning::now_of, crate::specs::Meaning::staged_of, crate::specs::Meaning::is_live, crate::specs::Meaning::total_of, crate::specs::Meaning::words_in, crate::specs::Meaning::IsSpelledBy))]
+impl Kernel {
+    /// Opens the volume of a disk, whatever a stop left of a commit. All memory that the machine will need is taken here.
+    ///
+    /// [`OpenFault::Not`], [`OpenFault::Old`] and [`OpenFault::Damaged`] come exactly where the image that reads give is no
+    /// volume, an older one, or a damaged one, and then nothing is written; on a disk that does not tell its reads, what
+    /// does not fit when it is read again is damaged too. [`OpenFault::Disk`] comes only where a call of the disk failed.
+    pub fn open<D: Disk>(alloc: Global, disk: &mut D) -> Result<Kernel, OpenFault>
+        ensures opens { IfOk result (λ k. ForSome (D.seen disk.old) (λ image. Opens (volume image) k (D.seen disk.new))) }
+        ensures stands { IfOk result (λ k. StandsOn D.Disk k disk.new) }
+        ensures staged { IfOk result (λ k. staged_of k ≡ 0) }
+        ensures live { IfOk result (λ k. IsTrue (is_live k)) }
+        ensures any_moment { NothingPending D.Disk disk.old → ForSome (D.seen disk.old) (λ image. Leaves D.Disk disk.old disk.new (λ c. volume c ≡ volume image)) }
+        ensures not { result ≡ Err OpenFault.Not → ForSome (D.seen disk.old) (λ image. volume image ≡ NotVolume) }
+        ensures old { result ≡ Err OpenFault.Old → ForSome (D.seen disk.old) (λ image. volume image ≡ OldVolume) }
+        ensures damaged { result ≡ Err OpenFault.Damaged → ForSome (D.seen disk.old) (λ image. volume image ≡ Damaged) }
+        ensures untouched_not { result ≡ Err OpenFault.Not → WritesNothing D.Disk disk.old disk.new }
+        ensures untouched_old { result ≡ Err OpenFault.Old → WritesNothing D.Disk disk.old disk.new }
+        ensures untouched_damaged { result ≡ Err OpenFault.Damaged → ForSome (D.seen disk.old) (λ image. WritesNothing D.Disk disk.old disk.new) }
+        ensures cause { result ≡ Err OpenFault.Disk → CountRose D.Disk disk.old disk.new }
+        ensures count { CountGoes D.Disk disk.old disk.new }
+        ensures blocks { D.block_count disk.new ≡ D.block_count disk.old }
+    {
+        match Volume::open(alloc, disk) {
+            Ok(volume) => Ok(Kernel { volume }),
+            Err(fault) => Err(fault),
+        }
+    }
+
+    /// One line: its reply, and the state after it. It writes nothing. [`Failed`] comes only where a call of the disk
+    /// failed; the state is then as before, and the kernel still serves.
+    pub fn step<D: Disk, L: Ledger>(
+        &mut self,
+        disk: &mut D,
+        line: &Line,
+        steps: &mut Steps<L>,
+    ) -> Result<Reply, Failed>
+        requires live { IsTrue (is_live self.old) }
+        requires few { staged_of self.old ≤ 28 }
+        requires stands { StandsOn D.Disk self.old disk.old }
+        requires built { IsBuilt line.now }
+        ensures replies { IfOk result (λ reply. ForSome (D.seen disk.old) (λ image. reply ≡ (step (now_of self.old image) line.now).1)) }
+        ensures state { OnOk result (ForSome (D.seen disk.old) (λ image. now_of self.new image ≡ (step (now_of self.old image) line.now).0)) }
+        ensures failed { OnErr result (ForSome (D.seen disk.old) (λ image. now_of self.new image ≡ now_of self.old image)) }
+        ensures refused { IfOk result (λ reply. IsRefusal reply → staged_of self.new ≡ staged_of self.old) }
+        ensures slots { IfOk result HasFewSlots }
+        ensures stands { StandsOn D.Disk self.new disk.new }
+        ensures writes { WritesNothing D.Disk disk.old disk.new }
+        ensures live { is_live self.new ≡ is_live self.old }
+        ensures staged { staged_of self.new ≤ staged_of self.old + 132 }
+        ensures counted { CountsAlike (words_in self.old) (words_in self.new) steps.old steps.new }
+        ensures cause { OnErr result (CountRose D.Disk disk.old disk.new) }
+        ensures count { CountGoes D.Disk disk.old disk.new }
+        ensures blocks { D.block_count disk.new ≡ D.block_count disk.old }
+    {
+        match line.call {
+            Call::Load { a } => load(&mut self.volume, disk, line.thread, a, steps),
+            Call::Store { a, value } => store(&mut self.volume, disk, line.thread, a, value, steps),
+            Call::Info { base } => info(&mut self.volume, disk, line.thread, base, steps),
+            Call::Bad => Ok(Reply::No(Refusal::Syntax)),
+            Call::Later => Ok(Reply::No(Refusal::Later)),
+            _ => unreachable!(),
+        }
+    }
+
+    /// The base of the object that has an address, where a thread may reach it with the right; None where it may not, or no
+    /// such thread lives. The state and what is staged stay. [`Failed`] comes only where a call of the disk failed.
+    pub fn probe<D: Disk, L: Ledger>(
+        &mut self,
+        disk: &mut D,
+        t: u64,
+        a: u64,
+        r: Right,
+        steps: &mut Steps<L>,
+    ) -> Result<Option<u64>, Failed>
+        requires live { IsTrue (is_live self.old) }
+        requires few { staged_of self.old ≤ 30 }
+        requires stands { StandsOn D.Disk self.old disk.old }
+        ensures base { IfOk result (λ base. ForSome (D.seen disk.old) (λ image. base ≡ (if allowed (now_of self.old image) t a r then option_map (λ object. object.row.base) (at (now_of self.old image).objects a) else None))) }
+        ensures same { ForSome (D.seen disk.old) (λ image. now_of self.new image ≡ now_of self.old image) }
+        ensures stands { StandsOn D.Disk self.new disk.new }
+        ensures writes { WritesNothing D.Disk disk.old disk.new }
+        ensures live { is_live self.new ≡ is_live self.old }
+        ensures staged { staged_of self.new ≡ staged_of self.old }
+        ensures counted { CountsAlike (words_in self.old) (words_in self.new) steps.old steps.new }
+        ensures cause { OnErr result (CountRose D.Disk disk.old disk.new) }
+        ensures count { CountGoes D.Disk disk.old disk.new }
+        ensures blocks { D.block_count disk.new ≡ D.block_count disk.old }
+    {
+        validate(&mut self.volume, disk, t, a, r, steps)
+    }
+
+    /// Makes the state durable. After [`Failed`], which comes only where a call of the disk failed, the kernel is not live,
+    /// and a stop leaves the state of before or the new one.
+    pub fn commit<D: Disk>(&mut self, disk: &mut D) -> Result<(), Failed>
+        requires live { IsTrue (is_live self.old) }
+        requires stands { StandsOn D.Disk self.old disk.old }
+        ensures any_moment { ForSome (D.seen disk.old) (λ image. Leaves D.Disk disk.old disk.new (λ c. (volume c ≡ volume image) ⊎ (volume c ≡ Is (now_of self.old image)))) }
+        ensures done { OnOk result (ForSome (D.seen disk.old) (λ image. Holds (now_of self.old image) self.new (D.seen disk.new))) }
+        ensures stands { OnOk result (StandsOn D.Disk self.new disk.new) }
+        ensures staged { OnOk result (staged_of self.new ≡ 0) }
+        ensures live { OnOk result (IsTrue (is_live self.new)) }
+        ensures dead { OnErr result (is_live self.new ≡ false) }
+        ensures words { words_in self.new ≡ words_in self.old }
+        ensures cause { OnErr result (CountRose D.Disk disk.old disk.new) }
+        ensures count { CountGoes D.Disk disk.old disk.new }
+        ensures blocks { D.block_count disk.new ≡ D.block_count disk.old }
+    {
+        self.volume.commit(disk)
+    }
+
+    /// How many blocks are staged, 0 to 160.
+    pub fn staged(&self) -> usize
+        ensures { result ≡ staged_of self.now }
+    {
+        self.volume.staged()
+    }
+
+    /// Whether no commit has failed.
+    pub fn live(&self) -> bool
+        ensures { result ≡ is_live self.now }
+    {
+        self.volume.live()
+    }
+    /// How many words were read and written, modulo `2^64`.
+    pub fn words(&self) -> u64
+        ensures { result ≡ words_in self.now }
+    {
+        self.volume.words()
+    }
+}

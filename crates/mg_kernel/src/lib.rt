@@ -1,0 +1,17 @@
+//! The kernel: one line is one step of the machine, on a volume.
+//!
+//! A layer above learns that a step gives the machine's reply and leaves its state as `now`, that it writes nothing, and
+//! that a commit makes the state durable: at each moment of it a stop leaves the state of before or the new one.
+//!
+//! `specs/Meaning.antt` has the words of the contracts, `specs/Opening.antt` what an opening and a commit give.
+#![tactic(auto)]
+
+mod calls;
+mod kernel;
+#[cfg(test)]
+mod tests;
+mod validating;
+mod words;
+
+pub use kernel::Kernel;
+pub use mg_volume::OpenFault;
