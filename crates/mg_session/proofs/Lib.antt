@@ -1,5 +1,9 @@
+mod IncomingSteps
+mod Openings
+mod Outcomes
 mod PartialLemmas
+mod ReadingSteps
 mod Results
-mod Searching
 mod Seed
+mod SessionSteps
 mod Spelled

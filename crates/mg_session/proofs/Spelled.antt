@@ -1,9 +1,10 @@
 -- Words by their number.
-use Rattle.std.proofs.Common.{ℕ, zero, ◌<◌, ◌≡◌, List, [], ◌∷◌, length, get_or, suc, Option, None, refl, sym, ap, ◌∙◌, arith}
-use Rattle.std.specs.Prelude.{String}
+use Rattle.std.proofs.Common.{ℕ, zero, false, ◌<◌, ◌≡◌, List, [], ◌∷◌, length, get_or, suc, Option, None, refl, sym, ap, ◌∙◌, arith}
+use Rattle.std.specs.Prelude.{String, codes}
 use Rattle.std.specs.String.{string_bytes}
 use Rattle.std.specs.declared.alloc.Global.{Global}
-use Rattle.mg_session.specs.Commands.{dry_of, dry_words, format_usual, format_with, format_words, tariff_of, words_of}
+use Rattle.mg_model.specs.Words.{same_bytes}
+use Rattle.mg_session.specs.Commands.{dry_of, dry_words, format_usual, format_with, format_words, is_check, run_alone, run_with, run_words, tariff_of, words_of}
 
 not_five : (words : List (List ℕ)) → (length words ≡ 5 → ⊥) → dry_of words ≡ None
 not_five [] h = refl
@@ -110,3 +111,43 @@ not_format (a0 ∷ a1 ∷ a2 ∷ a3 ∷ a4 ∷ a5 ∷ a6 ∷ a7 ∷ a8 ∷ a9 �
 -- neither five words nor nine
 pub format_words-other : (words : List (String Global)) → (length words ≡ 5 → ⊥) → (length words ≡ 9 → ⊥) → format_words (words_of words) ≡ None
 format_words-other words h k = not_format (words_of words) (λ e. h (sym (length-words_of words) ∙ e)) (λ e. k (sym (length-words_of words) ∙ e))
+
+-- the words of `check` and `run`, each by its place
+pub is_check-two : (words : List (String Global)) (a : String Global) (word : List ℕ) → length words ≡ 2 → a ≡ get_or words 1 a → word ≡ string_bytes a → same_bytes word (codes "check") ≡ is_check (words_of words)
+is_check-two [] a w two p h = absurd (omega arith)
+is_check-two (w0 ∷ []) a w two p h = absurd (omega arith)
+is_check-two (w0 ∷ w1 ∷ []) a w two p h = ap (λ v. same_bytes v (codes "check")) (h ∙ ap (λ v. string_bytes v) p)
+is_check-two (w0 ∷ w1 ∷ w2 ∷ more) a w two p h = absurd (omega arith)
+
+not_two : (words : List (List ℕ)) → (length words ≡ 2 → ⊥) → is_check words ≡ false
+not_two [] h = refl
+not_two (a ∷ []) h = refl
+not_two (a ∷ b ∷ []) h = absurd (h refl)
+not_two (a ∷ b ∷ c ∷ more) h = refl
+
+pub is_check-other : (words : List (String Global)) → (length words ≡ 2 → ⊥) → is_check (words_of words) ≡ false
+is_check-other words h = not_two (words_of words) (λ e. h (sym (length-words_of words) ∙ e))
+
+pub run_words-two : (words : List (String Global)) (a : String Global) (word : List ℕ) → length words ≡ 2 → a ≡ get_or words 1 a → word ≡ string_bytes a → run_alone word ≡ run_words (words_of words)
+run_words-two [] a w two p h = absurd (omega arith)
+run_words-two (w0 ∷ []) a w two p h = absurd (omega arith)
+run_words-two (w0 ∷ w1 ∷ []) a w two p h = ap (λ v. run_alone v) (h ∙ ap (λ v. string_bytes v) p)
+run_words-two (w0 ∷ w1 ∷ w2 ∷ more) a w two p h = absurd (omega arith)
+
+pub run_words-three : (words : List (String Global)) (a b : String Global) (word batch : List ℕ) → length words ≡ 3 → a ≡ get_or words 1 a → b ≡ get_or words 2 b → word ≡ string_bytes a → batch ≡ string_bytes b
+    → run_with word batch ≡ run_words (words_of words)
+run_words-three [] a b w n three p q h k = absurd (omega arith)
+run_words-three (w0 ∷ []) a b w n three p q h k = absurd (omega arith)
+run_words-three (w0 ∷ w1 ∷ []) a b w n three p q h k = absurd (omega arith)
+run_words-three (w0 ∷ w1 ∷ w2 ∷ []) a b w n three p q h k = ap (λ v. run_with v n) (h ∙ ap (λ v. string_bytes v) p) ∙ ap (λ v. run_with (string_bytes w1) v) (k ∙ ap (λ v. string_bytes v) q)
+run_words-three (w0 ∷ w1 ∷ w2 ∷ w3 ∷ more) a b w n three p q h k = absurd (omega arith)
+
+not_two_or_three : (words : List (List ℕ)) → (length words ≡ 2 → ⊥) → (length words ≡ 3 → ⊥) → run_words words ≡ None
+not_two_or_three [] h k = refl
+not_two_or_three (a ∷ []) h k = refl
+not_two_or_three (a ∷ b ∷ []) h k = absurd (h refl)
+not_two_or_three (a ∷ b ∷ c ∷ []) h k = absurd (k refl)
+not_two_or_three (a ∷ b ∷ c ∷ d ∷ more) h k = refl
+
+pub run_words-other : (words : List (String Global)) → (length words ≡ 2 → ⊥) → (length words ≡ 3 → ⊥) → run_words (words_of words) ≡ None
+run_words-other words h k = not_two_or_three (words_of words) (λ e. h (sym (length-words_of words) ∙ e)) (λ e. k (sym (length-words_of words) ∙ e))

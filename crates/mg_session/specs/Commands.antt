@@ -1,5 +1,5 @@
 -- The commands, and the words that spell each.
-use Rattle.std.specs.Prelude.{ℕ, ◌+◌, ◌*◌, ◌==◌, List, [], ◌∷◌, length, if◌then◌else◌, Option, Some, None, codes, drop, map, not, option_map, take, String}
+use Rattle.std.specs.Prelude.{ℕ, ◌+◌, ◌*◌, ◌==◌, ◌&&◌, Bool, false, nat_le, List, [], ◌∷◌, length, if◌then◌else◌, Option, Some, None, codes, drop, map, not, option_map, take, String}
 use Rattle.std.specs.List.{prefix_len}
 use Rattle.std.specs.String.{string_bytes}
 use Rattle.std.specs.declared.alloc.Global.{Global}
@@ -7,7 +7,7 @@ use Rattle.mg_model.specs.Settings.{Settings, within_limits}
 use Rattle.mg_model.specs.Tariff.{is_tariff, usual_tariff}
 use Rattle.mg_model.specs.Words.{and_then, digit_of, number_of, same_bytes}
 use Rattle.mg_session.specs.declared.words.Command.{Command}
-use Rattle.mg_session.specs.declared.words.Command.TheVariants.{Dry, Format}
+use Rattle.mg_session.specs.declared.words.Command.TheVariants.{Check, Dry, Format, Run}
 
 -- the byte of two hexadecimal digits, the high one first
 abbrev pub byte_of : ℕ → ℕ → Option ℕ
@@ -90,6 +90,29 @@ format_words (volume ∷ word ∷ frames ∷ seed ∷ credits ∷ []) = format_u
 format_words (volume ∷ word ∷ frames ∷ seed ∷ credits ∷ a ∷ b ∷ c ∷ d ∷ []) = format_with (tariff_of a b c d) word frames seed credits
 format_words words = None
 
+-- `VOLUME check`
+abbrev pub is_check : List (List ℕ) → Bool
+is_check (volume ∷ word ∷ []) = same_bytes word (codes "check")
+is_check words = false
+
+-- a batch of so many replies, if it may have as many
+abbrev pub batch_within : ℕ → Option ℕ
+batch_within batch = if nat_le 1 batch && nat_le batch 64 then Some batch else None
+
+-- `run`
+abbrev pub run_alone : List ℕ → Option ℕ
+run_alone word = if same_bytes word (codes "run") then Some 1 else None
+
+-- `run BATCH`
+abbrev pub run_with : List ℕ → List ℕ → Option ℕ
+run_with word batch = if same_bytes word (codes "run") then and_then (number_of batch) batch_within else None
+
+-- `VOLUME run` and `VOLUME run BATCH`
+abbrev pub run_words : List (List ℕ) → Option ℕ
+run_words (volume ∷ word ∷ []) = run_alone word
+run_words (volume ∷ word ∷ batch ∷ []) = run_with word batch
+run_words words = None
+
 -- the first of two, or else the other
 abbrev pub or_else : {X : Type 0} → Option X → Option X → Option X
 or_else None other = other
@@ -97,23 +120,66 @@ or_else (Some x) other = Some x
 
 -- the command that these words spell
 abbrev pub command_of : List (List ℕ) → Option Command
-command_of words = or_else (option_map (λ settings. Dry settings) (dry_of words)) (option_map (λ settings. Format settings) (format_words words))
+command_of words =
+    or_else (option_map (λ settings. Dry settings) (dry_of words))
+    (or_else (option_map (λ settings. Format settings) (format_words words))
+    (or_else (if is_check words then Some Check else None) (option_map (λ batch. Run batch) (run_words words))))
 
 -- the settings of the machine that the lines run on, if that is the command
 abbrev pub settings_to_run : Option Command → Option Settings
 settings_to_run None = None
 settings_to_run (Some (Dry settings)) = Some settings
 settings_to_run (Some (Format settings)) = None
+settings_to_run (Some Check) = None
+settings_to_run (Some (Run batch)) = None
 
 -- the settings of the volume that is to be made, if that is the command
 abbrev pub settings_to_make : Option Command → Option Settings
 settings_to_make None = None
 settings_to_make (Some (Dry settings)) = None
 settings_to_make (Some (Format settings)) = Some settings
+settings_to_make (Some Check) = None
+settings_to_make (Some (Run batch)) = None
+
+-- how many replies a batch has, if the lines run on the volume
+abbrev pub batch_to_run : Option Command → Option ℕ
+batch_to_run None = None
+batch_to_run (Some (Dry settings)) = None
+batch_to_run (Some (Format settings)) = None
+batch_to_run (Some Check) = None
+batch_to_run (Some (Run batch)) = Some batch
+
+-- the command, if it is to tell whether the disk is a volume
+abbrev pub only_check : Option Command → Option Command
+only_check None = None
+only_check (Some (Dry settings)) = None
+only_check (Some (Format settings)) = None
+only_check (Some Check) = Some Check
+only_check (Some (Run batch)) = None
+
+-- the command, if it is one that opens the volume
+abbrev pub only_opening : Option Command → Option Command
+only_opening None = None
+only_opening (Some (Dry settings)) = None
+only_opening (Some (Format settings)) = None
+only_opening (Some Check) = Some Check
+only_opening (Some (Run batch)) = Some (Run batch)
 
 -- `VOLUME format ..`
 abbrev pub format_of : List (List ℕ) → Option Settings
 format_of words = settings_to_make (command_of words)
+
+-- `VOLUME run ..`
+abbrev pub run_of : List (List ℕ) → Option ℕ
+run_of words = batch_to_run (command_of words)
+
+-- `VOLUME check`
+abbrev pub check_of : List (List ℕ) → Option Command
+check_of words = only_check (command_of words)
+
+-- `VOLUME check` and `VOLUME run ..`
+abbrev pub opening_of : List (List ℕ) → Option Command
+opening_of words = only_opening (command_of words)
 
 -- the words as bytes
 abbrev pub words_of : List (String Global) → List (List ℕ)

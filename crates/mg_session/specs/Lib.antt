@@ -1,7 +1,8 @@
 pub mod Commands
-pub mod Exits
 pub mod Formats
 pub mod Headline
-pub mod Searching
-pub mod Serving
+pub mod Incoming
+pub mod Readings
+pub mod Sessions
+pub mod Volumes
 pub mod Waiting

@@ -9,7 +9,6 @@ ghost use Rattle.mg_layout.specs.MayFormat.{MayFormat};
 ghost use Rattle.mg_model.specs.Layout.{total_blocks};
 ghost use Rattle.mg_session.specs.Formats.{EndsFormat, IsMade, made_line, small_line};
 
-use crate::machine::ROOT;
 use crate::program::Status;
 use arrayvec::ArrayVec;
 use mg_disk::Disk;
@@ -18,6 +17,9 @@ use mg_io::{Sink, put_all};
 use mg_layout::{FormatFault, format};
 use mg_model::{Params, draw};
 use mg_text::{print_small, print_words};
+
+/// The base of the root object.
+const ROOT: u64 = 0x1_0000_0000;
 
 /// Makes a volume and puts the line that tells of it. Where the disk has too few blocks it is not called, and the line
 /// tells how many are needed and how many there are. Where a call of the disk failed nothing is put.

@@ -1,27 +1,37 @@
 //! The session: from the words of the command line to the exit status.
 //!
-//! [`top`] is all that the program does: it reads the command's words, and either makes a volume on the disk, or cuts the
-//! source's bytes at newlines, steps each line on the machine and puts the replies in their order. What the layer above
-//! learns stands on [`top`], for every disk, source and sink, those that fail at any call among them: what the sink took,
-//! how much the source gave, what the disk holds and what a stop may leave of it, and when each status comes.
+//! [`top`] is all that the program does: it reads the command's words, and makes a volume on the disk, tells what the disk
+//! holds, or cuts the source's bytes at newlines, steps each line on a volume and puts the replies in their order, batch by
+//! batch: a batch is committed, and then its replies are put. What the layer above learns stands on [`top`] and [`serve`],
+//! for every disk, source and sink, those that fail at any call among them: what the sink took, how much the source gave, what
+//! the disk holds and what a stop may leave of it at each moment, and when each status comes.
 //!
-//! The definitions stand in `specs/`: `Commands` (what the words spell), `Headline` and `Formats` (the words of the
-//! clauses of [`top`]); for the layers below it `Serving` (lines stepped and replies owed), `Exits` (the ends of a
-//! session).
+//! The definitions stand in `specs/`: `Commands` (what the words spell), `Headline`, `Volumes` and `Formats` (the words of the
+//! clauses of [`top`]); for the layers below it `Sessions` (lines kept and answered, and lines that wait), `Incoming` (bytes
+//! and the lines that they end) and `Readings` (the ends of a session).
 #![tactic(auto)]
 
-mod access;
+mod batches;
 mod buffers;
+mod checking;
 mod formatting;
-mod live;
-mod machine;
+#[cfg(test)]
+mod image_tests;
+mod incoming;
+mod opening;
 mod partial;
 mod program;
-mod serving;
-mod taking;
+mod running;
+mod scratch;
+mod session;
 #[cfg(test)]
 mod tests;
+#[cfg(test)]
+mod volume_tests;
 mod words;
 
+pub use batches::Ended;
+pub use buffers::Buffers;
 pub use program::{INPUT, Status, top};
+pub use session::serve;
 pub use words::{Command, read_words};

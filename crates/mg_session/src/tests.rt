@@ -1,9 +1,6 @@
 // Whole sessions, with what they put and how they end.
 ghost use Rattle.std.specs.Prelude.{◌≡◌, ◌<◌};
 
-use crate::buffers::Buffers;
-use crate::machine::Machine;
-use crate::serving::{Ended, serve_lines};
 use crate::{Status, top};
 use mg_disk::{BLOCK_SIZE, Disk, Fuse, Left, MemDisk};
 use mg_io::{MemSink, MemSource, Sink, Source};
@@ -14,7 +11,7 @@ use std::marker::Brand;
 use std::sync::ledger::{Blank, Ledger};
 use std::test::Fail;
 
-const SEED: &str = "0000000000000000000000000000000000000000000000000000000000000000";
+pub const SEED: &str = "0000000000000000000000000000000000000000000000000000000000000000";
 
 // A note and an empty line spell no call. The last line has no newline.
 const LINES: &str = "# note\n\n1 load 0x0000000100000000\n2 load 0\n1 ret\nx";
@@ -45,7 +42,7 @@ const SESSIONS: [(&str, &str); 5] = [
     ),
 ];
 
-fn words_of(alloc: Global, words: &[&str]) -> Result<Vec<String>, AllocError> {
+pub fn words_of(alloc: Global, words: &[&str]) -> Result<Vec<String>, AllocError> {
     let mut made = Vec::new(alloc);
     for word in words {
         made.push(String::from_str(alloc, word)?)?;
@@ -53,7 +50,7 @@ fn words_of(alloc: Global, words: &[&str]) -> Result<Vec<String>, AllocError> {
     Ok(made)
 }
 
-fn with_steps<D: Disk, S: Source, K: Sink, L: Ledger>(
+pub fn with_steps<D: Disk, S: Source, K: Sink, L: Ledger>(
     alloc: Global,
     words: &[String],
     disk: &mut D,
@@ -118,68 +115,34 @@ fn lines_at_the_limit(rt: HostRuntime) -> Result<(), Fail> {
     Ok(())
 }
 
-// 40 lines come in 11 pieces of 80 bytes, and the source is asked once more; their replies go out after each piece.
+// 70 lines come in 18 pieces of 80 bytes, and the source is asked once more. With 64 replies the first batch is put, and at
+// the end the second.
 #[test]
-fn forty_lines_with_each_call_failing(rt: HostRuntime) -> Result<(), Fail> {
+fn seventy_lines_in_two_batches(rt: HostRuntime) -> Result<(), Fail> {
     let words = words_of(rt.alloc(), &["vol", "dry", "64", SEED, "1000"])?;
     let mut lines = Vec::new(rt.alloc());
     let mut replies = Vec::new(rt.alloc());
-    for _ in 0..20 {
+    for _ in 0..35 {
         lines.extend_from_slice(b"1 store 0x100000020 7\n1 load 0x100000020\n")?;
         replies.extend_from_slice(b"ok\nok 0x0000000000000007\n")?;
     }
-    let calls = 12;
-    for fails in 0..calls {
-        for at_sink in [false, true] {
-            let fault = [fails].to_vec(rt.alloc())?;
-            let none = Vec::new(rt.alloc());
-            let (takes, puts) = if at_sink {
-                (none, fault)
-            } else {
-                (fault, none)
-            };
-            let mut source = MemSource::new(lines.clone()?, 80, takes);
-            let mut sink = MemSink::new(rt.alloc(), 4096, puts)?;
-            let status = run(rt.alloc(), &words, &mut source, &mut sink)?;
-            let want = match (at_sink, fails < 11) {
-                (false, _) => Status::Source,
-                (true, true) => Status::Sink,
-                (true, false) => Status::Done,
-            };
-            assert_eq!(rt; status, want, "call {fails}, of the sink: {at_sink}");
-            assert!(rt;
-                replies.as_slice().starts_with(sink.bytes()),
-                "call {fails}"
-            );
-        }
-    }
-    Ok(())
-}
-
-#[test]
-fn faults_in_turn(rt: HostRuntime) -> Result<(), Fail> {
-    let words = words_of(rt.alloc(), &["vol", "dry", "64", SEED, "1000"])?;
-    // Of pieces of 7 bytes: the take and the put that fail, the status, and how many bytes were put.
+    // The take and the put that fail, the status, and how many bytes were put.
     let rows = [
         (0, 9, Status::Source, 0),
-        (4, 9, Status::Source, 0),
-        (5, 9, Status::Source, 22),
-        (6, 9, Status::Source, 22),
-        (7, 9, Status::Source, 43),
-        (8, 9, Status::Source, 43),
-        (9, 0, Status::Sink, 0),
-        (9, 1, Status::Sink, 22),
-        (9, 2, Status::Sink, 43),
-        (9, 3, Status::Done, 53),
+        (16, 9, Status::Source, 0),
+        (17, 9, Status::Source, 800),
+        (18, 9, Status::Source, 800),
+        (99, 0, Status::Sink, 0),
+        (99, 1, Status::Sink, 800),
+        (99, 2, Status::Done, 875),
     ];
     for (take, put, want, count) in rows {
-        let bytes = LINES.as_bytes().to_vec(rt.alloc())?;
-        let mut source = MemSource::new(bytes, 7, [take].to_vec(rt.alloc())?);
-        let mut sink = MemSink::new(rt.alloc(), 256, [put].to_vec(rt.alloc())?)?;
+        let mut source = MemSource::new(lines.clone()?, 80, [take].to_vec(rt.alloc())?);
+        let mut sink = MemSink::new(rt.alloc(), 4096, [put].to_vec(rt.alloc())?)?;
         let status = run(rt.alloc(), &words, &mut source, &mut sink)?;
         assert_eq!(rt; status, want, "take {take}, put {put}");
         assert_eq!(rt; sink.bytes().len(), count, "take {take}, put {put}");
-        assert!(rt; REPLIES.as_bytes().starts_with(sink.bytes()));
+        assert!(rt; replies.as_slice().starts_with(sink.bytes()));
     }
     Ok(())
 }
@@ -195,27 +158,12 @@ fn words_that_spell_nothing(rt: HostRuntime) -> Result<(), Fail> {
     Ok(())
 }
 
-#[test]
-fn a_limit_of_16_bytes(rt: HostRuntime) -> Result<(), Fail> {
-    let params = Params::new(64, [0; 32], 1000, Tariff::usual(64)).ok_or("limits")?;
-    for (count, want) in [(16, Ok(())), (17, Err(Ended::TooLong))] {
-        let mut machine = Machine::fresh(rt.alloc(), &params)?;
-        let mut owed = Buffers::new(rt.alloc())?;
-        let blanks = vec![in rt.alloc(); b' '; count]?;
-        let mut source = MemSource::new(blanks, 4, Vec::new(rt.alloc()));
-        let mut sink = MemSink::new(rt.alloc(), 256, Vec::new(rt.alloc()))?;
-        let ended = serve_lines(&mut machine, &mut source, &mut sink, &mut owed, 16);
-        assert_eq!(rt; ended, want, "{count} blanks");
-    }
-    Ok(())
-}
-
 // The words behind the name of the volume are those of a volume of 2,660 blocks, which takes 1,313 calls of the disk.
-const VOLUME: [&str; 5] = ["vol", "format", "64", SEED, "1000"];
+pub const VOLUME: [&str; 5] = ["vol", "format", "64", SEED, "1000"];
 
-const BLOCKS: u64 = 2660;
+pub const BLOCKS: u64 = 2660;
 
-const CALLS: u64 = 1313;
+pub const CALLS: u64 = 1313;
 
 const MADE: &str = "ok 0x0000000100000000 0x903df1a0ade0b876 0x28bd8653e56a5d40\n";
 

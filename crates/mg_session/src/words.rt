@@ -1,7 +1,7 @@
 // The words of the command line.
-ghost use Rattle.std.specs.Prelude.{◌≡◌, ◌≤◌, length};
+ghost use Rattle.std.specs.Prelude.{◌≡◌, ◌≤◌, IfSome, length};
 ghost use Rattle.mg_model.specs.Words.{same_bytes};
-ghost use Rattle.mg_session.specs.Commands.{before_colon, byte_of, command_of, dry_of, dry_words, format_of, format_usual, format_with, format_words, seed_of, settings_of, settings_to_make, settings_to_run, settings_with, step_of, step_parts, tariff_of, words_of};
+ghost use Rattle.mg_session.specs.Commands.{batch_to_run, batch_within, before_colon, byte_of, check_of, command_of, dry_of, dry_words, format_of, format_usual, format_with, format_words, is_check, only_check, only_opening, opening_of, run_alone, run_of, run_with, run_words, seed_of, settings_of, settings_to_make, settings_to_run, settings_with, step_of, step_parts, tariff_of, words_of};
 
 use mg_model::{Params, Tariff};
 use mg_text::{digit, read_number};
@@ -13,21 +13,95 @@ pub enum Command {
     Dry(Params),
     /// Make a volume.
     Format(Params),
+    /// Tell whether the disk is a volume.
+    Check,
+    /// Run the lines of the input on the volume, so many replies to a batch: 1 to 64.
+    Run(u64),
 }
 
 /// The command that these words spell, which are those behind the program's name; None exactly where they spell none.
 ///
-/// They are `VOLUME dry FRAMES SEED CREDITS`, or `VOLUME format FRAMES SEED CREDITS` with nothing behind it (the usual
-/// tariff) or with a tariff, `F:R F:R F:R F:R`, whose steps keep the rule of [`Tariff`]. FRAMES is 16 to 65,536, SEED has 64
-/// hexadecimal digits of either case, CREDITS is at most `2^62`, and numbers are spelled as in a line.
+/// They are `VOLUME dry FRAMES SEED CREDITS`; `VOLUME format FRAMES SEED CREDITS` with nothing behind it (the usual tariff)
+/// or with a tariff, `F:R F:R F:R F:R`, whose steps keep the rule of [`Tariff`]; `VOLUME check`; and `VOLUME run`, a batch
+/// being one reply, or `VOLUME run BATCH`. FRAMES is 16 to 65,536, SEED has 64 hexadecimal digits of either case, CREDITS
+/// is at most `2^62`, BATCH is 1 to 64, and numbers are spelled as in a line.
 pub fn read_words(words: &[String]) -> Option<Command>
     ensures command { result ≡ command_of (words_of words.now) }
     ensures dry { dry_of (words_of words.now) ≡ settings_to_run result }
     ensures format { format_of (words_of words.now) ≡ settings_to_make result }
+    ensures batch { run_of (words_of words.now) ≡ batch_to_run result }
+    ensures check { check_of (words_of words.now) ≡ only_check result }
+    ensures opens { opening_of (words_of words.now) ≡ only_opening result }
+    ensures batch_within { IfSome (batch_to_run result) (λ batch. (1 ≤ batch) × (batch ≤ 64)) }
 {
-    match dry(words) {
-        Some(params) => Some(Command::Dry(params)),
-        None => Some(Command::Format(format(words)?)),
+    if let Some(params) = dry(words) {
+        return Some(Command::Dry(params));
+    }
+    if let Some(params) = format(words) {
+        return Some(Command::Format(params));
+    }
+    if is_check(words) {
+        return Some(Command::Check);
+    }
+    match run(words) {
+        Some(batch) => Some(Command::Run(batch)),
+        None => None,
+    }
+}
+
+/// Whether the words are `VOLUME check`.
+fn is_check(words: &[String]) -> bool
+    ensures { result ≡ is_check (words_of words.now) }
+{
+    if words.len() != 2 {
+        return false;
+    }
+    is_word(words[1].as_bytes(), b"check")
+}
+
+/// How many replies a batch has, if the words are `VOLUME run` or `VOLUME run BATCH`.
+fn run(words: &[String]) -> Option<u64>
+    ensures batch { result ≡ run_words (words_of words.now) }
+    ensures within { IfSome result (λ batch. (1 ≤ batch) × (batch ≤ 64)) }
+{
+    if words.len() == 2 {
+        return run_alone(words[1].as_bytes());
+    }
+    if words.len() == 3 {
+        return run_with(words[1].as_bytes(), words[2].as_bytes());
+    }
+    None
+}
+
+/// A batch of one reply, if the word is `run`.
+fn run_alone(word: &[u8]) -> Option<u64>
+    ensures batch { result ≡ run_alone word.now }
+    ensures within { IfSome result (λ batch. (1 ≤ batch) × (batch ≤ 64)) }
+{
+    if is_word(word, b"run") { Some(1) } else { None }
+}
+
+/// A batch of so many replies, if the first word is `run`.
+fn run_with(word: &[u8], batch: &[u8]) -> Option<u64>
+    ensures batch { result ≡ run_with word.now batch.now }
+    ensures within { IfSome result (λ batch. (1 ≤ batch) × (batch ≤ 64)) }
+{
+    if is_word(word, b"run") {
+        within_batch(read_number(batch)?)
+    } else {
+        None
+    }
+}
+
+/// A number of replies that a batch may have.
+fn within_batch(batch: u64) -> Option<u64>
+    ensures batch { result ≡ batch_within batch }
+    ensures within { IfSome result (λ batch. (1 ≤ batch) × (batch ≤ 64)) }
+{
+    if batch >= 1 && batch <= 64 {
+        Some(batch)
+    } else {
+        None
     }
 }
 
@@ -263,6 +337,15 @@ mod tests {
             ("vol format 64 ", SEED, " 1000 0:1 1:2 2:4 3:4:5", false),
             ("vol format 64 ", SEED, " 1000 0:1 1:2 2:4 :8", false),
             ("vol format 15 ", SEED, " 1000 0:1 1:2 2:4 3:8", false),
+            ("vol ", "check", "", true),
+            ("vol ", "check", " 1", false),
+            ("vol ", "run", "", true),
+            ("vol ", "run", " 1", true),
+            ("vol ", "run", " 0x40", true),
+            ("vol ", "run", " 0", false),
+            ("vol ", "run", " 65", false),
+            ("vol ", "run", " 1 1", false),
+            ("", "run", "", false),
         ];
         for (before, seed, behind, spelled) in rows {
             let command = read(rt.alloc(), before, seed, behind)?;

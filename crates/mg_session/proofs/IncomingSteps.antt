@@ -1,0 +1,127 @@
+-- How bytes that come one after another add up.
+use Rattle.std.specs.Prelude.{ℕ, ◌<◌, ◌+◌, ◌%◌, ◌^◌, ◌≡◌, false, length, take, drop, List, [], ◌∷◌, ◌++◌, Some, None}
+use Rattle.std.specs.Option.{option_to_list}
+use Rattle.std.specs.List.{list_any}
+use Rattle.std.proofs.Common.{refl, sym, ap, ◌∙◌, append_assoc, append-nil, arith, get_or, subst}
+use Rattle.std.proofs.lemmas.List.{take-append-drop, take_more}
+use Rattle.mg_disk.specs.declared.disk.Disk.{Ghosts}
+use Rattle.mg_model.specs.declared.calls.Line.{Line}
+use Rattle.mg_model.specs.Cutting.{lines-ended, lines-last}
+use Rattle.mg_model.specs.Lines.{built_words, line_of, lines}
+use Rattle.mg_model.specs.Words.{is_newline}
+use Rattle.mg_pages.specs.Meaning.{CountsAlike}
+use Rattle.mg_session.specs.declared.batches.Ended.{Ended}
+use Rattle.mg_session.specs.Incoming.{Breaks, Goes}
+use Rattle.mg_session.specs.Sessions.{Broken, Closes, FailsToClose, Halts, Point, Runs, Session}
+
+-- two counts that rise by as much
+pub alike_none : (words steps : ℕ) → CountsAlike words words steps steps
+alike_none words steps = (0, omega arith, ap (λ v. v % 2 ^ 64) (omega arith))
+
+pub alike_then : (a b c x y z : ℕ) → CountsAlike a b x y → CountsAlike b c y z → CountsAlike a c x z
+alike_then a b c x y z (n, first, words) (m, second, more) = (n + m, omega arith, omega arith)
+
+-- how a newline cuts behind a part that spells a line
+line_cut : (part : List ℕ) (b : ℕ) (part' : List ℕ) (line : Line) → b ≡ 10 → part' ≡ [] → list_any is_newline part ≡ false → line_of built_words part ≡ Some line
+    → (rest : List ℕ) → lines built_words (part ++ b ∷ rest) ≡ line ∷ lines built_words (part' ++ rest)
+line_cut part b part' line newline empty whole some rest =
+    ap (λ v. lines built_words (part ++ v ∷ rest)) newline ∙ lines-ended built_words part rest whole
+    ∙ ap (λ o. option_to_list o ++ lines built_words rest) some ∙ ap (λ v. line ∷ lines built_words (v ++ rest)) (sym empty)
+
+module _ {D : Type 0} (facts : Ghosts D) where
+  Runs-none : (p : Point D) → Runs facts p [] p
+  Runs-none p = λ entry sofar a. subst (λ (v : List Line). Session facts entry v p) (sym (append-nil sofar)) a
+
+  Runs-then : (p : Point D) (xs : List Line) (q : Point D) (ys : List Line) (r : Point D) → Runs facts p xs q → Runs facts q ys r → Runs facts p (xs ++ ys) r
+  Runs-then p xs q ys r g h = λ entry sofar a. subst (λ (v : List Line). Session facts entry v r) (append_assoc sofar xs ys) (h entry (sofar ++ xs) (g entry sofar a))
+
+  Runs-halts : (e : Ended) (p : Point D) (xs : List Line) (q : Point D) (ys : List Line) (r : Point D) → Runs facts p xs q → Halts facts e q ys r → Halts facts e p (xs ++ ys) r
+  Runs-halts e p xs q ys r g h = λ entry sofar a. subst (λ (v : List Line). Broken facts e entry v r.disk r.taken) (append_assoc sofar xs ys) (h entry (sofar ++ xs) (g entry sofar a))
+
+  pub Goes-none : (p : Point D) (part : List ℕ) → Goes facts p part [] p part
+  Goes-none p part = record { ls = []; cuts = λ rest. refl; steps = Runs-none p }
+
+  -- a byte that ends no line
+  pub Goes-byte : (p : Point D) (part : List ℕ) (b : ℕ) (part' : List ℕ) → ((rest : List ℕ) → lines built_words (part ++ b ∷ rest) ≡ lines built_words (part' ++ rest)) → Goes facts p part (b ∷ []) p part'
+  Goes-byte p part b part' same = record { ls = []; cuts = same; steps = Runs-none p }
+
+  -- a newline behind a part that spells no line
+  pub Goes-note : (p : Point D) (part : List ℕ) (b : ℕ) (part' : List ℕ) → b ≡ 10 → part' ≡ [] → list_any is_newline part ≡ false → line_of built_words part ≡ None → Goes facts p part (b ∷ []) p part'
+  Goes-note p part b part' newline empty whole none =
+      Goes-byte p part b part' (λ rest. ap (λ v. lines built_words (part ++ v ∷ rest)) newline ∙ lines-ended built_words part rest whole
+      ∙ ap (λ o. option_to_list o ++ lines built_words rest) none ∙ ap (λ v. lines built_words (v ++ rest)) (sym empty))
+
+  -- a newline behind a part that spells a line
+  pub Goes-line : (p : Point D) (part : List ℕ) (b : ℕ) (q : Point D) (part' : List ℕ) (line : Line) → b ≡ 10 → part' ≡ [] → list_any is_newline part ≡ false → line_of built_words part ≡ Some line
+      → Runs facts p (line ∷ []) q → Goes facts p part (b ∷ []) q part'
+  Goes-line p part b q part' line newline empty whole some g = record { ls = line ∷ []; cuts = line_cut part b part' line newline empty whole some; steps = g }
+
+  pub Breaks-line : (e : Ended) (p : Point D) (part : List ℕ) (b : ℕ) (part' : List ℕ) (line : Line) (q : Point D) → b ≡ 10 → part' ≡ [] → list_any is_newline part ≡ false → line_of built_words part ≡ Some line
+      → Halts facts e p (line ∷ []) q → Breaks facts e p part (b ∷ []) q
+  Breaks-line e p part b part' line q newline empty whole some h = record {
+    ls = line ∷ [];
+    cuts = λ rest. (lines built_words (part' ++ rest), line_cut part b part' line newline empty whole some rest);
+    halts = h;
+  }
+
+  pub Goes-then : (p : Point D) (part xs : List ℕ) (q : Point D) (part' ys : List ℕ) (r : Point D) (part'' : List ℕ) → Goes facts p part xs q part' → Goes facts q part' ys r part'' → Goes facts p part (xs ++ ys) r part''
+  Goes-then p part xs q part' ys r part'' g h = record {
+    ls = g.ls ++ h.ls;
+    cuts = λ rest. ap (λ v. lines built_words (part ++ v)) (append_assoc xs ys rest) ∙ g.cuts (ys ++ rest) ∙ ap (λ v. g.ls ++ v) (h.cuts rest)
+        ∙ sym (append_assoc g.ls h.ls (lines built_words (part'' ++ rest)));
+    steps = Runs-then p g.ls q h.ls r g.steps h.steps;
+  }
+
+  pub Goes-breaks : (e : Ended) (p : Point D) (part xs : List ℕ) (q : Point D) (part' ys : List ℕ) (r : Point D) → Goes facts p part xs q part' → Breaks facts e q part' ys r → Breaks facts e p part (xs ++ ys) r
+  Goes-breaks e p part xs q part' ys r g h = record {
+    ls = g.ls ++ h.ls;
+    cuts = λ rest. later rest (h.cuts rest);
+    halts = Runs-halts e p g.ls q h.ls r g.steps h.halts;
+  }
+    where
+      later : (rest : List ℕ) → (more : List Line) × (lines built_words (part' ++ (ys ++ rest)) ≡ h.ls ++ more) → (more : List Line) × (lines built_words (part ++ ((xs ++ ys) ++ rest)) ≡ (g.ls ++ h.ls) ++ more)
+      later rest (more, is) = (
+        more,
+        ap (λ v. lines built_words (part ++ v)) (append_assoc xs ys rest) ∙ g.cuts (ys ++ rest) ∙ ap (λ v. g.ls ++ v) is ∙ sym (append_assoc g.ls h.ls more),
+      )
+
+  -- more may come behind what broke
+  pub Breaks-more : (e : Ended) (p : Point D) (part xs ys : List ℕ) (q : Point D) → Breaks facts e p part xs q → Breaks facts e p part (xs ++ ys) q
+  Breaks-more e p part xs ys q h = record {
+    ls = h.ls;
+    cuts = λ rest. subst (λ (v : List ℕ). (more : List Line) × (lines built_words (part ++ v) ≡ h.ls ++ more)) (sym (append_assoc xs ys rest)) (h.cuts (ys ++ rest));
+    halts = h.halts;
+  }
+
+  -- one byte more of a piece
+  pub Goes-next : (p : Point D) (part bytes : List ℕ) (i : ℕ) (q : Point D) (part' : List ℕ) (r : Point D) (part'' : List ℕ) → i < length bytes
+      → Goes facts p part (take i bytes) q part' → Goes facts q part' (get_or bytes i 0 ∷ []) r part'' → Goes facts p part (take (i + 1) bytes) r part''
+  Goes-next p part bytes i q part' r part'' within g h =
+      subst (λ (v : List ℕ). Goes facts p part v r part'') (sym (take_more bytes i 0 within)) (Goes-then p part (take i bytes) q part' (get_or bytes i 0 ∷ []) r part'' g h)
+
+  pub Breaks-next : (e : Ended) (p : Point D) (part bytes : List ℕ) (i : ℕ) (q : Point D) (part' : List ℕ) (r : Point D) → i < length bytes
+      → Goes facts p part (take i bytes) q part' → Breaks facts e q part' (get_or bytes i 0 ∷ []) r → Breaks facts e p part bytes r
+  Breaks-next e p part bytes i q part' r within g h =
+      let front : Breaks facts e p part (take (i + 1) bytes) r =
+      subst (λ (v : List ℕ). Breaks facts e p part v r) (sym (take_more bytes i 0 within)) (Goes-breaks e p part (take i bytes) q part' (get_or bytes i 0 ∷ []) r g h) in
+      subst (λ (v : List ℕ). Breaks facts e p part v r) (take-append-drop (i + 1) bytes) (Breaks-more e p part (take (i + 1) bytes) (drop (i + 1) bytes) r front)
+
+  -- the last part, which no newline ends
+  pub Runs-last : (p : Point D) (part : List ℕ) (q : Point D) (line : Line) → list_any is_newline part ≡ false → line_of built_words part ≡ Some line → Runs facts p (line ∷ []) q → Runs facts p (lines built_words part) q
+  Runs-last p part q line whole some g =
+      subst (λ (v : List Line). Runs facts p v q) (sym (lines-last built_words part whole ∙ ap (λ o. option_to_list o) some)) g
+
+  pub Runs-note : (p : Point D) (part : List ℕ) (q : Point D) → list_any is_newline part ≡ false → line_of built_words part ≡ None → Closes facts p q → Runs facts p (lines built_words part) q
+  Runs-note p part q whole none g =
+      subst (λ (v : List Line). Runs facts p v q) (sym (lines-last built_words part whole ∙ ap (λ o. option_to_list o) none))
+      (λ entry sofar a. subst (λ (v : List Line). Session facts entry v q) (sym (append-nil sofar)) (g entry sofar a))
+
+  pub Halts-last : (e : Ended) (p : Point D) (part : List ℕ) (q : Point D) (line : Line) → list_any is_newline part ≡ false → line_of built_words part ≡ Some line → Halts facts e p (line ∷ []) q
+      → Halts facts e p (lines built_words part) q
+  Halts-last e p part q line whole some h =
+      subst (λ (v : List Line). Halts facts e p v q) (sym (lines-last built_words part whole ∙ ap (λ o. option_to_list o) some)) h
+
+  pub Halts-note : (e : Ended) (p : Point D) (part : List ℕ) (q : Point D) → list_any is_newline part ≡ false → line_of built_words part ≡ None → FailsToClose facts e p q → Halts facts e p (lines built_words part) q
+  Halts-note e p part q whole none h =
+      subst (λ (v : List Line). Halts facts e p v q) (sym (lines-last built_words part whole ∙ ap (λ o. option_to_list o) none))
+      (λ entry sofar a. subst (λ (v : List Line). Broken facts e entry v q.disk q.taken) (sym (append-nil sofar)) (h entry sofar a))

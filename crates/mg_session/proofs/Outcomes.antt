@@ -1,0 +1,292 @@
+-- From how a session ended to the words of the clauses.
+use Rattle.std.specs.Prelude.{ℕ, ◌+◌, ◌-◌, ◌<◌, ◌≤◌, ◌≡◌, List, [], ◌∷◌, ◌++◌, length, take, drop, Option, Some, None, IfSome}
+use Rattle.std.specs.Option.{ForSome}
+use Rattle.std.specs.Io.KnownBytes.{Appends, IsAtEnd}
+use Rattle.std.proofs.Common.{refl, sym, ap, ◌∙◌, append_assoc, append-nil, arith, length-append, subst}
+use Rattle.std.proofs.lemmas.List.{take-append-le, take_all}
+use Rattle.std.proofs.Math.Seq.{take-append_seam, drop-append_seam}
+use Rattle.mg_disk.specs.Disk.{Image}
+use Rattle.mg_disk.specs.Runs.{leaves_wider}
+use Rattle.mg_disk.specs.Stops.{Leaves, NothingPending}
+use Rattle.mg_disk.specs.declared.disk.Disk.{Ghosts}
+use Rattle.mg_kernel.specs.Meaning.{now_of}
+use Rattle.mg_model.specs.declared.calls.Line.{Line}
+use Rattle.mg_model.specs.Answered.{answered, text-append}
+use Rattle.mg_model.specs.Cutting.{ended_lines}
+use Rattle.mg_model.specs.Lines.{built_words, lines}
+use Rattle.mg_model.specs.Print.{text}
+use Rattle.mg_model.specs.State.{State}
+use Rattle.mg_model.specs.Step.{after}
+use Rattle.mg_model.specs.Volume.{Is, volume}
+use Rattle.mg_session.specs.declared.batches.Ended.{Ended}
+use Rattle.mg_session.specs.declared.batches.Ended.TheVariants as ended
+use Rattle.mg_session.specs.Headline.{AnswersAll, AnswersLines, AnswersPrefix, AreAnswered, FewUnanswered, IsAnswered, IsWithin, KeepsAnswered, KeepsExactly, KeepsOne, SpellsAfter, TakesAtMost, TakesMore, replies, taken_of}
+use Rattle.mg_session.specs.Readings.{Finishes, Stops}
+use Rattle.mg_session.specs.Sessions.{Entry, Held, IsBetween, IsPrefix, Point, PutsWhole, Remains, Session, Stands}
+use Rattle.mg_session.specs.Waiting.{Waiting}
+use Rattle.mg_session.proofs.SessionSteps.{left_spells, prefix_longer}
+
+-- more than the limit is not within it
+pub not_more : (limit : ℕ) (left left' : Option (List ℕ)) (promise : Type 0) → TakesMore limit left left' → IsWithin limit left promise
+not_more limit None left' promise h = tt
+not_more limit (Some input) None promise h = absurd h
+not_more limit (Some input) (Some rest) promise h = λ short. absurd (omega arith)
+
+pub within_more : (left left' : Option (List ℕ)) (limit more : ℕ) → TakesAtMost limit left left' → TakesAtMost (limit + more) left left'
+within_more None left' limit more h = tt
+within_more (Some input) None limit more h = absurd h
+within_more (Some input) (Some rest) limit more h = omega arith
+
+-- how the bytes that came and those that are left are the input
+came_are : (bytes rest input : List ℕ) → input ≡ bytes ++ rest → taken_of input rest ≡ bytes
+came_are bytes rest input is =
+    let size : length input - length rest ≡ length bytes = omega (arith, ap length is, length-append bytes rest) in
+    ap (λ v. take v input) size ∙ ap (λ v. take (length bytes) v) is ∙ take-append_seam bytes rest
+
+put_is : (before now put : List ℕ) → now ≡ before ++ put → drop (length before) now ≡ put
+put_is before now put is = ap (λ v. drop (length before) v) is ∙ drop-append_seam before put
+
+-- some first lines of those that were stepped are first lines of all
+first_of : (s : State) (k : ℕ) (ls more all : List Line) (c : Image) → all ≡ ls ++ more → k ≤ length ls → volume c ≡ Is (after s (take k ls)) → volume c ≡ Is (after s (take k all))
+first_of s k ls more all c cut few is =
+    is ∙ ap (λ v. Is (after s v)) (sym (ap (λ v. take k v) cut ∙ take-append-le k ls more few))
+
+held_between : (e : Ended) (low : ℕ) (s : State) (ls : List Line) (c : Image) → low ≤ length ls → Held e low s ls c → IsBetween low s ls c
+held_between ended.Disk low s ls c few h = h
+held_between ended.Source low s ls c few h = (low, omega arith, few, h)
+held_between ended.TooLong low s ls c few h = (low, omega arith, few, h)
+held_between ended.Sink low s ls c few h = (length ls, few, omega arith, h ∙ ap (λ v. Is (after s v)) (sym (take_all (length ls) ls (omega arith))))
+
+answered_in : (taken taken' : Option (List ℕ)) (put : List ℕ) (k : ℕ) → Appends taken taken' put → answered put ≤ k → AreAnswered taken taken' k
+answered_in None taken' put k h few = tt
+answered_in (Some before) None put k h few = absurd h
+answered_in (Some before) (Some now) put k h few = omega (arith, ap answered (put_is before now put h))
+
+is_answered : (input rest bytes : List ℕ) (ls : List Line) (taken taken' : Option (List ℕ)) (put : List ℕ) (k : ℕ) → input ≡ bytes ++ rest → length ls ≤ length (lines built_words bytes)
+    → Appends taken taken' put → answered put ≤ k → k ≤ length ls → IsAnswered input rest taken taken' k
+is_answered input rest bytes ls taken taken' put k read came sink least few = record {
+  all_answered = answered_in taken taken' put k sink least;
+  came = omega (arith, ap (λ v. length (lines built_words v)) (came_are bytes rest input read));
+}
+
+module _ {D : Type 0} (facts : Ghosts D) (entry : Entry D) (limit batch most : ℕ) where
+  -- the lines that were stepped are first lines of all
+  cut_of : (e : Ended) (input rest : List ℕ) (new : D) (taken : Option (List ℕ)) (w : Stops facts e entry (Some input) limit batch most new taken (Some rest))
+      → (more : List Line) × (lines built_words input ≡ w.ls ++ more)
+  cut_of e input rest new taken w = (
+    (w.will rest refl).0,
+    ap (λ v. lines built_words v) w.read ∙ (w.will rest refl).1,
+  )
+
+  pub stops_prefix : (e : Ended) (left left' : Option (List ℕ)) (new : D) (taken : Option (List ℕ)) → Stops facts e entry left limit batch most new taken left'
+      → ForSome (facts.seen entry.disk) (λ image. AnswersPrefix (now_of entry.kernel image) left entry.taken taken)
+  stops_prefix e None left' new taken w = λ image is. tt
+  stops_prefix e (Some input) None new taken w = absurd w.read
+  stops_prefix e (Some input) (Some rest) new taken w = λ image is.
+      let t : Remains facts e entry (now_of entry.kernel image) w.ls w.broken.put new = w.broken.told image is in
+      let cut : (more : List Line) × (lines built_words input ≡ w.ls ++ more) = cut_of e input rest new taken w in (
+        w.broken.put,
+        t.more ++ text (after (now_of entry.kernel image) w.ls) cut.0,
+        sym (append_assoc w.broken.put t.more (text (after (now_of entry.kernel image) w.ls) cut.0))
+            ∙ ap (λ v. v ++ text (after (now_of entry.kernel image) w.ls) cut.0) (sym t.replies)
+            ∙ sym (text-append (now_of entry.kernel image) w.ls cut.0) ∙ ap (λ v. text (now_of entry.kernel image) v) (sym cut.1),
+        w.broken.sink,
+      )
+
+  pub stops_moments : (e : Ended) (left left' : Option (List ℕ)) (new : D) (taken : Option (List ℕ)) → Stops facts e entry left limit batch most new taken left'
+      → ForSome (facts.seen entry.disk) (λ image. IfSome left (λ input. Leaves facts entry.disk new (IsPrefix (now_of entry.kernel image) (lines built_words input))))
+  stops_moments e None left' new taken w = λ image is. tt
+  stops_moments e (Some input) None new taken w = absurd w.read
+  stops_moments e (Some input) (Some rest) new taken w = λ image is.
+      let t : Remains facts e entry (now_of entry.kernel image) w.ls w.broken.put new = w.broken.told image is in
+      let cut : (more : List Line) × (lines built_words input ≡ w.ls ++ more) = cut_of e input rest new taken w in
+      leaves_wider facts entry.disk new (IsPrefix (now_of entry.kernel image) w.ls) (IsPrefix (now_of entry.kernel image) (lines built_words input)) t.leaves
+      (λ c f. subst (λ (v : List Line). IsPrefix (now_of entry.kernel image) v c) (sym cut.1) (prefix_longer (now_of entry.kernel image) w.ls cut.0 c f))
+
+  pub stops_held : (e : Ended) (left left' : Option (List ℕ)) (new : D) (taken : Option (List ℕ)) → Stops facts e entry left limit batch most new taken left'
+      → ForSome (facts.seen entry.disk) (λ image. KeepsAnswered (facts.left_since new (facts.moment new)) (now_of entry.kernel image) left left' entry.taken taken)
+  stops_held e None left' new taken w = λ image is. tt
+  stops_held e (Some input) None new taken w = absurd w.read
+  stops_held e (Some input) (Some rest) new taken w = λ image is. λ c left.
+      let cut : (more : List Line) × (lines built_words input ≡ w.ls ++ more) = cut_of e input rest new taken w in
+      let b : IsBetween (answered w.broken.put) (now_of entry.kernel image) w.ls c =
+      held_between e (answered w.broken.put) (now_of entry.kernel image) w.ls c w.broken.fewer ((w.broken.told image is).held c left) in (
+        b.0,
+        is_answered input rest w.bytes w.ls entry.taken taken w.broken.put b.0 w.read w.came w.broken.sink b.1 b.2,
+        first_of (now_of entry.kernel image) b.0 w.ls cut.0 (lines built_words input) c cut.1 b.2 b.3,
+      )
+
+  exactly : (e : Ended) (left left' : Option (List ℕ)) (new : D) (taken : Option (List ℕ)) (w : Stops facts e entry left limit batch most new taken left')
+      → ((s : State) (c : Image) → Held e (answered w.broken.put) s w.ls c → volume c ≡ Is (after s (take (answered w.broken.put) w.ls)))
+      → ForSome (facts.seen entry.disk) (λ image. KeepsExactly (facts.left_since new (facts.moment new)) (now_of entry.kernel image) left entry.taken taken)
+  exactly e None left' new taken w held = λ image is. tt
+  exactly e (Some input) None new taken w held = absurd w.read
+  exactly e (Some input) (Some rest) new taken w held = by_sink entry.taken taken w.broken.sink
+    where
+      by_sink : (before now : Option (List ℕ)) → Appends before now w.broken.put
+          → ForSome (facts.seen entry.disk) (λ image. KeepsExactly (facts.left_since new (facts.moment new)) (now_of entry.kernel image) (Some input) before now)
+      by_sink None now took = λ image is. tt
+      by_sink (Some before) None took = absurd took
+      by_sink (Some before) (Some now) took = λ image is. λ c left.
+          let cut : (more : List Line) × (lines built_words input ≡ w.ls ++ more) = cut_of e input rest new taken w in
+          first_of (now_of entry.kernel image) (answered w.broken.put) w.ls cut.0 (lines built_words input) c cut.1 w.broken.fewer (held (now_of entry.kernel image) c ((w.broken.told image is).held c left))
+          ∙ ap (λ v. Is (after (now_of entry.kernel image) (take (answered v) (lines built_words input)))) (sym (put_is before now w.broken.put took))
+
+  -- whole lines are answered
+  whole_lines : (e : Ended) (left left' : Option (List ℕ)) (new : D) (taken : Option (List ℕ)) (w : Stops facts e entry left limit batch most new taken left')
+      → ((s : State) → PutsWhole e s w.ls w.broken.put → w.broken.put ≡ text s (take (answered w.broken.put) w.ls))
+      → ForSome (facts.seen entry.disk) (λ image. AnswersLines (now_of entry.kernel image) left entry.taken taken)
+  whole_lines e None left' new taken w whole = λ image is. tt
+  whole_lines e (Some input) None new taken w whole = absurd w.read
+  whole_lines e (Some input) (Some rest) new taken w whole = λ image is.
+      let cut : (more : List Line) × (lines built_words input ≡ w.ls ++ more) = cut_of e input rest new taken w in
+      let few : answered w.broken.put ≤ length (lines built_words input) = let f = w.broken.fewer in omega (arith, ap length cut.1, length-append w.ls cut.0) in
+      let put : w.broken.put ≡ text (now_of entry.kernel image) (take (answered w.broken.put) (lines built_words input)) =
+      whole (now_of entry.kernel image) (w.broken.told image is).whole
+      ∙ ap (λ v. text (now_of entry.kernel image) v) (sym (ap (λ v. take (answered w.broken.put) v) cut.1 ∙ take-append-le (answered w.broken.put) w.ls cut.0 w.broken.fewer)) in (
+        answered w.broken.put,
+        few,
+        subst (λ (v : List ℕ). Appends entry.taken taken v) put w.broken.sink,
+      )
+
+  few_of : (e : Ended) (left left' : Option (List ℕ)) (new : D) (taken : Option (List ℕ)) (w : Stops facts e entry left limit batch most new taken left')
+      → length (ended_lines built_words (take limit w.bytes)) < answered w.broken.put + batch → FewUnanswered batch limit left left' entry.taken taken
+  few_of e None left' new taken w few = tt
+  few_of e (Some input) None new taken w few = absurd w.read
+  few_of e (Some input) (Some rest) new taken w few = by_sink entry.taken taken w.broken.sink
+    where
+      by_sink : (before now : Option (List ℕ)) → Appends before now w.broken.put → FewUnanswered batch limit (Some input) (Some rest) before now
+      by_sink None now took = tt
+      by_sink (Some before) None took = absurd took
+      by_sink (Some before) (Some now) took =
+          omega (arith, ap (λ v. length (ended_lines built_words (take limit v))) (came_are w.bytes rest input w.read), ap answered (put_is before now w.broken.put took))
+
+  pub stops_bound : (e : Ended) (left left' : Option (List ℕ)) (new : D) (taken : Option (List ℕ)) → Stops facts e entry left limit batch most new taken left' → TakesAtMost most left left'
+  stops_bound e None left' new taken w = tt
+  stops_bound e (Some input) None new taken w = absurd w.read
+  stops_bound e (Some input) (Some rest) new taken w = let b = w.bound in omega (arith, ap length w.read, length-append w.bytes rest)
+
+  pub source_exactly : (left left' : Option (List ℕ)) (new : D) (taken : Option (List ℕ)) → Stops facts ended.Source entry left limit batch most new taken left'
+      → ForSome (facts.seen entry.disk) (λ image. KeepsExactly (facts.left_since new (facts.moment new)) (now_of entry.kernel image) left entry.taken taken)
+  source_exactly left left' new taken w = exactly ended.Source left left' new taken w (λ s c h. h)
+
+  pub too_long_exactly : (left left' : Option (List ℕ)) (new : D) (taken : Option (List ℕ)) → Stops facts ended.TooLong entry left limit batch most new taken left'
+      → ForSome (facts.seen entry.disk) (λ image. KeepsExactly (facts.left_since new (facts.moment new)) (now_of entry.kernel image) left entry.taken taken)
+  too_long_exactly left left' new taken w = exactly ended.TooLong left left' new taken w (λ s c h. h)
+
+  pub source_lines : (left left' : Option (List ℕ)) (new : D) (taken : Option (List ℕ)) → Stops facts ended.Source entry left limit batch most new taken left'
+      → ForSome (facts.seen entry.disk) (λ image. AnswersLines (now_of entry.kernel image) left entry.taken taken)
+  source_lines left left' new taken w = whole_lines ended.Source left left' new taken w (λ s h. h)
+
+  pub too_long_lines : (left left' : Option (List ℕ)) (new : D) (taken : Option (List ℕ)) → Stops facts ended.TooLong entry left limit batch most new taken left'
+      → ForSome (facts.seen entry.disk) (λ image. AnswersLines (now_of entry.kernel image) left entry.taken taken)
+  too_long_lines left left' new taken w = whole_lines ended.TooLong left left' new taken w (λ s h. h)
+
+  pub source_few : (left left' : Option (List ℕ)) (new : D) (taken : Option (List ℕ)) → Stops facts ended.Source entry left limit batch most new taken left' → FewUnanswered batch limit left left' entry.taken taken
+  source_few left left' new taken w = few_of ended.Source left left' new taken w w.few
+
+  pub too_long_few : (left left' : Option (List ℕ)) (new : D) (taken : Option (List ℕ)) → Stops facts ended.TooLong entry left limit batch most new taken left' → FewUnanswered batch limit left left' entry.taken taken
+  too_long_few left left' new taken w = few_of ended.TooLong left left' new taken w w.few
+
+  pub source_within : (left left' : Option (List ℕ)) (new : D) (taken : Option (List ℕ)) → Stops facts ended.Source entry left limit batch most new taken left' → TakesAtMost limit left left'
+  source_within None left' new taken w = tt
+  source_within (Some input) None new taken w = absurd w.read
+  source_within (Some input) (Some rest) new taken w = let b = w.size in omega (arith, ap length w.read, length-append w.bytes rest)
+
+  pub too_long_more : (left left' : Option (List ℕ)) (new : D) (taken : Option (List ℕ)) → Stops facts ended.TooLong entry left limit batch most new taken left' → TakesMore limit left left'
+  too_long_more None left' new taken w = tt
+  too_long_more (Some input) None new taken w = absurd w.read
+  too_long_more (Some input) (Some rest) new taken w = let b = w.size in omega (arith, ap length w.read, length-append w.bytes rest)
+
+  -- after a fault of the sink there is one state
+  pub sink_one : (left left' : Option (List ℕ)) (new : D) (taken : Option (List ℕ)) → Stops facts ended.Sink entry left limit batch most new taken left'
+      → ForSome (facts.seen entry.disk) (λ image. KeepsOne (facts.left_since new (facts.moment new)) (now_of entry.kernel image) left left' entry.taken taken)
+  sink_one None left' new taken w = λ image is. tt
+  sink_one (Some input) None new taken w = absurd w.read
+  sink_one (Some input) (Some rest) new taken w = λ image is.
+      let cut : (more : List Line) × (lines built_words input ≡ w.ls ++ more) = cut_of ended.Sink input rest new taken w in (
+        length w.ls,
+        is_answered input rest w.bytes w.ls entry.taken taken w.broken.put (length w.ls) w.read w.came w.broken.sink w.broken.fewer (omega arith),
+        λ c left. first_of (now_of entry.kernel image) (length w.ls) w.ls cut.0 (lines built_words input) c cut.1 (omega arith)
+            ((w.broken.told image is).held c left ∙ ap (λ v. Is (after (now_of entry.kernel image) v)) (sym (take_all (length w.ls) w.ls (omega arith)))),
+      )
+
+-- where no reply waits, all that was stepped is answered
+all_done : (done waiting ls : List Line) (count : ℕ) → ls ≡ done ++ waiting → count ≡ length waiting → count ≡ 0 → done ≡ ls
+all_done front [] ls count split same zero_is = sym (append-nil front) ∙ sym split
+all_done front (line ∷ more) ls count split same zero_is = absurd (omega arith)
+
+module _ {D : Type 0} (facts : Ghosts D) (entry : Entry D) (limit batch most : ℕ) where
+  -- what stands after a good end
+  stood : (ls : List Line) (p : Point D) (a : Session facts entry ls p) → p.owed.count ≡ 0 → (image : Image) → facts.seen entry.disk ≡ Some image
+      → (x : Image) × (facts.seen p.disk ≡ Some x) × (volume x ≡ Is (after (now_of entry.kernel image) ls)) × (a.put ≡ text (now_of entry.kernel image) ls) × Leaves facts entry.disk p.disk (IsPrefix (now_of entry.kernel image) ls)
+  stood ls p a none image is =
+      let st : Stands facts entry (now_of entry.kernel image) a.done a.waiting a.put p = a.told image is in
+      let done_are : a.done ≡ ls = all_done a.done a.waiting ls p.owed.count a.split a.count none in (
+        st.image,
+        st.is,
+        st.kept ∙ ap (λ v. Is (after (now_of entry.kernel image) v)) done_are,
+        st.replies ∙ ap (λ v. text (now_of entry.kernel image) v) done_are,
+        subst (λ (v : List Line). Leaves facts entry.disk p.disk (IsPrefix (now_of entry.kernel image) v)) (sym a.split) st.leaves,
+      )
+
+  at_end_nil : (left' : Option (List ℕ)) (rest : List ℕ) → IsAtEnd left' → left' ≡ Some rest → rest ≡ []
+  at_end_nil None rest h e = cc
+  at_end_nil (Some xs) rest h e = cc
+
+  -- a good end is one at which the sink had nothing more to take
+  pub finishes_stops : (left left' : Option (List ℕ)) (p : Point D) → Finishes facts entry left limit p left' → limit ≤ most → NothingPending facts p.disk → Stops facts ended.Sink entry left limit batch most p.disk p.taken left'
+  finishes_stops left left' p f small only =
+      let none : p.owed.count ≡ 0 = ap (λ (v : Waiting). v.count) f.empty in
+      let a : Session facts entry (lines built_words f.bytes) p = f.session in record {
+        bytes = f.bytes;
+        ls = lines built_words f.bytes;
+        read = f.read;
+        size = tt;
+        bound = let w = f.within in omega arith;
+        came = omega arith;
+        will = λ rest here. ([], ap (λ v. lines built_words (f.bytes ++ v)) (at_end_nil left' rest f.at_end here) ∙ ap (λ v. lines built_words v) (append-nil f.bytes) ∙ sym (append-nil (lines built_words f.bytes)));
+        broken = record {
+          put = a.put;
+          sink = a.sink;
+          fewer = let count = a.answers in omega (arith, ap length a.split, length-append a.done a.waiting);
+          told = λ image is.
+              let st = stood (lines built_words f.bytes) p a none image is in record {
+                more = [];
+                replies = sym (append-nil a.put ∙ st.3);
+                whole = tt;
+                leaves = st.4;
+                held = λ c left. left_spells facts p.disk st.0 c (after (now_of entry.kernel image) (lines built_words f.bytes)) only st.1 st.2 left;
+              };
+        };
+        few = tt;
+      }
+
+  pub finishes_all : (left left' : Option (List ℕ)) (p : Point D) → Finishes facts entry left limit p left'
+      → ForSome (facts.seen entry.disk) (λ image. AnswersAll (now_of entry.kernel image) left left' entry.taken p.taken)
+  finishes_all None left' p f = λ image is. tt
+  finishes_all (Some input) None p f = absurd f.read
+  finishes_all (Some input) (Some rest) p f = λ image is.
+      let st = stood (lines built_words f.bytes) p f.session (ap (λ (v : Waiting). v.count) f.empty) image is in
+      let whole : f.bytes ≡ input = sym (f.read ∙ ap (λ v. f.bytes ++ v) f.at_end ∙ append-nil f.bytes) in (
+        ap (λ v. Some v) f.at_end,
+        subst (λ (v : List ℕ). Appends entry.taken p.taken v) (st.3 ∙ ap (λ v. replies (now_of entry.kernel image) v) whole) f.session.sink,
+      )
+
+  pub finishes_kept : (left left' : Option (List ℕ)) (p : Point D) → Finishes facts entry left limit p left'
+      → ForSome (facts.seen entry.disk) (λ image. IfSome left (λ input. SpellsAfter (now_of entry.kernel image) input (facts.seen p.disk)))
+  finishes_kept None left' p f = λ image is. tt
+  finishes_kept (Some input) None p f = absurd f.read
+  finishes_kept (Some input) (Some rest) p f = λ image is.
+      let st = stood (lines built_words f.bytes) p f.session (ap (λ (v : Waiting). v.count) f.empty) image is in
+      let whole : f.bytes ≡ input = sym (f.read ∙ ap (λ v. f.bytes ++ v) f.at_end ∙ append-nil f.bytes) in
+      told_spells (facts.seen p.disk) st.0 (now_of entry.kernel image) input st.1 (st.2 ∙ ap (λ v. Is (after (now_of entry.kernel image) (lines built_words v))) whole)
+    where
+      told_spells : (told : Option Image) (x : Image) (s : State) (input : List ℕ) → told ≡ Some x → volume x ≡ Is (after s (lines built_words input)) → SpellsAfter s input told
+      told_spells None x s input same kept = cc
+      told_spells (Some y) x s input same kept = let one : y ≡ x = cc in ap volume one ∙ kept
+
+  pub finishes_within : (left left' : Option (List ℕ)) (p : Point D) → Finishes facts entry left limit p left' → TakesAtMost limit left left'
+  finishes_within None left' p f = tt
+  finishes_within (Some input) None p f = absurd f.read
+  finishes_within (Some input) (Some rest) p f = let w = f.within in omega (arith, ap length f.read, length-append f.bytes rest)

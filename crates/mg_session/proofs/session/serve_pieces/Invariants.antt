@@ -1,0 +1,27 @@
+use Rattle.std.proofs.Common.{◌≡◌, ◌-◌, ◌<◌, ◌≤◌, length}
+use Rattle.std.specs.Prelude.{IsTrue}
+use Rattle.mg_disk.specs.Stops.{CountGoes}
+use Rattle.mg_faults.specs.Faults.{CountGoesOn}
+use Rattle.mg_kernel.specs.Meaning.{StandsOn, is_live, staged_of, words_in}
+use Rattle.mg_pages.specs.Meaning.{CountsAlike}
+use Rattle.mg_session.specs.Readings.{Reading}
+use Rattle.mg_session.proofs.session.serve_pieces.Given as goal
+
+abbrev pub invariant-pieces : goal.invariant-pieces
+invariant-pieces g l = record {
+  reading : Reading g.D.Disk (record { kernel = l.initial.kernel; disk = l.initial.disk; taken = g.K.Sink.taken l.initial.sink }) (g.S.Source.left l.initial.source) l.total (record { kernel = l.kernel; disk = l.disk; owed = l.owed; taken = g.K.Sink.taken l.sink }) l.part (g.S.Source.left l.source);
+  within : l.total ≤ l.limit;
+  size : length l.piece ≡ 4096;
+  live : IsTrue (is_live l.kernel);
+  stands : StandsOn g.D.Disk l.kernel l.disk;
+  staged : staged_of l.kernel ≤ 28;
+  open_batch : l.owed.count < l.batch;
+  counted : CountsAlike (words_in l.initial.kernel) (words_in l.kernel) l.initial.steps l.steps;
+  blocks : g.D.Disk.block_count l.disk ≡ g.D.Disk.block_count l.initial.disk;
+  disk_count : CountGoes g.D.Disk l.initial.disk l.disk;
+  source_count : CountGoesOn (g.S.Source.faults l.initial.source) (g.S.Source.faults l.source) (g.S.Source.is_spent l.initial.source) (g.S.Source.is_spent l.source);
+  sink_count : CountGoesOn (g.K.Sink.faults l.initial.sink) (g.K.Sink.faults l.sink) (g.K.Sink.is_spent l.initial.sink) (g.K.Sink.is_spent l.sink);
+}
+
+abbrev pub decreases-pieces : goal.decreases-pieces
+decreases-pieces g l = l.limit - l.total

@@ -1,0 +1,61 @@
+-- The input of a session, piece by piece, and how the session ends.
+use Rattle.std.specs.Prelude.{ℕ, ◌+◌, ◌<◌, ◌≤◌, ◌≡◌, false, List, ◌++◌, length, take, Option, Some}
+use Rattle.std.specs.List.{list_any}
+use Rattle.std.specs.Io.KnownBytes.{Consumes, IsAtEnd}
+use Rattle.mg_disk.specs.declared.disk.Disk.{Ghosts}
+use Rattle.mg_model.specs.declared.calls.Line.{Line}
+use Rattle.mg_model.specs.Answered.{answered}
+use Rattle.mg_model.specs.Cutting.{ended_lines}
+use Rattle.mg_model.specs.Lines.{built_words, lines}
+use Rattle.mg_model.specs.Words.{is_newline}
+use Rattle.mg_session.specs.declared.batches.Ended.{Ended}
+use Rattle.mg_session.specs.declared.batches.Ended.TheVariants as ended
+use Rattle.mg_session.specs.Sessions.{Broken, Entry, Point, Session}
+use Rattle.mg_session.specs.Waiting.{no_replies}
+
+-- the input so far
+pub record Reading {D : Type 0} (facts : Ghosts D) (entry : Entry D) (left : Option (List ℕ)) (total : ℕ) (p : Point D) (part : List ℕ) (left' : Option (List ℕ)) : Type 0 where
+  pub bytes : List ℕ
+  pub read : Consumes left left' bytes
+  pub count : length bytes ≡ total
+  pub ls : List Line
+  pub cut : (rest : List ℕ) → lines built_words (bytes ++ rest) ≡ ls ++ lines built_words (part ++ rest)
+  pub whole : list_any is_newline part ≡ false
+  pub session : Session facts entry ls p
+
+-- the input was read to its end, its lines were stepped, and no reply waits
+pub record Finishes {D : Type 0} (facts : Ghosts D) (entry : Entry D) (left : Option (List ℕ)) (limit : ℕ) (p : Point D) (left' : Option (List ℕ)) : Type 0 where
+  pub bytes : List ℕ
+  pub read : Consumes left left' bytes
+  pub at_end : IsAtEnd left'
+  pub within : length bytes ≤ limit
+  pub session : Session facts entry (lines built_words bytes) p
+  pub empty : p.owed ≡ no_replies
+
+-- how many bytes were taken
+abbrev pub Size : Ended → ℕ → ℕ → Type 0
+Size ended.Source limit count = count ≤ limit
+Size ended.TooLong limit count = limit < count
+Size ended.Disk limit count = Unit {0}
+Size ended.Sink limit count = Unit {0}
+
+-- how few of the ended lines are unanswered
+abbrev pub Few : Ended → ℕ → ℕ → ℕ → Type 0
+Few ended.Source calls replies batch = calls < replies + batch
+Few ended.TooLong calls replies batch = calls < replies + batch
+Few ended.Disk calls replies batch = Unit {0}
+Few ended.Sink calls replies batch = Unit {0}
+
+-- The session ended before the end of its input.
+pub record Stops {D : Type 0} (facts : Ghosts D) (e : Ended) (entry : Entry D) (left : Option (List ℕ)) (limit batch most : ℕ) (disk : D) (taken left' : Option (List ℕ)) : Type 0 where
+  pub bytes : List ℕ
+  pub ls : List Line
+  pub read : Consumes left left' bytes
+  pub size : Size e limit (length bytes)
+  pub bound : length bytes ≤ most
+  -- the lines that were stepped are lines of the bytes that came
+  pub came : length ls ≤ length (lines built_words bytes)
+  -- and first lines of the whole input
+  pub will : (rest : List ℕ) → left' ≡ Some rest → (more : List Line) × (lines built_words (bytes ++ rest) ≡ ls ++ more)
+  pub broken : Broken facts e entry ls disk taken
+  pub few : Few e (length (ended_lines built_words (take limit bytes))) (answered broken.put) batch

@@ -1,0 +1,158 @@
+// Lines are stepped in batches: a batch is committed, and then its replies are put.
+ghost use Rattle.std.specs.Prelude.{◌≡◌, ◌<◌, ◌≤◌, [], ◌∷◌, Err, IfErr, IsTrue, OnOk};
+ghost use Rattle.mg_disk.specs.Stops.{CountGoes, CountRose};
+ghost use Rattle.mg_faults.specs.Faults.{CountGoesOn, Rose};
+ghost use Rattle.mg_kernel.specs.Meaning.{StandsOn, is_live, staged_of, words_in};
+ghost use Rattle.mg_model.specs.Built.{IsBuilt};
+ghost use Rattle.mg_pages.specs.Meaning.{CountsAlike};
+ghost use Rattle.mg_session.specs.Sessions.{Closes, FailsToClose, Halts, IsInside, Runs};
+ghost use Rattle.mg_session.specs.Waiting.{no_replies};
+
+use crate::buffers::Buffers;
+use mg_disk::Disk;
+use mg_io::{Sink, put_all};
+use mg_kernel::Kernel;
+use mg_model::{Line, Steps};
+use std::sync::ledger::Ledger;
+
+/// A batch closes above so many staged blocks, so that one line more has room.
+const STAGED_LIMIT: usize = 28;
+
+/// Why a session ended before the end of its input.
+#[derive(Clone, Copy, Debug, PartialEq, Eq)]
+pub enum Ended {
+    /// A call of the disk failed.
+    Disk,
+    /// A take failed.
+    Source,
+    /// A put failed.
+    Sink,
+    /// More bytes came than a session may take.
+    TooLong,
+}
+
+/// The batch closes: its changes are committed, and then its replies are put in one call of `put_all`.
+pub fn close<D: Disk, K: Sink>(
+    kernel: &mut Kernel,
+    disk: &mut D,
+    sink: &mut K,
+    owed: &mut Buffers,
+) -> Result<(), Ended>
+    requires live { IsTrue (is_live kernel.old) }
+    requires stands { StandsOn D.Disk kernel.old disk.old }
+    ensures closes { OnOk result (Closes D.Disk
+        (record { kernel = kernel.old; disk = disk.old; owed = owed.old; taken = K.taken sink.old })
+        (record { kernel = kernel.new; disk = disk.new; owed = owed.new; taken = K.taken sink.new })) }
+    ensures halts { IfErr result (λ e. FailsToClose D.Disk e
+        (record { kernel = kernel.old; disk = disk.old; owed = owed.old; taken = K.taken sink.old })
+        (record { kernel = kernel.new; disk = disk.new; owed = owed.new; taken = K.taken sink.new })) }
+    ensures live { OnOk result (IsTrue (is_live kernel.new)) }
+    ensures stands { OnOk result (StandsOn D.Disk kernel.new disk.new) }
+    ensures staged { OnOk result (staged_of kernel.new ≡ 0) }
+    ensures empty { OnOk result (owed.new ≡ no_replies) }
+    ensures words { words_in kernel.new ≡ words_in kernel.old }
+    ensures blocks { D.block_count disk.new ≡ D.block_count disk.old }
+    ensures disk_count { CountGoes D.Disk disk.old disk.new }
+    ensures sink_count { CountGoesOn (K.faults sink.old) (K.faults sink.new) (K.is_spent sink.old) (K.is_spent sink.new) }
+    ensures disk { result ≡ Err Ended.Disk → CountRose D.Disk disk.old disk.new }
+    ensures sink { result ≡ Err Ended.Sink → Rose (K.faults sink.old) (K.faults sink.new) (K.is_spent sink.new) }
+    ensures only { IfErr result IsInside }
+{
+    match kernel.commit(disk) {
+        Ok(()) => {}
+        Err(_) => return Err(Ended::Disk),
+    }
+    let put = put_all(sink, owed.text());
+    match put {
+        Ok(()) => {
+            owed.clear();
+            Ok(())
+        }
+        Err(_) => Err(Ended::Sink),
+    }
+}
+
+/// One line is stepped, and its reply waits. The batch closes where it is full, or where more than 28 blocks are staged.
+pub fn take_line<D: Disk, K: Sink, L: Ledger>(
+    kernel: &mut Kernel,
+    disk: &mut D,
+    sink: &mut K,
+    owed: &mut Buffers,
+    line: &Line,
+    batch: u64,
+    steps: &mut Steps<L>,
+) -> Result<(), Ended>
+    requires live { IsTrue (is_live kernel.old) }
+    requires stands { StandsOn D.Disk kernel.old disk.old }
+    requires staged { staged_of kernel.old ≤ 28 }
+    requires open_batch { owed.old.count < batch }
+    requires small { batch ≤ 64 }
+    requires built { IsBuilt line.now }
+    ensures steps { OnOk result (Runs D.Disk
+        (record { kernel = kernel.old; disk = disk.old; owed = owed.old; taken = K.taken sink.old }) (line.now ∷ [])
+        (record { kernel = kernel.new; disk = disk.new; owed = owed.new; taken = K.taken sink.new })) }
+    ensures halts { IfErr result (λ e. Halts D.Disk e
+        (record { kernel = kernel.old; disk = disk.old; owed = owed.old; taken = K.taken sink.old }) (line.now ∷ [])
+        (record { kernel = kernel.new; disk = disk.new; owed = owed.new; taken = K.taken sink.new })) }
+    ensures live { OnOk result (IsTrue (is_live kernel.new)) }
+    ensures stands { OnOk result (StandsOn D.Disk kernel.new disk.new) }
+    ensures staged { OnOk result (staged_of kernel.new ≤ 28) }
+    ensures open_batch { OnOk result (owed.new.count < batch) }
+    ensures counted { CountsAlike (words_in kernel.old) (words_in kernel.new) steps.old steps.new }
+    ensures blocks { D.block_count disk.new ≡ D.block_count disk.old }
+    ensures disk_count { CountGoes D.Disk disk.old disk.new }
+    ensures sink_count { CountGoesOn (K.faults sink.old) (K.faults sink.new) (K.is_spent sink.old) (K.is_spent sink.new) }
+    ensures disk { result ≡ Err Ended.Disk → CountRose D.Disk disk.old disk.new }
+    ensures sink { result ≡ Err Ended.Sink → Rose (K.faults sink.old) (K.faults sink.new) (K.is_spent sink.new) }
+    ensures only { IfErr result IsInside }
+{
+    let reply = match kernel.step(disk, line, steps) {
+        Ok(reply) => reply,
+        Err(_) => return Err(Ended::Disk),
+    };
+    owed.add(&reply);
+    if owed.count() < batch && kernel.staged() <= STAGED_LIMIT {
+        return Ok(());
+    }
+    close(kernel, disk, sink, owed)
+}
+
+/// One line is stepped, and the batch closes with it.
+pub fn line_and_close<D: Disk, K: Sink, L: Ledger>(
+    kernel: &mut Kernel,
+    disk: &mut D,
+    sink: &mut K,
+    owed: &mut Buffers,
+    line: &Line,
+    batch: u64,
+    steps: &mut Steps<L>,
+) -> Result<(), Ended>
+    requires live { IsTrue (is_live kernel.old) }
+    requires stands { StandsOn D.Disk kernel.old disk.old }
+    requires staged { staged_of kernel.old ≤ 28 }
+    requires open_batch { owed.old.count < batch }
+    requires small { batch ≤ 64 }
+    requires built { IsBuilt line.now }
+    ensures steps { OnOk result (Runs D.Disk
+        (record { kernel = kernel.old; disk = disk.old; owed = owed.old; taken = K.taken sink.old }) (line.now ∷ [])
+        (record { kernel = kernel.new; disk = disk.new; owed = owed.new; taken = K.taken sink.new })) }
+    ensures halts { IfErr result (λ e. Halts D.Disk e
+        (record { kernel = kernel.old; disk = disk.old; owed = owed.old; taken = K.taken sink.old }) (line.now ∷ [])
+        (record { kernel = kernel.new; disk = disk.new; owed = owed.new; taken = K.taken sink.new })) }
+    ensures live { OnOk result (IsTrue (is_live kernel.new)) }
+    ensures stands { OnOk result (StandsOn D.Disk kernel.new disk.new) }
+    ensures staged { OnOk result (staged_of kernel.new ≡ 0) }
+    ensures empty { OnOk result (owed.new ≡ no_replies) }
+    ensures counted { CountsAlike (words_in kernel.old) (words_in kernel.new) steps.old steps.new }
+    ensures blocks { D.block_count disk.new ≡ D.block_count disk.old }
+    ensures disk_count { CountGoes D.Disk disk.old disk.new }
+    ensures sink_count { CountGoesOn (K.faults sink.old) (K.faults sink.new) (K.is_spent sink.old) (K.is_spent sink.new) }
+    ensures disk { result ≡ Err Ended.Disk → CountRose D.Disk disk.old disk.new }
+    ensures sink { result ≡ Err Ended.Sink → Rose (K.faults sink.old) (K.faults sink.new) (K.is_spent sink.new) }
+    ensures only { IfErr result IsInside }
+{
+    match take_line(kernel, disk, sink, owed, line, batch, steps) {
+        Ok(()) => close(kernel, disk, sink, owed),
+        Err(ended) => Err(ended),
+    }
+}

@@ -1,0 +1,183 @@
+// A whole session: the source is read to its end, and its lines are stepped and answered in batches.
+ghost use Rattle.std.specs.Prelude.{◌≡◌, ◌+◌, ◌≤◌, Err, IfErr, IfSome, IsOk, IsTrue, OnOk};
+ghost use Rattle.std.specs.Option.{ForSome};
+ghost use Rattle.mg_disk.specs.Stops.{CountGoes, CountRose, Leaves};
+ghost use Rattle.mg_faults.specs.Faults.{CountGoesOn, Rose};
+ghost use Rattle.mg_kernel.specs.Meaning.{StandsOn, is_live, now_of, staged_of, words_in};
+ghost use Rattle.mg_model.specs.Lines.{built_words, lines};
+ghost use Rattle.mg_pages.specs.Meaning.{CountsAlike};
+ghost use Rattle.mg_session.specs.Headline.{AnswersAll, AnswersLines, AnswersPrefix, FewUnanswered, IsWithin, KeepsAnswered, KeepsExactly, KeepsOne, SpellsAfter, TakesAtMost, TakesMore};
+ghost use Rattle.mg_session.specs.Readings.{Finishes, Stops};
+ghost use Rattle.mg_session.specs.Sessions.{IsPrefix};
+
+use crate::batches::Ended;
+use crate::buffers::Buffers;
+use crate::incoming::{finish, take_bytes};
+use crate::partial::PartialLine;
+use mg_disk::Disk;
+use mg_io::{Sink, Source};
+use mg_kernel::Kernel;
+use mg_model::Steps;
+use std::sync::ledger::Ledger;
+
+/// The most bytes that are taken at once.
+const PIECE: usize = 4096;
+
+/// The loop over the pieces of the input.
+fn serve_pieces<D: Disk, S: Source, K: Sink, L: Ledger>(
+    kernel: &mut Kernel,
+    disk: &mut D,
+    source: &mut S,
+    sink: &mut K,
+    owed: &mut Buffers,
+    batch: u64,
+    limit: u64,
+    steps: &mut Steps<L>,
+) -> Result<(), Ended>
+    requires live { IsTrue (is_live kernel.old) }
+    requires stands { StandsOn D.Disk kernel.old disk.old }
+    requires staged { staged_of kernel.old ≡ 0 }
+    requires some { 1 ≤ batch }
+    requires small { batch ≤ 64 }
+    ensures finishes { OnOk result (Finishes D.Disk (record { kernel = kernel.old; disk = disk.old; taken = K.taken sink.old }) (S.left source.old) limit
+        (record { kernel = kernel.new; disk = disk.new; owed = owed.new; taken = K.taken sink.new }) (S.left source.new)) }
+    ensures stops { IfErr result (λ e. Stops D.Disk e (record { kernel = kernel.old; disk = disk.old; taken = K.taken sink.old }) (S.left source.old)
+        limit batch (limit + 4096) disk.new (K.taken sink.new) (S.left source.new)) }
+    ensures live { OnOk result (IsTrue (is_live kernel.new)) }
+    ensures stands { OnOk result (StandsOn D.Disk kernel.new disk.new) }
+    ensures staged { OnOk result (staged_of kernel.new ≡ 0) }
+    ensures counted { CountsAlike (words_in kernel.old) (words_in kernel.new) steps.old steps.new }
+    ensures blocks { D.block_count disk.new ≡ D.block_count disk.old }
+    ensures disk_count { CountGoes D.Disk disk.old disk.new }
+    ensures source_count { CountGoesOn (S.faults source.old) (S.faults source.new) (S.is_spent source.old) (S.is_spent source.new) }
+    ensures sink_count { CountGoesOn (K.faults sink.old) (K.faults sink.new) (K.is_spent sink.old) (K.is_spent sink.new) }
+    ensures disk { result ≡ Err Ended.Disk → CountRose D.Disk disk.old disk.new }
+    ensures source { result ≡ Err Ended.Source → Rose (S.faults source.old) (S.faults source.new) (S.is_spent source.new) }
+    ensures sink { result ≡ Err Ended.Sink → Rose (K.faults sink.old) (K.faults sink.new) (K.is_spent sink.new) }
+{
+    owed.clear();
+    let mut piece = [0; PIECE];
+    let mut part = PartialLine::new();
+    let mut total: u64 = 0;
+    'pieces: loop {
+        let count = match source.take(&mut piece) {
+            Ok(count) => count,
+            Err(_) => return Err(Ended::Source),
+        };
+        if count == 0 {
+            return finish(kernel, disk, sink, owed, &mut part, batch, steps);
+        }
+        let room = limit - total;
+        let within = (count as u64).min(room) as usize;
+        match take_bytes(
+            kernel,
+            disk,
+            sink,
+            owed,
+            &mut part,
+            &piece[..within],
+            batch,
+            steps,
+        ) {
+            Ok(()) => {}
+            Err(ended) => return Err(ended),
+        }
+        if count as u64 > room {
+            return Err(Ended::TooLong);
+        }
+        total += count as u64;
+    }
+}
+
+/// Reads lines to the end of the source, steps them and puts their replies in batches of at most 64, up to a limit on the
+/// bytes. What waits in `owed` at first is dropped.
+///
+/// A batch closes with `batch` replies, where more than 28 blocks are staged, or at the end of the input: it is committed,
+/// and then its replies are put in one call of `put_all`.
+///
+/// # Errors
+///
+/// [`Ended::Disk`], [`Ended::Source`] and [`Ended::Sink`] come only where a call of that object failed, and
+/// [`Ended::TooLong`] where more than `limit` bytes were taken. After a failed step, a fault of the source and too long an
+/// input the open batch is neither committed nor answered; after a failed commit its lines may have been kept or not; after
+/// a fault of the sink they were kept.
+pub fn serve<D: Disk, S: Source, K: Sink, L: Ledger>(
+    kernel: &mut Kernel,
+    disk: &mut D,
+    source: &mut S,
+    sink: &mut K,
+    owed: &mut Buffers,
+    batch: u64,
+    limit: u64,
+    steps: &mut Steps<L>,
+) -> Result<(), Ended>
+    requires live { IsTrue (is_live kernel.old) }
+    requires stands { StandsOn D.Disk kernel.old disk.old }
+    requires staged { staged_of kernel.old ≡ 0 }
+    requires some { 1 ≤ batch }
+    requires small { batch ≤ 64 }
+
+    // What the sink took is a prefix of the replies to the whole input. At the end it is all of them, and reads give the
+    // state after all lines.
+    ensures prefix { ForSome (D.seen disk.old) (λ image. AnswersPrefix (now_of kernel.old image) (S.left source.old) (K.taken sink.old) (K.taken sink.new)) }
+    ensures all { OnOk result (ForSome (D.seen disk.old) (λ image. AnswersAll (now_of kernel.old image)
+        (S.left source.old) (S.left source.new) (K.taken sink.old) (K.taken sink.new))) }
+    ensures kept { OnOk result (ForSome (D.seen disk.old) (λ image. IfSome (S.left source.old) (λ input.
+        SpellsAfter (now_of kernel.old image) input (D.seen disk.new)))) }
+
+    // At each moment a stop leaves the state after some first lines.
+    ensures any_moment { ForSome (D.seen disk.old) (λ image. IfSome (S.left source.old) (λ input.
+        Leaves D.Disk disk.old disk.new (IsPrefix (now_of kernel.old image) (lines built_words input)))) }
+
+    // At the end these are at least the answered lines, and all of them came.
+    ensures held { ForSome (D.seen disk.old) (λ image. KeepsAnswered (D.left_since disk.new (D.moment disk.new)) (now_of kernel.old image)
+        (S.left source.old) (S.left source.new) (K.taken sink.old) (K.taken sink.new)) }
+    ensures held_source { result ≡ Err Ended.Source → ForSome (D.seen disk.old) (λ image. KeepsExactly (D.left_since disk.new (D.moment disk.new))
+        (now_of kernel.old image) (S.left source.old) (K.taken sink.old) (K.taken sink.new)) }
+    ensures held_too_long { result ≡ Err Ended.TooLong → ForSome (D.seen disk.old) (λ image. KeepsExactly (D.left_since disk.new (D.moment disk.new))
+        (now_of kernel.old image) (S.left source.old) (K.taken sink.old) (K.taken sink.new)) }
+    ensures held_sink { result ≡ Err Ended.Sink → ForSome (D.seen disk.old) (λ image. KeepsOne (D.left_since disk.new (D.moment disk.new))
+        (now_of kernel.old image) (S.left source.old) (S.left source.new) (K.taken sink.old) (K.taken sink.new)) }
+
+    // Where the source failed, or gave too much, whole lines are answered, and few calls are not.
+    ensures lines_source { result ≡ Err Ended.Source → ForSome (D.seen disk.old) (λ image. AnswersLines (now_of kernel.old image)
+        (S.left source.old) (K.taken sink.old) (K.taken sink.new)) }
+    ensures lines_too_long { result ≡ Err Ended.TooLong → ForSome (D.seen disk.old) (λ image. AnswersLines (now_of kernel.old image)
+        (S.left source.old) (K.taken sink.old) (K.taken sink.new)) }
+    ensures few_source { result ≡ Err Ended.Source → FewUnanswered batch limit
+        (S.left source.old) (S.left source.new) (K.taken sink.old) (K.taken sink.new) }
+    ensures few_too_long { result ≡ Err Ended.TooLong → FewUnanswered batch limit
+        (S.left source.old) (S.left source.new) (K.taken sink.old) (K.taken sink.new) }
+
+    // When each answer comes.
+    ensures disk { result ≡ Err Ended.Disk → CountRose D.Disk disk.old disk.new }
+    ensures source { result ≡ Err Ended.Source → Rose (S.faults source.old) (S.faults source.new) (S.is_spent source.new) }
+    ensures sink { result ≡ Err Ended.Sink → Rose (K.faults sink.old) (K.faults sink.new) (K.is_spent sink.new) }
+    ensures too_long { result ≡ Err Ended.TooLong → TakesMore limit (S.left source.old) (S.left source.new) }
+    ensures within_done { OnOk result (TakesAtMost limit (S.left source.old) (S.left source.new)) }
+    ensures within_source { result ≡ Err Ended.Source → TakesAtMost limit (S.left source.old) (S.left source.new) }
+
+    // Whatever the answer, no more is taken than the limit, and a piece.
+    ensures bounded { TakesAtMost (limit + 4096) (S.left source.old) (S.left source.new) }
+
+    // Where no call failed and the input is not too long, all is done.
+    ensures complete { (CountRose D.Disk disk.old disk.new → ⊥)
+        → (Rose (S.faults source.old) (S.faults source.new) (S.is_spent source.new) → ⊥)
+        → (Rose (K.faults sink.old) (K.faults sink.new) (K.is_spent sink.new) → ⊥)
+        → IsWithin limit (S.left source.old) (IsOk result) }
+
+    // After a good end the kernel may serve again. The two counts of words rise by as much.
+    ensures live { OnOk result (IsTrue (is_live kernel.new)) }
+    ensures stands { OnOk result (StandsOn D.Disk kernel.new disk.new) }
+    ensures staged { OnOk result (staged_of kernel.new ≡ 0) }
+    ensures counted { CountsAlike (words_in kernel.old) (words_in kernel.new) steps.old steps.new }
+    ensures blocks { D.block_count disk.new ≡ D.block_count disk.old }
+    ensures disk_count { CountGoes D.Disk disk.old disk.new }
+    ensures source_count { CountGoesOn (S.faults source.old) (S.faults source.new) (S.is_spent source.old) (S.is_spent source.new) }
+    ensures sink_count { CountGoesOn (K.faults sink.old) (K.faults sink.new) (K.is_spent sink.old) (K.is_spent sink.new) }
+{
+    match serve_pieces(kernel, disk, source, sink, owed, batch, limit, steps) {
+        Ok(()) => Ok(()),
+        Err(ended) => Err(ended),
+    }
+}
