@@ -2,13 +2,14 @@
 ghost use Rattle.std.specs.Prelude.{◌≡◌, ◌≤◌};
 ghost use Rattle.mg_model.specs.Layout.{first_frame, table_blocks, total_blocks};
 
-/// The gate of the volume.
-pub(crate) const GATE_BLOCK: u64 = 0;
+/// The block of the volume's gate.
+pub const GATE_BLOCK: u64 = 0;
 
 /// What byte 0 of a gate holds where it is open.
-pub(crate) const GATE_OPEN: u8 = 0xA5;
+pub const GATE_OPEN: u8 = 0xA5;
 
-pub(crate) const SUPER_BLOCK: u64 = 1;
+/// The superblock.
+pub const SUPER_BLOCK: u64 = 1;
 
 /// The blocks of a journal segment, of which the first is its gate.
 pub(crate) const SEGMENT_SIZE: u64 = 162;
@@ -16,17 +17,20 @@ pub(crate) const SEGMENT_SIZE: u64 = 162;
 /// The gate of the first segment.
 pub(crate) const FIRST_SEGMENT: u64 = 2;
 
-/// The first block behind the journal.
-pub(crate) const GLOBALS_BLOCK: u64 = 1298;
+/// The block of the period and the other counters, the first one behind the journal.
+pub const GLOBALS_BLOCK: u64 = 1298;
 
-pub(crate) const FIRST_ACCOUNT_BLOCK: u64 = 1299;
+/// The first block of the table of accounts.
+pub const FIRST_ACCOUNT_BLOCK: u64 = 1299;
 
-pub(crate) const FIRST_THREAD_BLOCK: u64 = 1315;
+/// The first block of the table of threads, which has one row a block.
+pub const FIRST_THREAD_BLOCK: u64 = 1315;
 
-pub(crate) const FIRST_OBJECT_BLOCK: u64 = 1571;
+/// The first block of the table of objects.
+pub const FIRST_OBJECT_BLOCK: u64 = 1571;
 
 /// The first block of the frame table.
-pub(crate) const TABLE_BLOCK: u64 = 2595;
+pub const TABLE_BLOCK: u64 = 2595;
 
 /// How many entries of the frame table a block has.
 const ENTRIES: u64 = 512;

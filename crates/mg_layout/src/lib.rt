@@ -19,6 +19,9 @@ mod superblock;
 
 pub use formatting::{FormatFault, format};
 pub use fresh::fresh_block;
-pub use geometry::Geometry;
+pub use geometry::{
+    FIRST_ACCOUNT_BLOCK, FIRST_OBJECT_BLOCK, FIRST_THREAD_BLOCK, GATE_BLOCK, GATE_OPEN,
+    GLOBALS_BLOCK, Geometry, SUPER_BLOCK, TABLE_BLOCK,
+};
 pub use laws::images_are_read;
 pub use superblock::{Super, read_super, write_super};

@@ -1,3 +1,4 @@
+pub mod BlockParts
 pub mod ObjectFields
 pub mod ObjectKeeps
 pub mod ObjectLists

@@ -1,0 +1,15 @@
+-- Rows in the blocks of their tables: what each place of a block spells.
+use Rattle.std.specs.Prelude.{ℕ, ◌*◌, List}
+use Rattle.mg_model.specs.declared.accounts.AccRow.{AccRow}
+use Rattle.mg_model.specs.Bytes.{bytes_at}
+use Rattle.mg_model.specs.Layout.{account_size, object_size}
+use Rattle.mg_model.specs.Spelling.{Read, account_read, object_read}
+use Rattle.mg_model.specs.State.{ObjectRow}
+
+-- row j of a block of objects
+abbrev pub object_in : List ℕ → ℕ → Read ObjectRow
+object_in block j = object_read (bytes_at block (object_size * j) object_size)
+
+-- row j of a block of accounts
+abbrev pub account_in : List ℕ → ℕ → Read AccRow
+account_in block j = account_read (bytes_at block (account_size * j) account_size)

@@ -1,0 +1,82 @@
+// Rows in the blocks of their tables.
+ghost use Rattle.std.specs.Prelude.{◌≡◌, ◌≢◌, ◌<◌, ℕ, Some, None};
+ghost use Rattle.std.specs.Option.{option_map_or};
+ghost use Rattle.mg_rows.specs.Answers.{as_read};
+ghost use Rattle.mg_rows.specs.Blocks.{account_in, object_in};
+
+use crate::accounts::read_account;
+use crate::objects::{read_object, write_object};
+use crate::spelled::Spelled;
+use mg_disk::Block;
+use mg_model::{AccRow, ObjRow};
+
+/// The bytes of an object's row: a block has 4.
+const OBJECT_SIZE: usize = 1024;
+
+/// The bytes of an account's row: a block has 64.
+const ACCOUNT_SIZE: usize = 64;
+
+/// What row `j` of a block spells of an object.
+pub fn object_in(block: &Block, j: u64) -> Option<Spelled<ObjRow>>
+    requires { j < 4 }
+    ensures { as_read result ≡ object_in block.now j }
+{
+    let at = OBJECT_SIZE * j as usize;
+    read_object(&block[at..at + OBJECT_SIZE])
+}
+
+/// Spells an object, or a free row, in row `j` of a block. The rows beside it stay as they are.
+pub fn put_object(row: Option<&ObjRow>, j: u64, block: &mut Block)
+    requires { j < 4 }
+    ensures here { object_in block.new j ≡ Some (option_map_or (λ row. Some row.now) row.entry None) }
+    ensures others { (k : ℕ) → k < 4 → k ≢ j → object_in block.new k ≡ object_in block.old k }
+{
+    let at = OBJECT_SIZE * j as usize;
+    write_object(row, &mut block[at..at + OBJECT_SIZE]);
+}
+
+/// What row `j` of a block spells of an account.
+pub fn account_in(block: &Block, j: u64) -> Option<Spelled<AccRow>>
+    requires { j < 64 }
+    ensures { as_read result ≡ account_in block.now j }
+{
+    let at = ACCOUNT_SIZE * j as usize;
+    read_account(&block[at..at + ACCOUNT_SIZE])
+}
+
+#[cfg(test)]
+mod tests {
+    use super::*;
+    use crate::accounts::write_account;
+    use mg_disk::BLOCK_SIZE;
+
+    #[test]
+    fn objects_in_a_block(rt: HostRuntime) {
+        let first = ObjRow::new(1 << 32, 1, 2);
+        let second = ObjRow::new(1 << 33, 2, 3);
+        let mut block = [9; BLOCK_SIZE];
+        put_object(Some(&first), 0, &mut block);
+        put_object(Some(&second), 3, &mut block);
+        put_object(None, 1, &mut block);
+        assert_eq!(rt; object_in(&block, 0), Some(Spelled::Row(first)));
+        assert_eq!(rt; object_in(&block, 1), Some(Spelled::Free));
+        assert_eq!(rt; object_in(&block, 2), None);
+        assert_eq!(rt; object_in(&block, 3), Some(Spelled::Row(second)));
+        assert_eq!(rt; [block[0], block[3072], block[3072 + 16]], [1, 1, 2]);
+    }
+
+    #[test]
+    fn accounts_in_a_block(rt: HostRuntime) {
+        let row = AccRow {
+            password: 0x0102,
+            balance: 7,
+            owed: 256,
+        };
+        let mut block = [0; BLOCK_SIZE];
+        write_account(Some(&row), &mut block[64 * 63..]);
+        block[64 * 2] = 9;
+        assert_eq!(rt; account_in(&block, 1), Some(Spelled::Free));
+        assert_eq!(rt; account_in(&block, 2), None);
+        assert_eq!(rt; account_in(&block, 63), Some(Spelled::Row(row)));
+    }
+}
