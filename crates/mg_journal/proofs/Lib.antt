@@ -3,3 +3,5 @@ mod Bodies
 mod Lookups
 mod OpenSteps
 mod RecoverSteps
+mod Spliced
+mod Waits

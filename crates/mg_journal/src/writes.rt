@@ -1,7 +1,8 @@
 // Writes that wait for a commit.
-ghost use Rattle.std.specs.Prelude.{◌≡◌, ◌<◌, ◌≤◌, ◌⊎◌, [], ◌∷◌, ◌++◌, IfOk, IsSome, MatchOption, None, Some, find, length, option_copied, position};
+ghost use Rattle.std.specs.Prelude.{◌≡◌, ◌<◌, ◌≤◌, ◌⊎◌, ◌+◌, [], ◌∷◌, ◌++◌, IfOk, IfSome, IsSome, MatchOption, None, Some, find, is_some, length, option_copied, position, slice_set};
+ghost use Rattle.std.specs.List.{splice};
 ghost use Rattle.mg_model.specs.Layout.{body_limit};
-ghost use Rattle.mg_journal.specs.Staged.{goes_to, staged, waiting};
+ghost use Rattle.mg_journal.specs.Staged.{bytes_of, goes_to, home_at, staged, waiting};
 
 use mg_disk::Block;
 use std::alloc::{AllocError, Global};
@@ -87,6 +88,32 @@ impl Writes {
         }
     }
 
+    /// Puts 8 bytes at a byte offset, 0 to 4,088, into what waits for this block, and says whether anything does.
+    pub fn put(&mut self, block: u64, at: usize, word: &[u8; 8]) -> bool
+        requires within { at + 8 ≤ 4096 }
+        ensures waits { result ≡ is_some (waiting self.old block) }
+        ensures put { MatchOption (waiting self.old block) (self.new ≡ self.old) (λ bytes. self.new ≡ staged self.old block (splice bytes at (at + 8) word.now)) }
+        ensures whole { IfSome (waiting self.old block) (λ bytes. length bytes ≡ 4096) }
+    {
+        match self.place_of(block) {
+            Some(place) => {
+                self.put_into(place, at, word);
+                true
+            }
+            None => false,
+        }
+    }
+
+    // Puts 8 bytes at an offset into the k-th write.
+    fn put_into(&mut self, k: usize, at: usize, word: &[u8; 8])
+        requires there { k < length self.old }
+        requires within { at + 8 ≤ 4096 }
+        ensures put { self.new ≡ slice_set self.old k (home_at self.old k, splice (bytes_of self.old k) at (at + 8) word.now) }
+        ensures whole { length (bytes_of self.old k) ≡ 4096 }
+    {
+        put_bytes(&mut self.items[k].1, at, word);
+    }
+
     // Stages a write behind the others.
     fn add(&mut self, block: u64, from: &Block)
         requires room { length self.old < body_limit }
@@ -102,5 +129,38 @@ impl Writes {
         ensures { self.new ≡ [] }
     {
         self.items.clear();
+    }
+}
+
+// Puts 8 bytes at an offset into a block.
+#[tactic(auto, using(crate::proofs::Spliced::spliced))]
+fn put_bytes(block: &mut Block, at: usize, bytes: &[u8; 8])
+    requires { at + 8 ≤ 4096 }
+    ensures put { block.new ≡ splice block.old at (at + 8) bytes.now }
+    ensures whole { length block.old ≡ 4096 }
+{
+    block[at..at + 8].copy_from_slice(bytes);
+}
+
+#[cfg(test)]
+mod tests {
+    use super::Writes;
+    use mg_disk::BLOCK_SIZE;
+    use std::alloc::AllocError;
+
+    #[test]
+    fn words_are_put_in_place(rt: HostRuntime) -> Result<(), AllocError> {
+        let mut writes = Writes::new(rt.alloc())?;
+        writes.stage(7, &[1; BLOCK_SIZE]);
+        writes.stage(8, &[2; BLOCK_SIZE]);
+        assert!(rt; writes.put(8, 4088, &[3; 8]));
+        assert!(rt; !writes.put(9, 0, &[4; 8]));
+        let mut changed = [2; BLOCK_SIZE];
+        changed[4088..].fill(3);
+        assert!(rt; writes.get(7) == Some(&[1; BLOCK_SIZE]));
+        assert!(rt; writes.get(8) == Some(&changed));
+        assert!(rt; writes.get(9).is_none());
+        assert_eq!(rt; writes.len(), 2);
+        Ok(())
     }
 }

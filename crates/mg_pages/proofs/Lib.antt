@@ -13,6 +13,7 @@ pub mod PageWords
 pub mod Places
 pub mod Released
 pub mod Sound
+pub mod Spliced
 pub mod StagedTables
 pub mod Staging
 pub mod Stored

@@ -1,13 +1,10 @@
 -- The words of a block one by one.
-use Rattle.std.specs.Prelude.{◌≡◌, ◌≢◌, ◌+◌, ◌*◌, ◌<◌, ℕ, zero, suc, List, length, slice_set}
-use Rattle.std.proofs.Common.{refl, sym, ap, ◌∙◌, ⊎_elim, arith, get_or}
+use Rattle.std.specs.Prelude.{◌≡◌, ◌≢◌, ◌+◌, ◌*◌, ◌<◌, ℕ, zero, suc, List, slice_set}
+use Rattle.std.proofs.Common.{sym, ap, ◌∙◌, ⊎_elim, arith, get_or}
 use Rattle.std.proofs.lemmas.Bool.{cases_eq}
 use Rattle.std.proofs.lemmas.List.{ext_get_or, get_or-set_other, get_or-set_same, length-set}
 use Rattle.mg_model.specs.Bytes.{block_words, number_at, numbers_at}
-
-pub length-numbers : (bytes : List ℕ) (from n : ℕ) → length (numbers_at bytes from n) ≡ n
-length-numbers bytes from zero = refl
-length-numbers bytes from (suc n) = ap suc (length-numbers bytes (from + 8) n)
+use Rattle.mg_pages.specs.Lengths.{length-numbers}
 
 pub number-of : (bytes : List ℕ) (from n i : ℕ) → i < n → get_or (numbers_at bytes from n) i 0 ≡ number_at bytes (from + 8 * i)
 number-of bytes from zero i below = absurd (omega arith)
@@ -43,6 +40,3 @@ block-set old new k word below is others = numbers-set 512 old new k word below 
 
 pub block-word : (bytes : List ℕ) (i : ℕ) → i < 512 → number_at bytes (8 * i) ≡ get_or (block_words bytes) i 0
 block-word bytes i below = let e : 0 + 8 * i ≡ 8 * i = omega arith in sym (number-of bytes 0 512 i below ∙ ap (number_at bytes) e)
-
-pub length-block : (bytes : List ℕ) → length (block_words bytes) ≡ 512
-length-block bytes = length-numbers bytes 0 512

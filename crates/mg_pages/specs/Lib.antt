@@ -3,6 +3,7 @@ pub mod Committing
 pub mod Entries
 pub mod Held
 pub mod Laws
+pub mod Lengths
 pub mod Meaning
 pub mod Once
 pub mod Parts

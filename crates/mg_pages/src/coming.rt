@@ -1,5 +1,5 @@
-// What a block will hold once what is staged is committed.
-ghost use Rattle.std.specs.Prelude.{◌≡◌, ◌≢◌, ◌≤◌, ◌<◌, ◌*◌, true, IfOk, IsSomeAnd, MatchOption, None, OnErr, OnOk, length, slice_index};
+// What a word will be once what is staged is committed.
+ghost use Rattle.std.specs.Prelude.{◌≡◌, ◌≢◌, ◌≤◌, ◌<◌, ◌*◌, true, IfOk, IsSomeAnd, MatchOption, None, OnErr, length, slice_index};
 ghost use Rattle.std.specs.Option.{ForSome};
 ghost use Rattle.mg_disk.specs.Disk.{block_at};
 ghost use Rattle.mg_disk.specs.Stops.{CountGoes, CountRose, WritesNothing};
@@ -13,37 +13,10 @@ ghost use Rattle.mg_pages.specs.Parts.{coming_of};
 
 use crate::table::frame_block;
 use crate::words::word_at;
-use mg_disk::{BLOCK_SIZE, Block, Disk};
+use mg_disk::{BLOCK_SIZE, Disk};
 use mg_faults::Failed;
 use mg_frames::Frames;
 use mg_journal::{Store, Writes};
-
-/// Gives a block as it will be: the staged one, else that of the volume.
-pub(crate) fn coming_block<D: Disk>(
-    store: &Store,
-    writes: &Writes,
-    disk: &mut D,
-    block: u64,
-    out: &mut Block,
-) -> Result<(), Failed>
-    requires stands { Stands D.Disk store.now disk.old }
-    requires place { block < total_of store.now }
-    requires once { are_once writes.now ≡ true }
-    ensures block { OnOk result (ForSome (D.seen disk.old) (λ image. out.new ≡ block_at (coming_of store.now writes.now image) block)) }
-    ensures stands { Stands D.Disk store.now disk.new }
-    ensures writes { WritesNothing D.Disk disk.old disk.new }
-    ensures cause { OnErr result (CountRose D.Disk disk.old disk.new) }
-    ensures count { CountGoes D.Disk disk.old disk.new }
-    ensures blocks { D.block_count disk.new ≡ D.block_count disk.old }
-{
-    match writes.get(block) {
-        Some(bytes) => {
-            *out = *bytes;
-            Ok(())
-        }
-        None => store.read(disk, block, out),
-    }
-}
 
 /// The word at an index of a block as it will be. A staged block is not copied.
 pub(crate) fn coming_word<D: Disk>(

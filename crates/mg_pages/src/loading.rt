@@ -10,13 +10,12 @@ ghost use Rattle.mg_model.specs.Volume.{bound_pages, table_of};
 ghost use Rattle.mg_pages.specs.Meaning.{IsTable, replayed};
 ghost use Rattle.mg_pages.specs.Parts.{bound_at, bound_from};
 
-use crate::table::TABLE_BLOCK;
 use crate::words::word_at;
 use mg_disk::{BLOCK_SIZE, Block, Disk};
 use mg_faults::Failed;
 use mg_frames::Frames;
 use mg_journal::Store;
-use mg_layout::Geometry;
+use mg_layout::{Geometry, TABLE_BLOCK};
 
 /// Binds the pages that the frame table of the disk names. Each of its blocks is read once.
 pub(crate) fn load_entries<D: Disk>(

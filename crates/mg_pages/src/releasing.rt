@@ -5,10 +5,10 @@ ghost use Rattle.mg_model.specs.Layout.{body_limit, table_blocks};
 ghost use Rattle.mg_pages.specs.Once.{are_once};
 ghost use Rattle.mg_pages.specs.Parts.{StagesTable};
 
-use crate::table::{TABLE_BLOCK, entries_block};
+use crate::table::entries_block;
 use mg_frames::Frames;
 use mg_journal::Writes;
-use mg_layout::Geometry;
+use mg_layout::{Geometry, TABLE_BLOCK};
 
 /// The most blocks that a frame table has.
 const MOST_BLOCKS: usize = 128;

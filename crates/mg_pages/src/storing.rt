@@ -1,22 +1,23 @@
 // A store to a word of a page, as blocks that are staged.
-ghost use Rattle.std.specs.Prelude.{◌≡◌, ◌≢◌, ◌⊎◌, ◌+◌, ◌/◌, ◌≤◌, ◌<◌, ◌==◌, IsSome, OnErr, OnOk, false, length, position, replicate, slice_set, true};
+ghost use Rattle.std.specs.Prelude.{◌≡◌, ◌≢◌, ◌⊎◌, ◌+◌, ◌/◌, ◌≤◌, ◌<◌, ◌==◌, IsSome, MatchOption, OnErr, OnOk, false, is_some, length, position, replicate, slice_set, true};
 ghost use Rattle.std.specs.List.{list_any};
 ghost use Rattle.std.specs.Option.{ForSome};
 ghost use Rattle.mg_disk.specs.Disk.{block_at};
 ghost use Rattle.mg_disk.specs.Stops.{CountGoes, CountRose, WritesNothing};
+ghost use Rattle.mg_journal.specs.Staged.{waiting};
 ghost use Rattle.mg_journal.specs.Standing.{Stands, total_of};
 ghost use Rattle.mg_model.specs.Bytes.{block_words};
 ghost use Rattle.mg_model.specs.Layout.{body_limit, total_blocks};
 ghost use Rattle.mg_pages.specs.Once.{are_once};
 ghost use Rattle.mg_pages.specs.Parts.{Begins, Stores, StagesBlock, coming_of};
 
-use crate::coming::coming_block;
-use crate::table::{TABLE_BLOCK, entries_block, frame_block};
+use crate::table::{entries_block, frame_block};
 use crate::words::put_word;
 use mg_disk::{BLOCK_SIZE, Disk};
 use mg_faults::Failed;
 use mg_frames::Frames;
 use mg_journal::{Store, Writes};
+use mg_layout::TABLE_BLOCK;
 
 /// Puts a word at an index of a page. [`Failed`] comes from a read, before anything is changed.
 pub(crate) fn store_word<D: Disk>(
@@ -83,8 +84,11 @@ fn change<D: Disk>(
     ensures count { CountGoes D.Disk disk.old disk.new }
     ensures blocks { D.block_count disk.new ≡ D.block_count disk.old }
 {
+    if put_staged(writes, block, index, value) {
+        return Ok(());
+    }
     let mut bytes = [0; BLOCK_SIZE];
-    match coming_block(store, writes, disk, block, &mut bytes) {
+    match store.read(disk, block, &mut bytes) {
         Ok(()) => {
             put_word(&mut bytes, index, value);
             writes.stage(block, &bytes);
@@ -92,6 +96,16 @@ fn change<D: Disk>(
         }
         Err(Failed) => Err(Failed),
     }
+}
+
+// Puts a word into a block in place, if it is staged, and says whether it is.
+fn put_staged(writes: &mut Writes, block: u64, index: u64, value: u64) -> bool
+    requires { index < 512 }
+    ensures waits { result ≡ is_some (waiting writes.old block) }
+    ensures put { MatchOption (waiting writes.old block) (writes.new ≡ writes.old) (λ old. StagesBlock writes.old writes.new block (λ bytes.
+        block_words bytes ≡ slice_set (block_words old) index value)) }
+{
+    writes.put(block, 8 * index as usize, &value.to_le_bytes())
 }
 
 // Binds a page to the lowest free frame and stages the frame's block, zeros but for one word, and the frame table's block.

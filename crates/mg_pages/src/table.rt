@@ -5,10 +5,7 @@ ghost use Rattle.mg_pages.specs.Entries.{HoldsEntries};
 
 use crate::words::put_word;
 use mg_disk::{BLOCK_SIZE, Block};
-use mg_layout::Geometry;
-
-/// The first block of the frame table.
-pub(crate) const TABLE_BLOCK: u64 = 2595;
+use mg_layout::{Geometry, TABLE_BLOCK};
 
 /// How many entries a block of the frame table has.
 const ENTRIES: usize = 512;

@@ -2,7 +2,8 @@ use Rattle.std.proofs.Common.{◌<◌, ◌≤◌, ◌+◌, ◌∙◌, ap, arith,
 use Rattle.std.proofs.lemmas.List.{take_all}
 use Rattle.mg_model.specs.Bytes.{block_words}
 use Rattle.mg_pages.proofs.Binding.{bound-more, elsewhere-bound_at}
-use Rattle.mg_pages.proofs.Numbers.{block-word, length-block}
+use Rattle.mg_pages.proofs.Numbers.{block-word}
+use Rattle.mg_pages.specs.Lengths.{length-block}
 use Rattle.mg_pages.specs.Parts.{bound_at, bound_from}
 use Rattle.mg_pages.proofs.loading.bind_entries.Goals as goal
 

@@ -1,0 +1,47 @@
+-- What waits for a block, by the place of the write to it.
+use Rattle.std.specs.Prelude.{◌≡◌, ◌<◌, ℕ, List, [], ◌∷◌, ◌++◌, length, option_map, position, slice_set, Some, None}
+use Rattle.std.specs.List.{position_or_len, slice_get}
+use Rattle.std.specs.Option.{option_map_or}
+use Rattle.std.proofs.Common.{ap, cond, sym, ◌∙◌, ⊎_elim, arith}
+use Rattle.std.proofs.lemmas.Bool.{eqb-true, lt-ltb}
+use Rattle.std.proofs.lemmas.List.Folds.{find_at}
+use Rattle.std.proofs.lemmas.List.Quantifiers.{position-Some}
+use Rattle.std.proofs.lemmas.List.Sums.{position_or_len_is}
+use Rattle.std.proofs.lemmas.Option.{none-some, slice_get-get_or, slice_get_cases}
+use Rattle.mg_journal.specs.Staged.{bytes_of, goes_to, home_at, staged, waiting}
+
+module _ (writes : List (ℕ × List ℕ)) (block : ℕ) where
+  abbrev first : ℕ
+  first = position_or_len (goes_to block) writes
+
+  by-place : waiting writes block ≡ option_map (λ (write : ℕ × List ℕ). write.1) (slice_get writes first)
+  by-place = ap (option_map (λ (write : ℕ × List ℕ). write.1)) (find_at (goes_to block) writes)
+
+  pub waits-none : position (goes_to block) writes ≡ None → waiting writes block ≡ None
+  waits-none none =
+      by-place
+      ∙ ap (option_map (λ (write : ℕ × List ℕ). write.1))
+      (⊎_elim (λ there. absurd (clash (ap (λ b. cond b (Some first) None) (lt-ltb first (length writes) there.1)))) (λ past. past.1) (slice_get_cases writes first).1)
+    where
+      clash : position (goes_to block) writes ≡ Some first → ⊥
+      clash some = none-some first (sym none ∙ some)
+
+  module _ (place : ℕ) (is : position (goes_to block) writes ≡ Some place) where
+    pub place-below : place < length writes
+    place-below = (position-Some (goes_to block) writes place (0, []) is).0
+
+    home-there : home_at writes place ≡ block
+    home-there = eqb-true (home_at writes place) block (position-Some (goes_to block) writes place (0, []) is).1
+
+    pub waits-there : waiting writes block ≡ Some (bytes_of writes place)
+    waits-there =
+        let parts = position-Some (goes_to block) writes place (0, []) is in
+        let first-is : first ≡ place = position_or_len_is (goes_to block) writes place (0, []) (omega arith) parts.2 (λ _. parts.1) in
+        by-place
+        ∙ ap (λ i. option_map (λ (write : ℕ × List ℕ). write.1) (slice_get writes i)) first-is
+        ∙ ap (option_map (λ (write : ℕ × List ℕ). write.1)) (slice_get-get_or writes place (0, []) parts.0)
+
+    pub staged-there : (bytes : List ℕ) → slice_set writes place (home_at writes place, bytes) ≡ staged writes block bytes
+    staged-there bytes =
+        ap (λ home. slice_set writes place (home, bytes)) home-there
+        ∙ ap (λ o. option_map_or (λ k. slice_set writes k (block, bytes)) o (writes ++ (block, bytes) ∷ [])) (sym is)
