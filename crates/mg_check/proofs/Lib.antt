@@ -2,10 +2,8 @@ pub mod AccountSums
 pub mod Apart
 pub mod Covered
 pub mod Entries
-pub mod LiveRows
 pub mod MoreRows
 pub mod NoRows
 pub mod ObjectOrder
-pub mod ReadRuns
 pub mod SettledVolume
 pub mod StateFits

@@ -1,5 +1,7 @@
 pub mod AccountsTold
+pub mod LiveRows
 pub mod ObjectsTold
+pub mod ReadRuns
 pub mod Reads
 pub mod RowsTold
 pub mod Settled

@@ -1,33 +1,29 @@
 // The accounts of a volume.
-ghost use Rattle.std.specs.Prelude.{◌≡◌, ◌≢◌, ◌≤◌, ◌<◌, ◌+◌, ◌*◌, ◌%◌, ◌==◌, ◌&&◌, nat_le, ◌++◌, ◌∷◌, [], ℕ, List, None, IfOk, OnOk};
+ghost use Rattle.std.specs.Prelude.{◌≡◌, ◌≢◌, ◌≤◌, ◌<◌, ◌+◌, ◌%◌, ◌==◌, ◌&&◌, nat_le, ◌++◌, ◌∷◌, [], ℕ, List, None, IfOk, OnOk};
 ghost use Rattle.std.specs.Option.{ForSome};
 ghost use Rattle.mg_disk.specs.Stops.{CountRose};
-ghost use Rattle.mg_model.specs.Bytes.{bytes_at};
 ghost use Rattle.mg_model.specs.Layout.{account_rows, table_block};
 ghost use Rattle.mg_model.specs.Spelling.{Read, account_read};
 ghost use Rattle.mg_model.specs.Volume.{account_row_bytes};
-ghost use Rattle.mg_rows.specs.Answers.{as_read};
+ghost use Rattle.mg_rows.specs.Blocks.{account_in};
 ghost use Rattle.mg_check.specs.Reads.{CanRead, OnlyRead, contents};
 ghost use Rattle.mg_check.specs.AccountsTold.{AreAccounts, AreFew};
 ghost use Rattle.mg_check.specs.Told.{IsTold, NotSpelled};
 
 use crate::faults::RowFault;
-use crate::places::FIRST_ACCOUNT_BLOCK;
 use crate::reading::turn_to;
 use mg_disk::{BLOCK_SIZE, Block, Disk};
 use mg_faults::Failed;
 use mg_journal::View;
+use mg_layout::FIRST_ACCOUNT_BLOCK;
 use mg_model::AccRow;
-use mg_rows::{Spelled, read_account};
+use mg_rows::{Spelled, account_in};
 
 /// How many rows the table of accounts has.
 const ROWS: u64 = 1024;
 
 /// How many rows a block has.
 const IN_BLOCK: u64 = 64;
-
-/// The bytes of a row.
-const ROW: usize = 64;
 
 /// What is kept of the live accounts.
 #[derive(Clone, Copy)]
@@ -60,12 +56,12 @@ impl AccountsSeen {
     fn take(&mut self, i: u64, block: &Block, limit: u64) -> Result<(), RowFault>
         requires place { i < account_rows }
         requires few { AreFew i self.old }
-        ensures told { OnOk result ((read : ℕ → Read AccRow) → read i ≡ account_read (bytes_at block.now (64 * (i % 64)) 64) → IsTold read i (AreAccounts limit self.old) → IsTold read (i + 1) (AreAccounts limit self.new)) }
-        ensures damaged { result ≡ Err RowFault.Damaged → account_read (bytes_at block.now (64 * (i % 64)) 64) ≡ None }
+        ensures told { OnOk result ((read : ℕ → Read AccRow) → read i ≡ account_in block.now (i % 64) → IsTold read i (AreAccounts limit self.old) → IsTold read (i + 1) (AreAccounts limit self.new)) }
+        ensures damaged { result ≡ Err RowFault.Damaged → account_in block.now (i % 64) ≡ None }
         ensures no_disk { result ≢ Err RowFault.Disk }
         ensures few { OnOk result (AreFew (i + 1) self.new) }
     {
-        match row_in(block, i) {
+        match account_in(block, i % IN_BLOCK) {
             Some(Spelled::Row(row)) => {
                 self.add(i, &row, limit);
                 Ok(())
@@ -81,14 +77,6 @@ impl AccountsSeen {
     {
         self.gapless && (self.count >= 1 && self.sum == u128::from(credits) && self.within)
     }
-}
-
-// What row `i` of the table spells; this is its block.
-fn row_in(block: &Block, i: u64) -> Option<Spelled<AccRow>>
-    ensures { as_read result ≡ account_read (bytes_at block.now (64 * (i % 64)) 64) }
-{
-    let at = ROW * (i % IN_BLOCK) as usize;
-    read_account(&block[at..at + ROW])
 }
 
 /// Reads all accounts, of which each may owe so much at most.

@@ -14,12 +14,11 @@ ghost use Rattle.mg_model.specs.Volume.{Damaged, NotVolume, OldVolume, settled_v
 ghost use Rattle.mg_model.specs.VolumeReads.{gate_byte};
 
 use crate::faults::RowFault;
-use crate::places::{GATE_BLOCK, GATE_OPEN, SUPER_BLOCK};
 use crate::tables::tell_rows;
 use mg_disk::{BLOCK_SIZE, Disk};
 use mg_faults::Failed;
 use mg_journal::{View, ViewFault};
-use mg_layout::{Geometry, Super, read_super};
+use mg_layout::{GATE_BLOCK, GATE_OPEN, Geometry, SUPER_BLOCK, Super, read_super};
 use mg_model::Params;
 use std::alloc::Global;
 use thiserror::Error;

@@ -8,7 +8,6 @@ mod accounts;
 mod examining;
 mod faults;
 mod objects;
-mod places;
 mod reading;
 mod sorted;
 mod table;

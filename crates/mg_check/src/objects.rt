@@ -1,27 +1,26 @@
 // The objects of a volume.
-ghost use Rattle.std.specs.Prelude.{◌≡◌, ◌≢◌, ◌≤◌, ◌<◌, ◌+◌, ◌*◌, ◌%◌, ◌&&◌, ◌++◌, ◌∷◌, [], ℕ, List, None, IfOk, OnOk, nat_le, true};
+ghost use Rattle.std.specs.Prelude.{◌≡◌, ◌≢◌, ◌≤◌, ◌<◌, ◌+◌, ◌%◌, ◌&&◌, ◌++◌, ◌∷◌, [], ℕ, List, None, IfOk, OnOk, nat_le, true};
 ghost use Rattle.std.specs.Option.{ForSome};
 ghost use Rattle.mg_disk.specs.Stops.{CountRose};
-ghost use Rattle.mg_model.specs.Bytes.{bytes_at};
 ghost use Rattle.mg_model.specs.Layout.{object_rows, table_block};
 ghost use Rattle.mg_model.specs.Spelling.{Read, object_read};
 ghost use Rattle.mg_model.specs.State.{ObjectRow};
 ghost use Rattle.mg_model.specs.Volume.{object_row_bytes};
-ghost use Rattle.mg_rows.specs.Answers.{as_read};
+ghost use Rattle.mg_rows.specs.Blocks.{object_in};
 ghost use Rattle.mg_check.specs.ObjectsTold.{AreObjects, AreSome};
 ghost use Rattle.mg_check.specs.Reads.{CanRead, OnlyRead, contents};
 ghost use Rattle.mg_check.specs.Spans.{apart_from, ordered_from};
 ghost use Rattle.mg_check.specs.Told.{IsTold, NotSpelled};
 
 use crate::faults::RowFault;
-use crate::places::FIRST_OBJECT_BLOCK;
 use crate::reading::turn_to;
 use crate::sorted::are_apart;
 use mg_disk::{BLOCK_SIZE, Block, Disk};
 use mg_faults::Failed;
 use mg_journal::View;
+use mg_layout::FIRST_OBJECT_BLOCK;
 use mg_model::ObjRow;
-use mg_rows::{Spelled, read_object};
+use mg_rows::{Spelled, object_in};
 use std::alloc::Global;
 
 /// How many rows the table of objects has.
@@ -29,9 +28,6 @@ const ROWS: u64 = 4096;
 
 /// How many rows a block has.
 const IN_BLOCK: u64 = 4;
-
-/// The bytes of a row.
-const ROW: usize = 1024;
 
 /// The bytes of a page.
 const PAGE: u64 = 4096;
@@ -88,12 +84,12 @@ impl ObjectsSeen {
     fn take(&mut self, i: u64, block: &Block, accounts: u64) -> Result<(), RowFault>
         requires place { i < object_rows }
         requires some { AreSome i self.old }
-        ensures told { OnOk result ((read : ℕ → Read ObjectRow) → read i ≡ object_read (bytes_at block.now (1024 * (i % 4)) 1024) → IsTold read i (AreObjects accounts self.old) → IsTold read (i + 1) (AreObjects accounts self.new)) }
-        ensures damaged { result ≡ Err RowFault.Damaged → object_read (bytes_at block.now (1024 * (i % 4)) 1024) ≡ None }
+        ensures told { OnOk result ((read : ℕ → Read ObjectRow) → read i ≡ object_in block.now (i % 4) → IsTold read i (AreObjects accounts self.old) → IsTold read (i + 1) (AreObjects accounts self.new)) }
+        ensures damaged { result ≡ Err RowFault.Damaged → object_in block.now (i % 4) ≡ None }
         ensures some { OnOk result (AreSome (i + 1) self.new) }
         ensures no_disk { result ≢ Err RowFault.Disk }
     {
-        match row_in(block, i) {
+        match object_in(block, i % IN_BLOCK) {
             Some(spelled) => match spelled {
                 Spelled::Row(row) => self.add(i, &row, accounts),
                 Spelled::Free => Ok(()),
@@ -118,14 +114,6 @@ impl ObjectsSeen {
     {
         are_apart(&self.spans) && self.paid && self.used <= frames
     }
-}
-
-// What row `i` of the table spells; this is its block.
-fn row_in(block: &Block, i: u64) -> Option<Spelled<ObjRow>>
-    ensures { as_read result ≡ object_read (bytes_at block.now (1024 * (i % 4)) 1024) }
-{
-    let at = ROW * (i % IN_BLOCK) as usize;
-    read_object(&block[at..at + ROW])
 }
 
 /// Reads all objects; there are so many accounts. The spans come in order.

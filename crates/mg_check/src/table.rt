@@ -10,12 +10,12 @@ ghost use Rattle.mg_check.specs.Spans.{IsSome, apart_from, is_in, ordered_from, 
 ghost use Rattle.mg_check.specs.TableTold.{AreBound, HasRest, IsTable, entry_in};
 
 use crate::faults::RowFault;
-use crate::places::TABLE_BLOCK;
 use crate::reading::turn_to;
 use crate::sorted::{lies_in, rise};
 use mg_disk::{BLOCK_SIZE, Block, Disk};
 use mg_faults::Failed;
 use mg_journal::View;
+use mg_layout::TABLE_BLOCK;
 use std::alloc::Global;
 
 /// How many entries a block has.

@@ -12,12 +12,12 @@ ghost use Rattle.mg_check.specs.ThreadsTold.{AreThreads};
 ghost use Rattle.mg_check.specs.Told.{IsTold, NotSpelled};
 
 use crate::faults::RowFault;
-use crate::places::FIRST_THREAD_BLOCK;
 use crate::reading::read_block;
 use crate::sorted::rise;
 use mg_disk::{BLOCK_SIZE, Block, Disk};
 use mg_faults::Failed;
 use mg_journal::View;
+use mg_layout::FIRST_THREAD_BLOCK;
 use mg_model::ThrRow;
 use mg_rows::{Spelled, read_thread};
 use std::alloc::Global;

@@ -1,10 +1,8 @@
 -- A test of all pages that frames hold, frame by frame.
-use Rattle.std.specs.Prelude.{◌≡◌, ℕ, zero, suc, ◌+◌, ◌<◌, ◌==◌, ◌&&◌, ◌||◌, nat_le, not, Bool, true, false, List, [], ◌∷◌, if◌then◌else◌, length, slice_index, slice_index_or, sum_by, take}
+use Rattle.std.specs.Prelude.{◌≡◌, ℕ, zero, suc, ◌<◌, ◌==◌, ◌&&◌, ◌||◌, not, Bool, true, false, List, [], ◌∷◌, if◌then◌else◌, length, slice_index, take}
 use Rattle.std.specs.List.{list_all}
 use Rattle.std.proofs.Common.{refl, sym, ap, subst, ◌∙◌, arith, ⊎_elim}
-use Rattle.std.proofs.lemmas.Bool.{and_from, and_left, and_parts, and_right, cases_Bool, lt-leb}
-use Rattle.std.proofs.lemmas.List.Sums.{sum_by-take-le, sum_by_more}
-use Rattle.mg_model.specs.State.{ObjectRow}
+use Rattle.std.proofs.lemmas.Bool.{and_from, and_left, and_parts, and_right, cases_Bool}
 use Rattle.mg_model.specs.Volume.{bound_pages}
 
 -- a frame that holds none passes
@@ -32,12 +30,3 @@ pub all_fails : (test : ℕ → Bool) (xs : List ℕ) (i : ℕ) → i < length x
 all_fails test [] i below here = absurd (omega arith)
 all_fails test (x ∷ xs) zero below here = and_left (test x) (list_all test xs) here
 all_fails test (x ∷ xs) (suc i) below here = and_right (test x) (list_all test xs) (all_fails test xs i (omega arith) here)
-
--- pages that are taken off one object after the other
-module _ (objects : List (ℕ × ObjectRow)) where
-  pub too_many : (left frames i pages : ℕ) (d : ℕ × ObjectRow) → left + sum_by (λ (o : ℕ × ObjectRow). o.1.pages) (take i objects) ≡ frames → i < length objects → pages ≡ (slice_index_or objects i d).1.pages → left < pages
-      → nat_le (sum_by (λ (o : ℕ × ObjectRow). o.1.pages) objects) frames ≡ false
-  too_many left frames i pages d so_far below here more =
-      let a = sum_by_more (λ (o : ℕ × ObjectRow). o.1.pages) objects i d below in
-      let b = sum_by-take-le (λ (o : ℕ × ObjectRow). o.1.pages) objects (i + 1) in
-      lt-leb (sum_by (λ (o : ℕ × ObjectRow). o.1.pages) objects) frames (omega arith)

@@ -1,9 +1,8 @@
 -- The rows of a volume, once they are held, are what its image spells.
-use Rattle.std.specs.Prelude.{◌≡◌, ℕ, ◌&&◌, ◌||◌, ◌+◌, nat_le, Bool, true, List, [], ◌∷◌, length, map, sum_by, Some}
+use Rattle.std.specs.Prelude.{◌≡◌, ℕ, ◌&&◌, ◌||◌, Bool, true, List, [], ◌∷◌, length, map, Some}
 use Rattle.std.specs.List.{list_all, list_any}
 use Rattle.std.proofs.Common.{refl, sym, ap, ◌∙◌}
 use Rattle.std.proofs.lemmas.Bool.{and_from, and_parts}
-use Rattle.std.proofs.lemmas.List.Sums.{sum_by-cons}
 use Rattle.mg_disk.specs.Disk.{Image}
 use Rattle.mg_model.specs.declared.accounts.AccRow.{AccRow}
 use Rattle.mg_model.specs.Layout.{account_rows, globals_block, object_rows, thread_rows}
@@ -19,9 +18,9 @@ use Rattle.mg_pages.specs.Meaning as pages
 use Rattle.mg_pages.specs.Meaning.{IsTable}
 use Rattle.mg_volume.specs.Contents.{IsSet, volume_of_replay}
 use Rattle.mg_volume.specs.Laws.{now_rows}
-use Rattle.mg_volume.specs.Loading.{AreLoaded, HasBadRows, IsLoaded, are_few, are_inside, has_page_in, held, is_in, spans_of}
-use Rattle.mg_volume.specs.Meaning.{IsSpelledBy, Spelled, is_page_in, is_sound, now_of, objects_in, threads_in}
-use Rattle.mg_volume.specs.Sound.{coming_kept, rows_apart, rows_fit, sound_is}
+use Rattle.mg_volume.specs.Loading.{AreLoaded, HasBadRows, IsLoaded, are_inside, has_page_in, held, is_in, spans_of}
+use Rattle.mg_volume.specs.Meaning.{IsSpelledBy, Spelled, is_page_in, is_sound, now_of, objects_in}
+use Rattle.mg_volume.specs.Sound.{coming_kept, is_sound_held, sound_is}
 use Rattle.mg_volume.specs.declared.tables.Tables.{Tables}
 use Rattle.mg_volume.proofs.Replayed.{Rests, row_parts}
 
@@ -37,13 +36,6 @@ in-spans page (o ∷ objects) = ap (λ t. is_page_in page o.1 || t) (in-spans pa
 pub all-same : (p q : ℕ → Bool) → ((x : ℕ) → p x ≡ q x) → (xs : List ℕ) → list_all p xs ≡ list_all q xs
 all-same p q same [] = refl
 all-same p q same (x ∷ xs) = ap (λ t. t && list_all p xs) (same x) ∙ ap (λ t. q x && t) (all-same p q same xs)
-
-sum-rows : (objects : List (ℕ × ObjectRow)) → sum_by (λ (o : ℕ × ObjectRow). o.1.pages) objects ≡ sum_by (λ (row : ObjectRow). row.pages) (map (λ (o : ℕ × ObjectRow). o.1) objects)
-sum-rows [] = refl
-sum-rows (o ∷ objects) =
-    sum_by-cons (λ (o : ℕ × ObjectRow). o.1.pages) o objects
-    ∙ ap (λ n. o.1.pages + n) (sum-rows objects)
-    ∙ sym (sum_by-cons (λ (row : ObjectRow). row.pages) o.1 (map (λ (o : ℕ × ObjectRow). o.1) objects))
 
 -- the rules that the rows of a volume keep
 pub record Keeps (rows : Rows) (state : State) : Type 0 where
@@ -117,20 +109,9 @@ module _ (settings : Settings) (now : Image) (rs : Rests settings now) where
     pub is_loaded : IsLoaded (held settings counters tables p) now
     is_loaded = record { kept = state_spelled rs.r settings rs.rows; is = rs.is; now = now-is; sound = rules.sound }
 
-    -- its objects have few enough pages
-    few : are_few (held settings counters tables p) ≡ true
-    unfolding objects_in
-    few =
-        let v = held settings counters tables p in
-        let objects = map (λ (o : ℕ × ObjectRow). o.1) tables.objects.items in
-        let a = accounts_fit settings.credits counters.period tables.accounts.items in
-        let o = rows_fit settings.frames (length tables.accounts.items) objects in
-        let t = threads_fit counters.births (threads_in v) in
-        let sound : (a && o && t) ≡ true = sym (sound_is v now) ∙ ap is_sound now-is ∙ rules.sound in
-        let fit : o ≡ true = (and_parts a o (and_parts (a && o) t sound).0).1 in
-        let apart = rows_apart objects && list_all (λ (row : ObjectRow). nat_le row.account (length tables.accounts.items)) objects in
-        let last = and_parts apart (nat_le (sum_by (λ (row : ObjectRow). row.pages) objects) settings.frames) fit in
-        ap (λ n. nat_le n settings.frames) (sum-rows tables.objects.items) ∙ last.1
+    -- it is sound
+    sound : is_sound_held (held settings counters tables p) ≡ true
+    sound = sym (sound_is (held settings counters tables p) now) ∙ ap is_sound now-is ∙ rules.sound
 
     rows-are : map (λ (object : Object). object.row) (state_spelled rs.r settings rs.rows).objects ≡ map (λ (o : ℕ × ObjectRow). o.1) tables.objects.items
     unfolding objects_in
@@ -147,5 +128,5 @@ module _ (settings : Settings) (now : Image) (rs : Rests settings now) where
         ∙ rules.inside
 
     -- both tests pass
-    pub passes : (are_few (held settings counters tables p) && are_inside (held settings counters tables p)) ≡ true
-    passes = and_from (are_few (held settings counters tables p)) (are_inside (held settings counters tables p)) few inside
+    pub passes : (is_sound_held (held settings counters tables p) && are_inside (held settings counters tables p)) ≡ true
+    passes = and_from (is_sound_held (held settings counters tables p)) (are_inside (held settings counters tables p)) sound inside

@@ -1,8 +1,8 @@
 -- A volume is loaded: its rows, and then its pages.
-use Rattle.std.specs.Prelude.{◌≡◌, ◌&&◌, ℕ, true, false, sum_by, vec_capacity, Option, Some, None}
+use Rattle.std.specs.Prelude.{◌≡◌, ◌&&◌, ℕ, nat_le, true, false, length, List, sum_by, vec_capacity, Option, Some, None}
 use Rattle.std.specs.Option.{ForSome, option_map_or}
 use Rattle.std.proofs.Common.{refl, sym, ap, subst, ◌∙◌, arith}
-use Rattle.std.proofs.lemmas.Bool.{leb-true}
+use Rattle.std.proofs.lemmas.Bool.{and_parts, leb-true}
 use Rattle.mg_check.specs.Reads.{contents}
 use Rattle.mg_disk.specs.Disk.{Image}
 use Rattle.mg_disk.specs.declared.disk.Disk.{Ghosts}
@@ -12,14 +12,17 @@ use Rattle.mg_model.specs.Layout.{first_frame, total_blocks}
 use Rattle.mg_model.specs.Replay.{replay}
 use Rattle.mg_model.specs.Settings.{Settings}
 use Rattle.mg_model.specs.State.{Counters, ObjectRow}
+use Rattle.mg_model.specs.Volume.{accounts_fit, threads_fit}
 use Rattle.mg_model.specs.Words.{and_then}
 use Rattle.mg_pages.specs.Held.{PagesHeld}
 use Rattle.mg_pages.specs.Meaning as pages
-use Rattle.mg_volume.specs.Loading.{AreLoaded, HasBadRows, InRanges, IsLoaded, IsVolume, are_few, are_inside, held}
-use Rattle.mg_volume.specs.Meaning.{IsHeld, StandsOn, is_live, objects_in, staged_of, total_of}
+use Rattle.mg_volume.specs.Loading.{AreLoaded, HasBadRows, InRanges, IsLoaded, IsVolume, are_inside, held, threads_of}
+use Rattle.mg_volume.specs.Meaning.{IsHeld, StandsOn, bare_rows, is_live, objects_in, rows_apart, staged_of, total_of}
+use Rattle.mg_volume.specs.Sound.{is_sound_held, rows_fit}
 use Rattle.mg_volume.specs.declared.tables.Tables.{Tables}
 use Rattle.mg_volume.proofs.Fitting.{is_loaded, not_bad, passes, spells, table_good}
 use Rattle.mg_volume.proofs.Replayed.{rests}
+use Rattle.mg_volume.proofs.SoundRows.{rows_parts}
 
 -- the places of a volume tell how many frames it has
 pub same_frames : (n frames total first : ℕ) → first_frame n ≡ first → first ≡ first_frame frames → total ≡ total_blocks n → total ≡ total_blocks frames → n ≡ frames
@@ -71,14 +74,14 @@ module _ {D : Type 0} (facts : Ghosts D) where
           is_loaded settings image rs counters tables p v.whole (rows rs.r (told_contents disk total image rs.r told (ap (replay image) whole ∙ rs.replayed))) frames (standing.fits image (same ∙ told))
           (coming image ∙ replayed_is (total_blocks settings.frames) image rs.r rs.replayed)
 
-      pub all_pass : ForSome (facts.seen disk) (λ _. (are_few (held settings counters tables p) && are_inside (held settings counters tables p)) ≡ true)
+      pub all_pass : ForSome (facts.seen disk) (λ _. (is_sound_held (held settings counters tables p) && are_inside (held settings counters tables p)) ≡ true)
       all_pass image told =
           let v = volumes image told in
           let rs = rests settings image v in
           passes settings image rs counters tables p v.whole (rows rs.r (told_contents disk total image rs.r told (ap (replay image) whole ∙ rs.replayed))) frames (standing.fits image (same ∙ told))
           (coming image ∙ replayed_is (total_blocks settings.frames) image rs.r rs.replayed)
 
-      pub none_damaged : (are_few (held settings counters tables p) && are_inside (held settings counters tables p)) ≡ false → ForSome (facts.seen disk) (λ _. ⊥)
+      pub none_damaged : (is_sound_held (held settings counters tables p) && are_inside (held settings counters tables p)) ≡ false → ForSome (facts.seen disk) (λ _. ⊥)
       none_damaged fails image told = let pass = all_pass image told in cc
 
       pub stands_there : StandsOn facts (held settings counters tables p) new
@@ -103,15 +106,17 @@ pub live_held : (settings : Settings) (counters : Counters) (tables : Tables) (p
 unfolding is_live
 live_held settings counters tables p = refl
 
--- parts that fit are a volume's
-pub is_held : (settings : Settings) (counters : Counters) (tables : Tables) (p : PagesHeld) → pages.frame_count p ≡ settings.frames → InRanges tables → are_few (held settings counters tables p) ≡ true → are_inside (held settings counters tables p) ≡ true
-    → IsHeld (held settings counters tables p) (vec_capacity tables.objects) (vec_capacity tables.accounts) (vec_capacity tables.threads)
+-- parts that are sound and fit are a volume's
+pub is_held : (settings : Settings) (counters : Counters) (tables : Tables) (p : PagesHeld) → pages.frame_count p ≡ settings.frames → InRanges tables → is_sound_held (held settings counters tables p) ≡ true
+    → are_inside (held settings counters tables p) ≡ true → IsHeld (held settings counters tables p) (vec_capacity tables.objects) (vec_capacity tables.accounts) (vec_capacity tables.threads)
 unfolding objects_in
-is_held settings counters tables p frames ranges few inside = record {
+is_held settings counters tables p frames ranges sound inside = record {
   kept = record {
     frames = frames;
     rows = ranges.rows;
-    used = leb-true (sum_by (λ (o : ℕ × ObjectRow). o.1.pages) tables.objects.items) settings.frames few;
+    places = ranges.places;
+    apart = apart;
+    used = leb-true (sum_by (λ (o : ℕ × ObjectRow). o.1.pages) objects) settings.frames few;
     few_objects = ranges.few_objects;
     few_accounts = ranges.few_accounts;
     few_threads = ranges.few_threads;
@@ -121,3 +126,19 @@ is_held settings counters tables p frames ranges few inside = record {
   room_accounts = ranges.room.accounts;
   room_threads = ranges.room.threads;
 }
+  where
+    objects : List (ℕ × ObjectRow)
+    objects = tables.objects.items
+
+    fit : rows_fit settings.frames (length tables.accounts.items) (bare_rows objects) ≡ true
+    fit =
+        let a = accounts_fit settings.credits counters.period tables.accounts.items in
+        let o = rows_fit settings.frames (length tables.accounts.items) (bare_rows objects) in
+        let t = threads_fit counters.births (threads_of tables.threads.items) in
+        (and_parts a o (and_parts (a && o) t sound).0).1
+
+    apart : rows_apart (bare_rows objects) ≡ true
+    apart = (rows_parts settings.frames (length tables.accounts.items) objects fit).0
+
+    few : nat_le (sum_by (λ (o : ℕ × ObjectRow). o.1.pages) objects) settings.frames ≡ true
+    few = (rows_parts settings.frames (length tables.accounts.items) objects fit).1

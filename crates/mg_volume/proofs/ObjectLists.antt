@@ -33,7 +33,7 @@ set_is key h k (x ∷ xs) (suc i) d distinct few is =
     ∙ sym (ap (λ b. (if b then h x else x) ∷ map (λ y. if key y == k then h y else y) xs) (ne_eqb (key x) k (λ same. other (is ∙ sym same))))
 
 -- places in order are distinct
-placed-none : {R : Type 0} (low high j : ℕ) (rows : List (ℕ × R)) → ArePlaced low high rows → j < low → All (λ (y : ℕ × R). y.0 ≢ j) rows
+pub placed-none : {R : Type 0} (low high j : ℕ) (rows : List (ℕ × R)) → ArePlaced low high rows → j < low → All (λ (y : ℕ × R). y.0 ≢ j) rows
 placed-none {R} low high j [] placed before = All-nil (λ (y : ℕ × R). y.0 ≢ j)
 placed-none {R} low high j ((i, r) ∷ rows) placed before =
     let above = placed.0 in
@@ -44,7 +44,7 @@ placed_distinct low high [] placed = tt
 placed_distinct low high ((i, r) ∷ rows) placed = (placed-none (i + 1) high i rows placed.2 (omega arith), placed_distinct (i + 1) high rows placed.2)
 
 -- in the order of the bases
-into-all : (P : ℕ × ObjectRow → Type 0) (o : ℕ × ObjectRow) (os : List (ℕ × ObjectRow)) → P o → All P os → All P (into_place o os)
+pub into-all : (P : ℕ × ObjectRow → Type 0) (o : ℕ × ObjectRow) (os : List (ℕ × ObjectRow)) → P o → All P os → All P (into_place o os)
 into-all P o [] here all = All-cons P o [] here (All-nil P)
 into-all P o (x ∷ os) here all =
     let Q : List (ℕ × ObjectRow) → Type 0 = λ l. All P l in

@@ -1,27 +1,26 @@
 -- An object's row is staged, and the state has it.
-use Rattle.std.specs.Prelude.{◌≡◌, ◌≢◌, ◌+◌, ◌*◌, ◌/◌, ◌%◌, ◌≤◌, ◌<◌, ◌&&◌, nat_le, ℕ, zero, suc, true, All, List, [], ◌∷◌, if◌then◌else◌, length, map, slice_set, sum_by, Some}
-use Rattle.std.specs.List.{list_all}
+use Rattle.std.specs.Prelude.{◌≡◌, ◌≢◌, ◌+◌, ◌*◌, ◌/◌, ◌%◌, ◌≤◌, ◌<◌, nat_le, ℕ, zero, suc, true, All, List, [], ◌∷◌, if◌then◌else◌, length, map, slice_set, Some}
 use Rattle.std.proofs.Common.{refl, sym, ap, subst, get_or, set, ◌∙◌, ⊎_elim, arith}
 use Rattle.std.proofs.lemmas.Bool.{and_parts, cases_eq, eq-eqb, leb-true, ne_eqb}
 use Rattle.std.proofs.lemmas.List.{get_or-set_other}
 use Rattle.std.proofs.lemmas.List.Elements.{All-cons, All-get_or, All-head, All-nil, All-tail, All-weaker}
 use Rattle.mg_disk.specs.Disk.{Image}
-use Rattle.mg_model.specs.Bytes.{bytes_at}
 use Rattle.mg_model.specs.Layout.{first_account_block, first_object_block, first_thread_block, globals_block, object_rows}
 use Rattle.mg_model.specs.Objects.{page_behind, page_of, with_row}
 use Rattle.mg_model.specs.Ranges.{IsObjectRow}
 use Rattle.mg_model.specs.Replay.{block_of}
 use Rattle.mg_model.specs.Spelling.{Read, globals_read, object_read}
 use Rattle.mg_model.specs.State.{ObjectRow}
-use Rattle.mg_model.specs.Volume.{accounts_fit, live_rows, object_row_bytes, object_spelled, pages_words, threads_fit}
+use Rattle.mg_model.specs.Volume.{live_rows, object_row_bytes, object_spelled, pages_words}
 use Rattle.mg_pages.specs.Held.{PagesHeld}
 use Rattle.mg_pages.specs.Meaning as pages
+use Rattle.mg_rows.specs.Blocks.{object_in}
 use Rattle.mg_volume.proofs.ObjectLists.{DistinctBy, by_base_all, by_base_distinct, by_base_row, changed_order, placed_distinct, put_at, row_of_index, set_is}
 use Rattle.mg_volume.specs.Contents.{accounts_within, threads_within}
 use Rattle.mg_volume.specs.Held.{VolumeHeld}
-use Rattle.mg_volume.specs.Meaning.{IsKept, IsSpelledBy, Spelled, by_base, is_sound, now_of, objects_in, threads_in}
+use Rattle.mg_volume.specs.Meaning.{IsKept, IsSpelledBy, Spelled, by_base, now_of, objects_in, rows_apart, threads_in}
 use Rattle.mg_volume.specs.RowLists.{ArePlaced, row_at, row_set, set_other, set_placed, tell, told}
-use Rattle.mg_volume.specs.Sound.{all_spelled, is_sound_held, rows_apart, rows_fit, sound_is}
+use Rattle.mg_volume.specs.Sound.{all_spelled}
 use Rattle.mg_volume.specs.StagesRows.{StagesRows}
 use Rattle.mg_volume.specs.Staged.{agree, objects_apart, set_apart, set_there}
 
@@ -43,12 +42,12 @@ rows-told f g quad rows rows' is placed here there others =
 
 -- four rows were staged, as they are held now
 pub objects_staged : (v : VolumeHeld) (p : PagesHeld) (image : Image) (quad : ℕ) (bytes : List ℕ) (rows' objects' : List (ℕ × ObjectRow)) (s : Spelled v image) → pages.IsSpelledBy p image → pages.frame_count p ≡ pages.frame_count v.pages
-    → pages.coming p image ≡ slice_set (pages.coming v.pages image) (1571 + quad) bytes → quad < 1024 → ArePlaced 0 object_rows rows' → by_base rows' ≡ objects'
-    → ((j : ℕ) → j < 4 → object_read (bytes_at bytes (1024 * j) 1024) ≡ Some (row_at (4 * quad + j) objects')) → ((j : ℕ) → j / 4 ≢ quad → row_at j rows' ≡ row_at j s.objects)
+    → pages.coming p image ≡ slice_set (pages.coming v.pages image) (first_object_block + quad) bytes → quad < 1024 → ArePlaced 0 object_rows rows' → by_base rows' ≡ objects'
+    → ((j : ℕ) → j < 4 → object_in bytes j ≡ Some (row_at (4 * quad + j) objects')) → ((j : ℕ) → j / 4 ≢ quad → row_at j rows' ≡ row_at j s.objects)
     → Spelled (with_objects v objects' p) image
 objects_staged v p image quad bytes rows' objects' s fitting frames coming few placed order block others =
     let r = pages.coming v.pages image in
-    let at = 1571 + quad in
+    let at = first_object_block + quad in
     record {
       fitting = fitting;
       frames = frames ∙ s.frames;
@@ -65,26 +64,26 @@ objects_staged v p image quad bytes rows' objects' s fitting frames coming few p
           (λ j within same.
           let there : first_object_block + j / 4 ≡ at = omega arith in
           let whole : 4 * quad + j % 4 ≡ j = omega arith in
-          ap (λ k. object_read (bytes_at (block_of (pages.coming p image) k) (1024 * (j % 4)) 1024)) there
-          ∙ ap (λ (i : Image). object_read (bytes_at (block_of i at) (1024 * (j % 4)) 1024)) coming
-          ∙ ap (λ (b : List ℕ). object_read (bytes_at b (1024 * (j % 4)) 1024)) (set_there v image at bytes s (omega arith))
+          ap (λ k. object_in (block_of (pages.coming p image) k) (j % 4)) there
+          ∙ ap (λ (i : Image). object_in (block_of i at) (j % 4)) coming
+          ∙ ap (λ (b : List ℕ). object_in b (j % 4)) (set_there v image at bytes s (omega arith))
           ∙ block (j % 4) (omega arith)
           ∙ ap (λ k. Some (row_at k objects')) whole
           ∙ ap (λ l. Some (row_at j l)) (sym order)
           ∙ ap (λ o. Some o) (by_base_row j rows' (placed_distinct 0 object_rows rows' placed)))
           (λ j within other.
-          ap (λ (i : Image). object_read (bytes_at (block_of i (first_object_block + j / 4)) (1024 * (j % 4)) 1024)) coming
-          ∙ ap (λ (b : List ℕ). object_read (bytes_at b (1024 * (j % 4)) 1024)) (get_or-set_other r at (first_object_block + j / 4) bytes [] (λ is. other (omega arith))))
+          ap (λ (i : Image). object_in (block_of i (first_object_block + j / 4)) (j % 4)) coming
+          ∙ ap (λ (b : List ℕ). object_in b (j % 4)) (get_or-set_other r at (first_object_block + j / 4) bytes [] (λ is. other (omega arith))))
           others;
       ordered = order;
       kept = s.kept;
       is = s.is;
     }
 
-placed_of : (v : VolumeHeld) (image : Image) (s : Spelled v image) → ArePlaced 0 object_rows s.objects
+pub placed_of : (v : VolumeHeld) (image : Image) (s : Spelled v image) → ArePlaced 0 object_rows s.objects
 placed_of v image s = (told (λ i. object_read (object_row_bytes (pages.coming v.pages image) i)) 0 object_rows s.objects s.objects_are).placed
 
-distinct_of : (v : VolumeHeld) (image : Image) → Spelled v image → DistinctBy (λ (y : ℕ × ObjectRow). y.0) v.objects
+pub distinct_of : (v : VolumeHeld) (image : Image) → Spelled v image → DistinctBy (λ (y : ℕ × ObjectRow). y.0) v.objects
 distinct_of v image s = subst (DistinctBy (λ (y : ℕ × ObjectRow). y.0)) s.ordered (by_base_distinct s.objects (placed_distinct 0 object_rows s.objects (placed_of v image s)))
 
 placed-below : (low high : ℕ) (rows : List (ℕ × ObjectRow)) → ArePlaced low high rows → All (λ (y : ℕ × ObjectRow). y.0 < high) rows
@@ -98,8 +97,8 @@ place_below v image i d s few =
 
 -- a row in the place of the one with its base
 pub change_spelled : (v : VolumeHeld) (p : PagesHeld) (image : Image) (i : ℕ) (d : ℕ × ObjectRow) (row : ObjectRow) (bytes : List ℕ) → IsSpelledBy v image → pages.IsSpelledBy p image → pages.frame_count p ≡ pages.frame_count v.pages
-    → i < length v.objects → row.base ≡ (get_or v.objects i d).1.base → pages.coming p image ≡ slice_set (pages.coming v.pages image) (1571 + (get_or v.objects i d).0 / 4) bytes
-    → ((j : ℕ) → j < 4 → object_read (bytes_at bytes (1024 * j) 1024) ≡ Some (row_at (4 * ((get_or v.objects i d).0 / 4) + j) (set v.objects i ((get_or v.objects i d).0, row))))
+    → i < length v.objects → row.base ≡ (get_or v.objects i d).1.base → pages.coming p image ≡ slice_set (pages.coming v.pages image) (first_object_block + (get_or v.objects i d).0 / 4) bytes
+    → ((j : ℕ) → j < 4 → object_in bytes j ≡ Some (row_at (4 * ((get_or v.objects i d).0 / 4) + j) (set v.objects i ((get_or v.objects i d).0, row))))
     → IsSpelledBy (with_objects v (set v.objects i ((get_or v.objects i d).0, row)) p) image
 unfolding IsSpelledBy
 change_spelled v p image i d row bytes is fitting frames few base coming block =
@@ -141,15 +140,9 @@ bases-distinct (o ∷ os) apart kept =
       bases-distinct os (apart-tail o os apart) rest,
     )
 
-pub bases_distinct : (v : VolumeHeld) (image : Image) → IsKept v → is_sound (now_of v image) ≡ true → DistinctBy (λ (y : ℕ × ObjectRow). y.1.base) v.objects
+pub bases_distinct : (v : VolumeHeld) → IsKept v → DistinctBy (λ (y : ℕ × ObjectRow). y.1.base) v.objects
 unfolding objects_in
-bases_distinct v image kept sound =
-    let held : is_sound_held v ≡ true = sym (sound_is v image) ∙ sound in
-    let a = accounts_fit v.settings.credits v.counters.period v.accounts in
-    let o = rows_fit v.settings.frames (length v.accounts) (objects_in v) in
-    let t = threads_fit v.counters.births (threads_in v) in
-    let fit : o ≡ true = (and_parts a o (and_parts (a && o) t held).0).1 in
-    bases-distinct v.objects (and_parts (rows_apart (objects_in v)) (list_all (λ (row : ObjectRow). nat_le row.account (length v.accounts)) (objects_in v)) (and_parts (rows_apart (objects_in v) && list_all (λ (row : ObjectRow). nat_le row.account (length v.accounts)) (objects_in v)) (nat_le (sum_by (λ (row : ObjectRow). row.pages) (objects_in v)) v.settings.frames) fit).0).0 kept.rows
+bases_distinct v kept = bases-distinct v.objects kept.apart kept.rows
 
 -- the state with the row
 with-none : (r : Image) (frames : ℕ) (table : List ℕ) (row : ObjectRow) (os : List (ℕ × ObjectRow)) → All (λ (y : ℕ × ObjectRow). y.1.base ≢ row.base) os → with_row row.base (λ old. row) (all_spelled r frames table os) ≡ all_spelled r frames table os
@@ -176,31 +169,29 @@ changed-now r frames table p row (o ∷ os) (suc i) d distinct few base same =
 -- all of it, where the row was put in the place of the one that stands at an index
 module _ (v : VolumeHeld) (p : PagesHeld) (image : Image) (i : ℕ) (d : ℕ × ObjectRow) (row : ObjectRow) (objects : List (ℕ × ObjectRow)) (few : i < length v.objects) where
   at_index : IsSpelledBy v image → pages.IsSpelledBy p image → pages.frame_count p ≡ pages.frame_count v.pages → row.base ≡ (get_or v.objects i d).1.base → objects ≡ set v.objects i ((get_or v.objects i d).0, row)
-      → ((get_or v.objects i d).0 < 4096 → StagesRows objects (get_or v.objects i d).0 v.pages p) → IsSpelledBy (with_objects v (set v.objects i ((get_or v.objects i d).0, row)) p) image
+      → StagesRows objects (get_or v.objects i d).0 v.pages p → IsSpelledBy (with_objects v (set v.objects i ((get_or v.objects i d).0, row)) p) image
   unfolding IsSpelledBy
-  at_index is fitting frames base held stages =
-      let staged = stages (place_below v image i d is few) in
+  at_index is fitting frames base held staged =
       change_spelled v p image i d row staged.bytes is fitting frames few base (staged.coming image)
       (λ j low. staged.rows j low ∙ ap (λ l. Some (row_at (4 * ((get_or v.objects i d).0 / 4) + j) l)) held)
 
   pub change_staged : d ≡ get_or v.objects i d → IsSpelledBy v image → pages.IsSpelledBy p image → pages.frame_count p ≡ pages.frame_count v.pages → row.base ≡ d.1.base → objects ≡ set v.objects i (d.0, row)
-      → (d.0 < 4096 → StagesRows objects d.0 v.pages p) → IsSpelledBy (with_objects v (set v.objects i (d.0, row)) p) image
+      → StagesRows objects d.0 v.pages p → IsSpelledBy (with_objects v (set v.objects i (d.0, row)) p) image
   change_staged there is fitting frames =
-      let Q : ℕ × ObjectRow → Type 0 = λ x. row.base ≡ x.1.base → objects ≡ set v.objects i (x.0, row) → (x.0 < 4096 → StagesRows objects x.0 v.pages p) → IsSpelledBy (with_objects v (set v.objects i (x.0, row)) p) image in
+      let Q : ℕ × ObjectRow → Type 0 = λ x. row.base ≡ x.1.base → objects ≡ set v.objects i (x.0, row) → StagesRows objects x.0 v.pages p → IsSpelledBy (with_objects v (set v.objects i (x.0, row)) p) image in
       subst Q (sym there) (at_index is fitting frames)
 
-  pub change_now : IsSpelledBy v image → IsKept v → is_sound (now_of v image) ≡ true → d ≡ get_or v.objects i d → pages.table_in p ≡ pages.table_in v.pages → row.base ≡ d.1.base → d.1.pages ≡ row.pages → (d.0 < 4096 → StagesRows objects d.0 v.pages p)
+  pub change_now : IsSpelledBy v image → IsKept v → d ≡ get_or v.objects i d → pages.table_in p ≡ pages.table_in v.pages → row.base ≡ d.1.base → d.1.pages ≡ row.pages → StagesRows objects d.0 v.pages p
       → now_of (with_objects v (set v.objects i (d.0, row)) p) image ≡ record (now_of v image) { objects = with_row row.base (λ old. row) (now_of v image).objects }
   unfolding IsSpelledBy now_of threads_in
-  change_now is kept sound there table base same stages =
+  change_now is kept there table base same staged =
       let below : d.0 < object_rows = subst (λ (x : ℕ × ObjectRow). x.0 < object_rows) (sym there) (place_below v image i d is few) in
-      let staged = stages below in
       let r = pages.coming v.pages image in
       let frames = v.settings.frames in
       let t = pages.table_in v.pages in
       let new = set v.objects i (d.0, row) in
       ap (λ table. record (now_of v image) { objects = all_spelled (pages.coming p image) frames table new }) table
       ∙ ap (λ (coming : Image). record (now_of v image) { objects = all_spelled coming frames t new }) (staged.coming image)
-      ∙ ap (λ objects. record (now_of v image) { objects = objects }) (objects_apart r (1571 + d.0 / 4) staged.bytes frames t new (omega arith))
+      ∙ ap (λ objects. record (now_of v image) { objects = objects }) (objects_apart r (first_object_block + d.0 / 4) staged.bytes frames t new (omega arith))
       ∙ ap (λ objects. record (now_of v image) { objects = objects })
-      (changed-now r frames t d.0 row v.objects i d (bases_distinct v image kept sound) few (base ∙ ap (λ (x : ℕ × ObjectRow). x.1.base) there) (sym (ap (λ (x : ℕ × ObjectRow). x.1.pages) there) ∙ same))
+      (changed-now r frames t d.0 row v.objects i d (bases_distinct v kept) few (base ∙ ap (λ (x : ℕ × ObjectRow). x.1.base) there) (sym (ap (λ (x : ℕ × ObjectRow). x.1.pages) there) ∙ same))

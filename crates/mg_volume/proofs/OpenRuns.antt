@@ -1,5 +1,5 @@
 -- What a stop leaves while a volume is opened, and what is told of it then.
-use Rattle.std.specs.Prelude.{◌≡◌, ℕ, true, Option, Some, None, Result, Err, IsSomeAnd}
+use Rattle.std.specs.Prelude.{◌≡◌, ℕ, Option, Some, None, Result, Err, IsSomeAnd}
 use Rattle.std.specs.Option.{ForSome}
 use Rattle.std.proofs.Common.{sym, ap, subst, ◌∙◌}
 use Rattle.mg_disk.specs.Disk.{Image}
@@ -15,7 +15,6 @@ use Rattle.mg_model.specs.Volume.{volume}
 use Rattle.mg_volume.specs.Held.{VolumeHeld}
 use Rattle.mg_volume.specs.Contents.{volume_contents}
 use Rattle.mg_volume.specs.Loading.{IsLoaded, IsVolume}
-use Rattle.mg_volume.specs.Meaning.{is_sound, now_of}
 use Rattle.mg_volume.specs.Opening.{Opens}
 use Rattle.mg_volume.proofs.Replayed.{rests, still_volume}
 
@@ -81,6 +80,3 @@ module _ {D : Type 0} (facts : Ghosts D) where
       let now = some_of (Still image) (facts.seen mid) (still image told) in
       let l = loaded now.0 now.1 in
       record { state = l.kept; is = sym now.2 ∙ l.is; holds = record { image = now.0; is = same ∙ now.1; kept = l.is; now = l.now } }
-
-  pub sounds : (mid new : D) (v : VolumeHeld) → facts.seen new ≡ facts.seen mid → ForSome (facts.seen mid) (IsLoaded v) → ForSome (facts.seen new) (λ image. is_sound (now_of v image) ≡ true)
-  sounds mid new v same loaded image told = let l = loaded image (sym same ∙ told) in ap is_sound l.now ∙ l.sound

@@ -50,7 +50,7 @@ unfolding objects_in
 some_page v page kept has = page-some page v.objects kept.rows has
 
 -- bound pages, one by one
-each-bound : (q : ℕ → Bool) (x : ℕ) (table : List ℕ) → list_all q (bound_pages table) ≡ true → x ≢ 0 → list_any (λ entry. entry == x) table ≡ true → q x ≡ true
+pub each-bound : (q : ℕ → Bool) (x : ℕ) (table : List ℕ) → list_all q (bound_pages table) ≡ true → x ≢ 0 → list_any (λ entry. entry == x) table ≡ true → q x ≡ true
 each-bound q x [] all other is = absurd (both_ways false refl is)
 each-bound q x (entry ∷ table) all other is =
     ⊎_elim here
@@ -90,6 +90,8 @@ held_again v p objects accounts threads held frames bound = record {
   kept = record {
     frames = frames ∙ kept.frames;
     rows = kept.rows;
+    places = kept.places;
+    apart = kept.apart;
     used = kept.used;
     few_objects = kept.few_objects;
     few_accounts = kept.few_accounts;

@@ -11,7 +11,7 @@ use Rattle.mg_model.specs.Threads.{with_new_thread}
 use Rattle.mg_model.specs.Volume.{with_live}
 use Rattle.mg_volume.proofs.Found.{as_thread}
 use Rattle.mg_volume.specs.RowLists.{ArePlaced, placed_wider, row_set}
-use Rattle.mg_volume.specs.Meaning.{threads_with}
+use Rattle.mg_volume.specs.Staging.{threads_with}
 use Rattle.mg_volume.specs.Numbered.{has_number, into_number, rows_with}
 
 abbrev pub numbered : List (ℕ × ThreadRow) → List (ℕ × ThreadRow)

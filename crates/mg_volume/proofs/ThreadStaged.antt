@@ -1,5 +1,5 @@
 -- A thread is staged, and the state has its row.
-use Rattle.std.specs.Prelude.{◌≡◌, ◌+◌, ◌≤◌, ◌<◌, ℕ, false, List, length, map, slice_set, Option, Some}
+use Rattle.std.specs.Prelude.{◌≡◌, ◌+◌, ◌-◌, ◌≤◌, ◌<◌, ℕ, false, List, length, map, slice_set, Option, Some}
 use Rattle.std.proofs.Common.{sym, ap, ◌∙◌, arith}
 use Rattle.std.proofs.lemmas.List.{get_or-set_other}
 use Rattle.mg_disk.specs.Disk.{Image}
@@ -15,7 +15,8 @@ use Rattle.mg_volume.specs.RowLists.{ArePlaced, row_set, told, told_set}
 use Rattle.mg_volume.proofs.ThreadLists.{has_room, numbered, numbered_set, threads_mapped}
 use Rattle.mg_volume.specs.Contents.{accounts_within, objects_within}
 use Rattle.mg_volume.specs.Held.{VolumeHeld}
-use Rattle.mg_volume.specs.Meaning.{IsHeld, IsSpelledBy, Spelled, now_of, objects_in, threads_in, threads_with}
+use Rattle.mg_volume.specs.Meaning.{IsHeld, IsSpelledBy, Spelled, now_of, objects_in, threads_in}
+use Rattle.mg_volume.specs.Staging.{threads_with}
 use Rattle.mg_volume.specs.Numbered.{HasRoom, has_number, rows_with}
 use Rattle.mg_volume.specs.Staged.{agree, set_apart, set_there, staged_objects}
 
@@ -23,7 +24,7 @@ abbrev pub with_threads : VolumeHeld → List (ℕ × ThreadRow) → PagesHeld �
 with_threads v rows p = record v { threads = rows; pages = p }
 
 module _ (v : VolumeHeld) (p : PagesHeld) (image : Image) (t place : ℕ) (row : Option ThreadRow) (rows : List (ℕ × ThreadRow)) (bytes : List ℕ)
-    (number : place + 1 ≡ t) (few : place < 256) (coming : pages.coming p image ≡ slice_set (pages.coming v.pages image) (1314 + t) bytes) (put : HasRoom t v.threads → rows ≡ rows_with t row v.threads) where
+    (number : place + 1 ≡ t) (few : place < 256) (coming : pages.coming p image ≡ slice_set (pages.coming v.pages image) (first_thread_block + t - 1) bytes) (put : HasRoom t v.threads → rows ≡ rows_with t row v.threads) where
   placed : (s : Spelled v image) → ArePlaced 0 256 s.threads
   placed s = (told (λ i. thread_read (thread_row_bytes (pages.coming v.pages image) i)) 0 thread_rows s.threads s.threads_are).placed
 
@@ -40,7 +41,7 @@ module _ (v : VolumeHeld) (p : PagesHeld) (image : Image) (t place : ℕ) (row :
   pub thread_now : IsSpelledBy v image → pages.table_in p ≡ pages.table_in v.pages → now_of (with_threads v rows p) image ≡ record (now_of v image) { threads = threads_with t row (threads_in v) }
   unfolding IsSpelledBy now_of threads_in
   thread_now s table =
-      ap (λ objects. record (now_of v image) { objects = objects; threads = map as_thread rows }) (staged_objects v p image (1314 + t) bytes (omega arith) table coming)
+      ap (λ objects. record (now_of v image) { objects = objects; threads = map as_thread rows }) (staged_objects v p image (first_thread_block + t - 1) bytes (omega arith) table coming)
       ∙ ap (λ threads. record (now_of v image) { threads = threads }) (ap (map as_thread) (rows_are s) ∙ threads_mapped t row v.threads)
 
   pub thread_spelled : IsSpelledBy v image → (pages.IsSpelledBy v.pages image → pages.IsSpelledBy p image) → pages.frame_count p ≡ pages.frame_count v.pages → thread_read bytes ≡ Some row → IsSpelledBy (with_threads v rows p) image
@@ -48,7 +49,7 @@ module _ (v : VolumeHeld) (p : PagesHeld) (image : Image) (t place : ℕ) (row :
   thread_spelled is fitting frames read =
       let s : Spelled v image = is in
       let r = pages.coming v.pages image in
-      let block = 1314 + t in
+      let block = first_thread_block + t - 1 in
       record {
         fitting = fitting s.fitting;
         frames = frames ∙ s.frames;
@@ -81,6 +82,8 @@ held_threads v rows objects accounts threads threads' held few room = record {
   kept = record {
     frames = held.kept.frames;
     rows = held.kept.rows;
+    places = held.kept.places;
+    apart = held.kept.apart;
     used = held.kept.used;
     few_objects = held.kept.few_objects;
     few_accounts = held.kept.few_accounts;

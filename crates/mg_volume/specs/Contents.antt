@@ -1,5 +1,5 @@
 -- What the volume of an image rests on once its journal is replayed: the blocks behind the journal, and the first two.
-use Rattle.std.specs.Prelude.{◌≡◌, ℕ, zero, suc, ◌+◌, ◌*◌, ◌/◌, ◌%◌, ◌<◌, ◌≤◌, ◌==◌, ◌&&◌, nat_le, Bool, true, false, List, [], ◌∷◌, ◌++◌, if◌then◌else◌, length, replicate, slice_index, Option, Some, None, position, drop, take}
+use Rattle.std.specs.Prelude.{◌≡◌, ℕ, zero, suc, ◌+◌, ◌/◌, ◌%◌, ◌<◌, ◌≤◌, ◌==◌, ◌&&◌, nat_le, Bool, true, false, List, [], ◌∷◌, ◌++◌, if◌then◌else◌, length, replicate, slice_index, Option, Some, None, position, drop, take}
 use Rattle.std.specs.Option.{option_map_or}
 use Rattle.std.proofs.Common.{refl, sym, ap, subst, ◌∙◌, arith}
 use Rattle.std.proofs.lemmas.Bool.{and_parts, eqb-true, le-leb, leb-true}
@@ -8,7 +8,7 @@ use Rattle.std.proofs.lemmas.List.{length-take}
 use Rattle.mg_disk.specs.Disk.{Image, SameBut, SeenBut}
 use Rattle.mg_journal.specs.Contents.{InJournal, SameContents}
 use Rattle.mg_model.specs.declared.accounts.AccRow.{AccRow}
-use Rattle.mg_model.specs.Bytes.{are_zeros, block_words, bytes_at}
+use Rattle.mg_model.specs.Bytes.{are_zeros, block_words}
 use Rattle.mg_model.specs.Layout.{account_rows, first_account_block, first_frame, first_object_block, first_thread_block, gate_block, gate_open, globals_block, object_rows, super_block, table_block, table_blocks, thread_rows, total_blocks}
 use Rattle.mg_model.specs.Objects.{page_of, with_object}
 use Rattle.mg_model.specs.Replay.{block_of, replay}
@@ -19,6 +19,7 @@ use Rattle.mg_model.specs.Volume.{Damaged, Rows, account_row_bytes, fitting, is_
 use Rattle.mg_model.specs.VolumeReads.{IsOpened, gate_byte, live_rows-same, rows_from, rows_with, state_with, volume-opened}
 use Rattle.mg_pages.specs.Coming.{length_replay, replay_low}
 use Rattle.mg_pages.specs.Committing.{HasContents}
+use Rattle.mg_rows.specs.Blocks.{account_in, object_in}
 
 -- two images with the same blocks behind the journal and below n
 pub record AgreeBehind (n : ℕ) (a b : Image) : Type 0 where
@@ -44,7 +45,7 @@ accounts_within a b same = live_rows-same (λ i. account_read (account_row_bytes
     one : (i : ℕ) → 0 ≤ i → i < 0 + account_rows → account_read (account_row_bytes a i) ≡ account_read (account_row_bytes b i)
     one i low high =
         let place : first_account_block + i / 64 < first_thread_block = omega arith in
-        ap (λ (block : List ℕ). account_read (bytes_at block (64 * (i % 64)) 64)) (same.each (first_account_block + i / 64) (omega arith) place)
+        ap (λ (block : List ℕ). account_in block (i % 64)) (same.each (first_account_block + i / 64) (omega arith) place)
 
 pub threads_within : (a b : Image) → AgreeIn first_thread_block first_object_block a b → live_rows (λ i. thread_read (thread_row_bytes a i)) 0 thread_rows ≡ live_rows (λ i. thread_read (thread_row_bytes b i)) 0 thread_rows
 threads_within a b same = live_rows-same (λ i. thread_read (thread_row_bytes a i)) (λ i. thread_read (thread_row_bytes b i)) 0 thread_rows one
@@ -58,7 +59,7 @@ objects_within a b same = live_rows-same (λ i. object_read (object_row_bytes a 
     one : (i : ℕ) → 0 ≤ i → i < 0 + object_rows → object_read (object_row_bytes a i) ≡ object_read (object_row_bytes b i)
     one i low high =
         let place : first_object_block + i / 4 < table_block = omega arith in
-        ap (λ (block : List ℕ). object_read (bytes_at block (1024 * (i % 4)) 1024)) (same.each (first_object_block + i / 4) (omega arith) place)
+        ap (λ (block : List ℕ). object_in block (i % 4)) (same.each (first_object_block + i / 4) (omega arith) place)
 
 module _ (a b : Image) (same : AgreeBehind table_block a b) where
   pub accounts-same : live_rows (λ i. account_read (account_row_bytes a i)) 0 account_rows ≡ live_rows (λ i. account_read (account_row_bytes b i)) 0 account_rows

@@ -13,3 +13,4 @@ pub mod RowLists
 pub mod Sound
 pub mod Staged
 pub mod StagesRows
+pub mod Staging

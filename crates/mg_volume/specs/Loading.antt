@@ -1,5 +1,5 @@
 -- What is held in memory of the rows of a volume, as it is loaded.
-use Rattle.std.specs.Prelude.{◌≡◌, ◌≤◌, ◌+◌, ◌==◌, ◌&&◌, nat_le, nat_lt, ℕ, Bool, true, false, All, List, [], length, map, sum_by, vec_capacity, if◌then◌else◌, Option, Some, None}
+use Rattle.std.specs.Prelude.{◌≡◌, ◌≤◌, ◌<◌, ◌+◌, ◌==◌, ◌&&◌, nat_le, nat_lt, ℕ, Bool, true, false, All, List, [], length, map, vec_capacity, if◌then◌else◌, Option, Some, None}
 use Rattle.std.specs.List.{list_all, list_any}
 use Rattle.mg_check.specs.Told.{IsTold}
 use Rattle.mg_disk.specs.Disk.{Image}
@@ -12,7 +12,7 @@ use Rattle.mg_model.specs.Ranges.{IsObjectRow}
 use Rattle.mg_model.specs.Replay.{block_of}
 use Rattle.mg_model.specs.Settings.{Settings}
 use Rattle.mg_model.specs.Spelling.{Read, account_read, globals_read, object_read, thread_read}
-use Rattle.mg_model.specs.State.{Counters, ObjectRow, State, ThreadRow}
+use Rattle.mg_model.specs.State.{Counters, ObjectRow, State, Thread, ThreadRow}
 use Rattle.mg_model.specs.Volume.{Is, Rows, account_row_bytes, bound_pages, has_no_gap, live_rows, object_row_bytes, rows_of, thread_row_bytes, volume}
 use Rattle.mg_pages.specs.Held.{PagesHeld}
 use Rattle.mg_pages.specs.Meaning as pages
@@ -24,6 +24,13 @@ use Rattle.mg_volume.specs.declared.tables.Tables.{Tables}
 -- threads with their numbers
 abbrev pub numbered : List (ℕ × ThreadRow) → List (ℕ × ThreadRow)
 numbered rows = map (λ (t : ℕ × ThreadRow). (t.0 + 1, t.1)) rows
+
+-- the threads, and their birth numbers, that these rows give
+abbrev pub threads_of : List (ℕ × ThreadRow) → List Thread
+threads_of threads = map (λ (t : ℕ × ThreadRow). record { number = t.0; row = t.1 }) threads
+
+abbrev pub births_of : List (ℕ × ThreadRow) → List ℕ
+births_of threads = map (λ (t : ℕ × ThreadRow). t.1.birth) threads
 
 -- these rows are held so
 abbrev pub AreAccounts : List AccRow → List (ℕ × AccRow) → Type 0
@@ -38,6 +45,10 @@ AreObjects objects rows = by_base rows ≡ objects
 -- objects in their ranges
 abbrev pub AreRows : List (ℕ × ObjectRow) → Type 0
 AreRows objects = All (λ (o : ℕ × ObjectRow). IsObjectRow o.1) objects
+
+-- rows of the table
+abbrev pub HavePlaces : List (ℕ × ObjectRow) → Type 0
+HavePlaces objects = All (λ (o : ℕ × ObjectRow). o.0 < object_rows) objects
 
 -- one of the first n rows spells nothing, or a live row stands behind a free one
 pub record HasGap (read : ℕ → Read AccRow) (n : ℕ) : Type 0 where
@@ -69,10 +80,11 @@ pub record IsEmpty (tables : Tables) : Type 0 where
   pub accounts : tables.accounts.items ≡ []
   pub threads : tables.threads.items ≡ []
 
--- rows in their ranges, as few as a volume has room for
+-- rows in their ranges and places, as few as a volume has room for
 pub record InRanges (tables : Tables) : Type 0 where
   pub room : HasRoom tables
   pub rows : AreRows tables.objects.items
+  pub places : HavePlaces tables.objects.items
   pub few_objects : length tables.objects.items ≤ object_rows
   pub few_accounts : length tables.accounts.items ≤ account_rows
   pub few_threads : length tables.threads.items ≤ thread_rows
@@ -100,10 +112,6 @@ has_page_in objects page = list_any (λ row. is_page_in page row) (map (λ (o : 
 abbrev pub named : Super → ℕ → Option Settings
 named (super.Is settings) frames = if settings.frames == frames then Some settings else None
 named other frames = None
-
--- whether the objects have no more pages than there are frames
-abbrev pub are_few : VolumeHeld → Bool
-are_few v = nat_le (sum_by (λ (o : ℕ × ObjectRow). o.1.pages) v.objects) v.settings.frames
 
 -- whether each page that a frame holds lies in an object
 abbrev pub are_inside : VolumeHeld → Bool

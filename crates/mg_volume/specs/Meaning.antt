@@ -1,5 +1,5 @@
 -- What a volume is, as functions of the value and an image. The layers above see these words by their names.
-use Rattle.std.specs.Prelude.{◌≡◌, ◌+◌, ◌≤◌, ◌&&◌, nat_le, nat_lt, ℕ, Bool, true, List, [], ◌∷◌, Some, if◌then◌else◌, length, map, sum_by, All, Option, None, filter, not, ◌==◌}
+use Rattle.std.specs.Prelude.{◌≡◌, ◌+◌, ◌≤◌, ◌<◌, ◌&&◌, nat_le, nat_lt, ℕ, Bool, true, List, [], ◌∷◌, Some, if◌then◌else◌, length, map, sum_by, All}
 use Rattle.std.specs.List.{list_all, list_any}
 use Rattle.std.specs.Option.{ForSome}
 use Rattle.mg_disk.specs.Disk.{Image}
@@ -13,7 +13,6 @@ use Rattle.mg_model.specs.Settings.{Settings}
 use Rattle.mg_model.specs.Ranges.{IsObjectRow}
 use Rattle.mg_model.specs.Spelling.{Spells, account_read, globals_read, object_read, super_read, thread_read}
 use Rattle.mg_model.specs.State.{Counters, ObjectRow, State, Thread, ThreadRow}
-use Rattle.mg_model.specs.Threads.{with_new_thread}
 use Rattle.mg_model.specs.Volume.{Is, account_row_bytes, accounts_fit, bound_pages, is_gated, live_rows, object_row_bytes, object_spelled, objects_fit, thread_row_bytes, threads_fit, volume}
 use Rattle.mg_pages.specs.Meaning as pages
 use Rattle.mg_volume.specs.Held.{VolumeHeld}
@@ -25,9 +24,13 @@ settings_in v = v.settings
 unfoldable pub counters_in : VolumeHeld → Counters
 counters_in v = v.counters
 
+-- rows without their places
+abbrev pub bare_rows : List (ℕ × ObjectRow) → List ObjectRow
+bare_rows objects = map (λ (o : ℕ × ObjectRow). o.1) objects
+
 -- the objects' rows, in the order of their bases
 unfoldable pub objects_in : VolumeHeld → List ObjectRow
-objects_in v = map (λ (o : ℕ × ObjectRow). o.1) v.objects
+objects_in v = bare_rows v.objects
 
 unfoldable pub accounts_in : VolumeHeld → List AccRow
 accounts_in v = v.accounts
@@ -78,11 +81,19 @@ abbrev pub placed_from : ℕ → List AccRow → List (ℕ × AccRow)
 placed_from i [] = []
 placed_from i (row ∷ rows) = (i, row) ∷ placed_from (i + 1) rows
 
--- what every value keeps, wherever it stands: rows in their ranges, as few as a volume has room for, and each bound page in an
--- object
+-- rows in the order of their bases, of which no two share a page
+abbrev pub rows_apart : List ObjectRow → Bool
+rows_apart [] = true
+rows_apart (row ∷ []) = true
+rows_apart (row ∷ next ∷ rows) = nat_le (page_behind row) (page_of next) && rows_apart (next ∷ rows)
+
+-- what every value keeps, wherever it stands: rows in their ranges and places, as few as a volume has room for, objects that
+-- lie apart, and each bound page in an object
 pub record IsKept (v : VolumeHeld) : Type 0 where
   pub frames : pages.frame_count v.pages ≡ v.settings.frames
   pub rows : All (λ (o : ℕ × ObjectRow). IsObjectRow o.1) v.objects
+  pub places : All (λ (o : ℕ × ObjectRow). o.0 < object_rows) v.objects
+  pub apart : rows_apart (objects_in v) ≡ true
   pub used : sum_by (λ (o : ℕ × ObjectRow). o.1.pages) v.objects ≤ v.settings.frames
   pub few_objects : length v.objects ≤ object_rows
   pub few_accounts : length v.accounts ≤ account_rows
@@ -135,14 +146,6 @@ pub record Keeps (old new : VolumeHeld) : Type 0 where
   pub staged : staged_of new ≡ staged_of old
   pub live : is_live new ≡ is_live old
   pub total : total_of new ≡ total_of old
-
--- the threads with this row for thread t, or without that thread
-abbrev pub threads_with : ℕ → Option ThreadRow → List Thread → List Thread
-threads_with t None threads = filter (λ (thread : Thread). not (thread.number == t)) threads
-threads_with t (Some row) threads =
-    if list_any (λ (thread : Thread). thread.number == t) threads
-    then map (λ (thread : Thread). if thread.number == t then record thread { row = row } else thread) threads
-    else with_new_thread (record { number = t; row = row }) threads
 
 -- the same volume, as live, and as many words counted
 pub record SameShape (old new : VolumeHeld) : Type 0 where

@@ -1,33 +1,20 @@
 -- The words of an object are those of its pages.
-use Rattle.std.specs.Prelude.{◌≡◌, ◌≢◌, ◌+◌, ◌-◌, ◌*◌, ◌/◌, ◌<◌, ◌≤◌, ◌==◌, ◌&&◌, ◌||◌, nat_le, nat_lt, ℕ, zero, suc, true, false, List, [], ◌∷◌, ◌++◌, All, if◌then◌else◌, length, map, position, replicate, slice_index, slice_set, Option, Some, None}
+use Rattle.std.specs.Prelude.{◌≡◌, ◌≢◌, ◌+◌, ◌-◌, ◌*◌, ◌/◌, ◌<◌, ◌≤◌, ◌&&◌, ◌||◌, nat_le, nat_lt, ℕ, zero, suc, true, false, List, [], ◌∷◌, ◌++◌, All, if◌then◌else◌, map, slice_index, slice_set, Some}
 use Rattle.std.specs.List.{list_any}
 use Rattle.std.specs.Option.{option_map_or}
 use Rattle.std.proofs.Common.{refl, sym, ap, ◌∙◌, ⊎_elim, arith}
 use Rattle.std.proofs.lemmas.Bool.{and_from, and_parts, both_ways, cases_Bool, cases_lt, le-leb, leb-true, lt-leb, lt-ltb, ltb-true, le-ltb}
-use Rattle.std.proofs.lemmas.List.{get_or_append_left, get_or-append_right, length-replicate, set-append_left, set-append_right}
+use Rattle.std.proofs.lemmas.List.{get_or_append_left, get_or-append_right, set-append_left, set-append_right}
 use Rattle.std.proofs.lemmas.List.Elements.{All-head, All-tail}
 use Rattle.mg_disk.specs.Disk.{Image}
 use Rattle.mg_model.specs.Access.{at, covers}
-use Rattle.mg_model.specs.Bytes.{block_words, numbers_at}
-use Rattle.mg_model.specs.Layout.{first_frame}
 use Rattle.mg_model.specs.Objects.{first_page, page_behind, page_of, with_word, word_at, word_in}
 use Rattle.mg_model.specs.Ranges.{IsObjectRow}
-use Rattle.mg_model.specs.Replay.{block_of}
 use Rattle.mg_model.specs.State.{ObjectRow}
 use Rattle.mg_model.specs.Volume.{object_spelled, page_words, pages_words}
+use Rattle.mg_pages.specs.Lengths.{length-page}
 use Rattle.mg_volume.specs.Meaning.{is_page_in}
 use Rattle.mg_volume.specs.Sound.{all_spelled}
-
-length-numbers : (bytes : List ℕ) (offset n : ℕ) → length (numbers_at bytes offset n) ≡ n
-length-numbers bytes offset zero = refl
-length-numbers bytes offset (suc n) = ap suc (length-numbers bytes (offset + 8) n)
-
-pub length-page : (r : Image) (frames : ℕ) (table : List ℕ) (page : ℕ) → length (page_words r frames table page) ≡ 512
-length-page r frames table page = held (position (λ entry. entry == page) table)
-  where
-    held : (frame : Option ℕ) → length (option_map_or (λ frame. block_words (block_of r (first_frame frames + frame))) frame (replicate 512 0)) ≡ 512
-    held None = length-replicate {A = ℕ} 512 0
-    held (Some k) = length-numbers (block_of r (first_frame frames + k)) 0 512
 
 -- a word of one of the pages
 pub pages-at : (r : Image) (frames : ℕ) (table : List ℕ) (page n k i : ℕ) → k < n → i < 512 → slice_index (pages_words r frames table page n) (512 * k + i) ≡ slice_index (page_words r frames table (page + k)) i

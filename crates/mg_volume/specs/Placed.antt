@@ -1,17 +1,15 @@
 -- The rows of objects that a volume holds keep their ranges, since a row is read only where it does.
-use Rattle.std.specs.Prelude.{◌≡◌, ℕ, zero, suc, ◌+◌, ◌&&◌, drop, Bool, true, false, List, [], ◌∷◌, if◌then◌else◌, map, nat_lt, Option, Some, None}
+use Rattle.std.specs.Prelude.{◌≡◌, ℕ, zero, suc, ◌+◌, ◌&&◌, Bool, true, false, List, [], ◌∷◌, if◌then◌else◌, map, nat_lt, Option, Some, None}
 use Rattle.std.specs.List.{list_all}
-use Rattle.std.proofs.Common.{refl, sym, ap, ◌∙◌, subst}
+use Rattle.std.proofs.Common.{refl, ap, ◌∙◌, subst}
 use Rattle.std.proofs.lemmas.Bool.{and_from, and_parts}
 use Rattle.mg_disk.specs.Disk.{Image}
-use Rattle.mg_model.specs.declared.accounts.AccRow.{AccRow}
 use Rattle.mg_model.specs.Bytes.{are_zeros}
-use Rattle.mg_model.specs.Layout.{globals_block, account_rows, object_rows, thread_rows}
-use Rattle.mg_model.specs.Replay.{block_of}
-use Rattle.mg_model.specs.Spelling.{Read, account_read, globals_read, object_bytes, object_fields, object_read, thread_read}
-use Rattle.mg_model.specs.State.{Counters, ObjectRow, ThreadRow}
+use Rattle.mg_model.specs.Layout.{object_rows}
+use Rattle.mg_model.specs.Spelling.{Read, object_bytes, object_fields, object_read}
+use Rattle.mg_model.specs.State.{ObjectRow}
 use Rattle.mg_model.specs.Tests.{is_object_row}
-use Rattle.mg_model.specs.Volume.{Rows, account_row_bytes, live_rows, object_row_bytes, rows_of, table_of, thread_row_bytes, whole_table, with_live}
+use Rattle.mg_model.specs.Volume.{live_rows, object_row_bytes, with_live}
 use Rattle.mg_model.specs.Words.{and_then, same_bytes}
 use Rattle.mg_pages.specs.Meaning as pages
 use Rattle.mg_volume.specs.Held.{VolumeHeld}

@@ -10,14 +10,15 @@ use Rattle.mg_model.specs.declared.accounts.AccRow.{AccRow}
 use Rattle.mg_model.specs.Bank.{used}
 use Rattle.mg_model.specs.Bytes.{are_zeros}
 use Rattle.mg_model.specs.Objects.{page_behind, page_of, with_object}
-use Rattle.mg_model.specs.State.{Object, ObjectRow, State, Thread, ThreadRow}
+use Rattle.mg_model.specs.Settings.{Settings}
+use Rattle.mg_model.specs.State.{Counters, Object, ObjectRow, State, Thread, ThreadRow}
 use Rattle.mg_model.specs.Tests.{all_distinct}
 use Rattle.mg_model.specs.Volume.{Damaged, Is, Rows, accounts_fit, accounts_spelled, are_apart, bound_pages, fitting, has_no_gap, is_page_of, object_spelled, objects_fit, objects_spelled, replayed_volume, rows_of, state_fits, state_spelled, table_of, threads_fit, threads_spelled, whole_table}
 use Rattle.mg_model.specs.VolumeReads.{rows-read, rows_with}
 use Rattle.mg_pages.specs.Laws as laws
 use Rattle.mg_pages.specs.Meaning as pages
 use Rattle.mg_volume.specs.Held.{VolumeHeld}
-use Rattle.mg_volume.specs.Meaning.{IsKept, Spelled, by_base, has_page, into_place, is_page_in, is_sound, now_of, objects_in, placed_from, threads_in}
+use Rattle.mg_volume.specs.Meaning.{IsKept, Spelled, by_base, has_page, into_place, is_page_in, is_sound, now_of, objects_in, placed_from, rows_apart, threads_in}
 
 -- accounts in their places
 accounts-placed : (i : ℕ) (accounts : List AccRow) → accounts_spelled (placed_from i accounts) ≡ accounts
@@ -38,7 +39,7 @@ abbrev pub all_spelled : Image → ℕ → List ℕ → List (ℕ × ObjectRow) 
 all_spelled r frames table os = map (λ (o : ℕ × ObjectRow). object_spelled r frames table o.1) os
 
 module _ (r : Image) (frames : ℕ) (table : List ℕ) where
-  object-placed : (o : ℕ × ObjectRow) (os : List (ℕ × ObjectRow)) → with_object (object_spelled r frames table o.1) (all_spelled r frames table os) ≡ all_spelled r frames table (into_place o os)
+  pub object-placed : (o : ℕ × ObjectRow) (os : List (ℕ × ObjectRow)) → with_object (object_spelled r frames table o.1) (all_spelled r frames table os) ≡ all_spelled r frames table (into_place o os)
   object-placed o [] = refl
   object-placed o (next ∷ os) = ⊎_elim before (behind (object-placed o os)) (cases_Bool (nat_lt o.1.base next.1.base))
     where
@@ -62,11 +63,6 @@ module _ (r : Image) (frames : ℕ) (table : List ℕ) where
   rows-spelled (o ∷ os) = ap (λ (rows : List ObjectRow). o.1 ∷ rows) (rows-spelled os)
 
 -- the rules between objects, of their rows alone
-abbrev pub rows_apart : List ObjectRow → Bool
-rows_apart [] = true
-rows_apart (row ∷ []) = true
-rows_apart (row ∷ next ∷ rows) = nat_le (page_behind row) (page_of next) && rows_apart (next ∷ rows)
-
 abbrev pub rows_fit : ℕ → ℕ → List ObjectRow → Bool
 rows_fit frames accounts rows =
     rows_apart rows
@@ -93,19 +89,22 @@ objects-fit : (frames accounts : ℕ) (objects : List Object) → objects_fit fr
 objects-fit frames accounts objects = (let a = apart-rows objects in let p = paid-rows accounts objects in let u = used-rows objects in cc)
 
 -- whether a state is sound, of the rows that are held
+abbrev pub are_sound : Settings → Counters → List (ℕ × ObjectRow) → List AccRow → List (ℕ × ThreadRow) → Bool
+are_sound settings counters objects accounts threads =
+    accounts_fit settings.credits counters.period accounts
+    && rows_fit settings.frames (length accounts) (map (λ (o : ℕ × ObjectRow). o.1) objects)
+    && threads_fit counters.births (map (λ (t : ℕ × ThreadRow). record { number = t.0; row = t.1 }) threads)
+
 abbrev pub is_sound_held : VolumeHeld → Bool
-is_sound_held v =
-    accounts_fit v.settings.credits v.counters.period v.accounts
-    && rows_fit v.settings.frames (length v.accounts) (objects_in v)
-    && threads_fit v.counters.births (threads_in v)
+is_sound_held v = are_sound v.settings v.counters v.objects v.accounts v.threads
 
 pub sound_is : (v : VolumeHeld) (image : Image) → is_sound (now_of v image) ≡ is_sound_held v
-unfolding now_of objects_in
+unfolding now_of threads_in
 sound_is v image =
     let r = pages.coming v.pages image in
     let frames = v.settings.frames in
     let objects = all_spelled r frames (pages.table_in v.pages) v.objects in
-    ap (λ t. accounts_fit v.settings.credits v.counters.period v.accounts && t && threads_fit v.counters.births (threads_in v))
+    ap (λ t. accounts_fit v.settings.credits v.counters.period v.accounts && t && threads_fit v.counters.births (map (λ (t : ℕ × ThreadRow). record { number = t.0; row = t.1 }) v.threads))
     (objects-fit frames (length v.accounts) objects ∙ ap (rows_fit frames (length v.accounts)) (rows-spelled r frames (pages.table_in v.pages) v.objects))
 
 -- each bound page lies in an object

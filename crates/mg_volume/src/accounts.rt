@@ -1,42 +1,30 @@
 // The accounts of a volume.
-ghost use Rattle.std.specs.Prelude.{◌≡◌, ◌≢◌, ◌≤◌, ◌<◌, ◌+◌, ◌*◌, ◌%◌, ◌++◌, ◌∷◌, [], ℕ, OnOk, length, vec_capacity};
+ghost use Rattle.std.specs.Prelude.{◌≡◌, ◌≢◌, ◌≤◌, ◌<◌, ◌+◌, ◌%◌, ◌++◌, ◌∷◌, [], ℕ, OnOk, length, vec_capacity};
 ghost use Rattle.std.specs.Option.{ForSome};
 ghost use Rattle.mg_check.specs.Reads.{OnlyRead, contents};
 ghost use Rattle.mg_check.specs.Told.{IsTold};
 ghost use Rattle.mg_disk.specs.Stops.{CountRose};
 ghost use Rattle.mg_journal.specs.Standing.{Stands, total_of};
-ghost use Rattle.mg_model.specs.Bytes.{bytes_at};
 ghost use Rattle.mg_model.specs.Layout.{account_rows, table_block};
 ghost use Rattle.mg_model.specs.Spelling.{Read, account_read};
 ghost use Rattle.mg_model.specs.Volume.{account_row_bytes};
-ghost use Rattle.mg_rows.specs.Answers.{as_read};
+ghost use Rattle.mg_rows.specs.Blocks.{account_in};
 ghost use Rattle.mg_volume.specs.Loading.{AreAccounts, HasGap};
 
 use crate::faults::LoadFault;
-use crate::places::FIRST_ACCOUNT_BLOCK;
 use crate::reading::turn_to;
 use mg_disk::{BLOCK_SIZE, Block, Disk};
 use mg_faults::Failed;
 use mg_journal::Store;
+use mg_layout::FIRST_ACCOUNT_BLOCK;
 use mg_model::AccRow;
-use mg_rows::{Spelled, read_account};
+use mg_rows::{Spelled, account_in};
 
 /// How many rows the table of accounts has.
 pub(crate) const ACCOUNT_ROWS: u64 = 1024;
 
 /// How many rows a block has.
 const IN_BLOCK: u64 = 64;
-
-/// The bytes of a row.
-const ROW: usize = 64;
-
-// What row `i` of the table spells; this is its block.
-fn row_in(block: &Block, i: u64) -> Option<Spelled<AccRow>>
-    ensures { as_read result ≡ account_read (bytes_at block.now (64 * (i % 64)) 64) }
-{
-    let at = ROW * (i % IN_BLOCK) as usize;
-    read_account(&block[at..at + ROW])
-}
 
 // Adds the account in row `i`, unless there is a free row before it.
 fn add(accounts: &mut Vec<AccRow>, i: u64, row: AccRow) -> Result<(), LoadFault>
@@ -58,13 +46,13 @@ fn add(accounts: &mut Vec<AccRow>, i: u64, row: AccRow) -> Result<(), LoadFault>
 // Takes row `i` of the table out of its block.
 fn take(accounts: &mut Vec<AccRow>, i: u64, block: &Block) -> Result<(), LoadFault>
     requires place { i < account_rows }
-    ensures told { OnOk result ((read : ℕ → Read AccRow) → read i ≡ account_read (bytes_at block.now (64 * (i % 64)) 64) → IsTold read i (AreAccounts accounts.old.items) → IsTold read (i + 1) (AreAccounts accounts.new.items)) }
-    ensures damaged { result ≡ Err LoadFault.Damaged → (read : ℕ → Read AccRow) → read i ≡ account_read (bytes_at block.now (64 * (i % 64)) 64) → IsTold read i (AreAccounts accounts.old.items) → HasGap read account_rows }
+    ensures told { OnOk result ((read : ℕ → Read AccRow) → read i ≡ account_in block.now (i % 64) → IsTold read i (AreAccounts accounts.old.items) → IsTold read (i + 1) (AreAccounts accounts.new.items)) }
+    ensures damaged { result ≡ Err LoadFault.Damaged → (read : ℕ → Read AccRow) → read i ≡ account_in block.now (i % 64) → IsTold read i (AreAccounts accounts.old.items) → HasGap read account_rows }
     ensures no_disk { result ≢ Err LoadFault.Disk }
     ensures few { OnOk result (length accounts.new.items ≤ length accounts.old.items + 1) }
     ensures room { vec_capacity accounts.old ≤ vec_capacity accounts.new }
 {
-    match row_in(block, i) {
+    match account_in(block, i % IN_BLOCK) {
         Some(Spelled::Row(row)) => add(accounts, i, row),
         Some(Spelled::Free) => Ok(()),
         None => Err(LoadFault::Damaged),

@@ -1,8 +1,7 @@
 // Whether the pages that frames hold lie in objects.
-ghost use Rattle.std.specs.Prelude.{◌≡◌, ◌==◌, ◌||◌, ℕ, IfOk, map, nat_le, sum_by};
+ghost use Rattle.std.specs.Prelude.{◌≡◌, ◌==◌, ◌||◌, IfOk};
 ghost use Rattle.std.specs.List.{list_all, list_any};
 ghost use Rattle.mg_model.specs.Objects.{page_behind, page_of};
-ghost use Rattle.mg_model.specs.State.{ObjectRow};
 ghost use Rattle.mg_model.specs.Volume.{bound_pages};
 ghost use Rattle.mg_pages.specs.Meaning.{frame_count, table_in};
 ghost use Rattle.mg_volume.specs.Loading.{has_page_in, is_in, spans_of};
@@ -14,8 +13,8 @@ use std::alloc::{AllocError, Global};
 /// The bytes of a page.
 const PAGE: u64 = 4096;
 
-// The first page of an object, and the one right behind it.
-fn span_of(row: &ObjRow) -> (u64, u64)
+/// The first page of an object, and the one right behind it.
+pub(crate) fn span_of(row: &ObjRow) -> (u64, u64)
     ensures { result ≡ (page_of row.now, page_behind row.now) }
 {
     let first = row.base() / PAGE;
@@ -69,19 +68,4 @@ pub(crate) fn are_inside(
 {
     let spans = spans(alloc, objects)?;
     Ok(all_lie_in(&spans, pages, frames))
-}
-
-/// Whether the objects have no more pages than there are frames.
-pub(crate) fn are_few(objects: &[(u64, ObjRow)], frames: u64) -> bool
-    ensures { result ≡ nat_le (sum_by (λ (o : ℕ × ObjectRow). o.1.pages) objects.now) frames }
-{
-    let mut left = frames;
-    for o in objects {
-        let pages = o.1.pages();
-        if pages > left {
-            return false;
-        }
-        left -= pages;
-    }
-    true
 }

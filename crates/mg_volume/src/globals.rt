@@ -9,11 +9,11 @@ ghost use Rattle.mg_model.specs.Replay.{block_of};
 ghost use Rattle.mg_model.specs.Spelling.{globals_read};
 
 use crate::faults::LoadFault;
-use crate::places::GLOBALS_BLOCK;
 use crate::reading::read_block;
 use mg_disk::{BLOCK_SIZE, Disk};
 use mg_faults::Failed;
 use mg_journal::Store;
+use mg_layout::GLOBALS_BLOCK;
 use mg_model::Globals;
 use mg_rows::read_globals;
 

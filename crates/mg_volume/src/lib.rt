@@ -5,7 +5,8 @@
 //! no contract.
 //!
 //! `specs/Meaning.antt` has the words of the contracts: the state `now_of` a volume and an image, and when a volume stands
-//! on a disk. `specs/Laws.antt` says what may be known of them.
+//! on a disk. `specs/Staging.antt` has those on what may be staged, and on what waits for a commit. `specs/Laws.antt` says what
+//! may be known of them.
 #![tactic(auto)]
 
 mod accounts;
@@ -15,13 +16,17 @@ mod faults;
 mod globals;
 mod loading;
 mod object_block;
+mod object_list;
+mod object_removing;
 mod object_staging;
 mod objects;
 mod opening;
-mod places;
 mod reading;
 mod settings;
+mod soundness;
 mod staging;
+#[cfg(test)]
+mod staging_tests;
 mod tables;
 mod thread_list;
 mod threads;

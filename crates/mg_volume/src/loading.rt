@@ -6,11 +6,13 @@ ghost use Rattle.mg_disk.specs.Stops.{CountRose};
 ghost use Rattle.mg_journal.specs.Standing as journal;
 ghost use Rattle.mg_model.specs.Layout.{total_blocks};
 ghost use Rattle.mg_pages.specs.Meaning as paged;
-ghost use Rattle.mg_volume.specs.Loading.{InRanges, IsEmpty, IsLoaded, IsVolume, are_few, are_inside, held};
+ghost use Rattle.mg_volume.specs.Loading.{InRanges, IsEmpty, IsLoaded, IsVolume, are_inside, held};
 ghost use Rattle.mg_volume.specs.Meaning.{StandsOn, is_live, staged_of};
+ghost use Rattle.mg_volume.specs.Sound.{is_sound_held};
 
-use crate::bound::{are_few, are_inside};
+use crate::bound::are_inside;
 use crate::faults::LoadFault;
+use crate::soundness::is_sound;
 use crate::tables::Tables;
 use crate::volume::Volume;
 use mg_disk::Disk;
@@ -53,11 +55,11 @@ fn load_pages<D: Disk>(
     }
 }
 
-// The volume with these parts, which fit.
+// The volume with these parts, which are sound and fit.
 fn made(params: &Params, globals: Globals, tables: Tables, pages: Pages) -> Volume
     requires frames { paged.frame_count pages ≡ params.now.frames }
     requires ranges { InRanges tables }
-    requires few { are_few (held params.now globals tables pages) ≡ true }
+    requires sound { is_sound_held (held params.now globals tables pages) ≡ true }
     requires inside { are_inside (held params.now globals tables pages) ≡ true }
     ensures { result ≡ held params.now globals tables pages }
 {
@@ -71,7 +73,7 @@ fn made(params: &Params, globals: Globals, tables: Tables, pages: Pages) -> Volu
     }
 }
 
-// The volume with these parts, if they fit.
+// The volume with these parts, if they are sound and fit.
 fn fitted(
     alloc: Global,
     params: &Params,
@@ -82,10 +84,17 @@ fn fitted(
     requires frames { paged.frame_count pages ≡ params.now.frames }
     requires ranges { InRanges tables }
     ensures held { IfOk result (λ v. v ≡ held params.now globals tables pages) }
-    ensures damaged { result ≡ Err LoadFault.Damaged → (are_few (held params.now globals tables pages) && are_inside (held params.now globals tables pages)) ≡ false }
+    ensures sound { IfOk result (λ v. is_sound_held v ≡ true) }
+    ensures damaged { result ≡ Err LoadFault.Damaged → (is_sound_held (held params.now globals tables pages) && are_inside (held params.now globals tables pages)) ≡ false }
     ensures no_disk { result ≢ Err LoadFault.Disk }
 {
-    if !are_few(&tables.objects, params.frames()) {
+    if !is_sound(
+        params,
+        &globals,
+        &tables.objects,
+        &tables.accounts,
+        &tables.threads,
+    ) {
         return Err(LoadFault::Damaged);
     }
     match are_inside(alloc, &tables.objects, &pages, params.frames()) {
@@ -95,8 +104,8 @@ fn fitted(
     }
 }
 
-/// Loads a volume with these settings, whose journal is open. It writes nothing. Where the disk tells its reads, nothing is
-/// damaged.
+/// Loads a volume with these settings, whose journal is open. It writes nothing. What is loaded is sound, whatever the disk
+/// reads; where it tells its reads, nothing is damaged.
 pub(crate) fn load<D: Disk>(
     alloc: Global,
     params: &Params,
@@ -109,6 +118,7 @@ pub(crate) fn load<D: Disk>(
     requires stands { journal.Stands D.Disk store disk.old }
     requires volume { ForSome (D.seen disk.old) (IsVolume params.now) }
     ensures loaded { IfOk result (λ v. ForSome (D.seen disk.old) (IsLoaded v)) }
+    ensures sound { IfOk result (λ v. is_sound_held v ≡ true) }
     ensures stands { IfOk result (λ v. StandsOn D.Disk v disk.new) }
     ensures staged { IfOk result (λ v. staged_of v ≡ 0) }
     ensures live { IfOk result (λ v. is_live v ≡ journal.is_live store) }

@@ -1,43 +1,31 @@
 // The objects of a volume, in the order of their bases.
-ghost use Rattle.std.specs.Prelude.{◌≡◌, ◌≢◌, ◌≤◌, ◌<◌, ◌+◌, ◌-◌, ◌*◌, ◌%◌, ◌++◌, ◌∷◌, [], ℕ, List, None, OnOk, length, slice_index_or, vec_capacity};
+ghost use Rattle.std.specs.Prelude.{◌≡◌, ◌≢◌, ◌≤◌, ◌<◌, ◌+◌, ◌-◌, ◌%◌, ◌++◌, ◌∷◌, [], ℕ, List, None, OnOk, length, slice_index_or, vec_capacity};
 ghost use Rattle.std.specs.Option.{ForSome};
 ghost use Rattle.mg_check.specs.Reads.{OnlyRead, contents};
 ghost use Rattle.mg_check.specs.Told.{IsTold, NotSpelled};
 ghost use Rattle.mg_disk.specs.Stops.{CountRose};
 ghost use Rattle.mg_journal.specs.Standing.{Stands, total_of};
-ghost use Rattle.mg_model.specs.Bytes.{bytes_at};
 ghost use Rattle.mg_model.specs.Layout.{object_rows, table_block};
 ghost use Rattle.mg_model.specs.Spelling.{Read, object_read};
 ghost use Rattle.mg_model.specs.State.{ObjectRow};
 ghost use Rattle.mg_model.specs.Volume.{object_row_bytes};
-ghost use Rattle.mg_rows.specs.Answers.{as_read};
-ghost use Rattle.mg_volume.specs.Loading.{AreObjects, AreRows};
+ghost use Rattle.mg_rows.specs.Blocks.{object_in};
+ghost use Rattle.mg_volume.specs.Loading.{AreObjects, AreRows, HavePlaces};
 
 use crate::faults::LoadFault;
-use crate::places::FIRST_OBJECT_BLOCK;
 use crate::reading::turn_to;
 use mg_disk::{BLOCK_SIZE, Block, Disk};
 use mg_faults::Failed;
 use mg_journal::Store;
+use mg_layout::FIRST_OBJECT_BLOCK;
 use mg_model::ObjRow;
-use mg_rows::{Spelled, read_object};
+use mg_rows::{Spelled, object_in};
 
 /// How many rows the table of objects has.
 pub(crate) const OBJECT_ROWS: u64 = 4096;
 
 /// How many rows a block has.
 const IN_BLOCK: u64 = 4;
-
-/// The bytes of a row.
-const ROW: usize = 1024;
-
-// What row `i` of the table spells; this is its block.
-fn row_in(block: &Block, i: u64) -> Option<Spelled<ObjRow>>
-    ensures { as_read result ≡ object_read (bytes_at block.now (1024 * (i % 4)) 1024) }
-{
-    let at = ROW * (i % IN_BLOCK) as usize;
-    read_object(&block[at..at + ROW])
-}
 
 // The place behind the last object with a lower base. It is looked for from the end, where rows that come in the order of
 // their bases have their place.
@@ -58,8 +46,10 @@ fn place_of(objects: &[(u64, ObjRow)], base: u64) -> usize
 
 // Adds the object in row `i`.
 fn add(objects: &mut Vec<(u64, ObjRow)>, i: u64, row: ObjRow) -> Result<(), LoadFault>
+    requires place { i < object_rows }
     ensures more { OnOk result ((rows : List (ℕ × ObjectRow)) → AreObjects objects.old.items rows → AreObjects objects.new.items (rows ++ (i, row) ∷ [])) }
     ensures rows { OnOk result (AreRows objects.old.items → AreRows objects.new.items) }
+    ensures places { OnOk result (HavePlaces objects.old.items → HavePlaces objects.new.items) }
     ensures few { OnOk result (length objects.new.items ≤ length objects.old.items + 1) }
     ensures room { vec_capacity objects.old ≤ vec_capacity objects.new }
     ensures memory { result ≢ Err LoadFault.Damaged }
@@ -75,14 +65,15 @@ fn add(objects: &mut Vec<(u64, ObjRow)>, i: u64, row: ObjRow) -> Result<(), Load
 // Takes row `i` of the table out of its block.
 fn take(objects: &mut Vec<(u64, ObjRow)>, i: u64, block: &Block) -> Result<(), LoadFault>
     requires place { i < object_rows }
-    ensures told { OnOk result ((read : ℕ → Read ObjectRow) → read i ≡ object_read (bytes_at block.now (1024 * (i % 4)) 1024) → IsTold read i (AreObjects objects.old.items) → IsTold read (i + 1) (AreObjects objects.new.items)) }
-    ensures damaged { result ≡ Err LoadFault.Damaged → object_read (bytes_at block.now (1024 * (i % 4)) 1024) ≡ None }
+    ensures told { OnOk result ((read : ℕ → Read ObjectRow) → read i ≡ object_in block.now (i % 4) → IsTold read i (AreObjects objects.old.items) → IsTold read (i + 1) (AreObjects objects.new.items)) }
+    ensures damaged { result ≡ Err LoadFault.Damaged → object_in block.now (i % 4) ≡ None }
     ensures no_disk { result ≢ Err LoadFault.Disk }
     ensures rows { OnOk result (AreRows objects.old.items → AreRows objects.new.items) }
+    ensures places { OnOk result (HavePlaces objects.old.items → HavePlaces objects.new.items) }
     ensures few { OnOk result (length objects.new.items ≤ length objects.old.items + 1) }
     ensures room { vec_capacity objects.old ≤ vec_capacity objects.new }
 {
-    match row_in(block, i) {
+    match object_in(block, i % IN_BLOCK) {
         Some(spelled) => match spelled {
             Spelled::Row(row) => add(objects, i, row),
             Spelled::Free => Ok(()),
@@ -103,6 +94,7 @@ pub(crate) fn read_objects<D: Disk>(
     ensures told { OnOk result (ForSome (contents D.Disk disk.old (total_of store.now)) (λ r. IsTold (λ i. object_read (object_row_bytes r i)) object_rows (AreObjects objects.new.items))) }
     ensures damaged { result ≡ Err LoadFault.Damaged → ForSome (contents D.Disk disk.old (total_of store.now)) (λ r. NotSpelled (λ i. object_read (object_row_bytes r i)) object_rows) }
     ensures rows { OnOk result (AreRows objects.new.items) }
+    ensures places { OnOk result (HavePlaces objects.new.items) }
     ensures few { OnOk result (length objects.new.items ≤ object_rows) }
     ensures room { vec_capacity objects.old ≤ vec_capacity objects.new }
     ensures stands { Stands D.Disk store.now disk.new }

@@ -1,5 +1,5 @@
 // Opening a volume: its journal first, and then its rows and its frame table.
-ghost use Rattle.std.specs.Prelude.{◌≡◌, ◌≤◌, true, IfOk, IsSomeAnd, IsTrue};
+ghost use Rattle.std.specs.Prelude.{List, ℕ, ◌≡◌, ◌≤◌, true, IfOk, IsSomeAnd, IsTrue};
 ghost use Rattle.std.specs.Option.{ForSome};
 ghost use Rattle.mg_disk.specs.Stops.{CountGoes, CountRose, Leaves, NothingPending};
 ghost use Rattle.mg_journal.specs.Standing as journal;
@@ -42,8 +42,8 @@ fn open_journal<D: Disk>(alloc: Global, params: &Params, disk: &mut D) -> Result
     }
 }
 
-/// Opens a volume with these settings. Memory for its rows is taken before anything is written. Where the disk tells its
-/// reads, nothing is damaged.
+/// Opens a volume with these settings. Memory for its rows is taken before anything is written. What is opened is sound;
+/// where the disk tells its reads, nothing is damaged.
 pub(crate) fn open_as<D: Disk>(
     alloc: Global,
     params: &Params,
@@ -53,7 +53,7 @@ pub(crate) fn open_as<D: Disk>(
     requires volume { ForSome (D.seen disk.old) (IsVolume params.now) }
     ensures opens { IfOk result (λ v. ForSome (D.seen disk.old) (λ image. Opens (volume image) v (D.seen disk.new))) }
     ensures stands { IfOk result (λ v. StandsOn D.Disk v disk.new) }
-    ensures sound { IfOk result (λ v. ForSome (D.seen disk.new) (λ image. is_sound (now_of v image) ≡ true)) }
+    ensures sound { IfOk result (λ v. (image : List (List ℕ)) → is_sound (now_of v image) ≡ true) }
     ensures staged { IfOk result (λ v. staged_of v ≡ 0) }
     ensures live { IfOk result (λ v. IsTrue (is_live v)) }
     ensures any_moment { NothingPending D.Disk disk.old → ForSome (D.seen disk.old) (λ image. Leaves D.Disk disk.old disk.new (λ c. volume c ≡ volume image)) }

@@ -9,11 +9,10 @@ ghost use Rattle.mg_model.specs.Spelling.{super_read};
 ghost use Rattle.mg_model.specs.Volume.{Damaged, NotVolume, OldVolume, volume};
 ghost use Rattle.mg_volume.specs.Loading.{IsVolume, named};
 
-use crate::places::SUPER_BLOCK;
 use mg_check::{OpenFault, examine};
 use mg_disk::{BLOCK_SIZE, Disk};
 use mg_faults::Failed;
-use mg_layout::{Super, read_super};
+use mg_layout::{SUPER_BLOCK, Super, read_super};
 use mg_model::Params;
 use std::alloc::Global;
 

@@ -1,58 +1,68 @@
 // What a volume stages.
-ghost use Rattle.std.specs.Prelude.{List, ◌≡◌, ◌≤◌, ◌<◌, ◌+◌, ◌^◌, ℕ, None, Some};
+ghost use Rattle.std.specs.Prelude.{List, ◌≡◌, ◌⊎◌, ◌≤◌, ◌<◌, ◌+◌, ◌^◌, ℕ, true, None, Some};
 ghost use Rattle.std.specs.Option.{option_map_or};
 ghost use Rattle.mg_model.specs.Draw.{password_drawn};
 ghost use Rattle.mg_model.specs.Spelling.{thread_read};
-ghost use Rattle.mg_volume.specs.Meaning.{IsSpelledBy, SameShape, counters_in, now_of, objects_in, settings_in, staged_of, threads_in, threads_with};
+ghost use Rattle.mg_volume.specs.Meaning.{IsSpelledBy, SameShape, counters_in, now_of, objects_in, settings_in, staged_of, threads_in};
+ghost use Rattle.mg_volume.specs.Staging.{StillStaged, are_counters_staged, is_thread_staged, threads_with};
 
 use crate::thread_list::put_row;
 use crate::volume::Volume;
 use mg_disk::{BLOCK_SIZE, Block};
+use mg_layout::{FIRST_THREAD_BLOCK, GLOBALS_BLOCK};
 use mg_model::{Globals, ThrRow, draw};
 use mg_rows::{write_globals, write_thread};
 
 impl Volume {
-    /// Stages the counters, in place of those that the state has. Fewer than 160 blocks are staged; one more is at most.
+    /// Stages the counters, in place of those that the state has. Their block is staged already, or fewer than 160 blocks
+    /// are; one more is at most.
     pub fn stage_globals(&mut self, g: Globals)
-        requires room { staged_of self.old < 160 }
+        requires room { (are_counters_staged self.old ≡ true) ⊎ (staged_of self.old < 160) }
         ensures now { (image : List (List ℕ)) → now_of self.new image ≡ record (now_of self.old image) { counters = g } }
         ensures rows { objects_in self.new ≡ objects_in self.old }
         ensures spelled { (image : List (List ℕ)) → IsSpelledBy self.old image → IsSpelledBy self.new image }
         ensures staged { staged_of self.new ≤ staged_of self.old + 1 }
+        ensures still { StillStaged self.old self.new }
+        ensures here { are_counters_staged self.new ≡ true }
         ensures shape { SameShape self.old self.new }
     {
         let mut block = [0; BLOCK_SIZE];
         write_globals(&g, &mut block);
         self.globals = g;
-        self.pages.stage(1298, &block);
+        self.pages.stage(GLOBALS_BLOCK, &block);
     }
 
-    /// Stages the row of thread t, 1 to 256, in place of the one that it has, or that there is no such thread. Fewer than 160
-    /// blocks are staged; one more is at most.
+    /// Stages the row of thread t, 1 to 256, in place of the one that it has, or that there is no such thread. Its block is
+    /// staged already, or fewer than 160 blocks are; one more is at most.
     pub fn stage_thread(&mut self, t: u64, row: Option<ThrRow>)
         requires some { 1 ≤ t }
         requires few { t ≤ 256 }
-        requires room { staged_of self.old < 160 }
+        requires room { (is_thread_staged self.old t ≡ true) ⊎ (staged_of self.old < 160) }
         ensures now { (image : List (List ℕ)) → IsSpelledBy self.old image → now_of self.new image ≡ record (now_of self.old image) { threads = threads_with t row (threads_in self.old) } }
         ensures rows { objects_in self.new ≡ objects_in self.old }
         ensures spelled { (image : List (List ℕ)) → IsSpelledBy self.old image → IsSpelledBy self.new image }
         ensures staged { staged_of self.new ≤ staged_of self.old + 1 }
+        ensures still { StillStaged self.old self.new }
+        ensures here { is_thread_staged self.new t ≡ true }
         ensures shape { SameShape self.old self.new }
     {
         let block = thread_block(&row);
         put_row(&mut self.threads, t, row);
-        self.pages.stage(1314 + t, &block);
+        self.pages.stage(FIRST_THREAD_BLOCK + t - 1, &block);
     }
 
-    /// The next password that is drawn. The count of draws, below `2^32`, rises by one and is staged.
+    /// The next password that is drawn. The count of draws, below `2^32`, rises by one and is staged: the block of the
+    /// counters is staged already, or fewer than 160 blocks are; one more is at most.
     pub fn next_password(&mut self) -> u64
-        requires room { staged_of self.old < 160 }
+        requires room { (are_counters_staged self.old ≡ true) ⊎ (staged_of self.old < 160) }
         requires few { (counters_in self.old).draws < 2 ^ 32 }
         ensures drawn { result ≡ password_drawn (settings_in self.old).seed (counters_in self.old).draws }
         ensures now { (image : List (List ℕ)) → now_of self.new image ≡ record (now_of self.old image) { counters = record (counters_in self.old) { draws = (counters_in self.old).draws + 1 } } }
         ensures rows { objects_in self.new ≡ objects_in self.old }
         ensures spelled { (image : List (List ℕ)) → IsSpelledBy self.old image → IsSpelledBy self.new image }
         ensures staged { staged_of self.new ≤ staged_of self.old + 1 }
+        ensures still { StillStaged self.old self.new }
+        ensures here { are_counters_staged self.new ≡ true }
         ensures shape { SameShape self.old self.new }
     {
         let mut globals = self.globals();

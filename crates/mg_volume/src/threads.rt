@@ -12,11 +12,11 @@ ghost use Rattle.mg_model.specs.Volume.{thread_row_bytes};
 ghost use Rattle.mg_volume.specs.Loading.{AreThreads};
 
 use crate::faults::LoadFault;
-use crate::places::FIRST_THREAD_BLOCK;
 use crate::reading::read_block;
 use mg_disk::{BLOCK_SIZE, Block, Disk};
 use mg_faults::Failed;
 use mg_journal::Store;
+use mg_layout::FIRST_THREAD_BLOCK;
 use mg_model::ThrRow;
 use mg_rows::{Spelled, read_thread};
 

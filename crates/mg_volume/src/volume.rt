@@ -3,9 +3,10 @@ ghost use Rattle.std.specs.Prelude.{List, ◌≡◌, ◌≤◌, ◌<◌, ◌+◌
 ghost use Rattle.std.specs.Option.{ForSome};
 ghost use Rattle.mg_disk.specs.Stops.{CountGoes, CountRose, Leaves, NothingPending, WritesNothing};
 ghost use Rattle.mg_model.specs.Access.{covers, last_slots};
+ghost use Rattle.mg_model.specs.Bank.{account_of};
 ghost use Rattle.mg_model.specs.State.{Thread};
 ghost use Rattle.mg_model.specs.Volume.{Damaged, NotVolume, OldVolume, volume};
-ghost use Rattle.mg_volume.specs.Meaning.{StandsOn, counters_in, is_live, is_sound, now_of, objects_in, settings_in, staged_of, threads_in, words_in};
+ghost use Rattle.mg_volume.specs.Meaning.{StandsOn, accounts_in, counters_in, is_live, is_sound, now_of, objects_in, settings_in, staged_of, threads_in, words_in};
 ghost use Rattle.mg_volume.specs.Opening.{Opens};
 
 use crate::faults::LoadFault;
@@ -51,7 +52,7 @@ impl Volume {
     pub fn open<D: Disk>(alloc: Global, disk: &mut D) -> Result<Volume, OpenFault>
         ensures opens { IfOk result (λ v. ForSome (D.seen disk.old) (λ image. Opens (volume image) v (D.seen disk.new))) }
         ensures stands { IfOk result (λ v. StandsOn D.Disk v disk.new) }
-        ensures sound { IfOk result (λ v. ForSome (D.seen disk.new) (λ image. is_sound (now_of v image) ≡ true)) }
+        ensures sound { IfOk result (λ v. (image : List (List ℕ)) → is_sound (now_of v image) ≡ true) }
         ensures staged { IfOk result (λ v. staged_of v ≡ 0) }
         ensures live { IfOk result (λ v. IsTrue (is_live v)) }
         ensures any_moment { NothingPending D.Disk disk.old → ForSome (D.seen disk.old) (λ image. Leaves D.Disk disk.old disk.new (λ c. volume c ≡ volume image)) }
@@ -125,6 +126,16 @@ impl Volume {
             Some(o) => Some(o.1),
             None => None,
         }
+    }
+
+    /// Account n, from 1 on.
+    pub fn account(&self, n: u64) -> Option<AccRow>
+        ensures { result ≡ account_of (accounts_in self.now) n }
+    {
+        if n == 0 {
+            return None;
+        }
+        self.accounts.get(n as usize - 1).copied()
     }
 
     // The thread with this number.

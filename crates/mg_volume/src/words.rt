@@ -5,6 +5,7 @@ ghost use Rattle.mg_disk.specs.Stops.{CountGoes, CountRose, WritesNothing};
 ghost use Rattle.mg_model.specs.Objects.{with_word, word_at};
 ghost use Rattle.mg_pages.specs.Meaning.{CountsAlike};
 ghost use Rattle.mg_volume.specs.Meaning.{Keeps, StandsOn, has_page, is_live, is_sound, now_of, objects_in, staged_of, total_of, words_in};
+ghost use Rattle.mg_volume.specs.Staging.{StillStaged};
 
 use crate::volume::Volume;
 use mg_disk::Disk;
@@ -27,6 +28,7 @@ impl Volume {
         requires index { index < 512 }
         ensures word { IfOk result (λ word. ForSome (D.seen disk.old) (λ image. word ≡ word_at (now_of self.old image).objects (4096 * page + 8 * index))) }
         ensures keeps { Keeps self.old self.new }
+        ensures still { StillStaged self.old self.new }
         ensures rows { objects_in self.new ≡ objects_in self.old }
         ensures stands { StandsOn D.Disk self.new disk.new }
         ensures writes { WritesNothing D.Disk disk.old disk.new }
@@ -61,6 +63,7 @@ impl Volume {
         ensures live { is_live self.new ≡ is_live self.old }
         ensures total { total_of self.new ≡ total_of self.old }
         ensures staged { staged_of self.new ≤ staged_of self.old + 2 }
+        ensures still { StillStaged self.old self.new }
         ensures stands { StandsOn D.Disk self.new disk.new }
         ensures writes { WritesNothing D.Disk disk.old disk.new }
         ensures counted { CountsAlike (words_in self.old) (words_in self.new) steps.old steps.new }

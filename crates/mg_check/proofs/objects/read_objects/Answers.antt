@@ -1,17 +1,17 @@
-use Rattle.std.proofs.Common.{◌≡◌, ◌≢◌, Some, ◌+◌, ◌*◌, ◌/◌, ◌%◌, Err, ap, sym, ◌∙◌, arith}
+use Rattle.std.proofs.Common.{◌≡◌, ◌≢◌, Some, ◌+◌, ◌/◌, ◌%◌, Err, ap, sym, ◌∙◌, arith}
 use Rattle.std.proofs.lemmas.Bool.{eqb-false}
 use Rattle.std.proofs.lemmas.Result.{err_from_is_err_and}
 use Rattle.mg_disk.specs.Disk.{Image}
 use Rattle.mg_check.specs.ObjectsTold.{AreObjects}
 use Rattle.mg_check.specs.Reads.{contents}
 use Rattle.mg_check.specs.declared.faults.RowFault.TheVariants as fault
-use Rattle.mg_model.specs.Bytes.{bytes_at}
 use Rattle.mg_model.specs.Layout.{object_rows, first_object_block}
 use Rattle.mg_model.specs.Replay.{block_of}
 use Rattle.mg_model.specs.Spelling.{object_read}
 use Rattle.mg_model.specs.Volume.{object_row_bytes}
-use Rattle.mg_check.proofs.LiveRows.{not_spelled, told_none, told_weaker}
-use Rattle.mg_check.proofs.ReadRuns.{only_none, only_then, same_contents, still_read}
+use Rattle.mg_rows.specs.Blocks.{object_in}
+use Rattle.mg_check.specs.LiveRows.{not_spelled, told_none, told_weaker}
+use Rattle.mg_check.specs.ReadRuns.{only_none, only_then, same_contents, still_read}
 use Rattle.mg_check.proofs.objects.read_objects.Goals as goal
 
 pub turn_to-requires-clause-can : goal.turn_to-requires-clause-can
@@ -26,7 +26,7 @@ returns-in_err-take-clause-damaged g c is r told =
     let damaged : c.take.result ≡ Err fault.Damaged = cc in
     let there = c.in-Ok.ensures.block r (same_contents g.D.Disk c.args.disk.now c.loop-i.disk c.args.view.now.total c.loop-i.invariant.reads ∙ told) in
     not_spelled (λ i. object_read (object_row_bytes r i)) object_rows c.loop-i.i
-    (ap (λ block. object_read (bytes_at block (1024 * (c.loop-i.i % 4)) 1024)) (sym there) ∙ c.take.ensures.damaged damaged) (omega arith)
+    (ap (λ block. object_in block (c.loop-i.i % 4)) (sym there) ∙ c.take.ensures.damaged damaged) (omega arith)
 
 pub loop-i-preserved : goal.loop-i-preserved
 loop-i-preserved g c =
@@ -39,7 +39,7 @@ loop-i-preserved g c =
           let other : (i + 1) % 4 ≢ 0 = eqb-false ((i + 1) % 4) 0 test in
           let same : i / 4 ≡ (i + 1) / 4 = omega arith in
           at_hand r told ∙ ap (λ k. block_of r (first_object_block + k)) same;
-      told = λ r told. c.in_ok-take.ensures.told (λ i. object_read (object_row_bytes r i)) (ap (λ block. object_read (bytes_at block (1024 * (i % 4)) 1024)) (sym (at_hand r told))) (c.loop-i.invariant.told r told);
+      told = λ r told. c.in_ok-take.ensures.told (λ i. object_read (object_row_bytes r i)) (ap (λ block. object_in block (i % 4)) (sym (at_hand r told))) (c.loop-i.invariant.told r told);
       some = c.in_ok-take.ensures.some;
     }
 

@@ -1,14 +1,14 @@
 use Rattle.std.proofs.Common.{◌≡◌, Err, ◌*◌, ◌^◌, subst, ◌∙◌}
 use Rattle.std.proofs.lemmas.Result.{err_from_is_err_and}
-use Rattle.mg_check.specs.declared.faults.RowFault.TheVariants as fault
 use Rattle.mg_check.specs.AccountsTold.{AreAccounts}
 use Rattle.mg_check.specs.ThreadsTold.{AreThreads}
 use Rattle.mg_check.specs.Told.{IsTold}
+use Rattle.mg_check.specs.declared.faults.RowFault.TheVariants as fault
 use Rattle.mg_model.specs.Layout.{account_rows, thread_rows}
 use Rattle.mg_model.specs.Spelling.{account_read, thread_read}
 use Rattle.mg_model.specs.Volume.{account_row_bytes, thread_row_bytes}
 use Rattle.mg_check.proofs.NoRows.{without-objects, without-threads, without-zeros}
-use Rattle.mg_check.proofs.ReadRuns.{only_then, same_contents, still_read}
+use Rattle.mg_check.specs.ReadRuns.{only_then, same_contents, still_read}
 use Rattle.mg_check.proofs.tables.read_tables.Goals as goal
 
 pub read_accounts-requires-clause-can : goal.read_accounts-requires-clause-can

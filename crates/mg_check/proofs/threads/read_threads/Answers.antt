@@ -4,11 +4,11 @@ use Rattle.mg_disk.specs.Disk.{Image}
 use Rattle.mg_model.specs.Layout.{thread_rows}
 use Rattle.mg_model.specs.Spelling.{thread_read}
 use Rattle.mg_model.specs.Volume.{thread_row_bytes}
-use Rattle.mg_check.specs.declared.faults.RowFault.TheVariants as fault
-use Rattle.mg_check.specs.ThreadsTold.{AreThreads}
+use Rattle.mg_check.specs.LiveRows.{not_spelled, told_none, told_weaker}
+use Rattle.mg_check.specs.ReadRuns.{only_none, only_then, same_contents, still_read}
 use Rattle.mg_check.specs.Reads.{contents}
-use Rattle.mg_check.proofs.LiveRows.{not_spelled, told_none, told_weaker}
-use Rattle.mg_check.proofs.ReadRuns.{only_none, only_then, same_contents, still_read}
+use Rattle.mg_check.specs.ThreadsTold.{AreThreads}
+use Rattle.mg_check.specs.declared.faults.RowFault.TheVariants as fault
 use Rattle.mg_check.proofs.threads.read_threads.Goals as goal
 
 pub read_block-requires-clause-can : goal.read_block-requires-clause-can

@@ -1,15 +1,15 @@
-use Rattle.std.proofs.Common.{◌≡◌, ◌≢◌, ℕ, Some, ◌+◌, ◌*◌, ◌/◌, ◌%◌, ap, sym, subst, ◌∙◌, arith}
+use Rattle.std.proofs.Common.{◌≡◌, ◌≢◌, ℕ, Some, ◌+◌, ◌/◌, ◌%◌, ap, sym, subst, ◌∙◌, arith}
 use Rattle.std.proofs.lemmas.Bool.{eqb-false}
+use Rattle.mg_check.specs.ReadRuns.{only_then, same_contents}
 use Rattle.mg_check.specs.Reads.{contents}
 use Rattle.mg_check.specs.Told.{IsTold}
-use Rattle.mg_check.proofs.ReadRuns.{only_then, same_contents}
 use Rattle.mg_disk.specs.Disk.{Image}
 use Rattle.mg_journal.specs.Standing.{total_of}
-use Rattle.mg_model.specs.Bytes.{bytes_at}
 use Rattle.mg_model.specs.Layout.{account_rows, first_account_block}
 use Rattle.mg_model.specs.Replay.{block_of}
 use Rattle.mg_model.specs.Spelling.{account_read}
 use Rattle.mg_model.specs.Volume.{account_row_bytes}
+use Rattle.mg_rows.specs.Blocks.{account_in}
 use Rattle.mg_volume.specs.Loading.{AreAccounts}
 use Rattle.mg_volume.proofs.accounts.read_accounts.Goals as goal
 
@@ -17,7 +17,7 @@ pub returns-in-Err-take-clause-damaged : goal.returns-in-Err-take-clause-damaged
 returns-in-Err-take-clause-damaged g c is r told =
     let total = total_of c.args.store.now in
     let there = c.in-Ok.ensures.block r (same_contents g.D.Disk c.args.disk.now c.loop-i.disk total c.loop-i.invariant.reads ∙ told) in
-    c.in-Err-take.ensures.damaged is (λ i. account_read (account_row_bytes r i)) (ap (λ block. account_read (bytes_at block (64 * (c.loop-i.i % 64)) 64)) (sym there)) (c.loop-i.invariant.told r told)
+    c.in-Err-take.ensures.damaged is (λ i. account_read (account_row_bytes r i)) (ap (λ block. account_in block (c.loop-i.i % 64)) (sym there)) (c.loop-i.invariant.told r told)
 
 pub returns-in-Err-take-clause-reads : goal.returns-in-Err-take-clause-reads
 returns-in-Err-take-clause-reads g c = only_then g.D.Disk c.args.disk.now c.loop-i.disk c.turn_to.new.disk c.loop-i.invariant.reads c.turn_to.ensures.reads
@@ -34,7 +34,7 @@ loop-i-preserved g c =
           let other : (i + 1) % 64 ≢ 0 = eqb-false ((i + 1) % 64) 0 test in
           let same : i / 64 ≡ (i + 1) / 64 = omega arith in
           at_hand r told ∙ ap (λ k. block_of r (first_account_block + k)) same;
-      told = λ r told. c.in-Ok-take.ensures.told (λ i. account_read (account_row_bytes r i)) (ap (λ block. account_read (bytes_at block (64 * (i % 64)) 64)) (sym (at_hand r told))) (c.loop-i.invariant.told r told);
+      told = λ r told. c.in-Ok-take.ensures.told (λ i. account_read (account_row_bytes r i)) (ap (λ block. account_in block (i % 64)) (sym (at_hand r told))) (c.loop-i.invariant.told r told);
       few = let before = c.loop-i.invariant.few in let more = c.in-Ok-take.ensures.few in omega arith;
       room = let before = c.loop-i.invariant.room in let more = c.take.ensures.room in omega arith;
     }

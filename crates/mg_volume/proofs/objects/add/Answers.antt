@@ -1,7 +1,7 @@
 use Rattle.std.proofs.Common.{◌≡◌, ◌<◌, ◌-◌, ℕ, sym, ap, subst, ◌∙◌, arith}
 use Rattle.std.specs.Prelude.{slice_index_or}
 use Rattle.std.specs.List.{insert}
-use Rattle.mg_volume.proofs.HeldRows.{rows_more}
+use Rattle.mg_volume.proofs.HeldRows.{places_more, rows_more}
 use Rattle.mg_volume.proofs.RowOrder.{one_more}
 use Rattle.mg_volume.proofs.objects.add.Goals as goal
 
@@ -23,3 +23,6 @@ returns-in-Ok-clause-more c rows are =
 
 pub returns-in-Ok-clause-rows : goal.returns-in-Ok-clause-rows
 returns-in-Ok-clause-rows c rows = rows_more c.args.objects.now.items c.insert.new.self.items c.place_of-place.result (c.args.i, c.args.row) rows c.base.ensures.kept c.in-Ok.ensures.items
+
+pub returns-in-Ok-clause-places : goal.returns-in-Ok-clause-places
+returns-in-Ok-clause-places c rows = places_more c.args.objects.now.items c.insert.new.self.items c.place_of-place.result (c.args.i, c.args.row) rows c.requires.place c.in-Ok.ensures.items

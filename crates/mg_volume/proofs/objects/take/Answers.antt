@@ -1,7 +1,7 @@
 use Rattle.std.proofs.Common.{sym, ap, ◌∙◌, Some}
 use Rattle.std.proofs.lemmas.Result.{on_ok_weaker}
 use Rattle.mg_rows.specs.Answers.{as_read}
-use Rattle.mg_check.proofs.LiveRows.{told_free, told_live}
+use Rattle.mg_check.specs.LiveRows.{told_free, told_live}
 use Rattle.mg_volume.specs.Loading.{AreObjects}
 use Rattle.mg_volume.proofs.objects.take.Goals as goal
 

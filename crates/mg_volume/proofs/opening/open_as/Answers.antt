@@ -2,6 +2,7 @@ use Rattle.std.proofs.Common.{◌∙◌}
 use Rattle.std.specs.Prelude.{◌≡◌, IsTrue, true}
 use Rattle.std.specs.Option.{ForSome}
 use Rattle.std.proofs.lemmas.Result.{IfOk-weaker}
+use Rattle.mg_disk.specs.Disk.{Image}
 use Rattle.mg_disk.specs.Runs.{nothing_none}
 use Rattle.mg_journal.specs.CommitRuns.{some_of}
 use Rattle.mg_journal.specs.Standing as journal
@@ -9,7 +10,8 @@ use Rattle.mg_model.specs.Volume.{volume}
 use Rattle.mg_volume.specs.Loading.{IsLoaded}
 use Rattle.mg_volume.specs.Meaning.{is_live, is_sound, now_of}
 use Rattle.mg_volume.specs.Opening.{Opens}
-use Rattle.mg_volume.proofs.OpenRuns.{Still, opens, quiet, sounds, then_quiet}
+use Rattle.mg_volume.specs.Sound.{is_sound_held, sound_is}
+use Rattle.mg_volume.proofs.OpenRuns.{Still, opens, quiet, then_quiet}
 use Rattle.mg_volume.proofs.opening.open_as.Goals as goal
 
 pub returns-clause-damaged : goal.returns-clause-damaged
@@ -34,9 +36,7 @@ returns-clause-opens g c =
 
 pub returns-clause-sound : goal.returns-clause-sound
 returns-clause-sound g c =
-    let mid = c.open_journal.new.disk in
-    IfOk-weaker c.load.result (λ v. ForSome (g.D.Disk.seen mid) (IsLoaded v)) (λ v. ForSome (g.D.Disk.seen c.load.new.disk) (λ image. is_sound (now_of v image) ≡ true))
-    (λ v loaded. sounds g.D.Disk mid c.load.new.disk v c.load.ensures.reads.writes.same loaded) c.load.ensures.loaded
+    IfOk-weaker c.load.result (λ v. is_sound_held v ≡ true) (λ v. (image : Image) → is_sound (now_of v image) ≡ true) (λ v sound image. sound_is v image ∙ sound) c.load.ensures.sound
 
 pub returns-clause-live : goal.returns-clause-live
 returns-clause-live g c =

@@ -1,8 +1,8 @@
 use Rattle.std.proofs.Common.{◌≡◌, ℕ, Some, ap, sym, subst, ◌∙◌, arith}
+use Rattle.mg_check.specs.LiveRows.{not_spelled}
+use Rattle.mg_check.specs.ReadRuns.{only_then, same_contents}
 use Rattle.mg_check.specs.Reads.{contents}
 use Rattle.mg_check.specs.Told.{IsTold}
-use Rattle.mg_check.proofs.LiveRows.{not_spelled}
-use Rattle.mg_check.proofs.ReadRuns.{only_then, same_contents}
 use Rattle.mg_disk.specs.Disk.{Image}
 use Rattle.mg_journal.specs.Standing.{total_of}
 use Rattle.mg_model.specs.Layout.{thread_rows}

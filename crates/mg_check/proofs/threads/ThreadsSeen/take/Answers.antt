@@ -1,8 +1,8 @@
 use Rattle.std.proofs.Common.{sym, ap, ◌∙◌, Some}
 use Rattle.std.proofs.lemmas.Result.{on_ok_weaker}
 use Rattle.mg_rows.specs.Answers.{as_read}
+use Rattle.mg_check.specs.LiveRows.{told_free, told_live}
 use Rattle.mg_check.specs.ThreadsTold.{AreThreads}
-use Rattle.mg_check.proofs.LiveRows.{told_free, told_live}
 use Rattle.mg_check.proofs.threads.ThreadsSeen.take.Goals as goal
 
 pub returns-in-Row-clause-told : goal.returns-in-Row-clause-told

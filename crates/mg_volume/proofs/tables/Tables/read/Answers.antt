@@ -1,5 +1,5 @@
 use Rattle.std.proofs.Common.{◌≡◌, Err, ap, ◌∙◌}
-use Rattle.mg_check.proofs.ReadRuns.{only_then, same_contents}
+use Rattle.mg_check.specs.ReadRuns.{only_then, same_contents}
 use Rattle.mg_journal.specs.Standing.{total_of}
 use Rattle.mg_volume.specs.declared.faults.LoadFault.TheVariants as fault
 use Rattle.mg_volume.proofs.Replayed.{bad_accounts, bad_objects, bad_threads}

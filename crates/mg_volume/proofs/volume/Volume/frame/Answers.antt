@@ -1,6 +1,6 @@
-use Rattle.std.proofs.Common.{ap, sym, [], List, None, Option, Some}
+use Rattle.std.proofs.Common.{ap, sym, [], None, Option, Some}
 use Rattle.std.specs.Option.{option_map_or}
-use Rattle.mg_model.specs.State.{CallFrame, Thread}
+use Rattle.mg_model.specs.State.{CallFrame}
 use Rattle.mg_volume.proofs.Found.{thread_found}
 use Rattle.mg_volume.proofs.volume.Volume.frame.Goals as goal
 

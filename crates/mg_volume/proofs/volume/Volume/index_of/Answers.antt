@@ -2,12 +2,13 @@ use Rattle.std.proofs.Common.{◌==◌, ℕ}
 use Rattle.std.proofs.lemmas.Bool.{eqb-true}
 use Rattle.std.proofs.Common.{get_or}
 use Rattle.mg_model.specs.State.{ObjectRow}
-use Rattle.mg_volume.proofs.Indexed.{first_is, none_is, object_first, object_none}
+use Rattle.mg_volume.proofs.Indexed.{first_is, none_is, object_first}
+use Rattle.mg_volume.proofs.StillStaged.{base_none}
 use Rattle.mg_volume.proofs.volume.Volume.index_of.Goals as goal
 
 pub unreachable-requires : goal.unreachable-requires
 unreachable-requires c =
-    object_none c.args.self.now c.args.base (λ old. Unit {0}) (none_is (λ (o : ℕ × ObjectRow). o.1.base == c.args.base) c.args.self.now.objects c.in-None.ensures) c.requires
+    base_none c.args.self.now c.args.base (none_is (λ (o : ℕ × ObjectRow). o.1.base == c.args.base) c.args.self.now.objects c.in-None.ensures) c.requires
 
 pub returns-clause-within : goal.returns-clause-within
 returns-clause-within c = (first_is (λ (o : ℕ × ObjectRow). o.1.base == c.args.base) c.args.self.now.objects c.in-Some.i c.in-Some.ensures).within

@@ -1,7 +1,8 @@
-use Rattle.std.proofs.Common.{◌∙◌, ap, inl, inr, ⊎_elim}
+use Rattle.std.proofs.Common.{◌∙◌, ap, inl, inr, refl, ⊎_elim}
 use Rattle.std.proofs.lemmas.Result.{on_err_weaker, on_ok_weaker}
 use Rattle.mg_volume.proofs.PagesChange.{counted, frame_free, held_again, keeps_now, rows_same, same_objects, same_sound, some_page, word_set}
-use Rattle.mg_volume.specs.Again.{pages_stand, stands_same}
+use Rattle.mg_volume.proofs.StillWaiting.{still_staged}
+use Rattle.mg_volume.specs.Again.{pages_stand, stands_same, with_pages}
 use Rattle.mg_volume.specs.Meaning.{has_page, is_live, staged_of, total_of, words_in}
 use Rattle.mg_volume.specs.contracts.volume.Volume.{the_view}
 use Rattle.mg_volume.proofs.volume.Volume.set_word.Goals as goal
@@ -55,6 +56,11 @@ returns-clause-total g c = rw (← c.self.view_is) c.set_word.ensures.shape.tota
 pub returns-clause-staged : goal.returns-clause-staged
 unfolding staged_of
 returns-clause-staged g c = rw (← c.self.view_is) c.set_word.ensures.staged.staged
+
+pub returns-clause-still : goal.returns-clause-still
+returns-clause-still g c =
+    let v = the_view c.self.inside in
+    rw (← c.self.view_is) (still_staged v (with_pages v c.set_word.new.self) refl c.set_word.ensures.staged.still)
 
 pub returns-clause-stands : goal.returns-clause-stands
 returns-clause-stands g c =

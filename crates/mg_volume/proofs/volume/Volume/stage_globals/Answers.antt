@@ -1,12 +1,14 @@
+use Rattle.std.proofs.Common.{refl}
 use Rattle.mg_volume.proofs.PagesChange.{held_same, same_objects}
-use Rattle.mg_volume.proofs.Stages.{held_counters, room_for, same_shape, staged_more}
+use Rattle.mg_volume.proofs.Stages.{held_counters, same_shape, staged_more}
+use Rattle.mg_volume.proofs.StillWaiting.{counters_here, counters_room, still_staged}
 use Rattle.mg_volume.specs.Meaning.{objects_in}
 use Rattle.mg_volume.specs.Staged.{counters_now, counters_staged, with_counters}
 use Rattle.mg_volume.specs.contracts.volume.Volume.{the_view}
 use Rattle.mg_volume.proofs.volume.Volume.stage_globals.Goals as goal
 
 pub stage-requires-clause-room : goal.stage-requires-clause-room
-stage-requires-clause-room c = room_for (the_view c.self.inside) 1298 (rw (← c.self.view_is) at c.requires.room)
+stage-requires-clause-room c = counters_room (the_view c.self.inside) (rw (← c.self.view_is) at c.requires.room)
 
 pub invariant_of-self : goal.invariant_of-self
 invariant_of-self c =
@@ -31,6 +33,14 @@ pub returns-clause-staged : goal.returns-clause-staged
 returns-clause-staged c =
     let v = the_view c.self.inside in
     rw (← c.self.view_is) (staged_more v (with_counters v c.stage.new.self c.args.g) 1 c.stage.ensures.staged)
+
+pub returns-clause-still : goal.returns-clause-still
+returns-clause-still c =
+    let v = the_view c.self.inside in
+    rw (← c.self.view_is) (still_staged v (with_counters v c.stage.new.self c.args.g) refl c.stage.ensures.staged.still)
+
+pub returns-clause-here : goal.returns-clause-here
+returns-clause-here c = counters_here (with_counters (the_view c.self.inside) c.stage.new.self c.args.g) c.stage.ensures.here
 
 pub returns-clause-shape : goal.returns-clause-shape
 returns-clause-shape c =

@@ -1,13 +1,14 @@
-use Rattle.std.proofs.Common.{◌≡◌, ◌+◌, ◌-◌, arith}
+use Rattle.std.proofs.Common.{◌≡◌, ◌+◌, ◌-◌, refl, arith}
 use Rattle.mg_volume.proofs.PagesChange.{held_same, same_objects}
-use Rattle.mg_volume.proofs.Stages.{room_for, same_shape, staged_more}
+use Rattle.mg_volume.proofs.Stages.{same_shape, staged_more}
+use Rattle.mg_volume.proofs.StillWaiting.{still_staged, thread_here, thread_room}
 use Rattle.mg_volume.proofs.ThreadStaged.{held_threads, thread_now, thread_spelled, with_threads}
 use Rattle.mg_volume.specs.Meaning.{objects_in}
 use Rattle.mg_volume.specs.contracts.volume.Volume.{the_view}
 use Rattle.mg_volume.proofs.volume.Volume.stage_thread.Goals as goal
 
 pub stage-requires-clause-room : goal.stage-requires-clause-room
-stage-requires-clause-room c = room_for (the_view c.self.inside) (1314 + c.args.t) (rw (← c.self.view_is) at c.requires.room)
+stage-requires-clause-room c = thread_room (the_view c.self.inside) c.args.t (rw (← c.self.view_is) at c.requires.room)
 
 pub invariant_of-self : goal.invariant_of-self
 invariant_of-self c =
@@ -35,6 +36,14 @@ pub returns-clause-staged : goal.returns-clause-staged
 returns-clause-staged c =
     let v = the_view c.self.inside in
     rw (← c.self.view_is) (staged_more v (with_threads v c.put_row.new.rows.items c.stage.new.self) 1 c.stage.ensures.staged)
+
+pub returns-clause-still : goal.returns-clause-still
+returns-clause-still c =
+    let v = the_view c.self.inside in
+    rw (← c.self.view_is) (still_staged v (with_threads v c.put_row.new.rows.items c.stage.new.self) refl c.stage.ensures.staged.still)
+
+pub returns-clause-here : goal.returns-clause-here
+returns-clause-here c = thread_here (with_threads (the_view c.self.inside) c.put_row.new.rows.items c.stage.new.self) c.args.t c.stage.ensures.here
 
 pub returns-clause-shape : goal.returns-clause-shape
 returns-clause-shape c =

@@ -1,4 +1,4 @@
-use Rattle.std.proofs.Common.{◌≡◌, ◌∙◌, ap}
+use Rattle.std.proofs.Common.{◌≡◌, ◌∙◌, ap, refl}
 use Rattle.std.proofs.lemmas.Result.{IfOk-weaker}
 use Rattle.std.specs.Option.{ForSome}
 use Rattle.mg_disk.specs.Disk.{block_at}
@@ -6,7 +6,8 @@ use Rattle.mg_model.specs.Objects.{word_at}
 use Rattle.mg_pages.specs.Meaning as pages
 use Rattle.std.specs.Prelude.{slice_index, ◌+◌, ◌*◌}
 use Rattle.mg_volume.proofs.PagesChange.{counted, held_same, keeps_now, same_objects, some_page, word_now}
-use Rattle.mg_volume.specs.Again.{pages_stand, stands_same}
+use Rattle.mg_volume.proofs.StillWaiting.{kept_staged}
+use Rattle.mg_volume.specs.Again.{pages_stand, stands_same, with_pages}
 use Rattle.mg_volume.specs.Meaning.{now_of, words_in}
 use Rattle.mg_volume.specs.contracts.volume.Volume.{the_view}
 use Rattle.mg_volume.proofs.volume.Volume.word.Goals as goal
@@ -32,6 +33,11 @@ returns-clause-word g c =
 
 pub returns-clause-keeps : goal.returns-clause-keeps
 returns-clause-keeps g c = rw (← c.self.view_is) (keeps_now (the_view c.self.inside) c.word.new.self c.word.ensures.keeps)
+
+pub returns-clause-still : goal.returns-clause-still
+returns-clause-still g c =
+    let v = the_view c.self.inside in
+    rw (← c.self.view_is) (kept_staged v (with_pages v c.word.new.self) refl c.word.ensures.keeps)
 
 pub returns-clause-rows : goal.returns-clause-rows
 returns-clause-rows g c = rw (← c.self.view_is) (same_objects (the_view c.self.inside) c.word.new.self)

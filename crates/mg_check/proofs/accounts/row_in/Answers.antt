@@ -1,9 +1,0 @@
-use Rattle.std.proofs.Common.{ap, ◌∙◌, ◌≡◌, ◌*◌, ◌%◌, ◌+◌, ◌-◌, drop, take, arith}
-use Rattle.mg_model.specs.Spelling.{account_read}
-use Rattle.mg_check.proofs.accounts.row_in.Goals as goal
-
-pub returns : goal.returns
-returns c =
-    let at = 64 * (c.args.i % 64) in
-    let e : at + 64 - at ≡ 64 = omega arith in
-    c.read_account.ensures ∙ ap (λ k. account_read (take k (drop at c.args.block.now))) e

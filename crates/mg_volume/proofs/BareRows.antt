@@ -1,0 +1,15 @@
+-- Tests and sums over rows with their places are those over the rows.
+use Rattle.std.specs.Prelude.{◌≡◌, ◌+◌, ◌||◌, ℕ, Bool, List, [], ◌∷◌, sum_by}
+use Rattle.std.specs.List.{list_any}
+use Rattle.std.proofs.Common.{refl, sym, ap, ◌∙◌}
+use Rattle.std.proofs.lemmas.List.Sums.{sum_by-cons}
+use Rattle.mg_model.specs.State.{ObjectRow}
+use Rattle.mg_volume.specs.Meaning.{bare_rows}
+
+pub any_bare : (q : ObjectRow → Bool) (os : List (ℕ × ObjectRow)) → list_any (λ (o : ℕ × ObjectRow). q o.1) os ≡ list_any q (bare_rows os)
+any_bare q [] = refl
+any_bare q (o ∷ os) = ap (λ t. q o.1 || t) (any_bare q os)
+
+pub sum_bare : (f : ObjectRow → ℕ) (os : List (ℕ × ObjectRow)) → sum_by (λ (o : ℕ × ObjectRow). f o.1) os ≡ sum_by f (bare_rows os)
+sum_bare f [] = refl
+sum_bare f (o ∷ os) = sum_by-cons (λ (o : ℕ × ObjectRow). f o.1) o os ∙ ap (λ n. f o.1 + n) (sum_bare f os) ∙ sym (sum_by-cons f o.1 (bare_rows os))

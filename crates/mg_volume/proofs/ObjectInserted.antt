@@ -1,0 +1,175 @@
+-- A new object, in the first row that is free.
+use Rattle.std.specs.Prelude.{◌≡◌, ◌≢◌, ◌+◌, ◌*◌, ◌/◌, ◌≤◌, ◌<◌, ◌==◌, nat_le, nat_lt, ℕ, zero, suc, true, false, not, All, List, [], ◌∷◌, ◌++◌, if◌then◌else◌, length, map, replicate, sum_by, Some, None}
+use Rattle.std.specs.List.{list_all, list_any, position_or_len}
+use Rattle.std.specs.Option.{option_map_or}
+use Rattle.std.proofs.Common.{refl, sym, ap, subst, ◌∙◌, ⊎_elim, arith}
+use Rattle.std.proofs.lemmas.Bool.{and_from, both_ways, cases_Bool, le-leb, le-ltb, lt-ltb, or_parts}
+use Rattle.std.proofs.lemmas.List.{length-map, replicate-append-replicate}
+use Rattle.std.proofs.lemmas.List.Elements.{All-cons, All-head, All-nil, All-tail}
+use Rattle.mg_disk.specs.Disk.{Image}
+use Rattle.mg_model.specs.Bytes.{block_words}
+use Rattle.mg_model.specs.Layout.{first_frame, first_object_block, object_rows}
+use Rattle.mg_model.specs.Objects.{page_behind, page_of, with_object}
+use Rattle.mg_model.specs.Ranges.{IsObjectRow}
+use Rattle.mg_model.specs.Replay.{block_of}
+use Rattle.mg_model.specs.State.{ObjectRow}
+use Rattle.mg_model.specs.Volume.{bound_pages, page_words, pages_words}
+use Rattle.mg_pages.specs.Held.{PagesHeld}
+use Rattle.mg_pages.specs.Meaning as pages
+use Rattle.mg_volume.proofs.BareRows.{sum_bare}
+use Rattle.mg_volume.proofs.FreePlace.{free_is, is_taken}
+use Rattle.mg_volume.proofs.ObjectLists.{by_base_row, into-all, placed_distinct}
+use Rattle.mg_volume.proofs.ObjectOrder.{from_by_base, into_any, into_found, into_length, into_others, into_rows, into_sum, none_at, set_order}
+use Rattle.mg_volume.proofs.ObjectStaged.{objects_staged, placed_of, with_objects}
+use Rattle.mg_volume.proofs.PagesChange.{all-bound, each-bound}
+use Rattle.mg_volume.proofs.RowsApart.{apart_with, base_apart, kept_rows, no_base, page_apart}
+use Rattle.mg_volume.proofs.StillStaged.{place_found, place_new, place_same, still_staged, with_base}
+use Rattle.mg_volume.specs.Held.{VolumeHeld}
+use Rattle.mg_volume.specs.Meaning.{IsHeld, IsKept, IsSpelledBy, Spelled, bare_rows, by_base, has_page, into_place, is_page_in, now_of, objects_in, rows_apart, settings_in, threads_in}
+use Rattle.mg_volume.specs.Staging.{MayJoin, StillStaged, blank, free_place, has_base, is_object_staged, object_rows_with, place_for, with_new_row}
+use Rattle.mg_volume.specs.RowLists.{row_at, row_set, set_other, set_placed}
+use Rattle.mg_volume.specs.Sound.{all_spelled, object-placed}
+use Rattle.mg_volume.specs.Staged.{objects_apart}
+use Rattle.mg_volume.specs.StagesRows.{StagesRows}
+
+-- a page that no frame holds reads as zeros
+none-behind : (page : ℕ) (table : List ℕ) → list_any (λ entry. entry == page) table ≡ false → position_or_len (λ entry. entry == page) table ≡ length table
+none-behind page [] none = refl
+none-behind page (entry ∷ table) none =
+    let parts = or_parts (entry == page) (list_any (λ entry. entry == page) table) none in
+    let rest = none-behind page table parts.1 in
+    ap (λ b. if not b then 1 + position_or_len (λ entry. entry == page) table else 0) parts.0 ∙ omega arith
+
+unbound-zeros : (r : Image) (frames : ℕ) (table : List ℕ) (page : ℕ) → list_any (λ entry. entry == page) table ≡ false → page_words r frames table page ≡ replicate 512 0
+unbound-zeros r frames table page none =
+    let at = position_or_len (λ entry. entry == page) table in
+    ap (λ b. option_map_or (λ frame. block_words (block_of r (first_frame frames + frame))) (if b then Some at else None) (replicate 512 0)) (le-ltb at (length table) (let e = none-behind page table none in omega arith))
+
+unbound-words : (r : Image) (frames : ℕ) (table : List ℕ) (page n : ℕ) → ((k : ℕ) → page ≤ k → k < page + n → list_any (λ entry. entry == k) table ≡ false) → pages_words r frames table page n ≡ replicate (512 * n) 0
+unbound-words r frames table page zero none = refl
+unbound-words r frames table page (suc n) none =
+    ap (λ words. words ++ pages_words r frames table (page + 1) n) (unbound-zeros r frames table page (none page (omega arith) (omega arith)))
+    ∙ ap (λ words. replicate 512 0 ++ words) (unbound-words r frames table (page + 1) n (λ k low high. none k (omega arith) (omega arith)))
+    ∙ replicate-append-replicate 512 (512 * n) 0
+    ∙ ap (λ n. replicate n 0) (omega arith)
+
+unmap : (P : ObjectRow → Type 0) (os : List (ℕ × ObjectRow)) → All P (bare_rows os) → All (λ (o : ℕ × ObjectRow). P o.1) os
+unmap P [] all = All-nil (λ (o : ℕ × ObjectRow). P o.1)
+unmap P (o ∷ os) all = All-cons (λ (o : ℕ × ObjectRow). P o.1) o os (All-head P o.1 (bare_rows os) all) (unmap P os (All-tail P o.1 (bare_rows os) all))
+
+module _ (v : VolumeHeld) (row : ObjectRow) (place : ℕ) (is : IsObjectRow row) (kept : IsKept v) (join : MayJoin (objects_in v) (settings_in v).frames row) (at : place ≡ free_place v.objects) where
+  pub few_enough : length v.objects < object_rows
+  unfolding objects_in
+  few_enough = (let long = length-map v.objects (λ (o : ℕ × ObjectRow). o.1) in let f = join.few in omega arith)
+
+  -- there is a free row
+  pub inserted_low : place < object_rows
+  inserted_low = (let free = (free_is v.objects few_enough).below in omega arith)
+
+  free : is_taken v.objects place ≡ false
+  free = ap (is_taken v.objects) at ∙ (free_is v.objects few_enough).free
+
+  other-rows : All (λ other. other.base ≢ row.base) (objects_in v)
+  other-rows = base_apart row is (objects_in v) (kept_rows v kept) join.apart
+
+  others : All (λ (o : ℕ × ObjectRow). o.1.base ≢ row.base) v.objects
+  unfolding objects_in
+  others = unmap (λ other. other.base ≢ row.base) v.objects other-rows
+
+  absent : has_base row.base (objects_in v) ≡ false
+  absent = no_base row.base (objects_in v) other-rows
+
+  -- it waits for a commit where the free row does
+  pub inserted_room : is_object_staged v row.base ≡ true → pages.is_staged v.pages (first_object_block + place / 4) ≡ true
+  unfolding is_object_staged objects_in
+  inserted_room staged = ap (λ place. pages.is_staged v.pages (first_object_block + place / 4)) (at ∙ sym (place_new row.base v.objects absent)) ∙ staged
+
+  module _ (p : PagesHeld) (objects : List (ℕ × ObjectRow)) (put : objects ≡ into_place (place, row) v.objects) where
+    pub inserted_here : pages.is_staged p (first_object_block + place / 4) ≡ true → is_object_staged (with_objects v objects p) row.base ≡ true
+    unfolding is_object_staged
+    inserted_here staged =
+        ap (λ place. pages.is_staged p (first_object_block + place / 4)) (ap (place_for row.base) put ∙ place_found row.base (into_place (place, row) v.objects) (place, row) (into_found (place, row) v.objects others)) ∙ staged
+
+    pub inserted_still : (most : ℕ) → pages.StagesMore most v.pages p → StillStaged v (with_objects v objects p)
+    unfolding objects_in
+    inserted_still most more =
+        still_staged v (with_objects v objects p) more.still
+        (λ base was now.
+        place_same base v.objects objects was
+        (ap (with_base base) put ∙ into_others base (place, row) v.objects (λ same. both_ways (has_base base (objects_in v)) (ap (λ b. has_base b (objects_in v)) (sym same) ∙ absent) was)))
+
+    pub inserted_rows : objects_in (with_objects v objects p) ≡ object_rows_with row.base (Some row) (objects_in v)
+    unfolding objects_in
+    inserted_rows =
+        ap bare_rows put ∙ into_rows (place, row) v.objects
+        ∙ sym (ap (λ b. if b then map (λ (y : ObjectRow). if y.base == row.base then row else y) (bare_rows v.objects) else with_new_row row (bare_rows v.objects)) absent)
+
+    -- the volume with it is held
+    pub inserted_held : (cap cap' accounts threads : ℕ) → IsHeld v cap accounts threads → cap ≤ cap' → pages.frame_count p ≡ pages.frame_count v.pages → pages.table_in p ≡ pages.table_in v.pages → IsHeld (with_objects v objects p) cap' accounts threads
+    unfolding objects_in settings_in
+    inserted_held cap cap' accounts threads held room frames table = record {
+      kept = record {
+        frames = frames ∙ kept.frames;
+        rows = subst (All (λ (o : ℕ × ObjectRow). IsObjectRow o.1)) (sym put) (into-all (λ (o : ℕ × ObjectRow). IsObjectRow o.1) (place, row) v.objects is kept.rows);
+        places = subst (All (λ (o : ℕ × ObjectRow). o.0 < object_rows)) (sym put) (into-all (λ (o : ℕ × ObjectRow). o.0 < object_rows) (place, row) v.objects inserted_low kept.places);
+        apart = ap (λ l. rows_apart (bare_rows l)) put ∙ ap rows_apart (into_rows (place, row) v.objects) ∙ apart_with row is (objects_in v) (kept_rows v kept) join.apart kept.apart;
+        used =
+            (let s = ap (λ l. sum_by (λ (o : ℕ × ObjectRow). o.1.pages) l) put ∙ into_sum (λ (o : ℕ × ObjectRow). o.1.pages) (place, row) v.objects in
+            let b = sum_bare (λ (row : ObjectRow). row.pages) v.objects in
+            let fit = join.fit in
+            omega arith);
+        few_objects = (let long = ap (λ (l : List (ℕ × ObjectRow)). length l) put ∙ into_length (place, row) v.objects in let f = few_enough in omega arith);
+        few_accounts = kept.few_accounts;
+        few_threads = kept.few_threads;
+        inside =
+            ap (λ table. list_all (λ page. list_any (λ row. is_page_in page row) (bare_rows objects)) (bound_pages table)) table
+            ∙ all-bound (λ page. list_any (λ row. is_page_in page row) (bare_rows objects)) (pages.table_in v.pages)
+            (λ page some bound.
+            ap (λ l. list_any (λ row. is_page_in page row) (bare_rows l)) put
+            ∙ into_any (λ row. is_page_in page row) (place, row) v.objects (each-bound (λ page. has_page v page) page (pages.table_in v.pages) kept.inside some bound));
+      };
+      room_objects = (let most = held.room_objects in omega arith);
+      room_accounts = held.room_accounts;
+      room_threads = held.room_threads;
+    }
+
+    -- and spelled
+    pub inserted_spelled : (image : Image) → IsSpelledBy v image → pages.IsSpelledBy p image → pages.frame_count p ≡ pages.frame_count v.pages → StagesRows objects place v.pages p → IsSpelledBy (with_objects v objects p) image
+    unfolding IsSpelledBy
+    inserted_spelled image spelled fitting frames staged =
+        let s : Spelled v image = spelled in
+        let placed = placed_of v image s in
+        let none : row_at place s.objects ≡ None = sym (by_base_row place s.objects (placed_distinct 0 object_rows s.objects placed)) ∙ ap (row_at place) s.ordered ∙ none_at place v.objects free in
+        let differ : All (λ (o : ℕ × ObjectRow). o.1.base ≢ row.base) s.objects = from_by_base (λ (o : ℕ × ObjectRow). o.1.base ≢ row.base) s.objects (subst (All (λ (o : ℕ × ObjectRow). o.1.base ≢ row.base)) (sym s.ordered) others) in
+        let order : by_base (row_set place (Some row) s.objects) ≡ objects = set_order place row s.objects none differ ∙ ap (into_place (place, row)) s.ordered ∙ sym put in
+        let low = inserted_low in
+        objects_staged v p image (place / 4) staged.bytes (row_set place (Some row) s.objects) objects s fitting frames (staged.coming image) (omega arith)
+        (set_placed 0 object_rows place (Some row) s.objects placed (omega arith) low) order staged.rows
+        (λ j other. set_other j place (Some row) s.objects (λ same. other (ap (λ k. k / 4) same)))
+
+    -- its pages are bound nowhere
+    unbound : (page : ℕ) → page_of row ≤ page → page < page_of row + row.pages → list_any (λ entry. entry == page) (pages.table_in v.pages) ≡ false
+    unbound page low high =
+        let inside = and_from (nat_le (page_of row) page) (nat_lt page (page_behind row)) (le-leb (page_of row) page low) (lt-ltb page (page_behind row) high) in
+        let first = is.place.low in
+        ⊎_elim
+        (λ bound.
+        absurd (both_ways (has_page v page) (page_apart row is (objects_in v) page join.apart inside) (each-bound (λ page. has_page v page) page (pages.table_in v.pages) kept.inside (λ nil. omega arith) bound)))
+        (λ none. none)
+        (cases_Bool (list_any (λ entry. entry == page) (pages.table_in v.pages)))
+
+    -- the state has it, with words 0
+    pub inserted_now : (image : Image) → pages.table_in p ≡ pages.table_in v.pages → StagesRows objects place v.pages p → now_of (with_objects v objects p) image ≡ record (now_of v image) { objects = with_object (blank row) (now_of v image).objects }
+    unfolding now_of threads_in
+    inserted_now image table staged =
+        let r = pages.coming v.pages image in
+        let frames = v.settings.frames in
+        let t = pages.table_in v.pages in
+        let low = inserted_low in
+        ap (λ table. record (now_of v image) { objects = all_spelled (pages.coming p image) frames table objects }) table
+        ∙ ap (λ (coming : Image). record (now_of v image) { objects = all_spelled coming frames t objects }) (staged.coming image)
+        ∙ ap (λ objects. record (now_of v image) { objects = objects })
+        (objects_apart r (first_object_block + place / 4) staged.bytes frames t objects (omega arith)
+        ∙ ap (all_spelled r frames t) put
+        ∙ sym (object-placed r frames t (place, row) v.objects)
+        ∙ ap (λ words. with_object (record { row = row; words = words }) (all_spelled r frames t v.objects)) (unbound-words r frames t (page_of row) row.pages unbound))

@@ -1,0 +1,260 @@
+-- A volume without one of its objects, whose pages are unbound.
+use Rattle.std.specs.Prelude.{◌≡◌, ◌≢◌, ◌⊎◌, ◌+◌, ◌-◌, ◌/◌, ◌≤◌, ◌<◌, ◌==◌, ◌||◌, nat_le, nat_lt, ℕ, Bool, true, false, not, All, List, [], ◌∷◌, filter, find, if◌then◌else◌, length, map, remove, Option, Some, None}
+use Rattle.std.specs.List.{list_any}
+use Rattle.std.specs.Option.{option_map_or}
+use Rattle.std.proofs.Common.{refl, sym, ap, subst, get_or, ◌∙◌, ⊎_elim, inl, inr, arith}
+use Rattle.std.proofs.lemmas.Bool.{and_parts, both_ways, cases_Bool, eqb-false, eqb-true, leb-true, ltb-true, ne_eqb, not-true, not_from_false, or_cases}
+use Rattle.std.proofs.lemmas.List.Elements.{All-filter, All-get_or, All-head, All-tail, All-weaker, filter_passes}
+use Rattle.std.proofs.lemmas.List.Kept.{AllPairs-filter}
+use Rattle.mg_disk.specs.Disk.{Image}
+use Rattle.mg_model.specs.KeptLists.{All-both, length-filter-le, sum_by-filter-le}
+use Rattle.mg_model.specs.Layout.{first_object_block, first_thread_block, globals_block, object_rows}
+use Rattle.mg_model.specs.Objects.{page_behind, page_of, without_object}
+use Rattle.mg_model.specs.Ranges.{IsObjectRow}
+use Rattle.mg_model.specs.State.{Object, ObjectRow}
+use Rattle.mg_model.specs.Volume.{object_spelled, page_words}
+use Rattle.mg_pages.specs.Held.{PagesHeld}
+use Rattle.mg_pages.specs.Meaning as pages
+use Rattle.mg_volume.proofs.ObjectRemoved.{IsOrApart, LiesBefore, any_kept, apart_pairs, bases_differ, filter_mapped, find_kept, others_apart, pairs_apart, remove_is}
+use Rattle.mg_volume.proofs.ObjectStaged.{distinct_of, objects_staged, placed_of, with_objects}
+use Rattle.mg_volume.proofs.PagesChange.{all-bound, each-bound}
+use Rattle.mg_volume.proofs.RemovedOrder.{filter_order, row_set_none}
+use Rattle.mg_volume.specs.Again.{spelled_same}
+use Rattle.mg_volume.specs.Held.{VolumeHeld}
+use Rattle.mg_volume.specs.Meaning.{IsHeld, IsKept, IsSpelledBy, Spelled, by_base, has_page, is_page_in, now_of, objects_in, threads_in}
+use Rattle.mg_volume.specs.Staging.{StillStaged, free_place, has_base, is_thread_staged, are_counters_staged, is_object_staged, place_for}
+use Rattle.mg_volume.specs.PageWords.{pages-same}
+use Rattle.mg_volume.specs.RowLists.{row_set, set_other, set_placed}
+use Rattle.mg_volume.specs.Sound.{all_spelled}
+use Rattle.mg_volume.specs.Staged.{objects_apart}
+use Rattle.mg_volume.specs.StagesRows.{StagesRows}
+
+-- the objects but the one with a base
+abbrev pub without : ℕ → List (ℕ × ObjectRow) → List (ℕ × ObjectRow)
+without base os = filter (λ (o : ℕ × ObjectRow). not (o.1.base == base)) os
+
+-- what is known of an object that goes, and of the objects that are left: the others lie apart from it
+pub record Goes (v : VolumeHeld) (i : ℕ) (gone : ℕ × ObjectRow) (os : List (ℕ × ObjectRow)) : Type 0 where
+  pub row : IsObjectRow gone.1
+  pub within : i < length v.objects
+  pub at : gone ≡ get_or v.objects i gone
+  pub place : gone.0 < object_rows
+  pub others : All (λ (y : ℕ × ObjectRow). IsOrApart gone.1 y.1) v.objects
+  pub removed : os ≡ remove v.objects i
+  pub rest : os ≡ without gone.1.base v.objects
+
+pub goes : (v : VolumeHeld) (i : ℕ) (gone : ℕ × ObjectRow) (os : List (ℕ × ObjectRow)) → IsKept v → i < length v.objects → gone ≡ get_or v.objects i gone → os ≡ remove v.objects i → Goes v i gone os
+unfolding objects_in
+goes v i gone os kept few at removed =
+    let pairs = apart_pairs v.objects kept.apart in
+    record {
+      row = subst (λ (x : ℕ × ObjectRow). IsObjectRow x.1) (sym at) (All-get_or (λ (o : ℕ × ObjectRow). IsObjectRow o.1) v.objects i gone few kept.rows);
+      within = few;
+      at = at;
+      place = subst (λ (x : ℕ × ObjectRow). x.0 < object_rows) (sym at) (All-get_or (λ (o : ℕ × ObjectRow). o.0 < object_rows) v.objects i gone few kept.places);
+      others = subst (λ (x : ℕ × ObjectRow). All (λ (y : ℕ × ObjectRow). IsOrApart x.1 y.1) v.objects) (sym at) (others_apart v.objects i gone pairs few);
+      removed = removed;
+      rest = removed ∙ remove_is (λ (y : ℕ × ObjectRow). y.1.base) gone.1.base v.objects i gone (bases_differ v.objects kept.rows pairs) few (ap (λ (x : ℕ × ObjectRow). x.1.base) (sym at));
+    }
+
+-- the one that has a page is another one, where the page is none of those that go
+other-has : (gone : ObjectRow) (page : ℕ) (y : ℕ × ObjectRow) → 1 ≤ gone.pages → is_page_in page gone ≡ false → IsOrApart gone y.1 → is_page_in page y.1 ≡ true → not (y.1.base == gone.base) ≡ true
+other-has gone page y some outside (inl same) inside = absurd (both_ways (is_page_in page gone) outside (ap (is_page_in page) (sym same) ∙ inside))
+other-has gone page y some outside (inr apart) inside =
+    not_from_false (y.1.base == gone.base)
+    (ne_eqb y.1.base gone.base
+    (λ base.
+    let parts = and_parts (nat_le (page_of y.1) page) (nat_lt page (page_behind y.1)) inside in
+    let low = leb-true (page_of y.1) page parts.0 in
+    let high = ltb-true page (page_behind y.1) parts.1 in
+    let same : page_of y.1 ≡ page_of gone = ap (λ b. b / 4096) base in
+    ⊎_elim (λ before. omega arith) (λ behind. omega arith) apart))
+
+-- another page of another base is that of an object that lies apart
+apart-from : (gone row : ObjectRow) → row.base ≢ gone.base → IsOrApart gone row → (page_behind row ≤ page_of gone) ⊎ (page_behind gone ≤ page_of row)
+apart-from gone row other (inl same) = absurd (other (ap (λ (r : ObjectRow). r.base) same))
+apart-from gone row other (inr apart) = apart
+
+-- objects that lie apart from pages keep their words where only those pages change
+objects-kept : (r r' : Image) (frames : ℕ) (table table' : List ℕ) (gone : ObjectRow) (os : List (ℕ × ObjectRow)) → All (λ (y : ℕ × ObjectRow). IsObjectRow y.1) os
+    → All (λ (y : ℕ × ObjectRow). (page_behind y.1 ≤ page_of gone) ⊎ (page_behind gone ≤ page_of y.1)) os
+    → ((page : ℕ) → page ≢ 0 → (page < page_of gone) ⊎ (page_behind gone ≤ page) → page_words r' frames table' page ≡ page_words r frames table page)
+    → all_spelled r' frames table' os ≡ all_spelled r frames table os
+objects-kept r r' frames table table' gone [] kept apart same = refl
+objects-kept r r' frames table table' gone (y ∷ os) kept apart same =
+    let row = All-head (λ (y : ℕ × ObjectRow). IsObjectRow y.1) y os kept in
+    let low = row.place.low in
+    let here = All-head (λ (y : ℕ × ObjectRow). (page_behind y.1 ≤ page_of gone) ⊎ (page_behind gone ≤ page_of y.1)) y os apart in
+    ap (λ words. record { row = y.1; words = words } ∷ all_spelled r' frames table' os)
+    (pages-same r r' frames frames table table' (page_of y.1) y.1.pages
+    (λ k above below. same k (λ nil. omega arith) (⊎_elim (λ before. inl (omega arith)) (λ behind. inr (omega arith)) here)))
+    ∙ ap (λ objects. object_spelled r frames table y.1 ∷ objects)
+    (objects-kept r r' frames table table' gone os (All-tail (λ (y : ℕ × ObjectRow). IsObjectRow y.1) y os kept)
+    (All-tail (λ (y : ℕ × ObjectRow). (page_behind y.1 ≤ page_of gone) ⊎ (page_behind gone ≤ page_of y.1)) y os apart) same)
+
+-- no object with a base is left
+none-left : (base : ℕ) (os : List (ℕ × ObjectRow)) → has_base base (map (λ (o : ℕ × ObjectRow). o.1) (without base os)) ≡ false
+none-left base [] = refl
+none-left base (o ∷ os) =
+    ⊎_elim
+    (λ t. ap (λ b. has_base base (map (λ (o : ℕ × ObjectRow). o.1) (if not b then o ∷ without base os else without base os))) t ∙ none-left base os)
+    (λ n.
+    ap (λ b. has_base base (map (λ (o : ℕ × ObjectRow). o.1) (if not b then o ∷ without base os else without base os))) n
+    ∙ ap (λ b. b || has_base base (map (λ (o : ℕ × ObjectRow). o.1) (without base os))) n
+    ∙ none-left base os)
+    (cases_Bool (o.1.base == base))
+
+-- one that is there is found
+found-there : (q : ObjectRow → Bool) (os : List (ℕ × ObjectRow)) → list_any q (map (λ (o : ℕ × ObjectRow). o.1) os) ≡ true → (x : ℕ × ObjectRow) × (find (λ (o : ℕ × ObjectRow). q o.1) os ≡ Some x)
+found-there q [] any = absurd (both_ways false refl any)
+found-there q (o ∷ os) any =
+    ⊎_elim
+    (λ here. (o, ap (λ b. if b then Some o else find (λ (o : ℕ × ObjectRow). q o.1) os) here))
+    (λ elsewhere.
+    let rest = found-there q os elsewhere in
+    ⊎_elim
+    (λ t. (o, ap (λ b. if b then Some o else find (λ (o : ℕ × ObjectRow). q o.1) os) t))
+    (λ n. (rest.0, ap (λ b. if b then Some o else find (λ (o : ℕ × ObjectRow). q o.1) os) n ∙ rest.1))
+    (cases_Bool (q o.1)))
+    (or_cases (q o.1) (list_any q (map (λ (o : ℕ × ObjectRow). o.1) os)) any)
+
+place-found : (found : Option (ℕ × ObjectRow)) (x : ℕ × ObjectRow) (free : ℕ) → found ≡ Some x → option_map_or (λ (o : ℕ × ObjectRow). o.0) found free ≡ x.0
+place-found found x free is = ap (λ (o : Option (ℕ × ObjectRow)). option_map_or (λ (o : ℕ × ObjectRow). o.0) o free) is
+
+-- one call after the other stages no more than both
+pub stages_then : (a b : ℕ) (old middle new : PagesHeld) → pages.StagesMore a old middle → pages.StagesMore b middle new → pages.StagesMore (a + b) old new
+stages_then a b old middle new first second = record {
+  staged = (let x = first.staged in let y = second.staged in omega arith);
+  still = λ block is. second.still block (first.still block is);
+}
+
+pub shape_then : (old middle new : PagesHeld) → pages.SameShape old middle → pages.SameShape middle new → pages.SameShape old new
+shape_then old middle new first second = record { total = second.total ∙ first.total; frames = second.frames ∙ first.frames; live = second.live ∙ first.live }
+
+module _ (v : VolumeHeld) (i : ℕ) (gone : ℕ × ObjectRow) (os : List (ℕ × ObjectRow)) (g : Goes v i gone os) where
+  stays : ℕ × ObjectRow → Bool
+  stays o = not (o.1.base == gone.1.base)
+
+  -- it is kept as before
+  pub held_without : (middle p : PagesHeld) (objects objects' accounts threads : ℕ) → IsHeld v objects accounts threads → objects' ≡ objects → pages.frame_count p ≡ pages.frame_count v.pages → pages.table_in middle ≡ pages.table_in v.pages
+      → pages.Unbinds (page_of gone.1) gone.1.pages middle p → IsHeld (with_objects v os p) objects' accounts threads
+  unfolding objects_in stays
+  held_without middle p objects objects' accounts threads held room frames table unbinds =
+      subst (λ (l : List (ℕ × ObjectRow)). IsHeld (with_objects v l p) objects' accounts threads) (sym g.rest)
+      (record {
+        kept = record {
+          frames = frames ∙ kept.frames;
+          rows = All-filter stays (λ (o : ℕ × ObjectRow). IsObjectRow o.1) v.objects kept.rows;
+          places = All-filter stays (λ (o : ℕ × ObjectRow). o.0 < object_rows) v.objects kept.places;
+          apart = pairs_apart (without gone.1.base v.objects) (AllPairs-filter LiesBefore stays v.objects (apart_pairs v.objects kept.apart));
+          used = (let sum = sum_by-filter-le stays (λ (o : ℕ × ObjectRow). o.1.pages) v.objects in let used = kept.used in omega arith);
+          few_objects = (let few = length-filter-le stays v.objects in let most = kept.few_objects in omega arith);
+          few_accounts = kept.few_accounts;
+          few_threads = kept.few_threads;
+          inside = all-bound (λ page. has_page (with_objects v (without gone.1.base v.objects) p) page) (pages.table_in p) has;
+        };
+        room_objects = (let most = held.room_objects in omega arith);
+        room_accounts = held.room_accounts;
+        room_threads = held.room_threads;
+      })
+    where
+      kept : IsKept v
+      kept = held.kept
+
+      has : (page : ℕ) → page ≢ 0 → list_any (λ entry. entry == page) (pages.table_in p) ≡ true → has_page (with_objects v (without gone.1.base v.objects) p) page ≡ true
+      has page some bound =
+          let was : pages.is_bound v.pages page ≡ true = ap (λ t. list_any (λ entry. entry == page) t) (sym table) ∙ unbinds.outside page some bound in
+          let had : has_page v page ≡ true = each-bound (λ page. has_page v page) page (pages.table_in v.pages) kept.inside some was in
+          let outside : is_page_in page gone.1 ≡ false =
+          ⊎_elim
+          (λ inside.
+          let parts = and_parts (nat_le (page_of gone.1) page) (nat_lt page (page_behind gone.1)) inside in
+          absurd (both_ways (pages.is_bound p page) (unbinds.inside page some (leb-true (page_of gone.1) page parts.0) (ltb-true page (page_behind gone.1) parts.1)) bound))
+          (λ n. n)
+          (cases_Bool (is_page_in page gone.1)) in
+          any_kept (λ (o : ℕ × ObjectRow). o.1) (is_page_in page) stays v.objects
+          (All-weaker (λ (y : ℕ × ObjectRow). IsOrApart gone.1 y.1) (λ (y : ℕ × ObjectRow). is_page_in page y.1 ≡ true → stays y ≡ true) (λ y is. other-has gone.1 page y g.row.place.some outside is) v.objects g.others)
+          had
+
+  -- the rows
+  pub rows_without : (p : PagesHeld) → objects_in (with_objects v os p) ≡ filter (λ (row : ObjectRow). not (row.base == gone.1.base)) (objects_in v)
+  unfolding objects_in
+  rows_without p = ap (map (λ (o : ℕ × ObjectRow). o.1)) g.rest ∙ filter_mapped (λ (o : ℕ × ObjectRow). o.1) (λ (row : ObjectRow). not (row.base == gone.1.base)) v.objects
+
+  -- the rows that are left, and no other, are spelled
+  spelled-middle : (middle : PagesHeld) (image : Image) → Spelled v image → pages.IsSpelledBy middle image → pages.frame_count middle ≡ pages.frame_count v.pages → StagesRows os gone.0 v.pages middle → Spelled (with_objects v os middle) image
+  spelled-middle middle image s fitting frames staged =
+      let place = gone.0 in
+      let below = g.place in
+      let placed = placed_of v image s in
+      let order : by_base (row_set place None s.objects) ≡ os =
+      ap by_base (row_set_none 0 object_rows place s.objects placed)
+      ∙ filter_order (λ (y : ℕ × ObjectRow). not (y.0 == place)) s.objects
+      ∙ ap (filter (λ (y : ℕ × ObjectRow). not (y.0 == place))) s.ordered
+      ∙ sym (g.removed ∙ remove_is (λ (y : ℕ × ObjectRow). y.0) place v.objects i gone (distinct_of v image s) g.within (ap (λ (x : ℕ × ObjectRow). x.0) (sym g.at))) in
+      objects_staged v middle image (place / 4) staged.bytes (row_set place None s.objects) os s fitting frames (staged.coming image) (omega arith) (set_placed 0 object_rows place None s.objects placed (omega arith) below) order staged.rows
+      (λ j other. set_other j place None s.objects (λ is. other (ap (λ k. k / 4) is)))
+
+  pub spelled_without : (middle p : PagesHeld) (image : Image) → IsSpelledBy v image → pages.IsSpelledBy middle image → pages.frame_count middle ≡ pages.frame_count v.pages → StagesRows os gone.0 v.pages middle
+      → pages.IsSpelledBy p image → pages.frame_count p ≡ pages.frame_count middle → pages.Releases middle p image (page_of gone.1) gone.1.pages → IsSpelledBy (with_objects v os p) image
+  unfolding IsSpelledBy
+  spelled_without middle p image is fitting frames staged fitting' frames' released = spelled_same (with_objects v os middle) p image (spelled-middle middle image is fitting frames staged) fitting' frames' released.rows
+
+  -- the state without the object
+  pub now_without : (middle p : PagesHeld) (image : Image) → IsKept v → pages.frame_count middle ≡ pages.frame_count v.pages → pages.table_in middle ≡ pages.table_in v.pages → StagesRows os gone.0 v.pages middle
+      → pages.frame_count p ≡ pages.frame_count middle → pages.Releases middle p image (page_of gone.1) gone.1.pages
+      → now_of (with_objects v os p) image ≡ record (now_of v image) { objects = without_object gone.1.base (now_of v image).objects }
+  unfolding now_of threads_in stays
+  now_without middle p image kept frames table staged frames' released =
+      let below = g.place in
+      let r = pages.coming v.pages image in
+      let t = pages.table_in v.pages in
+      let n = v.settings.frames in
+      ap (λ objects. record (now_of v image) { objects = objects })
+      (objects-kept (pages.coming middle image) (pages.coming p image) n (pages.table_in middle) (pages.table_in p) gone.1 os rows_left apart_left words
+      ∙ ap (λ table. all_spelled (pages.coming middle image) n table os) table
+      ∙ ap (λ (coming : Image). all_spelled coming n t os) (staged.coming image)
+      ∙ objects_apart r (first_object_block + gone.0 / 4) staged.bytes n t os (omega arith)
+      ∙ ap (all_spelled r n t) g.rest
+      ∙ filter_mapped (λ (o : ℕ × ObjectRow). object_spelled r n t o.1) (λ (object : Object). not (object.row.base == gone.1.base)) v.objects)
+    where
+      rows_left : All (λ (y : ℕ × ObjectRow). IsObjectRow y.1) os
+      rows_left = subst (All (λ (y : ℕ × ObjectRow). IsObjectRow y.1)) (sym g.rest) (All-filter stays (λ (y : ℕ × ObjectRow). IsObjectRow y.1) v.objects kept.rows)
+
+      apart_left : All (λ (y : ℕ × ObjectRow). (page_behind y.1 ≤ page_of gone.1) ⊎ (page_behind gone.1 ≤ page_of y.1)) os
+      apart_left =
+          subst (All (λ (y : ℕ × ObjectRow). (page_behind y.1 ≤ page_of gone.1) ⊎ (page_behind gone.1 ≤ page_of y.1))) (sym g.rest)
+          (All-both (λ (y : ℕ × ObjectRow). stays y ≡ true) (λ (y : ℕ × ObjectRow). IsOrApart gone.1 y.1) (λ (y : ℕ × ObjectRow). (page_behind y.1 ≤ page_of gone.1) ⊎ (page_behind gone.1 ≤ page_of y.1))
+          (λ y other is. apart-from gone.1 y.1 (eqb-false y.1.base gone.1.base (not-true (y.1.base == gone.1.base) other)) is) (without gone.1.base v.objects) (filter_passes stays v.objects)
+          (All-filter stays (λ (y : ℕ × ObjectRow). IsOrApart gone.1 y.1) v.objects g.others))
+
+      words : (page : ℕ) → page ≢ 0 → (page < page_of gone.1) ⊎ (page_behind gone.1 ≤ page)
+          → page_words (pages.coming p image) v.settings.frames (pages.table_in p) page ≡ page_words (pages.coming middle image) v.settings.frames (pages.table_in middle) page
+      words page some outside =
+          ap (λ n. page_words (pages.coming p image) n (pages.table_in p) page) (sym (frames' ∙ frames ∙ kept.frames))
+          ∙ released.outside page some outside
+          ∙ ap (λ n. page_words (pages.coming middle image) n (pages.table_in middle) page) (frames ∙ kept.frames)
+
+  -- the other objects have the places that they had
+  place-same : (base : ℕ) (p : PagesHeld) → has_base base (objects_in v) ≡ true → has_base base (objects_in (with_objects v os p)) ≡ true → place_for base os ≡ place_for base v.objects
+  unfolding objects_in
+  place-same base p there here =
+      let other : base ≢ gone.1.base = λ same.
+      both_ways (has_base base (map (λ (o : ℕ × ObjectRow). o.1) os)) (ap (λ l. has_base base (map (λ (o : ℕ × ObjectRow). o.1) l)) g.rest ∙ ap (λ b. has_base base (map (λ (o : ℕ × ObjectRow). o.1) (without b v.objects))) (sym same) ∙ none-left base v.objects) here in
+      let found = found-there (λ (row : ObjectRow). row.base == base) v.objects there in
+      let still : find (λ (o : ℕ × ObjectRow). o.1.base == base) os ≡ Some found.0 =
+      ap (find (λ (o : ℕ × ObjectRow). o.1.base == base)) g.rest
+      ∙ find_kept (λ (o : ℕ × ObjectRow). o.1.base == base) (λ (o : ℕ × ObjectRow). not (o.1.base == gone.1.base))
+      (λ x is. not_from_false (x.1.base == gone.1.base) (ne_eqb x.1.base gone.1.base (λ same. other (sym (eqb-true x.1.base base is) ∙ same)))) v.objects
+      ∙ found.1 in
+      place-found (find (λ (o : ℕ × ObjectRow). o.1.base == base) os) found.0 (free_place os) still
+      ∙ sym (place-found (find (λ (o : ℕ × ObjectRow). o.1.base == base) v.objects) found.0 (free_place v.objects) found.1)
+
+  pub still_without : (p : PagesHeld) (most : ℕ) → pages.StagesMore most v.pages p → StillStaged v (with_objects v os p)
+  unfolding are_counters_staged is_thread_staged is_object_staged
+  still_without p most more = record {
+    counters = λ is. more.still globals_block is;
+    thread = λ t is. more.still (first_thread_block + t - 1) is;
+    object = λ base there here is.
+        ap (λ place. pages.is_staged p (first_object_block + place / 4)) (place-same base p there here) ∙ more.still (first_object_block + place_for base v.objects / 4) is;
+  }

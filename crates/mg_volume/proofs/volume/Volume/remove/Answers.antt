@@ -1,0 +1,78 @@
+use Rattle.std.proofs.Common.{◌≡◌, ◌∙◌, ℕ, ap, arith}
+use Rattle.mg_model.specs.State.{ObjectRow}
+use Rattle.mg_pages.specs.Meaning as pages
+use Rattle.mg_volume.proofs.ObjectStaged.{with_objects}
+use Rattle.mg_volume.proofs.ObjectWithout.{Goes, goes, held_without, now_without, rows_without, shape_then, spelled_without, stages_then, still_without}
+use Rattle.mg_volume.proofs.Stages.{same_shape, staged_more}
+use Rattle.mg_volume.specs.Again.{pages_spelled}
+use Rattle.mg_volume.specs.Meaning.{staged_of}
+use Rattle.mg_volume.specs.contracts.volume.Volume.{the_view}
+use Rattle.mg_volume.proofs.volume.Volume.remove.Goals as goal
+
+pub take_object-taken-requires-clause-few : goal.take_object-taken-requires-clause-few
+unfolding staged_of
+take_object-taken-requires-clause-few c = let few = rw (← c.self.view_is) at c.requires.few in omega arith
+
+pub release_object-requires : goal.release_object-requires
+unfolding staged_of
+release_object-requires c = let few = rw (← c.self.view_is) at c.requires.few in let more = c.take_object-taken.ensures.staged.staged in omega arith
+
+-- the object that is taken out is the one with the base
+gone_is : (c : goal.After-release_object) → Goes (the_view c.self.inside) c.index_of-i.result c.take_object-taken.result c.take_object-taken.new.objects.items
+gone_is c =
+    let few = rw (← c.self.view_is) at c.index_of-i.ensures.within in
+    let taken = c.take_object-taken.ensures in
+    goes (the_view c.self.inside) c.index_of-i.result c.take_object-taken.result c.take_object-taken.new.objects.items c.self.invariant.kept few taken.taken taken.objects
+
+base_is : (c : goal.After-release_object) → c.take_object-taken.result.1.base ≡ c.args.base
+base_is c =
+    let at = rw (← c.self.view_is) at c.index_of-i.ensures.base c.take_object-taken.result in
+    ap (λ (x : ℕ × ObjectRow). x.1.base) c.take_object-taken.ensures.taken ∙ at
+
+more : (c : goal.After-release_object) → pages.StagesMore 129 c.self.inside.pages c.release_object.new.pages
+more c = stages_then 1 128 c.self.inside.pages c.take_object-taken.new.pages c.release_object.new.pages c.take_object-taken.ensures.staged c.release_object.ensures.staged
+
+pub invariant_of-self : goal.invariant_of-self
+invariant_of-self c =
+    let taken = c.take_object-taken.ensures in
+    held_without (the_view c.self.inside) c.index_of-i.result c.take_object-taken.result c.take_object-taken.new.objects.items (gone_is c) c.take_object-taken.new.pages c.release_object.new.pages _ _ _ _ c.self.invariant taken.room
+    (c.release_object.ensures.shape.frames ∙ taken.shape.frames) taken.table c.release_object.ensures.unbinds
+
+pub returns-clause-now : goal.returns-clause-now
+returns-clause-now c image is =
+    let v = the_view c.self.inside in
+    let was = rw (← c.self.view_is) at is in
+    let taken = c.take_object-taken.ensures in
+    rw (← c.self.view_is, ← base_is c)
+    (now_without v c.index_of-i.result c.take_object-taken.result c.take_object-taken.new.objects.items (gone_is c) c.take_object-taken.new.pages c.release_object.new.pages image c.self.invariant.kept taken.shape.frames taken.table taken.rows
+    c.release_object.ensures.shape.frames (c.release_object.ensures.released image (taken.spelled image (pages_spelled v image was))))
+
+pub returns-clause-rows : goal.returns-clause-rows
+returns-clause-rows c =
+    rw (← c.self.view_is, ← base_is c) (rows_without (the_view c.self.inside) c.index_of-i.result c.take_object-taken.result c.take_object-taken.new.objects.items (gone_is c) c.release_object.new.pages)
+
+pub returns-clause-spelled : goal.returns-clause-spelled
+returns-clause-spelled c image is =
+    let v = the_view c.self.inside in
+    let was = rw (← c.self.view_is) at is in
+    let taken = c.take_object-taken.ensures in
+    let middle = taken.spelled image (pages_spelled v image was) in
+    spelled_without v c.index_of-i.result c.take_object-taken.result c.take_object-taken.new.objects.items (gone_is c) c.take_object-taken.new.pages c.release_object.new.pages image was middle taken.shape.frames taken.rows
+    (c.release_object.ensures.spelled image middle) c.release_object.ensures.shape.frames (c.release_object.ensures.released image middle)
+
+pub returns-clause-staged : goal.returns-clause-staged
+returns-clause-staged c =
+    let v = the_view c.self.inside in
+    rw (← c.self.view_is) (staged_more v (with_objects v c.take_object-taken.new.objects.items c.release_object.new.pages) 129 (more c))
+
+pub returns-clause-still : goal.returns-clause-still
+returns-clause-still c =
+    rw (← c.self.view_is) (still_without (the_view c.self.inside) c.index_of-i.result c.take_object-taken.result c.take_object-taken.new.objects.items (gone_is c) c.release_object.new.pages 129 (more c))
+
+pub returns-clause-shape : goal.returns-clause-shape
+returns-clause-shape c =
+    let v = the_view c.self.inside in
+    let taken = c.take_object-taken.ensures in
+    rw (← c.self.view_is)
+    (same_shape v (with_objects v c.take_object-taken.new.objects.items c.release_object.new.pages) (shape_then c.self.inside.pages c.take_object-taken.new.pages c.release_object.new.pages taken.shape c.release_object.ensures.shape)
+    (c.release_object.ensures.words ∙ taken.words))

@@ -1,0 +1,96 @@
+-- What may be staged of a volume, what that makes of its rows, and which blocks wait for a commit.
+use Rattle.std.specs.Prelude.{◌≡◌, ◌⊎◌, ◌+◌, ◌-◌, ◌*◌, ◌/◌, ◌≤◌, ◌<◌, ◌||◌, nat_le, nat_lt, ℕ, zero, suc, Bool, true, List, [], ◌∷◌, Some, if◌then◌else◌, find, length, map, replicate, sum_by, IsSomeAnd, Option, None, filter, not, ◌==◌}
+use Rattle.std.specs.List.{list_all, list_any}
+use Rattle.std.specs.Option.{option_map_or}
+use Rattle.mg_model.specs.Layout.{first_object_block, first_thread_block, globals_block, object_rows}
+use Rattle.mg_model.specs.Objects.{page_behind, page_of, with_object, with_row, without_object}
+use Rattle.mg_model.specs.State.{Object, ObjectRow, Thread, ThreadRow}
+use Rattle.mg_model.specs.Threads.{with_new_thread}
+use Rattle.mg_pages.specs.Meaning as pages
+use Rattle.mg_volume.specs.Held.{VolumeHeld}
+use Rattle.mg_volume.specs.Meaning.{objects_in}
+
+-- the threads with this row for thread t, or without that thread
+abbrev pub threads_with : ℕ → Option ThreadRow → List Thread → List Thread
+threads_with t None threads = filter (λ (thread : Thread). not (thread.number == t)) threads
+threads_with t (Some row) threads =
+    if list_any (λ (thread : Thread). thread.number == t) threads
+    then map (λ (thread : Thread). if thread.number == t then record thread { row = row } else thread) threads
+    else with_new_thread (record { number = t; row = row }) threads
+
+-- whether there is an object with this base
+abbrev pub has_base : ℕ → List ObjectRow → Bool
+has_base base rows = list_any (λ (row : ObjectRow). row.base == base) rows
+
+-- the lowest of so many places, from this one on, that no row has; the one behind them where there is none
+abbrev pub free_from : List (ℕ × ObjectRow) → ℕ → ℕ → ℕ
+free_from objects place zero = place
+free_from objects place (suc n) = if list_any (λ (o : ℕ × ObjectRow). o.0 == place) objects then free_from objects (place + 1) n else place
+
+abbrev pub free_place : List (ℕ × ObjectRow) → ℕ
+free_place objects = free_from objects 0 object_rows
+
+-- the place of the row of the object with this base, or of the row that it will have where it is not there
+abbrev pub place_for : ℕ → List (ℕ × ObjectRow) → ℕ
+place_for base objects = option_map_or (λ (o : ℕ × ObjectRow). o.0) (find (λ (o : ℕ × ObjectRow). o.1.base == base) objects) (free_place objects)
+
+-- whether the block of the counters waits for a commit, that of thread t, from 1 on, and that of an object's row
+unfoldable pub are_counters_staged : VolumeHeld → Bool
+are_counters_staged v = pages.is_staged v.pages globals_block
+
+unfoldable pub is_thread_staged : VolumeHeld → ℕ → Bool
+is_thread_staged v t = pages.is_staged v.pages (first_thread_block + t - 1)
+
+unfoldable pub is_object_staged : VolumeHeld → ℕ → Bool
+is_object_staged v base = pages.is_staged v.pages (first_object_block + place_for base v.objects / 4)
+
+-- what was staged still is
+pub record StillStaged (old new : VolumeHeld) : Type 0 where
+  pub counters : are_counters_staged old ≡ true → are_counters_staged new ≡ true
+  pub thread : (t : ℕ) → is_thread_staged old t ≡ true → is_thread_staged new t ≡ true
+  pub object : (base : ℕ) → has_base base (objects_in old) ≡ true → has_base base (objects_in new) ≡ true → is_object_staged old base ≡ true → is_object_staged new base ≡ true
+
+-- whether an object meets none of these
+abbrev pub is_apart_from : List ObjectRow → ObjectRow → Bool
+is_apart_from rows row = list_all (λ (other : ObjectRow). nat_le (page_behind row) (page_of other) || nat_le (page_behind other) (page_of row)) rows
+
+-- an object may join these: it meets none of them, there is a row for it, and there are frames for its pages
+pub record MayJoin (rows : List ObjectRow) (frames : ℕ) (row : ObjectRow) : Type 0 where
+  pub apart : is_apart_from rows row ≡ true
+  pub few : length rows < object_rows
+  pub fit : sum_by (λ (other : ObjectRow). other.pages) rows + row.pages ≤ frames
+
+-- one of them may have another row: as many pages from the same base on
+abbrev pub MayChange : List ObjectRow → ObjectRow → Type 0
+MayChange rows row = IsSomeAnd (find (λ (old : ObjectRow). old.base == row.base) rows) (λ old. old.pages ≡ row.pages)
+
+-- the object with a base may have this row, or be no more
+abbrev pub MayStand : List ObjectRow → ℕ → ℕ → Option ObjectRow → Type 0
+MayStand rows frames base None = has_base base rows ≡ true
+MayStand rows frames base (Some row) = (row.base ≡ base) × (MayChange rows row ⊎ MayJoin rows frames row)
+
+-- a row before the first with a larger base
+abbrev pub with_new_row : ObjectRow → List ObjectRow → List ObjectRow
+with_new_row new [] = new ∷ []
+with_new_row new (row ∷ rows) = if nat_lt new.base row.base then new ∷ row ∷ rows else row ∷ with_new_row new rows
+
+-- the rows with this one for the object with a base, or without that object
+abbrev pub object_rows_with : ℕ → Option ObjectRow → List ObjectRow → List ObjectRow
+object_rows_with base None rows = filter (λ (row : ObjectRow). not (row.base == base)) rows
+object_rows_with base (Some new) rows =
+    if has_base base rows then map (λ (row : ObjectRow). if row.base == base then new else row) rows else with_new_row new rows
+
+-- an object whose words are all 0
+abbrev pub blank : ObjectRow → Object
+blank row = record { row = row; words = replicate (512 * row.pages) 0 }
+
+-- the objects with this row for the one with a base, whose words are all 0 where it is new, or without it
+abbrev pub objects_with : ℕ → Option ObjectRow → List Object → List Object
+objects_with base None objects = without_object base objects
+objects_with base (Some new) objects =
+    if has_base base (map (λ (object : Object). object.row) objects) then with_row base (λ old. new) objects else with_object (blank new) objects
+
+-- how many blocks more a row stages at most: where an object goes, the frame table too
+abbrev pub most_staged : Option ObjectRow → ℕ
+most_staged None = 129
+most_staged (Some row) = 1
