@@ -1,16 +1,36 @@
-// A session on a volume in memory.
-ghost use Rattle.std.specs.Prelude.{◌≡◌, ◌<◌};
+// Sessions on a volume in memory.
+ghost use Rattle.std.specs.Prelude.{◌≡◌, ◌<◌, IfOk};
 ghost use Rattle.mg_kernel.specs.Meaning.{StandsOn};
 
 use crate::kernel::Kernel;
 use mg_disk::{Disk, MemDisk};
 use mg_layout::format;
-use mg_model::{Call, Line, Params, Reply, Steps, Tariff};
-use std::alloc::{AllocError, Global};
+use mg_model::{Call, Line, Params, Reply, Right, Steps, Tariff};
+use std::alloc::Global;
 use std::marker::Brand;
 use std::sync::ledger::{Blank, Ledger};
+use std::test::Fail;
 
 const ROOT: u64 = 0x1_0000_0000;
+
+/// A fresh volume of 64 frames.
+fn fresh(alloc: Global) -> Result<MemDisk, Fail> {
+    let mut disk = MemDisk::new(alloc, 2660, 20_000, Vec::new(alloc))?;
+    let params = Params::new(64, [0; 32], 1000, Tariff::usual(64)).ok_or("settings")?;
+    match format(&mut disk, &params) {
+        Ok(()) => Ok(disk),
+        Err(_) => Err("no volume".into()),
+    }
+}
+
+fn opened<D: Disk>(alloc: Global, disk: &mut D) -> Result<Kernel, Fail>
+    ensures { IfOk result (λ kernel. StandsOn D.Disk kernel disk.new) }
+{
+    match Kernel::open(alloc, disk) {
+        Ok(kernel) => Ok(kernel),
+        Err(_) => Err("not opened".into()),
+    }
+}
 
 /// The reply to a call of thread 1, where there is room for what it stages.
 fn reply<D: Disk, L: Ledger>(
@@ -32,54 +52,125 @@ fn reply<D: Disk, L: Ledger>(
     kernel.step(disk, &Line { thread: 1, call }, steps).ok()
 }
 
-/// The replies before and after a store on a fresh volume, and after it was committed and the volume opened again. None
-/// where a call gave no reply.
-fn replies<L: Ledger>(alloc: Global, blank: Blank) -> Result<Option<[Reply; 3]>, AllocError>
+/// What a probe answers, where there is room for what it stages.
+fn probed<D: Disk, L: Ledger>(
+    kernel: &mut Kernel,
+    disk: &mut D,
+    probe: Probe,
+    steps: &mut Steps<L>,
+) -> Option<Option<u64>>
+    requires { StandsOn D.Disk kernel.old disk.old }
+    ensures { StandsOn D.Disk kernel.new disk.new }
+{
+    let (t, a, r) = probe;
+    if !kernel.live() || kernel.staged() > 30 {
+        return None;
+    }
+    kernel.probe(disk, t, a, r, steps).ok()
+}
+
+fn is_committed<D: Disk>(kernel: &mut Kernel, disk: &mut D) -> bool
+    requires { StandsOn D.Disk kernel.old disk.old }
+{
+    kernel.live() && kernel.commit(disk).is_ok()
+}
+
+/// The replies before and after a store on a fresh volume, and after it was committed and the volume opened again.
+fn replies<L: Ledger>(alloc: Global, blank: Blank) -> Result<[Option<Reply>; 3], Fail>
     requires name { blank.name ≡ L.name }
     requires parts { blank.parts ≡ L.parts }
     requires some { 0 < blank.parts }
 {
     let mut steps = Steps::<L>::new(blank);
-    let mut disk = MemDisk::new(alloc, 2660, 20_000, Vec::new(alloc))?;
-    let Some(params) = Params::new(64, [0; 32], 1000, Tariff::usual(64)) else {
-        return Ok(None);
-    };
-    if format(&mut disk, &params).is_err() {
-        return Ok(None);
-    }
+    let mut disk = fresh(alloc)?;
     let a = ROOT + 32;
-    let Ok(mut kernel) = Kernel::open(alloc, &mut disk) else {
-        return Ok(None);
-    };
-    let Some(before) = reply(&mut kernel, &mut disk, Call::Load { a }, &mut steps) else {
-        return Ok(None);
-    };
-    let Some(stored) = reply(
-        &mut kernel,
-        &mut disk,
-        Call::Store { a, value: 5 },
-        &mut steps,
-    ) else {
-        return Ok(None);
-    };
-    if !kernel.live() || kernel.commit(&mut disk).is_err() {
-        return Ok(None);
+    let mut kernel = opened(alloc, &mut disk)?;
+    let before = reply(&mut kernel, &mut disk, Call::Load { a }, &mut steps);
+    let store = Call::Store { a, value: 5 };
+    let stored = reply(&mut kernel, &mut disk, store, &mut steps);
+    if !is_committed(&mut kernel, &mut disk) {
+        return Err("not committed".into());
     }
-    let Ok(mut again) = Kernel::open(alloc, &mut disk) else {
-        return Ok(None);
-    };
-    let Some(after) = reply(&mut again, &mut disk, Call::Load { a }, &mut steps) else {
-        return Ok(None);
-    };
-    Ok(Some([before, stored, after]))
+    let mut again = opened(alloc, &mut disk)?;
+    let after = reply(&mut again, &mut disk, Call::Load { a }, &mut steps);
+    Ok([before, stored, after])
 }
 
 #[test]
-fn a_committed_word_is_found_again(rt: HostRuntime) -> Result<(), AllocError> {
+fn a_committed_word_is_found_again(rt: HostRuntime) -> Result<(), Fail> {
     let replies = replies::<Brand>(rt.alloc(), Blank::new(1))?;
-    assert_eq!(rt;
-        replies,
-        Some([Reply::Value(0), Reply::Done, Reply::Value(5)])
-    );
+    let want = [Reply::Value(0), Reply::Done, Reply::Value(5)];
+    assert_eq!(rt; replies, want.map(Some));
+    Ok(())
+}
+
+/// A thread, an address and a right.
+type Probe = (u64, u64, Right);
+
+// Probes of a fresh volume, and the bases that they answer. Thread 1 alone lives, and has each right to the root.
+const PROBES: [(Probe, Option<u64>); 14] = [
+    ((1, ROOT, Right::R), Some(ROOT)),
+    ((1, ROOT, Right::W), Some(ROOT)),
+    ((1, ROOT + 1, Right::X), Some(ROOT)),
+    ((1, ROOT + 8, Right::D), Some(ROOT)),
+    ((1, ROOT + 2048, Right::P), Some(ROOT)),
+    ((1, ROOT + 4095, Right::O), Some(ROOT)),
+    ((1, ROOT + 4096, Right::R), None),
+    ((1, ROOT - 1, Right::R), None),
+    ((1, 0, Right::R), None),
+    ((1, u64::MAX, Right::R), None),
+    ((0, ROOT, Right::R), None),
+    ((2, ROOT, Right::R), None),
+    ((256, ROOT, Right::W), None),
+    ((u64::MAX, ROOT, Right::R), None),
+];
+
+/// What each probe answers.
+fn all_probed<D: Disk, L: Ledger>(
+    alloc: Global,
+    kernel: &mut Kernel,
+    disk: &mut D,
+    steps: &mut Steps<L>,
+) -> Result<Vec<Option<u64>>, Fail>
+    requires { StandsOn D.Disk kernel.old disk.old }
+    ensures { StandsOn D.Disk kernel.new disk.new }
+{
+    let mut answers = Vec::new(alloc);
+    for (probe, _) in PROBES {
+        answers.push(probed(kernel, disk, probe, steps).ok_or("a fault")?)?;
+    }
+    Ok(answers)
+}
+
+/// What the probes answer on a fresh volume, once thread 1 has emptied the root's list, and on the volume opened again.
+fn locked_out<L: Ledger>(alloc: Global, blank: Blank) -> Result<[Vec<Option<u64>>; 3], Fail>
+    requires name { blank.name ≡ L.name }
+    requires parts { blank.parts ≡ L.parts }
+    requires some { 0 < blank.parts }
+{
+    let mut steps = Steps::<L>::new(blank);
+    let mut disk = fresh(alloc)?;
+    let mut kernel = opened(alloc, &mut disk)?;
+    let before = all_probed(alloc, &mut kernel, &mut disk, &mut steps)?;
+    let store = Call::Store { a: ROOT, value: 0 };
+    if reply(&mut kernel, &mut disk, store, &mut steps) != Some(Reply::Done) {
+        return Err("not stored".into());
+    }
+    let staged = all_probed(alloc, &mut kernel, &mut disk, &mut steps)?;
+    if !is_committed(&mut kernel, &mut disk) {
+        return Err("not committed".into());
+    }
+    let mut again = opened(alloc, &mut disk)?;
+    let after = all_probed(alloc, &mut again, &mut disk, &mut steps)?;
+    Ok([before, staged, after])
+}
+
+#[test]
+fn a_probe_tells_what_a_thread_may_reach(rt: HostRuntime) -> Result<(), Fail> {
+    let [before, staged, after] = locked_out::<Brand>(rt.alloc(), Blank::new(1))?;
+    assert_eq!(rt; before.as_slice(), PROBES.map(|(_, base)| base).as_slice());
+    for answers in [staged, after] {
+        assert_eq!(rt; answers.as_slice(), [None; PROBES.len()].as_slice());
+    }
     Ok(())
 }

@@ -22,6 +22,8 @@ mod opening;
 mod partial;
 mod program;
 mod running;
+#[cfg(test)]
+mod scattered_tests;
 mod scratch;
 mod session;
 #[cfg(test)]
