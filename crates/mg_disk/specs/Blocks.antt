@@ -1,8 +1,8 @@
 -- Images of a kind, and changes of one.
 use Rattle.std.specs.Prelude.{◌≡◌, ℕ, List, length, replicate, Contains, Some, Vec}
 use Rattle.std.specs.Vec.{vec_len}
-use Rattle.std.proofs.Common.{sym, ap, ◌∙◌}
-use Rattle.mg_disk.specs.Disk.{Image, block_at, SameBut}
+use Rattle.std.proofs.Common.{sym, ap, ◌∙◌, subst}
+use Rattle.mg_disk.specs.Disk.{Image, block_at, SameBut, AreBytes}
 
 -- a block of zeros
 abbrev pub zero_block : List ℕ
@@ -27,3 +27,7 @@ some_inj x y is = cc
 -- a vector's blocks, told, are as many as it has
 pub told_count : {Z : Type 0} (v : Vec (List ℕ) Z) (image : Image) → Some v.items ≡ Some image → length image ≡ vec_len v
 told_count v image is = ap length (some_inj v.items image is) ∙ sym v.ok.0
+
+-- blocks of bytes, told
+pub told_bytes : (blocks : Image) → AreBytes blocks → (image : Image) → Some blocks ≡ Some image → AreBytes image
+told_bytes blocks are image is = subst AreBytes (sym (some_inj blocks image is)) are

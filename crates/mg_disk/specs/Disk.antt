@@ -1,5 +1,5 @@
 -- What a disk's calls are said to do: images, moments, and what a stop may leave. These words are over values.
-use Rattle.std.specs.Prelude.{◌≡◌, ◌⊎◌, ℕ, List, [], length, slice_index_or, Option, Some, None}
+use Rattle.std.specs.Prelude.{◌≡◌, ◌⊎◌, ◌<◌, ℕ, List, [], length, All, slice_index_or, Option, Some, None}
 
 -- An image is a list of blocks, each a list of bytes.
 abbrev pub Image : Type 0
@@ -8,6 +8,14 @@ Image = List (List ℕ)
 -- the block at a place, empty past the end
 abbrev pub block_at : Image → ℕ → List ℕ
 block_at image k = slice_index_or image k []
+
+-- numbers that are bytes
+abbrev pub IsBytes : List ℕ → Type 0
+IsBytes block = All (λ byte. byte < 256) block
+
+-- every block holds bytes
+abbrev pub AreBytes : Image → Type 0
+AreBytes image = All IsBytes image
 
 -- A moment of a disk: a number for a plain one; for a disk made of two, a moment of each, or of the one that is in use.
 pub data Moment : Type 0 where

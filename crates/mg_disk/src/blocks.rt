@@ -1,6 +1,6 @@
 // Vectors of blocks.
 ghost use Rattle.std.specs.Prelude.{◌≡◌, ◌<◌, ℕ, Contains, vec_len, vec_capacity, IfOk};
-ghost use Rattle.mg_disk.specs.Disk.{SameBut};
+ghost use Rattle.mg_disk.specs.Disk.{SameBut, AreBytes};
 ghost use Rattle.mg_disk.specs.Blocks.{zeros_of, IsGated};
 
 use crate::{BLOCK_SIZE, Block};
@@ -13,6 +13,7 @@ pub(crate) const GATE: u8 = 0xA5;
 pub(crate) fn zeros(alloc: Global, blocks: u64) -> Result<Vec<Block>, AllocError>
     ensures zeros { IfOk result (λ content. content.items ≡ zeros_of blocks) }
     ensures count { IfOk result (λ content. vec_len content ≡ blocks) }
+    ensures bytes { IfOk result (λ content. AreBytes content.items) }
 {
     let mut content = Vec::with_capacity(alloc, blocks as usize)?;
     for _ in 0..blocks {
@@ -26,6 +27,7 @@ pub(crate) fn put_gates(content: &mut Vec<Block>, places: &[u64])
     requires { (k : ℕ) → Contains places.now k → k < vec_len content.old }
     ensures gates { IsGated places.now content.old.items content.new.items }
     ensures len { vec_len content.new ≡ vec_len content.old }
+    ensures bytes { AreBytes content.old.items → AreBytes content.new.items }
 {
     for &i in places {
         content[i as usize] = [GATE; BLOCK_SIZE];

@@ -2,7 +2,7 @@
 ghost use Rattle.std.specs.Prelude.{◌≡◌, ◌<◌, ℕ, Bool, IsTrue, Option, length, slice_set, option_map, OnOk, OnErr, IsSomeAnd};
 ghost use Rattle.std.specs.Option.{ForSome};
 ghost use Rattle.mg_faults.specs.Faults.{CountGoesOn, Rose};
-ghost use Rattle.mg_disk.specs.Disk.{Moment, Image, block_at, SeenBut, only_place, GoesOn, no_image, Torn, OnlySeen};
+ghost use Rattle.mg_disk.specs.Disk.{Moment, Image, block_at, AreBytes, SeenBut, only_place, GoesOn, no_image, Torn, OnlySeen};
 
 use mg_faults::Failed;
 
@@ -95,4 +95,8 @@ pub trait Disk {
 
     /// What reads give has that many blocks.
     ghost seen_count: { (disk : Self) → ForSome (seen disk) (λ image. length image ≡ block_count disk) };
+
+    /// What reads give are bytes, since a [`Block`] has room for no other numbers. An image is lists of numbers of any
+    /// size, so what is spelled in one is in range only for this.
+    ghost seen_bytes: { (disk : Self) → ForSome (seen disk) AreBytes };
 }

@@ -19,8 +19,9 @@ const BLOCKS: u64 = 70_000;
 /// none. Past the end of the file it reads zeros.
 ///
 /// A call fails where the file cannot be opened, where the system answers an error, and where it takes less than the
-/// whole of a block that is written; the next call tries again. A sync that answers Ok has brought the file to its
-/// medium, by the strongest call that the standard library has.
+/// whole of a block that is written; the next call tries again. A sync is `sync_data` of the file: one that answers Ok
+/// has brought the file's bytes to the medium, and of what else is kept of it all that reading them back takes, as its
+/// size, but not such things as the time of its last change.
 #[derive(Drop)]
 pub struct FileDisk<'a, R: Files>
 where
@@ -123,6 +124,8 @@ where
 
     ghost seen_count = { λ _ image is. Prim.search rules };
 
+    ghost seen_bytes = { λ _ image is. Prim.search rules };
+
     fn blocks(&self) -> u64 {
         BLOCKS
     }
@@ -154,7 +157,7 @@ where
     fn sync(&mut self) -> Result<(), Failed> {
         let outcome = match self.take_file() {
             Ok(file) => {
-                let outcome = file.sync_all();
+                let outcome = file.sync_data();
                 self.file = Some(file);
                 outcome
             }

@@ -72,6 +72,8 @@ impl<D: Disk> Disk for Fuse<D> {
 
     ghost seen_count = { λ f. D.Disk.seen_count f.inner };
 
+    ghost seen_bytes = { λ f. D.Disk.seen_bytes f.inner };
+
     fn blocks(&self) -> u64 {
         self.inner.blocks()
     }

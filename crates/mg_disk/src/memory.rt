@@ -1,8 +1,8 @@
 //! A disk in memory, for tests: calls fail where the test says, and it shows what a stop may leave.
 ghost use Rattle.std.specs.Prelude.{◌≡◌, ◌+◌, ◌<◌, ◌≤◌, ◌++◌, ◌∷◌, [], ℕ, true, refl, Some, vec_len, vec_capacity, Contains, length, slice_set, IfOk, IsErr, OnErr};
 ghost use Rattle.mg_faults.specs.Faults.{CountGoesOn, Rose, is_last};
-ghost use Rattle.mg_disk.specs.Disk.{SameBut, At};
-ghost use Rattle.mg_disk.specs.Blocks.{told_count, zeros_of, gates_block};
+ghost use Rattle.mg_disk.specs.Disk.{SameBut, At, AreBytes};
+ghost use Rattle.mg_disk.specs.Blocks.{told_count, told_bytes, zeros_of, gates_block};
 ghost use Rattle.mg_disk.specs.Stops.{StandsAt};
 ghost use Rattle.mg_disk.specs.Held.{run, start, BeenIn, LeftIn, been_now, counted_now, seen_stays};
 
@@ -75,6 +75,8 @@ pub struct MemDisk {
     ghost fewer: { vec_len touched ≤ vec_len events },
     ghost ample: { room ≤ vec_capacity events },
     ghost ample_touched: { room ≤ vec_capacity touched },
+    ghost bytes: { AreBytes content.items },
+    ghost synced_bytes: { AreBytes synced.items },
     ghost placed: { (k : ℕ) → Contains touched.items k → k < vec_len content },
     ghost pending: { SameBut (Contains touched.items) synced.items content.items },
     ghost held: { run (start first.items) events.items ≡ record { base = synced.items; now = content.items; touched = touched.items } },
@@ -106,6 +108,7 @@ impl MemDisk {
         room: u64,
         fails: Vec<u64>,
     ) -> Result<MemDisk, AllocError>
+        requires bytes { AreBytes content.items }
         ensures holds { IfOk result (λ disk. StandsAt ⟦<MemDisk as Disk>⟧ disk content.items) }
         ensures content { IfOk result (λ disk. content_of disk ≡ content.items) }
         ensures blocks { IfOk result (λ disk. ⟦<MemDisk as Disk>⟧.block_count disk ≡ vec_len content) }
@@ -141,6 +144,7 @@ impl MemDisk {
     fn left(&self, alloc: Global, left: Left) -> Result<Vec<Block>, AllocError>
         ensures left { IfOk result (λ content. IsLeft left self.now content.items) }
         ensures blocks { IfOk result (λ content. vec_len content ≡ vec_len self.now.content) }
+        ensures bytes { IfOk result (λ content. AreBytes content.items) }
     {
         match left {
             Left::Old => Vec::from_slice(alloc, &self.synced),
@@ -249,6 +253,8 @@ impl Disk for MemDisk {
     ghost only_told = { λ _ _ _ _. refl };
 
     ghost seen_count = { λ d. told_count d.content };
+
+    ghost seen_bytes = { λ d. told_bytes d.content.items d.bytes };
 
     fn blocks(&self) -> u64 {
         self.content.len() as u64

@@ -1,8 +1,8 @@
 //! A disk for one session alone.
 ghost use Rattle.std.specs.Prelude.{◌≡◌, ◌<◌, false, vec_len, Some, IfOk, IsOk};
 ghost use Rattle.std.proofs.Common.{rules};
-ghost use Rattle.mg_disk.specs.Disk.{At};
-ghost use Rattle.mg_disk.specs.Blocks.{zeros_of, told_count};
+ghost use Rattle.mg_disk.specs.Disk.{At, AreBytes};
+ghost use Rattle.mg_disk.specs.Blocks.{zeros_of, told_count, told_bytes};
 
 use crate::blocks::zeros;
 use crate::{Block, Disk, Failed};
@@ -14,6 +14,7 @@ use std::alloc::{AllocError, Global};
 #[derive(Drop)]
 pub struct ScratchDisk {
     content: Vec<Block>,
+    ghost bytes: { AreBytes content.items },
 }
 
 impl ScratchDisk {
@@ -56,6 +57,8 @@ impl Disk for ScratchDisk {
     ghost only_told = { λ _ _ _ left. absurd left };
 
     ghost seen_count = { λ d. told_count d.content };
+
+    ghost seen_bytes = { λ d. told_bytes d.content.items d.bytes };
 
     fn blocks(&self) -> u64 {
         self.content.len() as u64

@@ -6,7 +6,8 @@ use Rattle.std.proofs.Math.Nat.{min-le_left, min-eq_left}
 use Rattle.std.proofs.Math.Seq.{take-set-lt}
 use Rattle.std.proofs.lemmas.Bool.Decides.{leb_tells}
 use Rattle.std.proofs.lemmas.List.{length-take, get_or-take, get_or_past}
-use Rattle.mg_disk.specs.Disk.{Image, Moment, At, Both, Alone, block_at, SameBut, SeenBut, only_place, OnlySeen}
+use Rattle.std.proofs.lemmas.List.Elements.{All-take}
+use Rattle.mg_disk.specs.Disk.{Image, IsBytes, AreBytes, Moment, At, Both, Alone, block_at, SameBut, SeenBut, only_place, OnlySeen}
 use Rattle.mg_disk_trial.specs.declared.mirror.Side.{Side}
 use Rattle.mg_disk_trial.specs.declared.mirror.Side.TheVariants.{Left, Right}
 
@@ -157,6 +158,11 @@ cut_long n lc l r image within long is =
     let b = both_told n l r image is in
     ap length b.cut ∙ length-take n b.first ∙ min-eq_left (let e = long b.first b.first_is in omega arith)
 
+cut_bytes : (n : ℕ) (l r : Option Image) → ForSome l AreBytes → ForSome (told_cut n l r) AreBytes
+cut_bytes n l r are image is =
+    let b = both_told n l r image is in
+    subst AreBytes (sym b.cut) (All-take IsBytes n b.first (are b.first b.first_is))
+
 false_true : false ≡ true → ⊥
 false_true is = cc
 
@@ -166,6 +172,12 @@ pub seen_long : (n lc rc : ℕ) (alone : Option Side) (l r : Option Image) → n
 seen_long n lc rc None l r a b p q image is = cut_long n lc l r image a p is
 seen_long n lc rc (Some Left) l r a b p q image is = cut_long n lc l r image a p is
 seen_long n lc rc (Some Right) l r a b p q image is = cut_long n rc r l image b q is
+
+-- what both sides give are bytes, and so are they cut
+pub seen_bytes : (n : ℕ) (alone : Option Side) (l r : Option Image) → ForSome l AreBytes → ForSome r AreBytes → ForSome (seen_of n alone l r) AreBytes
+seen_bytes n None l r p q = cut_bytes n l r p
+seen_bytes n (Some Left) l r p q = cut_bytes n l r p
+seen_bytes n (Some Right) l r p q = cut_bytes n r l q
 
 -- what both sides tell is told
 pub and_left : (a b : Bool) → IsTrue (a && b) → IsTrue a

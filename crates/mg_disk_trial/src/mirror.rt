@@ -8,7 +8,7 @@ ghost use Rattle.mg_disk_trial.specs.Sides.{FailsWithSides};
 ghost use Rattle.mg_disk_trial.specs.declared.mirror.Side.{Side};
 ghost use Rattle.mg_disk_trial.specs.Opened.{RoseFrom, BothRose};
 ghost use Rattle.mg_faults.specs.Faults.{is_last};
-ghost use Rattle.mg_disk_trial.specs.Mirror.{seen_of, SameWhileBoth, moment_of, Been, LeftSince, seen_long, and_left, and_right};
+ghost use Rattle.mg_disk_trial.specs.Mirror.{seen_of, SameWhileBoth, moment_of, Been, LeftSince, seen_long, seen_bytes, and_left, and_right};
 ghost use Rattle.mg_disk_trial.specs.MirrorMoments.{been_now, counted_now, seen_stays};
 
 use crate::copy::copy_blocks;
@@ -188,6 +188,8 @@ impl<D: Disk, E: Disk, K: Opened> Disk for Mirror<D, E, K> {
     ghost only_told = { λ m t c left. left.0 };
 
     ghost seen_count = { λ m. seen_long m.blocks (D.block_count m.left) (E.block_count m.right) m.alone (D.seen m.left) (E.seen m.right) m.left_long m.right_long (D.seen_count m.left) (E.seen_count m.right) };
+
+    ghost seen_bytes = { λ m. seen_bytes m.blocks m.alone (D.seen m.left) (E.seen m.right) (D.seen_bytes m.left) (E.seen_bytes m.right) };
 
     fn blocks(&self) -> u64 {
         self.blocks

@@ -1,6 +1,7 @@
-use Rattle.std.proofs.Common.{refl, sym, subst, take, arith, slice_index_or, slice_set}
+use Rattle.std.proofs.Common.{◌<◌, refl, sym, subst, take, arith, slice_index_or, slice_set}
 use Rattle.std.proofs.lemmas.List.{take_all, take_more}
-use Rattle.std.proofs.lemmas.List.Elements.{Contains-get_or}
+use Rattle.std.proofs.lemmas.List.Elements.{Contains-get_or, All-set, All-replicate}
+use Rattle.mg_disk.specs.Disk.{IsBytes}
 use Rattle.mg_disk.specs.Blocks.{IsGated, gates_block}
 use Rattle.mg_disk.specs.Places.{gated_longer}
 use Rattle.mg_disk.proofs.blocks.put_gates.Goals as goal
@@ -21,6 +22,7 @@ loop-i-preserved c =
       m,
       subst (λ ps. IsGated ps c.args.content.now.items (slice_set c.loop-i.content.items (slice_index_or places n 0) gates_block)) (sym (take_more places n 0 (omega arith)))
           (gated_longer (take n places) c.args.content.now.items c.loop-i.content.items (slice_index_or places n 0) gates_block refl (omega arith) c.loop-i.invariant.1),
+      λ are. All-set IsBytes c.loop-i.content.items (slice_index_or places n 0) gates_block (All-replicate (λ byte. byte < 256) 4096 0xA5 (omega arith)) (c.loop-i.invariant.2 are),
     )
 
 pub returns-clause-gates : goal.returns-clause-gates

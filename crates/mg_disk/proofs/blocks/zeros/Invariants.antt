@@ -1,8 +1,9 @@
 use Rattle.std.proofs.Common.{◌≡◌}
 use Rattle.std.specs.Vec.{vec_len}
 use Rattle.mg_disk.specs.Blocks.{zeros_of}
+use Rattle.mg_disk.specs.Disk.{AreBytes}
 use Rattle.mg_disk.proofs.blocks.zeros.Given as goal
 
 -- the blocks so far
 abbrev pub invariant-loop : goal.invariant-loop
-invariant-loop l = (l.content.items ≡ zeros_of l.counter) × (vec_len l.content ≡ l.counter)
+invariant-loop l = (l.content.items ≡ zeros_of l.counter) × (vec_len l.content ≡ l.counter) × AreBytes l.content.items

@@ -1,5 +1,6 @@
 use Rattle.std.proofs.Common.{◌∙◌, ℕ, ◌<◌, List, sym, ap, subst, Contains, slice_set}
-use Rattle.mg_disk.specs.Disk.{SameBut}
+use Rattle.std.proofs.lemmas.List.Elements.{All-set, All-from_get_or}
+use Rattle.mg_disk.specs.Disk.{SameBut, IsBytes}
 use Rattle.mg_disk.specs.Held.{run, start, held_more}
 use Rattle.mg_disk.specs.Places.{placed_longer, same_longer}
 use Rattle.mg_disk.specs.declared.memory.Event.TheVariants.{Wrote}
@@ -20,3 +21,7 @@ invariant_of-self-clause-held c =
     ap (run (start c.args.self.now.first.items)) c.push_reserved-2.ensures.items
     ∙ held_more c.args.self.now.first.items c.args.self.now.events.items _ (Wrote c.args.i c.args.block.now) c.args.self.now.held
     ∙ ap (λ places. record { base = c.args.self.now.synced.items; now = slice_set c.args.self.now.content.items c.args.i c.args.block.now; touched = places }) (sym c.push_reserved.ensures.items)
+
+pub invariant_of-self-clause-bytes : goal.invariant_of-self-clause-bytes
+invariant_of-self-clause-bytes c =
+    All-set IsBytes c.args.self.now.content.items c.args.i c.args.block.now (All-from_get_or (λ byte. byte < 256) c.args.block.now 0 (λ k below. c.fits-block k)) c.args.self.now.bytes

@@ -1,4 +1,5 @@
 use Rattle.std.proofs.Common.{◌∙◌, ◌<◌, ℕ, List, [], sym, ap, subst, Contains}
+use Rattle.mg_disk.specs.Disk.{AreBytes}
 use Rattle.mg_disk.specs.Held.{run, start, held_more}
 use Rattle.mg_disk.specs.Places.{same_as, none_in_none}
 use Rattle.mg_disk.specs.declared.memory.Event.TheVariants.{Synced}
@@ -24,3 +25,6 @@ invariant_of-self-clause-held c =
     ∙ held_more now.first.items now.events.items _ Synced now.held
     ∙ ap (λ base. record { base = base; now = now.content.items; touched = [] }) (sym c.copy_at.ensures.same)
     ∙ ap (λ places. record { base = c.copy_at.new.to.items; now = now.content.items; touched = places }) (sym c.clear.ensures.items)
+
+pub invariant_of-self-clause-synced_bytes : goal.invariant_of-self-clause-synced_bytes
+invariant_of-self-clause-synced_bytes c = subst AreBytes (sym c.copy_at.ensures.same) c.args.self.now.bytes
