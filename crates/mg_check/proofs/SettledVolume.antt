@@ -11,8 +11,8 @@ use Rattle.mg_model.specs.Layout.{gate_open, super_block, total_blocks}
 use Rattle.mg_model.specs.Replay.{block_of, replay}
 use Rattle.mg_model.specs.Settings.{Settings}
 use Rattle.mg_model.specs.Spelling.{SuperRead, super_read}
-use Rattle.mg_model.specs.Volume.{Damaged, VolumeRead, replayed_volume, settled_volume, volume, volume_behind}
-use Rattle.mg_model.specs.VolumeReads.{IsOpened, gate_byte, volume-opened}
+use Rattle.mg_model.specs.Volume.{Damaged, VolumeRead, replayed_volume, settled_volume, volume, volume_behind, IsOpened, gate_byte}
+use Rattle.mg_model.specs.VolumeReads.{volume-opened}
 
 pub some_in : {X : Type 0} (o : Option X) → IsSome o → (x : X) × (o ≡ Some x)
 some_in None is = absurd (cc)

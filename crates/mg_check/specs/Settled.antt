@@ -7,8 +7,7 @@ use Rattle.mg_model.specs.Replay.{block_of}
 use Rattle.mg_model.specs.Settings.{Settings}
 use Rattle.mg_model.specs.Spelling.{Spells, super_read}
 use Rattle.mg_model.specs.State.{State}
-use Rattle.mg_model.specs.Volume.{Is, settled_volume}
-use Rattle.mg_model.specs.VolumeReads.{IsOpened}
+use Rattle.mg_model.specs.Volume.{Is, settled_volume, IsOpened}
 
 -- its gate is open, and its superblock spells these settings
 pub record HasSettings (settings : Settings) (image : List (List ℕ)) : Type 0 where

@@ -10,8 +10,7 @@ ghost use Rattle.mg_layout.specs.SuperBlock.{IsSuper};
 ghost use Rattle.mg_model.specs.Layout.{gate_open, globals_block, super_block, total_blocks};
 ghost use Rattle.mg_model.specs.Replay.{block_of, replay};
 ghost use Rattle.mg_model.specs.Spelling.{super_read};
-ghost use Rattle.mg_model.specs.Volume.{Damaged, NotVolume, OldVolume, settled_volume, volume};
-ghost use Rattle.mg_model.specs.VolumeReads.{gate_byte};
+ghost use Rattle.mg_model.specs.Volume.{Damaged, NotVolume, OldVolume, settled_volume, volume, gate_byte};
 
 use crate::faults::RowFault;
 use crate::tables::tell_rows;

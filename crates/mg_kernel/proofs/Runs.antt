@@ -9,7 +9,7 @@ use Rattle.mg_disk.specs.declared.disk.Disk.{Ghosts}
 use Rattle.mg_faults.specs.Faults.{count_none, count_then, then_rose}
 use Rattle.mg_kernel.specs.Reading.{IsSoundOn, Reads, Serves}
 use Rattle.mg_model.specs.State.{State}
-use Rattle.mg_pages.specs.Meaning.{CountsAlike}
+use Rattle.mg_model.specs.Counts.{CountsAlike}
 use Rattle.mg_volume.specs.Held.{VolumeHeld}
 use Rattle.mg_volume.specs.Meaning.{Keeps, now_of, words_in}
 

@@ -3,7 +3,7 @@ use Rattle.std.specs.Prelude.{◌≡◌, ◌+◌, ◌≤◌, ℕ, true}
 use Rattle.std.specs.Option.{ForSome}
 use Rattle.mg_disk.specs.Stops.{CountGoes, WritesNothing}
 use Rattle.mg_disk.specs.declared.disk.Disk.{Ghosts}
-use Rattle.mg_pages.specs.Meaning.{CountsAlike}
+use Rattle.mg_model.specs.Counts.{CountsAlike}
 use Rattle.mg_volume.specs.Held.{VolumeHeld}
 use Rattle.mg_volume.specs.Meaning.{Keeps, StandsOn, is_live, is_sound, now_of, objects_in, staged_of, words_in}
 

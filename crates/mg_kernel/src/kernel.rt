@@ -8,7 +8,7 @@ ghost use Rattle.mg_model.specs.Access.{allowed, at};
 ghost use Rattle.mg_model.specs.Built.{IsBuilt};
 ghost use Rattle.mg_model.specs.Step.{step};
 ghost use Rattle.mg_model.specs.Volume.{Damaged, Is, NotVolume, OldVolume, volume};
-ghost use Rattle.mg_pages.specs.Meaning.{CountsAlike};
+ghost use Rattle.mg_model.specs.Counts.{CountsAlike};
 ghost use Rattle.mg_model.specs.FewSlots.{HasFewSlots};
 
 use crate::calls::{info, load, store};

@@ -12,8 +12,8 @@ use Rattle.mg_model.specs.Fresh.{fresh}
 use Rattle.mg_model.specs.Layout.{first_frame, gate_block, gate_open, total_blocks}
 use Rattle.mg_model.specs.Replay.{block_of}
 use Rattle.mg_model.specs.Settings.{Settings, within_limits}
-use Rattle.mg_model.specs.Volume.{Is, NotVolume, VolumeRead, volume}
-use Rattle.mg_model.specs.VolumeReads.{gate_byte, volume-closed, volume-same_behind, volume-short}
+use Rattle.mg_model.specs.Volume.{Is, NotVolume, VolumeRead, volume, gate_byte}
+use Rattle.mg_model.specs.VolumeReads.{volume-closed, volume-same_behind, volume-short}
 use Rattle.mg_model.specs.WellFormed.{IsSettings}
 use Rattle.mg_layout.specs.FreshBelow.{fresh_until, length-until, until-block, until-more, until-none, with_block, written-low}
 use Rattle.mg_layout.specs.FreshImage.{IsFreshImage, gate_bytes}

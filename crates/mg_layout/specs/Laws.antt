@@ -6,8 +6,7 @@ use Rattle.mg_model.specs.Layout.{body_limit, gate_open, magic, segment_count, s
 use Rattle.mg_model.specs.Replay.{block_of, body_count, is_open}
 use Rattle.mg_model.specs.Settings.{Settings}
 use Rattle.mg_model.specs.Spelling.{Spells, super_read}
-use Rattle.mg_model.specs.Volume.{Damaged, Is, NotVolume, OldVolume, volume}
-use Rattle.mg_model.specs.VolumeReads.{IsOpened, gate_byte}
+use Rattle.mg_model.specs.Volume.{Damaged, Is, NotVolume, OldVolume, volume, IsOpened, gate_byte}
 use Rattle.mg_model.specs.WellFormed.{IsSettings}
 use Rattle.mg_model.specs.Words.{same_bytes}
 use Rattle.mg_layout.specs.FreshImage.{IsFreshImage}

@@ -1,4 +1,4 @@
--- How replies add up over lines, and how many lines are answered: as many as there are newlines.
+-- Lemmas that crates above need: how replies add up over lines, and that each line is answered by one line.
 use Rattle.std.specs.Prelude.{ℕ, zero, suc, ◌+◌, ◌≡◌, ◌==◌, ◌/◌, ◌%◌, Bool, true, false, List, [], ◌∷◌, ◌++◌, length, if◌then◌else◌, cond, count_by, map, take}
 use Rattle.std.specs.Fmt.{decimal, digit_glyph, digits, digits_onto}
 use Rattle.std.proofs.Common.{refl, sym, ap, ◌∙◌, append_assoc, arith}
@@ -16,11 +16,7 @@ use Rattle.mg_model.specs.declared.threads.Fault.TheVariants as fault
 use Rattle.mg_model.specs.Words.{is_newline}
 use Rattle.mg_model.specs.State.{State}
 use Rattle.mg_model.specs.Step.{after, step}
-use Rattle.mg_model.specs.Print.{after_text, hex_digit, hex_digits, hex_text, ok_text, reply_line, reply_text, spaced, text}
-
--- the number of newlines
-abbrev pub answered : List ℕ → ℕ
-answered bytes = count_by is_newline bytes
+use Rattle.mg_model.specs.Print.{after_text, answered, hex_digit, hex_digits, hex_text, ok_text, reply_line, reply_text, spaced, text}
 
 pub answered-append : (xs ys : List ℕ) → answered (xs ++ ys) ≡ answered xs + answered ys
 answered-append xs ys = sum_by-append (λ x. cond (is_newline x) 1 0) xs ys

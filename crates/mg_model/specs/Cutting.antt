@@ -1,4 +1,4 @@
--- How the lines of an input come from those of its parts.
+-- Lemmas that crates above need: how the lines of an input come from those of its parts.
 use Rattle.std.specs.Prelude.{ℕ, zero, suc, ◌+◌, ◌<◌, ◌≡◌, ◌||◌, Bool, true, false, List, [], ◌∷◌, ◌++◌, length, if◌then◌else◌, nat_lt, replicate, Option, Some, None}
 use Rattle.std.specs.Option.{option_to_list}
 use Rattle.std.specs.List.{list_any, filter_map, cons_option}
@@ -6,6 +6,7 @@ use Rattle.std.proofs.Common.{refl, sym, ap, ◌∙◌, append-nil, arith, lengt
 use Rattle.std.proofs.lemmas.List.{length-replicate}
 use Rattle.std.proofs.lemmas.List.Folds.{list_any-append}
 use Rattle.mg_model.specs.declared.calls.Line.{Line}
+use Rattle.mg_model.specs.Ended.{all_but_last, ended_lines}
 use Rattle.mg_model.specs.Words.{split_at, onto_first, is_newline, words}
 use Rattle.mg_model.specs.Lines.{bad_line, line_limit, line_of, line_of_words, lines}
 
@@ -19,16 +20,6 @@ abbrev pub onto_last : List (List ℕ) → List ℕ → List (List ℕ)
 onto_last [] bytes = bytes ∷ []
 onto_last (piece ∷ []) bytes = (piece ++ bytes) ∷ []
 onto_last (piece ∷ next ∷ pieces) bytes = piece ∷ onto_last (next ∷ pieces) bytes
-
--- all pieces but the last
-abbrev pub all_but_last : List (List ℕ) → List (List ℕ)
-all_but_last [] = []
-all_but_last (piece ∷ []) = []
-all_but_last (piece ∷ next ∷ pieces) = piece ∷ all_but_last (next ∷ pieces)
-
--- the calls of the lines that are ended by a newline
-abbrev pub ended_lines : List (List ℕ) → List ℕ → List Line
-ended_lines built bytes = filter_map (line_of built) (all_but_last (split_at is_newline bytes))
 
 onto_then : (b : ℕ) (bytes : List ℕ) (pieces : List (List ℕ)) → onto_first b (all_onto_first bytes pieces) ≡ all_onto_first (b ∷ bytes) pieces
 onto_then b bytes [] = refl

@@ -1,5 +1,5 @@
 -- Replies as text.
-use Rattle.std.specs.Prelude.{ℕ, zero, suc, ◌+◌, ◌/◌, ◌%◌, nat_lt, List, [], ◌∷◌, ◌++◌, if◌then◌else◌, codes, map, take}
+use Rattle.std.specs.Prelude.{ℕ, zero, suc, ◌+◌, ◌/◌, ◌%◌, nat_lt, List, [], ◌∷◌, ◌++◌, if◌then◌else◌, codes, count_by, map, take}
 use Rattle.std.specs.Fmt.{decimal}
 use Rattle.mg_model.specs.declared.calls.Line.{Line}
 use Rattle.mg_model.specs.declared.replies.After.{After}
@@ -12,6 +12,7 @@ use Rattle.mg_model.specs.declared.threads.Fault.{Fault}
 use Rattle.mg_model.specs.declared.threads.Fault.TheVariants as fault
 use Rattle.mg_model.specs.State.{State}
 use Rattle.mg_model.specs.Step.{step}
+use Rattle.mg_model.specs.Words.{is_newline}
 
 -- a hexadecimal digit in lower case
 abbrev pub hex_digit : ℕ → ℕ
@@ -95,3 +96,7 @@ reply_line answer = reply_text answer ++ 10 ∷ []
 abbrev pub text : State → List Line → List ℕ
 text state [] = []
 text state (line ∷ more) = reply_line (step state line).1 ++ text (step state line).0 more
+
+-- how many replies these bytes have whole: the number of newlines
+abbrev pub answered : List ℕ → ℕ
+answered bytes = count_by is_newline bytes

@@ -1,5 +1,5 @@
 -- What an image spells: no volume, an older one, a damaged one, or a state of the machine.
-use Rattle.std.specs.Prelude.{ℕ, zero, suc, ◌+◌, ◌*◌, ◌/◌, ◌%◌, ◌^◌, ◌==◌, ◌&&◌, nat_le, nat_lt, Bool, true, false, not, List, [], ◌∷◌, ◌++◌, drop, filter, if◌then◌else◌, length, map, position, replicate, slice_index, sum_by, take, Option, Some, None}
+use Rattle.std.specs.Prelude.{◌≡◌, ◌≤◌, ℕ, zero, suc, ◌+◌, ◌*◌, ◌/◌, ◌%◌, ◌^◌, ◌==◌, ◌&&◌, nat_le, nat_lt, Bool, true, false, not, List, [], ◌∷◌, ◌++◌, drop, filter, if◌then◌else◌, length, map, position, replicate, slice_index, sum_by, take, Option, Some, None}
 use Rattle.std.specs.Option.{option_map_or}
 use Rattle.std.specs.List.{list_all, list_any}
 use Rattle.mg_model.specs.declared.accounts.AccRow.{AccRow}
@@ -179,8 +179,17 @@ volume_behind image OldSuper = OldVolume
 volume_behind image BadSuper = Damaged
 volume_behind image (Spells settings) = settled_volume image settings
 
+-- the byte that says whether an image has a volume: byte 0 of its gate
+abbrev pub gate_byte : List (List ℕ) → ℕ
+gate_byte image = slice_index (block_of image gate_block) 0
+
+-- an image has a superblock, and its gate is open: as a test, and as facts
 abbrev pub is_gated : List (List ℕ) → Bool
-is_gated image = nat_le 2 (length image) && slice_index (block_of image gate_block) 0 == gate_open
+is_gated image = nat_le 2 (length image) && gate_byte image == gate_open
+
+pub record IsOpened (image : List (List ℕ)) : Type 0 where
+  pub long : 2 ≤ length image
+  pub gate : gate_byte image ≡ gate_open
 
 unfoldable pub volume : List (List ℕ) → VolumeRead
 volume image = if is_gated image then volume_behind image (super_read (block_of image super_block)) else NotVolume

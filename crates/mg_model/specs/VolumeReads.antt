@@ -13,12 +13,8 @@ use Rattle.mg_model.specs.Replay.{block_of, body_count, home_of, homes_fit, is_o
 use Rattle.mg_model.specs.Settings.{Settings}
 use Rattle.mg_model.specs.Spelling.{Read, account_read, globals_read, object_read, super_read, NotSuper, OldSuper, BadSuper, Spells, SuperRead, thread_read}
 use Rattle.mg_model.specs.State.{Counters, Object, ObjectRow, State, ThreadRow}
-use Rattle.mg_model.specs.Volume.{Damaged, NotVolume, Rows, VolumeRead, account_row_bytes, accounts_spelled, fitting, live_rows, object_row_bytes, object_spelled, objects_spelled, page_words, pages_words, replayed_volume, rows_of, settled_volume, state_spelled, table_entries, thread_row_bytes, threads_spelled, volume, volume_behind, whole_table, with_live}
+use Rattle.mg_model.specs.Volume.{gate_byte, IsOpened, Damaged, NotVolume, Rows, VolumeRead, account_row_bytes, accounts_spelled, fitting, live_rows, object_row_bytes, object_spelled, objects_spelled, page_words, pages_words, replayed_volume, rows_of, settled_volume, state_spelled, table_entries, thread_row_bytes, threads_spelled, volume, volume_behind, whole_table, with_live}
 use Rattle.mg_model.specs.Words.{and_then}
-
--- whether the gate of the volume is open
-abbrev pub gate_byte : List (List ℕ) → ℕ
-gate_byte image = slice_index (block_of image gate_block) 0
 
 pub volume-closed : (image : List (List ℕ)) → gate_byte image ≢ gate_open → volume image ≡ NotVolume
 unfolding volume
@@ -31,11 +27,6 @@ unfolding volume
 volume-short image short =
     ap (λ b. if b then volume_behind image (super_read (block_of image super_block)) else NotVolume)
     (and_left (nat_le 2 (length image)) (gate_byte image == gate_open) (lt-leb 2 (length image) short))
-
--- an image whose gate is open, and which has a superblock
-pub record IsOpened (image : List (List ℕ)) : Type 0 where
-  pub long : 2 ≤ length image
-  pub gate : gate_byte image ≡ gate_open
 
 pub volume-opened : (image : List (List ℕ)) → IsOpened image → volume image ≡ volume_behind image (super_read (block_of image super_block))
 unfolding volume

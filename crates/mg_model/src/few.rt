@@ -23,7 +23,8 @@ pub struct Few<T: Filler, const N: usize> {
 impl<T: Filler, const N: usize> Model for Few<T, N> {
     ghost use Rattle.std.specs.Prelude.{◌≡◌, List, ℕ, length, take};
     ghost use Rattle.std.proofs.Common.{ap, ◌∙◌};
-    ghost use Rattle.mg_model.specs.Filled.{filled, IsFilled, filled-take, length-filled};
+    ghost use Rattle.mg_model.specs.Filled.{filled, IsFilled};
+    ghost use Rattle.mg_model.specs.FilledLemmas.{filled-take, length-filled};
 
     ghost Value = { List T };
 

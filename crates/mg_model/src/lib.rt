@@ -17,7 +17,6 @@ mod few;
 mod frames;
 mod globals;
 mod instructions;
-mod laws;
 mod objects;
 mod replies;
 mod rights;
@@ -34,10 +33,6 @@ pub use drawing::draw;
 pub use frames::Frame;
 pub use globals::Globals;
 pub use instructions::Instr;
-pub use laws::{
-    access_rests_on_the_domain, free_pages_are_found, lines_are_answered_in_every_state,
-    refused_lines_change_nothing, steps_keep_states_well_formed,
-};
 pub use objects::ObjRow;
 pub use replies::{After, Refusal, Reply};
 pub use rights::{Right, Rights};

@@ -98,10 +98,6 @@ pub record IsKept (p : PagesHeld) : Type 0 where
   pub long : length (table_in p) ≡ frame_count p
   pub distinct : all_distinct (bound_pages (table_in p)) ≡ true
 
--- one count rose by as much as the other, modulo 2^64
-abbrev pub CountsAlike : ℕ → ℕ → ℕ → ℕ → Type 0
-CountsAlike words words' steps steps' = (n : ℕ) × (steps' ≡ steps + n) × (words' % 2 ^ 64 ≡ (words + n) % 2 ^ 64)
-
 -- nothing changed but the count of words
 pub record Keeps (old new : PagesHeld) : Type 0 where
   pub shape : SameShape old new

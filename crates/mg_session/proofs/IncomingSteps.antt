@@ -9,7 +9,7 @@ use Rattle.mg_model.specs.declared.calls.Line.{Line}
 use Rattle.mg_model.specs.Cutting.{lines-ended, lines-last}
 use Rattle.mg_model.specs.Lines.{built_words, line_of, lines}
 use Rattle.mg_model.specs.Words.{is_newline}
-use Rattle.mg_pages.specs.Meaning.{CountsAlike}
+use Rattle.mg_model.specs.Counts.{CountsAlike}
 use Rattle.mg_session.specs.declared.batches.Ended.{Ended}
 use Rattle.mg_session.specs.Incoming.{Breaks, Goes}
 use Rattle.mg_session.specs.Sessions.{Broken, Closes, FailsToClose, Halts, Point, Runs, Session}

@@ -16,7 +16,7 @@ use Rattle.mg_kernel.specs.declared.kernel.Kernel.{Kernel}
 use Rattle.mg_kernel.specs.Meaning.{StandsOn, now_kept, now_of, staged_of}
 use Rattle.mg_kernel.specs.Opening.{Opens}
 use Rattle.mg_layout.specs.MayFormat.{IsNoState}
-use Rattle.mg_model.specs.Answered.{answered}
+use Rattle.mg_model.specs.Print.{answered}
 use Rattle.mg_model.specs.Lines.{built_words, lines}
 use Rattle.mg_model.specs.State.{State}
 use Rattle.mg_model.specs.Volume.{Damaged, Is, NotVolume, OldVolume, VolumeRead, volume}

@@ -11,10 +11,10 @@ use Rattle.mg_disk.specs.Stops.{Leaves, NothingPending}
 use Rattle.mg_disk.specs.declared.disk.Disk.{Ghosts}
 use Rattle.mg_kernel.specs.Meaning.{now_of}
 use Rattle.mg_model.specs.declared.calls.Line.{Line}
-use Rattle.mg_model.specs.Answered.{answered, text-append}
-use Rattle.mg_model.specs.Cutting.{ended_lines}
+use Rattle.mg_model.specs.Answered.{text-append}
+use Rattle.mg_model.specs.Print.{answered, text}
+use Rattle.mg_model.specs.Ended.{ended_lines}
 use Rattle.mg_model.specs.Lines.{built_words, lines}
-use Rattle.mg_model.specs.Print.{text}
 use Rattle.mg_model.specs.State.{State}
 use Rattle.mg_model.specs.Step.{after}
 use Rattle.mg_model.specs.Volume.{Is, volume}

@@ -10,8 +10,9 @@ use Rattle.mg_disk.specs.Stops.{NothingPending}
 use Rattle.mg_disk.specs.declared.disk.Disk.{Ghosts}
 use Rattle.mg_io.specs.Known.{Consumes-kept, Consumes-none, Consumes-then}
 use Rattle.mg_model.specs.declared.calls.Line.{Line}
-use Rattle.mg_model.specs.Answered.{answered}
-use Rattle.mg_model.specs.Cutting.{ended_lines, ended_lines-exact}
+use Rattle.mg_model.specs.Print.{answered}
+use Rattle.mg_model.specs.Cutting.{ended_lines-exact}
+use Rattle.mg_model.specs.Ended.{ended_lines}
 use Rattle.mg_model.specs.Lines.{built_words, lines}
 use Rattle.mg_model.specs.Words.{is_newline}
 use Rattle.mg_session.specs.declared.batches.Ended.{Ended}

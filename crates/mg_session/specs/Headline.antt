@@ -3,10 +3,9 @@ use Rattle.std.specs.Prelude.{ℕ, ◌+◌, ◌-◌, ◌<◌, ◌≤◌, ◌≡�
 use Rattle.std.specs.Io.KnownBytes.{Appends}
 use Rattle.mg_disk.specs.Disk.{Image}
 use Rattle.mg_io.specs.Known.{AppendsPrefix}
-use Rattle.mg_model.specs.Answered.{answered}
-use Rattle.mg_model.specs.Cutting.{ended_lines}
+use Rattle.mg_model.specs.Print.{answered, text}
+use Rattle.mg_model.specs.Ended.{ended_lines}
 use Rattle.mg_model.specs.Lines.{built_words, lines}
-use Rattle.mg_model.specs.Print.{text}
 use Rattle.mg_model.specs.State.{State}
 use Rattle.mg_model.specs.Step.{after}
 use Rattle.mg_model.specs.Volume.{Is, volume}

@@ -4,8 +4,8 @@ use Rattle.std.specs.List.{list_any}
 use Rattle.std.specs.Io.KnownBytes.{Consumes, IsAtEnd}
 use Rattle.mg_disk.specs.declared.disk.Disk.{Ghosts}
 use Rattle.mg_model.specs.declared.calls.Line.{Line}
-use Rattle.mg_model.specs.Answered.{answered}
-use Rattle.mg_model.specs.Cutting.{ended_lines}
+use Rattle.mg_model.specs.Print.{answered}
+use Rattle.mg_model.specs.Ended.{ended_lines}
 use Rattle.mg_model.specs.Lines.{built_words, lines}
 use Rattle.mg_model.specs.Words.{is_newline}
 use Rattle.mg_session.specs.declared.batches.Ended.{Ended}

@@ -9,8 +9,7 @@ use Rattle.mg_disk.specs.declared.disk.Disk.{Ghosts}
 use Rattle.mg_kernel.specs.declared.kernel.Kernel.{Kernel}
 use Rattle.mg_kernel.specs.Meaning.{now_of}
 use Rattle.mg_model.specs.declared.calls.Line.{Line}
-use Rattle.mg_model.specs.Answered.{answered}
-use Rattle.mg_model.specs.Print.{text}
+use Rattle.mg_model.specs.Print.{answered, text}
 use Rattle.mg_model.specs.State.{State}
 use Rattle.mg_model.specs.Step.{after}
 use Rattle.mg_model.specs.Volume.{Is, volume}

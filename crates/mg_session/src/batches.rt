@@ -4,7 +4,7 @@ ghost use Rattle.mg_disk.specs.Stops.{CountGoes, CountRose};
 ghost use Rattle.mg_faults.specs.Faults.{CountGoesOn, Rose};
 ghost use Rattle.mg_kernel.specs.Meaning.{StandsOn, is_live, staged_of, words_in};
 ghost use Rattle.mg_model.specs.Built.{IsBuilt};
-ghost use Rattle.mg_pages.specs.Meaning.{CountsAlike};
+ghost use Rattle.mg_model.specs.Counts.{CountsAlike};
 ghost use Rattle.mg_session.specs.Sessions.{Closes, FailsToClose, Halts, IsInside, Runs};
 ghost use Rattle.mg_session.specs.Waiting.{no_replies};
 

@@ -6,7 +6,7 @@ ghost use Rattle.mg_faults.specs.Faults.{CountGoesOn, Rose};
 ghost use Rattle.mg_kernel.specs.Meaning.{StandsOn, is_live, staged_of, words_in};
 ghost use Rattle.mg_model.specs.Lines.{built_words, lines};
 ghost use Rattle.mg_model.specs.Words.{is_newline};
-ghost use Rattle.mg_pages.specs.Meaning.{CountsAlike};
+ghost use Rattle.mg_model.specs.Counts.{CountsAlike};
 ghost use Rattle.mg_session.specs.Incoming.{Breaks, Goes};
 ghost use Rattle.mg_session.specs.Sessions.{Halts, IsInside, Runs};
 ghost use Rattle.mg_session.specs.Waiting.{no_replies};

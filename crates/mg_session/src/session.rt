@@ -5,7 +5,7 @@ ghost use Rattle.mg_disk.specs.Stops.{CountGoes, CountRose, Leaves};
 ghost use Rattle.mg_faults.specs.Faults.{CountGoesOn, Rose};
 ghost use Rattle.mg_kernel.specs.Meaning.{StandsOn, is_live, now_of, staged_of, words_in};
 ghost use Rattle.mg_model.specs.Lines.{built_words, lines};
-ghost use Rattle.mg_pages.specs.Meaning.{CountsAlike};
+ghost use Rattle.mg_model.specs.Counts.{CountsAlike};
 ghost use Rattle.mg_session.specs.Headline.{AnswersAll, AnswersLines, AnswersPrefix, FewUnanswered, IsWithin, KeepsAnswered, KeepsExactly, KeepsOne, SpellsAfter, TakesAtMost, TakesMore};
 ghost use Rattle.mg_session.specs.Readings.{Finishes, Stops};
 ghost use Rattle.mg_session.specs.Sessions.{IsPrefix};

@@ -7,6 +7,7 @@ use Rattle.std.proofs.lemmas.Bool.{and_from, and_parts, both_ways, cases_Bool, e
 use Rattle.std.proofs.lemmas.List.Elements.{All-head, All-tail}
 use Rattle.mg_disk.specs.Disk.{Image, block_at}
 use Rattle.mg_disk.specs.declared.disk.Disk.{Ghosts}
+use Rattle.mg_model.specs.Counts.{CountsAlike}
 use Rattle.mg_model.specs.Layout.{table_block}
 use Rattle.mg_model.specs.Objects.{page_behind, page_of, with_word, word_at}
 use Rattle.mg_model.specs.Ranges.{IsObjectRow}
@@ -121,13 +122,13 @@ frame_free v page kept held has =
     free_frame v.objects (pages.table_in v.pages) page held.distinct kept.inside has (omega arith)
 
 -- a count
-counted-one : (old new steps steps' : ℕ) → new ≡ (old + 1) % 2 ^ 64 → steps' ≡ steps + 1 → pages.CountsAlike old new steps steps'
+counted-one : (old new steps steps' : ℕ) → new ≡ (old + 1) % 2 ^ 64 → steps' ≡ steps + 1 → CountsAlike old new steps steps'
 counted-one old new steps steps' words ticks = (1, ticks, omega arith)
 
-counted-none : (old new steps steps' : ℕ) → new ≡ old → steps' ≡ steps → pages.CountsAlike old new steps steps'
+counted-none : (old new steps steps' : ℕ) → new ≡ old → steps' ≡ steps → CountsAlike old new steps steps'
 counted-none old new steps steps' words ticks = (0, omega arith, omega arith)
 
-pub counted : {T E : Type 0} (r : Result T E) (p p' : PagesHeld) (steps steps' : ℕ) → OnOk r (pages.CountsOne p p' steps steps') → OnErr r (pages.CountsNone p p' steps steps') → pages.CountsAlike (pages.words_in p) (pages.words_in p') steps steps'
+pub counted : {T E : Type 0} (r : Result T E) (p p' : PagesHeld) (steps steps' : ℕ) → OnOk r (pages.CountsOne p p' steps steps') → OnErr r (pages.CountsNone p p' steps steps') → CountsAlike (pages.words_in p) (pages.words_in p') steps steps'
 counted (Ok x) p p' steps steps' one none = counted-one (pages.words_in p) (pages.words_in p') steps steps' one.words one.ticks
 counted (Err e) p p' steps steps' one none = counted-none (pages.words_in p) (pages.words_in p') steps steps' none.words none.ticks
 

@@ -13,8 +13,8 @@ use Rattle.mg_model.specs.Replay.{block_of, replay}
 use Rattle.mg_model.specs.Settings.{Settings}
 use Rattle.mg_model.specs.Spelling.{account_read, globals_read, object_read, super_read, thread_read}
 use Rattle.mg_model.specs.State.{Counters, ObjectRow, State, ThreadRow}
-use Rattle.mg_model.specs.Volume.{Damaged, Is, Rows, account_row_bytes, fitting, is_gated, live_rows, object_row_bytes, replayed_volume, rows_of, state_fits, state_spelled, thread_row_bytes, volume, volume_behind, whole_table}
-use Rattle.mg_model.specs.VolumeReads.{IsOpened, gate_byte, rows_from, rows_with, volume-opened}
+use Rattle.mg_model.specs.Volume.{Damaged, Is, Rows, account_row_bytes, fitting, is_gated, live_rows, object_row_bytes, replayed_volume, rows_of, state_fits, state_spelled, thread_row_bytes, volume, volume_behind, whole_table, IsOpened, gate_byte}
+use Rattle.mg_model.specs.VolumeReads.{rows_from, rows_with, volume-opened}
 use Rattle.mg_pages.specs.Coming.{length_replay, replay_low}
 use Rattle.mg_volume.specs.Contents.{IsSet, volume_contents}
 use Rattle.mg_volume.specs.Loading.{HasBadRows, HasGap, IsVolume}

@@ -12,8 +12,8 @@ use Rattle.mg_model.specs.Replay.{block_of, replay}
 use Rattle.mg_model.specs.Settings.{Settings}
 use Rattle.mg_model.specs.Spelling.{BadSuper, NotSuper, OldSuper, Spells, SuperRead, super_read}
 use Rattle.mg_model.specs.State.{State}
-use Rattle.mg_model.specs.Volume.{Damaged, Is, replayed_volume, settled_volume, state_spelled, volume, volume_behind}
-use Rattle.mg_model.specs.VolumeReads.{IsOpened, gate_byte, volume-closed, volume-opened, volume-short}
+use Rattle.mg_model.specs.Volume.{Damaged, Is, replayed_volume, settled_volume, state_spelled, volume, volume_behind, IsOpened, gate_byte}
+use Rattle.mg_model.specs.VolumeReads.{volume-closed, volume-opened, volume-short}
 use Rattle.mg_volume.specs.Contents.{IsSet}
 use Rattle.mg_volume.specs.Loading.{IsVolume, named}
 use Rattle.mg_volume.proofs.Replayed.{rests}

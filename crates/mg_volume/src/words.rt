@@ -3,7 +3,7 @@ ghost use Rattle.std.specs.Prelude.{◌≡◌, ◌≤◌, ◌<◌, ◌+◌, ◌*
 ghost use Rattle.std.specs.Option.{ForSome};
 ghost use Rattle.mg_disk.specs.Stops.{CountGoes, CountRose, WritesNothing};
 ghost use Rattle.mg_model.specs.Objects.{with_word, word_at};
-ghost use Rattle.mg_pages.specs.Meaning.{CountsAlike};
+ghost use Rattle.mg_model.specs.Counts.{CountsAlike};
 ghost use Rattle.mg_volume.specs.Meaning.{Keeps, StandsOn, has_page, is_live, is_sound, now_of, objects_in, staged_of, total_of, words_in};
 ghost use Rattle.mg_volume.specs.Staging.{StillStaged};
 

@@ -5,7 +5,7 @@ use Rattle.mg_disk.specs.Stops.{CountGoes}
 use Rattle.mg_faults.specs.Faults.{CountGoesOn}
 use Rattle.mg_kernel.specs.Meaning.{StandsOn, is_live, staged_of, words_in}
 use Rattle.mg_model.specs.Words.{is_newline}
-use Rattle.mg_pages.specs.Meaning.{CountsAlike}
+use Rattle.mg_model.specs.Counts.{CountsAlike}
 use Rattle.mg_session.specs.Incoming.{Goes}
 use Rattle.mg_session.proofs.incoming.take_bytes.Given as goal
 

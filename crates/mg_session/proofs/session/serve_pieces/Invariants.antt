@@ -3,7 +3,7 @@ use Rattle.std.specs.Prelude.{IsTrue}
 use Rattle.mg_disk.specs.Stops.{CountGoes}
 use Rattle.mg_faults.specs.Faults.{CountGoesOn}
 use Rattle.mg_kernel.specs.Meaning.{StandsOn, is_live, staged_of, words_in}
-use Rattle.mg_pages.specs.Meaning.{CountsAlike}
+use Rattle.mg_model.specs.Counts.{CountsAlike}
 use Rattle.mg_session.specs.Readings.{Reading}
 use Rattle.mg_session.proofs.session.serve_pieces.Given as goal
 

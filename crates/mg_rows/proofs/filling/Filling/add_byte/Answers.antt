@@ -1,5 +1,5 @@
 use Rattle.std.proofs.Common.{arith}
-use Rattle.mg_model.specs.Filled.{IsFilled-add, length-filled}
+use Rattle.mg_model.specs.FilledLemmas.{IsFilled-add, length-filled}
 use Rattle.mg_rows.proofs.filling.Filling.add_byte.Goals as goal
 
 pub invariant_of-self : goal.invariant_of-self

@@ -1,0 +1,220 @@
+-- A thread's calls and its turns keep the state well formed.
+use Rattle.std.proofs.Common.{ℕ, ◌+◌, ◌*◌, ◌%◌, ◌^◌, ◌≤◌, ◌≡◌, Bool, not, cond, eqb, leb, ltb, ◌&&◌, length, Option, Some, None, refl, sym, ◌∙◌, subst, arith}
+use Rattle.std.proofs.lemmas.Bool.{and_parts, cond_both, leb-true}
+use Rattle.std.proofs.lemmas.Option.{same_Some}
+use Rattle.std.proofs.Math.Nat.{mod-lt}
+use Rattle.std.specs.Option.{ForSome, option_map_or, option_or}
+use Rattle.mg_model.specs.declared.calls.Call.{Call}
+use Rattle.mg_model.specs.declared.calls.Call.TheVariants as call
+use Rattle.mg_model.specs.declared.instructions.Instr.{Instr}
+use Rattle.mg_model.specs.declared.instructions.Instr.TheVariants as op
+use Rattle.mg_model.specs.declared.replies.Refusal.TheVariants as refusal
+use Rattle.mg_model.specs.declared.replies.Reply.{Reply}
+use Rattle.mg_model.specs.declared.replies.Reply.TheVariants as reply
+use Rattle.mg_model.specs.declared.rights.Right.TheVariants.{R, W, X}
+use Rattle.mg_model.specs.declared.threads.Fault.{Fault}
+use Rattle.mg_model.specs.declared.threads.Fault.TheVariants as fault
+use Rattle.mg_model.specs.declared.threads.ThrState.TheVariants.{Faulted, Stopped}
+use Rattle.mg_model.specs.Access.{allowed}
+use Rattle.mg_model.specs.Domains.{pdx, ret, row_of}
+use Rattle.mg_laws.proofs.Keeps.{unless_refused-keeps}
+use Rattle.mg_laws.proofs.KeepsDomains.{apdadd-keeps, apddel-keeps, find-All, pdx-keeps, ret-keeps}
+use Rattle.mg_laws.proofs.KeepsCreate.{create-keeps}
+use Rattle.mg_laws.proofs.KeepsObjects.{delete-keeps, entry-keeps, ext-keeps, info-keeps, load-keeps, objects-keep, pwadd-keeps, pwdel-keeps, recharge-keeps, store-keeps}
+use Rattle.mg_laws.proofs.KeepsRows.{KeepsRow, row-formed, with_thread-keeps}
+use Rattle.mg_laws.proofs.KeepsThreads.{end_thread-keeps, make_thread-keeps, resume-keeps}
+use Rattle.mg_laws.proofs.KeptObjects.{AreObjects-with_word}
+use Rattle.mg_laws.proofs.KeptRegisters.{HasImmediate, advanced-keeps, decoded-immediate, jumped-keeps, kept_register, kept_same, kept_state, register-word, settled-keeps, settled_call-keeps}
+use Rattle.mg_model.specs.Objects.{with_word, word_at}
+use Rattle.mg_model.specs.Ranges.{IsThreadRow, IsWord}
+use Rattle.mg_model.specs.Refused.{Answer}
+use Rattle.mg_laws.proofs.ReplyWords.{thread_call-words, word_at-word}
+use Rattle.mg_model.specs.Script.{decoded, jumped, operand, register, with_register}
+use Rattle.mg_model.specs.State.{State, Thread, ThreadRow}
+use Rattle.mg_laws.proofs.KeepsBank.{balance-keeps, open_account-keeps, pay-keeps}
+use Rattle.mg_model.specs.Turn.{advanced, call_settled, faulted, is_ready, next, picked, put_row, ready_above, run, run_next, run_word, settled, settled_call, spelled, spelled_pwadd, thread_call, turn, turn_state, turned, unless_faulted}
+use Rattle.mg_model.specs.WellFormed.{HasRanges, IsThread, IsWellFormed}
+
+pub thread_call-keeps : (state : State) (t : ℕ) (made : Call) → IsWellFormed state → HasRanges made → IsWellFormed (thread_call state t made).0
+thread_call-keeps state t (call.Load a) formed ranges = load-keeps state t a formed
+thread_call-keeps state t (call.Store a value) formed ranges = store-keeps state t a value formed ranges.1
+thread_call-keeps state t (call.Create n account password) formed ranges = create-keeps state n account password formed
+thread_call-keeps state t (call.Delete b) formed ranges = delete-keeps state t b formed
+thread_call-keeps state t (call.Info b) formed ranges = info-keeps state t b formed
+thread_call-keeps state t (call.Pwadd b rights until) formed ranges = pwadd-keeps state t b rights until formed ranges.1
+thread_call-keeps state t (call.Pwdel b password) formed ranges = pwdel-keeps state t b password formed
+thread_call-keeps state t (call.Entry b off) formed ranges = entry-keeps state t b off formed
+thread_call-keeps state t (call.Ext b clist password) formed ranges = ext-keeps state t b clist password formed ranges.1 ranges.2
+thread_call-keeps state t (call.Recharge b account password) formed ranges = recharge-keeps state t b account password formed
+thread_call-keeps state t (call.Apdadd clist password) formed ranges = apdadd-keeps state t clist password formed ranges.0 ranges.1
+thread_call-keeps state t (call.Apddel index) formed ranges = apddel-keeps state t index formed
+thread_call-keeps state t call.Apdlist formed ranges = formed
+thread_call-keeps state t (call.Pdx a mask) formed ranges = pdx-keeps state t a mask formed ranges.0
+thread_call-keeps state t call.Ret formed ranges = ret-keeps state t formed
+thread_call-keeps state t (call.Thread pc) formed ranges = make_thread-keeps state t pc formed ranges
+thread_call-keeps state t (call.End i) formed ranges = end_thread-keeps state t i formed
+thread_call-keeps state t (call.Resume i) formed ranges = resume-keeps state t i formed
+thread_call-keeps state t (call.Account account password amount) formed ranges = open_account-keeps state account password amount formed
+thread_call-keeps state t (call.Pay account password to amount) formed ranges = pay-keeps state account password to amount formed
+thread_call-keeps state t (call.Balance account password) formed ranges = balance-keeps state account password formed
+thread_call-keeps state t call.Turn formed ranges = formed
+thread_call-keeps state t call.Next formed ranges = formed
+thread_call-keeps state t call.Rent formed ranges = formed
+thread_call-keeps state t call.Bad formed ranges = formed
+thread_call-keeps state t call.Later formed ranges = formed
+
+-- the call that registers spell has its arguments in range
+spelled_pwadd-ranges : (b rights : ℕ) (until : Option ℕ) → IsWord b → ForSome until IsWord → HasRanges (spelled_pwadd b rights until)
+spelled_pwadd-ranges b rights until word given =
+    cond_both (leb 1 rights && leb rights 63) (call.Pwadd b rights until) call.Bad HasRanges
+    (λ both. let parts = and_parts _ _ both in (word, record { some = leb-true _ _ parts.0; six = leb-true _ _ parts.1 }, given))
+    (λ _. tt)
+
+spelled-ranges : (row : ThreadRow) → IsThreadRow row → HasRanges (spelled row)
+spelled-ranges row is =
+    let r = λ (k : ℕ). register-word row k is in
+    let no : ForSome None IsWord = λ n same. absurd (cc) in
+    let given : ForSome (Some (register row 3)) IsWord = λ n same. subst IsWord (same_Some _ _ same) (r 3) in
+    cond_both (eqb (register row 0) 1) _ _ HasRanges (λ _. r 1) (λ _.
+    cond_both (eqb (register row 0) 2) _ _ HasRanges (λ _. (r 1, r 2)) (λ _.
+    cond_both (eqb (register row 0) 3) _ _ HasRanges (λ _. (r 1, r 2, r 3)) (λ _.
+    cond_both (eqb (register row 0) 4) _ _ HasRanges (λ _. r 1) (λ _.
+    cond_both (eqb (register row 0) 5) _ _ HasRanges (λ _. r 1) (λ _.
+    cond_both (eqb (register row 0) 6) _ _ HasRanges (λ _. spelled_pwadd-ranges (register row 1) (register row 2) None (r 1) no) (λ _.
+    cond_both (eqb (register row 0) 7) _ _ HasRanges (λ _. (r 1, r 2)) (λ _.
+    cond_both (eqb (register row 0) 8) _ _ HasRanges (λ _. (r 1, r 2)) (λ _.
+    cond_both (eqb (register row 0) 9) _ _ HasRanges (λ _. (r 1, r 2, r 3)) (λ _.
+    cond_both (eqb (register row 0) 10) _ _ HasRanges (λ _. (r 1, r 2, r 3)) (λ _.
+    cond_both (eqb (register row 0) 11) _ _ HasRanges (λ _. (r 1, r 2)) (λ _.
+    cond_both (eqb (register row 0) 12) _ _ HasRanges (λ _. r 1) (λ _.
+    cond_both (eqb (register row 0) 13) _ _ HasRanges (λ _. r 1) (λ _.
+    cond_both (eqb (register row 0) 14) _ _ HasRanges (λ _. r 1) (λ _.
+    cond_both (eqb (register row 0) 15) _ _ HasRanges (λ _. r 1) (λ _.
+    cond_both (eqb (register row 0) 16) _ _ HasRanges (λ _. (r 1, r 2, r 3)) (λ _.
+    cond_both (eqb (register row 0) 17) _ _ HasRanges (λ _. (r 1, r 2, r 3, r 4)) (λ _.
+    cond_both (eqb (register row 0) 18) _ _ HasRanges (λ _. (r 1, r 2)) (λ _.
+    cond_both (eqb (register row 0) 19) _ _ HasRanges (λ _. spelled_pwadd-ranges (register row 1) (register row 2) (Some (register row 3)) (r 1) given) (λ _. tt)))))))))))))))))))
+
+-- another row in place of the thread's
+pub put_row-keeps : (state : State) (t : ℕ) (row new : ThreadRow) → IsWellFormed state → row_of state t ≡ Some row → KeepsRow row new → IsWellFormed (put_row state t new)
+put_row-keeps state t row new formed is kept =
+    with_thread-keeps state t (λ _. new) formed (λ other there _. subst (λ (x : ThreadRow). KeepsRow x new) (same_Some _ _ (sym is ∙ there)) kept)
+
+pub faulted-keeps : (state : State) (t : ℕ) (kind : Fault) → IsWellFormed state → IsWellFormed (faulted state t kind)
+faulted-keeps state t kind formed = with_thread-keeps state t (λ thread. record thread { state = Faulted kind }) formed (λ row _ is. kept_state row row (Faulted kind) (kept_same row is))
+
+unless_faulted-keeps : (state : State) (t address : ℕ) (may : Bool) (done : State) → IsWellFormed state → IsWellFormed done → IsWellFormed (unless_faulted state t address may done)
+unless_faulted-keeps state t address may done formed after =
+    cond_both (not (eqb (address % 8) 0)) _ _ IsWellFormed (λ _. faulted-keeps state t fault.Align formed)
+    (λ _. cond_both (not may) _ _ IsWellFormed (λ _. faulted-keeps state t fault.Denied formed) (λ _. after))
+
+-- a call by a script
+call_settled-keeps : (answer : Answer) (t : ℕ) (sees : Reply → ThreadRow → ThreadRow) → IsWellFormed answer.0 → ((row : ThreadRow) → IsThreadRow row → KeepsRow row (sees answer.1 row)) → IsWellFormed (call_settled answer t sees)
+call_settled-keeps answer t sees formed keeps = with_thread-keeps answer.0 t (sees answer.1) formed (λ row _ is. keeps row is)
+
+-- another word of an object
+pub with_word-keeps : (state : State) (a value : ℕ) → IsWellFormed state → IsWord value → IsWellFormed (record state { objects = with_word state.objects a value })
+with_word-keeps state a value formed word =
+    objects-keep state (with_word state.objects a value) formed (AreObjects-with_word state.settings.frames (length state.accounts) a value state.objects word formed.objects)
+
+module _ (state : State) (t : ℕ) (row thread : ThreadRow) (here : ℕ) (formed : IsWellFormed state) (there : row_of state t ≡ Some row) (kept : KeepsRow row thread) (aligned : here % 8 ≡ 0) where
+  run-keeps : (instr : Instr) → HasImmediate instr → IsWellFormed (run state t here thread instr)
+  run-keeps op.Halt has = put_row-keeps state t row _ formed there (kept_state row thread Stopped kept)
+  run-keeps (op.Set a i) has = put_row-keeps state t row _ formed there (kept_register row thread a i kept (omega arith))
+  run-keeps (op.High a i) has = put_row-keeps state t row _ formed there (kept_register row thread a (register thread a % 2 ^ 32 + i * 2 ^ 32) kept (omega arith))
+  run-keeps (op.Add a b c) has = put_row-keeps state t row _ formed there (kept_register row thread a _ kept (mod-lt _ (omega arith)))
+  run-keeps (op.Sub a b c) has = put_row-keeps state t row _ formed there (kept_register row thread a _ kept (mod-lt _ (omega arith)))
+  run-keeps (op.Lt a b c) has =
+      let bit : IsWord (cond (ltb (register thread b) (register thread c)) 1 0) = cond_both (ltb (register thread b) (register thread c)) 1 0 IsWord (λ _. omega arith) (λ _. omega arith) in
+      put_row-keeps state t row _ formed there (kept_register row thread a _ kept bit)
+  run-keeps (op.Load a b i) has =
+      let address : ℕ = operand thread b i in
+      unless_faulted-keeps state t address (allowed state t address R) _ formed
+      (put_row-keeps state t row _ formed there (kept_register row thread a (word_at state.objects address) kept (word_at-word state address formed)))
+  run-keeps (op.Store a b i) has =
+      let address : ℕ = operand thread b i in
+      unless_faulted-keeps state t address (allowed state t address W) _ formed
+      (put_row-keeps (record state { objects = with_word state.objects address (register thread a) }) t row thread (with_word-keeps state address (register thread a) formed (register-word thread a kept.row)) there kept)
+  run-keeps (op.Jump i) has = put_row-keeps state t row _ formed there (jumped-keeps row thread here i kept aligned)
+  run-keeps (op.Jz a i) has =
+      put_row-keeps state t row _ formed there
+      (cond_both (eqb (register thread a) 0) (jumped thread here i) thread (KeepsRow row) (λ _. jumped-keeps row thread here i kept aligned) (λ _. kept))
+  run-keeps (op.Jnz a i) has =
+      put_row-keeps state t row _ formed there
+      (cond_both (eqb (register thread a) 0) thread (jumped thread here i) (KeepsRow row) (λ _. kept) (λ _. jumped-keeps row thread here i kept aligned))
+  run-keeps (op.Pdx a b) has =
+      let mask : ℕ = register thread b in
+      let before : State = put_row state t thread in
+      let formed' : IsWellFormed before = put_row-keeps state t row thread formed there kept in
+      call_settled-keeps (cond (ltb 255 mask) (before, reply.No refusal.Syntax) (pdx before t (register thread a) mask)) t (settled_call (λ entered. with_register entered 0 0))
+      (cond_both (ltb 255 mask) (before, reply.No refusal.Syntax) (pdx before t (register thread a) mask) (λ (answer : Answer). IsWellFormed answer.0)
+      (λ _. formed')
+      (λ _. pdx-keeps before t (register thread a) mask formed' (register-word thread a kept.row)))
+      (λ r is. settled_call-keeps (λ entered. with_register entered 0 0) _ r is (kept_register r r 0 0 (kept_same r is) (omega arith)))
+  run-keeps op.Ret has =
+      let before : State = put_row state t thread in
+      let formed' : IsWellFormed before = put_row-keeps state t row thread formed there kept in
+      call_settled-keeps (ret before t) t (settled_call (λ returned. returned)) (ret-keeps before t formed') (λ r is. settled_call-keeps (λ returned. returned) _ r is (kept_same r is))
+  run-keeps op.Yield has = put_row-keeps state t row thread formed there kept
+  run-keeps op.Sys has =
+      let before : State = put_row state t thread in
+      let formed' : IsWellFormed before = put_row-keeps state t row thread formed there kept in
+      call_settled-keeps (thread_call before t (spelled thread)) t settled (thread_call-keeps before t (spelled thread) formed' (spelled-ranges thread kept.row))
+      (λ r is. settled-keeps _ r is (thread_call-words before t (spelled thread) formed').words)
+
+-- the turn of a thread that lives
+run_word-keeps : (state : State) (t : ℕ) (row : ThreadRow) (o : Option Instr) → IsWellFormed state → row_of state t ≡ Some row → ForSome o HasImmediate → IsWellFormed (run_word state t row o)
+run_word-keeps state t row None formed there has = faulted-keeps state t fault.Opcode formed
+run_word-keeps state t row (Some instr) formed there has =
+    let is : IsThreadRow row = row-formed state t row formed there in
+    run-keeps state t row (advanced row) row.pc formed there (advanced-keeps row is) is.aligned instr (has instr refl)
+
+turned-keeps : (state : State) (t : ℕ) (row : ThreadRow) → IsWellFormed state → row_of state t ≡ Some row → IsWellFormed (turned state t row)
+turned-keeps state t row formed there =
+    cond_both (allowed state t row.pc X) _ _ IsWellFormed
+    (λ _. run_word-keeps state t row (decoded (word_at state.objects row.pc)) formed there (λ instr same. decoded-immediate (word_at state.objects row.pc) instr (word_at-word state row.pc formed) same))
+    (λ _. faulted-keeps state t fault.Denied formed)
+
+turn_of_row : (state : State) (t : ℕ) (o : Option ThreadRow) → IsWellFormed state → row_of state t ≡ o → IsWellFormed (option_map_or (λ thread. turned state t thread) o state)
+turn_of_row state t None formed is = formed
+turn_of_row state t (Some row) formed is = turned-keeps state t row formed is
+
+pub turn_state-keeps : (state : State) (t : ℕ) → IsWellFormed state → IsWellFormed (turn_state state t)
+turn_state-keeps state t formed = turn_of_row state t (row_of state t) formed refl
+
+pub turn-keeps : (state : State) (t : ℕ) → IsWellFormed state → IsWellFormed (turn state t).0
+turn-keeps state t formed = unless_refused-keeps _ state _ formed (λ _. turn_state-keeps state t formed)
+
+-- the cursor
+with_cursor-keeps : (state : State) (n : ℕ) → IsWellFormed state → n ≤ 256 → IsWellFormed (record state { counters = record state.counters { cursor = n } })
+with_cursor-keeps state n formed few = record {
+  settings = formed.settings;
+  counters = record {
+    some_draws = formed.counters.some_draws;
+    draws = formed.counters.draws;
+    period = formed.counters.period;
+    cursor = few;
+    some_births = formed.counters.some_births;
+    births = formed.counters.births;
+  };
+  objects = formed.objects;
+  accounts = formed.accounts;
+  threads = formed.threads;
+  first = formed.first;
+}
+
+run_next-keeps : (state : State) (o : Option Thread) → IsWellFormed state → ForSome o (IsThread state.counters.births) → IsWellFormed (run_next state o).0
+run_next-keeps state None formed each = formed
+run_next-keeps state (Some thread) formed each =
+    turn_state-keeps (record state { counters = record state.counters { cursor = thread.number } }) thread.number (with_cursor-keeps state thread.number formed (each thread refl).few)
+
+either-some : (P : Thread → Type 0) (a b : Option Thread) → ForSome a P → ForSome b P → ForSome (option_or a b) P
+either-some P None b first second = second
+either-some P (Some thread) b first second = first
+
+pub next-keeps : (state : State) → IsWellFormed state → IsWellFormed (next state).0
+next-keeps state formed =
+    run_next-keeps state (picked state) formed
+    (either-some (IsThread state.counters.births) (ready_above state.counters.cursor state.threads) (ready_above 0 state.threads)
+    (λ thread is. find-All (IsThread state.counters.births) (λ (x : Thread). is_ready x.row.state && ltb state.counters.cursor x.number) state.threads thread formed.threads.each is)
+    (λ thread is. find-All (IsThread state.counters.births) (λ (x : Thread). is_ready x.row.state && ltb 0 x.number) state.threads thread formed.threads.each is))

@@ -1,0 +1,159 @@
+-- What an instruction does to a thread's row keeps it one: registers stay words, and the pc the address of a word.
+use Rattle.std.proofs.Common.{ℕ, ◌+◌, ◌/◌, ◌%◌, ◌^◌, ◌<◌, ◌≡◌, Bool, true, false, eqb, ltb, List, [], ◌∷◌, length, get_or, Option, Some, refl, sym, ◌∙◌, subst, arith, All, length-set, ⊎_elim}
+use Rattle.std.proofs.lemmas.Bool.{cases_lt, cond_both}
+use Rattle.std.proofs.lemmas.List.{get_or_past}
+use Rattle.std.proofs.lemmas.List.Elements.{All-cons, All-get_or, All-head, All-set, All-tail}
+use Rattle.std.proofs.lemmas.Option.{same_Some}
+use Rattle.std.proofs.Math.Nat.{mod-lt}
+use Rattle.std.specs.Option.{ForSome}
+use Rattle.mg_model.specs.declared.instructions.Instr.{Instr}
+use Rattle.mg_model.specs.declared.instructions.Instr.TheVariants as op
+use Rattle.mg_model.specs.declared.replies.Refusal.{Refusal}
+use Rattle.mg_model.specs.declared.replies.Refusal.TheVariants as refusal
+use Rattle.mg_model.specs.declared.replies.Reply.{Reply}
+use Rattle.mg_model.specs.declared.replies.Reply.TheVariants as reply
+use Rattle.mg_model.specs.declared.threads.ThrState.{ThrState}
+use Rattle.mg_laws.proofs.KeepsRows.{KeepsRow}
+use Rattle.mg_model.specs.Ranges.{IsThreadRow, IsWord}
+use Rattle.mg_model.specs.Script.{decoded, instruction_of, jump_by, jumped, register, where_so, with_register, word_end}
+use Rattle.mg_model.specs.State.{ThreadRow}
+use Rattle.mg_model.specs.Turn.{advanced, refusal_number, settled, settled_call, values_of, with_registers}
+
+-- a number in a list of words, also past its end
+pub word-in_list : (words : List ℕ) (k : ℕ) → All IsWord words → IsWord (get_or words k 0)
+word-in_list words k all =
+    ⊎_elim (λ within. All-get_or IsWord words k 0 within all) (λ past. subst IsWord (sym (get_or_past words k 0 past)) (omega arith)) (cases_lt k (length words))
+
+pub register-word : (row : ThreadRow) (k : ℕ) → IsThreadRow row → IsWord (register row k)
+register-word row k is = word-in_list row.registers k is.registers
+
+pub kept_same : (row : ThreadRow) → IsThreadRow row → KeepsRow row row
+kept_same row is = record { row = is; birth = refl; creator = refl }
+
+pub kept_then : (row next last : ThreadRow) → KeepsRow row next → KeepsRow next last → KeepsRow row last
+kept_then row next last kept then = record { row = then.row; birth = then.birth ∙ kept.birth; creator = then.creator ∙ kept.creator }
+
+pub kept_register : (row next : ThreadRow) (k value : ℕ) → KeepsRow row next → IsWord value → KeepsRow row (with_register next k value)
+kept_register row next k value kept word =
+    let is : IsThreadRow next = kept.row in
+    record {
+      row = record {
+        birth = is.birth;
+        creator = is.creator;
+        pc = is.pc;
+        aligned = is.aligned;
+        eight = length-set next.registers k value ∙ is.eight;
+        registers = All-set IsWord next.registers k value word is.registers;
+        some_frame = is.some_frame;
+        few_frames = is.few_frames;
+        frames = is.frames;
+        bottom = is.bottom;
+      };
+      birth = kept.birth;
+      creator = kept.creator;
+    }
+
+pub kept_pc : (row next : ThreadRow) (pc : ℕ) → KeepsRow row next → IsWord pc → pc % 8 ≡ 0 → KeepsRow row (record next { pc = pc })
+kept_pc row next pc kept word aligned =
+    let is : IsThreadRow next = kept.row in
+    record {
+      row = record {
+        birth = is.birth;
+        creator = is.creator;
+        pc = word;
+        aligned = aligned;
+        eight = is.eight;
+        registers = is.registers;
+        some_frame = is.some_frame;
+        few_frames = is.few_frames;
+        frames = is.frames;
+        bottom = is.bottom;
+      };
+      birth = kept.birth;
+      creator = kept.creator;
+    }
+
+pub kept_state : (row next : ThreadRow) (state : ThrState) → KeepsRow row next → KeepsRow row (record next { state = state })
+kept_state row next state kept =
+    let is : IsThreadRow next = kept.row in
+    record {
+      row = record {
+        birth = is.birth;
+        creator = is.creator;
+        pc = is.pc;
+        aligned = is.aligned;
+        eight = is.eight;
+        registers = is.registers;
+        some_frame = is.some_frame;
+        few_frames = is.few_frames;
+        frames = is.frames;
+        bottom = is.bottom;
+      };
+      birth = kept.birth;
+      creator = kept.creator;
+    }
+
+-- a sum of two multiples of 8, modulo the end of words
+sum-aligned : (a b : ℕ) → a % 8 ≡ 0 → b % 8 ≡ 0 → (a + b) % 2 ^ 64 % 8 ≡ 0
+sum-aligned a b left right = omega arith
+
+pub advanced-keeps : (row : ThreadRow) → IsThreadRow row → KeepsRow row (advanced row)
+advanced-keeps row is = kept_pc row row ((row.pc + 8) % word_end) (kept_same row is) (mod-lt _ (omega arith)) (sum-aligned row.pc 8 is.aligned refl)
+
+jump_by-aligned : (i : ℕ) → jump_by i % 8 ≡ 0
+jump_by-aligned i = cond_both (ltb i (2 ^ 31)) _ _ (λ n. n % 8 ≡ 0) (λ _. omega arith) (λ _. omega arith)
+
+pub jumped-keeps : (row next : ThreadRow) (here i : ℕ) → KeepsRow row next → here % 8 ≡ 0 → KeepsRow row (jumped next here i)
+jumped-keeps row next here i kept aligned = kept_pc row next ((here + jump_by i) % word_end) kept (mod-lt _ (omega arith)) (sum-aligned here (jump_by i) aligned (jump_by-aligned i))
+
+-- the values of a reply
+pub kept_registers : (row next : ThreadRow) (k : ℕ) (values : List ℕ) → KeepsRow row next → All IsWord values → KeepsRow row (with_registers next k values)
+kept_registers row next k [] kept all = kept
+kept_registers row next k (value ∷ values) kept all =
+    kept_registers row (with_register next k value) (k + 1) values (kept_register row next k value kept (All-head IsWord value values all)) (All-tail IsWord value values all)
+
+pub refusal_number-word : (word : Refusal) → IsWord (refusal_number word)
+refusal_number-word refusal.Later = omega arith
+refusal_number-word _ = omega arith
+
+pub settled-keeps : (answer : Reply) (row : ThreadRow) → IsThreadRow row → All IsWord (values_of answer) → KeepsRow row (settled answer row)
+settled-keeps (reply.No word) row is words = kept_register row row 0 (refusal_number word) (kept_same row is) (refusal_number-word word)
+settled-keeps other row is words = kept_registers row row 0 (0 ∷ values_of other) (kept_same row is) (All-cons IsWord 0 (values_of other) (omega arith) words)
+
+pub settled_call-keeps : (on_ok : ThreadRow → ThreadRow) (answer : Reply) (row : ThreadRow) → IsThreadRow row → KeepsRow row (on_ok row) → KeepsRow row (settled_call on_ok answer row)
+settled_call-keeps on_ok (reply.No word) row is kept = kept_register row row 0 (refusal_number word) (kept_same row is) (refusal_number-word word)
+settled_call-keeps on_ok _ row is kept = kept
+
+-- an immediate has 32 bits
+abbrev pub HasImmediate : Instr → Type 0
+HasImmediate (op.Set a i) = i < 2 ^ 32
+HasImmediate (op.High a i) = i < 2 ^ 32
+HasImmediate _ = Unit {0}
+
+so : (test : Bool) (instr : Instr) → HasImmediate instr → ForSome (where_so test instr) HasImmediate
+so true instr has = λ other same. subst HasImmediate (same_Some _ _ same) has
+so false instr has = λ other same. absurd (cc)
+
+abbrev MayHave : Option Instr → Type 0
+MayHave o = ForSome o HasImmediate
+
+instruction_of-immediate : (word a b c i : ℕ) → i < 2 ^ 32 → MayHave (instruction_of word a b c i)
+instruction_of-immediate word a b c i small =
+    cond_both (eqb word 0) _ _ MayHave (λ _. so _ op.Halt tt) (λ _.
+    cond_both (eqb word 1) _ _ MayHave (λ _. so _ (op.Set a i) small) (λ _.
+    cond_both (eqb word 2) _ _ MayHave (λ _. so _ (op.High a i) small) (λ _.
+    cond_both (eqb word 3) _ _ MayHave (λ _. so _ (op.Add a b c) tt) (λ _.
+    cond_both (eqb word 4) _ _ MayHave (λ _. so _ (op.Sub a b c) tt) (λ _.
+    cond_both (eqb word 5) _ _ MayHave (λ _. so _ (op.Lt a b c) tt) (λ _.
+    cond_both (eqb word 6) _ _ MayHave (λ _. so _ (op.Load a b i) tt) (λ _.
+    cond_both (eqb word 7) _ _ MayHave (λ _. so _ (op.Store a b i) tt) (λ _.
+    cond_both (eqb word 8) _ _ MayHave (λ _. so _ (op.Jump i) tt) (λ _.
+    cond_both (eqb word 9) _ _ MayHave (λ _. so _ (op.Jz a i) tt) (λ _.
+    cond_both (eqb word 10) _ _ MayHave (λ _. so _ (op.Jnz a i) tt) (λ _.
+    cond_both (eqb word 11) _ _ MayHave (λ _. so _ (op.Pdx a b) tt) (λ _.
+    cond_both (eqb word 12) _ _ MayHave (λ _. so _ op.Ret tt) (λ _.
+    cond_both (eqb word 13) _ _ MayHave (λ _. so _ op.Yield tt) (λ _.
+    cond_both (eqb word 14) _ _ MayHave (λ _. so _ op.Sys tt) (λ _. λ other same. absurd (cc))))))))))))))))
+
+pub decoded-immediate : (word : ℕ) (instr : Instr) → IsWord word → decoded word ≡ Some instr → HasImmediate instr
+decoded-immediate word instr is same = instruction_of-immediate (word % 2 ^ 8) (word / 2 ^ 8 % 2 ^ 8) (word / 2 ^ 16 % 2 ^ 8) (word / 2 ^ 24 % 2 ^ 8) (word / 2 ^ 32) (omega arith) instr same

@@ -1,0 +1,100 @@
+-- What a collection of rent keeps: no balance is lost, and no account owes more than its periods make.
+use Rattle.std.proofs.Common.{◌≡◌, ℕ, zero, suc, ◌+◌, ◌*◌, ◌^◌, ◌<◌, ◌≤◌, ◌==◌, nat_le, nat_lt, ◌&&◌, Bool, true, cond, List, [], ◌∷◌, length, All, refl, ap, arith}
+use Rattle.std.proofs.lemmas.Bool.{and_parts, cond_both, eqb-true, leb-true}
+use Rattle.std.proofs.lemmas.List.Elements.{All-cons, All-from_get_or, All-head, All-nil, All-tail}
+use Rattle.std.proofs.lemmas.List.Sums.{sum_by-cons}
+use Rattle.std.proofs.lemmas.Nat.{mul-le}
+use Rattle.mg_model.specs.declared.accounts.AccRow.{AccRow}
+use Rattle.mg_model.specs.Bank.{all_charged, all_paid, charged, paid, pages_of, rate_from, rate_of, used}
+use Rattle.mg_laws.proofs.KeptAccounts.{total}
+use Rattle.mg_model.specs.KeptLists.{sum_by-filter-le}
+use Rattle.mg_model.specs.State.{Object}
+use Rattle.mg_model.specs.Tariff.{from_at, is_tariff, rate_at, step_limit}
+use Rattle.mg_model.specs.WellFormed.{IsAccount}
+
+-- no rate of these steps is above the limit
+abbrev pub AreRates : List (ℕ × ℕ) → Type 0
+AreRates steps = All (λ (step : ℕ × ℕ). step.1 ≤ step_limit) steps
+
+rate_from-few : (before : ℕ) (steps : List (ℕ × ℕ)) (pages : ℕ) → before ≤ step_limit → AreRates steps → rate_from before steps pages ≤ step_limit
+rate_from-few before [] pages low rates = low
+rate_from-few before (step ∷ steps) pages low rates =
+    rate_from-few (cond (nat_le step.0 pages) step.1 before) steps pages
+    (cond_both (nat_le step.0 pages) step.1 before (λ rate. rate ≤ step_limit) (λ _. All-head (λ (step : ℕ × ℕ). step.1 ≤ step_limit) step steps rates) (λ _. low))
+    (All-tail (λ (step : ℕ × ℕ). step.1 ≤ step_limit) step steps rates)
+
+-- the two tests of a tariff's steps
+abbrev rise : List (ℕ × ℕ) → Bool
+rise steps = from_at steps 0 == 0 && nat_lt (from_at steps 0) (from_at steps 1) && nat_lt (from_at steps 1) (from_at steps 2) && nat_lt (from_at steps 2) (from_at steps 3) && nat_le (from_at steps 3) step_limit
+
+abbrev is_low : List (ℕ × ℕ) → ℕ → Bool
+is_low steps k = nat_le (rate_at steps k) step_limit
+
+-- the four rates
+record AreLow (tariff : List (ℕ × ℕ)) : Type 0 where
+  four : length tariff ≡ 4
+  first : rate_at tariff 0 ≤ step_limit
+  second : rate_at tariff 1 ≤ step_limit
+  third : rate_at tariff 2 ≤ step_limit
+  fourth : rate_at tariff 3 ≤ step_limit
+
+tariff-low : (tariff : List (ℕ × ℕ)) → is_tariff tariff ≡ true → AreLow tariff
+tariff-low tariff is =
+    let parts = and_parts (length tariff == 4 && rise tariff) (is_low tariff 0 && is_low tariff 1 && is_low tariff 2 && is_low tariff 3) is in
+    let three = and_parts (is_low tariff 0 && is_low tariff 1 && is_low tariff 2) (is_low tariff 3) parts.1 in
+    let two = and_parts (is_low tariff 0 && is_low tariff 1) (is_low tariff 2) three.0 in
+    let one = and_parts (is_low tariff 0) (is_low tariff 1) two.0 in
+    record {
+      four = eqb-true (length tariff) 4 (and_parts (length tariff == 4) (rise tariff) parts.0).0;
+      first = leb-true (rate_at tariff 0) step_limit one.0;
+      second = leb-true (rate_at tariff 1) step_limit one.1;
+      third = leb-true (rate_at tariff 2) step_limit two.1;
+      fourth = leb-true (rate_at tariff 3) step_limit three.1;
+    }
+
+rate_at-few : (tariff : List (ℕ × ℕ)) → AreLow tariff → (k : ℕ) → k < length tariff → rate_at tariff k ≤ step_limit
+rate_at-few tariff low zero within = low.first
+rate_at-few tariff low (suc zero) within = low.second
+rate_at-few tariff low (suc (suc zero)) within = low.third
+rate_at-few tariff low (suc (suc (suc zero))) within = low.fourth
+rate_at-few tariff low (suc (suc (suc (suc k)))) within = let four = low.four in absurd (omega arith)
+
+pub rate_of-few : (tariff : List (ℕ × ℕ)) (pages : ℕ) → is_tariff tariff ≡ true → rate_of tariff pages ≤ step_limit
+rate_of-few tariff pages is = rate_from-few 0 tariff pages (omega arith) (All-from_get_or (λ (step : ℕ × ℕ). step.1 ≤ step_limit) tariff (0, 0) (rate_at-few tariff (tariff-low tariff is)))
+
+-- what one account owes for a period
+pub due-few : (objects : List Object) (rate number : ℕ) → used objects ≤ 65536 → rate ≤ step_limit → rate * pages_of objects number ≤ 2 ^ 36
+due-few objects rate number few low =
+    let pages : pages_of objects number ≤ used objects = sum_by-filter-le (λ (object : Object). object.row.account == number) (λ (object : Object). object.row.pages) objects in
+    let product : rate * pages_of objects number ≤ step_limit * 65536 = mul-le rate (pages_of objects number) step_limit 65536 low (omega arith) in
+    omega arith
+
+-- an account after it paid
+charged-formed : (period due : ℕ) (row : AccRow) → due ≤ 2 ^ 36 → IsAccount period row → IsAccount (period + 1) (charged row due)
+charged-formed period due row few formed =
+    let owed = formed.owed in
+    record { password = formed.password; owed = omega arith }
+
+-- all accounts after they paid
+pub all_charged-each : (objects : List Object) (rate period : ℕ) → ((number : ℕ) → rate * pages_of objects number ≤ 2 ^ 36) → (number : ℕ) (rows : List AccRow) → All (IsAccount period) rows → All (IsAccount (period + 1)) (all_charged objects rate number rows)
+all_charged-each objects rate period few number [] each = All-nil (IsAccount (period + 1))
+all_charged-each objects rate period few number (row ∷ rows) each =
+    All-cons (IsAccount (period + 1)) (charged row (rate * pages_of objects number)) (all_charged objects rate (number + 1) rows)
+    (charged-formed period (rate * pages_of objects number) row (few number) (All-head (IsAccount period) row rows each))
+    (all_charged-each objects rate period few (number + 1) rows (All-tail (IsAccount period) row rows each))
+
+pub length-all_charged : (objects : List Object) (rate number : ℕ) (rows : List AccRow) → length (all_charged objects rate number rows) ≡ length rows
+length-all_charged objects rate number [] = refl
+length-all_charged objects rate number (row ∷ rows) = ap suc (length-all_charged objects rate (number + 1) rows)
+
+-- what the accounts have left and what they paid is what they had
+pub all_charged-total : (objects : List Object) (rate number : ℕ) (rows : List AccRow) → total (all_charged objects rate number rows) + all_paid objects rate number rows ≡ total rows
+all_charged-total objects rate number [] = refl
+all_charged-total objects rate number (row ∷ rows) =
+    let due = rate * pages_of objects number in
+    let rest = all_charged-total objects rate (number + 1) rows in
+    let one : (charged row due).balance + paid row due ≡ row.balance = balance_split row due in
+    omega (arith, sum_by-cons (λ (r : AccRow). r.balance) (charged row due) (all_charged objects rate (number + 1) rows), sum_by-cons (λ (r : AccRow). r.balance) row rows)
+  where
+    balance_split : (r : AccRow) (d : ℕ) → (charged r d).balance + paid r d ≡ r.balance
+    balance_split r d = omega arith

@@ -1,0 +1,77 @@
+-- The pages that a new object takes, in words of addresses: no object covers one there, and no lower pages are so.
+use Rattle.std.proofs.Common.{◌≡◌, ℕ, ◌+◌, ◌*◌, ◌<◌, ◌≤◌, nat_le, nat_lt, true, false, List, [], ◌∷◌, get_or, length, All, Some, None, refl, sym, ◌∙◌, inl, inr, arith}
+use Rattle.std.proofs.lemmas.Bool.{and_from, and_left, and_right, cases_lt, cond_both, false≢true, le-leb, le-ltb, lt-leb, lt-ltb}
+use Rattle.std.proofs.lemmas.List.Elements.{All-cons, All-head, All-nil, All-tail}
+use Rattle.mg_model.specs.Access.{at, covers}
+use Rattle.mg_laws.proofs.KeepsCreate.{frames-few}
+use Rattle.mg_model.specs.KeptLists.{All-both}
+use Rattle.mg_laws.specs.Laws.{MeetsNone, TakesLowest}
+use Rattle.mg_laws.proofs.Lowest.{IsApart, apart-is_free, is_free-true, lowest_free-exists}
+use Rattle.mg_model.specs.Objects.{is_free, lowest_free, page_behind, page_of}
+use Rattle.mg_model.specs.State.{Object}
+use Rattle.mg_model.specs.WellFormed.{IsObject}
+
+-- no object covers the address
+abbrev Misses : ℕ → Object → Type 0
+Misses address object = covers object.row address ≡ false
+
+none-at : (objects : List Object) (address : ℕ) → All (Misses address) objects → at objects address ≡ None
+none-at [] address all = refl
+none-at (object ∷ objects) address all =
+    cond_both (covers object.row address) (Some object) (at objects address) (λ found. found ≡ None)
+    (λ there. absurd (false≢true (sym (All-head (Misses address) object objects all) ∙ there)))
+    (λ _. none-at objects address (All-tail (Misses address) object objects all))
+
+at-none : (objects : List Object) (address : ℕ) → at objects address ≡ None → All (Misses address) objects
+at-none [] address none = All-nil (Misses address)
+at-none (object ∷ objects) address none =
+    cond_both (covers object.row address) (Some object) (at objects address) (λ found. found ≡ None → All (Misses address) (object ∷ objects))
+    (λ _ is. absurd (cc))
+    (λ misses rest. All-cons (Misses address) object objects misses (at-none objects address rest))
+    none
+
+-- pages that lie apart from an object have none of its addresses
+apart-misses : (page n address : ℕ) (object : Object) → 4096 * page ≤ address → address < 4096 * (page + n) → IsObject object → IsApart page n object → Misses address object
+apart-misses page n address object low high formed apart =
+    let aligned = formed.row.place.aligned in
+    elim apart [
+      | inl before ↦ and_left (nat_le object.row.base address) (nat_lt address (object.row.base + 4096 * object.row.pages)) (lt-leb object.row.base address (omega arith))
+      | inr behind ↦ and_right (nat_le object.row.base address) (nat_lt address (object.row.base + 4096 * object.row.pages)) (le-ltb address (object.row.base + 4096 * object.row.pages) (omega arith))
+    ]
+
+covered : (object : Object) (address : ℕ) → object.row.base ≤ address → address < object.row.base + 4096 * object.row.pages → covers object.row address ≡ true
+covered object address low high = and_from (nat_le object.row.base address) (nat_lt address (object.row.base + 4096 * object.row.pages)) (le-leb object.row.base address low) (lt-ltb address (object.row.base + 4096 * object.row.pages) high)
+
+-- and pages that have none lie apart: else the higher of the two first addresses is in both
+misses-apart : (page n : ℕ) (object : Object) → 1 ≤ n → IsObject object → ((address : ℕ) → 4096 * page ≤ address → address < 4096 * (page + n) → Misses address object) → IsApart page n object
+misses-apart page n object some formed misses =
+    let aligned = formed.row.place.aligned in
+    let pages = formed.row.place.some in
+    elim (cases_lt (page_of object.row) (page + n)) [
+      | inr before ↦ inl before
+      | inl low ↦ elim (cases_lt page (page_behind object.row)) [
+        | inr behind ↦ inr behind
+        | inl inside ↦ elim (cases_lt page (page_of object.row)) [
+          | inl higher ↦ absurd (false≢true (sym (misses object.row.base (omega arith) (omega arith)) ∙ covered object object.row.base (omega arith) (omega arith)))
+          | inr lower ↦ absurd (false≢true (sym (misses (4096 * page) (omega arith) (omega arith)) ∙ covered object (4096 * page) (omega arith) (omega arith)))
+        ]
+      ]
+    ]
+
+pub is_free-meets_none : (objects : List Object) (n page : ℕ) → All IsObject objects → is_free objects n page ≡ true → MeetsNone objects n page
+is_free-meets_none objects n page each free address low high =
+    none-at objects address (All-both IsObject (IsApart page n) (Misses address) (λ object. apart-misses page n address object low high) objects each (is_free-true objects n page free))
+
+pub meets_none-is_free : (objects : List Object) (n page : ℕ) → 1 ≤ n → All IsObject objects → MeetsNone objects n page → is_free objects n page ≡ true
+meets_none-is_free objects n page some each meets =
+    apart-is_free objects n page (λ k d within. misses-apart page n (get_or objects k d) some (each k d within) (λ address low high. at-none objects address (meets address low high) k d within))
+
+pub lowest_free-taken : TakesLowest lowest_free
+lowest_free-taken state n formed some few =
+    let lowest = lowest_free-exists state.settings.frames (length state.accounts) state.objects n formed.objects (frames-few state.settings formed.settings) some few in
+    record {
+      low = lowest.low;
+      high = lowest.high;
+      free = is_free-meets_none state.objects n (lowest_free state.objects n) formed.objects.each lowest.free;
+      least = λ other low meets. lowest.least other low (meets_none-is_free state.objects n other some formed.objects.each meets);
+    }

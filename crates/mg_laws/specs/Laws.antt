@@ -1,0 +1,78 @@
+-- Laws of the machine, as statements on its steps, its access and its input.
+use Rattle.std.specs.Prelude.{◌≡◌, ◌<◌, ◌≤◌, ◌+◌, ◌*◌, ℕ, Bool, true, false, List, All, None}
+use Rattle.mg_model.specs.declared.calls.Call.{Call}
+use Rattle.mg_model.specs.declared.calls.Call.TheVariants as call
+use Rattle.mg_model.specs.declared.calls.Line.{Line}
+use Rattle.mg_model.specs.declared.replies.Refusal.{Refusal}
+use Rattle.mg_model.specs.declared.replies.Reply.TheVariants.{No}
+use Rattle.mg_model.specs.declared.rights.Right.{Right}
+use Rattle.mg_model.specs.declared.threads.ThrState.{ThrState}
+use Rattle.mg_model.specs.Access.{at, domain_of}
+use Rattle.mg_model.specs.Domains.{with_thread}
+use Rattle.mg_model.specs.Objects.{first_page, is_free, page_end}
+use Rattle.mg_model.specs.Refused.{Answer}
+use Rattle.mg_model.specs.Settings.{Settings}
+use Rattle.mg_model.specs.State.{Object, State}
+use Rattle.mg_model.specs.WellFormed.{AreObjects, IsInRange, IsSettings, IsWellFormed}
+
+-- the state of settings within their limits is well formed
+abbrev pub BeginsWellFormed : (Settings → State) → Type 0
+BeginsWellFormed begin = (settings : Settings) → IsSettings settings → IsWellFormed (begin settings)
+
+-- whichever call words are built, the lines of any bytes are in range
+abbrev pub ReadsInRange : (List (List ℕ) → List ℕ → List Line) → Type 0
+ReadsInRange read = (built : List (List ℕ)) (bytes : List ℕ) → All IsInRange (read built bytes)
+
+-- lines in range, one after another, keep a well-formed state
+abbrev pub RunsKeepWellFormed : (State → List Line → State) → Type 0
+RunsKeepWellFormed run = (state : State) (lines : List Line) → IsWellFormed state → All IsInRange lines → IsWellFormed (run state lines)
+
+-- a line that is refused leaves the state as it was
+abbrev pub RefusedLeaves : (State → Line → Answer) → Type 0
+RefusedLeaves steps = (state : State) (line : Line) (word : Refusal) → (steps state line).1 ≡ No word → (steps state line).0 ≡ state
+
+-- Which access is allowed rests on the objects, the period and the slots of the thread's last frame alone: no other part
+-- of the state, no thread's number and nothing of an earlier access has a say.
+abbrev pub RestsOnDomain : (State → ℕ → ℕ → Right → Bool) → Type 0
+RestsOnDomain may =
+    (one other : State) (t u address : ℕ) (right : Right) → one.objects ≡ other.objects → one.counters.period ≡ other.counters.period → domain_of one t ≡ domain_of other u →
+    may one t address right ≡ may other u address right
+
+-- the state with this thread Ready, Stopped or Faulted
+abbrev pub as_state : State → ℕ → ThrState → State
+as_state state t kind = with_thread state t (λ thread. record thread { state = kind })
+
+abbrev pub is_turn : Call → Bool
+is_turn call.Turn = true
+is_turn call.Next = true
+is_turn _ = false
+
+-- a line that is no turn is answered whatever the state of any thread is
+abbrev pub AnswersWhateverState : (State → Line → Answer) → Type 0
+AnswersWhateverState steps = (state : State) (line : Line) (t : ℕ) (kind : ThrState) → is_turn line.call ≡ false → (steps (as_state state t kind) line).1 ≡ (steps state line).1
+
+-- the lowest pages at which n pages meet no object
+pub record IsLowest (objects : List Object) (n page : ℕ) : Type 0 where
+  pub low : first_page ≤ page
+  pub high : page + n ≤ page_end
+  pub free : is_free objects n page ≡ true
+  pub least : (other : ℕ) → first_page ≤ other → is_free objects n other ≡ true → page ≤ other
+
+-- among objects that fit into 65,536 frames there is room for one more, and these are the lowest pages where it meets none
+abbrev pub FindsLowest : (List Object → ℕ → ℕ) → Type 0
+FindsLowest find = (frames accounts : ℕ) (objects : List Object) (n : ℕ) → AreObjects frames accounts objects → frames ≤ 65536 → 1 ≤ n → n ≤ 1024 → IsLowest objects n (find objects n)
+
+-- no address of the n pages from this one on lies in an object
+abbrev pub MeetsNone : List Object → ℕ → ℕ → Type 0
+MeetsNone objects n page = (address : ℕ) → 4096 * page ≤ address → address < 4096 * (page + n) → at objects address ≡ None
+
+-- the lowest n pages of which no address lies in an object
+pub record IsLowestOf (objects : List Object) (n page : ℕ) : Type 0 where
+  pub low : first_page ≤ page
+  pub high : page + n ≤ page_end
+  pub free : MeetsNone objects n page
+  pub least : (other : ℕ) → first_page ≤ other → MeetsNone objects n other → page ≤ other
+
+-- the same in words of addresses, in each state that is well formed
+abbrev pub TakesLowest : (List Object → ℕ → ℕ) → Type 0
+TakesLowest lowest = (state : State) (n : ℕ) → IsWellFormed state → 1 ≤ n → n ≤ 1024 → IsLowestOf state.objects n (lowest state.objects n)

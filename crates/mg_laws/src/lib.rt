@@ -1,0 +1,45 @@
+//! Laws of the machine that `mg_model` defines: each is the contract of a public function, which does nothing when it runs.
+//!
+//! `specs/Laws.antt` has the statements, as relations on a step, an access or a search; the contracts below say of which
+//! definition each holds. Nothing else stands on this crate, so the definitions can be cited without their laws.
+#![tactic(auto)]
+
+ghost use Rattle.mg_model.specs.Access.{allowed};
+ghost use Rattle.mg_model.specs.Fresh.{fresh};
+ghost use Rattle.mg_laws.specs.Laws.{AnswersWhateverState, BeginsWellFormed, FindsLowest, ReadsInRange, RefusedLeaves, RestsOnDomain, RunsKeepWellFormed, TakesLowest};
+ghost use Rattle.mg_model.specs.Lines.{lines};
+ghost use Rattle.mg_model.specs.Objects.{lowest_free};
+ghost use Rattle.mg_model.specs.Step.{after, step};
+ghost use Rattle.mg_model.specs.WellFormed.{KeepsWellFormed};
+
+/// The fresh state of any settings is well formed, and each step keeps a state well formed: numbers stay in their ranges,
+/// objects apart and within the frames, threads in order with births of their own, and the balances sum to the credits.
+/// The lines of any bytes are in range, so this holds of every state that an input leads to.
+pub fn steps_keep_states_well_formed()
+    ensures begins { BeginsWellFormed fresh }
+    ensures kept { KeepsWellFormed (λ state line. (step state line).0) }
+    ensures read { ReadsInRange lines }
+    ensures runs { RunsKeepWellFormed after }
+{}
+
+/// A line that is refused leaves the state as it was.
+pub fn refused_lines_change_nothing()
+    ensures { RefusedLeaves step }
+{}
+
+/// Which access is allowed rests on the objects, the period and the slots of the thread's last frame alone.
+pub fn access_rests_on_the_domain()
+    ensures { RestsOnDomain allowed }
+{}
+
+/// A line that is no turn is answered whatever the state of any thread is: Ready, Stopped or Faulted.
+pub fn lines_are_answered_in_every_state()
+    ensures { AnswersWhateverState step }
+{}
+
+/// A new object of 1 to 1024 pages always finds room among those that fit into at most 65,536 frames, and it gets the
+/// lowest pages at which it meets no other: no object covers an address there, and no lower pages are so.
+pub fn free_pages_are_found()
+    ensures found { FindsLowest lowest_free }
+    ensures taken { TakesLowest lowest_free }
+{}

@@ -1,9 +1,0 @@
-use Rattle.mg_model.specs.Lowest.{lowest_free-exists}
-use Rattle.mg_model.specs.LowestPages.{lowest_free-taken}
-use Rattle.mg_model.proofs.laws.free_pages_are_found.Goals as goal
-
-pub returns-clause-found : goal.returns-clause-found
-returns-clause-found c = lowest_free-exists
-
-pub returns-clause-taken : goal.returns-clause-taken
-returns-clause-taken c = lowest_free-taken

@@ -1,5 +1,0 @@
-use Rattle.mg_model.specs.WhateverState.{answered_whatever}
-use Rattle.mg_model.proofs.laws.lines_are_answered_in_every_state.Goals as goal
-
-pub returns : goal.returns
-returns c = answered_whatever

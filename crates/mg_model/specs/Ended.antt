@@ -1,0 +1,16 @@
+-- The lines that an input has whole: those that a newline ends.
+use Rattle.std.specs.Prelude.{ℕ, List, [], ◌∷◌}
+use Rattle.std.specs.List.{filter_map}
+use Rattle.mg_model.specs.declared.calls.Line.{Line}
+use Rattle.mg_model.specs.Lines.{line_of}
+use Rattle.mg_model.specs.Words.{is_newline, split_at}
+
+-- all pieces but the last
+abbrev pub all_but_last : List (List ℕ) → List (List ℕ)
+all_but_last [] = []
+all_but_last (piece ∷ []) = []
+all_but_last (piece ∷ next ∷ pieces) = piece ∷ all_but_last (next ∷ pieces)
+
+-- the lines of the pieces that a newline ends
+abbrev pub ended_lines : List (List ℕ) → List ℕ → List Line
+ended_lines built bytes = filter_map (line_of built) (all_but_last (split_at is_newline bytes))

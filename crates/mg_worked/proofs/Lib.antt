@@ -1,0 +1,6 @@
+pub mod Worked
+mod WorkedAccess
+mod WorkedBank
+mod WorkedDomains
+mod WorkedRefusals
+mod WorkedScripts
