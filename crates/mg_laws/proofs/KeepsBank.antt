@@ -6,7 +6,8 @@ use Rattle.std.proofs.lemmas.List.Elements.{All-push, All-weaker}
 use Rattle.std.proofs.lemmas.List.Sums.{sum_by_push}
 use Rattle.mg_model.specs.declared.accounts.AccRow.{AccRow}
 use Rattle.mg_model.specs.Bank.{account_of, all_charged, balance_of, given_to, opens, pages_of, rate_now, rent_accounts, rent_paid, taken_from, used}
-use Rattle.mg_model.specs.BankCalls.{account_limit, balance, open_account, pay, period_limit, rent}
+use Rattle.mg_model.specs.Limits.{account_limit, period_limit}
+use Rattle.mg_model.specs.BankCalls.{balance, open_account, pay, rent}
 use Rattle.mg_model.specs.DrawnWords.{drawn-IsWord}
 use Rattle.mg_laws.proofs.Keeps.{unless_refused-keeps}
 use Rattle.mg_laws.proofs.KeepsCreate.{frames-few}

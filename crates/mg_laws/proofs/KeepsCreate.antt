@@ -12,8 +12,9 @@ use Rattle.mg_model.specs.KeptLists.{AllPairs-nil}
 use Rattle.mg_laws.proofs.KeptObjects.{AreObjects-with_object}
 use Rattle.mg_laws.proofs.Lowest.{lowest_free-exists}
 use Rattle.mg_laws.specs.Laws.{IsLowest}
-use Rattle.mg_model.specs.ObjectCalls.{all_drawn, create, drawn, next_password, object_limit, object_page_limit}
-use Rattle.mg_model.specs.Objects.{first_page, is_free, lowest_free, never, new_object, page_end, with_object}
+use Rattle.mg_model.specs.Limits.{object_limit, object_page_limit, first_page, never, page_end}
+use Rattle.mg_model.specs.ObjectCalls.{all_drawn, create, drawn, next_password}
+use Rattle.mg_model.specs.Objects.{is_free, lowest_free, new_object, with_object}
 use Rattle.mg_laws.proofs.Passed.{unrefused}
 use Rattle.mg_model.specs.Ranges.{IsEntryOf, IsPassword, IsWord}
 use Rattle.mg_model.specs.Settings.{Settings}

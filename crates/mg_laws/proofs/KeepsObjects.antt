@@ -17,8 +17,9 @@ use Rattle.mg_laws.proofs.KeptAccounts.{opens-number}
 use Rattle.mg_model.specs.KeptLists.{length-filter-le}
 use Rattle.mg_laws.proofs.KeptObjects.{AreObjects-with_word, AreObjects-without_object, HasPlaceOf, IsPaidRow}
 use Rattle.mg_laws.proofs.KeptRowAt.{AreObjects-with_row_at}
-use Rattle.mg_model.specs.ObjectCalls.{all_drawn, delete, drawn, entry, entry_point_limit, ext, extension_of, info, is_aligned, is_entry, is_past, is_password, load, next_password, password_limit, pwadd, pwdel, recharge, row_at, store, with_entry, with_row_at}
-use Rattle.mg_model.specs.Objects.{never, with_word, without_object}
+use Rattle.mg_model.specs.Limits.{entry_point_limit, password_limit, never}
+use Rattle.mg_model.specs.ObjectCalls.{all_drawn, delete, drawn, entry, ext, extension_of, info, is_aligned, is_entry, is_past, has_password, load, next_password, pwadd, pwdel, recharge, row_at, store, with_entry, with_row_at}
+use Rattle.mg_model.specs.Objects.{with_word, without_object}
 use Rattle.mg_laws.proofs.Passed.{unrefused}
 use Rattle.mg_model.specs.Ranges.{IsEntryOf, IsExtension, IsObjectRow, IsPassword, IsWord}
 use Rattle.mg_model.specs.Rights.{IsRights}
@@ -120,7 +121,7 @@ pwadd-keeps state t b rights until formed some =
 pub pwdel-keeps : (state : State) (t b password : ℕ) → IsWellFormed state → IsWellFormed (pwdel state t b password).0
 pwdel-keeps state t b password formed =
     unless_refused-keeps _ state _ formed (λ _.
-    let change = λ (object : ObjectRow). record object { passwords = filter (λ pw. not (is_password password pw)) object.passwords } in
+    let change = λ (object : ObjectRow). record object { passwords = filter (λ pw. not (has_password password pw)) object.passwords } in
     objects-keep state (with_row_at state b change).objects formed
     (AreObjects-with_row_at state b change formed (λ row. record { base = refl; pages = refl })
     (λ paid.
@@ -131,8 +132,8 @@ pwdel-keeps state t b password formed =
         place = paid.formed.place;
         account_some = paid.formed.account_some;
         account_few = paid.formed.account_few;
-        few_passwords = omega (arith, length-filter-le (λ pw. not (is_password password pw)) row.passwords);
-        passwords = All-filter (λ pw. not (is_password password pw)) IsPassword row.passwords paid.formed.passwords;
+        few_passwords = omega (arith, length-filter-le (λ pw. not (has_password password pw)) row.passwords);
+        passwords = All-filter (λ pw. not (has_password password pw)) IsPassword row.passwords paid.formed.passwords;
         few_entries = paid.formed.few_entries;
         entries = paid.formed.entries;
         distinct = paid.formed.distinct;

@@ -9,7 +9,8 @@ use Rattle.mg_model.specs.Bank.{all_charged, all_paid, charged, paid, pages_of, 
 use Rattle.mg_laws.proofs.KeptAccounts.{total}
 use Rattle.mg_model.specs.KeptLists.{sum_by-filter-le}
 use Rattle.mg_model.specs.State.{Object}
-use Rattle.mg_model.specs.Tariff.{from_at, is_tariff, rate_at, step_limit}
+use Rattle.mg_model.specs.Limits.{step_limit}
+use Rattle.mg_model.specs.Tariff.{from_at, is_tariff, rate_at}
 use Rattle.mg_model.specs.WellFormed.{IsAccount}
 
 -- no rate of these steps is above the limit

@@ -6,7 +6,8 @@ use Rattle.std.proofs.lemmas.List.Sums.{AllPass-from_list_all, list_all-from_All
 use Rattle.mg_model.specs.Bank.{used}
 use Rattle.mg_model.specs.KeptLists.{All-both, All-change, All-unmap, AllPairs-head, AllPairs-tail}
 use Rattle.mg_laws.specs.Laws.{IsLowest}
-use Rattle.mg_model.specs.Objects.{first_page, is_apart, is_free, least, lowest_free, page_behind, page_end, page_of}
+use Rattle.mg_model.specs.Limits.{first_page, page_end}
+use Rattle.mg_model.specs.Objects.{is_apart, is_free, least, lowest_free, page_behind, page_of}
 use Rattle.mg_model.specs.State.{Object}
 use Rattle.mg_model.specs.WellFormed.{AreObjects, IsBefore, IsObject}
 

@@ -24,7 +24,8 @@ use Rattle.mg_laws.proofs.KeepsThreads.{free_number-free}
 use Rattle.mg_model.specs.KeptLists.{sum_by-filter-le}
 use Rattle.mg_laws.proofs.KeptRegisters.{word-in_list}
 use Rattle.mg_model.specs.ObjectCalls.{about, create, entry, info, is_aligned, next_password, no_row, row_at}
-use Rattle.mg_model.specs.Objects.{first_page, is_free, least, lowest_free, page_behind, page_end, word_at}
+use Rattle.mg_model.specs.Limits.{first_page, page_end}
+use Rattle.mg_model.specs.Objects.{is_free, least, lowest_free, page_behind, word_at}
 use Rattle.mg_laws.proofs.Passed.{unrefused}
 use Rattle.mg_model.specs.Ranges.{IsWord}
 use Rattle.mg_model.specs.Refused.{Answer, unless_refused}

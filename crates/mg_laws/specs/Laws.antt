@@ -9,7 +9,8 @@ use Rattle.mg_model.specs.declared.rights.Right.{Right}
 use Rattle.mg_model.specs.declared.threads.ThrState.{ThrState}
 use Rattle.mg_model.specs.Access.{at, domain_of}
 use Rattle.mg_model.specs.Domains.{with_thread}
-use Rattle.mg_model.specs.Objects.{first_page, is_free, page_end}
+use Rattle.mg_model.specs.Limits.{first_page, page_end}
+use Rattle.mg_model.specs.Objects.{is_free}
 use Rattle.mg_model.specs.Refused.{Answer}
 use Rattle.mg_model.specs.Settings.{Settings}
 use Rattle.mg_model.specs.State.{Object, State}

@@ -14,7 +14,7 @@ use Rattle.mg_model.specs.Draw.{password_drawn}
 use Rattle.mg_model.specs.DrawnWords.{drawn-IsWord}
 use Rattle.mg_model.specs.Fresh.{first_thread, fresh, root_base, root_object, root_words}
 use Rattle.mg_model.specs.Layout.{account_rows, first_account_block, first_frame, first_object_block, first_thread_block, gate_open, globals_block, object_rows, segment_count, segment_gate, super_block, table_block, table_blocks, thread_rows}
-use Rattle.mg_model.specs.Objects.{first_page}
+use Rattle.mg_model.specs.Limits.{first_page}
 use Rattle.mg_model.specs.Ranges.{IsWord}
 use Rattle.mg_model.specs.Replay.{block_of, is_open}
 use Rattle.mg_model.specs.RowReads.{account-live, account_fields-written, are_zeros-drop, are_zeros-replicate, block_words-words, globals-read, live_rows-first, object-live, read-free, table_entries-zeros, thread-live, words_bytes-zeros, zeros-behind, zeros-in}

@@ -8,6 +8,7 @@ use Rattle.mg_model.specs.declared.slots.Pw.{Pw}
 use Rattle.mg_model.specs.declared.slots.Slot.{Slot}
 use Rattle.mg_model.specs.declared.rights.Right.{Right}
 use Rattle.mg_model.specs.declared.rights.Right.TheVariants.{R}
+use Rattle.mg_model.specs.Limits.{entry_limit}
 use Rattle.mg_model.specs.Rights.{has_right}
 use Rattle.mg_model.specs.State.{State, Object, ObjectRow, Thread, CallFrame}
 
@@ -36,10 +37,7 @@ abbrev pub entries_from : List ℕ → ℕ → ℕ → List (ℕ × ℕ)
 entries_from words j zero = []
 entries_from words j (suc n) = (slice_index words (2 + 2 * j), slice_index words (3 + 2 * j)) ∷ entries_from words (j + 1) n
 
--- of a count above 255 only 255 entries are read
-abbrev pub entry_limit : ℕ
-entry_limit = 255
-
+-- the entries of a capability list: as many as its first word says, within the limit
 abbrev pub entries_of : List ℕ → List (ℕ × ℕ)
 entries_of words = entries_from words 0 (min (slice_index words 0) entry_limit)
 

@@ -1,18 +1,12 @@
 -- The calls on accounts, and the collection of rent.
-use Rattle.std.specs.Prelude.{ℕ, ◌+◌, ◌-◌, ◌^◌, ◌==◌, ◌||◌, nat_le, nat_lt, not, [], ◌∷◌, ◌++◌, length, is_some}
+use Rattle.std.specs.Prelude.{ℕ, ◌+◌, ◌==◌, ◌||◌, nat_le, nat_lt, not, [], ◌∷◌, ◌++◌, length, is_some}
 use Rattle.mg_model.specs.declared.replies.Refusal.TheVariants.{Account, Credit, Limit, Calendar}
 use Rattle.mg_model.specs.declared.replies.Reply.TheVariants.{Done, Opened, Funds, Collected}
 use Rattle.mg_model.specs.Bank.{account_of, balance_of, given_to, opens, owed_by, pages_of, rate_now, rent_accounts, rent_paid, taken_from}
+use Rattle.mg_model.specs.Limits.{account_limit, period_limit}
 use Rattle.mg_model.specs.ObjectCalls.{all_drawn, drawn, next_password}
 use Rattle.mg_model.specs.Refused.{Answer, row}
 use Rattle.mg_model.specs.State.{State}
-
-abbrev pub account_limit : ℕ
-account_limit = 1024
-
--- the last period
-abbrev pub period_limit : ℕ
-period_limit = 2 ^ 24 - 1
 
 -- `account ACC PW N`
 abbrev pub open_account : State → ℕ → ℕ → ℕ → Answer

@@ -1,4 +1,4 @@
--- Numbers and bytes are read back where they were written.
+-- Lemmas that crates above need: numbers and bytes are read back where they were written.
 use Rattle.std.specs.Prelude.{◌≡◌, ℕ, zero, suc, ◌+◌, ◌-◌, ◌*◌, ◌≤◌, ◌==◌, true, List, [], ◌∷◌, ◌++◌, All, drop, length, replicate, take}
 use Rattle.std.specs.Int.{from_le_bytes, w64}
 use Rattle.std.proofs.Common.{refl, sym, ap, ◌∙◌, arith, append_assoc, length-append, add_assoc}

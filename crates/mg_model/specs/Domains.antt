@@ -6,15 +6,10 @@ use Rattle.mg_model.specs.declared.replies.Reply.TheVariants.{Done, Count, Slots
 use Rattle.mg_model.specs.declared.rights.Right.TheVariants.{P}
 use Rattle.mg_model.specs.declared.slots.Slot.{Slot}
 use Rattle.mg_model.specs.Access.{allowed, domain_of, thread_of}
+use Rattle.mg_model.specs.Limits.{frame_limit, slot_limit}
 use Rattle.mg_model.specs.ObjectCalls.{is_aligned, is_entry, row_at}
 use Rattle.mg_model.specs.Refused.{Answer, row}
 use Rattle.mg_model.specs.State.{State, Thread, ThreadRow, CallFrame}
-
-abbrev pub slot_limit : ℕ
-slot_limit = 8
-
-abbrev pub frame_limit : ℕ
-frame_limit = 16
 
 -- the state with a change of this thread's row
 abbrev pub with_thread : State → ℕ → (ThreadRow → ThreadRow) → State

@@ -1,4 +1,4 @@
--- Each password that is drawn is a number of 64 bits.
+-- A lemma that crates above need: each password that is drawn is a number of 64 bits.
 use Rattle.std.proofs.Common.{ℕ, ◌+◌, ◌*◌, ◌^◌, ◌<◌, List, arith}
 use Rattle.std.proofs.Math.Nat.{mod-lt}
 use Rattle.rand_chacha.specs.Block.{block_word}

@@ -1,4 +1,4 @@
--- What an edit of a list keeps: facts on each element, and on each pair of an element and a later one.
+-- Lemmas that crates above need, on what an edit of a list keeps: facts on each element, and on each pair of an element and a later one.
 use Rattle.std.proofs.Common.{◌≡◌, ℕ, suc, ◌≤◌, Bool, not, List, [], ◌∷◌, map, filter, length, get_or, sum_by, All, AllPairs, refl, arith}
 use Rattle.std.proofs.lemmas.List.Elements.{All-cons, All-head, All-map, All-nil, All-tail, All-weaker}
 use Rattle.std.proofs.lemmas.List.Filters.{length-filter_both, sum_by-filter_both}

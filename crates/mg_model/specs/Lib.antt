@@ -1,4 +1,5 @@
 -- Definitions, in the order in which one reads them. First what the machine holds, and who may reach what.
+pub mod Limits
 pub mod Settings
 pub mod Tariff
 pub mod State

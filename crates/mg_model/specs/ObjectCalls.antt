@@ -1,5 +1,5 @@
 -- The calls on words and objects, row by row.
-use Rattle.std.specs.Prelude.{ℕ, ◌+◌, ◌*◌, ◌%◌, ◌^◌, ◌==◌, ◌&&◌, ◌||◌, nat_le, nat_lt, Bool, false, not, [], ◌∷◌, ◌++◌, length, if◌then◌else◌, filter, Option, Some, None, is_some, unwrap_or}
+use Rattle.std.specs.Prelude.{ℕ, ◌+◌, ◌*◌, ◌%◌, ◌==◌, ◌&&◌, ◌||◌, nat_le, nat_lt, Bool, false, not, [], ◌∷◌, ◌++◌, length, if◌then◌else◌, filter, Option, Some, None, is_some, unwrap_or}
 use Rattle.std.specs.Option.{option_map_or}
 use Rattle.std.specs.List.{list_any}
 use Rattle.mg_model.specs.declared.replies.Refusal.TheVariants.{Align, Denied, Size, Account, Debt, Limit, Full, NoPassword, Range, Past}
@@ -11,7 +11,8 @@ use Rattle.mg_model.specs.declared.slots.Slot.{Slot}
 use Rattle.mg_model.specs.Access.{allowed, at}
 use Rattle.mg_model.specs.Bank.{opens, owed_by, used}
 use Rattle.mg_model.specs.Draw.{password_drawn}
-use Rattle.mg_model.specs.Objects.{lowest_free, new_object, never, with_object, without_object, with_row, with_word, word_at}
+use Rattle.mg_model.specs.Limits.{draw_limit, entry_point_limit, never, object_limit, object_page_limit, password_limit}
+use Rattle.mg_model.specs.Objects.{lowest_free, new_object, with_object, without_object, with_row, with_word, word_at}
 use Rattle.mg_model.specs.Refused.{Answer, row}
 use Rattle.mg_model.specs.State.{State, Object, ObjectRow}
 
@@ -31,19 +32,6 @@ store state t a value =
     row state ((not (is_aligned a), Align) ∷ (not (allowed state t a W), Denied) ∷ [])
     (record state { objects = with_word state.objects a value }, Done)
 
--- how many there may be
-abbrev pub object_limit : ℕ
-object_limit = 4096
-
-abbrev pub object_page_limit : ℕ
-object_page_limit = 1024
-
-abbrev pub password_limit : ℕ
-password_limit = 32
-
-abbrev pub entry_point_limit : ℕ
-entry_point_limit = 16
-
 -- the next password, and the state after it was drawn
 abbrev pub next_password : State → ℕ
 next_password state = password_drawn state.settings.seed state.counters.draws
@@ -53,7 +41,7 @@ drawn state = record state { counters = record state.counters { draws = state.co
 
 -- whether no password is left
 abbrev pub all_drawn : State → Bool
-all_drawn state = nat_le (2 ^ 32) state.counters.draws
+all_drawn state = nat_le draw_limit state.counters.draws
 
 -- `create N ACC PW`
 abbrev pub create : State → ℕ → ℕ → ℕ → Answer
@@ -68,10 +56,11 @@ create state n account password =
     ∷ [])
     (record (drawn state) { objects = with_object (new_object base n account (next_password state)) state.objects }, Made base (next_password state))
 
--- the object that an address names, or the object's row at least
+-- the row of no object
 abbrev pub no_row : ObjectRow
 no_row = record { base = 0; pages = 0; account = 0; passwords = []; entries = []; extension = None }
 
+-- the row of the object that has the address, and `no_row` where no object has it
 abbrev pub row_at : State → ℕ → ObjectRow
 row_at state address = option_map_or (λ (object : Object). object.row) (at state.objects address) no_row
 
@@ -115,17 +104,17 @@ pwadd state t b rights until =
     )
 
 -- whether a password row has this password
-abbrev pub is_password : ℕ → Pw → Bool
-is_password password pw = pw.password == password
+abbrev pub has_password : ℕ → Pw → Bool
+has_password password pw = pw.password == password
 
 -- `pwdel B PW`
 abbrev pub pwdel : State → ℕ → ℕ → ℕ → Answer
 pwdel state t b password =
     row state (
     (not (allowed state t b O), Denied)
-    ∷ (not (list_any (λ pw. is_password password pw) (row_at state b).passwords), NoPassword)
+    ∷ (not (list_any (λ pw. has_password password pw) (row_at state b).passwords), NoPassword)
     ∷ [])
-    (with_row_at state b (λ object. record object { passwords = filter (λ pw. not (is_password password pw)) object.passwords }), Done)
+    (with_row_at state b (λ object. record object { passwords = filter (λ pw. not (has_password password pw)) object.passwords }), Done)
 
 -- whether an address is an entry of the object
 abbrev pub is_entry : ObjectRow → ℕ → Bool

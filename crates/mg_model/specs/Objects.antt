@@ -1,16 +1,10 @@
 -- Where objects lie, and how their list changes.
-use Rattle.std.specs.Prelude.{ℕ, ◌+◌, ◌-◌, ◌*◌, ◌/◌, ◌^◌, ◌==◌, ◌||◌, nat_le, nat_lt, min, Bool, not, List, [], ◌∷◌, if◌then◌else◌, filter, map, replicate, slice_index, slice_set, None}
+use Rattle.std.specs.Prelude.{ℕ, ◌+◌, ◌-◌, ◌*◌, ◌/◌, ◌==◌, ◌||◌, nat_le, nat_lt, min, Bool, not, List, [], ◌∷◌, if◌then◌else◌, filter, map, replicate, slice_index, slice_set, None}
 use Rattle.std.specs.Option.{option_map_or}
 use Rattle.std.specs.List.{list_all}
 use Rattle.mg_model.specs.State.{Object, ObjectRow}
 use Rattle.mg_model.specs.Access.{covers, at}
-
--- objects lie in the pages from here on, and below `page_end`
-abbrev pub first_page : ℕ
-first_page = 2 ^ 20
-
-abbrev pub page_end : ℕ
-page_end = 2 ^ 40
+use Rattle.mg_model.specs.Limits.{all_rights, first_page, never, page_end}
 
 -- the page of a base, and the page right behind an object
 abbrev pub page_of : ObjectRow → ℕ
@@ -62,10 +56,6 @@ abbrev pub with_word : List Object → ℕ → ℕ → List Object
 with_word objects address value =
     map (λ (object : Object). if covers object.row address then record object { words = slice_set object.words ((address - object.row.base) / 8) value } else object) objects
 
--- the until of a password that never ends
-abbrev pub never : ℕ
-never = 2 ^ 24
-
 -- a new object: all rights for its first password, and all words 0
 abbrev pub new_object : ℕ → ℕ → ℕ → ℕ → Object
 new_object base pages account password = record {
@@ -73,7 +63,7 @@ new_object base pages account password = record {
     base = base;
     pages = pages;
     account = account;
-    passwords = record { password = password; rights = 63; until = never } ∷ [];
+    passwords = record { password = password; rights = all_rights; until = never } ∷ [];
     entries = [];
     extension = None;
   };

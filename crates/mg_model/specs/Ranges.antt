@@ -1,9 +1,9 @@
 -- What the fields of a live row keep.
-use Rattle.std.specs.Prelude.{◌≡◌, ◌≢◌, ℕ, ◌+◌, ◌-◌, ◌*◌, ◌/◌, ◌%◌, ◌^◌, ◌<◌, ◌≤◌, List, [], length, slice_index_or, All, AllPairs}
+use Rattle.std.specs.Prelude.{◌≡◌, ◌≢◌, ℕ, ◌+◌, ◌*◌, ◌/◌, ◌%◌, ◌^◌, ◌<◌, ◌≤◌, List, [], length, slice_index_or, All, AllPairs}
 use Rattle.std.specs.Option.{ForSome}
 use Rattle.mg_model.specs.declared.slots.Pw.{Pw}
 use Rattle.mg_model.specs.declared.slots.Slot.{Slot}
-use Rattle.mg_model.specs.Objects.{first_page, page_end, never}
+use Rattle.mg_model.specs.Limits.{account_limit, birth_limit, draw_limit, entry_point_limit, first_page, frame_limit, never, object_page_limit, page_end, password_limit, period_limit, slot_limit, thread_limit}
 use Rattle.mg_model.specs.Rights.{IsRights}
 use Rattle.mg_model.specs.State.{ObjectRow, CallFrame, ThreadRow, Counters}
 
@@ -37,16 +37,16 @@ pub record IsPlace (base pages : ℕ) : Type 0 where
   pub aligned : base % 4096 ≡ 0
   pub low : first_page ≤ base / 4096
   pub some : 1 ≤ pages
-  pub few : pages ≤ 1024
+  pub few : pages ≤ object_page_limit
   pub high : base / 4096 + pages ≤ page_end
 
 pub record IsObjectRow (row : ObjectRow) : Type 0 where
   pub place : IsPlace row.base row.pages
   pub account_some : 1 ≤ row.account
-  pub account_few : row.account ≤ 1024
-  pub few_passwords : length row.passwords ≤ 32
+  pub account_few : row.account ≤ account_limit
+  pub few_passwords : length row.passwords ≤ password_limit
   pub passwords : All IsPassword row.passwords
-  pub few_entries : length row.entries ≤ 16
+  pub few_entries : length row.entries ≤ entry_point_limit
   pub entries : All (IsEntryOf row.base row.pages) row.entries
   pub distinct : AllPairs (λ x y. x ≢ y) row.entries
   pub extension : ForSome row.extension IsExtension
@@ -54,7 +54,7 @@ pub record IsObjectRow (row : ObjectRow) : Type 0 where
 pub record IsCallFrame (frame : CallFrame) : Type 0 where
   pub back : IsWord frame.back
   pub aligned : frame.back % 8 ≡ 0
-  pub few : length frame.slots ≤ 8
+  pub few : length frame.slots ≤ slot_limit
   pub slots : All IsSlot frame.slots
 
 -- where the first frame returns to
@@ -69,14 +69,14 @@ pub record IsThreadRow (row : ThreadRow) : Type 0 where
   pub eight : length row.registers ≡ 8
   pub registers : All IsWord row.registers
   pub some_frame : 1 ≤ length row.frames
-  pub few_frames : length row.frames ≤ 16
+  pub few_frames : length row.frames ≤ frame_limit
   pub frames : All IsCallFrame row.frames
   pub bottom : first_back row.frames ≡ 0
 
 pub record IsCounters (counters : Counters) : Type 0 where
   pub some_draws : 2 ≤ counters.draws
-  pub draws : counters.draws ≤ 2 ^ 32
-  pub period : counters.period ≤ 2 ^ 24 - 1
-  pub cursor : counters.cursor ≤ 256
+  pub draws : counters.draws ≤ draw_limit
+  pub period : counters.period ≤ period_limit
+  pub cursor : counters.cursor ≤ thread_limit
   pub some_births : 1 ≤ counters.births
-  pub births : counters.births ≤ 2 ^ 32 - 1
+  pub births : counters.births ≤ birth_limit

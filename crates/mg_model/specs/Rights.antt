@@ -2,6 +2,7 @@
 use Rattle.std.specs.Prelude.{ℕ, ◌/◌, ◌%◌, ◌==◌, ◌≤◌, Bool}
 use Rattle.mg_model.specs.declared.rights.Right.{Right}
 use Rattle.mg_model.specs.declared.rights.Right.TheVariants.{R, W, X, D, P, O}
+use Rattle.mg_model.specs.Limits.{all_rights}
 
 -- the bit of a right, as a power of two
 abbrev pub weight_of : Right → ℕ
@@ -19,8 +20,4 @@ has_right rights right = rights / weight_of right % 2 == 1
 -- a set of at least one right
 pub record IsRights (bits : ℕ) : Type 0 where
   pub some : 1 ≤ bits
-  pub six : bits ≤ 63
-
--- every right
-abbrev pub all_rights : ℕ
-all_rights = 63
+  pub six : bits ≤ all_rights

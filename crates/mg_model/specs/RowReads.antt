@@ -1,4 +1,4 @@
--- Rows are read where they are written, and a table of free rows behind a live one has that one alone.
+-- Lemmas that crates above need: rows are read where they are written, and a table of free rows behind a live one has that one alone.
 use Rattle.std.specs.Prelude.{◌≡◌, ℕ, zero, suc, ◌+◌, ◌-◌, ◌*◌, ◌<◌, ◌≤◌, ◌==◌, ◌&&◌, Bool, true, false, All, List, [], ◌∷◌, ◌++◌, drop, if◌then◌else◌, length, replicate, take, Some, None}
 use Rattle.std.specs.Int.{from_le_bytes, to_le_bytes, w64}
 use Rattle.std.proofs.Common.{refl, sym, ap, subst, ◌∙◌, arith}

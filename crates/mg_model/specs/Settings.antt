@@ -1,5 +1,6 @@
 -- What a volume is made with.
-use Rattle.std.specs.Prelude.{ℕ, ◌^◌, ◌&&◌, nat_le, Bool, List}
+use Rattle.std.specs.Prelude.{ℕ, ◌&&◌, nat_le, Bool, List}
+use Rattle.mg_model.specs.Limits.{credit_limit, least_frames, most_frames}
 
 pub record Settings : Type 0 where
   pub frames : ℕ
@@ -9,6 +10,6 @@ pub record Settings : Type 0 where
   -- four steps of (pages in use, rate)
   pub tariff : List (ℕ × ℕ)
 
--- the limits on frames and credits
+-- whether frames and credits are within their limits
 abbrev pub within_limits : ℕ → ℕ → Bool
-within_limits frames credits = nat_le 16 frames && nat_le frames 65536 && nat_le credits (2 ^ 62)
+within_limits frames credits = nat_le least_frames frames && nat_le frames most_frames && nat_le credits credit_limit

@@ -9,6 +9,7 @@ use Rattle.mg_model.specs.declared.threads.ThrState.{ThrState}
 use Rattle.mg_model.specs.declared.threads.ThrState.TheVariants.{Ready, Stopped, Faulted}
 use Rattle.mg_model.specs.Bytes.{are_zeros, bytes_at, number_at, numbers_at, padded_to, words_bytes}
 use Rattle.mg_model.specs.Layout.{magic, version}
+use Rattle.mg_model.specs.Limits.{entry_point_limit, frame_limit, password_limit, slot_limit}
 use Rattle.mg_model.specs.Settings.{Settings, within_limits}
 use Rattle.mg_model.specs.State.{CallFrame, Counters, ObjectRow, ThreadRow}
 use Rattle.mg_model.specs.Tariff.{is_tariff}
@@ -71,8 +72,8 @@ object_fields bytes = record {
   base = number_at bytes 8;
   pages = number_at bytes 16;
   account = number_at bytes 24;
-  passwords = passwords_at bytes 0 (min (number_at bytes 32) 33);
-  entries = numbers_at bytes 368 (min (number_at bytes 40) 17);
+  passwords = passwords_at bytes 0 (min (number_at bytes 32) (password_limit + 1));
+  entries = numbers_at bytes 368 (min (number_at bytes 40) (entry_point_limit + 1));
   extension = extension_at bytes;
 }
 
@@ -112,7 +113,7 @@ slots_at bytes offset zero = []
 slots_at bytes offset (suc n) = record { base = number_at bytes offset; password = number_at bytes (offset + 8) } ∷ slots_at bytes (offset + 16) n
 
 abbrev pub frame_at : List ℕ → ℕ → CallFrame
-frame_at bytes offset = record { back = number_at bytes offset; slots = slots_at bytes (offset + 16) (min (number_at bytes (offset + 8)) 9) }
+frame_at bytes offset = record { back = number_at bytes offset; slots = slots_at bytes (offset + 16) (min (number_at bytes (offset + 8)) (slot_limit + 1)) }
 
 abbrev pub frames_at : List ℕ → ℕ → ℕ → List CallFrame
 frames_at bytes offset zero = []
@@ -125,7 +126,7 @@ thread_fields bytes = record {
   pc = number_at bytes 24;
   state = state_numbered (number_at bytes 32);
   registers = numbers_at bytes 64 8;
-  frames = frames_at bytes 128 (min (number_at bytes 40) 17);
+  frames = frames_at bytes 128 (min (number_at bytes 40) (frame_limit + 1));
 }
 
 abbrev pub thread_read : List ℕ → Read ThreadRow

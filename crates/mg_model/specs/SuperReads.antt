@@ -1,4 +1,4 @@
--- The superblock is read back as it was written.
+-- Lemmas that crates above need: the superblock is read back as it was written.
 use Rattle.std.specs.Prelude.{◌≡◌, ℕ, zero, suc, ◌+◌, ◌-◌, ◌^◌, ◌<◌, ◌≤◌, ◌&&◌, IsTrue, true, false, All, List, [], ◌∷◌, ◌++◌, if◌then◌else◌, length, replicate, slice_index_or}
 use Rattle.std.proofs.Common.{refl, sym, ap, subst, ◌∙◌, arith, add_assoc, append_assoc}
 use Rattle.std.proofs.lemmas.Bool.{and_from, and_parts, eqb-true, lt-ltb, le-ltb}

@@ -1,5 +1,6 @@
 -- The tariff of the rent: steps of (pages in use, rate).
-use Rattle.std.specs.Prelude.{ℕ, ◌*◌, ◌/◌, ◌^◌, ◌==◌, ◌&&◌, nat_le, nat_lt, Bool, List, [], ◌∷◌, length, slice_index_or}
+use Rattle.std.specs.Prelude.{ℕ, ◌*◌, ◌/◌, ◌==◌, ◌&&◌, nat_le, nat_lt, Bool, List, [], ◌∷◌, length, slice_index_or}
+use Rattle.mg_model.specs.Limits.{step_limit}
 
 -- from how many pages in use a step holds, and its rate
 abbrev pub from_at : List (ℕ × ℕ) → ℕ → ℕ
@@ -7,10 +8,6 @@ from_at steps k = (slice_index_or steps k (0, 0)).0
 
 abbrev pub rate_at : List (ℕ × ℕ) → ℕ → ℕ
 rate_at steps k = (slice_index_or steps k (0, 0)).1
-
--- the largest number of a step
-abbrev pub step_limit : ℕ
-step_limit = 2 ^ 20
 
 -- four steps, the first from 0, each next one from more pages
 abbrev pub is_tariff : List (ℕ × ℕ) → Bool

@@ -1,10 +1,10 @@
 -- What the fields of a live row keep, as tests that compute; `Ranges` says the same as facts.
-use Rattle.std.specs.Prelude.{ℕ, ◌+◌, ◌-◌, ◌*◌, ◌/◌, ◌%◌, ◌^◌, ◌==◌, ◌&&◌, nat_le, nat_lt, Bool, true, not, List, [], ◌∷◌, length}
+use Rattle.std.specs.Prelude.{ℕ, ◌+◌, ◌*◌, ◌/◌, ◌%◌, ◌==◌, ◌&&◌, nat_le, nat_lt, Bool, true, not, List, [], ◌∷◌, length}
 use Rattle.std.specs.Option.{option_map_or}
 use Rattle.std.specs.List.{list_all, list_any}
 use Rattle.mg_model.specs.declared.slots.Pw.{Pw}
 use Rattle.mg_model.specs.declared.slots.Slot.{Slot}
-use Rattle.mg_model.specs.Objects.{first_page, never, page_end}
+use Rattle.mg_model.specs.Limits.{account_limit, all_rights, birth_limit, draw_limit, entry_point_limit, first_page, frame_limit, never, object_page_limit, page_end, password_limit, period_limit, slot_limit, thread_limit}
 use Rattle.mg_model.specs.Ranges.{first_back}
 use Rattle.mg_model.specs.State.{CallFrame, Counters, ObjectRow, ThreadRow}
 
@@ -14,36 +14,36 @@ all_distinct [] = true
 all_distinct (x ∷ xs) = not (list_any (λ y. x == y) xs) && all_distinct xs
 
 abbrev pub is_password : Pw → Bool
-is_password row = nat_le 1 row.rights && nat_le row.rights 63 && nat_le 1 row.until && nat_le row.until never
+is_password row = nat_le 1 row.rights && nat_le row.rights all_rights && nat_le 1 row.until && nat_le row.until never
 
 abbrev pub is_entry_of : ℕ → ℕ → ℕ → Bool
 is_entry_of base pages address = address % 8 == 0 && nat_le base address && nat_lt address (base + 4096 * pages)
 
 abbrev pub is_place : ℕ → ℕ → Bool
-is_place base pages = base % 4096 == 0 && nat_le first_page (base / 4096) && nat_le 1 pages && nat_le pages 1024 && nat_le (base / 4096 + pages) page_end
+is_place base pages = base % 4096 == 0 && nat_le first_page (base / 4096) && nat_le 1 pages && nat_le pages object_page_limit && nat_le (base / 4096 + pages) page_end
 
 abbrev pub is_object_row : ObjectRow → Bool
 is_object_row row =
     is_place row.base row.pages
-    && (nat_le 1 row.account && nat_le row.account 1024)
-    && (nat_le (length row.passwords) 32 && list_all is_password row.passwords)
-    && (nat_le (length row.entries) 16 && list_all (is_entry_of row.base row.pages) row.entries && all_distinct row.entries)
+    && (nat_le 1 row.account && nat_le row.account account_limit)
+    && (nat_le (length row.passwords) password_limit && list_all is_password row.passwords)
+    && (nat_le (length row.entries) entry_point_limit && list_all (is_entry_of row.base row.pages) row.entries && all_distinct row.entries)
     && option_map_or (λ (slot : Slot). not (slot.base == 0)) row.extension true
 
 abbrev pub is_call_frame : CallFrame → Bool
-is_call_frame frame = frame.back % 8 == 0 && nat_le (length frame.slots) 8
+is_call_frame frame = frame.back % 8 == 0 && nat_le (length frame.slots) slot_limit
 
 abbrev pub is_thread_row : ThreadRow → Bool
 is_thread_row row =
     nat_lt row.creator row.birth
     && row.pc % 8 == 0
-    && (nat_le 1 (length row.frames) && nat_le (length row.frames) 16)
+    && (nat_le 1 (length row.frames) && nat_le (length row.frames) frame_limit)
     && list_all is_call_frame row.frames
     && first_back row.frames == 0
 
 abbrev pub are_counters : Counters → Bool
 are_counters counters =
-    (nat_le 2 counters.draws && nat_le counters.draws (2 ^ 32))
-    && nat_le counters.period (2 ^ 24 - 1)
-    && nat_le counters.cursor 256
-    && (nat_le 1 counters.births && nat_le counters.births (2 ^ 32 - 1))
+    (nat_le 2 counters.draws && nat_le counters.draws draw_limit)
+    && nat_le counters.period period_limit
+    && nat_le counters.cursor thread_limit
+    && (nat_le 1 counters.births && nat_le counters.births birth_limit)

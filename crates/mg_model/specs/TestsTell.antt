@@ -1,4 +1,4 @@
--- What the tests on the fields of a row tell, as facts. That numbers have 64 bits is not among them: a row's bytes tell it.
+-- Lemmas that crates above need: what the tests on the fields of a row tell, as facts. That numbers have 64 bits is not among them: a row's bytes tell it.
 use Rattle.std.specs.Prelude.{◌≡◌, ◌≢◌, ℕ, ◌==◌, Bool, true, false, not, All, AllPairs, List, [], ◌∷◌}
 use Rattle.std.specs.List.{list_all, list_any}
 use Rattle.std.proofs.Common.{arith}

@@ -1,5 +1,5 @@
 -- The calls that make, end and resume threads.
-use Rattle.std.specs.Prelude.{ℕ, ◌+◌, ◌-◌, ◌^◌, ◌==◌, ◌||◌, nat_le, nat_lt, Bool, not, List, [], ◌∷◌, if◌then◌else◌, filter, length, replicate, is_some}
+use Rattle.std.specs.Prelude.{ℕ, ◌+◌, ◌==◌, ◌||◌, nat_le, nat_lt, Bool, not, List, [], ◌∷◌, if◌then◌else◌, filter, length, replicate, is_some}
 use Rattle.std.specs.Option.{option_map_or}
 use Rattle.mg_model.specs.declared.replies.Refusal.TheVariants.{Align, Denied, Limit, NoThread, NotYours}
 use Rattle.mg_model.specs.declared.replies.Reply.TheVariants.{Done, Count}
@@ -8,12 +8,10 @@ use Rattle.mg_model.specs.declared.slots.Slot.{Slot}
 use Rattle.mg_model.specs.declared.threads.ThrState.TheVariants.{Ready}
 use Rattle.mg_model.specs.Access.{allowed, domain_of, thread_of}
 use Rattle.mg_model.specs.Domains.{with_thread}
+use Rattle.mg_model.specs.Limits.{birth_limit, thread_limit}
 use Rattle.mg_model.specs.ObjectCalls.{is_aligned}
 use Rattle.mg_model.specs.Refused.{Answer, row}
 use Rattle.mg_model.specs.State.{State, Thread}
-
-abbrev pub thread_limit : ℕ
-thread_limit = 256
 
 abbrev pub is_thread : State → ℕ → Bool
 is_thread state t = is_some (thread_of state t)
@@ -61,7 +59,7 @@ make_thread state t pc =
     row state (
     (not (is_aligned pc), Align)
     ∷ (not (allowed state t pc X), Denied)
-    ∷ (nat_le thread_limit (length state.threads) || nat_le (2 ^ 32 - 1) state.counters.births, Limit)
+    ∷ (nat_le thread_limit (length state.threads) || nat_le birth_limit state.counters.births, Limit)
     ∷ []) (
       record (born state) { threads = with_new_thread (new_thread number (state.counters.births + 1) (birth_of state t) pc (domain_of state t)) state.threads },
       Count number,

@@ -19,6 +19,7 @@ use Rattle.mg_model.specs.declared.threads.ThrState.TheVariants.{Ready, Stopped,
 use Rattle.mg_model.specs.Access.{allowed}
 use Rattle.mg_model.specs.BankCalls.{balance, open_account, pay}
 use Rattle.mg_model.specs.Domains.{apdadd, apddel, apdlist, pdx, ret, row_of, with_thread}
+use Rattle.mg_model.specs.Limits.{all_rights}
 use Rattle.mg_model.specs.ObjectCalls.{create, delete, entry, ext, info, is_aligned, load, pwadd, pwdel, recharge, store}
 use Rattle.mg_model.specs.Objects.{with_word, word_at}
 use Rattle.mg_model.specs.Refused.{Answer, row}
@@ -84,7 +85,7 @@ refusal_number refusal.Later = 0
 
 -- the rights of a `pwadd` by a script are given as their bits
 abbrev pub spelled_pwadd : ℕ → ℕ → Option ℕ → Call
-spelled_pwadd b rights until = if nat_le 1 rights && nat_le rights 63 then call.Pwadd b rights until else call.Bad
+spelled_pwadd b rights until = if nat_le 1 rights && nat_le rights all_rights then call.Pwadd b rights until else call.Bad
 
 -- the call that a thread's registers spell: register 0 has its number, and from register 1 on come its arguments
 abbrev pub spelled : ThreadRow → Call

@@ -1,11 +1,12 @@
 -- What an image spells: no volume, an older one, a damaged one, or a state of the machine.
-use Rattle.std.specs.Prelude.{◌≡◌, ◌≤◌, ℕ, zero, suc, ◌+◌, ◌*◌, ◌/◌, ◌%◌, ◌^◌, ◌==◌, ◌&&◌, nat_le, nat_lt, Bool, true, false, not, List, [], ◌∷◌, ◌++◌, drop, filter, if◌then◌else◌, length, map, position, replicate, slice_index, sum_by, take, Option, Some, None}
+use Rattle.std.specs.Prelude.{◌≡◌, ◌≤◌, ℕ, zero, suc, ◌+◌, ◌*◌, ◌/◌, ◌%◌, ◌==◌, ◌&&◌, nat_le, nat_lt, Bool, true, false, not, List, [], ◌∷◌, ◌++◌, drop, filter, if◌then◌else◌, length, map, position, replicate, slice_index, sum_by, take, Option, Some, None}
 use Rattle.std.specs.Option.{option_map_or}
 use Rattle.std.specs.List.{list_all, list_any}
 use Rattle.mg_model.specs.declared.accounts.AccRow.{AccRow}
 use Rattle.mg_model.specs.Bank.{used}
 use Rattle.mg_model.specs.Bytes.{are_zeros, block_words, bytes_at}
 use Rattle.mg_model.specs.Layout.{account_rows, account_size, first_account_block, first_frame, first_object_block, first_thread_block, gate_block, gate_open, globals_block, object_rows, object_size, super_block, table_block, table_blocks, thread_rows, total_blocks}
+use Rattle.mg_model.specs.Limits.{debt_limit}
 use Rattle.mg_model.specs.Objects.{page_behind, page_of, with_object}
 use Rattle.mg_model.specs.Replay.{block_of, replay}
 use Rattle.mg_model.specs.Settings.{Settings}
@@ -116,7 +117,7 @@ abbrev pub accounts_fit : ℕ → ℕ → List AccRow → Bool
 accounts_fit credits period accounts =
     nat_le 1 (length accounts)
     && sum_by (λ (row : AccRow). row.balance) accounts == credits
-    && list_all (λ (row : AccRow). nat_le row.owed (period * 2 ^ 36)) accounts
+    && list_all (λ (row : AccRow). nat_le row.owed (debt_limit period)) accounts
 
 -- no object reaches past the first page of the next; they stand in the order of their bases
 abbrev pub are_apart : List Object → Bool

@@ -1,4 +1,4 @@
--- What the volume of an image rests on: the gate, and the blocks from the superblock on and below the total.
+-- Lemmas that crates above need, on what the volume of an image rests on: the gate, and the blocks from the superblock on and below the total.
 use Rattle.std.specs.Prelude.{◌≡◌, ◌≢◌, ℕ, zero, suc, ◌+◌, ◌*◌, ◌/◌, ◌%◌, ◌<◌, ◌≤◌, ◌==◌, ◌&&◌, nat_le, Bool, true, false, List, [], ◌∷◌, ◌++◌, if◌then◌else◌, length, replicate, slice_index, slice_set, Option, Some, None, position, take, drop}
 use Rattle.std.specs.Option.{option_map_or}
 use Rattle.std.proofs.Common.{refl, sym, ap, subst, ◌∙◌, ⊎_elim, arith}

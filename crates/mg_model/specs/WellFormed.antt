@@ -1,11 +1,12 @@
 -- What every state of the machine keeps.
-use Rattle.std.specs.Prelude.{◌≡◌, ◌≢◌, ℕ, ◌*◌, ◌^◌, ◌<◌, ◌≤◌, IsTrue, List, length, All, AllPairs, Some, sum_by}
+use Rattle.std.specs.Prelude.{◌≡◌, ◌≢◌, ℕ, ◌*◌, ◌<◌, ◌≤◌, IsTrue, List, length, All, AllPairs, Some, sum_by}
 use Rattle.mg_model.specs.declared.accounts.AccRow.{AccRow}
 use Rattle.mg_model.specs.declared.calls.Call.{Call}
 use Rattle.mg_model.specs.declared.calls.Call.TheVariants as call
 use Rattle.mg_model.specs.declared.calls.Line.{Line}
 use Rattle.mg_model.specs.Bank.{used}
 use Rattle.mg_model.specs.Domains.{row_of}
+use Rattle.mg_model.specs.Limits.{account_limit, debt_limit, object_limit, thread_limit}
 use Rattle.mg_model.specs.Objects.{page_of, page_behind}
 use Rattle.mg_model.specs.Ranges.{IsCounters, IsObjectRow, IsThreadRow, IsWord}
 use Rattle.mg_model.specs.Rights.{IsRights}
@@ -32,15 +33,11 @@ IsBefore object later = page_behind object.row ≤ page_of later.row
 
 -- objects stand in the order of their bases and do not overlap; each is paid by an account that is there
 pub record AreObjects (frames accounts : ℕ) (objects : List Object) : Type 0 where
-  pub few : length objects ≤ 4096
+  pub few : length objects ≤ object_limit
   pub each : All IsObject objects
   pub apart : AllPairs IsBefore objects
   pub paid : All (λ (object : Object). object.row.account ≤ accounts) objects
   pub fit : used objects ≤ frames
-
--- what an account may owe by a period
-abbrev pub debt_limit : ℕ → ℕ
-debt_limit period = period * 2 ^ 36
 
 pub record IsAccount (period : ℕ) (row : AccRow) : Type 0 where
   pub password : IsWord row.password
@@ -49,14 +46,14 @@ pub record IsAccount (period : ℕ) (row : AccRow) : Type 0 where
 -- there is a treasury, and the balances sum to the credits
 pub record AreAccounts (credits period : ℕ) (accounts : List AccRow) : Type 0 where
   pub some : 1 ≤ length accounts
-  pub few : length accounts ≤ 1024
+  pub few : length accounts ≤ account_limit
   pub each : All (IsAccount period) accounts
   pub sum : sum_by (λ (row : AccRow). row.balance) accounts ≡ credits
 
 -- a thread's number is 1 to 256, and it was born by now
 pub record IsThread (births : ℕ) (thread : Thread) : Type 0 where
   pub some : 1 ≤ thread.number
-  pub few : thread.number ≤ 256
+  pub few : thread.number ≤ thread_limit
   pub row : IsThreadRow thread.row
   pub born : thread.row.birth ≤ births
 

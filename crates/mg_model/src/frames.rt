@@ -3,11 +3,9 @@ ghost use Rattle.std.specs.Prelude.{◌≡◌, ◌<◌, ◌+◌, ◌%◌, ◌++�
 ghost use Rattle.mg_model.specs.Ranges.{IsCallFrame};
 
 use crate::few::{Few, Filler};
+use crate::limits::SLOT_LIMIT;
 use crate::slots::Slot;
 use std::marker::Model;
-
-/// How many slots a frame may have.
-const SLOT_LIMIT: usize = 8;
 
 impl Filler for Slot {
     ghost blank = { record { base = 0; password = 0 } };

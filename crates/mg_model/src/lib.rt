@@ -4,10 +4,18 @@
 //! is `Copy`, is seen as the record of `State` of its kind, and keeps by itself what `Ranges` says of one: a method that
 //! reads it says so in a clause `kept`.
 //!
-//! The definition stands in `specs/`, one file for what a reader looks for: `State` (what the machine holds), `Access`
-//! (who may reach what), `Step` (the table of calls with its refusals), `Script` and `Turn` (instructions and turns),
-//! `Bank` (rent), `Words` and `Lines` (from bytes to calls), `Print` (from replies to bytes), `Fresh` (where it begins),
-//! `WellFormed` (what every state keeps).
+//! The definition stands in `specs/`. To read it whole, read in the order of `specs/Lib.antt`:
+//!
+//! 1. `Limits`, `State`, `Access` and `Objects`: what the machine holds, and who may reach what.
+//! 2. The rows of the table of calls, each with its refusals in their order: `ObjectCalls`, `Domains`, `Threads` and
+//!    `BankCalls`, over `Draw`, `Bank` and `Refused`.
+//! 3. `Script` and `Turn`: what a thread does in its turn. `Step`: what a line does.
+//! 4. `Words`, `Lines` and `Print`: from bytes to calls, and from replies to bytes. `Fresh`: where the machine begins.
+//!    `WellFormed`: what every state keeps.
+//! 5. `Layout`, `Spelling`, `Replay` and `Volume`: which state an image of a disk spells.
+//!
+//! The files behind these are lemmas that crates above cite; no statement rests on them. Laws on the definitions are the
+//! contracts of `mg_laws`, and sessions that are computed by them stand in `mg_worked`.
 #![tactic(auto)]
 
 mod accounts;
@@ -17,6 +25,7 @@ mod few;
 mod frames;
 mod globals;
 mod instructions;
+pub mod limits;
 mod objects;
 mod replies;
 mod rights;

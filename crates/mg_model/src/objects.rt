@@ -3,22 +3,15 @@ ghost use Rattle.std.specs.Prelude.{◌≡◌, ◌≢◌, ◌≤◌, ◌<◌, �
 ghost use Rattle.std.specs.List.{list_any};
 ghost use Rattle.std.specs.Option.{IfSome};
 ghost use Rattle.mg_model.specs.Access.{covers, holds};
-ghost use Rattle.mg_model.specs.ObjectCalls.{is_entry, is_password};
-ghost use Rattle.mg_model.specs.Objects.{never};
+ghost use Rattle.mg_model.specs.ObjectCalls.{is_entry, has_password};
+ghost use Rattle.mg_model.specs.Limits.{never};
 ghost use Rattle.mg_model.specs.Ranges.{IsEntryOf, IsObjectRow, IsPlace};
 
 use crate::few::{Few, Filler};
+use crate::limits::{ENTRY_POINT_LIMIT, PAGE_SIZE, PASSWORD_LIMIT};
 use crate::rights::{Right, Rights};
 use crate::slots::{Pw, Slot};
 use std::marker::Model;
-
-/// How many password rows and how many entries an object may have.
-const PASSWORD_LIMIT: usize = 32;
-
-const ENTRY_LIMIT: usize = 16;
-
-/// The bytes of a page.
-const PAGE: u64 = 4096;
 
 impl Filler for Pw {
     ghost blank = { record { password = 0; rights = 63; until = 1 } };
@@ -49,7 +42,7 @@ pub struct ObjRow {
     pages: u64,
     account: u64,
     passwords: Few<Pw, PASSWORD_LIMIT>,
-    entries: Few<u64, ENTRY_LIMIT>,
+    entries: Few<u64, ENTRY_POINT_LIMIT>,
     extension: Option<Slot>,
 }
 
@@ -132,7 +125,7 @@ impl ObjRow {
     pub fn covers(&self, a: u64) -> bool
         ensures { result ≡ covers self.now a }
     {
-        self.base <= a && a < self.base + PAGE * self.pages
+        self.base <= a && a < self.base + PAGE_SIZE * self.pages
     }
 
     /// Whether it holds this password with this right at this period.
@@ -147,7 +140,7 @@ impl ObjRow {
 
     /// Whether a row of it has this password, be it current or not.
     pub fn has_password(&self, p: u64) -> bool
-        ensures { result ≡ list_any (λ pw. is_password p pw) self.now.passwords }
+        ensures { result ≡ list_any (λ pw. has_password p pw) self.now.passwords }
     {
         self.passwords.as_slice().iter().any(|pw| pw.password == p)
     }
@@ -171,7 +164,7 @@ impl ObjRow {
 
     /// Every row with this password goes.
     pub fn remove_passwords(&mut self, p: u64)
-        ensures { self.new ≡ record self.old { passwords = filter (λ pw. not (is_password p pw)) self.old.passwords } }
+        ensures { self.new ≡ record self.old { passwords = filter (λ pw. not (has_password p pw)) self.old.passwords } }
     {
         self.passwords = without(self.passwords.as_slice(), p);
     }
@@ -207,7 +200,7 @@ impl ObjRow {
 // The rows that do not have this password.
 fn without(passwords: &[Pw], p: u64) -> Few<Pw, PASSWORD_LIMIT>
     requires { length passwords.now ≤ 32 }
-    ensures { result ≡ filter (λ pw. not (is_password p pw)) passwords.now }
+    ensures { result ≡ filter (λ pw. not (has_password p pw)) passwords.now }
 {
     let mut left = Few::new();
     for pw in passwords {

@@ -2,6 +2,7 @@
 ghost use Rattle.std.specs.Prelude.{◌≡◌, ◌≤◌, IsTrue, if◌then◌else◌};
 ghost use Rattle.mg_model.specs.Settings.{within_limits};
 
+use crate::limits::{CREDIT_LIMIT, LEAST_FRAMES, MOST_FRAMES};
 use crate::tariffs::Tariff;
 use std::marker::Model;
 
@@ -27,15 +28,12 @@ impl Model for Params {
     ghost inverse = { λ s. record { frames = s.frames; seed = s.seed; credits = s.credits; tariff = s.tariff } };
 }
 
-/// The most credits that a volume is made with.
-const CREDIT_LIMIT: u64 = 1 << 62;
-
 impl Params {
     /// The settings of a volume; None exactly where frames or credits are outside their limits.
     pub fn new(frames: u64, seed: [u8; 32], credits: u64, tariff: Tariff) -> Option<Params>
         ensures { result ≡ (if within_limits frames credits then Some (record { frames = frames; seed = seed; credits = credits; tariff = tariff }) else None) }
     {
-        if frames >= 16 && frames <= 65536 && credits <= CREDIT_LIMIT {
+        if frames >= LEAST_FRAMES && frames <= MOST_FRAMES && credits <= CREDIT_LIMIT {
             Some(Params {
                 frames,
                 seed,

@@ -2,6 +2,7 @@
 ghost use Rattle.std.specs.Prelude.{◌≡◌, ◌≤◌, IsTrue, if◌then◌else◌};
 ghost use Rattle.mg_model.specs.Tariff.{is_tariff, usual_tariff};
 
+use crate::limits::STEP_LIMIT;
 use std::marker::Model;
 
 /// Four steps, each the number of pages in use from which it holds and its rate: credits for each page of an account
@@ -23,9 +24,6 @@ impl Model for Tariff {
 
     ghost inverse = { λ xs. record { steps = xs } };
 }
-
-/// The largest number of pages or rate that a step may have.
-const STEP_LIMIT: u64 = 1 << 20;
 
 impl Tariff {
     /// The tariff with these steps; None exactly where they break its rule.

@@ -5,11 +5,9 @@ ghost use Rattle.mg_model.specs.Ranges.{IsThreadRow};
 
 use crate::few::{Few, Filler};
 use crate::frames::Frame;
+use crate::limits::FRAME_LIMIT;
 use crate::threads::ThrState;
 use std::marker::Model;
-
-/// How many frames a thread may have.
-const FRAME_LIMIT: usize = 16;
 
 impl Filler for Frame {
     ghost blank = { record { back = 0; slots = [] } };

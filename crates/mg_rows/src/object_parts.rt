@@ -6,14 +6,8 @@ ghost use Rattle.mg_model.specs.Tests.{is_entry_of, is_object_row, is_password, 
 ghost use Rattle.mg_rows.specs.ObjectParts.{are_entries, are_passwords, entries_in, is_extension, is_placed, password_at, passwords_in, placed_row, some_if};
 
 use crate::bytes::number_at;
+use mg_model::limits::{FIRST_PAGE, OBJECT_PAGE_LIMIT, PAGE_END, PAGE_SIZE};
 use mg_model::{ObjRow, Pw, Rights, Slot};
-
-/// The bytes of a page, the first page that an object may have, and the one behind the last.
-const PAGE: u64 = 4096;
-
-const FIRST_PAGE: u64 = 1 << 20;
-
-const PAGE_END: u64 = 1 << 40;
 
 /// How many password rows and how many entries an object may have.
 const PASSWORD_LIMIT: u64 = 32;
@@ -49,11 +43,11 @@ fn placed(b: &[u8]) -> Option<ObjRow>
 fn is_place(base: u64, pages: u64) -> bool
     ensures { result ≡ is_place base pages }
 {
-    base % PAGE == 0
-        && base / PAGE >= FIRST_PAGE
+    base % PAGE_SIZE == 0
+        && base / PAGE_SIZE >= FIRST_PAGE
         && pages >= 1
-        && pages <= 1024
-        && base / PAGE + pages <= PAGE_END
+        && pages <= OBJECT_PAGE_LIMIT
+        && base / PAGE_SIZE + pages <= PAGE_END
 }
 
 // With its password rows.

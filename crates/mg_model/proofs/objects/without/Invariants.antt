@@ -1,6 +1,6 @@
 use Rattle.std.proofs.Common.{◌≡◌, ◌≤◌, length, not, filter, take}
-use Rattle.mg_model.specs.ObjectCalls.{is_password}
+use Rattle.mg_model.specs.ObjectCalls.{has_password}
 use Rattle.mg_model.proofs.objects.without.Given as goal
 
 abbrev pub invariant-loop-pw : goal.invariant-loop-pw
-invariant-loop-pw l = (l.left ≡ filter (λ pw. not (is_password l.p pw)) (take l.pw-index l.passwords)) × (length l.left ≤ l.pw-index)
+invariant-loop-pw l = (l.left ≡ filter (λ pw. not (has_password l.p pw)) (take l.pw-index l.passwords)) × (length l.left ≤ l.pw-index)

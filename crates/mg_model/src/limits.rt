@@ -1,0 +1,61 @@
+// The limits of the machine. `specs/Limits.antt` has the same numbers under the same names.
+
+/// The bytes of a page.
+pub const PAGE_SIZE: u64 = 4096;
+
+/// The first page that an object may have.
+pub const FIRST_PAGE: u64 = 1 << 20;
+
+/// The page behind the last that an object may have.
+pub const PAGE_END: u64 = 1 << 40;
+
+/// How many objects there may be.
+pub const OBJECT_LIMIT: usize = 4096;
+
+/// How many pages an object may have.
+pub const OBJECT_PAGE_LIMIT: u64 = 1024;
+
+/// How many password rows an object may have.
+pub const PASSWORD_LIMIT: usize = 32;
+
+/// How many entries an object may have.
+pub const ENTRY_POINT_LIMIT: usize = 16;
+
+/// How many entries of a capability list are read.
+pub const ENTRY_LIMIT: u64 = 255;
+
+/// How many slots a frame of a thread may have.
+pub const SLOT_LIMIT: usize = 8;
+
+/// How many frames a thread may have.
+pub const FRAME_LIMIT: usize = 16;
+
+/// How many threads there may be.
+pub const THREAD_LIMIT: usize = 256;
+
+/// How many accounts there may be.
+pub const ACCOUNT_LIMIT: usize = 1024;
+
+/// The last period.
+pub const PERIOD_LIMIT: u64 = (1 << 24) - 1;
+
+/// How many passwords are drawn at most.
+pub const DRAW_LIMIT: u64 = 1 << 32;
+
+/// The last birth number.
+pub const BIRTH_LIMIT: u64 = (1 << 32) - 1;
+
+/// What an account may owe for each period.
+pub const DEBT_LIMIT: u64 = 1 << 36;
+
+/// How many frames a volume has at least.
+pub const LEAST_FRAMES: u64 = 16;
+
+/// How many frames a volume has at most.
+pub const MOST_FRAMES: u64 = 65_536;
+
+/// How many credits a volume may be made with.
+pub const CREDIT_LIMIT: u64 = 1 << 62;
+
+/// The largest number of pages or rate of a step of the tariff.
+pub const STEP_LIMIT: u64 = 1 << 20;
