@@ -3,13 +3,13 @@ use Rattle.std.proofs.Common.{ℕ, ◌+◌, ◌/◌, ◌%◌, ◌^◌, ◌≤◌
 use Rattle.std.proofs.lemmas.Bool.{cond_both, eqb-false, leb-true, ltb-true}
 use Rattle.std.proofs.lemmas.List.Elements.{All-cons, All-head, All-nil}
 use Rattle.std.proofs.lemmas.Option.{same_Some}
-use Rattle.std.specs.Prelude.{codes, option_map}
+use Rattle.std.specs.Prelude.{if◌then◌else◌, option_map}
 use Rattle.std.specs.List.{cons_option, filter_map}
 use Rattle.std.specs.Option.{ForSome, option_map_or}
 use Rattle.mg_model.specs.declared.calls.Call.{Call}
 use Rattle.mg_model.specs.declared.calls.Call.TheVariants as call
 use Rattle.mg_model.specs.declared.calls.Line.{Line}
-use Rattle.mg_model.specs.Lines.{bad_line, form0, form1, form2, form3, form4, form_pwadd, is_among, is_note, is_unbuilt, later_line, line_of, line_of_words, line_with, lines, lone_form, lone_words, made1, made2, made3, made4, of_numbers, pdx_of, pwadd_of, spelled_line, thread_form, thread_line, thread_words}
+use Rattle.mg_model.specs.Lines.{Row, bad_line, call_by, call_line, call_table, form0, form1, form2, form3, form4, form_pwadd, four, is_among, is_note, later_line, line_of, line_of_words, line_with, lines, lone_words, one, pdx_of, pwadd_of, spelled_line, thread_line, three, two}
 use Rattle.mg_model.specs.Ranges.{IsWord}
 use Rattle.mg_model.specs.Rights.{IsRights}
 use Rattle.mg_model.specs.WellFormed.{HasRanges, IsInRange}
@@ -76,58 +76,55 @@ rights_of-rights (b ∷ bytes) =
     (λ other. rights_from-rights (0 + weight) bytes (letter_weight-bits b 0 (omega arith) weight found (eqb-false _ _ other))))
 
 -- a call of so many numbers
-made1-ranges : (made : ℕ → Call) → ((a : ℕ) → IsWord a → HasRanges (made a)) → (ns : List ℕ) → All IsWord ns → HasRanges (made1 made ns)
-made1-ranges made each [] all = tt
-made1-ranges made each (a ∷ []) all = each a (All-head IsWord a [] all)
-made1-ranges made each (a ∷ b ∷ ns) all = tt
+form0-ranges : (made : Call) → HasRanges made → (args : List (List ℕ)) → HasRanges (form0 made args)
+form0-ranges made ranges [] = ranges
+form0-ranges made ranges (word ∷ more) = tt
 
-made2-ranges : (made : ℕ → ℕ → Call) → ((a b : ℕ) → IsWord a → IsWord b → HasRanges (made a b)) → (ns : List ℕ) → All IsWord ns → HasRanges (made2 made ns)
-made2-ranges made each [] all = tt
-made2-ranges made each (a ∷ []) all = tt
-made2-ranges made each (a ∷ b ∷ []) all = each a b (all 0 0 (omega arith)) (all 1 0 (omega arith))
-made2-ranges made each (a ∷ b ∷ c ∷ ns) all = tt
+one-ranges : (made : ℕ → Call) → ((a : ℕ) → IsWord a → HasRanges (made a)) → (o : Option (List ℕ)) → ForSome o (All IsWord) → HasRanges (option_map_or made (one o) call.Bad)
+one-ranges made each None all = tt
+one-ranges made each (Some []) all = tt
+one-ranges made each (Some (a ∷ [])) all = each a (All-head IsWord a [] (all (a ∷ []) refl))
+one-ranges made each (Some (a ∷ b ∷ ns)) all = tt
 
-made3-ranges : (made : ℕ → ℕ → ℕ → Call) → ((a b c : ℕ) → IsWord a → IsWord b → IsWord c → HasRanges (made a b c)) → (ns : List ℕ) → All IsWord ns → HasRanges (made3 made ns)
-made3-ranges made each [] all = tt
-made3-ranges made each (a ∷ []) all = tt
-made3-ranges made each (a ∷ b ∷ []) all = tt
-made3-ranges made each (a ∷ b ∷ c ∷ []) all = each a b c (all 0 0 (omega arith)) (all 1 0 (omega arith)) (all 2 0 (omega arith))
-made3-ranges made each (a ∷ b ∷ c ∷ d ∷ ns) all = tt
+form1-ranges : (made : ℕ → Call) → ((a : ℕ) → IsWord a → HasRanges (made a)) → (args : List (List ℕ)) → HasRanges (form1 made args)
+form1-ranges made each args = one-ranges made each (numbers_of args) (numbers_of-words args)
 
-made4-ranges : (made : ℕ → ℕ → ℕ → ℕ → Call) → ((a b c d : ℕ) → IsWord a → IsWord b → IsWord c → IsWord d → HasRanges (made a b c d)) → (ns : List ℕ) → All IsWord ns → HasRanges (made4 made ns)
-made4-ranges made each [] all = tt
-made4-ranges made each (a ∷ []) all = tt
-made4-ranges made each (a ∷ b ∷ []) all = tt
-made4-ranges made each (a ∷ b ∷ c ∷ []) all = tt
-made4-ranges made each (a ∷ b ∷ c ∷ d ∷ []) all = each a b c d (all 0 0 (omega arith)) (all 1 0 (omega arith)) (all 2 0 (omega arith)) (all 3 0 (omega arith))
-made4-ranges made each (a ∷ b ∷ c ∷ d ∷ e ∷ ns) all = tt
+two-ranges : (made : ℕ → ℕ → Call) → ((a b : ℕ) → IsWord a → IsWord b → HasRanges (made a b)) → (o : Option (List ℕ)) → ForSome o (All IsWord)
+    → HasRanges (option_map_or (λ (a, b). made a b) (two o) call.Bad)
+two-ranges made each None all = tt
+two-ranges made each (Some []) all = tt
+two-ranges made each (Some (a ∷ [])) all = tt
+two-ranges made each (Some (a ∷ b ∷ [])) all = let are = all (a ∷ b ∷ []) refl in each a b (are 0 0 (omega arith)) (are 1 0 (omega arith))
+two-ranges made each (Some (a ∷ b ∷ c ∷ ns)) all = tt
 
-made_or_bad : (made : List ℕ → Call) (o : Option (List ℕ)) → ((ns : List ℕ) → o ≡ Some ns → HasRanges (made ns)) → HasRanges (option_map_or made o call.Bad)
-made_or_bad made None each = tt
-made_or_bad made (Some ns) each = each ns refl
+form2-ranges : (made : ℕ → ℕ → Call) → ((a b : ℕ) → IsWord a → IsWord b → HasRanges (made a b)) → (args : List (List ℕ)) → HasRanges (form2 made args)
+form2-ranges made each args = two-ranges made each (numbers_of args) (numbers_of-words args)
 
-of_numbers-ranges : (made : List ℕ → Call) (args : List (List ℕ)) → ((ns : List ℕ) → All IsWord ns → HasRanges (made ns)) → HasRanges (of_numbers made args)
-of_numbers-ranges made args each = made_or_bad made (numbers_of args) (λ ns is. each ns (numbers_of-words args ns is))
+three-ranges : (made : ℕ → ℕ → ℕ → Call) → ((a b c : ℕ) → IsWord a → IsWord b → IsWord c → HasRanges (made a b c)) → (o : Option (List ℕ)) → ForSome o (All IsWord)
+    → HasRanges (option_map_or (λ (a, b, c). made a b c) (three o) call.Bad)
+three-ranges made each None all = tt
+three-ranges made each (Some []) all = tt
+three-ranges made each (Some (a ∷ [])) all = tt
+three-ranges made each (Some (a ∷ b ∷ [])) all = tt
+three-ranges made each (Some (a ∷ b ∷ c ∷ [])) all = let are = all (a ∷ b ∷ c ∷ []) refl in each a b c (are 0 0 (omega arith)) (are 1 0 (omega arith)) (are 2 0 (omega arith))
+three-ranges made each (Some (a ∷ b ∷ c ∷ d ∷ ns)) all = tt
 
--- the arguments of a call are in range
-record IsRanged (made : Call) : Type 0 where
-  ranges : HasRanges made
+form3-ranges : (made : ℕ → ℕ → ℕ → Call) → ((a b c : ℕ) → IsWord a → IsWord b → IsWord c → HasRanges (made a b c)) → (args : List (List ℕ)) → HasRanges (form3 made args)
+form3-ranges made each args = three-ranges made each (numbers_of args) (numbers_of-words args)
 
-form0-ranges : (made : Call) (args : List (List ℕ)) → HasRanges made → IsRanged (form0 made args)
-form0-ranges made [] ranges = record { ranges = ranges }
-form0-ranges made (word ∷ more) ranges = record { ranges = tt }
+four-ranges : (made : ℕ → ℕ → ℕ → ℕ → Call) → ((a b c d : ℕ) → IsWord a → IsWord b → IsWord c → IsWord d → HasRanges (made a b c d)) → (o : Option (List ℕ)) → ForSome o (All IsWord)
+    → HasRanges (option_map_or (λ (a, b, c, d). made a b c d) (four o) call.Bad)
+four-ranges made each None all = tt
+four-ranges made each (Some []) all = tt
+four-ranges made each (Some (a ∷ [])) all = tt
+four-ranges made each (Some (a ∷ b ∷ [])) all = tt
+four-ranges made each (Some (a ∷ b ∷ c ∷ [])) all = tt
+four-ranges made each (Some (a ∷ b ∷ c ∷ d ∷ [])) all =
+    let are = all (a ∷ b ∷ c ∷ d ∷ []) refl in each a b c d (are 0 0 (omega arith)) (are 1 0 (omega arith)) (are 2 0 (omega arith)) (are 3 0 (omega arith))
+four-ranges made each (Some (a ∷ b ∷ c ∷ d ∷ e ∷ ns)) all = tt
 
-form1-ranges : (made : ℕ → Call) (args : List (List ℕ)) → ((a : ℕ) → IsWord a → HasRanges (made a)) → IsRanged (form1 made args)
-form1-ranges made args each = record { ranges = of_numbers-ranges (made1 made) args (made1-ranges made each) }
-
-form2-ranges : (made : ℕ → ℕ → Call) (args : List (List ℕ)) → ((a b : ℕ) → IsWord a → IsWord b → HasRanges (made a b)) → IsRanged (form2 made args)
-form2-ranges made args each = record { ranges = of_numbers-ranges (made2 made) args (made2-ranges made each) }
-
-form3-ranges : (made : ℕ → ℕ → ℕ → Call) (args : List (List ℕ)) → ((a b c : ℕ) → IsWord a → IsWord b → IsWord c → HasRanges (made a b c)) → IsRanged (form3 made args)
-form3-ranges made args each = record { ranges = of_numbers-ranges (made3 made) args (made3-ranges made each) }
-
-form4-ranges : (made : ℕ → ℕ → ℕ → ℕ → Call) (args : List (List ℕ)) → ((a b c d : ℕ) → IsWord a → IsWord b → IsWord c → IsWord d → HasRanges (made a b c d)) → IsRanged (form4 made args)
-form4-ranges made args each = record { ranges = of_numbers-ranges (made4 made) args (made4-ranges made each) }
+form4-ranges : (made : ℕ → ℕ → ℕ → ℕ → Call) → ((a b c d : ℕ) → IsWord a → IsWord b → IsWord c → IsWord d → HasRanges (made a b c d)) → (args : List (List ℕ)) → HasRanges (form4 made args)
+form4-ranges made each args = four-ranges made each (numbers_of args) (numbers_of-words args)
 
 -- `pwadd`
 pwadd_of-ranges : (b rights : Option ℕ) (until : Option (Option ℕ)) → ForSome b IsWord → ForSome rights IsRights → ((u : Option ℕ) → until ≡ Some u → ForSome u IsWord) → HasRanges (pwadd_of b rights until)
@@ -152,34 +149,50 @@ pdx_of-ranges : (a mask : ℕ) → IsWord a → IsWord mask → HasRanges (pdx_o
 pdx_of-ranges a mask word _ =
     cond_both (leb mask 255) (call.Pdx a mask) call.Bad HasRanges (λ few. let upto : mask ≤ 255 = leb-true _ _ few in (word, omega arith)) (λ _. tt)
 
-thread_form-ranges : (word : List ℕ) (args : List (List ℕ)) → IsRanged (thread_form word args)
-thread_form-ranges word args =
-    cond_both (same_bytes word (codes "load")) _ _ IsRanged (λ _. form1-ranges (λ a. call.Load a) args (λ a is. is)) (λ _.
-    cond_both (same_bytes word (codes "store")) _ _ IsRanged (λ _. form2-ranges (λ a value. call.Store a value) args (λ a value is1 is2. (is1, is2))) (λ _.
-    cond_both (same_bytes word (codes "create")) _ _ IsRanged (λ _. form3-ranges (λ n account password. call.Create n account password) args (λ n account password is1 is2 is3. (is1, is2, is3))) (λ _.
-    cond_both (same_bytes word (codes "delete")) _ _ IsRanged (λ _. form1-ranges (λ b. call.Delete b) args (λ b is. is)) (λ _.
-    cond_both (same_bytes word (codes "info")) _ _ IsRanged (λ _. form1-ranges (λ b. call.Info b) args (λ b is. is)) (λ _.
-    cond_both (same_bytes word (codes "pwadd")) _ _ IsRanged (λ _. record { ranges = form_pwadd-ranges args }) (λ _.
-    cond_both (same_bytes word (codes "pwdel")) _ _ IsRanged (λ _. form2-ranges (λ b password. call.Pwdel b password) args (λ b password is1 is2. (is1, is2))) (λ _.
-    cond_both (same_bytes word (codes "entry")) _ _ IsRanged (λ _. form2-ranges (λ b off. call.Entry b off) args (λ b off is1 is2. (is1, is2))) (λ _.
-    cond_both (same_bytes word (codes "ext")) _ _ IsRanged (λ _. form3-ranges (λ b clist password. call.Ext b clist password) args (λ b clist password is1 is2 is3. (is1, is2, is3))) (λ _.
-    cond_both (same_bytes word (codes "recharge")) _ _ IsRanged (λ _. form3-ranges (λ b account password. call.Recharge b account password) args (λ b account password is1 is2 is3. (is1, is2, is3))) (λ _.
-    cond_both (same_bytes word (codes "apdadd")) _ _ IsRanged (λ _. form2-ranges (λ clist password. call.Apdadd clist password) args (λ clist password is1 is2. (is1, is2))) (λ _.
-    cond_both (same_bytes word (codes "apddel")) _ _ IsRanged (λ _. form1-ranges (λ index. call.Apddel index) args (λ index is. is)) (λ _.
-    cond_both (same_bytes word (codes "apdlist")) _ _ IsRanged (λ _. form0-ranges call.Apdlist args tt) (λ _.
-    cond_both (same_bytes word (codes "pdx")) _ _ IsRanged (λ _. form2-ranges pdx_of args pdx_of-ranges) (λ _.
-    cond_both (same_bytes word (codes "ret")) _ _ IsRanged (λ _. form0-ranges call.Ret args tt) (λ _.
-    cond_both (same_bytes word (codes "thread")) _ _ IsRanged (λ _. form1-ranges (λ pc. call.Thread pc) args (λ pc is. is)) (λ _.
-    cond_both (same_bytes word (codes "end")) _ _ IsRanged (λ _. form1-ranges (λ i. call.End i) args (λ i is. is)) (λ _.
-    cond_both (same_bytes word (codes "resume")) _ _ IsRanged (λ _. form1-ranges (λ i. call.Resume i) args (λ i is. is)) (λ _.
-    cond_both (same_bytes word (codes "turn")) _ _ IsRanged (λ _. form0-ranges call.Turn args tt) (λ _.
-    cond_both (same_bytes word (codes "account")) _ _ IsRanged (λ _. form3-ranges (λ account password amount. call.Account account password amount) args (λ account password amount is1 is2 is3. (is1, is2, is3))) (λ _.
-    cond_both (same_bytes word (codes "pay")) _ _ IsRanged (λ _. form4-ranges (λ account password to amount. call.Pay account password to amount) args (λ account password to amount is1 is2 is3 is4. (is1, is2, is3, is4))) (λ _.
-    cond_both (same_bytes word (codes "balance")) _ _ IsRanged (λ _. form2-ranges (λ account password. call.Balance account password) args (λ account password is1 is2. (is1, is2))) (λ _. record { ranges = tt }))))))))))))))))))))))
+-- the rows of a table make calls in range
+abbrev AreRanged : List Row → Type 0
+AreRanged [] = Unit {0}
+AreRanged ((known, form) ∷ rows) = ((args : List (List ℕ)) → HasRanges (form args)) × AreRanged rows
 
-lone_form-ranges : (word : List ℕ) (args : List (List ℕ)) → IsRanged (lone_form word args)
-lone_form-ranges word args =
-    cond_both (same_bytes word (codes "next")) _ _ IsRanged (λ _. form0-ranges call.Next args tt) (λ _. cond_both (same_bytes word (codes "rent")) _ _ IsRanged (λ _. form0-ranges call.Rent args tt) (λ _. record { ranges = tt }))
+-- one row more
+infixr 5 ◌also◌
+abbrev ◌also◌ : {X Y : Type 0} → X → Y → X × Y
+x also y = (x, y)
+
+table-ranged : AreRanged call_table
+table-ranged =
+    form1-ranges (λ a. call.Load a) (λ a is. is)
+    also form2-ranges (λ a value. call.Store a value) (λ a value is1 is2. (is1, is2))
+    also form3-ranges (λ n account password. call.Create n account password) (λ n account password is1 is2 is3. (is1, is2, is3))
+    also form1-ranges (λ b. call.Delete b) (λ b is. is)
+    also form1-ranges (λ b. call.Info b) (λ b is. is)
+    also form_pwadd-ranges
+    also form2-ranges (λ b password. call.Pwdel b password) (λ b password is1 is2. (is1, is2))
+    also form2-ranges (λ b off. call.Entry b off) (λ b off is1 is2. (is1, is2))
+    also form3-ranges (λ b clist password. call.Ext b clist password) (λ b clist password is1 is2 is3. (is1, is2, is3))
+    also form3-ranges (λ b account password. call.Recharge b account password) (λ b account password is1 is2 is3. (is1, is2, is3))
+    also form2-ranges (λ clist password. call.Apdadd clist password) (λ clist password is1 is2. (is1, is2))
+    also form1-ranges (λ index. call.Apddel index) (λ index is. is)
+    also form0-ranges call.Apdlist tt
+    also form2-ranges pdx_of pdx_of-ranges
+    also form0-ranges call.Ret tt
+    also form1-ranges (λ pc. call.Thread pc) (λ pc is. is)
+    also form1-ranges (λ i. call.End i) (λ i is. is)
+    also form1-ranges (λ i. call.Resume i) (λ i is. is)
+    also form0-ranges call.Turn tt
+    also form0-ranges call.Next tt
+    also form3-ranges (λ account password amount. call.Account account password amount) (λ account password amount is1 is2 is3. (is1, is2, is3))
+    also form4-ranges (λ account password to amount. call.Pay account password to amount) (λ account password to amount is1 is2 is3 is4. (is1, is2, is3, is4))
+    also form2-ranges (λ account password. call.Balance account password) (λ account password is1 is2. (is1, is2))
+    also form0-ranges call.Rent tt
+    also tt
+
+call_by-ranges : (rows : List Row) → AreRanged rows → (word : List ℕ) (args : List (List ℕ)) → ForSome (call_by rows word args) HasRanges
+call_by-ranges [] ranged word args = λ made none. absurd (cc)
+call_by-ranges ((known, form) ∷ rows) ranged word args =
+    cond_both (same_bytes word known) (Some (form args)) (call_by rows word args) (λ o. ForSome o HasRanges)
+    (λ _ made same. subst HasRanges (same_Some _ _ same) (ranged.0 args))
+    (λ _. call_by-ranges rows ranged.1 word args)
 
 -- lines
 bad_line-in_range : IsInRange bad_line
@@ -192,9 +205,18 @@ line_with-in_range : (t : ℕ) (made : Call) → IsWord t → HasRanges made →
 line_with-in_range t call.Bad word ranges = bad_line-in_range
 line_with-in_range t other word ranges = record { thread = word; call = ranges }
 
+call_or_bad : (made : Call → Line) (o : Option Call) → ((found : Call) → o ≡ Some found → IsInRange (made found)) → IsInRange (option_map_or made o bad_line)
+call_or_bad made None each = bad_line-in_range
+call_or_bad made (Some found) each = each found refl
+
+call_line-in_range : (built : List (List ℕ)) (t : ℕ) (word : List ℕ) (args : List (List ℕ)) → IsWord t → IsInRange (call_line built t word args)
+call_line-in_range built t word args is =
+    call_or_bad (λ made. if is_among word built then line_with t made else later_line) (call_by call_table word args) (λ made found.
+    cond_both (is_among word built) _ _ IsInRange (λ _. line_with-in_range t made is (call_by-ranges call_table table-ranged word args made found)) (λ _. later_line-in_range))
+
 thread_line-in_range : (built : List (List ℕ)) (t : ℕ) (more : List (List ℕ)) → IsWord t → IsInRange (thread_line built t more)
 thread_line-in_range built t [] word = bad_line-in_range
-thread_line-in_range built t (first ∷ args) word = cond_both (is_unbuilt built thread_words first) _ _ IsInRange (λ _. later_line-in_range) (λ _. line_with-in_range t (thread_form first args) word (thread_form-ranges first args).ranges)
+thread_line-in_range built t (first ∷ args) word = cond_both (is_among first lone_words) _ _ IsInRange (λ _. bad_line-in_range) (λ _. call_line-in_range built t first args word)
 
 line_or_bad : (made : ℕ → Line) (o : Option ℕ) → ((t : ℕ) → o ≡ Some t → IsInRange (made t)) → IsInRange (option_map_or made o bad_line)
 line_or_bad made None each = bad_line-in_range
@@ -202,8 +224,7 @@ line_or_bad made (Some t) each = each t refl
 
 spelled_line-in_range : (built : List (List ℕ)) (first : List ℕ) (more : List (List ℕ)) → IsInRange (spelled_line built first more)
 spelled_line-in_range built first more =
-    cond_both (is_among first lone_words) _ _ IsInRange
-    (λ _. cond_both (is_among first built) _ _ IsInRange (λ _. line_with-in_range 0 (lone_form first more) (omega arith) (lone_form-ranges first more).ranges) (λ _. later_line-in_range))
+    cond_both (is_among first lone_words) _ _ IsInRange (λ _. call_line-in_range built 0 first more (omega arith))
     (λ _. line_or_bad (λ t. thread_line built t more) (number_of first) (λ t is. thread_line-in_range built t more (number_of-word first t is)))
 
 line_some : (line : Line) → IsInRange line → ForSome (Some line) IsInRange

@@ -1,5 +1,5 @@
 -- From bytes to calls.
-use Rattle.std.specs.Prelude.{ℕ, ◌==◌, ◌&&◌, nat_le, nat_lt, Bool, false, not, List, [], ◌∷◌, length, if◌then◌else◌, Option, Some, None, codes, option_map}
+use Rattle.std.specs.Prelude.{ℕ, ◌==◌, nat_le, nat_lt, Bool, false, List, [], ◌∷◌, length, map, if◌then◌else◌, Option, Some, None, codes, option_map}
 use Rattle.std.specs.Option.{option_map_or}
 use Rattle.std.specs.List.{filter_map, list_any}
 use Rattle.mg_model.specs.declared.calls.Call.{Call}
@@ -7,61 +7,39 @@ use Rattle.mg_model.specs.declared.calls.Call.TheVariants as call
 use Rattle.mg_model.specs.declared.calls.Line.{Line}
 use Rattle.mg_model.specs.Words.{is_newline, number_of, numbers_of, rights_of, same_bytes, split_at, words}
 
--- whether a word is one of these
-abbrev pub is_among : List ℕ → List (List ℕ) → Bool
-is_among word known = list_any (λ k. same_bytes word k) known
+-- just so many numbers, if these are numbers
+abbrev pub one : Option (List ℕ) → Option ℕ
+one (Some (a ∷ [])) = Some a
+one _ = None
 
--- the call words that come behind a thread's number
-abbrev pub thread_words : List (List ℕ)
-thread_words =
-    codes "load" ∷ codes "store" ∷ codes "create" ∷ codes "delete" ∷ codes "info" ∷ codes "pwadd" ∷ codes "pwdel" ∷ codes "entry" ∷ codes "ext" ∷ codes "recharge"
-    ∷ codes "apdadd" ∷ codes "apddel" ∷ codes "apdlist" ∷ codes "pdx" ∷ codes "ret" ∷ codes "thread" ∷ codes "end" ∷ codes "resume" ∷ codes "turn"
-    ∷ codes "account" ∷ codes "pay" ∷ codes "balance" ∷ []
+abbrev pub two : Option (List ℕ) → Option (ℕ × ℕ)
+two (Some (a ∷ b ∷ [])) = Some (a, b)
+two _ = None
 
--- the call words that stand alone
-abbrev pub lone_words : List (List ℕ)
-lone_words = codes "next" ∷ codes "rent" ∷ []
+abbrev pub three : Option (List ℕ) → Option (ℕ × ℕ × ℕ)
+three (Some (a ∷ b ∷ c ∷ [])) = Some (a, b, c)
+three _ = None
 
--- every call word
-abbrev pub all_words : List (List ℕ)
-all_words = codes "next" ∷ codes "rent" ∷ thread_words
+abbrev pub four : Option (List ℕ) → Option (ℕ × ℕ × ℕ × ℕ)
+four (Some (a ∷ b ∷ c ∷ d ∷ [])) = Some (a, b, c, d)
+four _ = None
 
--- a call without arguments
+-- a call of so many numbers; Bad where there are more or fewer, or a word spells none
 abbrev pub form0 : Call → List (List ℕ) → Call
 form0 made [] = made
 form0 made _ = call.Bad
 
--- a call of so many numbers; Bad where there are more or fewer, or a word spells none
-abbrev pub made1 : (ℕ → Call) → List ℕ → Call
-made1 made (a ∷ []) = made a
-made1 made _ = call.Bad
-
-abbrev pub made2 : (ℕ → ℕ → Call) → List ℕ → Call
-made2 made (a ∷ b ∷ []) = made a b
-made2 made _ = call.Bad
-
-abbrev pub made3 : (ℕ → ℕ → ℕ → Call) → List ℕ → Call
-made3 made (a ∷ b ∷ c ∷ []) = made a b c
-made3 made _ = call.Bad
-
-abbrev pub made4 : (ℕ → ℕ → ℕ → ℕ → Call) → List ℕ → Call
-made4 made (a ∷ b ∷ c ∷ d ∷ []) = made a b c d
-made4 made _ = call.Bad
-
-abbrev pub of_numbers : (List ℕ → Call) → List (List ℕ) → Call
-of_numbers made args = option_map_or made (numbers_of args) call.Bad
-
 abbrev pub form1 : (ℕ → Call) → List (List ℕ) → Call
-form1 made args = of_numbers (made1 made) args
+form1 made args = option_map_or made (one (numbers_of args)) call.Bad
 
 abbrev pub form2 : (ℕ → ℕ → Call) → List (List ℕ) → Call
-form2 made args = of_numbers (made2 made) args
+form2 made args = option_map_or (λ (a, b). made a b) (two (numbers_of args)) call.Bad
 
 abbrev pub form3 : (ℕ → ℕ → ℕ → Call) → List (List ℕ) → Call
-form3 made args = of_numbers (made3 made) args
+form3 made args = option_map_or (λ (a, b, c). made a b c) (three (numbers_of args)) call.Bad
 
 abbrev pub form4 : (ℕ → ℕ → ℕ → ℕ → Call) → List (List ℕ) → Call
-form4 made args = of_numbers (made4 made) args
+form4 made args = option_map_or (λ (a, b, c, d). made a b c d) (four (numbers_of args)) call.Bad
 
 -- `pwadd B RIGHTS` and `pwadd B RIGHTS UNTIL`
 abbrev pub pwadd_of : Option ℕ → Option ℕ → Option (Option ℕ) → Call
@@ -79,38 +57,59 @@ form_pwadd _ = call.Bad
 abbrev pub pdx_of : ℕ → ℕ → Call
 pdx_of a mask = if nat_le mask 255 then call.Pdx a mask else call.Bad
 
--- the call of a call word with these arguments
-abbrev pub thread_form : List ℕ → List (List ℕ) → Call
-thread_form word args =
-    if same_bytes word (codes "load") then form1 (λ a. call.Load a) args
-    else if same_bytes word (codes "store") then form2 (λ a value. call.Store a value) args
-    else if same_bytes word (codes "create") then form3 (λ n account password. call.Create n account password) args
-    else if same_bytes word (codes "delete") then form1 (λ b. call.Delete b) args
-    else if same_bytes word (codes "info") then form1 (λ b. call.Info b) args
-    else if same_bytes word (codes "pwadd") then form_pwadd args
-    else if same_bytes word (codes "pwdel") then form2 (λ b password. call.Pwdel b password) args
-    else if same_bytes word (codes "entry") then form2 (λ b off. call.Entry b off) args
-    else if same_bytes word (codes "ext") then form3 (λ b clist password. call.Ext b clist password) args
-    else if same_bytes word (codes "recharge") then form3 (λ b account password. call.Recharge b account password) args
-    else if same_bytes word (codes "apdadd") then form2 (λ clist password. call.Apdadd clist password) args
-    else if same_bytes word (codes "apddel") then form1 (λ index. call.Apddel index) args
-    else if same_bytes word (codes "apdlist") then form0 call.Apdlist args
-    else if same_bytes word (codes "pdx") then form2 pdx_of args
-    else if same_bytes word (codes "ret") then form0 call.Ret args
-    else if same_bytes word (codes "thread") then form1 (λ pc. call.Thread pc) args
-    else if same_bytes word (codes "end") then form1 (λ i. call.End i) args
-    else if same_bytes word (codes "resume") then form1 (λ i. call.Resume i) args
-    else if same_bytes word (codes "turn") then form0 call.Turn args
-    else if same_bytes word (codes "account") then form3 (λ account password amount. call.Account account password amount) args
-    else if same_bytes word (codes "pay") then form4 (λ account password to amount. call.Pay account password to amount) args
-    else if same_bytes word (codes "balance") then form2 (λ account password. call.Balance account password) args
-    else call.Bad
+-- a call word, and the call that its arguments make
+abbrev pub Row : Type 0
+Row = List ℕ × (List (List ℕ) → Call)
 
-abbrev pub lone_form : List ℕ → List (List ℕ) → Call
-lone_form word args =
-    if same_bytes word (codes "next") then form0 call.Next args
-    else if same_bytes word (codes "rent") then form0 call.Rent args
-    else call.Bad
+-- the calls
+abbrev pub call_table : List Row
+call_table =
+    (codes "load", form1 (λ a. call.Load a))
+    ∷ (codes "store", form2 (λ a value. call.Store a value))
+    ∷ (codes "create", form3 (λ n account password. call.Create n account password))
+    ∷ (codes "delete", form1 (λ b. call.Delete b))
+    ∷ (codes "info", form1 (λ b. call.Info b))
+    ∷ (codes "pwadd", form_pwadd)
+    ∷ (codes "pwdel", form2 (λ b password. call.Pwdel b password))
+    ∷ (codes "entry", form2 (λ b off. call.Entry b off))
+    ∷ (codes "ext", form3 (λ b clist password. call.Ext b clist password))
+    ∷ (codes "recharge", form3 (λ b account password. call.Recharge b account password))
+    ∷ (codes "apdadd", form2 (λ clist password. call.Apdadd clist password))
+    ∷ (codes "apddel", form1 (λ index. call.Apddel index))
+    ∷ (codes "apdlist", form0 call.Apdlist)
+    ∷ (codes "pdx", form2 pdx_of)
+    ∷ (codes "ret", form0 call.Ret)
+    ∷ (codes "thread", form1 (λ pc. call.Thread pc))
+    ∷ (codes "end", form1 (λ i. call.End i))
+    ∷ (codes "resume", form1 (λ i. call.Resume i))
+    ∷ (codes "turn", form0 call.Turn)
+    ∷ (codes "next", form0 call.Next)
+    ∷ (codes "account", form3 (λ account password amount. call.Account account password amount))
+    ∷ (codes "pay", form4 (λ account password to amount. call.Pay account password to amount))
+    ∷ (codes "balance", form2 (λ account password. call.Balance account password))
+    ∷ (codes "rent", form0 call.Rent)
+    ∷ []
+
+-- every call word
+abbrev pub all_words : List (List ℕ)
+all_words = map (λ (row : Row). row.0) call_table
+
+-- the call words that stand alone; before every other one stands the number of a thread
+abbrev pub lone_words : List (List ℕ)
+lone_words = codes "next" ∷ codes "rent" ∷ []
+
+-- the call words that are built today
+abbrev pub built_words : List (List ℕ)
+built_words = codes "load" ∷ codes "store" ∷ codes "info" ∷ []
+
+-- whether a word is one of these
+abbrev pub is_among : List ℕ → List (List ℕ) → Bool
+is_among word known = list_any (λ k. same_bytes word k) known
+
+-- the call that a word and its arguments make by these rows, if one of them has the word
+abbrev pub call_by : List Row → List ℕ → List (List ℕ) → Option Call
+call_by [] word args = None
+call_by ((known, form) ∷ rows) word args = if same_bytes word known then Some (form args) else call_by rows word args
 
 abbrev pub bad_line : Line
 bad_line = record { thread = 0; call = call.Bad }
@@ -123,19 +122,19 @@ abbrev pub line_with : ℕ → Call → Line
 line_with t call.Bad = bad_line
 line_with t made = record { thread = t; call = made }
 
--- whether a call word is known and not among those that are built
-abbrev pub is_unbuilt : List (List ℕ) → List (List ℕ) → List ℕ → Bool
-is_unbuilt built known word = is_among word known && not (is_among word built)
+-- the line of a call word with these arguments; Later where the call is not built, and Bad where there is no such call
+abbrev pub call_line : List (List ℕ) → ℕ → List ℕ → List (List ℕ) → Line
+call_line built t word args = option_map_or (λ made. if is_among word built then line_with t made else later_line) (call_by call_table word args) bad_line
 
 -- behind a thread's number: a call word, and its arguments
 abbrev pub thread_line : List (List ℕ) → ℕ → List (List ℕ) → Line
 thread_line built t [] = bad_line
-thread_line built t (word ∷ args) = if is_unbuilt built thread_words word then later_line else line_with t (thread_form word args)
+thread_line built t (word ∷ args) = if is_among word lone_words then bad_line else call_line built t word args
 
 -- the line that its words spell, of which there is at least one
 abbrev pub spelled_line : List (List ℕ) → List ℕ → List (List ℕ) → Line
 spelled_line built first more =
-    if is_among first lone_words then (if is_among first built then line_with 0 (lone_form first more) else later_line)
+    if is_among first lone_words then call_line built 0 first more
     else option_map_or (λ t. thread_line built t more) (number_of first) bad_line
 
 -- a note begins with #
@@ -160,7 +159,3 @@ line_of built bytes = if nat_lt line_limit (length bytes) then Some bad_line els
 -- newline is one more, and an empty piece spells no line.
 abbrev pub lines : List (List ℕ) → List ℕ → List Line
 lines built bytes = filter_map (line_of built) (split_at is_newline bytes)
-
--- the call words that are built today
-abbrev pub built_words : List (List ℕ)
-built_words = codes "load" ∷ codes "store" ∷ codes "info" ∷ []
