@@ -64,24 +64,3 @@ impl Geometry {
         }
     }
 }
-
-#[cfg(test)]
-mod tests {
-    use super::*;
-
-    #[test]
-    fn places(rt: HostRuntime) {
-        let small = Geometry {
-            total: 2660,
-            table: 1,
-            first_frame: 2596,
-        };
-        let large = Geometry {
-            total: 68_259,
-            table: 128,
-            first_frame: 2723,
-        };
-        assert_eq!(rt; Geometry::of(64), small);
-        assert_eq!(rt; Geometry::of(65_536), large);
-    }
-}

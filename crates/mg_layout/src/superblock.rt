@@ -126,34 +126,3 @@ pub(crate) fn settings_keep_rules(p: &Params)
     let _seed = p.seed();
     let _steps = p.tariff().steps();
 }
-
-#[cfg(test)]
-mod tests {
-    use super::*;
-
-    #[test]
-    fn a_changed_superblock(rt: HostRuntime) {
-        let mut block: Block = [0; BLOCK_SIZE];
-        let params = Params::new(64, [0; 32], 1000, Tariff::usual(64));
-        if let Some(p) = params {
-            write_super(&p, &mut block);
-            assert_eq!(rt; read_super(&block), Super::Is(p));
-        }
-        let changes = [
-            (0, 0x6d, Super::Not),
-            (8, 0, Super::Old),
-            (8, 1, Super::Old),
-            (8, 9, Super::Damaged),
-            (16, 15, Super::Damaged),
-            (31, 0x40, Super::Damaged),
-            (200, 1, Super::Damaged),
-        ];
-        for (at, byte, answer) in changes {
-            let mut changed = block;
-            if let Some(place) = changed.get_mut(at) {
-                *place = byte;
-            }
-            assert_eq!(rt; read_super(&changed), answer, "byte {at}");
-        }
-    }
-}

@@ -51,6 +51,3 @@ pub use steps::Steps;
 pub use tariffs::Tariff;
 pub use thread_rows::ThrRow;
 pub use threads::{Fault, ThrState};
-
-#[cfg(test)]
-mod tests;

@@ -54,28 +54,3 @@ fn spelling(row: &AccRow) -> [u8; ROW]
     filling.add_words(&[1, row.password, row.balance, row.owed]);
     filling.whole()
 }
-
-#[cfg(test)]
-mod tests {
-    use super::*;
-
-    #[test]
-    fn an_account_and_a_free_row(rt: HostRuntime) {
-        let row = AccRow {
-            password: 0x0102,
-            balance: 7,
-            owed: 256,
-        };
-        let mut bytes = [9; 64];
-        write_account(None, &mut bytes);
-        assert_eq!(rt; read_account(&bytes), Some(Spelled::Free));
-        write_account(Some(&row), &mut bytes);
-        assert_eq!(rt;
-            bytes[..18],
-            [1, 0, 0, 0, 0, 0, 0, 0, 2, 1, 0, 0, 0, 0, 0, 0, 7, 0][..]
-        );
-        assert_eq!(rt; read_account(&bytes), Some(Spelled::Row(row)));
-        bytes[63] = 1;
-        assert_eq!(rt; read_account(&bytes), None);
-    }
-}

@@ -47,22 +47,3 @@ fn spelling(g: &Globals) -> Block
     filling.add_words(&[g.draws(), g.period(), g.cursor(), g.births()]);
     filling.whole()
 }
-
-#[cfg(test)]
-mod tests {
-    use super::*;
-
-    #[test]
-    fn globals_and_one_byte_off(rt: HostRuntime) {
-        let globals = Globals::new(2, 3, 256, 1);
-        let mut block: Block = [7; 4096];
-        write_globals(&globals, &mut block);
-        assert_eq!(rt; block[16..26], [0, 1, 0, 0, 0, 0, 0, 0, 1, 0][..]);
-        assert_eq!(rt; read_globals(&block), Some(globals));
-        for at in [0, 11, 18, 24, 4095] {
-            let mut other = block;
-            other[at] = if at == 24 { 0 } else { 1 };
-            assert_eq!(rt; read_globals(&other), None, "byte {at}");
-        }
-    }
-}

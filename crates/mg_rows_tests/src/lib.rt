@@ -1,0 +1,13 @@
+//! Tests of rows, settings and places: bytes and numbers that no contract spells out.
+//!
+//! They stand above `mg_model`, `mg_rows` and `mg_layout`, over their public calls, so that those are proved once. A contract
+//! there says of each call what its definition answers; here are bytes of rows, a superblock and a fresh volume that were
+//! worked out by hand from docs/VOLUME.md, and passwords that RFC 8439 prints.
+#![tactic(auto)]
+
+#[cfg(test)]
+mod layout;
+#[cfg(test)]
+mod model;
+#[cfg(test)]
+mod rows;
