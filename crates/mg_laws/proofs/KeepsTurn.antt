@@ -1,6 +1,7 @@
 -- A thread's calls and its turns keep the state well formed.
-use Rattle.std.proofs.Common.{ℕ, ◌+◌, ◌*◌, ◌%◌, ◌^◌, ◌≤◌, ◌≡◌, Bool, not, cond, eqb, leb, ltb, ◌&&◌, length, Option, Some, None, refl, sym, ◌∙◌, subst, arith}
+use Rattle.std.proofs.Common.{ℕ, ◌+◌, ◌*◌, ◌%◌, ◌^◌, ◌≤◌, ◌≡◌, Bool, not, cond, eqb, leb, ltb, ◌&&◌, All, ◌∷◌, length, Option, Some, None, refl, sym, ◌∙◌, subst, arith}
 use Rattle.std.proofs.lemmas.Bool.{and_parts, cond_both, leb-true}
+use Rattle.std.proofs.lemmas.List.Elements.{All-cons}
 use Rattle.std.proofs.lemmas.Option.{same_Some}
 use Rattle.std.proofs.Math.Nat.{mod-lt}
 use Rattle.std.specs.Option.{ForSome, option_map_or, option_or}
@@ -24,7 +25,7 @@ use Rattle.mg_laws.proofs.KeepsObjects.{delete-keeps, entry-keeps, ext-keeps, in
 use Rattle.mg_laws.proofs.KeepsRows.{KeepsRow, row-formed, with_thread-keeps}
 use Rattle.mg_laws.proofs.KeepsThreads.{end_thread-keeps, make_thread-keeps, resume-keeps}
 use Rattle.mg_laws.proofs.KeptObjects.{AreObjects-with_word}
-use Rattle.mg_laws.proofs.KeptRegisters.{HasImmediate, advanced-keeps, decoded-immediate, jumped-keeps, kept_register, kept_same, kept_state, register-word, settled-keeps, settled_call-keeps}
+use Rattle.mg_laws.proofs.KeptRegisters.{HasImmediate, advanced-keeps, decoded-immediate, jumped-keeps, kept_register, kept_registers, kept_same, kept_state, refusal_number-word, register-word}
 use Rattle.mg_model.specs.Objects.{with_word, word_at}
 use Rattle.mg_model.specs.Ranges.{IsThreadRow, IsWord}
 use Rattle.mg_model.specs.Refused.{Answer}
@@ -32,7 +33,7 @@ use Rattle.mg_laws.proofs.ReplyWords.{thread_call-words, word_at-word}
 use Rattle.mg_model.specs.Script.{decoded, jumped, operand, register, with_register}
 use Rattle.mg_model.specs.State.{State, Thread, ThreadRow}
 use Rattle.mg_laws.proofs.KeepsBank.{balance-keeps, open_account-keeps, pay-keeps}
-use Rattle.mg_model.specs.Turn.{advanced, call_settled, faulted, is_ready, next, picked, put_row, ready_above, run, run_next, run_word, settled, settled_call, spelled, spelled_pwadd, thread_call, turn, turn_state, turned, unless_faulted}
+use Rattle.mg_model.specs.Turn.{advanced, faulted, is_ready, next, picked, put_row, ready_above, refusal_number, run, run_next, run_word, seen, spelled, spelled_pwadd, thread_call, turn, turn_state, turned, unless_faulted, values_of, with_registers}
 use Rattle.mg_model.specs.WellFormed.{HasRanges, IsThread, IsWellFormed}
 
 pub thread_call-keeps : (state : State) (t : ℕ) (made : Call) → IsWellFormed state → HasRanges made → IsWellFormed (thread_call state t made).0
@@ -109,8 +110,10 @@ unless_faulted-keeps state t address may done formed after =
     (λ _. cond_both (not may) _ _ IsWellFormed (λ _. faulted-keeps state t fault.Denied formed) (λ _. after))
 
 -- a call by a script
-call_settled-keeps : (answer : Answer) (t : ℕ) (sees : Reply → ThreadRow → ThreadRow) → IsWellFormed answer.0 → ((row : ThreadRow) → IsThreadRow row → KeepsRow row (sees answer.1 row)) → IsWellFormed (call_settled answer t sees)
-call_settled-keeps answer t sees formed keeps = with_thread-keeps answer.0 t (sees answer.1) formed (λ row _ is. keeps row is)
+seen-keeps : (t : ℕ) (on_ok : Reply → ThreadRow → ThreadRow) (answer : Answer) → IsWellFormed answer.0 → ((row : ThreadRow) → IsThreadRow row → KeepsRow row (on_ok answer.1 row)) → IsWellFormed (seen t on_ok answer)
+seen-keeps t on_ok (state, reply.No word) formed keeps =
+    with_thread-keeps state t (λ thread. with_register thread 0 (refusal_number word)) formed (λ row _ is. kept_register row row 0 (refusal_number word) (kept_same row is) (refusal_number-word word))
+seen-keeps t on_ok (state, said) formed keeps = with_thread-keeps state t (on_ok said) formed (λ row _ is. keeps row is)
 
 -- another word of an object
 pub with_word-keeps : (state : State) (a value : ℕ) → IsWellFormed state → IsWord value → IsWellFormed (record state { objects = with_word state.objects a value })
@@ -146,21 +149,23 @@ module _ (state : State) (t : ℕ) (row thread : ThreadRow) (here : ℕ) (formed
       let mask : ℕ = register thread b in
       let before : State = put_row state t thread in
       let formed' : IsWellFormed before = put_row-keeps state t row thread formed there kept in
-      call_settled-keeps (cond (ltb 255 mask) (before, reply.No refusal.Syntax) (pdx before t (register thread a) mask)) t (settled_call (λ entered. with_register entered 0 0))
+      seen-keeps t (λ _ entered. with_register entered 0 0) (cond (ltb 255 mask) (before, reply.No refusal.Syntax) (pdx before t (register thread a) mask))
       (cond_both (ltb 255 mask) (before, reply.No refusal.Syntax) (pdx before t (register thread a) mask) (λ (answer : Answer). IsWellFormed answer.0)
       (λ _. formed')
       (λ _. pdx-keeps before t (register thread a) mask formed' (register-word thread a kept.row)))
-      (λ r is. settled_call-keeps (λ entered. with_register entered 0 0) _ r is (kept_register r r 0 0 (kept_same r is) (omega arith)))
+      (λ r is. kept_register r r 0 0 (kept_same r is) (omega arith))
   run-keeps op.Ret has =
       let before : State = put_row state t thread in
       let formed' : IsWellFormed before = put_row-keeps state t row thread formed there kept in
-      call_settled-keeps (ret before t) t (settled_call (λ returned. returned)) (ret-keeps before t formed') (λ r is. settled_call-keeps (λ returned. returned) _ r is (kept_same r is))
+      seen-keeps t (λ _ returned. returned) (ret before t) (ret-keeps before t formed') (λ r is. kept_same r is)
   run-keeps op.Yield has = put_row-keeps state t row thread formed there kept
   run-keeps op.Sys has =
       let before : State = put_row state t thread in
       let formed' : IsWellFormed before = put_row-keeps state t row thread formed there kept in
-      call_settled-keeps (thread_call before t (spelled thread)) t settled (thread_call-keeps before t (spelled thread) formed' (spelled-ranges thread kept.row))
-      (λ r is. settled-keeps _ r is (thread_call-words before t (spelled thread) formed').words)
+      let answer : Answer = thread_call before t (spelled thread) in
+      let words : All IsWord (0 ∷ values_of answer.1) = All-cons IsWord 0 (values_of answer.1) (omega arith) (thread_call-words before t (spelled thread) formed').words in
+      seen-keeps t (λ said caller. with_registers caller 0 (0 ∷ values_of said)) answer (thread_call-keeps before t (spelled thread) formed' (spelled-ranges thread kept.row))
+      (λ r is. kept_registers r r 0 (0 ∷ values_of answer.1) (kept_same r is) words)
 
 -- the turn of a thread that lives
 run_word-keeps : (state : State) (t : ℕ) (row : ThreadRow) (o : Option Instr) → IsWellFormed state → row_of state t ≡ Some row → ForSome o HasImmediate → IsWellFormed (run_word state t row o)

@@ -17,7 +17,7 @@ use Rattle.mg_laws.proofs.KeepsRows.{KeepsRow}
 use Rattle.mg_model.specs.Ranges.{IsThreadRow, IsWord}
 use Rattle.mg_model.specs.Script.{decoded, instruction_of, jump_by, jumped, register, where_so, with_register, word_end}
 use Rattle.mg_model.specs.State.{ThreadRow}
-use Rattle.mg_model.specs.Turn.{advanced, refusal_number, settled, settled_call, values_of, with_registers}
+use Rattle.mg_model.specs.Turn.{advanced, refusal_number, with_registers}
 
 -- a number in a list of words, also past its end
 pub word-in_list : (words : List ℕ) (k : ℕ) → All IsWord words → IsWord (get_or words k 0)
@@ -115,14 +115,6 @@ kept_registers row next k (value ∷ values) kept all =
 pub refusal_number-word : (word : Refusal) → IsWord (refusal_number word)
 refusal_number-word refusal.Later = omega arith
 refusal_number-word _ = omega arith
-
-pub settled-keeps : (answer : Reply) (row : ThreadRow) → IsThreadRow row → All IsWord (values_of answer) → KeepsRow row (settled answer row)
-settled-keeps (reply.No word) row is words = kept_register row row 0 (refusal_number word) (kept_same row is) (refusal_number-word word)
-settled-keeps other row is words = kept_registers row row 0 (0 ∷ values_of other) (kept_same row is) (All-cons IsWord 0 (values_of other) (omega arith) words)
-
-pub settled_call-keeps : (on_ok : ThreadRow → ThreadRow) (answer : Reply) (row : ThreadRow) → IsThreadRow row → KeepsRow row (on_ok row) → KeepsRow row (settled_call on_ok answer row)
-settled_call-keeps on_ok (reply.No word) row is kept = kept_register row row 0 (refusal_number word) (kept_same row is) (refusal_number-word word)
-settled_call-keeps on_ok _ row is kept = kept
 
 -- an immediate has 32 bits
 abbrev pub HasImmediate : Instr → Type 0

@@ -65,7 +65,8 @@ make_thread state t pc =
       Count number,
     )
 
--- whether thread i was created by thread t, which lives
+-- Whether thread i was created by thread t. Numbers are used again and births are not, so it is told by the births. Thread
+-- 1 was created by none: the birth 0 of its creator is no thread's.
 abbrev pub is_created_by : State → ℕ → ℕ → Bool
 is_created_by state t i = creator_of state i == birth_of state t
 

@@ -27,8 +27,8 @@ use Rattle.mg_model.specs.Script.{decoded, jumped, operand, register, with_regis
 use Rattle.mg_model.specs.State.{State, Thread, ThreadRow}
 use Rattle.mg_model.specs.Threads.{end_thread, make_thread, resume}
 
--- The calls of a thread that lives, but for its turn: what a line reaches, and a script too. `turn`, `next` and `rent`
--- are no calls of this kind.
+-- The calls of a thread that lives, but for its turn: a line makes them, and a script too. None of the other five comes
+-- here but Bad, which a script makes by registers that spell no call: `step` has rows of its own for them.
 abbrev pub thread_call : State → ℕ → Call → Answer
 thread_call state t (call.Load a) = load state t a
 thread_call state t (call.Store a value) = store state t a value
@@ -51,13 +51,9 @@ thread_call state t (call.Resume i) = resume state t i
 thread_call state t (call.Account account password amount) = open_account state account password amount
 thread_call state t (call.Pay account password to amount) = pay state account password to amount
 thread_call state t (call.Balance account password) = balance state account password
-thread_call state t call.Turn = (state, reply.No refusal.Syntax)
-thread_call state t call.Next = (state, reply.No refusal.Syntax)
-thread_call state t call.Rent = (state, reply.No refusal.Syntax)
-thread_call state t call.Bad = (state, reply.No refusal.Syntax)
-thread_call state t call.Later = (state, reply.No refusal.Later)
+thread_call state t other = (state, reply.No refusal.Syntax)
 
--- the number of a refusal, as a script sees it
+-- The number of a refusal, as a script sees it. No call of a thread is refused by Later, so no script sees its number.
 abbrev pub refusal_number : Refusal → ℕ
 refusal_number refusal.Syntax = 1
 refusal_number refusal.NoThread = 2
@@ -81,7 +77,7 @@ refusal_number refusal.Idle = 19
 refusal_number refusal.Credit = 20
 refusal_number refusal.Calendar = 21
 refusal_number refusal.Past = 22
-refusal_number refusal.Later = 0
+refusal_number refusal.Later = 23
 
 -- the rights of a `pwadd` by a script are given as their bits
 abbrev pub spelled_pwadd : ℕ → ℕ → Option ℕ → Call
@@ -132,19 +128,11 @@ abbrev pub with_registers : ThreadRow → ℕ → List ℕ → ThreadRow
 with_registers thread k [] = thread
 with_registers thread k (value ∷ values) = with_registers (with_register thread k value) (k + 1) values
 
--- what a script sees of a reply: register 0 is 0 and the values follow, or it is the refusal's number
-abbrev pub settled : Reply → ThreadRow → ThreadRow
-settled (reply.No word) thread = with_register thread 0 (refusal_number word)
-settled said thread = with_registers thread 0 (0 ∷ values_of said)
-
--- the same where only a refusal is seen, and register 0 becomes this where the call was ok
-abbrev pub settled_call : (ThreadRow → ThreadRow) → Reply → ThreadRow → ThreadRow
-settled_call on_ok (reply.No word) thread = with_register thread 0 (refusal_number word)
-settled_call on_ok said thread = on_ok thread
-
--- a call made by a script, and what the thread sees of its reply
-abbrev pub call_settled : Answer → ℕ → (Reply → ThreadRow → ThreadRow) → State
-call_settled answer t sees = with_thread answer.0 t (sees answer.1)
+-- A call by a script, and what its thread sees of the answer. Where the call is refused, register 0 gets the refusal's
+-- number; where it is ok, the row changes so.
+abbrev pub seen : ℕ → (Reply → ThreadRow → ThreadRow) → Answer → State
+seen t on_ok (state, reply.No word) = with_thread state t (λ thread. with_register thread 0 (refusal_number word))
+seen t on_ok (state, said) = with_thread state t (on_ok said)
 
 -- the thread faults, and nothing else of it changes
 abbrev pub faulted : State → ℕ → Fault → State
@@ -179,12 +167,12 @@ run state t here thread (op.Jump i) = put_row state t (jumped thread here i)
 run state t here thread (op.Jz a i) = put_row state t (if register thread a == 0 then jumped thread here i else thread)
 run state t here thread (op.Jnz a i) = put_row state t (if register thread a == 0 then thread else jumped thread here i)
 run state t here thread (op.Pdx a b) =
-    let mask = register thread b in
     let before = put_row state t thread in
-    call_settled (if nat_lt 255 mask then (before, reply.No refusal.Syntax) else pdx before t (register thread a) mask) t (settled_call (λ entered. with_register entered 0 0))
-run state t here thread op.Ret = call_settled (ret (put_row state t thread) t) t (settled_call (λ returned. returned))
+    let mask = register thread b in
+    seen t (λ _ entered. with_register entered 0 0) (if nat_lt 255 mask then (before, reply.No refusal.Syntax) else pdx before t (register thread a) mask)
+run state t here thread op.Ret = seen t (λ _ returned. returned) (ret (put_row state t thread) t)
 run state t here thread op.Yield = put_row state t thread
-run state t here thread op.Sys = call_settled (thread_call (put_row state t thread) t (spelled thread)) t settled
+run state t here thread op.Sys = seen t (λ said caller. with_registers caller 0 (0 ∷ values_of said)) (thread_call (put_row state t thread) t (spelled thread))
 
 -- the pc is first advanced by the width of a word
 abbrev pub advanced : ThreadRow → ThreadRow
