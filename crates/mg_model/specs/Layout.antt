@@ -86,3 +86,124 @@ first_frame frames = table_block + table_blocks frames
 -- how many blocks a volume of so many frames needs
 abbrev pub total_blocks : ℕ → ℕ
 total_blocks frames = first_frame frames + frames
+
+-- Within a row every number has 8 bytes, and word 0 of a live row is 1. An account's words behind it:
+abbrev pub account_password : ℕ
+account_password = 8
+
+abbrev pub account_balance : ℕ
+account_balance = 16
+
+abbrev pub account_owed : ℕ
+account_owed = 24
+
+-- an object's words, of which the last three are its extension: whether there is one, its base and its password
+abbrev pub object_base : ℕ
+object_base = 8
+
+abbrev pub object_pages : ℕ
+object_pages = 16
+
+abbrev pub object_account : ℕ
+object_account = 24
+
+abbrev pub object_password_count : ℕ
+object_password_count = 32
+
+abbrev pub object_entry_count : ℕ
+object_entry_count = 40
+
+abbrev pub object_extended : ℕ
+object_extended = 48
+
+abbrev pub object_extension_base : ℕ
+object_extension_base = 56
+
+abbrev pub object_extension_password : ℕ
+object_extension_password = 64
+
+-- its columns: the passwords, their rights in a byte each, the entries, and the passwords' untils; zeros from `object_end` on
+abbrev pub object_passwords : ℕ
+object_passwords = 80
+
+abbrev pub object_rights : ℕ
+object_rights = 336
+
+abbrev pub object_entries : ℕ
+object_entries = 368
+
+abbrev pub object_untils : ℕ
+object_untils = 496
+
+abbrev pub object_end : ℕ
+object_end = 752
+
+-- a thread's words, its registers, and its frames
+abbrev pub thread_birth : ℕ
+thread_birth = 8
+
+abbrev pub thread_creator : ℕ
+thread_creator = 16
+
+abbrev pub thread_pc : ℕ
+thread_pc = 24
+
+abbrev pub thread_state : ℕ
+thread_state = 32
+
+abbrev pub thread_frame_count : ℕ
+thread_frame_count = 40
+
+abbrev pub thread_registers : ℕ
+thread_registers = 64
+
+abbrev pub thread_frames : ℕ
+thread_frames = 128
+
+-- a frame of a thread: it begins with where it returns to; then how many slots it has, and the slots, each a base and a password
+abbrev pub frame_size : ℕ
+frame_size = 144
+
+abbrev pub frame_slot_count : ℕ
+frame_slot_count = 8
+
+abbrev pub frame_slots : ℕ
+frame_slots = 16
+
+abbrev pub slot_size : ℕ
+slot_size = 16
+
+abbrev pub slot_password : ℕ
+slot_password = 8
+
+-- the words of the globals
+abbrev pub globals_draws : ℕ
+globals_draws = 0
+
+abbrev pub globals_period : ℕ
+globals_period = 8
+
+abbrev pub globals_cursor : ℕ
+globals_cursor = 16
+
+abbrev pub globals_births : ℕ
+globals_births = 24
+
+-- the superblock behind its magic: the version, the frames, the credits, the seed of 32 bytes, and four steps of two words
+abbrev pub super_version : ℕ
+super_version = 8
+
+abbrev pub super_frames : ℕ
+super_frames = 16
+
+abbrev pub super_credits : ℕ
+super_credits = 24
+
+abbrev pub super_seed : ℕ
+super_seed = 32
+
+abbrev pub super_tariff : ℕ
+super_tariff = 64
+
+abbrev pub step_size : ℕ
+step_size = 16
