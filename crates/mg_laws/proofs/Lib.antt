@@ -13,9 +13,11 @@ mod KeptObjects
 mod KeptRegisters
 mod KeptRent
 mod KeptRowAt
+mod LeastNumber
 mod LinesInRange
 mod Lowest
 mod LowestPages
+mod NextReady
 mod Passed
 mod RefusedLeaves
 mod ReplyWords

@@ -4,16 +4,19 @@ use Rattle.mg_model.specs.declared.calls.Call.{Call}
 use Rattle.mg_model.specs.declared.calls.Call.TheVariants as call
 use Rattle.mg_model.specs.declared.calls.Line.{Line}
 use Rattle.mg_model.specs.declared.replies.Refusal.{Refusal}
-use Rattle.mg_model.specs.declared.replies.Reply.TheVariants.{No}
+use Rattle.mg_model.specs.declared.replies.Refusal.TheVariants.{Idle}
+use Rattle.mg_model.specs.declared.replies.Reply.{Reply}
+use Rattle.mg_model.specs.declared.replies.Reply.TheVariants.{No, Ran}
 use Rattle.mg_model.specs.declared.rights.Right.{Right}
 use Rattle.mg_model.specs.declared.threads.ThrState.{ThrState}
-use Rattle.mg_model.specs.Access.{at, domain_of}
+use Rattle.mg_model.specs.Access.{at, domain_of, thread_of}
 use Rattle.mg_model.specs.Domains.{with_thread}
 use Rattle.mg_model.specs.Limits.{first_page, page_end}
 use Rattle.mg_model.specs.Objects.{is_free}
 use Rattle.mg_model.specs.Refused.{Answer}
 use Rattle.mg_model.specs.Settings.{Settings}
-use Rattle.mg_model.specs.State.{Object, State}
+use Rattle.mg_model.specs.State.{Object, State, Thread}
+use Rattle.mg_model.specs.Turn.{thread_is_ready}
 use Rattle.mg_model.specs.WellFormed.{AreObjects, IsInRange, IsSettings, IsWellFormed}
 
 -- the state of settings within their limits is well formed
@@ -77,3 +80,32 @@ pub record IsLowestOf (objects : List Object) (n page : ℕ) : Type 0 where
 -- the same in words of addresses, in each state that is well formed
 abbrev pub TakesLowest : (List Object → ℕ → ℕ) → Type 0
 TakesLowest lowest = (state : State) (n : ℕ) → IsWellFormed state → 1 ≤ n → n ≤ 1024 → IsLowestOf state.objects n (lowest state.objects n)
+
+-- the least number, from 1 on, that no thread has
+pub record IsLeastFree (state : State) (number : ℕ) : Type 0 where
+  pub some : 1 ≤ number
+  pub free : thread_of state number ≡ None
+  pub least : (other : ℕ) → 1 ≤ other → thread_of state other ≡ None → number ≤ other
+
+-- a new thread gets that number
+abbrev pub TakesLeastNumber : (List Thread → ℕ) → Type 0
+TakesLeastNumber free = (state : State) → IsWellFormed state → IsLeastFree state (free state.threads)
+
+-- The thread that runs next: a Ready one. Where it is above the cursor it is the least Ready one there; else no Ready one is
+-- above the cursor, and it is the least of all.
+pub record IsNextReady (state : State) (number : ℕ) : Type 0 where
+  pub ready : thread_is_ready state number ≡ true
+  pub above : state.counters.cursor < number → (other : ℕ) → thread_is_ready state other ≡ true → state.counters.cursor < other → number ≤ other
+  pub around : number ≤ state.counters.cursor → (other : ℕ) → thread_is_ready state other ≡ true → (other ≤ state.counters.cursor) × (number ≤ other)
+
+-- no thread is Ready
+abbrev pub NoneReady : State → Type 0
+NoneReady state = (number : ℕ) → thread_is_ready state number ≡ true → ⊥
+
+-- what `next` answers in a state
+abbrev pub RanNext : State → Reply → Type 0
+RanNext state (Ran number left) = IsNextReady state number
+RanNext state other = (other ≡ No Idle) × NoneReady state
+
+abbrev pub RunsNextReady : (State → Answer) → Type 0
+RunsNextReady next = (state : State) → IsWellFormed state → RanNext state (next state).1

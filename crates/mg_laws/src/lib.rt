@@ -6,10 +6,12 @@
 
 ghost use Rattle.mg_model.specs.Access.{allowed};
 ghost use Rattle.mg_model.specs.Fresh.{fresh};
-ghost use Rattle.mg_laws.specs.Laws.{AnswersWhateverState, BeginsWellFormed, FindsLowest, ReadsInRange, RefusedLeaves, RestsOnDomain, RunsKeepWellFormed, TakesLowest};
+ghost use Rattle.mg_laws.specs.Laws.{AnswersWhateverState, BeginsWellFormed, FindsLowest, ReadsInRange, RefusedLeaves, RestsOnDomain, RunsKeepWellFormed, RunsNextReady, TakesLeastNumber, TakesLowest};
 ghost use Rattle.mg_model.specs.Lines.{lines};
 ghost use Rattle.mg_model.specs.Objects.{lowest_free};
 ghost use Rattle.mg_model.specs.Step.{after, step};
+ghost use Rattle.mg_model.specs.Threads.{free_number};
+ghost use Rattle.mg_model.specs.Turn.{next};
 ghost use Rattle.mg_model.specs.WellFormed.{KeepsWellFormed};
 
 /// The fresh state of any settings is well formed, and each step keeps a state well formed: numbers stay in their ranges,
@@ -42,4 +44,15 @@ pub fn lines_are_answered_in_every_state()
 pub fn free_pages_are_found()
     ensures found { FindsLowest lowest_free }
     ensures taken { TakesLowest lowest_free }
+{}
+
+/// A new thread gets the least number, from 1 on, that no thread has.
+pub fn free_numbers_are_least()
+    ensures { TakesLeastNumber free_number }
+{}
+
+/// `next` runs a Ready thread: the least above the cursor, or the least of all where none is above. It is answered Idle
+/// where no thread is Ready.
+pub fn next_runs_the_least_ready_thread()
+    ensures { RunsNextReady next }
 {}
