@@ -1,5 +1,4 @@
-pub mod Arguments
-pub mod Forms
+pub mod BuiltLines
 pub mod Letters
 pub mod Pieces
 pub mod Texts

@@ -5,6 +5,8 @@
 //! the definitions in `mg_model` say (`Words`, `Lines`, `Print`). Only the words for the code's own steps stand in `specs/`.
 #![tactic(auto)]
 
+mod args;
+mod calls;
 mod lines;
 mod numbers;
 mod outcomes;

@@ -1,9 +1,10 @@
 // From the bytes of a line to its call.
-ghost use Rattle.std.specs.Prelude.{◌≡◌};
-ghost use Rattle.mg_model.specs.Lines.{built_words, is_among, is_note, line_of, spelled_line, thread_line};
-ghost use Rattle.mg_model.specs.Words.{numbers_of, words};
-ghost use Rattle.mg_text.specs.Calls.{call_of, exactly, unbuilt_words};
+ghost use Rattle.std.specs.Prelude.{◌≡◌, IfSome};
+ghost use Rattle.mg_model.specs.Built.{IsBuilt};
+ghost use Rattle.mg_model.specs.Lines.{built_words, call_line, is_among, is_note, line_of, line_with, lone_words, spelled_line, thread_line};
+ghost use Rattle.mg_model.specs.Words.{words};
 
+use crate::calls::read_call;
 use crate::numbers::read_number;
 use crate::words::{is_word, next_word};
 use mg_model::{Call, Line};
@@ -24,9 +25,10 @@ const LATER: Line = Line {
 };
 
 /// The call that a line spells, given without its newline; None where the line has no words or is a note. A line of more
-/// than 256 bytes is `Bad`, whatever it holds, and so is one of no form.
+/// than 256 bytes is `Bad`, whatever it holds, and so is one of no form; one of a call that is not built yet is `Later`.
 pub fn read_line(bytes: &[u8]) -> Option<Line>
-    ensures { result ≡ line_of built_words bytes.now }
+    ensures line { result ≡ line_of built_words bytes.now }
+    ensures built { IfSome result IsBuilt }
 {
     if bytes.len() > LINE_LIMIT {
         return Some(BAD);
@@ -53,98 +55,69 @@ fn note(word: &[u8]) -> bool
 fn spelled(first: &[u8], more: &[u8]) -> Line
     ensures { result ≡ spelled_line built_words first.now (words more.now) }
 {
-    if is_word(first, b"next") || is_word(first, b"rent") {
-        return LATER;
+    if stands_alone(first) {
+        return call_by(0, first, more);
     }
     match read_number(first) {
-        Some(thread) => call_by(thread, more),
+        Some(thread) => thread_call(thread, more),
         None => BAD,
     }
 }
 
-/// The line of a thread's call.
-fn call_by(thread: u64, more: &[u8]) -> Line
+/// The line of a thread, and of the words in the bytes behind its number.
+fn thread_call(thread: u64, more: &[u8]) -> Line
     ensures { result ≡ thread_line built_words thread (words more.now) }
 {
     match next_word(more) {
         None => BAD,
-        Some((word, args)) => match read_call(word, args) {
-            Call::Bad => BAD,
-            Call::Later => LATER,
-            call => Line { thread, call },
-        },
+        Some((word, args)) => {
+            if stands_alone(word) {
+                BAD
+            } else {
+                call_by(thread, word, args)
+            }
+        }
     }
 }
 
-/// The call of a call word, and of the arguments in the bytes behind it; `Later` where it is not built yet.
-fn read_call(word: &[u8], args: &[u8]) -> Call
-    ensures { result ≡ call_of word.now (words args.now) }
+/// The line of a call word, and of the words in the bytes behind it.
+fn call_by(thread: u64, word: &[u8], args: &[u8]) -> Line
+    ensures { result ≡ call_line built_words thread word.now (words args.now) }
 {
-    if is_word(word, b"load") {
-        match numbers::<1>(args) {
-            Some(found) => Call::Load { a: found[0] },
-            None => Call::Bad,
+    match read_call(word, args) {
+        None => BAD,
+        Some(call) => {
+            if built(word) {
+                line_with(thread, call)
+            } else {
+                LATER
+            }
         }
-    } else if is_word(word, b"store") {
-        match numbers::<2>(args) {
-            Some(found) => Call::Store {
-                a: found[0],
-                value: found[1],
-            },
-            None => Call::Bad,
-        }
-    } else if is_word(word, b"info") {
-        match numbers::<1>(args) {
-            Some(found) => Call::Info { base: found[0] },
-            None => Call::Bad,
-        }
-    } else if unbuilt(word) {
-        Call::Later
-    } else {
-        Call::Bad
     }
 }
 
-/// Exactly `N` numbers, if that is what these bytes spell.
-fn numbers<const N: usize>(args: &[u8]) -> Option<[u64; N]>
-    ensures { result ≡ exactly N (numbers_of (words args.now)) }
+/// The line of a call that was read.
+fn line_with(thread: u64, call: Call) -> Line
+    ensures { result ≡ line_with thread call }
 {
-    let mut found = [0; N];
-    let mut rest = args;
-    for i in 0..N {
-        let (word, more) = next_word(rest)?;
-        found[i] = read_number(word)?;
-        rest = more;
-    }
-    match next_word(rest) {
-        None => Some(found),
-        Some(_) => None,
+    match call {
+        Call::Bad => BAD,
+        call => Line { thread, call },
     }
 }
 
-/// Whether a word is the word of a call that is not built yet.
-fn unbuilt(word: &[u8]) -> bool
-    ensures { result ≡ is_among word.now unbuilt_words }
+/// Whether a call word stands alone on its line, behind no thread's number.
+fn stands_alone(word: &[u8]) -> bool
+    ensures { result ≡ is_among word.now lone_words }
 {
-    is_word(word, b"create")
-        || is_word(word, b"delete")
-        || is_word(word, b"pwadd")
-        || is_word(word, b"pwdel")
-        || is_word(word, b"entry")
-        || is_word(word, b"ext")
-        || is_word(word, b"recharge")
-        || is_word(word, b"apdadd")
-        || is_word(word, b"apddel")
-        || is_word(word, b"apdlist")
-        || is_word(word, b"pdx")
-        || is_word(word, b"ret")
-        || is_word(word, b"thread")
-        || is_word(word, b"end")
-        || is_word(word, b"resume")
-        || is_word(word, b"turn")
-        || is_word(word, b"account")
-        || is_word(word, b"pay")
-        || is_word(word, b"balance")
+    is_word(word, b"next") || is_word(word, b"rent")
+}
+
+/// Whether a word is the word of a call that is built.
+fn built(word: &[u8]) -> bool
+    ensures { result ≡ is_among word.now built_words }
+{
+    is_word(word, b"load") || is_word(word, b"store") || is_word(word, b"info")
 }
 
 #[cfg(test)]
