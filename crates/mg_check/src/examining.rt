@@ -180,36 +180,3 @@ fn settle<D: Disk>(alloc: Global, disk: &mut D, p: &Params) -> Result<Summary, R
     let view = look_through(alloc, disk, total)?;
     tell_rows(alloc, &view, disk, p)
 }
-
-#[cfg(test)]
-mod tests {
-    use super::*;
-    use mg_disk::{Counts, MemDisk};
-    use mg_layout::format;
-    use mg_model::Tariff;
-    use std::alloc::AllocError;
-
-    #[test]
-    fn a_fresh_volume(rt: HostRuntime) -> Result<(), AllocError> {
-        let mut disk = MemDisk::new(rt.alloc(), 2660, 2621, Vec::new(rt.alloc()))?;
-        let params = Params::new(64, [0; 32], 1000, Tariff::usual(64));
-        assert!(rt; params.is_some_and(|p| format(&mut disk, &p).is_ok()));
-        let summary = Summary {
-            frames: 64,
-            objects: 1,
-            pages: 1,
-            accounts: 1,
-            threads: 1,
-            period: 0,
-            credits: 1000,
-        };
-        assert_eq!(rt; examine(rt.alloc(), &mut disk).ok(), Some(summary));
-        let counts = Counts {
-            reads: 1308,
-            writes: 1310,
-            syncs: 3,
-        };
-        assert_eq!(rt; disk.counts(), counts);
-        Ok(())
-    }
-}

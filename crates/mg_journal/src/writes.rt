@@ -141,26 +141,3 @@ fn put_bytes(block: &mut Block, at: usize, bytes: &[u8; 8])
 {
     block[at..at + 8].copy_from_slice(bytes);
 }
-
-#[cfg(test)]
-mod tests {
-    use super::Writes;
-    use mg_disk::BLOCK_SIZE;
-    use std::alloc::AllocError;
-
-    #[test]
-    fn words_are_put_in_place(rt: HostRuntime) -> Result<(), AllocError> {
-        let mut writes = Writes::new(rt.alloc())?;
-        writes.stage(7, &[1; BLOCK_SIZE]);
-        writes.stage(8, &[2; BLOCK_SIZE]);
-        assert!(rt; writes.put(8, 4088, &[3; 8]));
-        assert!(rt; !writes.put(9, 0, &[4; 8]));
-        let mut changed = [2; BLOCK_SIZE];
-        changed[4088..].fill(3);
-        assert!(rt; writes.get(7) == Some(&[1; BLOCK_SIZE]));
-        assert!(rt; writes.get(8) == Some(&changed));
-        assert!(rt; writes.get(9).is_none());
-        assert_eq!(rt; writes.len(), 2);
-        Ok(())
-    }
-}

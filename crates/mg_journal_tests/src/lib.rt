@@ -1,0 +1,12 @@
+//! Tests of the journal and of the check of a volume: numbers of calls, which no contract tells, and disks that were worked
+//! out by hand.
+//!
+//! They stand above `mg_journal` and `mg_check`, over their public calls, so that those are proved once.
+#![tactic(auto)]
+
+#[cfg(test)]
+mod checks;
+#[cfg(test)]
+mod commits;
+#[cfg(test)]
+mod views;
