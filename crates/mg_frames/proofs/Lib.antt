@@ -1,1 +1,3 @@
-mod Slices
+mod Bound
+mod Lists
+mod Released

@@ -1,3 +1,4 @@
 pub mod Distinct
+pub mod Pairs
 pub mod Places
 pub mod Words

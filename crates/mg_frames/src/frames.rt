@@ -3,8 +3,10 @@ ghost use Rattle.std.specs.Prelude.{◌≡◌, ◌≢◌, ◌≤◌, ◌<◌, �
 ghost use Rattle.std.specs.List.{list_any};
 ghost use Rattle.mg_model.specs.Tests.{all_distinct};
 ghost use Rattle.mg_model.specs.Volume.{bound_pages};
+ghost use Rattle.mg_frames.specs.Pairs.{Ascends, IsExact};
 ghost use Rattle.mg_frames.specs.Words.{unless_within};
 
+use crate::pairs::{count_below, free_frames, part_of};
 use std::alloc::{AllocError, Global};
 use std::marker::Model;
 
@@ -12,18 +14,22 @@ use std::marker::Model;
 #[derive(Drop)]
 pub struct Frames {
     pages: Vec<u64>,
+    // Each bound page with its frame, ascending by page, in room for as many as there are frames.
+    pairs: Vec<(u64, u64)>,
+    // No frame before this one is free.
+    low: u64,
 }
 
 impl Model for Frames {
-    ghost use Rattle.std.specs.Prelude.{◌≡◌, ◌≤◌, ℕ, List, length, true};
-    ghost use Rattle.mg_model.specs.Tests.{all_distinct};
-    ghost use Rattle.mg_model.specs.Volume.{bound_pages};
+    ghost use Rattle.std.specs.Prelude.{ℕ, List};
+    ghost use Rattle.std.specs.Vec.{vec_capacity};
+    ghost use Rattle.mg_frames.specs.Pairs.{AreFrames};
 
     ghost Value = { List ℕ };
 
     ghost view = { λ frames. frames.pages.items };
 
-    ghost invariant = { λ frames. (all_distinct (bound_pages frames.pages.items) ≡ true) × (length frames.pages.items ≤ 65536) };
+    ghost invariant = { λ frames. AreFrames frames.pages.items frames.pairs.items (vec_capacity frames.pairs) frames.low };
 }
 
 impl Frames {
@@ -33,7 +39,12 @@ impl Frames {
         ensures { IfOk result (λ all. all ≡ replicate frames 0) }
     {
         let pages = vec![in alloc; 0; frames as usize]?;
-        Ok(Frames { pages })
+        let pairs = Vec::with_capacity(alloc, frames as usize)?;
+        Ok(Frames {
+            pages,
+            pairs,
+            low: 0,
+        })
     }
 
     /// How many frames there are.
@@ -52,14 +63,24 @@ impl Frames {
         &self.pages
     }
 
+    /// Each bound page with its frame, ascending by page.
+    pub fn pairs(&self) -> &[(u64, u64)]
+        ensures ascending { Ascends result.now }
+        ensures exact { IsExact self.now result.now }
+    {
+        &self.pairs
+    }
+
     /// The frame that holds a page, which is not 0.
     pub fn frame_of(&self, page: u64) -> Option<u64>
         requires { page ≢ 0 }
         ensures { result ≡ position (λ entry. entry == page) self.now }
     {
-        match self.place_of(page) {
-            Some(frame) => Some(frame as u64),
-            None => None,
+        let place = count_below(&self.pairs, page);
+        if place < self.pairs.len() && self.pairs[place].0 == page {
+            Some(self.pairs[place].1)
+        } else {
+            None
         }
     }
 
@@ -79,6 +100,9 @@ impl Frames {
         requires unbound { list_any (λ entry. entry == page) self.old ≡ false }
         ensures { self.new ≡ slice_set self.old frame page }
     {
+        let place = count_below(&self.pairs, page);
+        // There is room, since a frame is free.
+        let _ = self.pairs.insert(place, (page, frame));
         self.pages[frame as usize] = page;
     }
 
@@ -90,13 +114,10 @@ impl Frames {
         ensures lowest { position (λ entry. entry == 0) self.old ≡ Some result }
         ensures bound { self.new ≡ slice_set self.old result page }
     {
-        match self.place_of(0) {
-            Some(frame) => {
-                self.pages[frame] = page;
-                frame as u64
-            }
-            None => unreachable!(),
-        }
+        let frame = self.lowest_free();
+        self.put(frame, page);
+        self.low = frame + 1;
+        frame
     }
 
     /// Frees the frames of all pages in a range.
@@ -104,35 +125,28 @@ impl Frames {
         requires { first + pages < 2 ^ 64 }
         ensures { self.new ≡ map (unless_within first pages) self.old }
     {
-        release_all(&mut self.pages, first, pages);
+        let (from, to) = part_of(&self.pairs, first, pages);
+        let part = &self.pairs[from..to];
+        self.low = free_frames(&mut self.pages, part, self.low);
+        drop(self.pairs.drain(from..to));
     }
 
-    // The first frame with this entry.
-    fn place_of(&self, entry: u64) -> Option<usize>
-        ensures { result ≡ position (λ there. there == entry) self.now }
+    // The lowest free frame. One is free.
+    fn lowest_free(&self) -> u64
+        requires { list_any (λ entry. entry == 0) self.now ≡ true }
+        ensures lowest { position (λ entry. entry == 0) self.now ≡ Some result }
+        ensures few { result < 65536 }
     {
-        self.pages.iter().position(|there| *there == entry)
+        match first_free(&self.pages[self.low as usize..]) {
+            Some(place) => self.low + place as u64,
+            None => unreachable!(),
+        }
     }
 }
 
-// Frees the frames of all pages in a range.
-fn release_all(entries: &mut [u64], first: u64, pages: u64)
-    requires { first + pages < 2 ^ 64 }
-    ensures { entries.new ≡ map (unless_within first pages) entries.old }
+// The first free frame of these.
+fn first_free(pages: &[u64]) -> Option<usize>
+    ensures { result ≡ position (λ entry. entry == 0) pages.now }
 {
-    for entry in entries.iter_mut() {
-        *entry = page_unless_within(*entry, first, pages);
-    }
-}
-
-// The entry of a frame once the pages of a range are released.
-fn page_unless_within(page: u64, first: u64, pages: u64) -> u64
-    requires { first + pages < 2 ^ 64 }
-    ensures { result ≡ unless_within first pages page }
-{
-    if first <= page && page < first + pages {
-        0
-    } else {
-        page
-    }
+    pages.iter().position(|page| *page == 0)
 }

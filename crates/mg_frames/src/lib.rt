@@ -1,8 +1,10 @@
 //! The page that each frame of a volume holds.
 //!
-//! A layer above sees a [`Frames`] as a list: the page of each frame, 0 for a free one. No page stands there twice.
+//! A layer above sees a [`Frames`] as a list: the page of each frame, 0 for a free one. No page stands there twice. Beside it
+//! stands a list of the bound pages with their frames, which ascends by page, so that a page is found by halving.
 #![tactic(auto)]
 
 mod frames;
+mod pairs;
 
 pub use frames::Frames;

@@ -1,16 +1,14 @@
-use Rattle.std.proofs.Common.{◌==◌, ◌≡◌, ◌∙◌, ap, sym, false, true, arith, length-set}
-use Rattle.std.specs.List.{list_any}
-use Rattle.mg_frames.specs.Distinct.{distinct-put}
-use Rattle.mg_frames.specs.Places.{nowhere_any}
+use Rattle.std.proofs.Common.{◌==◌, ◌∙◌, slice_index}
+use Rattle.std.proofs.lemmas.Bool.{eqb-true}
+use Rattle.std.proofs.lemmas.List.Quantifiers.{position-Some}
+use Rattle.mg_frames.proofs.Bound.{bound-above}
 use Rattle.mg_frames.proofs.frames.Frames.bind.Goals as goal
+
+pub put-requires-clause-free : goal.put-requires-clause-free
+put-requires-clause-free c =
+    let frame = c.lowest_free-frame.result in
+    eqb-true (slice_index c.args.self.now frame) 0 (position-Some (λ entry. entry == 0) c.args.self.now frame 0 c.lowest_free-frame.ensures.lowest).1
 
 pub invariant_of-self : goal.invariant_of-self
 invariant_of-self c =
-    let same : c.self.inside.pages.items ≡ c.args.self.now = c.self.view_is in
-    (distinct-put c.self.inside.pages.items c.in-Some.frame c.args.page c.requires.page (ap (list_any (λ entry. entry == c.args.page)) same ∙ c.requires.unbound) c.self.invariant.0, omega (arith, c.self.invariant.1, length-set c.self.inside.pages.items c.in-Some.frame c.args.page))
-
-pub unreachable-requires : goal.unreachable-requires
-unreachable-requires c =
-    let none = nowhere_any (λ there. there == 0) c.args.self.now (sym c.place_of.ensures ∙ c.in-None.is) in
-    let bad : true ≡ false = sym c.requires.free ∙ none in
-    cc
+    bound-above c.args.self.now c.self.inside.pages.items c.self.inside.pairs.items _ _ c.lowest_free-frame.result c.args.page c.self.invariant c.lowest_free-frame.ensures.lowest (c.self.view_is ∙ c.put.ensures) c.requires.page

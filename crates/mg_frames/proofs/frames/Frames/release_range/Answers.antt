@@ -1,28 +1,59 @@
-use Rattle.std.proofs.Common.{◌≡◌, ◌≤◌, ◌++◌, ◌∙◌, ap, arith, drop, length, map, sym, take}
-use Rattle.std.proofs.lemmas.List.{length-map}
-use Rattle.mg_model.specs.Tests.{all_distinct}
-use Rattle.mg_model.specs.Volume.{bound_pages}
-use Rattle.mg_frames.proofs.Slices.{all_over}
-use Rattle.mg_frames.specs.Distinct.{distinct-released}
+use Rattle.std.proofs.Common.{◌≡◌, ◌≤◌, ◌<◌, ◌∙◌, ◌++◌, ℕ, All, List, ap, arith, drop, get_or, length, map, subst, sym, take}
+use Rattle.std.specs.List.{between, remove_range}
+use Rattle.std.specs.Vec.{vec_capacity}
+use Rattle.mg_frames.proofs.Lists.{all_over}
+use Rattle.mg_frames.proofs.Released.{length-freed, part_bound, released, released-frames}
+use Rattle.mg_frames.specs.Pairs.{IsPart, freed}
 use Rattle.mg_frames.specs.Words.{unless_within}
 use Rattle.mg_frames.proofs.frames.Frames.release_range.Goals as goal
 
+pub free_frames-self-inside-requires : goal.free_frames-self-inside-requires
+free_frames-self-inside-requires c =
+    let pages = c.self.inside.pages.items in
+    let pairs = c.self.inside.pairs.items in
+    let from = c.part_of-from.result.0 in
+    let to = c.part_of-from.result.1 in
+    let part : IsPart pairs c.args.first c.args.pages from to = let P = λ (xs : List (ℕ × ℕ)). IsPart xs c.args.first c.args.pages from to in subst P c.deref.ensures.value c.part_of-from.ensures in
+    let bound = part_bound pages pairs c.self.invariant.ascends c.self.invariant.exact c.args.first c.args.pages from to part in
+    let P = λ (xs : List (ℕ × ℕ)). (k : ℕ) → (d : ℕ × ℕ) → k < length (between from to xs) → (get_or (between from to xs) k d).1 < length c.deref_mut.result.now in
+    subst P (sym c.deref-2.ensures.value) (λ k d under. let b = (bound k d under).1 in omega (arith, ap length c.deref_mut.ensures.value))
+
 pub invariant_of-self : goal.invariant_of-self
 invariant_of-self c =
-    let items = c.self.inside.pages.items in
-    let f = unless_within c.args.first c.args.pages in
-    let new : c.release_all.new.entries ≡ map f items = c.release_all.ensures ∙ ap (map f) c.deref_mut.ensures.value in
-    let long : length items ≡ c.self.inside.pages.len = sym (ap length c.deref_mut.ensures.value) ∙ c.deref_mut.ensures.len in
-    let all : take c.self.inside.pages.len (c.release_all.new.entries ++ drop (length c.release_all.new.entries) items) ≡ map f items =
-    all_over c.self.inside.pages.len c.release_all.new.entries items (ap length new ∙ length-map items f ∙ long) long ∙ new in
-    let few : length items ≤ 65536 = c.self.invariant.1 in
-    (ap (λ xs. all_distinct (bound_pages xs)) all ∙ distinct-released c.args.first c.args.pages items c.self.invariant.0, omega (arith, ap length all, length-map items f))
+    let pages = c.self.inside.pages.items in
+    let pairs = c.self.inside.pairs.items in
+    let first = c.args.first in
+    let count = c.args.pages in
+    let from = c.part_of-from.result.0 in
+    let to = c.part_of-from.result.1 in
+    let space = vec_capacity c.self.inside.pairs in
+    let new_low = c.free_frames-self-inside.result in
+    let part : IsPart pairs first count from to = let P = λ (xs : List (ℕ × ℕ)). IsPart xs first count from to in subst P c.deref.ensures.value c.part_of-from.ensures in
+    let new : c.free_frames-self-inside.new.pages ≡ freed pages (between from to pairs) =
+    c.free_frames-self-inside.ensures.freed ∙ ap (λ (xs : List ℕ). freed xs (between from to c.deref-2.result.now)) c.deref_mut.ensures.value ∙ ap (λ (ps : List (ℕ × ℕ)). freed pages (between from to ps)) c.deref-2.ensures.value in
+    let long : length pages ≡ c.self.inside.pages.len = sym (ap length c.deref_mut.ensures.value) ∙ c.deref_mut.ensures.len in
+    let all : take c.self.inside.pages.len (c.free_frames-self-inside.new.pages ++ drop (length c.free_frames-self-inside.new.pages) pages) ≡ map (unless_within first count) pages =
+    all_over c.self.inside.pages.len c.free_frames-self-inside.new.pages pages (ap length new ∙ length-freed pages (between from to pairs) ∙ long) long
+    ∙ new
+    ∙ released pages pairs c.self.invariant.ascends c.self.invariant.exact first count from to part in
+    let lowest : All (λ (pair : ℕ × ℕ). new_low ≤ pair.1) (between from to pairs) =
+    let P = λ (xs : List (ℕ × ℕ)). All (λ (pair : ℕ × ℕ). new_low ≤ pair.1) (between from to xs) in subst P c.deref-2.ensures.value c.free_frames-self-inside.ensures.lowest in
+    let kept : c.drop.new.self.0.items ≡ remove_range pairs from to = c.drop.ensures.items ∙ c.drain.ensures.kept in
+    let room : vec_capacity c.drop.new.self.0 ≡ space = c.drop.ensures.capacity ∙ c.drain.ensures.capacity in
+    rw (all, kept, room)
+    (released-frames pages pairs c.self.invariant.ascends c.self.invariant.exact first count from to part space c.self.inside.low new_low c.self.invariant c.free_frames-self-inside.ensures.low lowest)
 
 pub returns : goal.returns
 returns c =
-    let items = c.self.inside.pages.items in
-    let f = unless_within c.args.first c.args.pages in
-    let now : items ≡ c.args.self.now = c.self.view_is in
-    let new : c.release_all.new.entries ≡ map f items = c.release_all.ensures ∙ ap (map f) c.deref_mut.ensures.value in
-    let long : length items ≡ c.self.inside.pages.len = sym (ap length c.deref_mut.ensures.value) ∙ c.deref_mut.ensures.len in
-    all_over c.self.inside.pages.len c.release_all.new.entries items (ap length new ∙ length-map items f ∙ long) long ∙ new ∙ ap (map f) now
+    let pages = c.self.inside.pages.items in
+    let pairs = c.self.inside.pairs.items in
+    let from = c.part_of-from.result.0 in
+    let to = c.part_of-from.result.1 in
+    let part : IsPart pairs c.args.first c.args.pages from to = let P = λ (xs : List (ℕ × ℕ)). IsPart xs c.args.first c.args.pages from to in subst P c.deref.ensures.value c.part_of-from.ensures in
+    let new : c.free_frames-self-inside.new.pages ≡ freed pages (between from to pairs) =
+    c.free_frames-self-inside.ensures.freed ∙ ap (λ (xs : List ℕ). freed xs (between from to c.deref-2.result.now)) c.deref_mut.ensures.value ∙ ap (λ (ps : List (ℕ × ℕ)). freed pages (between from to ps)) c.deref-2.ensures.value in
+    let long : length pages ≡ c.self.inside.pages.len = sym (ap length c.deref_mut.ensures.value) ∙ c.deref_mut.ensures.len in
+    all_over c.self.inside.pages.len c.free_frames-self-inside.new.pages pages (ap length new ∙ length-freed pages (between from to pairs) ∙ long) long
+    ∙ new
+    ∙ released pages pairs c.self.invariant.ascends c.self.invariant.exact c.args.first c.args.pages from to part
+    ∙ ap (map (unless_within c.args.first c.args.pages)) c.self.view_is

@@ -1,0 +1,148 @@
+-- Lists of which each two elements are in order, and what they contain, after an insertion and once a part is taken out.
+use Rattle.std.specs.Prelude.{◌≡◌, ◌+◌, ◌-◌, ◌<◌, ◌≤◌, ◌⊎◌, ℕ, List, ◌++◌, insert, length, drop, take}
+use Rattle.std.specs.List.{AllPairs, Contains, remove_range}
+use Rattle.std.proofs.Common.{sym, ap, ◌∙◌, subst, inl, inr, ⊎_elim, arith, get_or, length-append, length-drop}
+use Rattle.std.proofs.lemmas.Bool.{cases_eq, cases_lt}
+use Rattle.std.proofs.lemmas.List.{append-nil, drop_all, get_or-drop, get_or-take, get_or_append_left, get_or-append_right, get_or_default, length-take-le, take_all}
+use Rattle.std.proofs.lemmas.List.Edits.{get_or-insert_above, get_or-insert_at, get_or-insert_below, length-insert}
+
+-- what stands at a place is contained
+pub contains-at : {X : Type 0} (xs : List X) (k : ℕ) (d x : X) → k < length xs → get_or xs k d ≡ x → Contains xs x
+contains-at xs k d x below is = (k, below, get_or_default xs k x d below ∙ is)
+
+-- an element that is put in
+pub insert-has : {X : Type 0} (xs : List X) (i : ℕ) (y : X) → i ≤ length xs → Contains (insert xs i y) y
+insert-has xs i y within = contains-at (insert xs i y) i y y (let l = length-insert xs i y within in omega arith) (get_or-insert_at xs i y y within)
+
+pub insert-keeps : {X : Type 0} (xs : List X) (i : ℕ) (y x : X) → i ≤ length xs → Contains xs x → Contains (insert xs i y) x
+insert-keeps xs i y x within there =
+    let k = there.0 in
+    let l = length-insert xs i y within in
+    ⊎_elim
+    (λ below. contains-at (insert xs i y) k x x (omega arith) (get_or-insert_below xs i y x k below within ∙ there.2))
+    (λ above. contains-at (insert xs i y) (k + 1) x x (let b = there.1 in omega arith) (get_or-insert_above xs i y x k above within ∙ there.2))
+    (cases_lt k i)
+
+-- a place after an insertion
+pub data Place (i j : ℕ) : Type 0 where
+  is_below : j < i → Place i j
+  is_at : j ≡ i → Place i j
+  is_above : (k : ℕ) → i ≤ k → j ≡ k + 1 → Place i j
+
+pub place : (i j : ℕ) → Place i j
+place i j = ⊎_elim is_below (λ le. ⊎_elim is_at (λ other. is_above (j - 1) (omega arith) (omega arith)) (cases_eq j i)) (cases_lt j i)
+
+pub insert-cases : {X : Type 0} (xs : List X) (i : ℕ) (y x : X) → i ≤ length xs → Contains (insert xs i y) x → Contains xs x ⊎ (y ≡ x)
+insert-cases xs i y x within there = go (place i there.0)
+  where
+    l : length (insert xs i y) ≡ length xs + 1
+    l = length-insert xs i y within
+
+    go : Place i there.0 → Contains xs x ⊎ (y ≡ x)
+    go (is_below b) = inl (contains-at xs there.0 x x (omega (arith, l)) (sym (get_or-insert_below xs i y x there.0 b within) ∙ there.2))
+    go (is_at e) = inr (sym (get_or-insert_at xs i y x within) ∙ sym (ap (λ k. get_or (insert xs i y) k x) e) ∙ there.2)
+    go (is_above k a e) =
+        let b = there.1 in
+        inl (contains-at xs k x x (omega (arith, l)) (sym (get_or-insert_above xs i y x k a within) ∙ sym (ap (λ k. get_or (insert xs i y) k x) e) ∙ there.2))
+
+-- an element put between those that come before it and those that come behind
+pub insert-pairs :
+    {X : Type 0} (R : X → X → Type 0) (xs : List X) (i : ℕ) (y : X) → i ≤ length xs → AllPairs R xs
+    → ((k : ℕ) (d : X) → k < i → R (get_or xs k d) y) → ((k : ℕ) (d : X) → i ≤ k → k < length xs → R y (get_or xs k d)) → AllPairs R (insert xs i y)
+insert-pairs {X} R xs i y within each before behind a b d order under = go (place i a) (place i b)
+  where
+    l : length (insert xs i y) ≡ length xs + 1
+    l = length-insert xs i y within
+
+    at_below : (j : ℕ) → j < i → get_or (insert xs i y) j d ≡ get_or xs j d
+    at_below j b = get_or-insert_below xs i y d j b within
+
+    at_same : (j : ℕ) → j ≡ i → get_or (insert xs i y) j d ≡ y
+    at_same j e = ap (λ k. get_or (insert xs i y) k d) e ∙ get_or-insert_at xs i y d within
+
+    at_above : (j k : ℕ) → i ≤ k → j ≡ k + 1 → get_or (insert xs i y) j d ≡ get_or xs k d
+    at_above j k le e = ap (λ k. get_or (insert xs i y) k d) e ∙ get_or-insert_above xs i y d k le within
+
+    both : (u v p q : X) → u ≡ p → v ≡ q → R p q → R u v
+    both u v p q e f r = subst (λ (w : X). R u w) (sym f) (subst (λ (w : X). R w q) (sym e) r)
+
+    go : Place i a → Place i b → R (get_or (insert xs i y) a d) (get_or (insert xs i y) b d)
+    go (is_below u) (is_below v) = both _ _ _ _ (at_below a u) (at_below b v) (each a b d order (omega (arith, l)))
+    go (is_below u) (is_at v) = both _ _ _ _ (at_below a u) (at_same b v) (before a d u)
+    go (is_below u) (is_above k v e) = both _ _ _ _ (at_below a u) (at_above b k v e) (each a k d (omega (arith, l)) (omega (arith, l)))
+    go (is_at u) (is_below v) = absurd (omega (arith, l))
+    go (is_at u) (is_at v) = absurd (omega (arith, l))
+    go (is_at u) (is_above k v e) = both _ _ _ _ (at_same a u) (at_above b k v e) (behind k d v (omega (arith, l)))
+    go (is_above k u e) (is_below v) = absurd (omega (arith, l))
+    go (is_above k u e) (is_at v) = absurd (omega (arith, l))
+    go (is_above k u e) (is_above m v f) = both _ _ _ _ (at_above a k u e) (at_above b m v f) (each k m d (omega (arith, l)) (omega (arith, l)))
+
+-- a list without the elements from one place to before another
+pub length-cut : {X : Type 0} (xs : List X) (i j : ℕ) → i ≤ j → j ≤ length xs → length (remove_range xs i j) + (j - i) ≡ length xs
+length-cut xs i j order within =
+    let a = length-append (take i xs) (drop j xs) in
+    let t = length-take-le i xs (omega arith) in
+    let d = length-drop j xs in
+    omega arith
+
+pub cut-below : {X : Type 0} (xs : List X) (i j k : ℕ) (d : X) → i ≤ j → j ≤ length xs → k < i → get_or (remove_range xs i j) k d ≡ get_or xs k d
+cut-below xs i j k d order within below =
+    let t = length-take-le i xs (omega arith) in
+    get_or_append_left (take i xs) (drop j xs) d k (omega arith) ∙ get_or-take i xs k d below
+
+pub cut-above : {X : Type 0} (xs : List X) (i j k : ℕ) (d : X) → i ≤ j → j ≤ length xs → i ≤ k → get_or (remove_range xs i j) k d ≡ get_or xs (j + (k - i)) d
+cut-above xs i j k d order within above =
+    get_or-append_right (take i xs) (drop j xs) i k d (length-take-le i xs (omega arith)) above ∙ get_or-drop j xs (k - i) d
+
+pub cut-pairs : {X : Type 0} (R : X → X → Type 0) (xs : List X) (i j : ℕ) → i ≤ j → j ≤ length xs → AllPairs R xs → AllPairs R (remove_range xs i j)
+cut-pairs {X} R xs i j order within each a b d before under = ⊎_elim (λ u. ⊎_elim (first u) (across u) (cases_lt b i)) second (cases_lt a i)
+  where
+    l : length (remove_range xs i j) + (j - i) ≡ length xs
+    l = length-cut xs i j order within
+
+    both : (u v p q : X) → u ≡ p → v ≡ q → R p q → R u v
+    both u v p q e f r = subst (λ (w : X). R u w) (sym f) (subst (λ (w : X). R w q) (sym e) r)
+
+    first : a < i → b < i → R (get_or (remove_range xs i j) a d) (get_or (remove_range xs i j) b d)
+    first u v = both _ _ _ _ (cut-below xs i j a d order within u) (cut-below xs i j b d order within v) (each a b d before (omega (arith, l)))
+
+    across : a < i → i ≤ b → R (get_or (remove_range xs i j) a d) (get_or (remove_range xs i j) b d)
+    across u v = both _ _ _ _ (cut-below xs i j a d order within u) (cut-above xs i j b d order within v) (each a (j + (b - i)) d (omega (arith, l)) (omega (arith, l)))
+
+    second : i ≤ a → R (get_or (remove_range xs i j) a d) (get_or (remove_range xs i j) b d)
+    second u = both _ _ _ _ (cut-above xs i j a d order within u) (cut-above xs i j b d order within (omega (arith, l))) (each (j + (a - i)) (j + (b - i)) d (omega (arith, l)) (omega (arith, l)))
+
+-- what stands outside the part stays, and nothing else
+pub cut-keeps : {X : Type 0} (xs : List X) (i j k : ℕ) (x : X) → i ≤ j → j ≤ length xs → k < length xs → get_or xs k x ≡ x → (k < i) ⊎ (j ≤ k) → Contains (remove_range xs i j) x
+cut-keeps {X} xs i j k x order within under is outside = ⊎_elim low high outside
+  where
+    l : length (remove_range xs i j) + (j - i) ≡ length xs
+    l = length-cut xs i j order within
+
+    low : k < i → Contains (remove_range xs i j) x
+    low below = contains-at (remove_range xs i j) k x x (omega (arith, l)) (cut-below xs i j k x order within below ∙ is)
+
+    high : j ≤ k → Contains (remove_range xs i j) x
+    high above =
+        let e : j + (i + (k - j) - i) ≡ k = omega (arith, l) in
+        contains-at (remove_range xs i j) (i + (k - j)) x x (omega (arith, l)) (cut-above xs i j (i + (k - j)) x order within (omega (arith, l)) ∙ ap (λ m. get_or xs m x) e ∙ is)
+
+pub cut-had : {X : Type 0} (xs : List X) (i j : ℕ) (x : X) → i ≤ j → j ≤ length xs → Contains (remove_range xs i j) x → (k : ℕ) × (k < length xs) × (get_or xs k x ≡ x) × ((k < i) ⊎ (j ≤ k))
+cut-had {X} xs i j x order within there = ⊎_elim low high (cases_lt there.0 i)
+  where
+    l : length (remove_range xs i j) + (j - i) ≡ length xs
+    l = length-cut xs i j order within
+
+    under : there.0 < length (remove_range xs i j)
+    under = there.1
+
+    low : there.0 < i → (k : ℕ) × (k < length xs) × (get_or xs k x ≡ x) × ((k < i) ⊎ (j ≤ k))
+    low below = (there.0, omega (arith, l), sym (cut-below xs i j there.0 x order within below) ∙ there.2, inl below)
+
+    high : i ≤ there.0 → (k : ℕ) × (k < length xs) × (get_or xs k x ≡ x) × ((k < i) ⊎ (j ≤ k))
+    high above = (j + (there.0 - i), omega (arith, l), sym (cut-above xs i j there.0 x order within above) ∙ there.2, inr (omega (arith, l)))
+
+-- what a write to the slice of a whole vector leaves
+pub all_over : (n : ℕ) (new old : List ℕ) → length new ≡ n → length old ≡ n → take n (new ++ drop (length new) old) ≡ new
+all_over n new old is was =
+    ap (take n) (ap (λ rest. new ++ rest) (drop_all (length new) old (omega arith)) ∙ append-nil new) ∙ take_all n new (omega arith)
