@@ -22,3 +22,8 @@ unless_refused (Some word) state done = (state, No word)
 -- a row: its state, its refusals in order, and what is done otherwise
 abbrev pub row : State → List (Bool × Refusal) → Answer → Answer
 row state refusals done = unless_refused (first_refusal refusals) state done
+
+-- the reply refuses the line
+abbrev pub IsRefusal : Reply → Type 0
+IsRefusal (No word) = Unit {0}
+IsRefusal other = ⊥

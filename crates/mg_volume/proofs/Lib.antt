@@ -12,7 +12,9 @@ mod Trial
 pub mod BareRows
 pub mod BlockParts
 pub mod CommitChange
+pub mod Drawn
 pub mod Found
+pub mod FoundOwn
 pub mod FreeFrame
 pub mod FreePlace
 pub mod Indexed

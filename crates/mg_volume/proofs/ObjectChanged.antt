@@ -11,17 +11,18 @@ use Rattle.mg_model.specs.State.{ObjectRow}
 use Rattle.mg_pages.specs.Held.{PagesHeld}
 use Rattle.mg_pages.specs.Meaning as pages
 use Rattle.mg_volume.proofs.Indexed.{held_change, some_at}
-use Rattle.mg_volume.proofs.ObjectLists.{DistinctBy, set_is}
+use Rattle.mg_volume.proofs.ObjectLists.{set_is}
 use Rattle.mg_volume.proofs.ObjectStaged.{bases_distinct, with_objects}
 use Rattle.mg_volume.proofs.PagesChange.{held_same}
-use Rattle.mg_volume.proofs.StillStaged.{base_found, place_found, still_staged, with_base}
+use Rattle.mg_volume.proofs.StillStaged.{base_found, objects_still, place_found, with_base}
 use Rattle.mg_volume.specs.Held.{VolumeHeld}
 use Rattle.mg_volume.specs.Meaning.{IsHeld, IsKept, bare_rows, objects_in}
-use Rattle.mg_volume.specs.Staging.{MayChange, StillStaged, free_place, has_base, is_object_staged, object_rows_with, place_for, with_new_row}
+use Rattle.mg_volume.specs.RowLists.{DistinctBy}
+use Rattle.mg_volume.specs.Staging.{MayChange, ObjectsStillStaged, free_place, has_base, is_object_staged, place_for, with_other_row}
 
-distinct-bare : (os : List (ℕ × ObjectRow)) → DistinctBy (λ (y : ℕ × ObjectRow). y.1.base) os → DistinctBy (λ (y : ObjectRow). y.base) (bare_rows os)
-distinct-bare [] distinct = tt
-distinct-bare (o ∷ os) distinct = (All-map (λ (y : ObjectRow). y.base ≢ o.1.base) (λ (o : ℕ × ObjectRow). o.1) os distinct.0, distinct-bare os distinct.1)
+pub distinct_bare : (os : List (ℕ × ObjectRow)) → DistinctBy (λ (y : ℕ × ObjectRow). y.1.base) os → DistinctBy (λ (y : ObjectRow). y.base) (bare_rows os)
+distinct_bare [] distinct = tt
+distinct_bare (o ∷ os) distinct = (All-map (λ (y : ObjectRow). y.base ≢ o.1.base) (λ (o : ℕ × ObjectRow). o.1) os distinct.0, distinct_bare os distinct.1)
 
 -- it is found at its index
 found-at : (os : List (ℕ × ObjectRow)) (i : ℕ) (d : ℕ × ObjectRow) → DistinctBy (λ (y : ℕ × ObjectRow). y.1.base) os → i < length os → with_base (get_or os i d).1.base os ≡ Some (get_or os i d)
@@ -105,24 +106,23 @@ module _ (v : VolumeHeld) (i : ℕ) (d : ℕ × ObjectRow) (row : ObjectRow) (ke
   unfolding is_object_staged
   changed_room staged = ap (λ place. pages.is_staged v.pages (first_object_block + place / 4)) (sym place-is) ∙ staged
 
-  pub changed_rows : (p : PagesHeld) → has_base row.base (objects_in v) ≡ true → objects_in (with_objects v (set v.objects i (d.0, row)) p) ≡ object_rows_with row.base (Some row) (objects_in v)
+  pub changed_rows : (p : PagesHeld) → objects_in (with_objects v (set v.objects i (d.0, row)) p) ≡ with_other_row row (objects_in v)
   unfolding objects_in
-  changed_rows p has =
+  changed_rows p =
       let long = length-map v.objects (λ (o : ℕ × ObjectRow). o.1) in
       let read = get_or-map (λ (o : ℕ × ObjectRow). o.1) v.objects i d d.1 few in
       map-set (λ (o : ℕ × ObjectRow). o.1) v.objects i (d.0, row)
-      ∙ set_is (λ (y : ObjectRow). y.base) (λ y. row) row.base (bare_rows v.objects) i d.1 (distinct-bare v.objects (bases_distinct v kept)) (omega arith) (ap (λ (y : ObjectRow). y.base) read ∙ sym at)
-      ∙ sym (ap (λ b. if b then map (λ (y : ObjectRow). if y.base == row.base then row else y) (bare_rows v.objects) else with_new_row row (bare_rows v.objects)) has)
+      ∙ set_is (λ (y : ObjectRow). y.base) (λ y. row) row.base (bare_rows v.objects) i d.1 (distinct_bare v.objects (bases_distinct v kept)) (omega arith) (ap (λ (y : ObjectRow). y.base) read ∙ sym at)
 
   pub changed_here : (p : PagesHeld) → has_base row.base (objects_in v) ≡ true → pages.is_staged p (first_object_block + d.0 / 4) ≡ true → is_object_staged (with_objects v (set v.objects i (d.0, row)) p) row.base ≡ true
   unfolding objects_in is_object_staged
   changed_here p has staged =
       ap (λ place. pages.is_staged p (first_object_block + place / 4)) (place-set row.base v.objects i d (d.0, row) few (ap (λ (o : ℕ × ObjectRow). o.0) there) at has ∙ place-is) ∙ staged
 
-  pub changed_still : (p : PagesHeld) (most : ℕ) → pages.StagesMore most v.pages p → StillStaged v (with_objects v (set v.objects i (d.0, row)) p)
+  pub changed_still : (p : PagesHeld) (most : ℕ) → pages.StagesMore most v.pages p → ObjectsStillStaged v (with_objects v (set v.objects i (d.0, row)) p)
   unfolding objects_in
   changed_still p most more =
-      still_staged v (with_objects v (set v.objects i (d.0, row)) p) more.still
+      objects_still v (with_objects v (set v.objects i (d.0, row)) p) more.still
       (λ base' was is. place-set base' v.objects i d (d.0, row) few (ap (λ (o : ℕ × ObjectRow). o.0) there) at was)
 
   -- the volume with it is held

@@ -23,10 +23,10 @@ use Rattle.mg_volume.proofs.ObjectOrder.{from_by_base, into_any, into_found, int
 use Rattle.mg_volume.proofs.ObjectStaged.{objects_staged, placed_of, with_objects}
 use Rattle.mg_volume.proofs.PagesChange.{all-bound, each-bound}
 use Rattle.mg_volume.proofs.RowsApart.{apart_with, base_apart, kept_rows, no_base, page_apart}
-use Rattle.mg_volume.proofs.StillStaged.{place_found, place_new, place_same, still_staged, with_base}
+use Rattle.mg_volume.proofs.StillStaged.{objects_still, place_found, place_new, place_same, with_base}
 use Rattle.mg_volume.specs.Held.{VolumeHeld}
 use Rattle.mg_volume.specs.Meaning.{IsHeld, IsKept, IsSpelledBy, Spelled, bare_rows, by_base, has_page, into_place, is_page_in, now_of, objects_in, rows_apart, settings_in, threads_in}
-use Rattle.mg_volume.specs.Staging.{MayJoin, StillStaged, blank, free_place, has_base, is_object_staged, object_rows_with, place_for, with_new_row}
+use Rattle.mg_volume.specs.Staging.{MayJoin, ObjectsStillStaged, blank, free_place, has_base, is_object_staged, place_for, with_new_row}
 use Rattle.mg_volume.specs.RowLists.{row_at, row_set, set_other, set_placed}
 use Rattle.mg_volume.specs.Sound.{all_spelled, object-placed}
 use Rattle.mg_volume.specs.Staged.{objects_apart}
@@ -90,19 +90,17 @@ module _ (v : VolumeHeld) (row : ObjectRow) (place : ℕ) (is : IsObjectRow row)
     inserted_here staged =
         ap (λ place. pages.is_staged p (first_object_block + place / 4)) (ap (place_for row.base) put ∙ place_found row.base (into_place (place, row) v.objects) (place, row) (into_found (place, row) v.objects others)) ∙ staged
 
-    pub inserted_still : (most : ℕ) → pages.StagesMore most v.pages p → StillStaged v (with_objects v objects p)
+    pub inserted_still : (most : ℕ) → pages.StagesMore most v.pages p → ObjectsStillStaged v (with_objects v objects p)
     unfolding objects_in
     inserted_still most more =
-        still_staged v (with_objects v objects p) more.still
+        objects_still v (with_objects v objects p) more.still
         (λ base was now.
         place_same base v.objects objects was
         (ap (with_base base) put ∙ into_others base (place, row) v.objects (λ same. both_ways (has_base base (objects_in v)) (ap (λ b. has_base b (objects_in v)) (sym same) ∙ absent) was)))
 
-    pub inserted_rows : objects_in (with_objects v objects p) ≡ object_rows_with row.base (Some row) (objects_in v)
+    pub inserted_rows : objects_in (with_objects v objects p) ≡ with_new_row row (objects_in v)
     unfolding objects_in
-    inserted_rows =
-        ap bare_rows put ∙ into_rows (place, row) v.objects
-        ∙ sym (ap (λ b. if b then map (λ (y : ObjectRow). if y.base == row.base then row else y) (bare_rows v.objects) else with_new_row row (bare_rows v.objects)) absent)
+    inserted_rows = ap bare_rows put ∙ into_rows (place, row) v.objects
 
     -- the volume with it is held
     pub inserted_held : (cap cap' accounts threads : ℕ) → IsHeld v cap accounts threads → cap ≤ cap' → pages.frame_count p ≡ pages.frame_count v.pages → pages.table_in p ≡ pages.table_in v.pages → IsHeld (with_objects v objects p) cap' accounts threads

@@ -6,12 +6,7 @@ use Rattle.std.proofs.lemmas.List.Elements.{All-cons, All-get_or, All-head, All-
 use Rattle.mg_model.specs.State.{ObjectRow}
 use Rattle.mg_model.specs.Volume.{with_live}
 use Rattle.mg_volume.specs.Meaning.{by_base, into_place}
-use Rattle.mg_volume.specs.RowLists.{ArePlaced, row_at, row_before, row_set}
-
--- no two have the same key
-abbrev pub DistinctBy : {X : Type 0} → (X → ℕ) → List X → Type 0
-DistinctBy key [] = Unit {0}
-DistinctBy key (x ∷ xs) = All (λ y. key y ≢ key x) xs × DistinctBy key xs
+use Rattle.mg_volume.specs.RowLists.{ArePlaced, DistinctBy, row_at, row_before, row_set}
 
 change-none : {X : Type 0} (key : X → ℕ) (h : X → X) (k : ℕ) (xs : List X) → All (λ y. key y ≢ k) xs → map (λ y. if key y == k then h y else y) xs ≡ xs
 change-none key h k [] absent = refl

@@ -10,7 +10,7 @@ use Rattle.mg_model.specs.KeptLists.{AllPairs-head, AllPairs-nil, AllPairs-tail}
 use Rattle.mg_model.specs.Objects.{page_behind, page_of}
 use Rattle.mg_model.specs.Ranges.{IsObjectRow}
 use Rattle.mg_model.specs.State.{ObjectRow}
-use Rattle.mg_volume.proofs.ObjectLists.{DistinctBy}
+use Rattle.mg_volume.specs.RowLists.{DistinctBy}
 use Rattle.mg_volume.specs.Meaning.{rows_apart}
 
 -- none goes where none has the key

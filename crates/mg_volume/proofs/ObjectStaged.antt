@@ -15,11 +15,11 @@ use Rattle.mg_model.specs.Volume.{live_rows, object_row_bytes, object_spelled, p
 use Rattle.mg_pages.specs.Held.{PagesHeld}
 use Rattle.mg_pages.specs.Meaning as pages
 use Rattle.mg_rows.specs.Blocks.{object_in}
-use Rattle.mg_volume.proofs.ObjectLists.{DistinctBy, by_base_all, by_base_distinct, by_base_row, changed_order, placed_distinct, put_at, row_of_index, set_is}
+use Rattle.mg_volume.proofs.ObjectLists.{by_base_all, by_base_distinct, by_base_row, changed_order, placed_distinct, put_at, row_of_index, set_is}
 use Rattle.mg_volume.specs.Contents.{accounts_within, threads_within}
 use Rattle.mg_volume.specs.Held.{VolumeHeld}
 use Rattle.mg_volume.specs.Meaning.{IsKept, IsSpelledBy, Spelled, by_base, now_of, objects_in, rows_apart, threads_in}
-use Rattle.mg_volume.specs.RowLists.{ArePlaced, row_at, row_set, set_other, set_placed, tell, told}
+use Rattle.mg_volume.specs.RowLists.{DistinctBy, ArePlaced, row_at, row_set, set_other, set_placed, tell, told}
 use Rattle.mg_volume.specs.Sound.{all_spelled}
 use Rattle.mg_volume.specs.StagesRows.{StagesRows}
 use Rattle.mg_volume.specs.Staged.{agree, objects_apart, set_apart, set_there}

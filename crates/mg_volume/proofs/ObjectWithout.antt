@@ -22,7 +22,8 @@ use Rattle.mg_volume.proofs.RemovedOrder.{filter_order, row_set_none}
 use Rattle.mg_volume.specs.Again.{spelled_same}
 use Rattle.mg_volume.specs.Held.{VolumeHeld}
 use Rattle.mg_volume.specs.Meaning.{IsHeld, IsKept, IsSpelledBy, Spelled, by_base, has_page, is_page_in, now_of, objects_in, threads_in}
-use Rattle.mg_volume.specs.Staging.{StillStaged, free_place, has_base, is_thread_staged, are_counters_staged, is_object_staged, place_for}
+use Rattle.mg_volume.proofs.StillStaged.{objects_still}
+use Rattle.mg_volume.specs.Staging.{ObjectsStillStaged, free_place, has_base, place_for, without_row}
 use Rattle.mg_volume.specs.PageWords.{pages-same}
 use Rattle.mg_volume.specs.RowLists.{row_set, set_other, set_placed}
 use Rattle.mg_volume.specs.Sound.{all_spelled}
@@ -177,7 +178,7 @@ module _ (v : VolumeHeld) (i : ℕ) (gone : ℕ × ObjectRow) (os : List (ℕ ×
           had
 
   -- the rows
-  pub rows_without : (p : PagesHeld) → objects_in (with_objects v os p) ≡ filter (λ (row : ObjectRow). not (row.base == gone.1.base)) (objects_in v)
+  pub rows_without : (p : PagesHeld) → objects_in (with_objects v os p) ≡ without_row gone.1.base (objects_in v)
   unfolding objects_in
   rows_without p = ap (map (λ (o : ℕ × ObjectRow). o.1)) g.rest ∙ filter_mapped (λ (o : ℕ × ObjectRow). o.1) (λ (row : ObjectRow). not (row.base == gone.1.base)) v.objects
 
@@ -250,11 +251,5 @@ module _ (v : VolumeHeld) (i : ℕ) (gone : ℕ × ObjectRow) (os : List (ℕ ×
       place-found (find (λ (o : ℕ × ObjectRow). o.1.base == base) os) found.0 (free_place os) still
       ∙ sym (place-found (find (λ (o : ℕ × ObjectRow). o.1.base == base) v.objects) found.0 (free_place v.objects) found.1)
 
-  pub still_without : (p : PagesHeld) (most : ℕ) → pages.StagesMore most v.pages p → StillStaged v (with_objects v os p)
-  unfolding are_counters_staged is_thread_staged is_object_staged
-  still_without p most more = record {
-    counters = λ is. more.still globals_block is;
-    thread = λ t is. more.still (first_thread_block + t - 1) is;
-    object = λ base there here is.
-        ap (λ place. pages.is_staged p (first_object_block + place / 4)) (place-same base p there here) ∙ more.still (first_object_block + place_for base v.objects / 4) is;
-  }
+  pub still_without : (p : PagesHeld) (most : ℕ) → pages.StagesMore most v.pages p → ObjectsStillStaged v (with_objects v os p)
+  still_without p most more = objects_still v (with_objects v os p) more.still (λ base there here. place-same base p there here)

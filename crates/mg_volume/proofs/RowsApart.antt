@@ -112,18 +112,7 @@ no_base base [] none = refl
 no_base base (row ∷ rows) none =
     or_from (row.base == base) (has_base base rows) (ne_eqb row.base base (All-head (λ row. row.base ≢ base) row rows none)) (no_base base rows (All-tail (λ row. row.base ≢ base) row rows none))
 
-pub gone_base : (base : ℕ) (rows : List ObjectRow) → has_base base (filter (λ (row : ObjectRow). not (row.base == base)) rows) ≡ false
-gone_base base [] = refl
-gone_base base (row ∷ rows) =
-    let rest = filter (λ (row : ObjectRow). not (row.base == base)) rows in
-    ⊎_elim (λ here. ap (λ b. has_base base (if not b then row ∷ rest else rest)) here ∙ gone_base base rows)
-    (λ elsewhere. ap (λ b. has_base base (if not b then row ∷ rest else rest)) elsewhere ∙ or_from (row.base == base) (has_base base rest) elsewhere (gone_base base rows))
-    (cases_Bool (row.base == base))
-
--- so what may join is not there, and what may change is
-pub joins_absent : (rows : List ObjectRow) (frames : ℕ) (row : ObjectRow) → IsObjectRow row → All IsObjectRow rows → MayJoin rows frames row → has_base row.base rows ≡ false
-joins_absent rows frames row is kept join = no_base row.base rows (base_apart row is rows kept join.apart)
-
+-- what may change is there
 pub changes_there : (rows : List ObjectRow) (row : ObjectRow) → MayChange rows row → has_base row.base rows ≡ true
 changes_there [] row change = absurd change
 changes_there (other ∷ rows) row change =

@@ -1,18 +1,31 @@
 -- What staging a block leaves as it was.
 use Rattle.std.specs.Prelude.{◌≡◌, ◌⊎◌, ◌+◌, ◌≤◌, ◌<◌, ℕ, true}
 use Rattle.std.proofs.Common.{inr}
+use Rattle.mg_disk.specs.Disk.{Image}
 use Rattle.mg_model.specs.State.{Counters}
 use Rattle.mg_pages.specs.Meaning as pages
+use Rattle.mg_volume.proofs.StillStaged.{still_staged}
+use Rattle.mg_volume.specs.Calls.{Stages}
 use Rattle.mg_volume.specs.Held.{VolumeHeld}
-use Rattle.mg_volume.specs.Meaning.{IsHeld, SameShape, is_live, objects_in, staged_of, total_of, words_in}
+use Rattle.mg_volume.specs.Meaning.{IsHeld, IsSpelledBy, SameShape, is_live, objects_in, settings_in, staged_of, total_of, words_in}
 
-pub same_shape : (v w : VolumeHeld) → pages.SameShape v.pages w.pages → pages.words_in w.pages ≡ pages.words_in v.pages → SameShape v w
-unfolding is_live total_of words_in
-same_shape v w shape words = record { total = shape.total; live = shape.live; words = words }
+pub same_shape : (v w : VolumeHeld) → w.settings ≡ v.settings → pages.SameShape v.pages w.pages → pages.words_in w.pages ≡ pages.words_in v.pages → SameShape v w
+unfolding settings_in is_live total_of words_in
+same_shape v w settings shape words = record { settings = settings; total = shape.total; live = shape.live; words = words }
 
 pub staged_more : (v w : VolumeHeld) (most : ℕ) → pages.StagesMore most v.pages w.pages → staged_of w ≤ staged_of v + most
 unfolding staged_of
 staged_more v w most more = more.staged
+
+-- what a call stages, from what its pages say
+pub stages_is : (v w : VolumeHeld) (most : ℕ) → w.settings ≡ v.settings → pages.SameShape v.pages w.pages → pages.words_in w.pages ≡ pages.words_in v.pages → pages.StagesMore most v.pages w.pages
+    → ((image : Image) → IsSpelledBy v image → IsSpelledBy w image) → Stages most v w
+stages_is v w most settings shape words more spelled = record {
+  shape = same_shape v w settings shape words;
+  spelled = spelled;
+  staged = staged_more v w most more;
+  still = still_staged v w more.still;
+}
 
 pub room_for : (v : VolumeHeld) (block : ℕ) → staged_of v < 160 → (pages.is_staged v.pages block ≡ true) ⊎ (pages.staged_of v.pages < 160)
 unfolding staged_of

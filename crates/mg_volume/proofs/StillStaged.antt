@@ -8,7 +8,7 @@ use Rattle.mg_model.specs.State.{ObjectRow}
 use Rattle.mg_pages.specs.Meaning as pages
 use Rattle.mg_volume.specs.Held.{VolumeHeld}
 use Rattle.mg_volume.specs.Meaning.{objects_in}
-use Rattle.mg_volume.specs.Staging.{StillStaged, are_counters_staged, free_place, has_base, is_object_staged, is_thread_staged, place_for}
+use Rattle.mg_volume.specs.Staging.{ObjectsStillStaged, StillStaged, are_counters_staged, free_place, has_base, is_object_staged, is_thread_staged, place_for}
 
 abbrev pub with_base : ℕ → List (ℕ × ObjectRow) → Option (ℕ × ObjectRow)
 with_base base objects = find (λ (o : ℕ × ObjectRow). o.1.base == base) objects
@@ -46,13 +46,18 @@ place_same base os os' has same =
     let there = base_found base os has in
     place_found base os' there.0 (same ∙ there.1) ∙ sym (place_found base os there.0 there.1)
 
--- of volumes where each block that was staged is, and each object has its place
-pub still_staged : (v w : VolumeHeld) → ((block : ℕ) → pages.is_staged v.pages block ≡ true → pages.is_staged w.pages block ≡ true)
-    → ((base : ℕ) → has_base base (objects_in v) ≡ true → has_base base (objects_in w) ≡ true → place_for base w.objects ≡ place_for base v.objects) → StillStaged v w
-unfolding are_counters_staged is_thread_staged is_object_staged
-still_staged v w still places = record {
-  counters = still globals_block;
-  thread = λ t. still (first_thread_block + t - 1);
-  object = λ base was is staged.
-      ap (λ place. pages.is_staged w.pages (first_object_block + place / 4)) (places base was is) ∙ still (first_object_block + place_for base v.objects / 4) staged;
-}
+-- of volumes where each block that was staged is
+pub still_staged : (v w : VolumeHeld) → ((block : ℕ) → pages.is_staged v.pages block ≡ true → pages.is_staged w.pages block ≡ true) → StillStaged v w
+unfolding are_counters_staged is_thread_staged
+still_staged v w still = record { counters = still globals_block; thread = λ t. still (first_thread_block + t - 1) }
+
+-- and each object has its place
+pub objects_still : (v w : VolumeHeld) → ((block : ℕ) → pages.is_staged v.pages block ≡ true → pages.is_staged w.pages block ≡ true)
+    → ((base : ℕ) → has_base base (objects_in v) ≡ true → has_base base (objects_in w) ≡ true → place_for base w.objects ≡ place_for base v.objects) → ObjectsStillStaged v w
+unfolding is_object_staged
+objects_still v w still places =
+    λ base was is staged. ap (λ place. pages.is_staged w.pages (first_object_block + place / 4)) (places base was is) ∙ still (first_object_block + place_for base v.objects / 4) staged
+
+-- where the objects are the same
+pub objects_wait : (v w : VolumeHeld) → w.objects ≡ v.objects → ((block : ℕ) → pages.is_staged v.pages block ≡ true → pages.is_staged w.pages block ≡ true) → ObjectsStillStaged v w
+objects_wait v w same each = objects_still v w each (λ base was is. ap (place_for base) same)

@@ -1,4 +1,5 @@
 pub mod Again
+pub mod Calls
 pub mod Contents
 pub mod Formed
 pub mod Held
@@ -10,6 +11,7 @@ pub mod Opening
 pub mod PageWords
 pub mod Placed
 pub mod RowLists
+pub mod RunLemmas
 pub mod Sound
 pub mod Staged
 pub mod StagesRows

@@ -147,8 +147,9 @@ pub record Keeps (old new : VolumeHeld) : Type 0 where
   pub live : is_live new ≡ is_live old
   pub total : total_of new ≡ total_of old
 
--- the same volume, as live, and as many words counted
+-- the same volume, with its settings, as live, and as many words counted
 pub record SameShape (old new : VolumeHeld) : Type 0 where
+  pub settings : settings_in new ≡ settings_in old
   pub total : total_of new ≡ total_of old
   pub live : is_live new ≡ is_live old
   pub words : words_in new ≡ words_in old

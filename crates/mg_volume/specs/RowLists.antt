@@ -1,5 +1,5 @@
 -- Live rows with their places, as a list: what stands at a place, and the list with another row there.
-use Rattle.std.specs.Prelude.{◌≡◌, ◌≢◌, ◌+◌, ◌≤◌, ◌<◌, ◌==◌, nat_lt, ℕ, zero, suc, List, [], ◌∷◌, if◌then◌else◌, Option, Some, None}
+use Rattle.std.specs.Prelude.{◌≡◌, ◌≢◌, ◌+◌, ◌≤◌, ◌<◌, ◌==◌, nat_lt, ℕ, zero, suc, All, List, [], ◌∷◌, if◌then◌else◌, Option, Some, None}
 use Rattle.std.proofs.Common.{refl, sym, ap, subst, ◌∙◌, ⊎_elim, arith}
 use Rattle.std.proofs.lemmas.Bool.{cases_eq, cases_lt, eq-eqb, le-ltb, lt-ltb, ne_eqb}
 use Rattle.mg_model.specs.Spelling.{Read}
@@ -10,6 +10,11 @@ use Rattle.mg_model.specs.Words.{and_then}
 abbrev pub row_at : {R : Type 0} → ℕ → List (ℕ × R) → Option R
 row_at j [] = None
 row_at j ((i, r) ∷ rows) = if i == j then Some r else row_at j rows
+
+-- no two have the same key
+abbrev pub DistinctBy : {X : Type 0} → (X → ℕ) → List X → Type 0
+DistinctBy key [] = Unit {0}
+DistinctBy key (x ∷ xs) = All (λ y. key y ≢ key x) xs × DistinctBy key xs
 
 -- places from low on and below high, in order
 abbrev pub ArePlaced : {R : Type 0} → ℕ → ℕ → List (ℕ × R) → Type 0

@@ -44,11 +44,14 @@ is_thread_staged v t = pages.is_staged v.pages (first_thread_block + t - 1)
 unfoldable pub is_object_staged : VolumeHeld → ℕ → Bool
 is_object_staged v base = pages.is_staged v.pages (first_object_block + place_for base v.objects / 4)
 
--- what was staged still is
+-- the counters and the threads that were staged still are
 pub record StillStaged (old new : VolumeHeld) : Type 0 where
   pub counters : are_counters_staged old ≡ true → are_counters_staged new ≡ true
   pub thread : (t : ℕ) → is_thread_staged old t ≡ true → is_thread_staged new t ≡ true
-  pub object : (base : ℕ) → has_base base (objects_in old) ≡ true → has_base base (objects_in new) ≡ true → is_object_staged old base ≡ true → is_object_staged new base ≡ true
+
+-- and so are the objects that were, where they are there still
+abbrev pub ObjectsStillStaged : VolumeHeld → VolumeHeld → Type 0
+ObjectsStillStaged old new = (base : ℕ) → has_base base (objects_in old) ≡ true → has_base base (objects_in new) ≡ true → is_object_staged old base ≡ true → is_object_staged new base ≡ true
 
 -- whether an object meets none of these
 abbrev pub is_apart_from : List ObjectRow → ObjectRow → Bool
@@ -64,33 +67,19 @@ pub record MayJoin (rows : List ObjectRow) (frames : ℕ) (row : ObjectRow) : Ty
 abbrev pub MayChange : List ObjectRow → ObjectRow → Type 0
 MayChange rows row = IsSomeAnd (find (λ (old : ObjectRow). old.base == row.base) rows) (λ old. old.pages ≡ row.pages)
 
--- the object with a base may have this row, or be no more
-abbrev pub MayStand : List ObjectRow → ℕ → ℕ → Option ObjectRow → Type 0
-MayStand rows frames base None = has_base base rows ≡ true
-MayStand rows frames base (Some row) = (row.base ≡ base) × (MayChange rows row ⊎ MayJoin rows frames row)
-
 -- a row before the first with a larger base
 abbrev pub with_new_row : ObjectRow → List ObjectRow → List ObjectRow
 with_new_row new [] = new ∷ []
 with_new_row new (row ∷ rows) = if nat_lt new.base row.base then new ∷ row ∷ rows else row ∷ with_new_row new rows
 
--- the rows with this one for the object with a base, or without that object
-abbrev pub object_rows_with : ℕ → Option ObjectRow → List ObjectRow → List ObjectRow
-object_rows_with base None rows = filter (λ (row : ObjectRow). not (row.base == base)) rows
-object_rows_with base (Some new) rows =
-    if has_base base rows then map (λ (row : ObjectRow). if row.base == base then new else row) rows else with_new_row new rows
+-- the rows with this one in place of the one with its base
+abbrev pub with_other_row : ObjectRow → List ObjectRow → List ObjectRow
+with_other_row new rows = map (λ (row : ObjectRow). if row.base == new.base then new else row) rows
+
+-- the rows without the one with a base
+abbrev pub without_row : ℕ → List ObjectRow → List ObjectRow
+without_row base rows = filter (λ (row : ObjectRow). not (row.base == base)) rows
 
 -- an object whose words are all 0
 abbrev pub blank : ObjectRow → Object
 blank row = record { row = row; words = replicate (512 * row.pages) 0 }
-
--- the objects with this row for the one with a base, whose words are all 0 where it is new, or without it
-abbrev pub objects_with : ℕ → Option ObjectRow → List Object → List Object
-objects_with base None objects = without_object base objects
-objects_with base (Some new) objects =
-    if has_base base (map (λ (object : Object). object.row) objects) then with_row base (λ old. new) objects else with_object (blank new) objects
-
--- how many blocks more a row stages at most: where an object goes, the frame table too
-abbrev pub most_staged : Option ObjectRow → ℕ
-most_staged None = 129
-most_staged (Some row) = 1

@@ -1,10 +1,11 @@
 // What a volume stages.
 ghost use Rattle.std.specs.Prelude.{List, ◌≡◌, ◌⊎◌, ◌≤◌, ◌<◌, ◌+◌, ◌^◌, ℕ, true, None, Some};
 ghost use Rattle.std.specs.Option.{option_map_or};
-ghost use Rattle.mg_model.specs.Draw.{password_drawn};
+ghost use Rattle.mg_model.specs.ObjectCalls.{drawn, next_password};
 ghost use Rattle.mg_model.specs.Spelling.{thread_read};
-ghost use Rattle.mg_volume.specs.Meaning.{IsSpelledBy, SameShape, counters_in, now_of, objects_in, settings_in, staged_of, threads_in};
-ghost use Rattle.mg_volume.specs.Staging.{StillStaged, are_counters_staged, is_thread_staged, threads_with};
+ghost use Rattle.mg_volume.specs.Calls.{Stages};
+ghost use Rattle.mg_volume.specs.Meaning.{IsSpelledBy, counters_in, now_of, objects_in, staged_of, threads_in};
+ghost use Rattle.mg_volume.specs.Staging.{ObjectsStillStaged, are_counters_staged, is_thread_staged, threads_with};
 
 use crate::thread_list::put_row;
 use crate::volume::Volume;
@@ -20,11 +21,9 @@ impl Volume {
         requires room { (are_counters_staged self.old ≡ true) ⊎ (staged_of self.old < 160) }
         ensures now { (image : List (List ℕ)) → now_of self.new image ≡ record (now_of self.old image) { counters = g } }
         ensures rows { objects_in self.new ≡ objects_in self.old }
-        ensures spelled { (image : List (List ℕ)) → IsSpelledBy self.old image → IsSpelledBy self.new image }
-        ensures staged { staged_of self.new ≤ staged_of self.old + 1 }
-        ensures still { StillStaged self.old self.new }
+        ensures stages { Stages 1 self.old self.new }
+        ensures objects { ObjectsStillStaged self.old self.new }
         ensures here { are_counters_staged self.new ≡ true }
-        ensures shape { SameShape self.old self.new }
     {
         let mut block = [0; BLOCK_SIZE];
         write_globals(&g, &mut block);
@@ -40,11 +39,9 @@ impl Volume {
         requires room { (is_thread_staged self.old t ≡ true) ⊎ (staged_of self.old < 160) }
         ensures now { (image : List (List ℕ)) → IsSpelledBy self.old image → now_of self.new image ≡ record (now_of self.old image) { threads = threads_with t row (threads_in self.old) } }
         ensures rows { objects_in self.new ≡ objects_in self.old }
-        ensures spelled { (image : List (List ℕ)) → IsSpelledBy self.old image → IsSpelledBy self.new image }
-        ensures staged { staged_of self.new ≤ staged_of self.old + 1 }
-        ensures still { StillStaged self.old self.new }
+        ensures stages { Stages 1 self.old self.new }
+        ensures objects { ObjectsStillStaged self.old self.new }
         ensures here { is_thread_staged self.new t ≡ true }
-        ensures shape { SameShape self.old self.new }
     {
         let block = thread_block(&row);
         put_row(&mut self.threads, t, row);
@@ -56,14 +53,12 @@ impl Volume {
     pub fn next_password(&mut self) -> u64
         requires room { (are_counters_staged self.old ≡ true) ⊎ (staged_of self.old < 160) }
         requires few { (counters_in self.old).draws < 2 ^ 32 }
-        ensures drawn { result ≡ password_drawn (settings_in self.old).seed (counters_in self.old).draws }
-        ensures now { (image : List (List ℕ)) → now_of self.new image ≡ record (now_of self.old image) { counters = record (counters_in self.old) { draws = (counters_in self.old).draws + 1 } } }
+        ensures drawn { (image : List (List ℕ)) → result ≡ next_password (now_of self.old image) }
+        ensures now { (image : List (List ℕ)) → now_of self.new image ≡ drawn (now_of self.old image) }
         ensures rows { objects_in self.new ≡ objects_in self.old }
-        ensures spelled { (image : List (List ℕ)) → IsSpelledBy self.old image → IsSpelledBy self.new image }
-        ensures staged { staged_of self.new ≤ staged_of self.old + 1 }
-        ensures still { StillStaged self.old self.new }
+        ensures stages { Stages 1 self.old self.new }
+        ensures objects { ObjectsStillStaged self.old self.new }
         ensures here { are_counters_staged self.new ≡ true }
-        ensures shape { SameShape self.old self.new }
     {
         let mut globals = self.globals();
         let draws = globals.draws();

@@ -3,7 +3,7 @@ ghost use Rattle.std.specs.Prelude.{◌≡◌, ◌≤◌, ◌<◌, ◌||◌, nat
 ghost use Rattle.std.specs.List.{list_all, list_any};
 ghost use Rattle.mg_model.specs.Objects.{page_behind, page_of};
 ghost use Rattle.mg_volume.specs.Meaning.{StandsOn, has_page, is_page_in, objects_in, settings_in, staged_of};
-ghost use Rattle.mg_volume.specs.Staging.{MayChange, MayJoin, MayStand, has_base};
+ghost use Rattle.mg_volume.specs.Staging.{MayChange, MayJoin, has_base};
 ghost use Rattle.mg_volume.specs.Sound.{is_sound_held};
 
 use crate::soundness::{are_few, is_sound};
@@ -103,13 +103,42 @@ impl Trial {
         &self.volume
     }
 
-    /// Stages the row of an object, or that there is none. Tells how many blocks are staged then.
+    /// Stages the row of an object with this base, or that there is none. Tells how many blocks are staged then.
     fn object(&mut self, base: u64, row: Option<ObjRow>) -> Option<usize> {
-        if self.volume.staged() > 30 || !may_stand(&self.volume, base, &row) {
+        if self.volume.staged() > 30 {
             return None;
         }
-        self.volume.stage_object(base, row);
+        match row {
+            Some(row) => self.put(row)?,
+            None => self.remove(base)?,
+        }
         Some(self.volume.staged())
+    }
+
+    /// Stages a row, of an object that is there or of a new one.
+    fn put(&mut self, row: ObjRow) -> Option<()>
+        requires { staged_of self.old ≤ 30 }
+    {
+        if changes(&self.volume, &row) {
+            self.volume.change(row);
+            return Some(());
+        }
+        if !joins(&self.volume, &row) {
+            return None;
+        }
+        self.volume.insert(row);
+        Some(())
+    }
+
+    /// Stages that an object is no more.
+    fn remove(&mut self, base: u64) -> Option<()>
+        requires { staged_of self.old ≤ 30 }
+    {
+        if !is_there(&self.volume, base) {
+            return None;
+        }
+        self.volume.remove(base);
+        Some(())
     }
 
     /// The same of a thread.
@@ -231,16 +260,7 @@ fn is_page_in(page: u64, row: &ObjRow) -> bool
     first <= page && page < first + row.pages()
 }
 
-/// Whether the object with a base may have a row, or be no more.
-fn may_stand(volume: &Volume, base: u64, row: &Option<ObjRow>) -> bool
-    ensures { result ≡ true → MayStand (objects_in volume.now) (settings_in volume.now).frames base row.now }
-{
-    match row {
-        Some(row) => row.base() == base && (changes(volume, row) || joins(volume, row)),
-        None => is_there(volume, base),
-    }
-}
-
+/// Whether there is an object with a base.
 fn is_there(volume: &Volume, base: u64) -> bool
     ensures { result ≡ true → has_base base (objects_in volume.now) ≡ true }
 {

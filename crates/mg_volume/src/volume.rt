@@ -1,5 +1,5 @@
 // A volume that is open.
-ghost use Rattle.std.specs.Prelude.{List, ◌≡◌, ◌≤◌, ◌<◌, ◌+◌, ◌*◌, ◌==◌, ℕ, true, false, IfOk, IsTrue, MatchOption, None, OnErr, OnOk, Some, find, option_copied, option_map, ◌⊎◌};
+ghost use Rattle.std.specs.Prelude.{List, ◌≡◌, ◌≤◌, ◌<◌, ◌+◌, ◌*◌, ◌==◌, ℕ, true, false, IfOk, IfSome, IsTrue, MatchOption, None, OnErr, OnOk, Some, find, option_copied, option_map, ◌⊎◌};
 ghost use Rattle.std.specs.Option.{ForSome};
 ghost use Rattle.mg_disk.specs.Stops.{CountGoes, CountRose, Leaves, NothingPending, WritesNothing};
 ghost use Rattle.mg_model.specs.Access.{covers, last_slots};
@@ -108,10 +108,12 @@ impl Volume {
         self.objects.iter().find(|o| o.1.base() == base)
     }
 
-    /// The object that has an address.
+    /// The object that has an address. It is the one with its base.
     pub fn covering(&self, a: u64) -> Option<ObjRow>
-        ensures { result ≡ find (λ row. covers row a) (objects_in self.now) }
+        ensures found { result ≡ find (λ row. covers row a) (objects_in self.now) }
+        ensures own { IfSome result (λ row. find (λ other. other.base == row.base) (objects_in self.now) ≡ Some row) }
     {
+        self.bases_differ();
         match self.found_covering(a) {
             Some(o) => Some(o.1),
             None => None,
@@ -128,9 +130,10 @@ impl Volume {
         }
     }
 
-    /// Account n, from 1 on.
+    /// Account n, 1 to 1,024.
     pub fn account(&self, n: u64) -> Option<AccRow>
-        ensures { result ≡ account_of (accounts_in self.now) n }
+        ensures found { result ≡ account_of (accounts_in self.now) n }
+        ensures few { IfSome result (λ _. (1 ≤ n) × (n ≤ 1024)) }
     {
         if n == 0 {
             return None;

@@ -1,11 +1,11 @@
 // The words of a volume.
 ghost use Rattle.std.specs.Prelude.{◌≡◌, ◌≤◌, ◌<◌, ◌+◌, ◌*◌, true, IfOk, OnErr, OnOk};
 ghost use Rattle.std.specs.Option.{ForSome};
-ghost use Rattle.mg_disk.specs.Stops.{CountGoes, CountRose, WritesNothing};
+ghost use Rattle.mg_disk.specs.Stops.{CountRose};
 ghost use Rattle.mg_model.specs.Objects.{with_word, word_at};
-ghost use Rattle.mg_model.specs.Counts.{CountsAlike};
-ghost use Rattle.mg_volume.specs.Meaning.{Keeps, StandsOn, has_page, is_live, is_sound, now_of, objects_in, staged_of, total_of, words_in};
-ghost use Rattle.mg_volume.specs.Staging.{StillStaged};
+ghost use Rattle.mg_volume.specs.Calls.{Reads, Serves};
+ghost use Rattle.mg_volume.specs.Meaning.{Keeps, StandsOn, has_page, is_sound, now_of, objects_in, staged_of, total_of};
+ghost use Rattle.mg_volume.specs.Staging.{ObjectsStillStaged};
 
 use crate::volume::Volume;
 use mg_disk::Disk;
@@ -27,17 +27,11 @@ impl Volume {
         requires page { has_page self.old page ≡ true }
         requires index { index < 512 }
         ensures word { IfOk result (λ word. ForSome (D.seen disk.old) (λ image. word ≡ word_at (now_of self.old image).objects (4096 * page + 8 * index))) }
-        ensures keeps { Keeps self.old self.new }
-        ensures still { StillStaged self.old self.new }
-        ensures rows { objects_in self.new ≡ objects_in self.old }
-        ensures stands { StandsOn D.Disk self.new disk.new }
-        ensures writes { WritesNothing D.Disk disk.old disk.new }
-        ensures counted { CountsAlike (words_in self.old) (words_in self.new) steps.old steps.new }
+        ensures reads { Reads D.Disk self.old self.new disk.old disk.new steps.old steps.new }
+        ensures objects { ObjectsStillStaged self.old self.new }
         ensures one { OnOk result (steps.new ≡ steps.old + 1) }
         ensures none { OnErr result (steps.new ≡ steps.old) }
         ensures cause { OnErr result (CountRose D.Disk disk.old disk.new) }
-        ensures count { CountGoes D.Disk disk.old disk.new }
-        ensures blocks { D.block_count disk.new ≡ D.block_count disk.old }
     {
         self.pages.word(disk, page, index, steps)
     }
@@ -60,18 +54,12 @@ impl Volume {
         ensures failed { OnErr result (Keeps self.old self.new) }
         ensures rows { objects_in self.new ≡ objects_in self.old }
         ensures sound { ForSome (D.seen disk.old) (λ image. is_sound (now_of self.new image) ≡ is_sound (now_of self.old image)) }
-        ensures live { is_live self.new ≡ is_live self.old }
         ensures total { total_of self.new ≡ total_of self.old }
-        ensures staged { staged_of self.new ≤ staged_of self.old + 2 }
-        ensures still { StillStaged self.old self.new }
-        ensures stands { StandsOn D.Disk self.new disk.new }
-        ensures writes { WritesNothing D.Disk disk.old disk.new }
-        ensures counted { CountsAlike (words_in self.old) (words_in self.new) steps.old steps.new }
+        ensures serves { Serves 2 D.Disk self.old self.new disk.old disk.new steps.old steps.new }
+        ensures objects { ObjectsStillStaged self.old self.new }
         ensures one { OnOk result (steps.new ≡ steps.old + 1) }
         ensures none { OnErr result (steps.new ≡ steps.old) }
         ensures cause { OnErr result (CountRose D.Disk disk.old disk.new) }
-        ensures count { CountGoes D.Disk disk.old disk.new }
-        ensures blocks { D.block_count disk.new ≡ D.block_count disk.old }
     {
         let _staged = self.pages.staged();
         self.pages.set_word(disk, page, index, value, steps)

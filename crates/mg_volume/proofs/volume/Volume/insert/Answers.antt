@@ -1,7 +1,7 @@
-use Rattle.std.proofs.Common.{◌∙◌, ap, subst, arith, ⊎_elim, inl, inr}
+use Rattle.std.proofs.Common.{◌∙◌, ap, subst, arith, refl, ⊎_elim, inl, inr}
 use Rattle.mg_volume.proofs.ObjectInserted.{few_enough, inserted_held, inserted_here, inserted_low, inserted_now, inserted_room, inserted_rows, inserted_spelled, inserted_still}
 use Rattle.mg_volume.proofs.ObjectStaged.{with_objects}
-use Rattle.mg_volume.proofs.Stages.{same_shape, staged_more}
+use Rattle.mg_volume.proofs.Stages.{stages_is}
 use Rattle.mg_volume.specs.Again.{pages_spelled}
 use Rattle.mg_volume.specs.Meaning.{staged_of}
 use Rattle.mg_volume.specs.Staging.{free_place}
@@ -42,19 +42,17 @@ returns-clause-rows c =
     let join = rw (← c.self.view_is) at c.requires.join in
     rw (← c.self.view_is) (inserted_rows (the_view c.self.inside) c.args.row c.free_place-place.result c.base-base.ensures.kept c.self.invariant.kept join (c.free_place-place.ensures ∙ ap free_place c.deref.ensures.value) c.stage_row.new.pages c.add_object.new.objects.items c.add_object.ensures.objects)
 
-pub returns-clause-spelled : goal.returns-clause-spelled
-returns-clause-spelled c image is =
-    let join = rw (← c.self.view_is) at c.requires.join in
-    let was = rw (← c.self.view_is) at is in
-    inserted_spelled (the_view c.self.inside) c.args.row c.free_place-place.result c.base-base.ensures.kept c.self.invariant.kept join (c.free_place-place.ensures ∙ ap free_place c.deref.ensures.value) c.stage_row.new.pages c.add_object.new.objects.items c.add_object.ensures.objects image was (c.stage_row.ensures.spelled image (pages_spelled (the_view c.self.inside) image was)) c.stage_row.ensures.shape.frames (subst (λ l. StagesRows l c.free_place-place.result c.self.inside.pages c.stage_row.new.pages) c.deref-2.ensures.value c.stage_row.ensures.rows)
-
-pub returns-clause-staged : goal.returns-clause-staged
-returns-clause-staged c =
+pub returns-clause-stages : goal.returns-clause-stages
+returns-clause-stages c =
     let v = the_view c.self.inside in
-    rw (← c.self.view_is) (staged_more v (with_objects v c.add_object.new.objects.items c.stage_row.new.pages) 1 c.stage_row.ensures.staged)
+    let join = rw (← c.self.view_is) at c.requires.join in
+    rw (← c.self.view_is)
+    (stages_is v (with_objects v c.add_object.new.objects.items c.stage_row.new.pages) 1 refl c.stage_row.ensures.shape c.stage_row.ensures.words c.stage_row.ensures.staged
+    (λ image was.
+    inserted_spelled v c.args.row c.free_place-place.result c.base-base.ensures.kept c.self.invariant.kept join (c.free_place-place.ensures ∙ ap free_place c.deref.ensures.value) c.stage_row.new.pages c.add_object.new.objects.items c.add_object.ensures.objects image was (c.stage_row.ensures.spelled image (pages_spelled v image was)) c.stage_row.ensures.shape.frames (subst (λ l. StagesRows l c.free_place-place.result c.self.inside.pages c.stage_row.new.pages) c.deref-2.ensures.value c.stage_row.ensures.rows)))
 
-pub returns-clause-still : goal.returns-clause-still
-returns-clause-still c =
+pub returns-clause-objects : goal.returns-clause-objects
+returns-clause-objects c =
     let join = rw (← c.self.view_is) at c.requires.join in
     rw (← c.self.view_is) (inserted_still (the_view c.self.inside) c.args.row c.free_place-place.result c.base-base.ensures.kept c.self.invariant.kept join (c.free_place-place.ensures ∙ ap free_place c.deref.ensures.value) c.stage_row.new.pages c.add_object.new.objects.items c.add_object.ensures.objects 1 c.stage_row.ensures.staged)
 
@@ -62,8 +60,3 @@ pub returns-clause-here : goal.returns-clause-here
 returns-clause-here c =
     let join = rw (← c.self.view_is) at c.requires.join in
     inserted_here (the_view c.self.inside) c.args.row c.free_place-place.result c.base-base.ensures.kept c.self.invariant.kept join (c.free_place-place.ensures ∙ ap free_place c.deref.ensures.value) c.stage_row.new.pages c.add_object.new.objects.items c.add_object.ensures.objects c.stage_row.ensures.here
-
-pub returns-clause-shape : goal.returns-clause-shape
-returns-clause-shape c =
-    let v = the_view c.self.inside in
-    rw (← c.self.view_is) (same_shape v (with_objects v c.add_object.new.objects.items c.stage_row.new.pages) c.stage_row.ensures.shape c.stage_row.ensures.words)

@@ -1,9 +1,9 @@
-use Rattle.std.proofs.Common.{◌≡◌, ◌∙◌, ℕ, ap, arith}
+use Rattle.std.proofs.Common.{◌≡◌, ◌∙◌, ℕ, ap, arith, refl}
 use Rattle.mg_model.specs.State.{ObjectRow}
 use Rattle.mg_pages.specs.Meaning as pages
 use Rattle.mg_volume.proofs.ObjectStaged.{with_objects}
 use Rattle.mg_volume.proofs.ObjectWithout.{Goes, goes, held_without, now_without, rows_without, shape_then, spelled_without, stages_then, still_without}
-use Rattle.mg_volume.proofs.Stages.{same_shape, staged_more}
+use Rattle.mg_volume.proofs.Stages.{stages_is}
 use Rattle.mg_volume.specs.Again.{pages_spelled}
 use Rattle.mg_volume.specs.Meaning.{staged_of}
 use Rattle.mg_volume.specs.contracts.volume.Volume.{the_view}
@@ -51,28 +51,18 @@ pub returns-clause-rows : goal.returns-clause-rows
 returns-clause-rows c =
     rw (← c.self.view_is, ← base_is c) (rows_without (the_view c.self.inside) c.index_of-i.result c.take_object-taken.result c.take_object-taken.new.objects.items (gone_is c) c.release_object.new.pages)
 
-pub returns-clause-spelled : goal.returns-clause-spelled
-returns-clause-spelled c image is =
-    let v = the_view c.self.inside in
-    let was = rw (← c.self.view_is) at is in
-    let taken = c.take_object-taken.ensures in
-    let middle = taken.spelled image (pages_spelled v image was) in
-    spelled_without v c.index_of-i.result c.take_object-taken.result c.take_object-taken.new.objects.items (gone_is c) c.take_object-taken.new.pages c.release_object.new.pages image was middle taken.shape.frames taken.rows
-    (c.release_object.ensures.spelled image middle) c.release_object.ensures.shape.frames (c.release_object.ensures.released image middle)
-
-pub returns-clause-staged : goal.returns-clause-staged
-returns-clause-staged c =
-    let v = the_view c.self.inside in
-    rw (← c.self.view_is) (staged_more v (with_objects v c.take_object-taken.new.objects.items c.release_object.new.pages) 129 (more c))
-
-pub returns-clause-still : goal.returns-clause-still
-returns-clause-still c =
-    rw (← c.self.view_is) (still_without (the_view c.self.inside) c.index_of-i.result c.take_object-taken.result c.take_object-taken.new.objects.items (gone_is c) c.release_object.new.pages 129 (more c))
-
-pub returns-clause-shape : goal.returns-clause-shape
-returns-clause-shape c =
+pub returns-clause-stages : goal.returns-clause-stages
+returns-clause-stages c =
     let v = the_view c.self.inside in
     let taken = c.take_object-taken.ensures in
     rw (← c.self.view_is)
-    (same_shape v (with_objects v c.take_object-taken.new.objects.items c.release_object.new.pages) (shape_then c.self.inside.pages c.take_object-taken.new.pages c.release_object.new.pages taken.shape c.release_object.ensures.shape)
-    (c.release_object.ensures.words ∙ taken.words))
+    (stages_is v (with_objects v c.take_object-taken.new.objects.items c.release_object.new.pages) 129 refl (shape_then c.self.inside.pages c.take_object-taken.new.pages c.release_object.new.pages taken.shape c.release_object.ensures.shape)
+    (c.release_object.ensures.words ∙ taken.words) (more c)
+    (λ image was.
+    let middle = taken.spelled image (pages_spelled v image was) in
+    spelled_without v c.index_of-i.result c.take_object-taken.result c.take_object-taken.new.objects.items (gone_is c) c.take_object-taken.new.pages c.release_object.new.pages image was middle taken.shape.frames taken.rows
+    (c.release_object.ensures.spelled image middle) c.release_object.ensures.shape.frames (c.release_object.ensures.released image middle)))
+
+pub returns-clause-objects : goal.returns-clause-objects
+returns-clause-objects c =
+    rw (← c.self.view_is) (still_without (the_view c.self.inside) c.index_of-i.result c.take_object-taken.result c.take_object-taken.new.objects.items (gone_is c) c.release_object.new.pages 129 (more c))

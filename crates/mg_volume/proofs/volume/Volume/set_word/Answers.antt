@@ -1,7 +1,7 @@
 use Rattle.std.proofs.Common.{◌∙◌, ap, inl, inr, refl, ⊎_elim}
 use Rattle.std.proofs.lemmas.Result.{on_err_weaker, on_ok_weaker}
 use Rattle.mg_volume.proofs.PagesChange.{counted, frame_free, held_again, keeps_now, rows_same, same_objects, same_sound, some_page, word_set}
-use Rattle.mg_volume.proofs.StillWaiting.{still_staged}
+use Rattle.mg_volume.proofs.StillStaged.{objects_wait, still_staged}
 use Rattle.mg_volume.specs.Again.{pages_stand, stands_same, with_pages}
 use Rattle.mg_volume.specs.Meaning.{has_page, is_live, staged_of, total_of, words_in}
 use Rattle.mg_volume.specs.contracts.volume.Volume.{the_view}
@@ -45,30 +45,29 @@ returns-clause-rows g c = rw (← c.self.view_is) (same_objects (the_view c.self
 pub returns-clause-sound : goal.returns-clause-sound
 returns-clause-sound g c image told = rw (← c.self.view_is) (same_sound (the_view c.self.inside) c.set_word.new.self image image)
 
-pub returns-clause-live : goal.returns-clause-live
-unfolding is_live
-returns-clause-live g c = rw (← c.self.view_is) c.set_word.ensures.shape.live
-
 pub returns-clause-total : goal.returns-clause-total
 unfolding total_of
 returns-clause-total g c = rw (← c.self.view_is) c.set_word.ensures.shape.total
 
-pub returns-clause-staged : goal.returns-clause-staged
-unfolding staged_of
-returns-clause-staged g c = rw (← c.self.view_is) c.set_word.ensures.staged.staged
-
-pub returns-clause-still : goal.returns-clause-still
-returns-clause-still g c =
+pub returns-clause-serves : goal.returns-clause-serves
+unfolding is_live staged_of words_in
+returns-clause-serves g c =
     let v = the_view c.self.inside in
-    rw (← c.self.view_is) (still_staged v (with_pages v c.set_word.new.self) refl c.set_word.ensures.staged.still)
+    let said = c.set_word.ensures in
+    rw (← c.self.view_is)
+    (record {
+      stands = stands_same g.D.Disk v c.args.disk.now (rw (← c.self.view_is) at c.requires.stands) c.set_word.new.self c.set_word.new.disk said.stands said.writes.same said.shape.frames
+          (rows_same c.set_word.result g.D.Disk c.args.disk.now v c.set_word.new.self c.args.page c.args.index c.args.value said.sets said.failed);
+      writes = said.writes;
+      live = said.shape.live;
+      staged = said.staged.staged;
+      still = still_staged v (with_pages v c.set_word.new.self) said.staged.still;
+      counted = counted c.set_word.result c.self.inside.pages c.set_word.new.self c.args.steps.now c.set_word.new.steps said.counts said.counts_failed;
+      count = said.count;
+      blocks = said.blocks;
+    })
 
-pub returns-clause-stands : goal.returns-clause-stands
-returns-clause-stands g c =
+pub returns-clause-objects : goal.returns-clause-objects
+returns-clause-objects g c =
     let v = the_view c.self.inside in
-    stands_same g.D.Disk v c.args.disk.now (rw (← c.self.view_is) at c.requires.stands) c.set_word.new.self c.set_word.new.disk c.set_word.ensures.stands c.set_word.ensures.writes.same c.set_word.ensures.shape.frames
-    (rows_same c.set_word.result g.D.Disk c.args.disk.now v c.set_word.new.self c.args.page c.args.index c.args.value c.set_word.ensures.sets c.set_word.ensures.failed)
-
-pub returns-clause-counted : goal.returns-clause-counted
-unfolding words_in
-returns-clause-counted g c =
-    rw (← c.self.view_is) (counted c.set_word.result c.self.inside.pages c.set_word.new.self c.args.steps.now c.set_word.new.steps c.set_word.ensures.counts c.set_word.ensures.counts_failed)
+    rw (← c.self.view_is) (objects_wait v (with_pages v c.set_word.new.self) refl c.set_word.ensures.staged.still)

@@ -1,7 +1,8 @@
 use Rattle.std.proofs.Common.{refl}
 use Rattle.mg_volume.proofs.PagesChange.{held_same, same_objects}
-use Rattle.mg_volume.proofs.Stages.{held_counters, same_shape, staged_more}
-use Rattle.mg_volume.proofs.StillWaiting.{counters_here, counters_room, still_staged}
+use Rattle.mg_volume.proofs.Stages.{held_counters, stages_is}
+use Rattle.mg_volume.proofs.StillStaged.{objects_wait}
+use Rattle.mg_volume.proofs.StillWaiting.{counters_here, counters_room}
 use Rattle.mg_volume.specs.Meaning.{objects_in}
 use Rattle.mg_volume.specs.Staged.{counters_now, counters_staged, with_counters}
 use Rattle.mg_volume.specs.contracts.volume.Volume.{the_view}
@@ -23,26 +24,17 @@ pub returns-clause-rows : goal.returns-clause-rows
 unfolding objects_in
 returns-clause-rows c = rw (← c.self.view_is) (same_objects (the_view c.self.inside) c.stage.new.self)
 
-pub returns-clause-spelled : goal.returns-clause-spelled
-returns-clause-spelled c image is =
+pub returns-clause-stages : goal.returns-clause-stages
+returns-clause-stages c =
     let v = the_view c.self.inside in
-    let was = rw (← c.self.view_is) at is in
-    counters_staged v c.stage.new.self c.args.g c.write_globals.new.out image was (c.stage.ensures.spelled image) c.stage.ensures.shape.frames (c.stage.ensures.coming image) c.write_globals.ensures.read_back
+    rw (← c.self.view_is)
+    (stages_is v (with_counters v c.stage.new.self c.args.g) 1 refl c.stage.ensures.shape c.stage.ensures.words c.stage.ensures.staged
+    (λ image was. counters_staged v c.stage.new.self c.args.g c.write_globals.new.out image was (c.stage.ensures.spelled image) c.stage.ensures.shape.frames (c.stage.ensures.coming image) c.write_globals.ensures.read_back))
 
-pub returns-clause-staged : goal.returns-clause-staged
-returns-clause-staged c =
+pub returns-clause-objects : goal.returns-clause-objects
+returns-clause-objects c =
     let v = the_view c.self.inside in
-    rw (← c.self.view_is) (staged_more v (with_counters v c.stage.new.self c.args.g) 1 c.stage.ensures.staged)
-
-pub returns-clause-still : goal.returns-clause-still
-returns-clause-still c =
-    let v = the_view c.self.inside in
-    rw (← c.self.view_is) (still_staged v (with_counters v c.stage.new.self c.args.g) refl c.stage.ensures.staged.still)
+    rw (← c.self.view_is) (objects_wait v (with_counters v c.stage.new.self c.args.g) refl c.stage.ensures.staged.still)
 
 pub returns-clause-here : goal.returns-clause-here
 returns-clause-here c = counters_here (with_counters (the_view c.self.inside) c.stage.new.self c.args.g) c.stage.ensures.here
-
-pub returns-clause-shape : goal.returns-clause-shape
-returns-clause-shape c =
-    let v = the_view c.self.inside in
-    rw (← c.self.view_is) (same_shape v (with_counters v c.stage.new.self c.args.g) c.stage.ensures.shape c.stage.ensures.words)

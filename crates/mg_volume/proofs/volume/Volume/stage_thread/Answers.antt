@@ -1,7 +1,8 @@
 use Rattle.std.proofs.Common.{◌≡◌, ◌+◌, ◌-◌, refl, arith}
 use Rattle.mg_volume.proofs.PagesChange.{held_same, same_objects}
-use Rattle.mg_volume.proofs.Stages.{same_shape, staged_more}
-use Rattle.mg_volume.proofs.StillWaiting.{still_staged, thread_here, thread_room}
+use Rattle.mg_volume.proofs.Stages.{stages_is}
+use Rattle.mg_volume.proofs.StillStaged.{objects_wait}
+use Rattle.mg_volume.proofs.StillWaiting.{thread_here, thread_room}
 use Rattle.mg_volume.proofs.ThreadStaged.{held_threads, thread_now, thread_spelled, with_threads}
 use Rattle.mg_volume.specs.Meaning.{objects_in}
 use Rattle.mg_volume.specs.contracts.volume.Volume.{the_view}
@@ -26,26 +27,19 @@ pub returns-clause-rows : goal.returns-clause-rows
 unfolding objects_in
 returns-clause-rows c = rw (← c.self.view_is) (same_objects (the_view c.self.inside) c.stage.new.self)
 
-pub returns-clause-spelled : goal.returns-clause-spelled
-returns-clause-spelled c image is =
-    let was = rw (← c.self.view_is) at is in
+pub returns-clause-stages : goal.returns-clause-stages
+returns-clause-stages c =
+    let v = the_view c.self.inside in
     let number : c.args.t - 1 + 1 ≡ c.args.t = omega arith in
-    thread_spelled (the_view c.self.inside) c.stage.new.self image c.args.t (c.args.t - 1) c.args.row c.put_row.new.rows.items c.thread_block-block.result number (omega arith) (c.stage.ensures.coming image) c.put_row.ensures.rows was (c.stage.ensures.spelled image) c.stage.ensures.shape.frames c.thread_block-block.ensures
+    rw (← c.self.view_is)
+    (stages_is v (with_threads v c.put_row.new.rows.items c.stage.new.self) 1 refl c.stage.ensures.shape c.stage.ensures.words c.stage.ensures.staged
+    (λ image was.
+    thread_spelled v c.stage.new.self image c.args.t (c.args.t - 1) c.args.row c.put_row.new.rows.items c.thread_block-block.result number (omega arith) (c.stage.ensures.coming image) c.put_row.ensures.rows was (c.stage.ensures.spelled image) c.stage.ensures.shape.frames c.thread_block-block.ensures))
 
-pub returns-clause-staged : goal.returns-clause-staged
-returns-clause-staged c =
+pub returns-clause-objects : goal.returns-clause-objects
+returns-clause-objects c =
     let v = the_view c.self.inside in
-    rw (← c.self.view_is) (staged_more v (with_threads v c.put_row.new.rows.items c.stage.new.self) 1 c.stage.ensures.staged)
-
-pub returns-clause-still : goal.returns-clause-still
-returns-clause-still c =
-    let v = the_view c.self.inside in
-    rw (← c.self.view_is) (still_staged v (with_threads v c.put_row.new.rows.items c.stage.new.self) refl c.stage.ensures.staged.still)
+    rw (← c.self.view_is) (objects_wait v (with_threads v c.put_row.new.rows.items c.stage.new.self) refl c.stage.ensures.staged.still)
 
 pub returns-clause-here : goal.returns-clause-here
 returns-clause-here c = thread_here (with_threads (the_view c.self.inside) c.put_row.new.rows.items c.stage.new.self) c.args.t c.stage.ensures.here
-
-pub returns-clause-shape : goal.returns-clause-shape
-returns-clause-shape c =
-    let v = the_view c.self.inside in
-    rw (← c.self.view_is) (same_shape v (with_threads v c.put_row.new.rows.items c.stage.new.self) c.stage.ensures.shape c.stage.ensures.words)

@@ -6,9 +6,10 @@ use Rattle.mg_model.specs.Objects.{word_at}
 use Rattle.mg_pages.specs.Meaning as pages
 use Rattle.std.specs.Prelude.{slice_index, ◌+◌, ◌*◌}
 use Rattle.mg_volume.proofs.PagesChange.{counted, held_same, keeps_now, same_objects, some_page, word_now}
-use Rattle.mg_volume.proofs.StillWaiting.{kept_staged}
+use Rattle.mg_volume.proofs.StillStaged.{objects_wait, still_staged}
 use Rattle.mg_volume.specs.Again.{pages_stand, stands_same, with_pages}
 use Rattle.mg_volume.specs.Meaning.{now_of, words_in}
+use Rattle.mg_volume.specs.RunLemmas.{reads_of}
 use Rattle.mg_volume.specs.contracts.volume.Volume.{the_view}
 use Rattle.mg_volume.proofs.volume.Volume.word.Goals as goal
 
@@ -31,23 +32,18 @@ returns-clause-word g c =
     (λ word is image told. is image told ∙ word_now v image c.args.page c.args.index c.self.invariant.kept (rw (← c.self.view_is) at c.requires.page) c.requires.index)
     c.word.ensures.word)
 
-pub returns-clause-keeps : goal.returns-clause-keeps
-returns-clause-keeps g c = rw (← c.self.view_is) (keeps_now (the_view c.self.inside) c.word.new.self c.word.ensures.keeps)
-
-pub returns-clause-still : goal.returns-clause-still
-returns-clause-still g c =
-    let v = the_view c.self.inside in
-    rw (← c.self.view_is) (kept_staged v (with_pages v c.word.new.self) refl c.word.ensures.keeps)
-
-pub returns-clause-rows : goal.returns-clause-rows
-returns-clause-rows g c = rw (← c.self.view_is) (same_objects (the_view c.self.inside) c.word.new.self)
-
-pub returns-clause-stands : goal.returns-clause-stands
-returns-clause-stands g c =
-    stands_same g.D.Disk (the_view c.self.inside) c.args.disk.now (rw (← c.self.view_is) at c.requires.stands) c.word.new.self c.word.new.disk c.word.ensures.stands c.word.ensures.writes.same c.word.ensures.keeps.shape.frames
-    (λ image told k low. ap (λ i. block_at i k) (c.word.ensures.keeps.coming image))
-
-pub returns-clause-counted : goal.returns-clause-counted
+pub returns-clause-reads : goal.returns-clause-reads
 unfolding words_in
-returns-clause-counted g c =
-    rw (← c.self.view_is) (counted c.word.result c.self.inside.pages c.word.new.self c.args.steps.now c.word.new.steps c.word.ensures.counts c.word.ensures.counts_failed)
+returns-clause-reads g c =
+    let v = the_view c.self.inside in
+    let said = c.word.ensures in
+    rw (← c.self.view_is)
+    (reads_of g.D.Disk v (with_pages v c.word.new.self) c.args.disk.now c.word.new.disk c.args.steps.now c.word.new.steps (keeps_now v c.word.new.self said.keeps) (same_objects v c.word.new.self)
+    (still_staged v (with_pages v c.word.new.self) (λ block waits. said.keeps.each block ∙ waits))
+    (stands_same g.D.Disk v c.args.disk.now (rw (← c.self.view_is) at c.requires.stands) c.word.new.self c.word.new.disk said.stands said.writes.same said.keeps.shape.frames (λ image told k low. ap (λ i. block_at i k) (said.keeps.coming image)))
+    said.writes (counted c.word.result c.self.inside.pages c.word.new.self c.args.steps.now c.word.new.steps said.counts said.counts_failed) said.count said.blocks)
+
+pub returns-clause-objects : goal.returns-clause-objects
+returns-clause-objects g c =
+    let v = the_view c.self.inside in
+    rw (← c.self.view_is) (objects_wait v (with_pages v c.word.new.self) refl (λ block waits. c.word.ensures.keeps.each block ∙ waits))

@@ -1,0 +1,22 @@
+-- A password is drawn, in terms of the state.
+use Rattle.std.specs.Prelude.{◌≡◌, ◌+◌, ℕ, List}
+use Rattle.std.proofs.Common.{ap, ◌∙◌}
+use Rattle.mg_disk.specs.Disk.{Image}
+use Rattle.mg_model.specs.Draw.{password_drawn}
+use Rattle.mg_model.specs.ObjectCalls.{drawn, next_password}
+use Rattle.mg_model.specs.Settings.{Settings}
+use Rattle.mg_model.specs.State.{Counters}
+use Rattle.mg_volume.specs.Held.{VolumeHeld}
+use Rattle.mg_volume.specs.Meaning.{counters_in, now_of, settings_in}
+
+module _ (v : VolumeHeld) (image : Image) (counters : Counters) (draws : ℕ) (held : counters ≡ counters_in v) (count : draws ≡ counters.draws) where
+  pub password_next : (settings : Settings) (seed : List ℕ) (password : ℕ) → settings ≡ settings_in v → seed ≡ settings.seed → password ≡ password_drawn seed draws → password ≡ next_password (now_of v image)
+  unfolding now_of settings_in counters_in
+  password_next settings seed password made begins is =
+      is ∙ ap (λ s. password_drawn s draws) (begins ∙ ap (λ (x : Settings). x.seed) made) ∙ ap (λ d. password_drawn v.settings.seed d) (count ∙ ap (λ (k : Counters). k.draws) held)
+
+  pub drawn_now : (new : VolumeHeld) (set : Counters) → set ≡ record counters { draws = draws + 1 } → now_of new image ≡ record (now_of v image) { counters = set } → now_of new image ≡ drawn (now_of v image)
+  unfolding now_of counters_in
+  drawn_now new set is now =
+      now
+      ∙ ap (λ k. record (now_of v image) { counters = k }) (is ∙ ap (λ d. record counters { draws = d + 1 }) count ∙ ap (λ (k : Counters). record k { draws = k.draws + 1 }) held)
