@@ -1,1 +1,11 @@
 pub mod Drawn
+pub mod Sessions
+pub mod Access
+pub mod Domains
+pub mod Scripts
+pub mod Instructions
+pub mod Calls
+pub mod Accounts
+pub mod Refusals
+pub mod Edges
+pub mod Users

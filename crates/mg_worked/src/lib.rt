@@ -1,13 +1,104 @@
-//! Sessions of the machine that `mg_model` defines, computed: each is a theorem that these lines get these replies.
+//! Sessions of the machine that `mg_model` defines, computed: each clause is a theorem that these lines get these replies.
 //!
-//! The lines and replies stand in `proofs/Worked*.antt`, where a check of this crate computes each of them. Nothing stands
-//! on this crate. The expected replies are worked by hand from what the calls are to do.
+//! The sessions stand in `specs/`, each line beside its reply. Their replies are worked by hand from what the calls are to
+//! do, and a check of this crate computes the definition on each. Nothing stands on this crate.
 #![tactic(auto)]
 
 ghost use Rattle.mg_model.specs.Draw.{password_drawn};
+ghost use Rattle.mg_model.specs.Fresh.{fresh};
+ghost use Rattle.mg_worked.specs.Access.{alignment_first, creator_has_no_capability, domain_locks_itself_out, first_line, large_count_is_cut, lowest_pages_are_taken, new_object_reads_zeros, revocation_acts_at_once, slot_needs_its_right, stored_capability_reads};
+ghost use Rattle.mg_worked.specs.Domains.{domain_ends_with_its_frame, eight_slots, entry_is_there_once, sixteen_frames};
+ghost use Rattle.mg_worked.specs.Scripts.{creators_are_births, script_asks_for_a_balance, script_sees_a_refusal, store_into_a_list};
+ghost use Rattle.mg_worked.specs.Instructions.{arithmetic_and_jumps, each_field_is_looked_at, scripts_enter_and_return, sums_wrap};
+ghost use Rattle.mg_worked.specs.Calls.{calls_by_number, calls_that_are_none};
+ghost use Rattle.mg_worked.specs.Accounts.{object_is_recharged, password_ends, rent_takes_what_is_there};
+ghost use Rattle.mg_worked.specs.Refusals.{counted, full_root, last_password, last_period, many_accounts, many_threads, many_threads_live, more_accounts, refusals, thirty_two_passwords};
+ghost use Rattle.mg_worked.specs.Edges.{last_until, no_more_births, no_more_objects, no_more_passwords, sixteen_entries, slots_in_order, steps_of_the_tariff, too_many_pages, what_is_denied, who_pays, with_births, with_objects};
+ghost use Rattle.mg_worked.specs.Users.{documents_and_mailbox};
 ghost use Rattle.mg_worked.specs.Drawn.{DrawsFirst};
+ghost use Rattle.mg_worked.specs.Sessions.{IsAnswered, small};
 
 /// The passwords that a seed draws are the key stream of RFC 8439, eight bytes each.
 pub fn passwords_are_a_key_stream()
     ensures { DrawsFirst password_drawn }
+{}
+
+/// Objects, capabilities and revocation.
+pub fn sessions_on_access()
+    ensures first_line { IsAnswered (fresh small) first_line }
+    ensures creator_has_no_capability { IsAnswered (fresh small) creator_has_no_capability }
+    ensures stored_capability_reads { IsAnswered (fresh small) stored_capability_reads }
+    ensures large_count_is_cut { IsAnswered (fresh small) large_count_is_cut }
+    ensures domain_locks_itself_out { IsAnswered (fresh small) domain_locks_itself_out }
+    ensures alignment_first { IsAnswered (fresh small) alignment_first }
+    ensures revocation_acts_at_once { IsAnswered (fresh small) revocation_acts_at_once }
+    ensures slot_needs_its_right { IsAnswered (fresh small) slot_needs_its_right }
+    ensures new_object_reads_zeros { IsAnswered (fresh small) new_object_reads_zeros }
+    ensures lowest_pages_are_taken { IsAnswered (fresh small) lowest_pages_are_taken }
+{}
+
+/// Protection domains and their extension.
+pub fn sessions_on_domains()
+    ensures sixteen_frames { IsAnswered (fresh small) sixteen_frames }
+    ensures entry_is_there_once { IsAnswered (fresh small) entry_is_there_once }
+    ensures domain_ends_with_its_frame { IsAnswered (fresh small) domain_ends_with_its_frame }
+    ensures eight_slots { IsAnswered (fresh small) eight_slots }
+{}
+
+/// Threads and their scripts.
+pub fn sessions_of_scripts()
+    ensures store_into_a_list { IsAnswered (fresh small) store_into_a_list }
+    ensures creators_are_births { IsAnswered (fresh small) creators_are_births }
+    ensures script_asks_for_a_balance { IsAnswered (fresh small) script_asks_for_a_balance }
+    ensures script_sees_a_refusal { IsAnswered (fresh small) script_sees_a_refusal }
+{}
+
+/// Every instruction, and words that are none.
+pub fn sessions_of_instructions()
+    ensures arithmetic_and_jumps { IsAnswered (fresh small) arithmetic_and_jumps }
+    ensures sums_wrap { IsAnswered (fresh small) sums_wrap }
+    ensures scripts_enter_and_return { IsAnswered (fresh small) scripts_enter_and_return }
+    ensures each_field_is_looked_at { IsAnswered (fresh small) each_field_is_looked_at }
+{}
+
+/// Every call that a script can make, by its number, and what it cannot ask for.
+pub fn sessions_of_calls()
+    ensures calls_by_number { IsAnswered (fresh small) calls_by_number }
+    ensures calls_that_are_none { IsAnswered (fresh small) calls_that_are_none }
+{}
+
+/// Accounts, rent and passwords that end.
+pub fn sessions_on_accounts()
+    ensures rent_takes_what_is_there { IsAnswered (fresh small) rent_takes_what_is_there }
+    ensures object_is_recharged { IsAnswered (fresh small) object_is_recharged }
+    ensures password_ends { IsAnswered (fresh small) password_ends }
+{}
+
+/// Refusals, and limits at their edge.
+pub fn sessions_of_refusals()
+    ensures refusals { IsAnswered (fresh small) refusals }
+    ensures last_period { IsAnswered (counted 2 16777214) last_period }
+    ensures last_password { IsAnswered (counted 4294967295 0) last_password }
+    ensures thirty_two_passwords { IsAnswered (full_root 30) thirty_two_passwords }
+    ensures many_accounts { IsAnswered (more_accounts 1022) many_accounts }
+    ensures many_threads_live { IsAnswered (many_threads 254) many_threads_live }
+{}
+
+/// Rows of the table of calls at their edges.
+pub fn sessions_at_the_edges()
+    ensures slots_in_order { IsAnswered (fresh small) slots_in_order }
+    ensures sixteen_entries { IsAnswered (fresh small) sixteen_entries }
+    ensures what_is_denied { IsAnswered (fresh small) what_is_denied }
+    ensures who_pays { IsAnswered (fresh small) who_pays }
+    ensures steps_of_the_tariff { IsAnswered (fresh small) steps_of_the_tariff }
+    ensures last_until { IsAnswered (counted 2 16777214) last_until }
+    ensures no_more_passwords { IsAnswered (counted 4294967296 0) no_more_passwords }
+    ensures no_more_objects { IsAnswered (with_objects 4096) no_more_objects }
+    ensures too_many_pages { IsAnswered (with_objects 4095) too_many_pages }
+    ensures no_more_births { IsAnswered (with_births 4294967294) no_more_births }
+{}
+
+/// Documents, code and accounts of a user.
+pub fn sessions_of_users()
+    ensures { IsAnswered (fresh small) documents_and_mailbox }
 {}

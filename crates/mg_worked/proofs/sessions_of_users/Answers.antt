@@ -1,0 +1,10 @@
+use Rattle.std.proofs.Common.{refl}
+use Rattle.rand_chacha.specs.Block.{block_word, column_round, diagonal_round, double_rounds, quarter_round}
+use Rattle.rand_core.specs.Steps.{u32_at}
+use Rattle.std.specs.Fmt.{digits}
+use Rattle.mg_model.specs.Print.{hex_text}
+use Rattle.mg_worked.proofs.sessions_of_users.Goals as goal
+
+pub returns : goal.returns
+unfolding block_word double_rounds quarter_round column_round diagonal_round u32_at hex_text digits
+returns c = refl
