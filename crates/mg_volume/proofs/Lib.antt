@@ -2,6 +2,7 @@ mod BoundPages
 mod Fitting
 mod Gaps
 mod HeldRows
+mod ImageBytes
 mod LoadSteps
 mod OpenRuns
 mod Replayed
@@ -25,6 +26,7 @@ pub mod ObjectOrder
 pub mod ObjectRemoved
 pub mod ObjectStaged
 pub mod ObjectWithout
+pub mod OpenedFormed
 pub mod PagesChange
 pub mod RemovedOrder
 pub mod RowsApart

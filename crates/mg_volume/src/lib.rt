@@ -13,6 +13,7 @@ mod accounts;
 mod bound;
 mod committing;
 mod faults;
+mod forming;
 mod globals;
 mod loading;
 mod object_block;

@@ -1,0 +1,20 @@
+use Rattle.std.proofs.Common.{◌≡◌, ℕ, All, List, subst, true}
+use Rattle.mg_disk.specs.Disk.{AreBytes}
+use Rattle.mg_model.specs.Ranges.{IsThreadRow, IsWord}
+use Rattle.mg_model.specs.State.{ThreadRow}
+use Rattle.mg_model.specs.WellFormed.{IsWellFormed}
+use Rattle.mg_model.specs.declared.accounts.AccRow.{AccRow}
+use Rattle.mg_volume.proofs.OpenedFormed.{opened_formed}
+use Rattle.mg_volume.specs.Held.{VolumeHeld}
+use Rattle.mg_volume.specs.Meaning.{IsSpelledBy, is_sound, now_of, staged_of}
+use Rattle.mg_volume.specs.contracts.volume.Volume.{the_view}
+use Rattle.mg_volume.proofs.volume.Volume.is_formed.Goals as goal
+
+pub returns : goal.returns
+returns c =
+    let v = the_view c.self.inside in
+    let words : All (λ (row : AccRow). IsWord row.password) v.accounts = subst (All (λ (row : AccRow). IsWord row.password)) c.deref.ensures.value c.accounts_keep_rules.ensures in
+    let threads : All (λ (t : ℕ × ThreadRow). IsThreadRow t.1) v.threads = subst (All (λ (t : ℕ × ThreadRow). IsThreadRow t.1)) c.deref-2.ensures.value c.threads_keep_rules.ensures in
+    let P : VolumeHeld → Type 0 = λ w. (image : List (List ℕ)) → AreBytes image → IsSpelledBy w image → staged_of w ≡ 0 → is_sound (now_of w image) ≡ true → IsWellFormed (now_of w image) in
+    let held : P v = λ image. opened_formed v image c.self.invariant.kept c.settings_keep_rules.ensures c.draws-draws.ensures.kept words threads in
+    subst P c.self.view_is held

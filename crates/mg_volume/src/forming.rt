@@ -1,0 +1,60 @@
+// A volume that was opened or committed is well formed. What is here does nothing but tell.
+ghost use Rattle.std.specs.Prelude.{List, ◌≡◌, ℕ, All, true};
+ghost use Rattle.mg_disk.specs.Disk.{AreBytes};
+ghost use Rattle.mg_model.specs.Ranges.{IsThreadRow, IsWord};
+ghost use Rattle.mg_model.specs.State.{ThreadRow};
+ghost use Rattle.mg_model.specs.WellFormed.{IsSettings, IsWellFormed};
+ghost use Rattle.mg_model.specs.declared.accounts.AccRow.{AccRow};
+ghost use Rattle.mg_volume.specs.Meaning.{IsSpelledBy, is_sound, now_of, staged_of};
+
+use crate::volume::Volume;
+use mg_model::{AccRow, Params, ThrRow};
+
+// The settings are in their ranges.
+fn settings_keep_rules(params: &Params)
+    ensures { IsSettings params.now }
+{
+    let _frames = params.frames();
+    let _credits = params.credits();
+    let _seed = params.seed();
+    let _steps = params.tariff().steps();
+}
+
+// A password has 64 bits.
+fn has_word(row: &AccRow)
+    ensures { IsWord row.now.password }
+{
+    let _password = row.password;
+}
+
+// So have those of all accounts.
+fn accounts_keep_rules(accounts: &[AccRow])
+    ensures { All (λ (row : AccRow). IsWord row.password) accounts.now }
+{
+    for row in accounts {
+        has_word(row);
+    }
+}
+
+// The rows of threads are in their ranges.
+fn threads_keep_rules(threads: &[(u64, ThrRow)])
+    ensures { All (λ (t : ℕ × ThreadRow). IsThreadRow t.1) threads.now }
+{
+    for t in threads {
+        let _birth = t.1.birth();
+    }
+}
+
+impl Volume {
+    /// With nothing staged the state is well formed, where it is sound: of each image that this volume fits. It asks for
+    /// an image of bytes, as every disk gives. This looks at no disk and changes nothing; a layer above calls it where it
+    /// has to know, behind an opening and a commit.
+    pub fn is_formed(&self)
+        ensures { (image : List (List ℕ)) → AreBytes image → IsSpelledBy self.now image → staged_of self.now ≡ 0 → is_sound (now_of self.now image) ≡ true → IsWellFormed (now_of self.now image) }
+    {
+        settings_keep_rules(&self.params);
+        accounts_keep_rules(&self.accounts);
+        threads_keep_rules(&self.threads);
+        let _draws = self.globals.draws();
+    }
+}
