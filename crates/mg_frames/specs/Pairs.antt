@@ -23,6 +23,13 @@ free_count pages = count_by (λ page. page == 0) pages
 abbrev pub NoneFree : List ℕ → ℕ → Type 0
 NoneFree pages low = (frame : ℕ) → frame < low → slice_index pages frame ≢ 0
 
+-- the pairs of a table in order, and the room for pairs
+pub record IsSortedTable (pages : List ℕ) (pairs : List (ℕ × ℕ)) (space : ℕ) : Type 0 where
+  pub ascends : Ascends pairs
+  pub exact : IsExact pages pairs
+  pub count : length pairs + free_count pages ≡ length pages
+  pub room : length pages ≤ space
+
 -- a table, its pairs, the room for pairs, and a bound below which no frame is free
 pub record AreFrames (pages : List ℕ) (pairs : List (ℕ × ℕ)) (space low : ℕ) : Type 0 where
   pub distinct : all_distinct (bound_pages pages) ≡ true

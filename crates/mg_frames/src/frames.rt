@@ -6,7 +6,7 @@ ghost use Rattle.mg_model.specs.Volume.{bound_pages};
 ghost use Rattle.mg_frames.specs.Pairs.{Ascends, IsExact};
 ghost use Rattle.mg_frames.specs.Words.{unless_within};
 
-use crate::pairs::{count_below, free_frames, part_of};
+use crate::pairs::{count_below, free_frames, part_of, sorted_pairs};
 use std::alloc::{AllocError, Global};
 use std::marker::Model;
 
@@ -40,6 +40,21 @@ impl Frames {
     {
         let pages = vec![in alloc; 0; frames as usize]?;
         let pairs = Vec::with_capacity(alloc, frames as usize)?;
+        Ok(Frames {
+            pages,
+            pairs,
+            low: 0,
+        })
+    }
+
+    /// Frames that hold these pages, 0 for a free one: at most 65,536, and no page twice. All memory that they will need is
+    /// taken here.
+    pub fn of(alloc: Global, pages: Vec<u64>) -> Result<Frames, AllocError>
+        requires few { length pages.items ≤ 65536 }
+        requires distinct { all_distinct (bound_pages pages.items) ≡ true }
+        ensures { IfOk result (λ all. all ≡ pages.items) }
+    {
+        let pairs = sorted_pairs(alloc, &pages)?;
         Ok(Frames {
             pages,
             pairs,

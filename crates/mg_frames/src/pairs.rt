@@ -1,7 +1,39 @@
 // A list of pages and their frames, which ascends by page.
-ghost use Rattle.std.specs.Prelude.{◌≡◌, ◌≤◌, ◌<◌, ◌+◌, ◌^◌, All, length};
+ghost use Rattle.std.specs.Prelude.{◌≡◌, ◌≤◌, ◌<◌, ◌+◌, ◌^◌, [], All, IfOk, length, map, true};
 ghost use Rattle.std.specs.List.{AllWithin};
-ghost use Rattle.mg_frames.specs.Pairs.{Ascends, IsPart, freed};
+ghost use Rattle.std.specs.Vec.{vec_capacity};
+ghost use Rattle.mg_model.specs.Tests.{all_distinct};
+ghost use Rattle.mg_model.specs.Volume.{bound_pages};
+ghost use Rattle.mg_frames.specs.Pairs.{Ascends, IsExact, IsPart, IsSortedTable, freed};
+
+use std::alloc::{AllocError, Global};
+
+/// The bound pages of a table with their frames, ascending by page, in room for a page in each frame.
+pub(crate) fn sorted_pairs(alloc: Global, pages: &[u64]) -> Result<Vec<(u64, u64)>, AllocError>
+    requires { all_distinct (bound_pages pages.now) ≡ true }
+    ensures { IfOk result (λ pairs. IsSortedTable pages.now pairs.items (vec_capacity pairs)) }
+{
+    let mut pairs = Vec::with_capacity(alloc, pages.len())?;
+    list_pairs(pages, &mut pairs);
+    pairs.sort_unstable_by_key(|pair| pair.0);
+    Ok(pairs)
+}
+
+// Lists the bound pages of a table with their frames, frame by frame.
+fn list_pairs(pages: &[u64], pairs: &mut Vec<(u64, u64)>)
+    requires none { pairs.old.items ≡ [] }
+    requires room { length pages.now ≤ vec_capacity pairs.old }
+    ensures pages { map (λ pair. pair.0) pairs.new.items ≡ bound_pages pages.now }
+    ensures exact { IsExact pages.now pairs.new.items }
+    ensures room { length pages.now ≤ vec_capacity pairs.new }
+{
+    for (frame, page) in pages.iter().enumerate() {
+        if *page != 0 {
+            // There is room for a page in each frame.
+            let _ = pairs.push((*page, frame as u64));
+        }
+    }
+}
 
 /// How many pairs have a page below this one. It halves what is left at each step.
 pub(crate) fn count_below(pairs: &[(u64, u64)], page: u64) -> usize
