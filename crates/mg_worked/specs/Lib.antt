@@ -1,6 +1,7 @@
 pub mod Drawn
 pub mod Sessions
 pub mod Access
+pub mod Rights
 pub mod Domains
 pub mod Scripts
 pub mod Instructions
@@ -9,3 +10,4 @@ pub mod Accounts
 pub mod Refusals
 pub mod Edges
 pub mod Users
+pub mod Forms

@@ -4,9 +4,13 @@
 //! do, and a check of this crate computes the definition on each. Nothing stands on this crate.
 #![tactic(auto)]
 
+ghost use Rattle.std.specs.Prelude.{◌≡◌, [], ◌∷◌, codes};
 ghost use Rattle.mg_model.specs.Draw.{password_drawn};
 ghost use Rattle.mg_model.specs.Fresh.{fresh};
+ghost use Rattle.mg_model.specs.Lines.{all_words, lines};
+ghost use Rattle.mg_model.specs.Print.{text};
 ghost use Rattle.mg_worked.specs.Access.{alignment_first, creator_has_no_capability, domain_locks_itself_out, first_line, large_count_is_cut, lowest_pages_are_taken, new_object_reads_zeros, revocation_acts_at_once, slot_needs_its_right, stored_capability_reads};
+ghost use Rattle.mg_worked.specs.Rights.{all_frames_are_taken, each_right_alone, each_right_is_needed, edges_of_an_object, rights_by_their_bits};
 ghost use Rattle.mg_worked.specs.Domains.{domain_ends_with_its_frame, eight_slots, entry_is_there_once, sixteen_frames};
 ghost use Rattle.mg_worked.specs.Scripts.{creators_are_births, script_asks_for_a_balance, script_sees_a_refusal, store_into_a_list};
 ghost use Rattle.mg_worked.specs.Instructions.{arithmetic_and_jumps, each_field_is_looked_at, scripts_enter_and_return, sums_wrap};
@@ -15,6 +19,7 @@ ghost use Rattle.mg_worked.specs.Accounts.{object_is_recharged, password_ends, r
 ghost use Rattle.mg_worked.specs.Refusals.{counted, full_root, last_password, last_period, many_accounts, many_threads, many_threads_live, more_accounts, refusals, thirty_two_passwords};
 ghost use Rattle.mg_worked.specs.Edges.{last_until, no_more_births, no_more_objects, no_more_passwords, sixteen_entries, slots_in_order, steps_of_the_tariff, too_many_pages, what_is_denied, who_pays, with_births, with_objects};
 ghost use Rattle.mg_worked.specs.Users.{documents_and_mailbox};
+ghost use Rattle.mg_worked.specs.Forms.{blanks, early, early_replies, forms, notes, notes_replies, numbers};
 ghost use Rattle.mg_worked.specs.Drawn.{DrawsFirst};
 ghost use Rattle.mg_worked.specs.Sessions.{IsAnswered, small};
 
@@ -35,6 +40,15 @@ pub fn sessions_on_access()
     ensures slot_needs_its_right { IsAnswered (fresh small) slot_needs_its_right }
     ensures new_object_reads_zeros { IsAnswered (fresh small) new_object_reads_zeros }
     ensures lowest_pages_are_taken { IsAnswered (fresh small) lowest_pages_are_taken }
+{}
+
+/// Which right lets a thread do what, and which addresses an object has.
+pub fn sessions_on_rights()
+    ensures each_right_is_needed { IsAnswered (fresh small) each_right_is_needed }
+    ensures each_right_alone { IsAnswered (fresh small) each_right_alone }
+    ensures rights_by_their_bits { IsAnswered (fresh small) rights_by_their_bits }
+    ensures edges_of_an_object { IsAnswered (fresh small) edges_of_an_object }
+    ensures all_frames_are_taken { IsAnswered (fresh small) all_frames_are_taken }
 {}
 
 /// Protection domains and their extension.
@@ -101,4 +115,13 @@ pub fn sessions_at_the_edges()
 /// Documents, code and accounts of a user.
 pub fn sessions_of_users()
     ensures { IsAnswered (fresh small) documents_and_mailbox }
+{}
+
+/// How lines are spelled.
+pub fn sessions_of_forms()
+    ensures numbers { IsAnswered (fresh small) numbers }
+    ensures forms { IsAnswered (fresh small) forms }
+    ensures blanks { IsAnswered (fresh small) blanks }
+    ensures passed_over { text (fresh small) (lines all_words notes) ≡ notes_replies }
+    ensures not_built { text (fresh small) (lines (codes "load" ∷ []) early) ≡ early_replies }
 {}

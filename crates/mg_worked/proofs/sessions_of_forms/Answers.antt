@@ -1,0 +1,26 @@
+use Rattle.std.proofs.Common.{refl}
+use Rattle.rand_chacha.specs.Block.{block_word, column_round, diagonal_round, double_rounds, quarter_round}
+use Rattle.rand_core.specs.Steps.{u32_at}
+use Rattle.std.specs.Fmt.{digits}
+use Rattle.mg_model.specs.Print.{hex_text}
+use Rattle.mg_worked.proofs.sessions_of_forms.Goals as goal
+
+pub returns-clause-numbers : goal.returns-clause-numbers
+unfolding block_word double_rounds quarter_round column_round diagonal_round u32_at hex_text digits
+returns-clause-numbers c = refl
+
+pub returns-clause-forms : goal.returns-clause-forms
+unfolding block_word double_rounds quarter_round column_round diagonal_round u32_at hex_text digits
+returns-clause-forms c = refl
+
+pub returns-clause-blanks : goal.returns-clause-blanks
+unfolding block_word double_rounds quarter_round column_round diagonal_round u32_at hex_text digits
+returns-clause-blanks c = refl
+
+pub returns-clause-passed_over : goal.returns-clause-passed_over
+unfolding block_word double_rounds quarter_round column_round diagonal_round u32_at hex_text digits
+returns-clause-passed_over c = refl
+
+pub returns-clause-not_built : goal.returns-clause-not_built
+unfolding block_word double_rounds quarter_round column_round diagonal_round u32_at hex_text digits
+returns-clause-not_built c = refl
