@@ -1,11 +1,12 @@
 -- Lemmas on bodies that are written to their homes.
-use Rattle.std.specs.Prelude.{◌≡◌, ◌+◌, ◌≤◌, ◌<◌, ◌==◌, ℕ, Bool, zero, suc, true, false, All, List, [], ◌∷◌, ◌++◌, if◌then◌else◌, length, option_map, slice_index_or, slice_set, take, Option, Some, None}
+use Rattle.std.specs.Prelude.{◌≡◌, ◌+◌, ◌≤◌, ◌<◌, ◌==◌, ℕ, Bool, zero, suc, true, false, All, List, [], ◌∷◌, ◌++◌, if◌then◌else◌, length, IsSomeAnd, option_map, slice_index_or, slice_set, take, Option, Some, None}
 use Rattle.std.specs.Option.{ForSome}
-use Rattle.std.proofs.Common.{refl, sym, ap, ◌∙◌, ⊎_elim, arith}
+use Rattle.std.proofs.Common.{refl, sym, ap, subst, ◌∙◌, ⊎_elim, arith}
 use Rattle.std.proofs.lemmas.Bool.{both_ways, eq-eqb, eqb-true, or_cases, or_left, or_right}
 use Rattle.std.proofs.lemmas.List.{map-append, take_more}
 use Rattle.std.proofs.lemmas.List.Elements.{All-head, All-tail, All-take, All-weaker}
-use Rattle.mg_disk.specs.Disk.{Image, block_at}
+use Rattle.mg_disk.specs.Disk.{Image, SameBut, SeenBut, block_at, only_place}
+use Rattle.mg_disk.specs.Places.{same_set, same_still}
 use Rattle.mg_model.specs.Layout.{globals_block, segment_body}
 use Rattle.mg_model.specs.Replay.{body_count, home_of, is_open, writes_from, writes_of, writes_since, written}
 use Rattle.mg_journal.specs.Applied.{filled}
@@ -65,6 +66,23 @@ apply_more n places k (Some a) mid new bytes below all so_far read wrote =
     wrote ∙ ap (option_map (λ image. slice_set image (home_at places k) bytes)) so_far
     ∙ ap (λ b. Some (slice_set now (home_at places k) b)) (read now so_far ∙ body_still n a places k below all)
     ∙ ap (λ i. Some i) (sym (filled_more a places k below))
+
+-- What reads give after one write more, whatever it answers: still the image as it was told first but at these places.
+pub torn_more : (P : Image → ℕ → Type 0) (told mid new : Option Image) (i : ℕ) → ((a : Image) → P a i) → ForSome told (λ a. IsSomeAnd mid (SameBut (P a) a)) → SeenBut (only_place i) mid new → ForSome told (λ a. IsSomeAnd new (SameBut (P a) a))
+torn_more P told None new i at so_far one a is = absurd (so_far a is)
+torn_more P told (Some b) None i at so_far one a is = absurd one
+torn_more P told (Some b) (Some c) i at so_far one a is = same_still (P a) i a b c (at a) (so_far a is) one
+
+pub wrote_torn : (i : ℕ) (bytes : List ℕ) (mid new : Option Image) → new ≡ option_map (λ image. slice_set image i bytes) mid → SeenBut (only_place i) mid new
+wrote_torn i bytes mid new is = subst (SeenBut (only_place i) mid) (sym is) (at mid)
+  where
+    at : (mid : Option Image) → SeenBut (only_place i) mid (option_map (λ image. slice_set image i bytes) mid)
+    at None = tt
+    at (Some a) = same_set a i bytes
+
+-- and after a call that leaves what reads give
+pub torn_still : (Q : Image → Image → Type 0) (told mid new : Option Image) → new ≡ mid → ForSome told (λ a. IsSomeAnd mid (Q a)) → ForSome told (λ a. IsSomeAnd new (Q a))
+torn_still Q told mid new same each a is = subst (λ o. IsSomeAnd o (Q a)) (sym same) (each a is)
 
 -- the places of the open segments have what a replay writes
 filled_from : (a : Image) (s j n : ℕ) → filled a (places_from a s j n) ≡ writes_from a s j n

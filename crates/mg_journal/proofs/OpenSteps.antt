@@ -1,35 +1,31 @@
 -- An opening: the journal is looked through, and then recovered.
-use Rattle.std.specs.Prelude.{◌≡◌, ℕ, Option, Some, None, Result, Err, IsSomeAnd}
+use Rattle.std.specs.Prelude.{◌≡◌, ℕ, Option, Some, Result, Err, IsSomeAnd, is_some}
 use Rattle.std.specs.Option.{ForSome}
-use Rattle.std.proofs.Common.{sym, subst, ◌∙◌}
+use Rattle.std.proofs.Common.{sym, ap, subst, ◌∙◌}
 use Rattle.mg_disk.specs.Disk.{Image}
 use Rattle.mg_disk.specs.Runs.{leaves_quiet, leaves_then, leaves_yet, only_image, still_seen}
 use Rattle.mg_disk.specs.Stops.{Leaves, NothingPending, WritesNothing}
 use Rattle.mg_disk.specs.declared.disk.Disk.{Ghosts}
 use Rattle.mg_journal.specs.CommitRuns.{same_itself}
 use Rattle.mg_journal.specs.Contents.{SameContents}
-use Rattle.mg_journal.specs.Recovery.{IsRecovered}
+use Rattle.mg_journal.proofs.RecoverSteps.{came_back}
 
 -- an error stays the same where it is handed on with another type of value
 pub same_error : {T U E : Type 0} (x y : E) → ◌≡◌ {A = Result T E} (Err x) (Err y) → ◌≡◌ {A = Result U E} (Err x) (Err y)
 same_error x y is = cc
 
-some_weaker : {T : Type 0} (P Q : T → Type 0) (told : Option T) → ((x : T) → P x → Q x) → IsSomeAnd told P → IsSomeAnd told Q
-some_weaker P Q None sub is = is
-some_weaker P Q (Some x) sub is = sub x is
-
 module _ (n total : ℕ) (same : n ≡ total) where
-  kept : (a b : Image) → IsRecovered n a b → SameContents total a b
-  kept a b is = subst (λ m. SameContents m a b) same is.contents
-
   -- what reads gave before has its contents in what they give now
-  pub contents_kept : (told mid now : Option Image) → mid ≡ told → ForSome mid (λ a. IsSomeAnd now (IsRecovered n a)) → ForSome told (λ a. IsSomeAnd now (SameContents total a))
-  contents_kept told mid now still each a is = some_weaker (IsRecovered n a) (SameContents total a) now (kept a) (each a (still ∙ is))
+  pub contents_kept : (told mid now : Option Image) → mid ≡ told → ForSome mid (λ a. IsSomeAnd now (SameContents n a)) → ForSome told (λ a. IsSomeAnd now (SameContents total a))
+  contents_kept told mid now still each a is = subst (λ m. IsSomeAnd now (SameContents m a)) same (each a (still ∙ is))
 
   -- and the other way round
-  pub contents_from : (told mid now : Option Image) → mid ≡ told → ForSome now (λ b. IsSomeAnd mid (λ a. IsRecovered n a b)) → ForSome now (λ b. IsSomeAnd told (λ a. SameContents total a b))
-  contents_from told mid now still each b is =
-      some_weaker (λ a. IsRecovered n a b) (λ a. SameContents total a b) told (λ a. kept a b) (subst (λ o. IsSomeAnd o (λ a. IsRecovered n a b)) still (each b is))
+  pub contents_from : (told mid now : Option Image) → mid ≡ told → is_some now ≡ is_some mid → ForSome mid (λ a. IsSomeAnd now (SameContents n a)) → ForSome now (λ b. IsSomeAnd told (λ a. SameContents total a b))
+  contents_from told mid now still tells each = came_back (SameContents total) told now (tells ∙ ap is_some still) (contents_kept told mid now still each)
+
+-- where reads give what they gave
+pub contents_still : (total : ℕ) (told now : Option Image) → now ≡ told → ForSome told (λ a. IsSomeAnd now (SameContents total a))
+contents_still total told now still a is = subst (λ o. IsSomeAnd o (SameContents total a)) (sym (still ∙ is)) (same_itself total a)
 
 module _ {D : Type 0} (facts : Ghosts D) (total : ℕ) (old mid : D) (been : facts.has_been old (facts.moment old)) (look : WritesNothing facts old mid) (pending : NothingPending facts old) (a : Image) (told : facts.seen old ≡ Some a) where
   -- after the look

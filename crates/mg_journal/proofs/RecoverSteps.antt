@@ -24,6 +24,10 @@ came_back P None None same each b is = absurd (let e : ◌≡◌ {A = Option Ima
 came_back P None (Some x) same each b is = absurd cc
 came_back P (Some a) now same each b is = subst (λ o. IsSomeAnd o (P a)) is (each a refl)
 
+pub some_weaker : {T : Type 0} (P Q : T → Type 0) (told : Option T) → ((x : T) → P x → Q x) → IsSomeAnd told P → IsSomeAnd told Q
+some_weaker P Q None sub is = is
+some_weaker P Q (Some x) sub is = sub x is
+
 module _ (view : Placed) (places : List (ℕ × ℕ)) (held : places ≡ view.places) (a : Image) (fits : Fits view a) where
   abbrev pub homed : Image
   homed = written a (filled a places)

@@ -1,5 +1,5 @@
 -- Lemmas on the closing of gates.
-use Rattle.std.specs.Prelude.{◌≡◌, ◌+◌, ◌<◌, ℕ, false, Some, IsSomeAnd}
+use Rattle.std.specs.Prelude.{◌≡◌, ◌+◌, ◌<◌, ℕ, false, Option, Some, IsSomeAnd}
 use Rattle.std.specs.Option.{ForSome}
 use Rattle.std.proofs.Common.{refl, sym, ap, subst, ◌∙◌, ⊎_elim, arith}
 use Rattle.std.proofs.lemmas.Bool.{cases_eq}
@@ -59,6 +59,18 @@ module _ {D : Type 0} (facts : Ghosts D) (total : ℕ) (a : Image) where
   close_run s old mid new few so_far one =
       let b = some_of (IsClosedUpTo s total a) (facts.seen mid) so_far.shows in
       leaves_then facts old mid new (MayCloseOne s b.0) (IsStill total a) so_far.run (one b.0 b.1) (λ c may. closing_still s total a b.0 c few b.2 may)
+
+  -- what reads give then
+  pub close_seen : (s : ℕ) (old mid : D) (now : Option Image) → s < segment_count → IsClosing s old mid → ForSome (facts.seen mid) (λ b. IsSomeAnd now (MayCloseOne s b)) → IsSomeAnd now (IsStill total a)
+  close_seen s old mid now few so_far one =
+      let b = some_of (IsClosedUpTo s total a) (facts.seen mid) so_far.shows in
+      let c = some_of (MayCloseOne s b.0) now (one b.0 b.1) in
+      subst (λ o. IsSomeAnd o (IsStill total a)) (sym c.1) (closing_still s total a b.0 c.0 few b.2 c.2)
+
+  pub still_now : (s : ℕ) (old now : D) → IsClosing s old now → IsSomeAnd (facts.seen now) (IsStill total a)
+  still_now s old now so_far =
+      let b = some_of (IsClosedUpTo s total a) (facts.seen now) so_far.shows in
+      subst (λ o. IsSomeAnd o (IsStill total a)) (sym b.1) b.2.still
 
   pub close_more : (s : ℕ) (old mid new : D) → s < segment_count → IsClosing s old mid → ForSome (facts.seen mid) (λ b. Leaves facts mid new (MayCloseOne s b))
       → ForSome (facts.seen mid) (λ b. IsSomeAnd (facts.seen new) (ClosedOne s b)) → IsClosing (s + 1) old new

@@ -1,7 +1,7 @@
 // Writes that end with a sync.
 ghost use Rattle.std.specs.Prelude.{◌≡◌, ◌<◌, All, OnErr, OnOk, option_map, slice_set, true};
 ghost use Rattle.std.specs.Option.{ForSome};
-ghost use Rattle.mg_disk.specs.Disk.{SameBut, only_place};
+ghost use Rattle.mg_disk.specs.Disk.{SameBut, SeenBut, only_place};
 ghost use Rattle.mg_disk.specs.Stops.{CountGoes, CountRose, Leaves, NothingPending};
 ghost use Rattle.mg_model.specs.Replay.{written};
 ghost use Rattle.mg_journal.specs.Contents.{names};
@@ -14,6 +14,7 @@ pub(crate) fn write_firmly<D: Disk>(disk: &mut D, i: u64, from: &Block) -> Resul
     requires room { i < D.block_count disk.old }
     ensures any_moment { NothingPending D.Disk disk.old → ForSome (D.seen disk.old) (λ image. Leaves D.Disk disk.old disk.new (SameBut (only_place i) image)) }
     ensures written { OnOk result (D.seen disk.new ≡ option_map (λ image. slice_set image i from.now) (D.seen disk.old)) }
+    ensures torn { SeenBut (only_place i) (D.seen disk.old) (D.seen disk.new) }
     ensures settled { OnOk result (NothingPending D.Disk disk.new) }
     ensures cause { OnErr result (CountRose D.Disk disk.old disk.new) }
     ensures count { CountGoes D.Disk disk.old disk.new }

@@ -1,5 +1,5 @@
 // Opening: what open segments hold is written to its homes, and then the gates are closed.
-ghost use Rattle.std.specs.Prelude.{◌≡◌, ◌≤◌, All, IsSomeAnd, OnErr, OnOk, option_map, true};
+ghost use Rattle.std.specs.Prelude.{◌≡◌, ◌≤◌, All, IsSomeAnd, OnErr, OnOk, is_some, option_map, true};
 ghost use Rattle.std.specs.Option.{ForSome};
 ghost use Rattle.mg_disk.specs.Disk.{SameBut};
 ghost use Rattle.mg_disk.specs.Stops.{CountGoes, CountRose, Leaves, NothingPending};
@@ -21,6 +21,8 @@ pub(crate) fn apply<D: Disk>(disk: &mut D, places: &[(u64, u64)]) -> Result<(), 
     requires room { All (IsPlace (D.block_count disk.old)) places.now }
     ensures any_moment { NothingPending D.Disk disk.old → ForSome (D.seen disk.old) (λ image. Leaves D.Disk disk.old disk.new (SameBut (λ k. names (filled image places.now) k ≡ true) image)) }
     ensures written { OnOk result (D.seen disk.new ≡ option_map (λ image. written image (filled image places.now)) (D.seen disk.old)) }
+    ensures torn { ForSome (D.seen disk.old) (λ image. IsSomeAnd (D.seen disk.new) (SameBut (λ k. names (filled image places.now) k ≡ true) image)) }
+    ensures tells { is_some (D.seen disk.new) ≡ is_some (D.seen disk.old) }
     ensures settled { OnOk result (NothingPending D.Disk disk.new) }
     ensures cause { OnErr result (CountRose D.Disk disk.old disk.new) }
     ensures count { CountGoes D.Disk disk.old disk.new }
@@ -40,8 +42,10 @@ pub(crate) fn recover<D: Disk>(disk: &mut D, view: &View) -> Result<(), Failed>
     requires room { view.now.total ≤ D.block_count disk.old }
     requires fits { ForSome (D.seen disk.old) (λ image. Fits view.now image) }
     ensures any_moment { NothingPending D.Disk disk.old → ForSome (D.seen disk.old) (λ image. Leaves D.Disk disk.old disk.new (SameContents view.now.total image)) }
+    ensures contents { ForSome (D.seen disk.old) (λ image. IsSomeAnd (D.seen disk.new) (SameContents view.now.total image)) }
     ensures recovered { OnOk result (ForSome (D.seen disk.old) (λ image. IsSomeAnd (D.seen disk.new) (IsRecovered view.now.total image))) }
     ensures came_from { OnOk result (ForSome (D.seen disk.new) (λ now. IsSomeAnd (D.seen disk.old) (λ image. IsRecovered view.now.total image now))) }
+    ensures tells { is_some (D.seen disk.new) ≡ is_some (D.seen disk.old) }
     ensures settled { OnOk result (NothingPending D.Disk disk.new) }
     ensures cause { OnErr result (CountRose D.Disk disk.old disk.new) }
     ensures count { CountGoes D.Disk disk.old disk.new }

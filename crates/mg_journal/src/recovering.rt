@@ -17,8 +17,9 @@ fn close_gate<D: Disk>(disk: &mut D, segment: u64) -> Result<(), Failed>
     requires room { globals_block ≤ D.block_count disk.old }
     requires settled { NothingPending D.Disk disk.old }
     ensures any_moment { ForSome (D.seen disk.old) (λ image. Leaves D.Disk disk.old disk.new (MayCloseOne segment image)) }
+    ensures may { ForSome (D.seen disk.old) (λ image. IsSomeAnd (D.seen disk.new) (MayCloseOne segment image)) }
     ensures closed { OnOk result (ForSome (D.seen disk.old) (λ image. IsSomeAnd (D.seen disk.new) (ClosedOne segment image))) }
-    ensures tells { OnOk result (is_some (D.seen disk.new) ≡ is_some (D.seen disk.old)) }
+    ensures tells { is_some (D.seen disk.new) ≡ is_some (D.seen disk.old) }
     ensures settled { OnOk result (NothingPending D.Disk disk.new) }
     ensures cause { OnErr result (CountRose D.Disk disk.old disk.new) }
     ensures count { CountGoes D.Disk disk.old disk.new }
@@ -40,7 +41,8 @@ pub(crate) fn close_gates<D: Disk>(disk: &mut D) -> Result<(), Failed>
     requires settled { NothingPending D.Disk disk.old }
     ensures any_moment { ForSome (D.seen disk.old) (λ image. (total : ℕ) → replay image total ≡ Some image → Leaves D.Disk disk.old disk.new (IsStill total image)) }
     ensures closed { OnOk result (ForSome (D.seen disk.old) (λ image. (total : ℕ) → replay image total ≡ Some image → IsSomeAnd (D.seen disk.new) (IsClosedUpTo segment_count total image))) }
-    ensures tells { OnOk result (is_some (D.seen disk.new) ≡ is_some (D.seen disk.old)) }
+    ensures still { ForSome (D.seen disk.old) (λ image. (total : ℕ) → replay image total ≡ Some image → IsSomeAnd (D.seen disk.new) (IsStill total image)) }
+    ensures tells { is_some (D.seen disk.new) ≡ is_some (D.seen disk.old) }
     ensures settled { OnOk result (NothingPending D.Disk disk.new) }
     ensures cause { OnErr result (CountRose D.Disk disk.old disk.new) }
     ensures count { CountGoes D.Disk disk.old disk.new }

@@ -29,7 +29,8 @@ pub struct Store {
 impl Store {
     /// Opens the journal of a volume of `total` blocks, whatever a stop left of a commit: what open segments hold is written
     /// to its homes and made sure of, and then the gates are closed first to last, with a sync after each. The contents
-    /// stay, and nothing is pending afterwards.
+    /// stay, whatever the answer: those of what reads give, and where nothing was pending those of what a stop leaves at any
+    /// moment. After Ok nothing is pending.
     ///
     /// [`ViewFault::Damaged`] comes where the journal cannot be replayed, and then nothing was written,
     /// [`ViewFault::Disk`] only where a call of the disk failed, and [`ViewFault::Memory`] where there was not enough
@@ -38,8 +39,8 @@ impl Store {
         requires journal { globals_block ≤ total }
         requires room { total ≤ D.block_count disk.old }
         ensures any_moment { NothingPending D.Disk disk.old → ForSome (D.seen disk.old) (λ image. Leaves D.Disk disk.old disk.new (SameContents total image)) }
-        ensures contents { IfOk result (λ _. ForSome (D.seen disk.old) (λ image. IsSomeAnd (D.seen disk.new) (SameContents total image))) }
-        ensures came_from { IfOk result (λ _. ForSome (D.seen disk.new) (λ now. IsSomeAnd (D.seen disk.old) (λ image. SameContents total image now))) }
+        ensures contents { ForSome (D.seen disk.old) (λ image. IsSomeAnd (D.seen disk.new) (SameContents total image)) }
+        ensures came_from { ForSome (D.seen disk.new) (λ now. IsSomeAnd (D.seen disk.old) (λ image. SameContents total image now)) }
         ensures stands { IfOk result (λ store. Stands D.Disk store disk.new) }
         ensures live { IfOk result (λ store. is_live store ≡ true) }
         ensures total { IfOk result (λ store. total_of store ≡ total) }

@@ -1,4 +1,5 @@
-use Rattle.std.proofs.Common.{◌≡◌, option_map, take, true}
+use Rattle.std.proofs.Common.{◌≡◌, is_some, option_map, take, true}
+use Rattle.std.specs.Prelude.{IsSomeAnd}
 use Rattle.std.specs.Option.{ForSome}
 use Rattle.mg_disk.specs.Disk.{SameBut}
 use Rattle.mg_disk.specs.Runs.{Tracks}
@@ -8,11 +9,13 @@ use Rattle.mg_journal.specs.Applied.{filled}
 use Rattle.mg_journal.specs.Contents.{names}
 use Rattle.mg_journal.proofs.opening.apply.Given as goal
 
--- the bodies up to this one are at their homes, and only homes differ
+-- the bodies up to this one are at their homes, and only homes differ, both in what reads give and in what a stop leaves
 abbrev pub invariant-loop-place : goal.invariant-loop-place
 invariant-loop-place g l = record {
   blocks : g.D.Disk.block_count l.disk ≡ g.D.Disk.block_count l.initial.disk;
   count : CountGoes g.D.Disk l.initial.disk l.disk;
   written : g.D.Disk.seen l.disk ≡ option_map (λ image. written image (filled image (take l.place-index l.places))) (g.D.Disk.seen l.initial.disk);
+  torn : ForSome (g.D.Disk.seen l.initial.disk) (λ image. IsSomeAnd (g.D.Disk.seen l.disk) (SameBut (λ k. names (filled image l.places) k ≡ true) image));
+  tells : is_some (g.D.Disk.seen l.disk) ≡ is_some (g.D.Disk.seen l.initial.disk);
   tracks : NothingPending g.D.Disk l.initial.disk → ForSome (g.D.Disk.seen l.initial.disk) (λ image. Tracks g.D.Disk l.initial.disk l.disk (SameBut (λ k. names (filled image l.places) k ≡ true) image) (SameBut (λ k. names (filled image l.places) k ≡ true) image));
 }

@@ -1,4 +1,4 @@
-use Rattle.std.proofs.Common.{◌≡◌, ◌∙◌, ap, sym, subst, is_some, option_map, true, Some}
+use Rattle.std.proofs.Common.{◌≡◌, ◌∙◌, ap, sym, subst, option_map, true, Some}
 use Rattle.std.specs.Prelude.{IsSomeAnd}
 use Rattle.std.proofs.lemmas.Result.{on_ok_weaker}
 use Rattle.mg_disk.specs.Disk.{SameBut}
@@ -6,10 +6,10 @@ use Rattle.mg_disk.specs.Runs.{leaves_then, leaves_wider}
 use Rattle.mg_model.specs.Layout.{segment_count}
 use Rattle.mg_model.specs.Replay.{written}
 use Rattle.mg_journal.specs.Applied.{filled}
-use Rattle.mg_journal.specs.CommitRuns.{on_ok_both, some_of}
+use Rattle.mg_journal.specs.CommitRuns.{some_of}
 use Rattle.mg_journal.specs.Contents.{SameContents, names}
 use Rattle.mg_journal.specs.Recovery.{IsClosedUpTo, IsRecovered, IsStill}
-use Rattle.mg_journal.proofs.RecoverSteps.{came_back, own, recovered_to, told_map, while_applied, while_closed}
+use Rattle.mg_journal.proofs.RecoverSteps.{came_back, own, recovered_to, some_weaker, while_applied, while_closed}
 use Rattle.mg_journal.proofs.opening.recover.Goals as goal
 
 pub returns-in_err-apply-clause-any_moment : goal.returns-in_err-apply-clause-any_moment
@@ -46,9 +46,24 @@ returns-clause-recovered g c =
 
 pub returns-clause-came_from : goal.returns-clause-came_from
 returns-clause-came_from g c =
-    let places = c.places.result.now in
     on_ok_weaker c.close_gates.result
-    (λ both.
-    came_back (IsRecovered c.args.view.now.total) (g.D.Disk.seen c.args.disk.now) (g.D.Disk.seen c.close_gates.new.disk)
-    (both.0 ∙ ap is_some c.in_ok-apply.ensures.written ∙ told_map (λ i. written i (filled i places)) (g.D.Disk.seen c.args.disk.now)) both.1)
-    (on_ok_both _ _ c.close_gates.result c.close_gates.ensures.tells (returns-clause-recovered g c))
+    (λ recovered.
+    came_back (IsRecovered c.args.view.now.total) (g.D.Disk.seen c.args.disk.now) (g.D.Disk.seen c.close_gates.new.disk) (c.close_gates.ensures.tells ∙ c.apply.ensures.tells) recovered)
+    (returns-clause-recovered g c)
+
+pub returns-in_err-apply-clause-contents : goal.returns-in_err-apply-clause-contents
+returns-in_err-apply-clause-contents g c image told =
+    let view = c.args.view.now in
+    let places = c.places.result.now in
+    some_weaker (SameBut (λ k. names (filled image places) k ≡ true) image) (SameContents view.total image) (g.D.Disk.seen c.apply.new.disk)
+    (while_applied view places c.places.ensures.same image (c.requires.fits image told)) (c.apply.ensures.torn image told)
+
+pub returns-clause-contents : goal.returns-clause-contents
+returns-clause-contents g c image told =
+    let view = c.args.view.now in
+    let places = c.places.result.now in
+    let fits = c.requires.fits image told in
+    let homed = written image (filled image places) in
+    let is : g.D.Disk.seen c.apply.new.disk ≡ Some homed = c.in_ok-apply.ensures.written ∙ ap (option_map (λ i. written i (filled i places))) told in
+    some_weaker (IsStill view.total homed) (SameContents view.total image) (g.D.Disk.seen c.close_gates.new.disk)
+    (while_closed view places c.places.ensures.same image fits) (c.close_gates.ensures.still homed is view.total (own view places c.places.ensures.same image fits))

@@ -2,7 +2,7 @@ use Rattle.std.proofs.Common.{rules, refl, ◌∙◌, ◌≡◌, subst, arith}
 use Rattle.std.specs.Prelude.{IsSomeAnd}
 use Rattle.mg_model.specs.Layout.{segment_count}
 use Rattle.mg_journal.specs.Recovery.{IsClosedUpTo}
-use Rattle.mg_journal.specs.RecoverySteps.{begin_closing, close_more, close_run}
+use Rattle.mg_journal.specs.RecoverySteps.{begin_closing, close_more, close_run, close_seen, still_now}
 use Rattle.mg_journal.proofs.recovering.close_gates.Goals as goal
 
 pub loop-segment-init : goal.loop-segment-init
@@ -23,7 +23,7 @@ loop-segment-preserved g c = record {
   blocks = c.close_gate.ensures.blocks ∙ c.loop-segment.invariant.blocks;
   count = search rules;
   settled = c.in_ok-close_gate.ensures.settled;
-  tells = c.in_ok-close_gate.ensures.tells ∙ c.loop-segment.invariant.tells;
+  tells = c.close_gate.ensures.tells ∙ c.loop-segment.invariant.tells;
   closing = λ image told total own.
       close_more g.D.Disk total image c.loop-segment.segment c.args.disk.now c.loop-segment.disk c.close_gate.new.disk c.loop-segment-test.true (c.loop-segment.invariant.closing image told total own)
       c.close_gate.ensures.any_moment c.in_ok-close_gate.ensures.closed;
@@ -36,3 +36,10 @@ pub returns-clause-closed : goal.returns-clause-closed
 returns-clause-closed g c image told total own =
     let at_end : c.loop-segment.segment ≡ segment_count = let past = c.loop-segment-test.false in let end = c.loop-segment.auto.segment-end in omega arith in
     subst (λ n. IsSomeAnd (g.D.Disk.seen c.loop-segment.disk) (IsClosedUpTo n total image)) at_end (c.loop-segment.invariant.closing image told total own).shows
+
+pub returns-in_err-close_gate-clause-still : goal.returns-in_err-close_gate-clause-still
+returns-in_err-close_gate-clause-still g c image told total own =
+    close_seen g.D.Disk total image c.loop-segment.segment c.args.disk.now c.loop-segment.disk (g.D.Disk.seen c.close_gate.new.disk) c.loop-segment-test.true (c.loop-segment.invariant.closing image told total own) c.close_gate.ensures.may
+
+pub returns-clause-still : goal.returns-clause-still
+returns-clause-still g c image told total own = still_now g.D.Disk total image c.loop-segment.segment c.args.disk.now c.loop-segment.disk (c.loop-segment.invariant.closing image told total own)

@@ -1,8 +1,10 @@
-use Rattle.std.proofs.Common.{◌∙◌, arith, sym, true}
+use Rattle.std.proofs.Common.{◌∙◌, ap, arith, is_some, sym, true}
 use Rattle.mg_journal.specs.CommitRuns.{some_of}
+use Rattle.mg_journal.specs.Contents.{SameContents}
 use Rattle.mg_journal.specs.Recovery.{IsRecovered}
 use Rattle.mg_journal.specs.Standing.{closed_fits}
-use Rattle.mg_journal.proofs.OpenSteps.{contents_from, contents_kept, looked, opened, same_error}
+use Rattle.mg_journal.proofs.RecoverSteps.{came_back}
+use Rattle.mg_journal.proofs.OpenSteps.{contents_from, contents_kept, contents_still, looked, opened, same_error}
 use Rattle.mg_journal.proofs.store.Store.open.Goals as goal
 
 pub returns-in-Err-clause-any_moment : goal.returns-in-Err-clause-any_moment
@@ -24,12 +26,12 @@ returns-in-Ok-recover-clause-any_moment g c pending image told =
 pub returns-in-Ok-recover-clause-contents : goal.returns-in-Ok-recover-clause-contents
 returns-in-Ok-recover-clause-contents g c =
     contents_kept c.in-Ok.view.total c.args.total c.in-Ok.ensures.total (g.D.Disk.seen c.args.disk.now) (g.D.Disk.seen c.look.new.disk) (g.D.Disk.seen c.recover.new.disk)
-    c.look.ensures.writes.same c.in-Ok-recover.ensures.recovered
+    c.look.ensures.writes.same c.recover.ensures.contents
 
 pub returns-in-Ok-recover-clause-came_from : goal.returns-in-Ok-recover-clause-came_from
 returns-in-Ok-recover-clause-came_from g c =
     contents_from c.in-Ok.view.total c.args.total c.in-Ok.ensures.total (g.D.Disk.seen c.args.disk.now) (g.D.Disk.seen c.look.new.disk) (g.D.Disk.seen c.recover.new.disk)
-    c.look.ensures.writes.same c.in-Ok-recover.ensures.came_from
+    c.look.ensures.writes.same c.recover.ensures.tells c.recover.ensures.contents
 
 pub returns-in-Ok-recover-clause-stands : goal.returns-in-Ok-recover-clause-stands
 returns-in-Ok-recover-clause-stands g c =
@@ -45,3 +47,22 @@ pub returns-clause-any_moment : goal.returns-clause-any_moment
 returns-clause-any_moment g c pending image told =
     let disk = c.args.disk.now in
     opened g.D.Disk c.args.total disk c.look.new.disk (g.met.D.Disk.now_has_been disk) c.look.ensures.writes pending image told c.recover.new.disk c.in-Ok.view.total c.in-Ok.ensures.total c.recover.ensures.any_moment
+
+pub returns-clause-contents : goal.returns-clause-contents
+returns-clause-contents g c =
+    contents_kept c.in-Ok.view.total c.args.total c.in-Ok.ensures.total (g.D.Disk.seen c.args.disk.now) (g.D.Disk.seen c.look.new.disk) (g.D.Disk.seen c.recover.new.disk)
+    c.look.ensures.writes.same c.recover.ensures.contents
+
+pub returns-clause-came_from : goal.returns-clause-came_from
+returns-clause-came_from g c =
+    contents_from c.in-Ok.view.total c.args.total c.in-Ok.ensures.total (g.D.Disk.seen c.args.disk.now) (g.D.Disk.seen c.look.new.disk) (g.D.Disk.seen c.recover.new.disk)
+    c.look.ensures.writes.same c.recover.ensures.tells c.recover.ensures.contents
+
+pub returns-in-Err-clause-contents : goal.returns-in-Err-clause-contents
+returns-in-Err-clause-contents g c =
+    contents_still c.args.total (g.D.Disk.seen c.args.disk.now) (g.D.Disk.seen c.look.new.disk) c.look.ensures.writes.same
+
+pub returns-in-Err-clause-came_from : goal.returns-in-Err-clause-came_from
+returns-in-Err-clause-came_from g c =
+    came_back (SameContents c.args.total) (g.D.Disk.seen c.args.disk.now) (g.D.Disk.seen c.look.new.disk) (ap is_some c.look.ensures.writes.same)
+    (returns-in-Err-clause-contents g c)
