@@ -132,48 +132,25 @@ mod tests {
     }
 
     #[test]
-    fn calls(rt: HostRuntime) {
+    fn lines(rt: HostRuntime) {
+        let mut long = [b' '; 257];
+        long[..12].copy_from_slice(b"2 store 8 15");
+        spells(&rt, &long[..256], 2, STORE);
+        spells(&rt, &long, 0, Call::Bad);
+        spells(&rt, b"\t0x2  store\r8 0xF \r", 2, STORE);
         spells(
             &rt,
-            b"1 load 0x0000000100000000",
-            1,
-            Call::Load { a: 4_294_967_296 },
+            b"3 info 0x0000000100000000",
+            3,
+            Call::Info {
+                base: 4_294_967_296,
+            },
         );
-        spells(&rt, b"\t0x2  store\r8 0xF \r", 2, STORE);
-        spells(&rt, b"3 info 5", 3, Call::Info { base: 5 });
         spells(&rt, b"1 load 8 8", 0, Call::Bad);
-        spells(&rt, b"1 store 8", 0, Call::Bad);
-        spells(&rt, b"1 load x", 0, Call::Bad);
-        spells(&rt, b"1 Load 8", 0, Call::Bad);
         spells(&rt, b"1 load\0 8", 0, Call::Bad);
-        spells(&rt, b"1", 0, Call::Bad);
-        spells(&rt, b"18446744073709551616 ret", 0, Call::Bad);
-        spells(&rt, b"1 ret", 0, Call::Later);
-        spells(&rt, b"1 turn x", 0, Call::Later);
-        spells(&rt, b"next 5", 0, Call::Later);
-        spells(&rt, b"rent", 0, Call::Later);
-        spells(&rt, b"1 next", 0, Call::Bad);
+        spells(&rt, b"18446744073709551616 load 8", 0, Call::Bad);
         spells(&rt, b"1 rent", 0, Call::Bad);
-    }
-
-    #[test]
-    fn no_calls(rt: HostRuntime) {
-        assert_eq!(rt; read_line(b""), None);
-        assert_eq!(rt; read_line(b" \t\r"), None);
         assert_eq!(rt; read_line(b" # 1 load 8"), None);
-        assert_eq!(rt; read_line(b"#"), None);
-        assert_eq!(rt; read_line(&[b' '; 256]), None);
-        assert_eq!(rt; read_line(&[b'#'; 256]), None);
-    }
-
-    #[test]
-    fn long_lines(rt: HostRuntime) {
-        let mut line = [b' '; 257];
-        line[..12].copy_from_slice(b"1 store 8 15");
-        spells(&rt, &line[..255], 1, STORE);
-        spells(&rt, &line[..256], 1, STORE);
-        spells(&rt, &line, 0, Call::Bad);
-        spells(&rt, &[b' '; 257], 0, Call::Bad);
-        spells(&rt, &[b'#'; 257], 0, Call::Bad);
+        assert_eq!(rt; read_line(b" \t\r"), None);
     }
 }

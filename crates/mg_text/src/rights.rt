@@ -44,24 +44,3 @@ fn letter_bit(b: u8) -> Option<u8>
         _ => None,
     }
 }
-
-#[cfg(test)]
-mod tests {
-    use super::*;
-
-    #[test]
-    fn letters(rt: HostRuntime) {
-        let rows: [(&[u8], Option<u8>); 7] = [
-            (b"R", Some(1)),
-            (b"PX", Some(20)),
-            (b"OPDXWR", Some(63)),
-            (b"RWR", None),
-            (b"r", None),
-            (b"RWXDPO0", None),
-            (b"", None),
-        ];
-        for (word, bits) in rows {
-            assert_eq!(rt; read_rights(word).map(|rights| rights.bits()), bits);
-        }
-    }
-}
