@@ -1,4 +1,0 @@
-mod Bound
-mod Lists
-mod Listed
-mod Released

@@ -1,4 +1,3 @@
 pub mod Distinct
-pub mod Pairs
 pub mod Places
 pub mod Words

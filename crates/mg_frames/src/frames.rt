@@ -1,35 +1,27 @@
 // The frames of a volume.
 ghost use Rattle.std.specs.Prelude.{◌≡◌, ◌≢◌, ◌≤◌, ◌<◌, ◌+◌, ◌^◌, ◌==◌, IfOk, Some, false, length, map, position, replicate, slice_index, slice_set, true};
 ghost use Rattle.std.specs.List.{list_any};
+ghost use Rattle.mg_index.specs.Pairs.{Ascends, IsExact};
 ghost use Rattle.mg_model.specs.Tests.{all_distinct};
 ghost use Rattle.mg_model.specs.Volume.{bound_pages};
-ghost use Rattle.mg_frames.specs.Pairs.{Ascends, IsExact};
 ghost use Rattle.mg_frames.specs.Words.{unless_within};
 
-use crate::pairs::{count_below, free_frames, part_of, sorted_pairs};
+use mg_index::Index;
 use std::alloc::{AllocError, Global};
 use std::marker::Model;
 
 /// The page that each frame holds, 0 for a free one. No page has two frames.
 #[derive(Drop)]
 pub struct Frames {
-    pages: Vec<u64>,
-    // Each bound page with its frame, ascending by page, in room for as many as there are frames.
-    pairs: Vec<(u64, u64)>,
-    // No frame before this one is free.
-    low: u64,
+    pages: Index,
 }
 
 impl Model for Frames {
     ghost use Rattle.std.specs.Prelude.{ℕ, List};
-    ghost use Rattle.std.specs.Vec.{vec_capacity};
-    ghost use Rattle.mg_frames.specs.Pairs.{AreFrames};
 
     ghost Value = { List ℕ };
 
-    ghost view = { λ frames. frames.pages.items };
-
-    ghost invariant = { λ frames. AreFrames frames.pages.items frames.pairs.items (vec_capacity frames.pairs) frames.low };
+    ghost view = { λ frames. frames.pages };
 }
 
 impl Frames {
@@ -38,13 +30,8 @@ impl Frames {
         requires { frames ≤ 65536 }
         ensures { IfOk result (λ all. all ≡ replicate frames 0) }
     {
-        let pages = vec![in alloc; 0; frames as usize]?;
-        let pairs = Vec::with_capacity(alloc, frames as usize)?;
-        Ok(Frames {
-            pages,
-            pairs,
-            low: 0,
-        })
+        let pages = Index::new(alloc, frames)?;
+        Ok(Frames { pages })
     }
 
     /// Frames that hold these pages, 0 for a free one: at most 65,536, and no page twice. All memory that they will need is
@@ -54,12 +41,8 @@ impl Frames {
         requires distinct { all_distinct (bound_pages pages.items) ≡ true }
         ensures { IfOk result (λ all. all ≡ pages.items) }
     {
-        let pairs = sorted_pairs(alloc, &pages)?;
-        Ok(Frames {
-            pages,
-            pairs,
-            low: 0,
-        })
+        let pages = Index::of(alloc, pages)?;
+        Ok(Frames { pages })
     }
 
     /// How many frames there are.
@@ -68,14 +51,14 @@ impl Frames {
         ensures few { result ≤ 65536 }
         ensures kept { all_distinct (bound_pages self.now) ≡ true }
     {
-        self.pages.len() as u64
+        self.pages.len()
     }
 
     /// The page of each frame, 0 for a free one.
     pub fn as_slice(&self) -> &[u64]
         ensures { result.now ≡ self.now }
     {
-        &self.pages
+        self.pages.as_slice()
     }
 
     /// Each bound page with its frame, ascending by page.
@@ -83,7 +66,7 @@ impl Frames {
         ensures ascending { Ascends result.now }
         ensures exact { IsExact self.now result.now }
     {
-        &self.pairs
+        self.pages.pairs()
     }
 
     /// The frame that holds a page, which is not 0.
@@ -91,12 +74,7 @@ impl Frames {
         requires { page ≢ 0 }
         ensures { result ≡ position (λ entry. entry == page) self.now }
     {
-        let place = count_below(&self.pairs, page);
-        if place < self.pairs.len() && self.pairs[place].0 == page {
-            Some(self.pairs[place].1)
-        } else {
-            None
-        }
+        self.pages.place_of(page)
     }
 
     /// The page that a frame holds, 0 for a free one.
@@ -104,7 +82,7 @@ impl Frames {
         requires { frame < length self.now }
         ensures { result ≡ slice_index self.now frame }
     {
-        self.pages[frame as usize]
+        self.pages.number_at(frame)
     }
 
     /// Binds a page that has no frame, and is not 0, to a frame that is free.
@@ -115,10 +93,7 @@ impl Frames {
         requires unbound { list_any (λ entry. entry == page) self.old ≡ false }
         ensures { self.new ≡ slice_set self.old frame page }
     {
-        let place = count_below(&self.pairs, page);
-        // There is room, since a frame is free.
-        let _ = self.pairs.insert(place, (page, frame));
-        self.pages[frame as usize] = page;
+        self.pages.put(frame, page);
     }
 
     /// Binds a page that has no frame, and is not 0, to the lowest free frame, and gives that frame.
@@ -129,10 +104,7 @@ impl Frames {
         ensures lowest { position (λ entry. entry == 0) self.old ≡ Some result }
         ensures bound { self.new ≡ slice_set self.old result page }
     {
-        let frame = self.lowest_free();
-        self.put(frame, page);
-        self.low = frame + 1;
-        frame
+        self.pages.add(page)
     }
 
     /// Frees the frames of all pages in a range.
@@ -140,28 +112,6 @@ impl Frames {
         requires { first + pages < 2 ^ 64 }
         ensures { self.new ≡ map (unless_within first pages) self.old }
     {
-        let (from, to) = part_of(&self.pairs, first, pages);
-        let part = &self.pairs[from..to];
-        self.low = free_frames(&mut self.pages, part, self.low);
-        drop(self.pairs.drain(from..to));
+        self.pages.release_range(first, pages);
     }
-
-    // The lowest free frame. One is free.
-    fn lowest_free(&self) -> u64
-        requires { list_any (λ entry. entry == 0) self.now ≡ true }
-        ensures lowest { position (λ entry. entry == 0) self.now ≡ Some result }
-        ensures few { result < 65536 }
-    {
-        match first_free(&self.pages[self.low as usize..]) {
-            Some(place) => self.low + place as u64,
-            None => unreachable!(),
-        }
-    }
-}
-
-// The first free frame of these.
-fn first_free(pages: &[u64]) -> Option<usize>
-    ensures { result ≡ position (λ entry. entry == 0) pages.now }
-{
-    pages.iter().position(|page| *page == 0)
 }

@@ -5,6 +5,5 @@
 #![tactic(auto)]
 
 mod frames;
-mod pairs;
 
 pub use frames::Frames;

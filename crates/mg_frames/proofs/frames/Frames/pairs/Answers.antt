@@ -1,9 +1,6 @@
-use Rattle.std.proofs.Common.{ℕ, List, subst, sym}
-use Rattle.mg_frames.specs.Pairs.{IsExact}
+use Rattle.std.proofs.Common.{ℕ, List, subst}
+use Rattle.mg_index.specs.Pairs.{IsExact}
 use Rattle.mg_frames.proofs.frames.Frames.pairs.Goals as goal
 
 pub returns-clause-exact : goal.returns-clause-exact
-returns-clause-exact c =
-    let A : List ℕ → Type 0 = λ xs. IsExact xs c.self.inside.pairs.items in
-    let B : List (ℕ × ℕ) → Type 0 = λ xs. IsExact c.args.self.now xs in
-    subst B (sym c.deref.ensures.value) (subst A c.self.view_is c.self.invariant.exact)
+returns-clause-exact c = let P = λ (pages : List ℕ). IsExact pages c.pairs.result.now in subst P c.self.view_is c.pairs.ensures.exact

@@ -1,0 +1,243 @@
+-- A table and its pairs: a look-up, a number that is bound, and numbers that are released.
+use Rattle.std.specs.Prelude.{◌≡◌, ◌≢◌, ◌+◌, ◌-◌, ◌<◌, ◌≤◌, ◌==◌, nat_lt, ℕ, zero, suc, Bool, true, false, List, [], ◌∷◌, Some, None, insert, length, replicate, slice_index, slice_set}
+use Rattle.std.specs.List.{AllWithin, Contains, list_any, position, position_or_len}
+use Rattle.std.specs.List.Sorted.{IsNonDecreasingBy}
+use Rattle.std.proofs.Common.{refl, sym, ap, ◌∙◌, subst, cond, ⊎_elim, arith, get_or, drop, length-drop, length-set, get_or-set_other, get_or-set_same}
+use Rattle.std.proofs.lemmas.Bool.{cases_eq, cases_lt, eq-eqb, false≢true, ne_eqb, lt-ltb, or_from, or_parts}
+use Rattle.std.proofs.lemmas.List.{get_or-drop, get_or-replicate, get_or_default, length-replicate}
+use Rattle.std.proofs.lemmas.List.Edits.{length-insert}
+use Rattle.std.proofs.lemmas.List.Quantifiers.{position-Some}
+use Rattle.std.proofs.lemmas.List.Sums.{position_or_len_is, sum_by-cons, sum_by-set}
+use Rattle.mg_index.specs.Distinct.{distinct-free, distinct-put}
+use Rattle.mg_index.specs.Places.{nowhere_any}
+use Rattle.mg_index.specs.Pairs.{IsIndexed, Ascends, IsBound, IsExact, NoneFree, free_count}
+use Rattle.mg_index.proofs.Lists.{contains-at, insert-cases, insert-has, insert-keeps, insert-pairs}
+
+pub no-falls : (pairs : List (ℕ × ℕ)) → Ascends pairs → IsNonDecreasingBy (λ (pair : ℕ × ℕ). pair.0) pairs
+no-falls pairs up i j d order under =
+    ⊎_elim (λ before. let l = up i j d before under in omega arith)
+    (λ le. let e : i ≡ j = omega arith in let P : ℕ → Type 0 = λ n. (get_or pairs i d).0 ≤ (get_or pairs n d).0 in subst P e (omega arith))
+    (cases_lt i j)
+
+-- where two pairs of a number stand, they are one
+one-pair : (pairs : List (ℕ × ℕ)) → Ascends pairs → (a b : ℕ) (x y : ℕ × ℕ) → b < length pairs → get_or pairs a x ≡ x → get_or pairs b y ≡ y → x.0 ≡ y.0 → a < b → ⊥
+one-pair pairs up a b x y under at_a at_b same before =
+    let rises : (get_or pairs a x).0 < (get_or pairs b x).0 = up a b x before under in
+    let first : (get_or pairs a x).0 ≡ x.0 = ap (λ (p : ℕ × ℕ). p.0) at_a in
+    let second : (get_or pairs b x).0 ≡ y.0 = ap (λ (p : ℕ × ℕ). p.0) (get_or_default pairs b x y under ∙ at_b) in
+    omega arith
+
+-- a number stands in one place
+pub one-place : (numbers : List ℕ) (pairs : List (ℕ × ℕ)) → Ascends pairs → IsExact numbers pairs → (number f g : ℕ) → IsBound numbers (number, f) → IsBound numbers (number, g) → f ≡ g
+one-place numbers pairs up exact number f g at_f at_g =
+    ⊎_elim (λ l. absurd (one-pair pairs up u.0 w.0 (number, f) (number, g) w.1 u.2 w.2 refl l))
+    (λ le. ⊎_elim (λ l. absurd (one-pair pairs up w.0 u.0 (number, g) (number, f) u.1 w.2 u.2 refl l)) (λ ge. same (omega arith)) (cases_lt w.0 u.0))
+    (cases_lt u.0 w.0)
+  where
+    u : Contains pairs (number, f)
+    u = (exact (number, f)).1 at_f
+
+    w : Contains pairs (number, g)
+    w = (exact (number, g)).1 at_g
+
+    same : u.0 ≡ w.0 → f ≡ g
+    same e = ap (λ (p : ℕ × ℕ). p.1) (sym u.2 ∙ get_or_default pairs u.0 (number, f) (number, g) u.1 ∙ ap (λ k. get_or pairs k (number, g)) e ∙ w.2)
+
+-- the place of a number that has one
+position-is : (p : ℕ → Bool) (xs : List ℕ) (i : ℕ) → i < length xs → p (get_or xs i 0) ≡ true → ((k : ℕ) → k < i → p (get_or xs k 0) ≡ false) → position p xs ≡ Some i
+position-is p xs i under here before =
+    let at : position_or_len p xs ≡ i = position_or_len_is p xs i 0 (omega arith) before (λ _. here) in
+    let t : nat_lt i (length xs) ≡ true = lt-ltb i (length xs) under in
+    rw (at, t) refl
+
+pub place-found : (numbers : List ℕ) (pairs : List (ℕ × ℕ)) → Ascends pairs → IsExact numbers pairs → (pair : ℕ × ℕ) → Contains pairs pair → position (λ entry. entry == pair.0) numbers ≡ Some pair.1
+place-found numbers pairs up exact pair there =
+    position-is (λ entry. entry == pair.0) numbers pair.1 bound.1 (eq-eqb (get_or numbers pair.1 0) pair.0 bound.2)
+    (λ k before. ne_eqb (get_or numbers k 0) pair.0 (λ is. absurd (let e = one-place numbers pairs up exact pair.0 k pair.1 (bound.0, omega (arith, bound.1), is) bound in omega arith)))
+  where
+    bound : IsBound numbers pair
+    bound = (exact pair).0 there
+
+-- a number that has none
+none-there : (p : ℕ → Bool) (xs : List ℕ) → ((k : ℕ) → k < length xs → p (get_or xs k 0) ≡ false) → list_any p xs ≡ false
+none-there p [] none = refl
+none-there p (x ∷ xs) none = or_from (p x) (list_any p xs) (none 0 (omega arith)) (none-there p xs (λ k under. none (suc k) (omega arith)))
+
+pub place-not-found :
+    (numbers : List ℕ) (pairs : List (ℕ × ℕ)) (number : ℕ) → number ≢ 0 → IsExact numbers pairs → ((k : ℕ) (d : ℕ × ℕ) → k < length pairs → (get_or pairs k d).0 ≢ number) → list_any (λ entry. entry == number) numbers ≡ false
+place-not-found numbers pairs number some exact none =
+    none-there (λ entry. entry == number) numbers
+    (λ k under. ne_eqb (get_or numbers k 0) number (λ is. let there = (exact (number, k)).1 (some, under, is) in none there.0 (number, k) there.1 (ap (λ (p : ℕ × ℕ). p.0) there.2)))
+
+-- numbers before a place are below a number, and those from there on are above it, where it does not stand at that place
+pub nowhere-else :
+    (pairs : List (ℕ × ℕ)) (number i : ℕ) → Ascends pairs → AllWithin (λ (pair : ℕ × ℕ). pair.0 < number) pairs 0 i → AllWithin (λ (pair : ℕ × ℕ). number ≤ pair.0) pairs i (length pairs)
+    → ((d : ℕ × ℕ) → i < length pairs → (get_or pairs i d).0 ≢ number) → (k : ℕ) (d : ℕ × ℕ) → k < length pairs → (get_or pairs k d).0 ≢ number
+nowhere-else pairs number i up low high other k d under is =
+    ⊎_elim (λ below. let l = low k d (omega arith) below in omega arith)
+    (λ above. ⊎_elim (λ same. other d (let e : i ≡ k = sym same in omega arith) (ap (λ n. (get_or pairs n d).0) (sym same) ∙ is)) (λ behind. let h = high i d (omega arith) (omega arith) in let r = up i k d (omega arith) under in omega arith) (cases_eq k i))
+    (cases_lt k i)
+
+-- a number that is bound
+set-count : (numbers : List ℕ) (place number : ℕ) → place < length numbers → number ≢ 0 → slice_index numbers place ≡ 0 → free_count (slice_set numbers place number) + 1 ≡ free_count numbers
+set-count numbers place number under some free =
+    let s = sum_by-set (λ (x : ℕ). cond (x == 0) 1 0) numbers place number 0 under in
+    let was : cond {A = ℕ} (get_or numbers place 0 == 0) 1 0 ≡ 1 = ap (λ (b : Bool). cond {A = ℕ} b 1 0) (eq-eqb (get_or numbers place 0) 0 free) in
+    let now : cond {A = ℕ} (number == 0) 1 0 ≡ 0 = ap (λ (b : Bool). cond {A = ℕ} b 1 0) (ne_eqb number 0 some) in
+    omega arith
+
+pub free-count : (numbers : List ℕ) (place : ℕ) → place < length numbers → slice_index numbers place ≢ 0 → free_count (slice_set numbers place 0) ≡ free_count numbers + 1
+free-count numbers place under bound =
+    let s = sum_by-set (λ (x : ℕ). cond (x == 0) 1 0) numbers place 0 0 under in
+    let was : cond {A = ℕ} (get_or numbers place 0 == 0) 1 0 ≡ 0 = ap (λ (b : Bool). cond {A = ℕ} b 1 0) (ne_eqb (get_or numbers place 0) 0 bound) in
+    omega arith
+
+exact-put :
+    (numbers : List ℕ) (pairs : List (ℕ × ℕ)) (place number i : ℕ) → i ≤ length pairs → place < length numbers → number ≢ 0 → slice_index numbers place ≡ 0 → IsExact numbers pairs
+    → IsExact (slice_set numbers place number) (insert pairs i (number, place))
+exact-put numbers pairs place number i within under some free exact pair = (to, from)
+  where
+    long : length (slice_set numbers place number) ≡ length numbers
+    long = length-set numbers place number
+
+    now : IsBound (slice_set numbers place number) (number, place)
+    now = (some, omega (arith, long), get_or-set_same numbers place number 0 under)
+
+    kept : IsBound numbers pair → IsBound (slice_set numbers place number) pair
+    kept bound =
+        let other : pair.1 ≢ place = λ is. bound.0 (sym bound.2 ∙ ap (λ k. get_or numbers k 0) is ∙ free) in
+        let l = bound.1 in
+        (bound.0, omega (arith, long), get_or-set_other numbers place pair.1 number 0 other ∙ bound.2)
+
+    to : Contains (insert pairs i (number, place)) pair → IsBound (slice_set numbers place number) pair
+    to there = ⊎_elim (λ old. kept ((exact pair).0 old)) (λ new. subst (λ (p : ℕ × ℕ). IsBound (slice_set numbers place number) p) new now) (insert-cases pairs i (number, place) pair within there)
+
+    from : IsBound (slice_set numbers place number) pair → Contains (insert pairs i (number, place)) pair
+    from bound =
+        ⊎_elim
+        (λ is.
+        let e : number ≡ pair.0 = sym (get_or-set_same numbers place number 0 under) ∙ sym (ap (λ k. get_or (slice_set numbers place number) k 0) is) ∙ bound.2 in
+        let new : (number, place) ≡ pair = ap (λ n. (n, place)) e ∙ ap (λ m. (pair.0, m)) (sym is) in
+        subst (λ (p : ℕ × ℕ). Contains (insert pairs i (number, place)) p) new (insert-has pairs i (number, place) within))
+        (λ other.
+        let l = bound.1 in
+        insert-keeps pairs i (number, place) pair within ((exact pair).1 (bound.0, omega (arith, long), sym (get_or-set_other numbers place pair.1 number 0 other) ∙ bound.2)))
+        (cases_eq pair.1 place)
+
+-- what is bound nowhere
+any-not : (p : ℕ → Bool) (xs : List ℕ) → list_any p xs ≡ false → (k : ℕ) → k < length xs → p (get_or xs k 0) ≡ false
+any-not p [] none k under = absurd (omega arith)
+any-not p (x ∷ xs) none zero under = (or_parts (p x) (list_any p xs) none).0
+any-not p (x ∷ xs) none (suc k) under = any-not p xs (or_parts (p x) (list_any p xs) none).1 k (omega arith)
+
+unbound-not : (numbers : List ℕ) (number : ℕ) → list_any (λ entry. entry == number) numbers ≡ false → (pair : ℕ × ℕ) → IsBound numbers pair → pair.0 ≢ number
+unbound-not numbers number none pair bound is =
+    false≢true (sym (any-not (λ entry. entry == number) numbers none pair.1 bound.1) ∙ eq-eqb (get_or numbers pair.1 0) number (bound.2 ∙ is))
+
+-- a number that is put into a place
+pub put-places :
+    (numbers : List ℕ) (pairs : List (ℕ × ℕ)) (space more low place number i : ℕ) → IsIndexed numbers pairs space low → space ≤ more → i ≤ length pairs
+    → AllWithin (λ (pair : ℕ × ℕ). pair.0 < number) pairs 0 i → AllWithin (λ (pair : ℕ × ℕ). number ≤ pair.0) pairs i (length pairs)
+    → place < length numbers → number ≢ 0 → slice_index numbers place ≡ 0 → list_any (λ entry. entry == number) numbers ≡ false
+    → IsIndexed (slice_set numbers place number) (insert pairs i (number, place)) more low
+put-places numbers pairs space more low place number i old room within before behind under some free none =
+    let long = length-set numbers place number in
+    let l = length-insert pairs i (number, place) within in
+    let c = set-count numbers place number under some free in
+    let few = old.few in
+    let count_is = old.count in
+    let had = old.room in
+    let low_in = old.within in
+    record {
+      distinct = distinct-put numbers place number some none old.distinct;
+      few = omega arith;
+      ascends =
+          insert-pairs (λ (a b : ℕ × ℕ). a.0 < b.0) pairs i (number, place) within old.ascends (λ k d below. before k d (omega arith) below)
+          (λ k d above inside.
+          let other = unbound-not numbers number none (get_or pairs k d) ((old.exact (get_or pairs k d)).0 (contains-at pairs k d (get_or pairs k d) inside refl)) in
+          let b = behind k d above inside in
+          omega arith);
+      exact = exact-put numbers pairs place number i within under some free old.exact;
+      count = omega arith;
+      room = omega arith;
+      within = omega arith;
+      none_free =
+          λ k below is.
+          ⊎_elim (λ same. some (sym (get_or-set_same numbers place number 0 under) ∙ sym (ap (λ n. get_or (slice_set numbers place number) n 0) same) ∙ is))
+          (λ other. old.none_free k below (sym (get_or-set_other numbers place k number 0 other) ∙ is)) (cases_eq k place);
+    }
+
+-- one pair is missing as long as a place is free
+pub has-room : (numbers : List ℕ) (pairs : List (ℕ × ℕ)) (space low place : ℕ) → IsIndexed numbers pairs space low → place < length numbers → slice_index numbers place ≡ 0 → length pairs < space
+has-room numbers pairs space low place old under free =
+    let count_is = old.count in
+    let had = old.room in
+    let c = sum_by-set (λ (x : ℕ). cond (x == 0) 1 0) numbers place 1 0 under in
+    let was : cond {A = ℕ} (get_or numbers place 0 == 0) 1 0 ≡ 1 = ap (λ (b : Bool). cond {A = ℕ} b 1 0) (eq-eqb (get_or numbers place 0) 0 free) in
+    omega arith
+
+-- no number is bound yet
+free-all : (n : ℕ) → free_count (replicate n 0) ≡ n
+free-all zero = refl
+free-all (suc n) = let s = sum_by-cons (λ (x : ℕ). cond (x == 0) 1 0) 0 (replicate n 0) in let e = free-all n in omega arith
+
+pub new-places : (n space : ℕ) → n ≤ 65536 → n ≤ space → IsIndexed (replicate n 0) [] space 0
+new-places n space few room =
+    let long = length-replicate {A = ℕ} n 0 in
+    let c = free-all n in
+    record {
+      distinct = distinct-free n;
+      few = omega arith;
+      ascends = λ i j d before under. absurd (omega arith);
+      exact =
+          λ pair. (
+            λ there. absurd (let u = there.1 in omega arith),
+            λ bound. absurd (bound.0 (sym bound.2 ∙ get_or-replicate n pair.1 0 0 (omega (arith, bound.1)))),
+          );
+      count = omega arith;
+      room = omega arith;
+      within = omega arith;
+      none_free = λ k below is. absurd (omega arith);
+    }
+
+-- the lowest free place
+pub lowest-from : (numbers : List ℕ) (low n : ℕ) → NoneFree numbers low → position (λ entry. entry == 0) (drop low numbers) ≡ Some n → position (λ entry. entry == 0) numbers ≡ Some (low + n)
+lowest-from numbers low n none is =
+    let at = position-Some (λ entry. entry == 0) (drop low numbers) n 0 is in
+    let d = length-drop low numbers in
+    position-is (λ entry. entry == 0) numbers (low + n) (omega (arith, at.0)) (ap (λ x. x == 0) (sym (get_or-drop low numbers n 0)) ∙ at.1)
+    (λ k before. ⊎_elim (λ below. ne_eqb (get_or numbers k 0) 0 (none k below))
+    (λ above.
+    let e : low + (k - low) ≡ k = omega arith in
+    ap (λ x. x == 0) (sym (ap (λ m. get_or numbers m 0) e) ∙ sym (get_or-drop low numbers (k - low) 0)) ∙ at.2 (k - low) (omega arith)) (cases_lt k low))
+
+pub none-free : (numbers : List ℕ) (low : ℕ) → NoneFree numbers low → position (λ entry. entry == 0) (drop low numbers) ≡ None → list_any (λ entry. entry == 0) numbers ≡ false
+none-free numbers low none is =
+    none-there (λ entry. entry == 0) numbers
+    (λ k under. ⊎_elim (λ below. ne_eqb (get_or numbers k 0) 0 (none k below))
+    (λ above.
+    let e : low + (k - low) ≡ k = omega arith in
+    let d = length-drop low numbers in
+    ap (λ x. x == 0) (sym (ap (λ m. get_or numbers m 0) e) ∙ sym (get_or-drop low numbers (k - low) 0))
+    ∙ any-not (λ entry. entry == 0) (drop low numbers) (nowhere_any (λ entry. entry == 0) (drop low numbers) is) (k - low) (omega arith)) (cases_lt k low))
+
+-- once the lowest free place is bound, the bound is behind it
+pub bound-above :
+    (was numbers : List ℕ) (pairs : List (ℕ × ℕ)) (space low place number : ℕ) → IsIndexed numbers pairs space low → position (λ entry. entry == 0) was ≡ Some place → numbers ≡ slice_set was place number → number ≢ 0 → IsIndexed numbers pairs space (place + 1)
+bound-above was numbers pairs space low place number now is put some =
+    let at = position-Some (λ entry. entry == 0) was place 0 is in
+    let long = ap length put ∙ length-set was place number in
+    record {
+      distinct = now.distinct;
+      few = now.few;
+      ascends = now.ascends;
+      exact = now.exact;
+      count = now.count;
+      room = now.room;
+      within = omega (arith, at.0);
+      none_free =
+          λ k below free.
+          let was_free : get_or (slice_set was place number) k 0 ≡ 0 = sym (ap (λ xs. get_or xs k 0) put) ∙ free in
+          ⊎_elim (λ same. some (sym (get_or-set_same was place number 0 at.0) ∙ sym (ap (λ n. get_or (slice_set was place number) n 0) same) ∙ was_free))
+          (λ other. false≢true (sym (at.2 k (omega arith)) ∙ eq-eqb (get_or was k 0) 0 (sym (get_or-set_other was place k number 0 other) ∙ was_free))) (cases_eq k place);
+    }

@@ -1,0 +1,4 @@
+mod Bound
+mod Lists
+mod Listed
+mod Released

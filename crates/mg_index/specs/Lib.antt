@@ -1,0 +1,4 @@
+pub mod Distinct
+pub mod Pairs
+pub mod Places
+pub mod Words

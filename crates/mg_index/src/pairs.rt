@@ -1,0 +1,72 @@
+// A list of numbers and their places, which ascends by number.
+ghost use Rattle.std.specs.Prelude.{◌≡◌, ◌≤◌, ◌<◌, ◌+◌, ◌^◌, [], All, IfOk, length, map, true};
+ghost use Rattle.std.specs.List.{AllWithin};
+ghost use Rattle.std.specs.Vec.{vec_capacity};
+ghost use Rattle.mg_model.specs.Tests.{all_distinct};
+ghost use Rattle.mg_index.specs.Words.{numbers_in};
+ghost use Rattle.mg_index.specs.Pairs.{Ascends, IsExact, IsPart, IsSortedTable, freed};
+
+use std::alloc::{AllocError, Global};
+
+/// The numbers of a table with their places, ascending by number, in room for a number in each place.
+pub(crate) fn sorted_pairs(alloc: Global, numbers: &[u64]) -> Result<Vec<(u64, u64)>, AllocError>
+    requires { all_distinct (numbers_in numbers.now) ≡ true }
+    ensures { IfOk result (λ pairs. IsSortedTable numbers.now pairs.items (vec_capacity pairs)) }
+{
+    let mut pairs = Vec::with_capacity(alloc, numbers.len())?;
+    list_pairs(numbers, &mut pairs);
+    pairs.sort_unstable_by_key(|pair| pair.0);
+    Ok(pairs)
+}
+
+// Lists the numbers of a table with their places, place by place.
+fn list_pairs(numbers: &[u64], pairs: &mut Vec<(u64, u64)>)
+    requires none { pairs.old.items ≡ [] }
+    requires room { length numbers.now ≤ vec_capacity pairs.old }
+    ensures numbers { map (λ pair. pair.0) pairs.new.items ≡ numbers_in numbers.now }
+    ensures exact { IsExact numbers.now pairs.new.items }
+    ensures room { length numbers.now ≤ vec_capacity pairs.new }
+{
+    for (place, number) in numbers.iter().enumerate() {
+        if *number != 0 {
+            // There is room for a number in each place.
+            let _ = pairs.push((*number, place as u64));
+        }
+    }
+}
+
+/// How many pairs have a number below this one. It halves what is left at each step.
+pub(crate) fn count_below(pairs: &[(u64, u64)], number: u64) -> usize
+    requires { Ascends pairs.now }
+    ensures within { result ≤ length pairs.now }
+    ensures below { AllWithin (λ pair. pair.0 < number) pairs.now 0 result }
+    ensures above { AllWithin (λ pair. number ≤ pair.0) pairs.now result (length pairs.now) }
+{
+    pairs.partition_point(|pair| pair.0 < number)
+}
+
+/// Where the pairs of the numbers in a range begin and end.
+pub(crate) fn part_of(pairs: &[(u64, u64)], first: u64, count: u64) -> (usize, usize)
+    requires ascends { Ascends pairs.now }
+    requires range { first + count < 2 ^ 64 }
+    ensures { IsPart pairs.now first count result.0 result.1 }
+{
+    let from = count_below(pairs, first);
+    let to = count_below(pairs, first + count);
+    (from, to)
+}
+
+/// Frees the places of these pairs, and gives the lowest of them, or `low` where that is lower.
+pub(crate) fn free_places(numbers: &mut [u64], pairs: &[(u64, u64)], low: u64) -> u64
+    requires { All (λ pair. pair.1 < length numbers.old) pairs.now }
+    ensures freed { numbers.new ≡ freed numbers.old pairs.now }
+    ensures low { result ≤ low }
+    ensures lowest { All (λ pair. result ≤ pair.1) pairs.now }
+{
+    let mut lowest = low;
+    for pair in pairs {
+        numbers[pair.1 as usize] = 0;
+        lowest = lowest.min(pair.1);
+    }
+    lowest
+}
