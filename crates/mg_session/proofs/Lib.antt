@@ -1,3 +1,4 @@
+mod Endings
 mod IncomingSteps
 mod Openings
 mod Outcomes

@@ -1,7 +1,7 @@
 -- What an opening tells, and what a command may say of it.
-use Rattle.std.specs.Prelude.{ℕ, ◌≡◌, List, length, Option, Some, None, IfSome, Result, Err}
+use Rattle.std.specs.Prelude.{ℕ, ◌≡◌, ◌≢◌, ◌⊎◌, List, [], length, Option, Some, None, IfSome, Result, Err}
 use Rattle.std.specs.Option.{ForSome}
-use Rattle.std.proofs.Common.{refl, sym, ap, ◌∙◌, arith, subst}
+use Rattle.std.proofs.Common.{refl, sym, ap, ◌∙◌, arith, inl, inr, subst, ⊎_elim}
 use Rattle.std.proofs.lemmas.List.{drop_all}
 use Rattle.mg_check.specs.declared.examining.OpenFault.{OpenFault}
 use Rattle.mg_check.specs.declared.examining.OpenFault.TheVariants as fault
@@ -9,9 +9,10 @@ use Rattle.mg_check.specs.declared.examining.Summary.{Summary}
 use Rattle.mg_check.specs.Summaries.{Tells}
 use Rattle.mg_disk.specs.Disk.{Image}
 use Rattle.mg_disk.specs.Runs.{leaves_then, leaves_wider, leaves_yet}
-use Rattle.mg_disk.specs.Stops.{Leaves}
+use Rattle.mg_disk.specs.Stops.{Leaves, NothingPending}
 use Rattle.mg_disk.specs.declared.disk.Disk.{Ghosts}
-use Rattle.mg_io.specs.Known.{AppendsPrefix, AppendsPrefix-none}
+use Rattle.mg_io.specs.Known.{Appends-none, AppendsPrefix, AppendsPrefix-longer, AppendsPrefix-none}
+use Rattle.mg_io.specs.declared.traits.Sink as sinks
 use Rattle.mg_kernel.specs.declared.kernel.Kernel.{Kernel}
 use Rattle.mg_kernel.specs.Meaning.{StandsOn, now_kept, now_of, staged_of}
 use Rattle.mg_kernel.specs.Opening.{Opens}
@@ -20,15 +21,37 @@ use Rattle.mg_model.specs.Print.{answered}
 use Rattle.mg_model.specs.Lines.{built_words, lines}
 use Rattle.mg_model.specs.State.{State}
 use Rattle.mg_model.specs.Volume.{Damaged, Is, NotVolume, OldVolume, VolumeRead, volume}
-use Rattle.mg_session.specs.Headline.{AnswersPrefix, AreAnswered, KeepsAnswered, replies}
-use Rattle.mg_session.specs.Sessions.{IsPrefix}
-use Rattle.mg_session.specs.Volumes.{FaultTells, IfState, IsQuiet, OnVolume, check_line, summary_line}
+use Rattle.mg_session.specs.declared.program.Status.{Status}
+use Rattle.mg_session.specs.declared.program.Status.TheVariants as status
+use Rattle.mg_session.specs.Headline.{Answers, AnswersLines, AnswersPrefix, AreAnswered, Holds, HoldsExactly, IfState, IsPrefix, KeepsAnswered, MayTell, OnVolume, TellsOfNone, check_line, replies, summary_line}
+use Rattle.mg_session.specs.Unopened.{EndsWith, FaultTells, IsQuiet, fault_line}
 use Rattle.mg_session.proofs.SessionSteps.{left_spells, no_lines}
 
 -- before the first call
 pub none_put : (s : State) (left taken : Option (List ℕ)) → AnswersPrefix s left taken taken
 none_put s None taken = tt
 none_put s (Some input) taken = AppendsPrefix-none taken (replies s input)
+
+none_lines : (s : State) (left taken : Option (List ℕ)) → AnswersLines s left taken taken
+none_lines s None taken = tt
+none_lines s (Some input) taken = (0, omega arith, Appends-none taken)
+
+-- a command that ended before the first call of the source and of the sink
+pub first_answers : (s : State) (result : Status) (left taken : Option (List ℕ)) → result ≢ status.Done → Answers s result left left taken taken
+first_answers s result left taken early = record {
+  prefix = none_put s left taken;
+  done = λ ended. absurd (early ended);
+  lines_disk = λ ended. none_lines s left taken;
+  lines_source = λ ended. none_lines s left taken;
+  lines_too_long = λ ended. none_lines s left taken;
+}
+
+quiet_early : (f : OpenFault) (result : Status) → IsQuiet f → EndsWith f result → result ≢ status.Done
+quiet_early fault.Not result quiet ends = absurd quiet
+quiet_early fault.Old result quiet ends = absurd quiet
+quiet_early fault.Damaged result quiet ends = absurd quiet
+quiet_early fault.Disk result quiet ends = λ ended. (let e : result ≡ status.Disk = ends in cc)
+quiet_early fault.Memory result quiet ends = λ ended. (let e : result ≡ status.Memory = ends in cc)
 
 -- the state that an image spells
 pub state_is : (read : VolumeRead) (s : State) (P : State → Type 0) → read ≡ Is s → P s → IfState read P
@@ -65,6 +88,34 @@ unopened fault.Damaged told P tells p = λ image is. subst (λ (v : VolumeRead).
 unopened fault.Disk told P tells p = λ image is. any_state (volume image) P (λ s spelled. p tt image is s spelled)
 unopened fault.Memory told P tells p = λ image is. any_state (volume image) P (λ s spelled. p tt image is s spelled)
 
+-- what the sink took where the volume was not opened
+pub unopened_answers : (f : OpenFault) (told : Option Image) (result : Status) (left taken taken' : Option (List ℕ)) → FaultTells f told → EndsWith f result → (IsQuiet f → taken' ≡ taken)
+    → OnVolume told (λ s. Answers s result left left taken taken')
+unopened_answers f told result left taken taken' tells ends same =
+    unopened f told (λ s. Answers s result left left taken taken') tells
+    (λ quiet image is s spelled. subst (λ (v : Option (List ℕ)). Answers s result left left taken v) (sym (same quiet)) (first_answers s result left taken (quiet_early f result quiet ends)))
+
+-- what a stop leaves of it
+pub unopened_exactly : {D : Type 0} (facts : Ghosts D) (f : OpenFault) (told : Option Image) (result : Status) (d' : D) (left taken taken' : Option (List ℕ)) → FaultTells f told → EndsWith f result
+    → OnVolume told (λ s. HoldsExactly facts s result d' left left taken taken')
+unopened_exactly facts f told result d' left taken taken' tells ends =
+    unopened f told (λ s. HoldsExactly facts s result d' left left taken taken') tells (λ quiet image is s spelled. by_fault f quiet ends s)
+  where
+    by_fault : (f : OpenFault) → IsQuiet f → EndsWith f result → (s : State) → HoldsExactly facts s result d' left left taken taken'
+    by_fault fault.Not quiet ends s = absurd quiet
+    by_fault fault.Old quiet ends s = absurd quiet
+    by_fault fault.Damaged quiet ends s = absurd quiet
+    by_fault fault.Disk quiet ends s = let e : result ≡ status.Disk = ends in record { held_source = λ h. absurd (cc); held_too_long = λ h. absurd (cc); held_sink = λ h. absurd (cc) }
+    by_fault fault.Memory quiet ends s = let e : result ≡ status.Memory = ends in record { held_source = λ h. absurd (cc); held_too_long = λ h. absurd (cc); held_sink = λ h. absurd (cc) }
+
+-- a prefix of a fault's line is one of a line that `check` may put
+pub fault_may_tell : (f : OpenFault) (taken taken' : Option (List ℕ)) → AppendsPrefix taken taken' (fault_line f) → (line : List ℕ) × MayTell line × AppendsPrefix taken taken' line
+fault_may_tell fault.Not taken taken' put = (check_line NotVolume, inr (inl refl), put)
+fault_may_tell fault.Old taken taken' put = (check_line OldVolume, inr (inr (inl refl)), put)
+fault_may_tell fault.Damaged taken taken' put = (check_line Damaged, inr (inr (inr refl)), put)
+fault_may_tell fault.Disk taken taken' put = (check_line NotVolume, inr (inl refl), AppendsPrefix-longer taken taken' [] (check_line NotVolume) put)
+fault_may_tell fault.Memory taken taken' put = (check_line NotVolume, inr (inl refl), AppendsPrefix-longer taken taken' [] (check_line NotVolume) put)
+
 -- what is told of a volume is told of the state that the image spells
 pub told_prefix : (summary : Summary) (told : Option Image) (taken taken' : Option (List ℕ)) → ForSome told (Tells summary) → AppendsPrefix taken taken' (summary_line summary)
     → ForSome told (λ image. AppendsPrefix taken taken' (check_line (volume image)))
@@ -72,8 +123,18 @@ told_prefix summary told taken taken' tells put = λ image is.
     let t : Tells summary image = tells image is in
     subst (λ (v : List ℕ). AppendsPrefix taken taken' v) (ap summary_line t.told ∙ sym (ap check_line t.is)) put
 
-pub told_not : (summary : Summary) (told : Option Image) (P : Type 0) → ForSome told (Tells summary) → ForSome told (λ image. IsNoState (volume image) → P)
-told_not summary told P tells = λ image is none. absurd (subst IsNoState (tells image is).is none)
+-- a command that found a volume
+pub told_without : {D K : Type 0} (facts : Ghosts D) (to : sinks.Ghosts K) (summary : Summary) (result : Status) (d d' : D) (k k' : K) → ForSome (facts.seen d) (Tells summary)
+    → (result ≡ status.Done) ⊎ (result ≡ status.Sink) → TellsOfNone facts to result d d' k k'
+told_without facts to summary result d d' k k' tells ends = record {
+  none = λ h. absurd (found h);
+  none_writes = λ h. absurd (found h);
+  not_opened = λ image is none. absurd (subst IsNoState (tells image is).is none);
+  not_opened_prefix = λ image is none. absurd (subst IsNoState (tells image is).is none);
+}
+  where
+    found : result ≡ status.NoVolume → ⊥
+    found h = ⊎_elim (λ (e : result ≡ status.Done). cc) (λ (e : result ≡ status.Sink). cc) ends
 
 -- where nothing was taken or put, no line is answered
 none_answered : (taken : Option (List ℕ)) → AreAnswered taken taken 0
@@ -89,30 +150,52 @@ module _ {D : Type 0} (facts : Ghosts D) (k : Kernel) (d : D) where
   yet_spelled : StandsOn facts k d → staged_of k ≡ 0 → (image : Image) → facts.seen d ≡ Some image → (c : Image) → facts.left_since d (facts.moment d) c → volume c ≡ Is (now_of k image)
   yet_spelled stands none image is c left = left_spells facts d image c (now_of k image) stands.settled is (now_kept k image (stands.fits image is) none) left
 
-  pub yet_moments : (left : Option (List ℕ)) → StandsOn facts k d → staged_of k ≡ 0 → facts.has_been d (facts.moment d)
-      → ForSome (facts.seen d) (λ image. IfSome left (λ input. Leaves facts d d (IsPrefix (now_of k image) (lines built_words input))))
-  yet_moments None stands clean been = λ image is. tt
-  yet_moments (Some input) stands clean been = λ image is.
+  yet_moments : (left : Option (List ℕ)) → StandsOn facts k d → staged_of k ≡ 0 → facts.has_been d (facts.moment d) → (image : Image) → facts.seen d ≡ Some image
+      → IfSome left (λ input. Leaves facts d d (IsPrefix (now_of k image) (lines built_words input)))
+  yet_moments None stands clean been image is = tt
+  yet_moments (Some input) stands clean been image is =
       leaves_yet facts d (IsPrefix (now_of k image) (lines built_words input)) been (λ c left. no_lines (now_of k image) (lines built_words input) c (yet_spelled stands clean image is c left))
 
-  pub yet_held : (left taken : Option (List ℕ)) → StandsOn facts k d → staged_of k ≡ 0
-      → ForSome (facts.seen d) (λ image. KeepsAnswered (facts.left_since d (facts.moment d)) (now_of k image) left left taken taken)
-  yet_held left taken stands none = λ image is. none_held (facts.left_since d (facts.moment d)) (now_of k image) left taken (λ c left. yet_spelled stands none image is c left)
+  pub yet_holds : (left taken : Option (List ℕ)) → StandsOn facts k d → staged_of k ≡ 0 → facts.has_been d (facts.moment d)
+      → ForSome (facts.seen d) (λ image. Holds facts (now_of k image) d d left left taken taken)
+  yet_holds left taken stands none been = λ image is. record {
+    moments = yet_moments left stands none been image is;
+    held = none_held (facts.left_since d (facts.moment d)) (now_of k image) left taken (λ c left. yet_spelled stands none image is c left);
+  }
 
--- what an opening leaves, and then a session
-pub run_moments : {D : Type 0} (facts : Ghosts D) (k : Kernel) (d mid d' : D) (left : Option (List ℕ)) → ForSome (facts.seen d) (λ image. Opens (volume image) k (facts.seen mid))
-    → ForSome (facts.seen d) (λ image. Leaves facts d mid (λ c. volume c ≡ volume image))
-    → ForSome (facts.seen mid) (λ image. IfSome left (λ input. Leaves facts mid d' (IsPrefix (now_of k image) (lines built_words input))))
-    → OnVolume (facts.seen d) (λ s. IfSome left (λ input. Leaves facts d d' (IsPrefix s (lines built_words input))))
-run_moments facts k d mid d' left opens first second = λ image is.
-    let o : Opens (volume image) k (facts.seen mid) = opens image is in
-    state_is (volume image) o.state (λ s. IfSome left (λ input. Leaves facts d d' (IsPrefix s (lines built_words input)))) o.is
-    (by_left left image o.state o.is (first image is) (subst (λ (s : State). IfSome left (λ input. Leaves facts mid d' (IsPrefix s (lines built_words input)))) o.holds.now (second o.holds.image o.holds.is)))
-  where
-    by_left : (left : Option (List ℕ)) (image : Image) (s : State) → volume image ≡ Is s → Leaves facts d mid (λ c. volume c ≡ volume image)
-        → IfSome left (λ input. Leaves facts mid d' (IsPrefix s (lines built_words input))) → IfSome left (λ input. Leaves facts d d' (IsPrefix s (lines built_words input)))
-    by_left None image s spelled first second = tt
-    by_left (Some input) image s spelled first second =
-        leaves_then facts d mid d' (IsPrefix s (lines built_words input)) (IsPrefix s (lines built_words input))
-        (leaves_wider facts d mid (λ c. volume c ≡ volume image) (IsPrefix s (lines built_words input)) first (λ c same. no_lines s (lines built_words input) c (same ∙ spelled)))
-        second (λ c f. f)
+-- what an opening may leave, where the session then leaves this
+module _ {D : Type 0} (facts : Ghosts D) (d mid : D) where
+  prefix_yet : (left : Option (List ℕ)) (image : Image) (s : State) → volume image ≡ Is s → Leaves facts d mid (λ c. volume c ≡ volume image)
+      → IfSome left (λ input. Leaves facts d mid (IsPrefix s (lines built_words input)))
+  prefix_yet None image s spelled first = tt
+  prefix_yet (Some input) image s spelled first =
+      leaves_wider facts d mid (λ c. volume c ≡ volume image) (IsPrefix s (lines built_words input)) first (λ c same. no_lines s (lines built_words input) c (same ∙ spelled))
+
+  prefix_then : (d' : D) (left : Option (List ℕ)) (s : State) → IfSome left (λ input. Leaves facts d mid (IsPrefix s (lines built_words input)))
+      → IfSome left (λ input. Leaves facts mid d' (IsPrefix s (lines built_words input))) → IfSome left (λ input. Leaves facts d d' (IsPrefix s (lines built_words input)))
+  prefix_then d' None s first second = tt
+  prefix_then d' (Some input) s first second = leaves_then facts d mid d' (IsPrefix s (lines built_words input)) (IsPrefix s (lines built_words input)) first second (λ c f. f)
+
+  -- an opening, and then a session
+  pub opened_holds : (k : Kernel) (d' : D) (left left' taken taken' : Option (List ℕ)) → ForSome (facts.seen d) (λ image. Opens (volume image) k (facts.seen mid))
+      → ForSome (facts.seen d) (λ image. Leaves facts d mid (λ c. volume c ≡ volume image))
+      → ForSome (facts.seen mid) (λ image. Holds facts (now_of k image) mid d' left left' taken taken')
+      → OnVolume (facts.seen d) (λ s. Holds facts s d d' left left' taken taken')
+  opened_holds k d' left left' taken taken' opens first second = λ image is.
+      let o : Opens (volume image) k (facts.seen mid) = opens image is in
+      let h : Holds facts o.state mid d' left left' taken taken' = subst (λ (s : State). Holds facts s mid d' left left' taken taken') o.holds.now (second o.holds.image o.holds.is) in
+      state_is (volume image) o.state (λ s. Holds facts s d d' left left' taken taken') o.is
+      record { moments = prefix_then d' left o.state (prefix_yet left image o.state o.is (first image is)) h.moments; held = h.held }
+
+  -- an opening that failed
+  pub unopened_holds : (f : OpenFault) (left taken taken' : Option (List ℕ)) → FaultTells f (facts.seen d) → (IsQuiet f → taken' ≡ taken) → NothingPending facts d
+      → ForSome (facts.seen d) (λ image. Leaves facts d mid (λ c. volume c ≡ volume image)) → OnVolume (facts.seen d) (λ s. Holds facts s d mid left left taken taken')
+  unopened_holds f left taken taken' tells same only first =
+      unopened f (facts.seen d) (λ s. Holds facts s d mid left left taken taken') tells (λ quiet image is s spelled.
+      subst (λ (v : Option (List ℕ)). Holds facts s d mid left left taken v) (sym (same quiet)) record {
+        moments = prefix_yet left image s spelled (first image is);
+        held = none_held (facts.left_since mid (facts.moment mid)) s left taken (λ c left. ⊎_elim
+            (λ (before : facts.left_since d (facts.moment d) c). left_spells facts d image c s only is spelled before)
+            (λ (kept : volume c ≡ volume image). kept ∙ spelled)
+            ((first image is).time.now c left));
+      })

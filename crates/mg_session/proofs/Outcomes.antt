@@ -1,5 +1,5 @@
 -- From how a session ended to the words of the clauses.
-use Rattle.std.specs.Prelude.{ℕ, ◌+◌, ◌-◌, ◌<◌, ◌≤◌, ◌≡◌, List, [], ◌∷◌, ◌++◌, length, take, drop, Option, Some, None, IfSome}
+use Rattle.std.specs.Prelude.{ℕ, ◌+◌, ◌-◌, ◌<◌, ◌≤◌, ◌≡◌, Bool, false, true, List, [], ◌∷◌, ◌++◌, length, take, drop, Option, Some, None, IfSome}
 use Rattle.std.specs.Option.{ForSome}
 use Rattle.std.specs.Io.KnownBytes.{Appends, IsAtEnd}
 use Rattle.std.proofs.Common.{refl, sym, ap, ◌∙◌, append_assoc, append-nil, arith, length-append, subst}
@@ -9,7 +9,7 @@ use Rattle.mg_disk.specs.Disk.{Image}
 use Rattle.mg_disk.specs.Runs.{leaves_wider}
 use Rattle.mg_disk.specs.Stops.{Leaves, NothingPending}
 use Rattle.mg_disk.specs.declared.disk.Disk.{Ghosts}
-use Rattle.mg_kernel.specs.Meaning.{now_of}
+use Rattle.mg_kernel.specs.Meaning.{is_live, now_of}
 use Rattle.mg_model.specs.declared.calls.Line.{Line}
 use Rattle.mg_model.specs.Answered.{text-append}
 use Rattle.mg_model.specs.Print.{answered, text}
@@ -20,9 +20,9 @@ use Rattle.mg_model.specs.Step.{after}
 use Rattle.mg_model.specs.Volume.{Is, volume}
 use Rattle.mg_session.specs.declared.batches.Ended.{Ended}
 use Rattle.mg_session.specs.declared.batches.Ended.TheVariants as ended
-use Rattle.mg_session.specs.Headline.{AnswersAll, AnswersLines, AnswersPrefix, AreAnswered, FewUnanswered, IsAnswered, IsWithin, KeepsAnswered, KeepsExactly, KeepsOne, SpellsAfter, TakesAtMost, TakesMore, replies, taken_of}
+use Rattle.mg_session.specs.Headline.{AnswersAll, AnswersLines, AnswersPrefix, AreAnswered, FewUnanswered, IsAnswered, IsPrefix, IsWithin, KeepsAnswered, KeepsExactly, KeepsOne, SpellsAfter, TakesAtMost, TakesMore, replies, taken_of}
 use Rattle.mg_session.specs.Readings.{Finishes, Stops}
-use Rattle.mg_session.specs.Sessions.{Entry, Held, IsBetween, IsPrefix, Point, PutsWhole, Remains, Session, Stands}
+use Rattle.mg_session.specs.Sessions.{Entry, Held, IsBetween, Point, PutsWhole, Remains, Session, Stands}
 use Rattle.mg_session.specs.Waiting.{Waiting}
 use Rattle.mg_session.proofs.SessionSteps.{left_spells, prefix_longer}
 
@@ -51,11 +51,12 @@ first_of : (s : State) (k : ℕ) (ls more all : List Line) (c : Image) → all �
 first_of s k ls more all c cut few is =
     is ∙ ap (λ v. Is (after s v)) (sym (ap (λ v. take k v) cut ∙ take-append-le k ls more few))
 
-held_between : (e : Ended) (low : ℕ) (s : State) (ls : List Line) (c : Image) → low ≤ length ls → Held e low s ls c → IsBetween low s ls c
-held_between ended.Disk low s ls c few h = h
-held_between ended.Source low s ls c few h = (low, omega arith, few, h)
-held_between ended.TooLong low s ls c few h = (low, omega arith, few, h)
-held_between ended.Sink low s ls c few h = (length ls, few, omega arith, h ∙ ap (λ v. Is (after s v)) (sym (take_all (length ls) ls (omega arith))))
+held_between : (e : Ended) (alive : Bool) (low : ℕ) (s : State) (ls : List Line) (c : Image) → low ≤ length ls → Held e alive low s ls c → IsBetween low s ls c
+held_between ended.Disk false low s ls c few h = h
+held_between ended.Disk true low s ls c few h = (low, omega arith, few, h)
+held_between ended.Source alive low s ls c few h = (low, omega arith, few, h)
+held_between ended.TooLong alive low s ls c few h = (low, omega arith, few, h)
+held_between ended.Sink alive low s ls c few h = (length ls, few, omega arith, h ∙ ap (λ v. Is (after s v)) (sym (take_all (length ls) ls (omega arith))))
 
 answered_in : (taken taken' : Option (List ℕ)) (put : List ℕ) (k : ℕ) → Appends taken taken' put → answered put ≤ k → AreAnswered taken taken' k
 answered_in None taken' put k h few = tt
@@ -69,21 +70,21 @@ is_answered input rest bytes ls taken taken' put k read came sink least few = re
   came = omega (arith, ap (λ v. length (lines built_words v)) (came_are bytes rest input read));
 }
 
-module _ {D : Type 0} (facts : Ghosts D) (entry : Entry D) (limit batch most : ℕ) where
+module _ {D : Type 0} (facts : Ghosts D) (entry : Entry D) (limit batch most : ℕ) (alive : Bool) where
   -- the lines that were stepped are first lines of all
-  cut_of : (e : Ended) (input rest : List ℕ) (new : D) (taken : Option (List ℕ)) (w : Stops facts e entry (Some input) limit batch most new taken (Some rest))
+  cut_of : (e : Ended) (input rest : List ℕ) (new : D) (taken : Option (List ℕ)) (w : Stops facts e entry (Some input) limit batch most alive new taken (Some rest))
       → (more : List Line) × (lines built_words input ≡ w.ls ++ more)
   cut_of e input rest new taken w = (
     (w.will rest refl).0,
     ap (λ v. lines built_words v) w.read ∙ (w.will rest refl).1,
   )
 
-  pub stops_prefix : (e : Ended) (left left' : Option (List ℕ)) (new : D) (taken : Option (List ℕ)) → Stops facts e entry left limit batch most new taken left'
+  pub stops_prefix : (e : Ended) (left left' : Option (List ℕ)) (new : D) (taken : Option (List ℕ)) → Stops facts e entry left limit batch most alive new taken left'
       → ForSome (facts.seen entry.disk) (λ image. AnswersPrefix (now_of entry.kernel image) left entry.taken taken)
   stops_prefix e None left' new taken w = λ image is. tt
   stops_prefix e (Some input) None new taken w = absurd w.read
   stops_prefix e (Some input) (Some rest) new taken w = λ image is.
-      let t : Remains facts e entry (now_of entry.kernel image) w.ls w.broken.put new = w.broken.told image is in
+      let t : Remains facts e entry (now_of entry.kernel image) w.ls w.broken.put alive new = w.broken.told image is in
       let cut : (more : List Line) × (lines built_words input ≡ w.ls ++ more) = cut_of e input rest new taken w in (
         w.broken.put,
         t.more ++ text (after (now_of entry.kernel image) w.ls) cut.0,
@@ -93,31 +94,31 @@ module _ {D : Type 0} (facts : Ghosts D) (entry : Entry D) (limit batch most : �
         w.broken.sink,
       )
 
-  pub stops_moments : (e : Ended) (left left' : Option (List ℕ)) (new : D) (taken : Option (List ℕ)) → Stops facts e entry left limit batch most new taken left'
+  pub stops_moments : (e : Ended) (left left' : Option (List ℕ)) (new : D) (taken : Option (List ℕ)) → Stops facts e entry left limit batch most alive new taken left'
       → ForSome (facts.seen entry.disk) (λ image. IfSome left (λ input. Leaves facts entry.disk new (IsPrefix (now_of entry.kernel image) (lines built_words input))))
   stops_moments e None left' new taken w = λ image is. tt
   stops_moments e (Some input) None new taken w = absurd w.read
   stops_moments e (Some input) (Some rest) new taken w = λ image is.
-      let t : Remains facts e entry (now_of entry.kernel image) w.ls w.broken.put new = w.broken.told image is in
+      let t : Remains facts e entry (now_of entry.kernel image) w.ls w.broken.put alive new = w.broken.told image is in
       let cut : (more : List Line) × (lines built_words input ≡ w.ls ++ more) = cut_of e input rest new taken w in
       leaves_wider facts entry.disk new (IsPrefix (now_of entry.kernel image) w.ls) (IsPrefix (now_of entry.kernel image) (lines built_words input)) t.leaves
       (λ c f. subst (λ (v : List Line). IsPrefix (now_of entry.kernel image) v c) (sym cut.1) (prefix_longer (now_of entry.kernel image) w.ls cut.0 c f))
 
-  pub stops_held : (e : Ended) (left left' : Option (List ℕ)) (new : D) (taken : Option (List ℕ)) → Stops facts e entry left limit batch most new taken left'
+  pub stops_held : (e : Ended) (left left' : Option (List ℕ)) (new : D) (taken : Option (List ℕ)) → Stops facts e entry left limit batch most alive new taken left'
       → ForSome (facts.seen entry.disk) (λ image. KeepsAnswered (facts.left_since new (facts.moment new)) (now_of entry.kernel image) left left' entry.taken taken)
   stops_held e None left' new taken w = λ image is. tt
   stops_held e (Some input) None new taken w = absurd w.read
   stops_held e (Some input) (Some rest) new taken w = λ image is. λ c left.
       let cut : (more : List Line) × (lines built_words input ≡ w.ls ++ more) = cut_of e input rest new taken w in
       let b : IsBetween (answered w.broken.put) (now_of entry.kernel image) w.ls c =
-      held_between e (answered w.broken.put) (now_of entry.kernel image) w.ls c w.broken.fewer ((w.broken.told image is).held c left) in (
+      held_between e alive (answered w.broken.put) (now_of entry.kernel image) w.ls c w.broken.fewer ((w.broken.told image is).held c left) in (
         b.0,
         is_answered input rest w.bytes w.ls entry.taken taken w.broken.put b.0 w.read w.came w.broken.sink b.1 b.2,
         first_of (now_of entry.kernel image) b.0 w.ls cut.0 (lines built_words input) c cut.1 b.2 b.3,
       )
 
-  exactly : (e : Ended) (left left' : Option (List ℕ)) (new : D) (taken : Option (List ℕ)) (w : Stops facts e entry left limit batch most new taken left')
-      → ((s : State) (c : Image) → Held e (answered w.broken.put) s w.ls c → volume c ≡ Is (after s (take (answered w.broken.put) w.ls)))
+  exactly : (e : Ended) (left left' : Option (List ℕ)) (new : D) (taken : Option (List ℕ)) (w : Stops facts e entry left limit batch most alive new taken left')
+      → ((s : State) (c : Image) → Held e alive (answered w.broken.put) s w.ls c → volume c ≡ Is (after s (take (answered w.broken.put) w.ls)))
       → ForSome (facts.seen entry.disk) (λ image. KeepsExactly (facts.left_since new (facts.moment new)) (now_of entry.kernel image) left entry.taken taken)
   exactly e None left' new taken w held = λ image is. tt
   exactly e (Some input) None new taken w held = absurd w.read
@@ -133,7 +134,7 @@ module _ {D : Type 0} (facts : Ghosts D) (entry : Entry D) (limit batch most : �
           ∙ ap (λ v. Is (after (now_of entry.kernel image) (take (answered v) (lines built_words input)))) (sym (put_is before now w.broken.put took))
 
   -- whole lines are answered
-  whole_lines : (e : Ended) (left left' : Option (List ℕ)) (new : D) (taken : Option (List ℕ)) (w : Stops facts e entry left limit batch most new taken left')
+  whole_lines : (e : Ended) (left left' : Option (List ℕ)) (new : D) (taken : Option (List ℕ)) (w : Stops facts e entry left limit batch most alive new taken left')
       → ((s : State) → PutsWhole e s w.ls w.broken.put → w.broken.put ≡ text s (take (answered w.broken.put) w.ls))
       → ForSome (facts.seen entry.disk) (λ image. AnswersLines (now_of entry.kernel image) left entry.taken taken)
   whole_lines e None left' new taken w whole = λ image is. tt
@@ -149,7 +150,7 @@ module _ {D : Type 0} (facts : Ghosts D) (entry : Entry D) (limit batch most : �
         subst (λ (v : List ℕ). Appends entry.taken taken v) put w.broken.sink,
       )
 
-  few_of : (e : Ended) (left left' : Option (List ℕ)) (new : D) (taken : Option (List ℕ)) (w : Stops facts e entry left limit batch most new taken left')
+  few_of : (e : Ended) (left left' : Option (List ℕ)) (new : D) (taken : Option (List ℕ)) (w : Stops facts e entry left limit batch most alive new taken left')
       → length (ended_lines built_words (take limit w.bytes)) < answered w.broken.put + batch → FewUnanswered batch limit left left' entry.taken taken
   few_of e None left' new taken w few = tt
   few_of e (Some input) None new taken w few = absurd w.read
@@ -161,45 +162,54 @@ module _ {D : Type 0} (facts : Ghosts D) (entry : Entry D) (limit batch most : �
       by_sink (Some before) (Some now) took =
           omega (arith, ap (λ v. length (ended_lines built_words (take limit v))) (came_are w.bytes rest input w.read), ap answered (put_is before now w.broken.put took))
 
-  pub stops_bound : (e : Ended) (left left' : Option (List ℕ)) (new : D) (taken : Option (List ℕ)) → Stops facts e entry left limit batch most new taken left' → TakesAtMost most left left'
+  pub stops_bound : (e : Ended) (left left' : Option (List ℕ)) (new : D) (taken : Option (List ℕ)) → Stops facts e entry left limit batch most alive new taken left' → TakesAtMost most left left'
   stops_bound e None left' new taken w = tt
   stops_bound e (Some input) None new taken w = absurd w.read
   stops_bound e (Some input) (Some rest) new taken w = let b = w.bound in omega (arith, ap length w.read, length-append w.bytes rest)
 
-  pub source_exactly : (left left' : Option (List ℕ)) (new : D) (taken : Option (List ℕ)) → Stops facts ended.Source entry left limit batch most new taken left'
+  pub source_exactly : (left left' : Option (List ℕ)) (new : D) (taken : Option (List ℕ)) → Stops facts ended.Source entry left limit batch most alive new taken left'
       → ForSome (facts.seen entry.disk) (λ image. KeepsExactly (facts.left_since new (facts.moment new)) (now_of entry.kernel image) left entry.taken taken)
   source_exactly left left' new taken w = exactly ended.Source left left' new taken w (λ s c h. h)
 
-  pub too_long_exactly : (left left' : Option (List ℕ)) (new : D) (taken : Option (List ℕ)) → Stops facts ended.TooLong entry left limit batch most new taken left'
+  pub too_long_exactly : (left left' : Option (List ℕ)) (new : D) (taken : Option (List ℕ)) → Stops facts ended.TooLong entry left limit batch most alive new taken left'
       → ForSome (facts.seen entry.disk) (λ image. KeepsExactly (facts.left_since new (facts.moment new)) (now_of entry.kernel image) left entry.taken taken)
   too_long_exactly left left' new taken w = exactly ended.TooLong left left' new taken w (λ s c h. h)
 
-  pub source_lines : (left left' : Option (List ℕ)) (new : D) (taken : Option (List ℕ)) → Stops facts ended.Source entry left limit batch most new taken left'
+  -- the disk failed, and no commit of it
+  pub disk_exactly : (left left' : Option (List ℕ)) (new : D) (taken : Option (List ℕ)) → alive ≡ true → Stops facts ended.Disk entry left limit batch most alive new taken left'
+      → ForSome (facts.seen entry.disk) (λ image. KeepsExactly (facts.left_since new (facts.moment new)) (now_of entry.kernel image) left entry.taken taken)
+  disk_exactly left left' new taken live w = exactly ended.Disk left left' new taken w (λ s c h. subst (λ (v : Bool). Held ended.Disk v (answered w.broken.put) s w.ls c) live h)
+
+  pub disk_lines : (left left' : Option (List ℕ)) (new : D) (taken : Option (List ℕ)) → Stops facts ended.Disk entry left limit batch most alive new taken left'
+      → ForSome (facts.seen entry.disk) (λ image. AnswersLines (now_of entry.kernel image) left entry.taken taken)
+  disk_lines left left' new taken w = whole_lines ended.Disk left left' new taken w (λ s h. h)
+
+  pub source_lines : (left left' : Option (List ℕ)) (new : D) (taken : Option (List ℕ)) → Stops facts ended.Source entry left limit batch most alive new taken left'
       → ForSome (facts.seen entry.disk) (λ image. AnswersLines (now_of entry.kernel image) left entry.taken taken)
   source_lines left left' new taken w = whole_lines ended.Source left left' new taken w (λ s h. h)
 
-  pub too_long_lines : (left left' : Option (List ℕ)) (new : D) (taken : Option (List ℕ)) → Stops facts ended.TooLong entry left limit batch most new taken left'
+  pub too_long_lines : (left left' : Option (List ℕ)) (new : D) (taken : Option (List ℕ)) → Stops facts ended.TooLong entry left limit batch most alive new taken left'
       → ForSome (facts.seen entry.disk) (λ image. AnswersLines (now_of entry.kernel image) left entry.taken taken)
   too_long_lines left left' new taken w = whole_lines ended.TooLong left left' new taken w (λ s h. h)
 
-  pub source_few : (left left' : Option (List ℕ)) (new : D) (taken : Option (List ℕ)) → Stops facts ended.Source entry left limit batch most new taken left' → FewUnanswered batch limit left left' entry.taken taken
+  pub source_few : (left left' : Option (List ℕ)) (new : D) (taken : Option (List ℕ)) → Stops facts ended.Source entry left limit batch most alive new taken left' → FewUnanswered batch limit left left' entry.taken taken
   source_few left left' new taken w = few_of ended.Source left left' new taken w w.few
 
-  pub too_long_few : (left left' : Option (List ℕ)) (new : D) (taken : Option (List ℕ)) → Stops facts ended.TooLong entry left limit batch most new taken left' → FewUnanswered batch limit left left' entry.taken taken
+  pub too_long_few : (left left' : Option (List ℕ)) (new : D) (taken : Option (List ℕ)) → Stops facts ended.TooLong entry left limit batch most alive new taken left' → FewUnanswered batch limit left left' entry.taken taken
   too_long_few left left' new taken w = few_of ended.TooLong left left' new taken w w.few
 
-  pub source_within : (left left' : Option (List ℕ)) (new : D) (taken : Option (List ℕ)) → Stops facts ended.Source entry left limit batch most new taken left' → TakesAtMost limit left left'
+  pub source_within : (left left' : Option (List ℕ)) (new : D) (taken : Option (List ℕ)) → Stops facts ended.Source entry left limit batch most alive new taken left' → TakesAtMost limit left left'
   source_within None left' new taken w = tt
   source_within (Some input) None new taken w = absurd w.read
   source_within (Some input) (Some rest) new taken w = let b = w.size in omega (arith, ap length w.read, length-append w.bytes rest)
 
-  pub too_long_more : (left left' : Option (List ℕ)) (new : D) (taken : Option (List ℕ)) → Stops facts ended.TooLong entry left limit batch most new taken left' → TakesMore limit left left'
+  pub too_long_more : (left left' : Option (List ℕ)) (new : D) (taken : Option (List ℕ)) → Stops facts ended.TooLong entry left limit batch most alive new taken left' → TakesMore limit left left'
   too_long_more None left' new taken w = tt
   too_long_more (Some input) None new taken w = absurd w.read
   too_long_more (Some input) (Some rest) new taken w = let b = w.size in omega (arith, ap length w.read, length-append w.bytes rest)
 
   -- after a fault of the sink there is one state
-  pub sink_one : (left left' : Option (List ℕ)) (new : D) (taken : Option (List ℕ)) → Stops facts ended.Sink entry left limit batch most new taken left'
+  pub sink_one : (left left' : Option (List ℕ)) (new : D) (taken : Option (List ℕ)) → Stops facts ended.Sink entry left limit batch most alive new taken left'
       → ForSome (facts.seen entry.disk) (λ image. KeepsOne (facts.left_since new (facts.moment new)) (now_of entry.kernel image) left left' entry.taken taken)
   sink_one None left' new taken w = λ image is. tt
   sink_one (Some input) None new taken w = absurd w.read
@@ -235,7 +245,7 @@ module _ {D : Type 0} (facts : Ghosts D) (entry : Entry D) (limit batch most : �
   at_end_nil (Some xs) rest h e = cc
 
   -- a good end is one at which the sink had nothing more to take
-  pub finishes_stops : (left left' : Option (List ℕ)) (p : Point D) → Finishes facts entry left limit p left' → limit ≤ most → NothingPending facts p.disk → Stops facts ended.Sink entry left limit batch most p.disk p.taken left'
+  pub finishes_stops : (left left' : Option (List ℕ)) (p : Point D) → Finishes facts entry left limit p left' → limit ≤ most → NothingPending facts p.disk → Stops facts ended.Sink entry left limit batch most (is_live p.kernel) p.disk p.taken left'
   finishes_stops left left' p f small only =
       let none : p.owed.count ≡ 0 = ap (λ (v : Waiting). v.count) f.empty in
       let a : Session facts entry (lines built_words f.bytes) p = f.session in record {

@@ -9,6 +9,7 @@ use Rattle.std.proofs.Math.Seq.{take-append-add}
 use Rattle.mg_disk.specs.Stops.{NothingPending}
 use Rattle.mg_disk.specs.declared.disk.Disk.{Ghosts}
 use Rattle.mg_io.specs.Known.{Consumes-kept, Consumes-none, Consumes-then}
+use Rattle.mg_kernel.specs.Meaning.{is_live}
 use Rattle.mg_model.specs.declared.calls.Line.{Line}
 use Rattle.mg_model.specs.Print.{answered}
 use Rattle.mg_model.specs.Cutting.{ended_lines-exact}
@@ -101,7 +102,7 @@ module _ {D : Type 0} (facts : Ghosts D) where
   -- a take failed: the line that is not ended is left as it was
   pub Stops-source : (entry : Entry D) (left left' left'' : Option (List ℕ)) (total limit batch most : ℕ) (p : Point D) (part : List ℕ)
       → Reading facts entry left total p part left' → total ≤ limit → limit ≤ most → Keeps left' left'' → NothingPending facts p.disk → p.owed.count < batch
-      → Stops facts ended.Source entry left limit batch most p.disk p.taken left''
+      → Stops facts ended.Source entry left limit batch most (is_live p.kernel) p.disk p.taken left''
   Stops-source entry left left' left'' total limit batch most p part r within small kept only few =
       let short : length r.bytes ≤ limit = let e = r.count in omega arith in
       let open_few : length r.ls < answered r.session.put + batch = session_few entry r.ls p batch r.session few in record {
@@ -112,7 +113,7 @@ module _ {D : Type 0} (facts : Ghosts D) where
         bound = omega arith;
         came = came_first r.bytes r.ls (lines built_words (part ++ [])) (r.cut []);
         will = λ rest here. (lines built_words (part ++ rest), r.cut rest);
-        broken = Broken-open facts ended.Source (λ n s ls c h. h) (λ s ls put h. h) entry r.ls p r.session only;
+        broken = Broken-open facts ended.Source (is_live p.kernel) (λ n s ls c h. h) (λ s ls put h. h) entry r.ls p r.session only;
         few = omega (arith, ap (λ v. length (ended_lines built_words v)) (take_all limit r.bytes short), ended_lines-exact built_words r.bytes part r.ls r.cut r.whole);
       }
 
@@ -120,7 +121,7 @@ module _ {D : Type 0} (facts : Ghosts D) where
   pub Stops-too_long : (entry : Entry D) (left left' left'' : Option (List ℕ)) (total limit batch most n : ℕ) (p q : Point D) (part part' piece : List ℕ)
       → Reading facts entry left total p part left' → total ≤ limit → limit + length piece ≤ most → Consumes left' left'' (take n piece) → n ≤ length piece → limit - total < n
       → Goes facts p part (take (limit - total) piece) q part' → list_any is_newline part' ≡ false → NothingPending facts q.disk → q.owed.count < batch
-      → Stops facts ended.TooLong entry left limit batch most q.disk q.taken left''
+      → Stops facts ended.TooLong entry left limit batch most (is_live q.kernel) q.disk q.taken left''
   Stops-too_long entry left left' left'' total limit batch most n p q part part' piece r within small read short more g whole only few =
       let all : length (r.bytes ++ take n piece) ≡ total + n = length-append r.bytes (take n piece) ∙ ap (λ v. v + length (take n piece)) r.count ∙ ap (λ v. total + v) (length-take-le n piece short) in
       let sum : limit ≡ length r.bytes + (limit - total) = let e = r.count in omega arith in
@@ -144,20 +145,20 @@ module _ {D : Type 0} (facts : Ghosts D) where
         bound = omega arith;
         came = came_first (r.bytes ++ take n piece) (r.ls ++ g.ls) (lines built_words (part' ++ (drop (limit - total) (take n piece) ++ []))) (later []);
         will = λ rest here. (lines built_words (part' ++ (drop (limit - total) (take n piece) ++ rest)), later rest);
-        broken = Broken-open facts ended.TooLong (λ n s ls c h. h) (λ s ls put h. h) entry (r.ls ++ g.ls) q a only;
+        broken = Broken-open facts ended.TooLong (is_live q.kernel) (λ n s ls c h. h) (λ s ls put h. h) entry (r.ls ++ g.ls) q a only;
         few = omega (arith, ap (λ v. length (ended_lines built_words v)) front, ended_lines-exact built_words (r.bytes ++ take (limit - total) piece) part' (r.ls ++ g.ls) cut whole);
       }
 
   -- a line within a piece ended the session
   pub Stops-bytes : (e : Ended) (entry : Entry D) (left left' left'' : Option (List ℕ)) (total limit batch most n w : ℕ) (p q : Point D) (part piece : List ℕ)
       → Reading facts entry left total p part left' → total ≤ limit → limit + length piece ≤ most → Consumes left' left'' (take n piece) → n ≤ length piece → w ≤ n
-      → IsInside e → Breaks facts e p part (take w piece) q → Stops facts e entry left limit batch most q.disk q.taken left''
+      → IsInside e → Breaks facts e p part (take w piece) q → Stops facts e entry left limit batch most (is_live q.kernel) q.disk q.taken left''
   Stops-bytes e entry left left' left'' total limit batch most n w p q part piece r within small read short front inside h =
       let all : length (r.bytes ++ take n piece) ≡ total + n = length-append r.bytes (take n piece) ∙ ap (λ v. v + length (take n piece)) r.count ∙ ap (λ v. total + v) (length-take-le n piece short) in
       let b : Breaks facts e p part (take n piece) q =
       subst (λ (v : List ℕ). Breaks facts e p part v q) (front_and_back n w piece front) (Breaks-more facts e p part (take w piece) (drop w (take n piece)) q h) in
       let cut : (rest : List ℕ) → (more : List Line) × (lines built_words ((r.bytes ++ take n piece) ++ rest) ≡ (r.ls ++ b.ls) ++ more) = λ rest. later b rest (b.cuts rest) in
-      let broken : Broken facts e entry (r.ls ++ b.ls) q.disk q.taken = b.halts entry r.ls r.session in record {
+      let broken : Broken facts e entry (r.ls ++ b.ls) (is_live q.kernel) q.disk q.taken = b.halts entry r.ls r.session in record {
         bytes = r.bytes ++ take n piece;
         ls = r.ls ++ b.ls;
         read = Consumes-then left left' left'' r.bytes (take n piece) r.read read;
@@ -192,9 +193,9 @@ module _ {D : Type 0} (facts : Ghosts D) where
   -- the input ended, and the last batch ended the session
   pub Stops-last : (e : Ended) (entry : Entry D) (left left' left'' : Option (List ℕ)) (total limit batch most n : ℕ) (p q : Point D) (part piece : List ℕ)
       → Reading facts entry left total p part left' → total ≤ limit → limit ≤ most → Consumes left' left'' (take n piece) → n ≡ 0 → IsAtEnd left''
-      → IsInside e → Halts facts e p (lines built_words part) q → Stops facts e entry left limit batch most q.disk q.taken left''
+      → IsInside e → Halts facts e p (lines built_words part) q → Stops facts e entry left limit batch most (is_live q.kernel) q.disk q.taken left''
   Stops-last e entry left left' left'' total limit batch most n p q part piece r within small read zero_is ended_is inside h =
-      let broken : Broken facts e entry (r.ls ++ lines built_words part) q.disk q.taken = h entry r.ls r.session in
+      let broken : Broken facts e entry (r.ls ++ lines built_words part) (is_live q.kernel) q.disk q.taken = h entry r.ls r.session in
       let cut : lines built_words r.bytes ≡ r.ls ++ lines built_words part = cut_last r.bytes part r.ls r.cut in record {
         bytes = r.bytes;
         ls = r.ls ++ lines built_words part;

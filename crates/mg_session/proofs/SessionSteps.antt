@@ -1,5 +1,5 @@
 -- What the calls of the kernel, of the sink and of the replies that wait do to a session.
-use Rattle.std.specs.Prelude.{ℕ, ◌≡◌, ◌≤◌, ◌+◌, ◌⊎◌, List, [], ◌∷◌, ◌++◌, length, take, Option, Some}
+use Rattle.std.specs.Prelude.{ℕ, ◌≡◌, ◌≤◌, ◌+◌, ◌⊎◌, Bool, false, true, List, [], ◌∷◌, ◌++◌, length, take, Option, Some}
 use Rattle.std.specs.Io.KnownBytes.{Appends}
 use Rattle.std.specs.Option.{ForSome}
 use Rattle.std.proofs.Common.{refl, sym, ap, ◌∙◌, append_assoc, append-nil, arith, inl, length-append, subst, ⊎_elim}
@@ -22,7 +22,8 @@ use Rattle.mg_model.specs.Step.{after, step}
 use Rattle.mg_model.specs.Volume.{Is, volume}
 use Rattle.mg_session.specs.declared.batches.Ended.{Ended}
 use Rattle.mg_session.specs.declared.batches.Ended.TheVariants as ended
-use Rattle.mg_session.specs.Sessions.{Broken, Entry, Held, IsBetween, IsPrefix, Point, PutsWhole, Session, Stands}
+use Rattle.mg_session.specs.Headline.{IsPrefix}
+use Rattle.mg_session.specs.Sessions.{Broken, Entry, Held, IsBetween, Point, PutsWhole, Session, Stands}
 use Rattle.mg_session.specs.Waiting.{Waiting, no_replies}
 
 some_image : (a b : Image) → Some a ≡ Some b → b ≡ a
@@ -63,6 +64,11 @@ commit_leaves s done waiting x c now kept is left = ⊎_elim
       new ∙ ap (λ v. Is v) is ∙ ap (λ v. Is (after s v)) (sym (take_all (length (done ++ waiting)) (done ++ waiting) (omega arith))),
     ))
     left
+
+-- where the answered lines are kept and no others, a fault of the disk leaves them so
+held_yet : (alive : Bool) (low : ℕ) (s : State) (ls : List Line) (c : Image) → low ≤ length ls → volume c ≡ Is (after s (take low ls)) → Held ended.Disk alive low s ls c
+held_yet false low s ls c few is = (low, omega arith, few, is)
+held_yet true low s ls c few is = is
 
 between_prefix : (low : ℕ) (s : State) (ls : List Line) (c : Image) → IsBetween low s ls c → IsPrefix s ls c
 between_prefix low s ls c (k, least, few, spelled) = (k, few, spelled)
@@ -185,10 +191,10 @@ module _ {D : Type 0} (facts : Ghosts D) where
   }
 
   -- a step failed
-  pub Broken-step : (entry : Entry D) (ls : List Line) (k : Kernel) (d d' : D) (o : Waiting) (t : Option (List ℕ)) (line : Line)
+  pub Broken-step : (entry : Entry D) (ls : List Line) (k : Kernel) (d d' : D) (o : Waiting) (t : Option (List ℕ)) (line : Line) (alive : Bool)
       → Session facts entry ls (record { kernel = k; disk = d; owed = o; taken = t })
-      → WritesNothing facts d d' → NothingPending facts d' → Broken facts ended.Disk entry (ls ++ line ∷ []) d' t
-  Broken-step entry ls k d d' o t line a writes only =
+      → WritesNothing facts d d' → NothingPending facts d' → Broken facts ended.Disk entry (ls ++ line ∷ []) alive d' t
+  Broken-step entry ls k d d' o t line alive a writes only =
       let split : ls ++ line ∷ [] ≡ a.done ++ (a.waiting ++ line ∷ []) = ap (λ v. v ++ line ∷ []) a.split ∙ append_assoc a.done a.waiting (line ∷ []) in
       let first_are : take (answered a.put) (ls ++ line ∷ []) ≡ a.done = first_lines (answered a.put) a.done (a.waiting ++ line ∷ []) (ls ++ line ∷ []) split a.answers in
       let few : answered a.put ≤ length (ls ++ line ∷ []) = let count = a.answers in omega (arith, ap length split, length-append a.done (a.waiting ++ line ∷ [])) in record {
@@ -205,22 +211,18 @@ module _ {D : Type 0} (facts : Ghosts D) where
                   (leaves_wider facts entry.disk d (IsPrefix (now_of entry.kernel first) (a.done ++ a.waiting)) (IsPrefix (now_of entry.kernel first) (ls ++ line ∷ [])) st.leaves
                   (λ c f. prefix_longer (now_of entry.kernel first) ls (line ∷ []) c (subst (λ (v : List Line). IsPrefix (now_of entry.kernel first) v c) (sym a.split) f)))
                   writes.stops;
-              held = λ c left. (
-                answered a.put,
-                omega arith,
-                few,
-                left_spells d' st.image c (after (now_of entry.kernel first) a.done) only (writes.same ∙ st.is) st.kept left
-                    ∙ ap (λ v. Is (after (now_of entry.kernel first) v)) (sym first_are),
-              );
+              held = λ c left. held_yet alive (answered a.put) (now_of entry.kernel first) (ls ++ line ∷ []) c few
+                  (left_spells d' st.image c (after (now_of entry.kernel first) a.done) only (writes.same ∙ st.is) st.kept left
+                  ∙ ap (λ v. Is (after (now_of entry.kernel first) v)) (sym first_are));
             };
       }
 
   -- a commit failed
-  pub Broken-commit : (entry : Entry D) (ls : List Line) (k : Kernel) (d d' : D) (o : Waiting) (t : Option (List ℕ))
+  pub Broken-commit : (entry : Entry D) (ls : List Line) (k : Kernel) (d d' : D) (o : Waiting) (t : Option (List ℕ)) (alive : Bool)
       → Session facts entry ls (record { kernel = k; disk = d; owed = o; taken = t })
       → ForSome (facts.seen d) (λ image. Leaves facts d d' (λ c. (volume c ≡ volume image) ⊎ (volume c ≡ Is (now_of k image))))
-      → NothingPending facts d → Broken facts ended.Disk entry ls d' t
-  Broken-commit entry ls k d d' o t a leaves only =
+      → NothingPending facts d → alive ≡ false → Broken facts ended.Disk entry ls alive d' t
+  Broken-commit entry ls k d d' o t alive a leaves only dead =
       let first_are : take (answered a.put) ls ≡ a.done = first_lines (answered a.put) a.done a.waiting ls a.split a.answers in
       let few : answered a.put ≤ length ls = let count = a.answers in omega (arith, ap length a.split, length-append a.done a.waiting) in record {
         put = a.put;
@@ -238,20 +240,20 @@ module _ {D : Type 0} (facts : Ghosts D) where
               whole = st.replies ∙ ap (λ v. text (now_of entry.kernel first) v) (sym first_are);
               leaves = subst (λ (v : List Line). Leaves facts entry.disk d' (IsPrefix (now_of entry.kernel first) v)) (sym a.split)
                   (committed entry (now_of entry.kernel first) a.done a.waiting a.put k d d' o t st leaves);
-              held = λ c left. ⊎_elim
+              held = λ c left. subst (λ (v : Bool). Held ended.Disk v (answered a.put) (now_of entry.kernel first) ls c) (sym dead) (⊎_elim
                   (λ (before : facts.left_since d (facts.moment d) c). among c (inl (ap volume (some_image st.image c (sym st.is ∙ only c before)))))
                   (λ fresh. among c fresh)
-                  ((leaves st.image st.is).time.now c left);
+                  ((leaves st.image st.is).time.now c left));
             };
       }
 
   -- the batch was committed, and the sink failed
-  pub Broken-put : (entry : Entry D) (ls : List Line) (k k' : Kernel) (d d' : D) (o : Waiting) (t t' : Option (List ℕ))
+  pub Broken-put : (entry : Entry D) (ls : List Line) (k k' : Kernel) (d d' : D) (o : Waiting) (t t' : Option (List ℕ)) (alive : Bool)
       → Session facts entry ls (record { kernel = k; disk = d; owed = o; taken = t })
       → ForSome (facts.seen d) (λ image. Leaves facts d d' (λ c. (volume c ≡ volume image) ⊎ (volume c ≡ Is (now_of k image))))
       → ForSome (facts.seen d) (λ image. Holds (now_of k image) k' (facts.seen d'))
-      → NothingPending facts d' → AppendsPrefix t t' o.text → Broken facts ended.Sink entry ls d' t'
-  Broken-put entry ls k k' d d' o t t' a leaves holds only (part, more, parts, put) = record {
+      → NothingPending facts d' → AppendsPrefix t t' o.text → Broken facts ended.Sink entry ls alive d' t'
+  Broken-put entry ls k k' d d' o t t' alive a leaves holds only (part, more, parts, put) = record {
     put = a.put ++ part;
     sink = Appends-then entry.taken t t' a.put part a.sink put;
     fewer =
@@ -279,10 +281,10 @@ module _ {D : Type 0} (facts : Ghosts D) where
       left_spells p.disk st.image c (after s done) only st.is st.kept left ∙ ap (λ v. Is (after s v)) (sym (first_lines (answered put) done waiting ls split answers))
 
   -- the session ended, and the open batch is left as it is
-  abbrev pub Broken-open : (e : Ended) → ((n : ℕ) (s : State) (ls : List Line) (c : Image) → volume c ≡ Is (after s (take n ls)) → Held e n s ls c)
+  abbrev pub Broken-open : (e : Ended) (alive : Bool) → ((n : ℕ) (s : State) (ls : List Line) (c : Image) → volume c ≡ Is (after s (take n ls)) → Held e alive n s ls c)
       → ((s : State) (ls : List Line) (put : List ℕ) → put ≡ text s (take (answered put) ls) → PutsWhole e s ls put)
-      → (entry : Entry D) (ls : List Line) (p : Point D) → Session facts entry ls p → NothingPending facts p.disk → Broken facts e entry ls p.disk p.taken
-  Broken-open e held whole entry ls p a only = record {
+      → (entry : Entry D) (ls : List Line) (p : Point D) → Session facts entry ls p → NothingPending facts p.disk → Broken facts e entry ls alive p.disk p.taken
+  Broken-open e alive held whole entry ls p a only = record {
     put = a.put;
     sink = a.sink;
     fewer = let count = a.answers in omega (arith, ap length a.split, length-append a.done a.waiting);

@@ -1,5 +1,5 @@
 -- The input of a session, piece by piece, and how the session ends.
-use Rattle.std.specs.Prelude.{ℕ, ◌+◌, ◌<◌, ◌≤◌, ◌≡◌, false, List, ◌++◌, length, take, Option, Some}
+use Rattle.std.specs.Prelude.{ℕ, ◌+◌, ◌<◌, ◌≤◌, ◌≡◌, Bool, false, List, ◌++◌, length, take, Option, Some}
 use Rattle.std.specs.List.{list_any}
 use Rattle.std.specs.Io.KnownBytes.{Consumes, IsAtEnd}
 use Rattle.mg_disk.specs.declared.disk.Disk.{Ghosts}
@@ -47,7 +47,7 @@ Few ended.Disk calls replies batch = Unit {0}
 Few ended.Sink calls replies batch = Unit {0}
 
 -- The session ended before the end of its input.
-pub record Stops {D : Type 0} (facts : Ghosts D) (e : Ended) (entry : Entry D) (left : Option (List ℕ)) (limit batch most : ℕ) (disk : D) (taken left' : Option (List ℕ)) : Type 0 where
+pub record Stops {D : Type 0} (facts : Ghosts D) (e : Ended) (entry : Entry D) (left : Option (List ℕ)) (limit batch most : ℕ) (alive : Bool) (disk : D) (taken left' : Option (List ℕ)) : Type 0 where
   pub bytes : List ℕ
   pub ls : List Line
   pub read : Consumes left left' bytes
@@ -57,5 +57,5 @@ pub record Stops {D : Type 0} (facts : Ghosts D) (e : Ended) (entry : Entry D) (
   pub came : length ls ≤ length (lines built_words bytes)
   -- and first lines of the whole input
   pub will : (rest : List ℕ) → left' ≡ Some rest → (more : List Line) × (lines built_words (bytes ++ rest) ≡ ls ++ more)
-  pub broken : Broken facts e entry ls disk taken
+  pub broken : Broken facts e entry ls alive disk taken
   pub few : Few e (length (ended_lines built_words (take limit bytes))) (answered broken.put) batch

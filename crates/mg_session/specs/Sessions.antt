@@ -1,13 +1,13 @@
 -- A session on a volume: which lines are kept and answered, which wait, and what a stop may leave. The lines that are cut
 -- from the input and the lines that are stepped are told apart, so nothing here depends on how the input is cut.
-use Rattle.std.specs.Prelude.{ℕ, ◌≡◌, ◌≤◌, List, ◌++◌, length, take, Option, Some}
+use Rattle.std.specs.Prelude.{ℕ, ◌≡◌, ◌≤◌, Bool, false, true, List, ◌++◌, length, take, Option, Some}
 use Rattle.std.specs.Io.KnownBytes.{Appends}
 use Rattle.std.specs.Option.{ForSome}
 use Rattle.mg_disk.specs.Disk.{Image}
 use Rattle.mg_disk.specs.Stops.{Leaves}
 use Rattle.mg_disk.specs.declared.disk.Disk.{Ghosts}
 use Rattle.mg_kernel.specs.declared.kernel.Kernel.{Kernel}
-use Rattle.mg_kernel.specs.Meaning.{now_of}
+use Rattle.mg_kernel.specs.Meaning.{is_live, now_of}
 use Rattle.mg_model.specs.declared.calls.Line.{Line}
 use Rattle.mg_model.specs.Print.{answered, text}
 use Rattle.mg_model.specs.State.{State}
@@ -15,13 +15,10 @@ use Rattle.mg_model.specs.Step.{after}
 use Rattle.mg_model.specs.Volume.{Is, volume}
 use Rattle.mg_session.specs.declared.batches.Ended.{Ended}
 use Rattle.mg_session.specs.declared.batches.Ended.TheVariants as ended
+use Rattle.mg_session.specs.Headline.{IsPrefix}
 use Rattle.mg_session.specs.Waiting.{Waiting}
 
--- the image spells the state after some first ones of the lines
-abbrev pub IsPrefix : State → List Line → Image → Type 0
-IsPrefix s ls c = (k : ℕ) × (k ≤ length ls) × (volume c ≡ Is (after s (take k ls)))
-
--- the same, with so many lines at least
+-- the image spells the state after some first ones of the lines, and so many at least
 abbrev pub IsBetween : ℕ → State → List Line → Image → Type 0
 IsBetween low s ls c = (k : ℕ) × (low ≤ k) × (k ≤ length ls) × (volume c ≡ Is (after s (take k ls)))
 
@@ -67,12 +64,14 @@ IsInside ended.Sink = Unit {0}
 IsInside ended.Source = ⊥
 IsInside ended.TooLong = ⊥
 
--- what a stop may leave where a session ended so, with so many lines answered
-abbrev pub Held : Ended → ℕ → State → List Line → Image → Type 0
-Held ended.Disk low s ls c = IsBetween low s ls c
-Held ended.Source low s ls c = volume c ≡ Is (after s (take low ls))
-Held ended.TooLong low s ls c = volume c ≡ Is (after s (take low ls))
-Held ended.Sink low s ls c = volume c ≡ Is (after s ls)
+-- what a stop may leave where a session ended so, with so many lines answered; a disk that failed in a commit leaves a
+-- kernel that is not live
+abbrev pub Held : Ended → Bool → ℕ → State → List Line → Image → Type 0
+Held ended.Disk false low s ls c = IsBetween low s ls c
+Held ended.Disk true low s ls c = volume c ≡ Is (after s (take low ls))
+Held ended.Source alive low s ls c = volume c ≡ Is (after s (take low ls))
+Held ended.TooLong alive low s ls c = volume c ≡ Is (after s (take low ls))
+Held ended.Sink alive low s ls c = volume c ≡ Is (after s ls)
 
 -- whole replies were put, but where the sink failed
 abbrev pub PutsWhole : Ended → State → List Line → List ℕ → Type 0
@@ -82,19 +81,19 @@ PutsWhole ended.TooLong s ls put = put ≡ text s (take (answered put) ls)
 PutsWhole ended.Sink s ls put = Unit {0}
 
 -- where reads were told: what is left of a session that ended so
-pub record Remains {D : Type 0} (facts : Ghosts D) (e : Ended) (entry : Entry D) (s : State) (ls : List Line) (put : List ℕ) (disk : D) : Type 0 where
+pub record Remains {D : Type 0} (facts : Ghosts D) (e : Ended) (entry : Entry D) (s : State) (ls : List Line) (put : List ℕ) (alive : Bool) (disk : D) : Type 0 where
   pub more : List ℕ
   pub replies : text s ls ≡ put ++ more
   pub whole : PutsWhole e s ls put
   pub leaves : Leaves facts entry.disk disk (IsPrefix s ls)
-  pub held : (c : Image) → facts.left_since disk (facts.moment disk) c → Held e (answered put) s ls c
+  pub held : (c : Image) → facts.left_since disk (facts.moment disk) c → Held e alive (answered put) s ls c
 
--- the session ended so, and had stepped these lines
-pub record Broken {D : Type 0} (facts : Ghosts D) (e : Ended) (entry : Entry D) (ls : List Line) (disk : D) (taken : Option (List ℕ)) : Type 0 where
+-- the session ended so, with a kernel that is live or not, and had stepped these lines
+pub record Broken {D : Type 0} (facts : Ghosts D) (e : Ended) (entry : Entry D) (ls : List Line) (alive : Bool) (disk : D) (taken : Option (List ℕ)) : Type 0 where
   pub put : List ℕ
   pub sink : Appends entry.taken taken put
   pub fewer : answered put ≤ length ls
-  pub told : ForSome (facts.seen entry.disk) (λ image. Remains facts e entry (now_of entry.kernel image) ls put disk)
+  pub told : ForSome (facts.seen entry.disk) (λ image. Remains facts e entry (now_of entry.kernel image) ls put alive disk)
 
 module _ {D : Type 0} (facts : Ghosts D) where
   -- whatever was stepped before, these lines were stepped from old to new
@@ -103,11 +102,11 @@ module _ {D : Type 0} (facts : Ghosts D) where
 
   -- the session ended between them
   abbrev pub Halts : Ended → Point D → List Line → Point D → Type 0
-  Halts e old ls new = (entry : Entry D) (sofar : List Line) → Session facts entry sofar old → Broken facts e entry (sofar ++ ls) new.disk new.taken
+  Halts e old ls new = (entry : Entry D) (sofar : List Line) → Session facts entry sofar old → Broken facts e entry (sofar ++ ls) (is_live new.kernel) new.disk new.taken
 
   -- the same, with no line between them
   abbrev pub Closes : Point D → Point D → Type 0
   Closes old new = (entry : Entry D) (ls : List Line) → Session facts entry ls old → Session facts entry ls new
 
   abbrev pub FailsToClose : Ended → Point D → Point D → Type 0
-  FailsToClose e old new = (entry : Entry D) (ls : List Line) → Session facts entry ls old → Broken facts e entry ls new.disk new.taken
+  FailsToClose e old new = (entry : Entry D) (ls : List Line) → Session facts entry ls old → Broken facts e entry ls (is_live new.kernel) new.disk new.taken

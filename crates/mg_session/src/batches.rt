@@ -5,6 +5,7 @@ ghost use Rattle.mg_faults.specs.Faults.{CountGoesOn, Rose};
 ghost use Rattle.mg_kernel.specs.Meaning.{StandsOn, is_live, staged_of, words_in};
 ghost use Rattle.mg_model.specs.Built.{IsBuilt};
 ghost use Rattle.mg_model.specs.Counts.{CountsAlike};
+ghost use Rattle.mg_session.specs.Headline.{UnlessDisk};
 ghost use Rattle.mg_session.specs.Sessions.{Closes, FailsToClose, Halts, IsInside, Runs};
 ghost use Rattle.mg_session.specs.Waiting.{no_replies};
 
@@ -14,20 +15,25 @@ use mg_io::{Sink, put_all};
 use mg_kernel::Kernel;
 use mg_model::{Line, Steps};
 use std::sync::ledger::Ledger;
+use thiserror::Error;
 
 /// A batch closes above so many staged blocks, so that one line more has room.
 const STAGED_LIMIT: usize = 28;
 
 /// Why a session ended before the end of its input.
-#[derive(Clone, Copy, Debug, PartialEq, Eq)]
+#[derive(Clone, Copy, Debug, PartialEq, Eq, Error)]
 pub enum Ended {
     /// A call of the disk failed.
+    #[error("a call of the disk failed")]
     Disk,
     /// A take failed.
+    #[error("a call of the source failed")]
     Source,
     /// A put failed.
+    #[error("a call of the sink failed")]
     Sink,
     /// More bytes came than a session may take.
+    #[error("more bytes came than a session may take")]
     TooLong,
 }
 
@@ -46,8 +52,8 @@ pub fn close<D: Disk, K: Sink>(
     ensures halts { IfErr result (λ e. FailsToClose D.Disk e
         (record { kernel = kernel.old; disk = disk.old; owed = owed.old; taken = K.taken sink.old })
         (record { kernel = kernel.new; disk = disk.new; owed = owed.new; taken = K.taken sink.new })) }
-    ensures live { OnOk result (IsTrue (is_live kernel.new)) }
-    ensures stands { OnOk result (StandsOn D.Disk kernel.new disk.new) }
+    ensures live { UnlessDisk result (IsTrue (is_live kernel.new)) }
+    ensures stands { UnlessDisk result (StandsOn D.Disk kernel.new disk.new) }
     ensures staged { OnOk result (staged_of kernel.new ≡ 0) }
     ensures empty { OnOk result (owed.new ≡ no_replies) }
     ensures words { words_in kernel.new ≡ words_in kernel.old }
@@ -94,8 +100,8 @@ pub fn take_line<D: Disk, K: Sink, L: Ledger>(
     ensures halts { IfErr result (λ e. Halts D.Disk e
         (record { kernel = kernel.old; disk = disk.old; owed = owed.old; taken = K.taken sink.old }) (line.now ∷ [])
         (record { kernel = kernel.new; disk = disk.new; owed = owed.new; taken = K.taken sink.new })) }
-    ensures live { OnOk result (IsTrue (is_live kernel.new)) }
-    ensures stands { OnOk result (StandsOn D.Disk kernel.new disk.new) }
+    ensures live { UnlessDisk result (IsTrue (is_live kernel.new)) }
+    ensures stands { UnlessDisk result (StandsOn D.Disk kernel.new disk.new) }
     ensures staged { OnOk result (staged_of kernel.new ≤ 28) }
     ensures open_batch { OnOk result (owed.new.count < batch) }
     ensures counted { CountsAlike (words_in kernel.old) (words_in kernel.new) steps.old steps.new }
@@ -139,8 +145,8 @@ pub fn line_and_close<D: Disk, K: Sink, L: Ledger>(
     ensures halts { IfErr result (λ e. Halts D.Disk e
         (record { kernel = kernel.old; disk = disk.old; owed = owed.old; taken = K.taken sink.old }) (line.now ∷ [])
         (record { kernel = kernel.new; disk = disk.new; owed = owed.new; taken = K.taken sink.new })) }
-    ensures live { OnOk result (IsTrue (is_live kernel.new)) }
-    ensures stands { OnOk result (StandsOn D.Disk kernel.new disk.new) }
+    ensures live { UnlessDisk result (IsTrue (is_live kernel.new)) }
+    ensures stands { UnlessDisk result (StandsOn D.Disk kernel.new disk.new) }
     ensures staged { OnOk result (staged_of kernel.new ≡ 0) }
     ensures empty { OnOk result (owed.new ≡ no_replies) }
     ensures counted { CountsAlike (words_in kernel.old) (words_in kernel.new) steps.old steps.new }

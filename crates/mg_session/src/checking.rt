@@ -1,14 +1,12 @@
 // The command `check`: whether the disk holds a volume, and what of it.
-ghost use Rattle.std.specs.Prelude.{◌≡◌, ◌⊎◌};
+ghost use Rattle.std.specs.Prelude.{ℕ, List, ◌≡◌, ◌⊎◌};
 ghost use Rattle.std.specs.Io.KnownBytes.{Appends};
 ghost use Rattle.std.specs.Option.{ForSome};
 ghost use Rattle.mg_disk.specs.Stops.{CountRose, WritesNothing};
 ghost use Rattle.mg_faults.specs.Faults.{Rose};
 ghost use Rattle.mg_io.specs.Known.{AppendsPrefix};
-ghost use Rattle.mg_layout.specs.MayFormat.{IsNoState};
 ghost use Rattle.mg_model.specs.Volume.{volume};
-ghost use Rattle.mg_session.specs.Headline.{IsDoneOrMemory};
-ghost use Rattle.mg_session.specs.Volumes.{EndsCheck, EndsUnopened, OnVolume, TellsNone, TellsVolume, check_line, summary_line};
+ghost use Rattle.mg_session.specs.Headline.{EndsCheck, IsDoneOrMemory, MayTell, OnVolume, TellsOfNone, TellsVolume, check_line, summary_line};
 
 use crate::opening::put_fault;
 use crate::program::Status;
@@ -21,12 +19,12 @@ use std::alloc::Global;
 
 /// Tells whether the disk holds a volume, and puts the line of it. It writes nothing.
 pub fn check<D: Disk, K: Sink>(alloc: Global, disk: &mut D, sink: &mut K) -> Status
-    ensures ends { EndsCheck result }
+    ensures which { EndsCheck result }
     ensures done { result ≡ Status.Done → TellsVolume (D.seen disk.old) (K.taken sink.old) (K.taken sink.new) }
-    ensures none { result ≡ Status.NoVolume → TellsNone (D.seen disk.old) (K.taken sink.old) (K.taken sink.new) }
-    ensures not_opened { ForSome (D.seen disk.old) (λ image. IsNoState (volume image) → EndsUnopened result) }
     ensures prefix { ForSome (D.seen disk.old) (λ image. AppendsPrefix (K.taken sink.old) (K.taken sink.new) (check_line (volume image))) }
+    ensures some_line { (line : List ℕ) × MayTell line × AppendsPrefix (K.taken sink.old) (K.taken sink.new) line }
     ensures writes { WritesNothing D.Disk disk.old disk.new }
+    ensures without { TellsOfNone D.Disk K.Sink result disk.old disk.new sink.old sink.new }
     ensures memory { result ≡ Status.Memory → sink.new ≡ sink.old }
     ensures disk { result ≡ Status.Disk → CountRose D.Disk disk.old disk.new }
     ensures disk_text { result ≡ Status.Disk → sink.new ≡ sink.old }

@@ -1,13 +1,9 @@
 // The command `format`: a volume is made, and a line tells what became of it.
-ghost use Rattle.std.specs.Prelude.{◌≡◌, ◌⊎◌, ◌<◌, ◌≤◌, OnErr, OnOk};
+ghost use Rattle.std.specs.Prelude.{OnErr, OnOk};
 ghost use Rattle.std.specs.Io.KnownBytes.{Appends};
-ghost use Rattle.std.specs.Option.{ForSome};
-ghost use Rattle.mg_disk.specs.Stops.{CountRose, Leaves, NothingPending};
 ghost use Rattle.mg_faults.specs.Faults.{Rose};
 ghost use Rattle.mg_io.specs.Known.{AppendsPrefix};
-ghost use Rattle.mg_layout.specs.MayFormat.{MayFormat};
-ghost use Rattle.mg_model.specs.Layout.{total_blocks};
-ghost use Rattle.mg_session.specs.Formats.{EndsFormat, IsMade, made_line, small_line};
+ghost use Rattle.mg_session.specs.Headline.{FormatKeeps, made_line, small_line};
 
 use crate::program::Status;
 use arrayvec::ArrayVec;
@@ -24,24 +20,7 @@ const ROOT: u64 = 0x1_0000_0000;
 /// Makes a volume and puts the line that tells of it. Where the disk has too few blocks it is not called, and the line
 /// tells how many are needed and how many there are. Where a call of the disk failed nothing is put.
 pub fn make_volume<D: Disk, K: Sink>(params: &Params, disk: &mut D, sink: &mut K) -> Status
-    ensures ends { EndsFormat result }
-    ensures moments { NothingPending D.Disk disk.old → ForSome (D.seen disk.old) (λ image. Leaves D.Disk disk.old disk.new (MayFormat image params.now)) }
-    ensures made { result ≡ Status.Done → IsMade D.Disk disk.old disk.new params.now }
-    ensures kept { result ≡ Status.Sink → total_blocks params.now.frames ≤ D.block_count disk.old → IsMade D.Disk disk.old disk.new params.now }
-    ensures line { result ≡ Status.Done → Appends (K.taken sink.old) (K.taken sink.new) (made_line params.now) }
-    ensures line_prefix { total_blocks params.now.frames ≤ D.block_count disk.old → AppendsPrefix (K.taken sink.old) (K.taken sink.new) (made_line params.now) }
-    ensures too_small { result ≡ Status.TooSmall → D.block_count disk.old < total_blocks params.now.frames }
-    ensures small { D.block_count disk.old < total_blocks params.now.frames → (result ≡ Status.TooSmall) ⊎ (result ≡ Status.Sink) }
-    ensures small_disk { D.block_count disk.old < total_blocks params.now.frames → disk.new ≡ disk.old }
-    ensures small_text { result ≡ Status.TooSmall → Appends (K.taken sink.old) (K.taken sink.new) (small_line (total_blocks params.now.frames) (D.block_count disk.old)) }
-    ensures small_prefix { D.block_count disk.old < total_blocks params.now.frames → AppendsPrefix (K.taken sink.old) (K.taken sink.new) (small_line (total_blocks params.now.frames) (D.block_count disk.old)) }
-    ensures disk { result ≡ Status.Disk → CountRose D.Disk disk.old disk.new }
-    ensures disk_text { result ≡ Status.Disk → sink.new ≡ sink.old }
-    ensures sink { result ≡ Status.Sink → Rose (K.faults sink.old) (K.faults sink.new) (K.is_spent sink.new) }
-    ensures complete { total_blocks params.now.frames ≤ D.block_count disk.old
-        → (CountRose D.Disk disk.old disk.new → ⊥)
-        → (Rose (K.faults sink.old) (K.faults sink.new) (K.is_spent sink.new) → ⊥)
-        → result ≡ Status.Done }
+    ensures { FormatKeeps D.Disk K.Sink params.now result disk.old disk.new sink.old sink.new }
 {
     match format(disk, params) {
         Ok(()) => match put_made(params, sink) {

@@ -7,6 +7,7 @@ ghost use Rattle.mg_kernel.specs.Meaning.{StandsOn, is_live, staged_of, words_in
 ghost use Rattle.mg_model.specs.Lines.{built_words, lines};
 ghost use Rattle.mg_model.specs.Words.{is_newline};
 ghost use Rattle.mg_model.specs.Counts.{CountsAlike};
+ghost use Rattle.mg_session.specs.Headline.{UnlessDisk};
 ghost use Rattle.mg_session.specs.Incoming.{Breaks, Goes};
 ghost use Rattle.mg_session.specs.Sessions.{Halts, IsInside, Runs};
 ghost use Rattle.mg_session.specs.Waiting.{no_replies};
@@ -43,8 +44,8 @@ fn take_byte<D: Disk, K: Sink, L: Ledger>(
         (record { kernel = kernel.old; disk = disk.old; owed = owed.old; taken = K.taken sink.old }) part.old (b ∷ [])
         (record { kernel = kernel.new; disk = disk.new; owed = owed.new; taken = K.taken sink.new })) }
     ensures whole { list_any is_newline part.new ≡ false }
-    ensures live { OnOk result (IsTrue (is_live kernel.new)) }
-    ensures stands { OnOk result (StandsOn D.Disk kernel.new disk.new) }
+    ensures live { UnlessDisk result (IsTrue (is_live kernel.new)) }
+    ensures stands { UnlessDisk result (StandsOn D.Disk kernel.new disk.new) }
     ensures staged { OnOk result (staged_of kernel.new ≤ 28) }
     ensures open_batch { OnOk result (owed.new.count < batch) }
     ensures counted { CountsAlike (words_in kernel.old) (words_in kernel.new) steps.old steps.new }
@@ -89,8 +90,8 @@ pub fn take_bytes<D: Disk, K: Sink, L: Ledger>(
         (record { kernel = kernel.old; disk = disk.old; owed = owed.old; taken = K.taken sink.old }) part.old bytes.now
         (record { kernel = kernel.new; disk = disk.new; owed = owed.new; taken = K.taken sink.new })) }
     ensures whole { OnOk result (list_any is_newline part.new ≡ false) }
-    ensures live { OnOk result (IsTrue (is_live kernel.new)) }
-    ensures stands { OnOk result (StandsOn D.Disk kernel.new disk.new) }
+    ensures live { UnlessDisk result (IsTrue (is_live kernel.new)) }
+    ensures stands { UnlessDisk result (StandsOn D.Disk kernel.new disk.new) }
     ensures staged { OnOk result (staged_of kernel.new ≤ 28) }
     ensures open_batch { OnOk result (owed.new.count < batch) }
     ensures counted { CountsAlike (words_in kernel.old) (words_in kernel.new) steps.old steps.new }
@@ -131,8 +132,8 @@ pub fn finish<D: Disk, K: Sink, L: Ledger>(
     ensures halts { IfErr result (λ e. Halts D.Disk e
         (record { kernel = kernel.old; disk = disk.old; owed = owed.old; taken = K.taken sink.old }) (lines built_words part.old)
         (record { kernel = kernel.new; disk = disk.new; owed = owed.new; taken = K.taken sink.new })) }
-    ensures live { OnOk result (IsTrue (is_live kernel.new)) }
-    ensures stands { OnOk result (StandsOn D.Disk kernel.new disk.new) }
+    ensures live { UnlessDisk result (IsTrue (is_live kernel.new)) }
+    ensures stands { UnlessDisk result (StandsOn D.Disk kernel.new disk.new) }
     ensures staged { OnOk result (staged_of kernel.new ≡ 0) }
     ensures empty { OnOk result (owed.new ≡ no_replies) }
     ensures counted { CountsAlike (words_in kernel.old) (words_in kernel.new) steps.old steps.new }

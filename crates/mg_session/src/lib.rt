@@ -34,6 +34,7 @@ mod words;
 
 pub use batches::Ended;
 pub use buffers::Buffers;
-pub use program::{INPUT, Status, top};
+pub use program::{Status, top};
+pub use running::INPUT;
 pub use session::serve;
 pub use words::{Command, read_words};

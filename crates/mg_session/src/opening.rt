@@ -3,7 +3,7 @@ ghost use Rattle.std.specs.Prelude.{◌≡◌, ◌⊎◌};
 ghost use Rattle.std.specs.Io.KnownBytes.{Appends};
 ghost use Rattle.mg_faults.specs.Faults.{Rose};
 ghost use Rattle.mg_io.specs.Known.{AppendsPrefix};
-ghost use Rattle.mg_session.specs.Volumes.{EndsWith, IsQuiet, fault_line};
+ghost use Rattle.mg_session.specs.Unopened.{EndsWith, IsQuiet, fault_line};
 
 use crate::program::Status;
 use mg_check::OpenFault;

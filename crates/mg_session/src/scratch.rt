@@ -1,11 +1,8 @@
 // The command `dry`: a session on a fresh volume that is kept nowhere.
-ghost use Rattle.std.specs.Prelude.{◌≡◌, ◌≢◌, ◌+◌};
-ghost use Rattle.mg_faults.specs.Faults.{Rose};
-ghost use Rattle.mg_model.specs.Fresh.{fresh};
-ghost use Rattle.mg_session.specs.Headline.{AnswersAll, AnswersLines, AnswersPrefix, FewUnanswered, IsDoneOrMemory, IsWithin, TakesAtMost, TakesMore};
+ghost use Rattle.mg_session.specs.Headline.{DryKeeps};
 
 use crate::buffers::BATCH_LIMIT;
-use crate::program::{INPUT, Status};
+use crate::program::Status;
 use crate::running::run;
 use mg_disk::ScratchDisk;
 use mg_io::{Sink, Source};
@@ -22,28 +19,7 @@ pub fn dry<S: Source, K: Sink, L: Ledger>(
     sink: &mut K,
     steps: &mut Steps<L>,
 ) -> Status
-    ensures done { result ≡ Status.Done → AnswersAll (fresh params.now)
-        (S.left source.old) (S.left source.new) (K.taken sink.old) (K.taken sink.new) }
-    ensures prefix { AnswersPrefix (fresh params.now) (S.left source.old) (K.taken sink.old) (K.taken sink.new) }
-    ensures lines_source { result ≡ Status.Source → AnswersLines (fresh params.now)
-        (S.left source.old) (K.taken sink.old) (K.taken sink.new) }
-    ensures lines_too_long { result ≡ Status.TooLong → AnswersLines (fresh params.now)
-        (S.left source.old) (K.taken sink.old) (K.taken sink.new) }
-    ensures few_source { result ≡ Status.Source → FewUnanswered 64 INPUT
-        (S.left source.old) (S.left source.new) (K.taken sink.old) (K.taken sink.new) }
-    ensures few_too_long { result ≡ Status.TooLong → FewUnanswered 64 INPUT
-        (S.left source.old) (S.left source.new) (K.taken sink.old) (K.taken sink.new) }
-    ensures memory { result ≡ Status.Memory → (source.new ≡ source.old) × (sink.new ≡ sink.old) }
-    ensures source { result ≡ Status.Source → Rose (S.faults source.old) (S.faults source.new) (S.is_spent source.new) }
-    ensures sink { result ≡ Status.Sink → Rose (K.faults sink.old) (K.faults sink.new) (K.is_spent sink.new) }
-    ensures too_long { result ≡ Status.TooLong → TakesMore INPUT (S.left source.old) (S.left source.new) }
-    ensures within_done { result ≡ Status.Done → TakesAtMost INPUT (S.left source.old) (S.left source.new) }
-    ensures within_source { result ≡ Status.Source → TakesAtMost INPUT (S.left source.old) (S.left source.new) }
-    ensures bounded { TakesAtMost (INPUT + 4096) (S.left source.old) (S.left source.new) }
-    ensures complete { (Rose (S.faults source.old) (S.faults source.new) (S.is_spent source.new) → ⊥)
-        → (Rose (K.faults sink.old) (K.faults sink.new) (K.is_spent sink.new) → ⊥)
-        → IsWithin INPUT (S.left source.old) (IsDoneOrMemory result) }
-    ensures others { (result ≢ Status.Usage) × (result ≢ Status.NoVolume) × (result ≢ Status.Disk) × (result ≢ Status.TooSmall) }
+    ensures { DryKeeps S.Source K.Sink params.now result source.old source.new sink.old sink.new }
 {
     let blocks = Geometry::of(params.frames()).total;
     let mut disk = match ScratchDisk::new(alloc, blocks) {

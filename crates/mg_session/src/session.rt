@@ -1,14 +1,12 @@
 // A whole session: the source is read to its end, and its lines are stepped and answered in batches.
 ghost use Rattle.std.specs.Prelude.{◌≡◌, ◌+◌, ◌≤◌, Err, IfErr, IfSome, IsOk, IsTrue, OnOk};
 ghost use Rattle.std.specs.Option.{ForSome};
-ghost use Rattle.mg_disk.specs.Stops.{CountGoes, CountRose, Leaves};
+ghost use Rattle.mg_disk.specs.Stops.{CountGoes, CountRose};
 ghost use Rattle.mg_faults.specs.Faults.{CountGoesOn, Rose};
 ghost use Rattle.mg_kernel.specs.Meaning.{StandsOn, is_live, now_of, staged_of, words_in};
-ghost use Rattle.mg_model.specs.Lines.{built_words, lines};
 ghost use Rattle.mg_model.specs.Counts.{CountsAlike};
-ghost use Rattle.mg_session.specs.Headline.{AnswersAll, AnswersLines, AnswersPrefix, FewUnanswered, IsWithin, KeepsAnswered, KeepsExactly, KeepsOne, SpellsAfter, TakesAtMost, TakesMore};
+ghost use Rattle.mg_session.specs.Headline.{Answers, Ends, Holds, HoldsExactly, IsWithin, KeepsExactly, SpellsAfter, UnlessDisk, status_of};
 ghost use Rattle.mg_session.specs.Readings.{Finishes, Stops};
-ghost use Rattle.mg_session.specs.Sessions.{IsPrefix};
 
 use crate::batches::Ended;
 use crate::buffers::Buffers;
@@ -42,9 +40,9 @@ fn serve_pieces<D: Disk, S: Source, K: Sink, L: Ledger>(
     ensures finishes { OnOk result (Finishes D.Disk (record { kernel = kernel.old; disk = disk.old; taken = K.taken sink.old }) (S.left source.old) limit
         (record { kernel = kernel.new; disk = disk.new; owed = owed.new; taken = K.taken sink.new }) (S.left source.new)) }
     ensures stops { IfErr result (λ e. Stops D.Disk e (record { kernel = kernel.old; disk = disk.old; taken = K.taken sink.old }) (S.left source.old)
-        limit batch (limit + 4096) disk.new (K.taken sink.new) (S.left source.new)) }
-    ensures live { OnOk result (IsTrue (is_live kernel.new)) }
-    ensures stands { OnOk result (StandsOn D.Disk kernel.new disk.new) }
+        limit batch (limit + 4096) (is_live kernel.new) disk.new (K.taken sink.new) (S.left source.new)) }
+    ensures live { UnlessDisk result (IsTrue (is_live kernel.new)) }
+    ensures stands { UnlessDisk result (StandsOn D.Disk kernel.new disk.new) }
     ensures staged { OnOk result (staged_of kernel.new ≡ 0) }
     ensures counted { CountsAlike (words_in kernel.old) (words_in kernel.new) steps.old steps.new }
     ensures blocks { D.block_count disk.new ≡ D.block_count disk.old }
@@ -100,7 +98,8 @@ fn serve_pieces<D: Disk, S: Source, K: Sink, L: Ledger>(
 /// [`Ended::Disk`], [`Ended::Source`] and [`Ended::Sink`] come only where a call of that object failed, and
 /// [`Ended::TooLong`] where more than `limit` bytes were taken. After a failed step, a fault of the source and too long an
 /// input the open batch is neither committed nor answered; after a failed commit its lines may have been kept or not; after
-/// a fault of the sink they were kept.
+/// a fault of the sink they were kept. The kernel is then live, except after a failed commit, and stands on the disk, except
+/// after [`Ended::Disk`].
 pub fn serve<D: Disk, S: Source, K: Sink, L: Ledger>(
     kernel: &mut Kernel,
     disk: &mut D,
@@ -117,48 +116,17 @@ pub fn serve<D: Disk, S: Source, K: Sink, L: Ledger>(
     requires some { 1 ≤ batch }
     requires small { batch ≤ 64 }
 
-    // What the sink took is a prefix of the replies to the whole input. At the end it is all of them, and reads give the
-    // state after all lines.
-    ensures prefix { ForSome (D.seen disk.old) (λ image. AnswersPrefix (now_of kernel.old image) (S.left source.old) (K.taken sink.old) (K.taken sink.new)) }
-    ensures all { OnOk result (ForSome (D.seen disk.old) (λ image. AnswersAll (now_of kernel.old image)
-        (S.left source.old) (S.left source.new) (K.taken sink.old) (K.taken sink.new))) }
+    // What the sink took, what a stop leaves, and how the session ends.
+    ensures answers { ForSome (D.seen disk.old) (λ image. Answers (now_of kernel.old image) (status_of result)
+        (S.left source.old) (S.left source.new) (K.taken sink.old) (K.taken sink.new)) }
     ensures kept { OnOk result (ForSome (D.seen disk.old) (λ image. IfSome (S.left source.old) (λ input.
         SpellsAfter (now_of kernel.old image) input (D.seen disk.new)))) }
-
-    // At each moment a stop leaves the state after some first lines.
-    ensures any_moment { ForSome (D.seen disk.old) (λ image. IfSome (S.left source.old) (λ input.
-        Leaves D.Disk disk.old disk.new (IsPrefix (now_of kernel.old image) (lines built_words input)))) }
-
-    // At the end these are at least the answered lines, and all of them came.
-    ensures held { ForSome (D.seen disk.old) (λ image. KeepsAnswered (D.left_since disk.new (D.moment disk.new)) (now_of kernel.old image)
+    ensures holds { ForSome (D.seen disk.old) (λ image. Holds D.Disk (now_of kernel.old image) disk.old disk.new
         (S.left source.old) (S.left source.new) (K.taken sink.old) (K.taken sink.new)) }
-    ensures held_source { result ≡ Err Ended.Source → ForSome (D.seen disk.old) (λ image. KeepsExactly (D.left_since disk.new (D.moment disk.new))
-        (now_of kernel.old image) (S.left source.old) (K.taken sink.old) (K.taken sink.new)) }
-    ensures held_too_long { result ≡ Err Ended.TooLong → ForSome (D.seen disk.old) (λ image. KeepsExactly (D.left_since disk.new (D.moment disk.new))
-        (now_of kernel.old image) (S.left source.old) (K.taken sink.old) (K.taken sink.new)) }
-    ensures held_sink { result ≡ Err Ended.Sink → ForSome (D.seen disk.old) (λ image. KeepsOne (D.left_since disk.new (D.moment disk.new))
-        (now_of kernel.old image) (S.left source.old) (S.left source.new) (K.taken sink.old) (K.taken sink.new)) }
-
-    // Where the source failed, or gave too much, whole lines are answered, and few calls are not.
-    ensures lines_source { result ≡ Err Ended.Source → ForSome (D.seen disk.old) (λ image. AnswersLines (now_of kernel.old image)
-        (S.left source.old) (K.taken sink.old) (K.taken sink.new)) }
-    ensures lines_too_long { result ≡ Err Ended.TooLong → ForSome (D.seen disk.old) (λ image. AnswersLines (now_of kernel.old image)
-        (S.left source.old) (K.taken sink.old) (K.taken sink.new)) }
-    ensures few_source { result ≡ Err Ended.Source → FewUnanswered batch limit
-        (S.left source.old) (S.left source.new) (K.taken sink.old) (K.taken sink.new) }
-    ensures few_too_long { result ≡ Err Ended.TooLong → FewUnanswered batch limit
-        (S.left source.old) (S.left source.new) (K.taken sink.old) (K.taken sink.new) }
-
-    // When each answer comes.
+    ensures holds_exactly { ForSome (D.seen disk.old) (λ image. HoldsExactly D.Disk (now_of kernel.old image) (status_of result) disk.new
+        (S.left source.old) (S.left source.new) (K.taken sink.old) (K.taken sink.new)) }
+    ensures ends { Ends S.Source K.Sink batch limit (status_of result) source.old source.new sink.old sink.new }
     ensures disk { result ≡ Err Ended.Disk → CountRose D.Disk disk.old disk.new }
-    ensures source { result ≡ Err Ended.Source → Rose (S.faults source.old) (S.faults source.new) (S.is_spent source.new) }
-    ensures sink { result ≡ Err Ended.Sink → Rose (K.faults sink.old) (K.faults sink.new) (K.is_spent sink.new) }
-    ensures too_long { result ≡ Err Ended.TooLong → TakesMore limit (S.left source.old) (S.left source.new) }
-    ensures within_done { OnOk result (TakesAtMost limit (S.left source.old) (S.left source.new)) }
-    ensures within_source { result ≡ Err Ended.Source → TakesAtMost limit (S.left source.old) (S.left source.new) }
-
-    // Whatever the answer, no more is taken than the limit, and a piece.
-    ensures bounded { TakesAtMost (limit + 4096) (S.left source.old) (S.left source.new) }
 
     // Where no call failed and the input is not too long, all is done.
     ensures complete { (CountRose D.Disk disk.old disk.new → ⊥)
@@ -166,18 +134,20 @@ pub fn serve<D: Disk, S: Source, K: Sink, L: Ledger>(
         → (Rose (K.faults sink.old) (K.faults sink.new) (K.is_spent sink.new) → ⊥)
         → IsWithin limit (S.left source.old) (IsOk result) }
 
-    // After a good end the kernel may serve again. The two counts of words rise by as much.
-    ensures live { OnOk result (IsTrue (is_live kernel.new)) }
-    ensures stands { OnOk result (StandsOn D.Disk kernel.new disk.new) }
+    // Unless the disk failed the kernel is live and stands on the disk, and after a good end it may serve again. Where the
+    // disk failed and the kernel is live, no commit failed, and the answered lines are held and no others.
+    ensures live { UnlessDisk result (IsTrue (is_live kernel.new)) }
+    ensures stands { UnlessDisk result (StandsOn D.Disk kernel.new disk.new) }
     ensures staged { OnOk result (staged_of kernel.new ≡ 0) }
+    ensures held_disk { result ≡ Err Ended.Disk → IsTrue (is_live kernel.new) → ForSome (D.seen disk.old) (λ image.
+        KeepsExactly (D.left_since disk.new (D.moment disk.new)) (now_of kernel.old image) (S.left source.old) (K.taken sink.old) (K.taken sink.new)) }
+
+    // The two counts of words rise by as much, and no count falls.
     ensures counted { CountsAlike (words_in kernel.old) (words_in kernel.new) steps.old steps.new }
     ensures blocks { D.block_count disk.new ≡ D.block_count disk.old }
     ensures disk_count { CountGoes D.Disk disk.old disk.new }
     ensures source_count { CountGoesOn (S.faults source.old) (S.faults source.new) (S.is_spent source.old) (S.is_spent source.new) }
     ensures sink_count { CountGoesOn (K.faults sink.old) (K.faults sink.new) (K.is_spent sink.old) (K.is_spent sink.new) }
 {
-    match serve_pieces(kernel, disk, source, sink, owed, batch, limit, steps) {
-        Ok(()) => Ok(()),
-        Err(ended) => Err(ended),
-    }
+    serve_pieces(kernel, disk, source, sink, owed, batch, limit, steps)
 }

@@ -1,12 +1,13 @@
 use Rattle.std.proofs.Common.{[], ◌∷◌, ◌++◌}
 use Rattle.std.proofs.lemmas.Result.{IfErr-weaker, on_ok_weaker}
+use Rattle.mg_kernel.specs.Meaning.{is_live}
 use Rattle.mg_session.specs.Sessions.{FailsToClose, Halts}
 use Rattle.mg_session.proofs.SessionSteps.{Broken-step, Session-line}
 use Rattle.mg_session.proofs.batches.take_line.Goals as goal
 
 pub returns-in-Err-clause-halts : goal.returns-in-Err-clause-halts
 returns-in-Err-clause-halts g c =
-    λ entry ls a. Broken-step g.D.Disk entry ls c.args.kernel.now c.args.disk.now c.step.new.disk c.args.owed.now (g.K.Sink.taken c.args.sink.now) c.args.line.now a c.in-Err.ensures.writes c.in-Err.ensures.stands.settled
+    λ entry ls a. Broken-step g.D.Disk entry ls c.args.kernel.now c.args.disk.now c.step.new.disk c.args.owed.now (g.K.Sink.taken c.args.sink.now) c.args.line.now (is_live c.step.new.self) a c.in-Err.ensures.writes c.in-Err.ensures.stands.settled
 
 pub returns-then-staged-le-STAGED_LIMIT-clause-steps : goal.returns-then-staged-le-STAGED_LIMIT-clause-steps
 returns-then-staged-le-STAGED_LIMIT-clause-steps g c =

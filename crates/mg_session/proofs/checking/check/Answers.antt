@@ -1,10 +1,18 @@
-use Rattle.mg_session.specs.Volumes.{EndsUnopened}
-use Rattle.mg_session.proofs.Openings.{told_not, told_prefix}
+use Rattle.std.proofs.Common.{inl, refl}
+use Rattle.mg_session.specs.Headline.{summary_line}
+use Rattle.mg_session.proofs.Openings.{fault_may_tell, told_prefix, told_without}
 use Rattle.mg_session.proofs.checking.check.Goals as goal
-
-pub returns-in-Ok-clause-not_opened : goal.returns-in-Ok-clause-not_opened
-returns-in-Ok-clause-not_opened g c = told_not c.in-Ok.summary (g.D.Disk.seen c.args.disk.now) (EndsUnopened c.put_summary.result) c.in-Ok.ensures.tells
 
 pub returns-in-Ok-clause-prefix : goal.returns-in-Ok-clause-prefix
 returns-in-Ok-clause-prefix g c =
     told_prefix c.in-Ok.summary (g.D.Disk.seen c.args.disk.now) (g.K.Sink.taken c.args.sink.now) (g.K.Sink.taken c.put_summary.new.sink) c.in-Ok.ensures.tells c.put_summary.ensures.prefix
+
+pub returns-in-Ok-clause-some_line : goal.returns-in-Ok-clause-some_line
+returns-in-Ok-clause-some_line g c = (summary_line c.in-Ok.summary, inl (c.in-Ok.summary, refl), c.put_summary.ensures.prefix)
+
+pub returns-in-Err-clause-some_line : goal.returns-in-Err-clause-some_line
+returns-in-Err-clause-some_line g c = fault_may_tell c.in-Err.fault (g.K.Sink.taken c.args.sink.now) (g.K.Sink.taken c.put_fault.new.sink) c.put_fault.ensures.prefix
+
+pub returns-in-Ok-clause-without : goal.returns-in-Ok-clause-without
+returns-in-Ok-clause-without g c =
+    told_without g.D.Disk g.K.Sink c.in-Ok.summary c.put_summary.result c.args.disk.now c.examine.new.disk c.args.sink.now c.put_summary.new.sink c.in-Ok.ensures.tells c.put_summary.ensures.ends

@@ -1,6 +1,6 @@
 use Rattle.std.proofs.Common.{◌≡◌, ◌+◌, ◌-◌, ap, arith, refl, subst, take, ℕ}
 use Rattle.mg_faults.specs.Faults.{count_none, count_then}
-use Rattle.mg_kernel.specs.Meaning.{words_in}
+use Rattle.mg_kernel.specs.Meaning.{is_live, words_in}
 use Rattle.mg_model.specs.Lines.{built_words, lines}
 use Rattle.mg_session.specs.Incoming.{Goes}
 use Rattle.mg_session.specs.Readings.{Stops}
@@ -47,7 +47,7 @@ returns-then-count-eq0-clause-stops g c =
     let size = c.pieces.invariant.size in
     if_err_both c.finish.result IsInside
     (λ e. Halts g.D.Disk e (record { kernel = c.pieces.kernel; disk = c.pieces.disk; owed = c.pieces.owed; taken = g.K.Sink.taken c.pieces.sink }) (lines built_words c.pieces.part) (record { kernel = c.finish.new.kernel; disk = c.finish.new.disk; owed = c.finish.new.owed; taken = g.K.Sink.taken c.finish.new.sink }))
-    (λ e. Stops g.D.Disk e (record { kernel = c.args.kernel.now; disk = c.args.disk.now; taken = g.K.Sink.taken c.args.sink.now }) (g.S.Source.left c.args.source.now) c.args.limit c.args.batch (c.args.limit + 4096) c.finish.new.disk (g.K.Sink.taken c.finish.new.sink) (g.S.Source.left c.take.new.self))
+    (λ e. Stops g.D.Disk e (record { kernel = c.args.kernel.now; disk = c.args.disk.now; taken = g.K.Sink.taken c.args.sink.now }) (g.S.Source.left c.args.source.now) c.args.limit c.args.batch (c.args.limit + 4096) (is_live c.finish.new.kernel) c.finish.new.disk (g.K.Sink.taken c.finish.new.sink) (g.S.Source.left c.take.new.self))
     (λ e inside halts. Stops-last g.D.Disk e (record { kernel = c.args.kernel.now; disk = c.args.disk.now; taken = g.K.Sink.taken c.args.sink.now }) (g.S.Source.left c.args.source.now) (g.S.Source.left c.pieces.source) (g.S.Source.left c.take.new.self) c.pieces.total c.args.limit c.args.batch (c.args.limit + 4096) c.in-Ok.count (record { kernel = c.pieces.kernel; disk = c.pieces.disk; owed = c.pieces.owed; taken = g.K.Sink.taken c.pieces.sink }) (record { kernel = c.finish.new.kernel; disk = c.finish.new.disk; owed = c.finish.new.owed; taken = g.K.Sink.taken c.finish.new.sink }) c.pieces.part c.take.new.into
     c.pieces.invariant.reading c.pieces.invariant.within (omega arith) c.in-Ok.ensures.bytes.0 c.if-count-eq0.true (c.in-Ok.ensures.bytes.1 c.if-count-eq0.true (omega arith)) inside halts)
     c.finish.ensures.only c.finish.ensures.halts

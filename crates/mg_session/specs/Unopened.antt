@@ -1,0 +1,46 @@
+-- What a fault of the opening of a volume tells, and how a command ends with it.
+use Rattle.std.specs.Prelude.{ℕ, ◌≡◌, ◌⊎◌, List, [], Option}
+use Rattle.std.specs.Option.{ForSome}
+use Rattle.mg_check.specs.declared.examining.OpenFault.{OpenFault}
+use Rattle.mg_check.specs.declared.examining.OpenFault.TheVariants as fault
+use Rattle.mg_disk.specs.Disk.{Image}
+use Rattle.mg_model.specs.Volume.{Damaged, NotVolume, OldVolume, volume}
+use Rattle.mg_session.specs.declared.program.Status.{Status}
+use Rattle.mg_session.specs.declared.program.Status.TheVariants as status
+use Rattle.mg_session.specs.Headline.{check_line}
+
+-- the line of a fault of the opening, if it has one
+abbrev pub fault_line : OpenFault → List ℕ
+fault_line fault.Not = check_line NotVolume
+fault_line fault.Old = check_line OldVolume
+fault_line fault.Damaged = check_line Damaged
+fault_line fault.Disk = []
+fault_line fault.Memory = []
+
+-- what a fault tells of the image that reads give
+abbrev pub FaultTells : OpenFault → Option Image → Type 0
+FaultTells fault.Not told = ForSome told (λ image. volume image ≡ NotVolume)
+FaultTells fault.Old told = ForSome told (λ image. volume image ≡ OldVolume)
+FaultTells fault.Damaged told = ForSome told (λ image. volume image ≡ Damaged)
+FaultTells fault.Disk told = Unit {0}
+FaultTells fault.Memory told = Unit {0}
+
+-- it tells nothing of the image
+abbrev pub IsQuiet : OpenFault → Type 0
+IsQuiet fault.Not = ⊥
+IsQuiet fault.Old = ⊥
+IsQuiet fault.Damaged = ⊥
+IsQuiet fault.Disk = Unit {0}
+IsQuiet fault.Memory = Unit {0}
+
+-- how a command ends with it
+abbrev pub EndsWith : OpenFault → Status → Type 0
+EndsWith fault.Not result = (result ≡ status.NoVolume) ⊎ (result ≡ status.Sink)
+EndsWith fault.Old result = (result ≡ status.NoVolume) ⊎ (result ≡ status.Sink)
+EndsWith fault.Damaged result = (result ≡ status.NoVolume) ⊎ (result ≡ status.Sink)
+EndsWith fault.Disk result = result ≡ status.Disk
+EndsWith fault.Memory result = result ≡ status.Memory
+
+-- how a session on an opened volume may end
+abbrev pub EndsSession : Status → Type 0
+EndsSession result = (result ≡ status.Done) ⊎ ((result ≡ status.Memory) ⊎ ((result ≡ status.Disk) ⊎ ((result ≡ status.Source) ⊎ ((result ≡ status.Sink) ⊎ (result ≡ status.TooLong)))))
