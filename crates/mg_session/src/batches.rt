@@ -11,6 +11,7 @@ ghost use Rattle.mg_session.specs.Waiting.{no_replies};
 
 use crate::buffers::Buffers;
 use mg_disk::Disk;
+use mg_faults::Failed;
 use mg_io::{Sink, put_all};
 use mg_kernel::Kernel;
 use mg_model::{Line, Steps};
@@ -66,7 +67,7 @@ pub fn close<D: Disk, K: Sink>(
 {
     match kernel.commit(disk) {
         Ok(()) => {}
-        Err(_) => return Err(Ended::Disk),
+        Err(Failed) => return Err(Ended::Disk),
     }
     let put = put_all(sink, owed.text());
     match put {
@@ -157,8 +158,6 @@ pub fn line_and_close<D: Disk, K: Sink, L: Ledger>(
     ensures sink { result ≡ Err Ended.Sink → Rose (K.faults sink.old) (K.faults sink.new) (K.is_spent sink.new) }
     ensures only { IfErr result IsInside }
 {
-    match take_line(kernel, disk, sink, owed, line, batch, steps) {
-        Ok(()) => close(kernel, disk, sink, owed),
-        Err(ended) => Err(ended),
-    }
+    take_line(kernel, disk, sink, owed, line, batch, steps)?;
+    close(kernel, disk, sink, owed)
 }

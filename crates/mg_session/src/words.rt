@@ -43,10 +43,7 @@ pub fn read_words(words: &[String]) -> Option<Command>
     if is_check(words) {
         return Some(Command::Check);
     }
-    match run(words) {
-        Some(batch) => Some(Command::Run(batch)),
-        None => None,
-    }
+    Some(Command::Run(run(words)?))
 }
 
 /// Whether the words are `VOLUME check`.

@@ -2,7 +2,9 @@
 //! output, handed to [`mg_session::top`].
 //!
 //! What it then does, and with which status it ends, is what `top` ensures of the words, the disk, the source and the sink.
-//! Nothing is held back on the way: each reply is written by the time that the next line is waited for.
+//! Nothing is held back between them: a reply is written when its batch closes. That is at once under `run` with no BATCH or
+//! with BATCH 1, so that each reply is written before more input is waited for; otherwise up to 63 replies may wait for more
+//! input, or for its end.
 #![tactic(auto)]
 
 ghost use Rattle.std.specs.Prelude.{◌≡◌, ◌<◌};
