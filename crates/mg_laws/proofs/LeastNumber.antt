@@ -1,15 +1,12 @@
 -- The number of a new thread: no thread has it, and each lower one is some thread's.
-use Rattle.std.proofs.Common.{ℕ, ◌+◌, ◌≤◌, ◌≡◌, ◌≢◌, eqb, cond, List, [], ◌∷◌, Option, Some, None, refl, arith, All, AllPairs}
-use Rattle.std.proofs.lemmas.Bool.{cond_both, cond-false, eqb-false, eqb-true, ne_eqb}
-use Rattle.std.proofs.lemmas.List.Elements.{All-cons, All-head, All-nil, All-tail, All-weaker}
+use Rattle.std.proofs.Common.{ℕ, ◌+◌, ◌≤◌, ◌≡◌, ◌≢◌, eqb, List, [], ◌∷◌, Some, None, refl, arith, All}
+use Rattle.std.proofs.lemmas.Bool.{cond_both, eqb-false, eqb-true}
+use Rattle.std.proofs.lemmas.List.Elements.{All-cons, All-head, All-nil, All-tail}
 use Rattle.std.specs.Prelude.{find}
-use Rattle.mg_laws.proofs.KeepsRows.{IsBelow}
 use Rattle.mg_laws.proofs.KeepsThreads.{free_number-free}
-use Rattle.mg_laws.specs.Laws.{IsLeastFree, TakesLeastNumber}
-use Rattle.mg_model.specs.KeptLists.{AllPairs-head, AllPairs-tail}
-use Rattle.mg_model.specs.State.{State, Thread}
+use Rattle.mg_laws.specs.Laws.{TakesLeastNumber}
+use Rattle.mg_model.specs.State.{Thread}
 use Rattle.mg_model.specs.Threads.{free_number, free_number_from}
-use Rattle.mg_model.specs.WellFormed.{IsWellFormed}
 
 -- the thread has another number
 abbrev Differs : ℕ → Thread → Type 0

@@ -7,7 +7,7 @@ use Rattle.std.proofs.lemmas.Bool.Decides.{nat_tests}
 use Rattle.std.proofs.lemmas.List.{get_or-set_other, get_or-set_same, length-set, length-take}
 use Rattle.mg_model.specs.declared.accounts.AccRow.{AccRow}
 use Rattle.mg_model.specs.Bytes.{are_zeros, block_words, bytes_at, number_at}
-use Rattle.mg_model.specs.Layout.{account_rows, body_limit, first_account_block, first_frame, first_object_block, first_thread_block, gate_block, gate_open, globals_block, object_rows, segment_body, segment_count, segment_gate, segment_index, super_block, table_block, table_blocks, thread_rows, total_blocks}
+use Rattle.mg_model.specs.Layout.{account_rows, body_limit, first_account_block, first_frame, first_object_block, first_thread_block, gate_open, globals_block, object_rows, segment_body, segment_count, segment_gate, segment_index, super_block, table_block, table_blocks, thread_rows, total_blocks}
 use Rattle.mg_model.specs.Objects.{page_of, with_object}
 use Rattle.mg_model.specs.Replay.{block_of, body_count, home_of, homes_fit, is_open, replay, segment_fits, segments_fit, writes_from, writes_of, writes_since, written}
 use Rattle.mg_model.specs.Settings.{Settings}

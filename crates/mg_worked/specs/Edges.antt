@@ -1,5 +1,5 @@
 -- Worked sessions: rows of the table of calls at their edges.
-use Rattle.std.specs.Prelude.{ℕ, List, [], ◌∷◌, codes, replicate}
+use Rattle.std.specs.Prelude.{ℕ, [], ◌∷◌, codes, replicate}
 use Rattle.mg_model.specs.Draw.{password_drawn}
 use Rattle.mg_model.specs.Fresh.{fresh, root_object}
 use Rattle.mg_model.specs.State.{State}
