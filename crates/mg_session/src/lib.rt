@@ -15,21 +15,13 @@ mod batches;
 mod buffers;
 mod checking;
 mod formatting;
-#[cfg(test)]
-mod image_tests;
 mod incoming;
 mod opening;
 mod partial;
 mod program;
 mod running;
-#[cfg(test)]
-mod scattered_tests;
 mod scratch;
 mod session;
-#[cfg(test)]
-mod tests;
-#[cfg(test)]
-mod volume_tests;
 mod words;
 
 pub use batches::Ended;

@@ -1,4 +1,0 @@
-use Rattle.mg_session.proofs.volume_tests.a_limit_of_16_bytes.Given as goal
-
-abbrev pub ghosts-serve_blanks : goal.ghosts-serve_blanks
-ghosts-serve_blanks g a = record { name = a.blank.name; parts = a.blank.parts }

@@ -1,0 +1,91 @@
+// A command from its words to its status.
+ghost use Rattle.std.specs.Prelude.{◌≡◌, ◌<◌};
+
+use mg_disk::Disk;
+use mg_io::{MemSink, MemSource, Sink, Source};
+use mg_model::Steps;
+use mg_session::{Status, top};
+use std::alloc::{AllocError, Global};
+use std::marker::Brand;
+use std::sync::ledger::{Blank, Ledger};
+
+/// What a command reads, and how its source and its sink behave.
+#[derive(Clone, Copy)]
+pub struct Streams<'a> {
+    /// The bytes of the source.
+    pub input: &'a [u8],
+    /// How many bytes a take gives at most; 0 is read as 1.
+    pub piece: usize,
+    /// The numbers of the takes that fail, from 0.
+    pub takes: &'a [u64],
+    /// The numbers of the puts that fail, from 0.
+    pub puts: &'a [u64],
+    /// How many bytes the sink takes in all.
+    pub room: usize,
+}
+
+impl<'a> Streams<'a> {
+    /// This input in pieces of 4096 bytes, and a sink for 65,536; no call fails.
+    pub fn of(input: &'a [u8]) -> Streams<'a> {
+        Streams {
+            input,
+            piece: 4096,
+            takes: &[],
+            puts: &[],
+            room: 65536,
+        }
+    }
+}
+
+/// How a command ended.
+#[derive(Drop)]
+pub struct Outcome {
+    pub status: Status,
+    /// What the sink took.
+    pub put: Vec<u8>,
+}
+
+/// The words of a command line, which blanks part.
+pub fn words_of(alloc: Global, line: &str) -> Result<Vec<String>, AllocError> {
+    let mut words = Vec::new(alloc);
+    for word in line.split(' ').filter(|word| !word.is_empty()) {
+        words.push(String::from_str(alloc, word)?)?;
+    }
+    Ok(words)
+}
+
+/// Runs the command that the words of this line spell, over this disk.
+pub fn command<D: Disk>(
+    alloc: Global,
+    line: &str,
+    disk: &mut D,
+    streams: &Streams<'_>,
+) -> Result<Outcome, AllocError> {
+    let words = words_of(alloc, line)?;
+    let bytes = streams.input.to_vec(alloc)?;
+    let mut source = MemSource::new(bytes, streams.piece.max(1), streams.takes.to_vec(alloc)?);
+    let mut sink = MemSink::new(alloc, streams.room, streams.puts.to_vec(alloc)?)?;
+    let blank = Blank::new(1);
+    let status = with_steps::<_, _, _, Brand>(alloc, &words, disk, &mut source, &mut sink, blank);
+    Ok(Outcome {
+        status,
+        put: sink.bytes().to_vec(alloc)?,
+    })
+}
+
+/// The top call, with a count of steps of its own.
+fn with_steps<D: Disk, S: Source, K: Sink, L: Ledger>(
+    alloc: Global,
+    words: &[String],
+    disk: &mut D,
+    source: &mut S,
+    sink: &mut K,
+    blank: Blank,
+) -> Status
+    requires name { blank.name ≡ L.name }
+    requires parts { blank.parts ≡ L.parts }
+    requires some { 0 < blank.parts }
+{
+    let mut steps = Steps::<L>::new(blank);
+    top(alloc, words, disk, source, sink, &mut steps)
+}
