@@ -1,4 +1,6 @@
--- How rows are spelled in bytes: each row in one way alone, so a row is read where writing it gives the bytes back.
+-- How rows are spelled in bytes: each row in one way alone, so a row is read where writing it gives the bytes back. That bytes
+-- spell a row exactly where a row in its ranges has them is a law (`rows_are_spelled_in_one_way` in `mg_rows`), so the ways to
+-- write a row say all; the ways to read it are there to be computed.
 use Rattle.std.specs.Prelude.{ℕ, zero, suc, ◌+◌, ◌-◌, ◌*◌, ◌==◌, ◌&&◌, nat_lt, Bool, true, not, min, List, [], ◌∷◌, ◌++◌, flat_map, if◌then◌else◌, is_some, length, map, replicate, slice_index, Option, Some, None}
 use Rattle.std.specs.Option.{option_map_or}
 use Rattle.mg_model.specs.declared.accounts.AccRow.{AccRow}

@@ -4,6 +4,7 @@ pub mod ObjectKeeps
 pub mod ObjectLists
 pub mod ObjectRows
 pub mod ObjectWhole
+pub mod OneWay
 pub mod Reading
 pub mod ThreadKeeps
 pub mod ThreadReads
