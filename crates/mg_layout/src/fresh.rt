@@ -12,6 +12,7 @@ use crate::geometry::{
 };
 use crate::superblock::write_super;
 use mg_disk::{BLOCK_SIZE, Block};
+use mg_model::limits::{ALL_RIGHTS, NEVER};
 use mg_model::{Params, draw};
 
 /// Where the root object lies.
@@ -19,12 +20,6 @@ const ROOT_BASE: u64 = 0x0000_0001_0000_0000;
 
 /// The page of that address.
 const ROOT_PAGE: u64 = 0x0010_0000;
-
-/// The until of a password that never ends.
-const NEVER: u64 = 1 << 24;
-
-/// All six rights.
-const ALL_RIGHTS: u8 = 63;
 
 /// Spells block `i` of a fresh volume. Of the blocks that no row, frame or gate fills it gives zeros.
 pub fn fresh_block(p: &Params, i: u64, out: &mut Block)

@@ -21,6 +21,9 @@ pub const PASSWORD_LIMIT: usize = 32;
 /// How many entries an object may have.
 pub const ENTRY_POINT_LIMIT: usize = 16;
 
+/// Every right: the six bits.
+pub const ALL_RIGHTS: u8 = 63;
+
 /// How many entries of a capability list are read.
 pub const ENTRY_LIMIT: u64 = 255;
 
@@ -38,6 +41,9 @@ pub const ACCOUNT_LIMIT: usize = 1024;
 
 /// The last period.
 pub const PERIOD_LIMIT: u64 = (1 << 24) - 1;
+
+/// The until of a password row that never ends: it is above every period.
+pub const NEVER: u64 = 1 << 24;
 
 /// How many passwords are drawn at most.
 pub const DRAW_LIMIT: u64 = 1 << 32;

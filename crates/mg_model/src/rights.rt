@@ -2,6 +2,7 @@
 ghost use Rattle.std.specs.Prelude.{◌≡◌, ◌≤◌, ◌<◌, ◌↔◌, IsSome, IfSome, IsTrue, ℕ};
 ghost use Rattle.mg_model.specs.Rights.{has_right, IsRights};
 
+use crate::limits::ALL_RIGHTS;
 use std::marker::Model;
 
 /// A right that a password may give.
@@ -45,7 +46,7 @@ impl Rights {
     pub fn all() -> Self
         ensures { result ≡ 63 }
     {
-        Rights { bits: 63 }
+        Rights { bits: ALL_RIGHTS }
     }
 
     /// The set with these bits, if they are from 1 to 63.
@@ -53,7 +54,7 @@ impl Rights {
         ensures given { IfSome result (λ rights. rights ≡ bits) }
         ensures some { IsSome result ↔ IsRights bits }
     {
-        if bits >= 1 && bits <= 63 {
+        if bits >= 1 && bits <= ALL_RIGHTS {
             Some(Rights { bits })
         } else {
             None

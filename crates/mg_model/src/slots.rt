@@ -2,6 +2,7 @@
 ghost use Rattle.std.specs.Prelude.{◌≡◌};
 ghost use Rattle.mg_model.specs.Access.{gives};
 
+use crate::limits;
 use crate::rights::{Right, Rights};
 
 /// A slot of a protection domain: a capability list and the password that opens it. A thread's frame has up to 8.
@@ -25,7 +26,7 @@ pub struct Pw {
 
 impl Pw {
     /// The until of a row that never ends: it is above every period.
-    pub const NEVER: u64 = 1 << 24;
+    pub const NEVER: u64 = limits::NEVER;
 
     /// Whether the row is for this password, has this right, and is current at this period.
     pub fn gives(&self, p: u64, r: Right, period: u64) -> bool
