@@ -1,5 +1,5 @@
 // The frames of a volume.
-ghost use Rattle.std.specs.Prelude.{◌≡◌, ◌≢◌, ◌≤◌, ◌<◌, ◌+◌, ◌^◌, ◌==◌, IfOk, Some, false, length, map, position, replicate, slice_index, slice_set, true};
+ghost use Rattle.std.specs.Prelude.{◌≡◌, ◌≢◌, ◌≤◌, ◌<◌, ◌+◌, ◌^◌, ◌==◌, if◌then◌else◌, IfOk, None, Some, false, length, map, position, replicate, slice_index, slice_set, true};
 ghost use Rattle.std.specs.List.{list_any};
 ghost use Rattle.mg_index.specs.Pairs.{Ascends, IsExact};
 ghost use Rattle.mg_model.specs.Tests.{all_distinct};
@@ -34,15 +34,16 @@ impl Frames {
         Ok(Frames { pages })
     }
 
-    /// Frames that hold these pages, 0 for a free one: at most 65,536, and no page twice. All memory that they will need is
-    /// taken here.
-    pub fn of(alloc: Global, pages: Vec<u64>) -> Result<Frames, AllocError>
-        requires few { length pages.items ≤ 65536 }
-        requires distinct { all_distinct (bound_pages pages.items) ≡ true }
-        ensures { IfOk result (λ all. all ≡ pages.items) }
+    /// Frames that hold these pages, 0 for a free one, 65,536 at most: none where a page stands twice. All memory that they
+    /// will need is taken here.
+    pub fn of(alloc: Global, pages: Vec<u64>) -> Result<Option<Frames>, AllocError>
+        requires { length pages.items ≤ 65536 }
+        ensures { IfOk result (λ made. made ≡ (if all_distinct (bound_pages pages.items) then Some pages.items else None)) }
     {
-        let pages = Index::of(alloc, pages)?;
-        Ok(Frames { pages })
+        match Index::of(alloc, pages)? {
+            Some(pages) => Ok(Some(Frames { pages })),
+            None => Ok(None),
+        }
     }
 
     /// How many frames there are.

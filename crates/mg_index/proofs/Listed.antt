@@ -1,16 +1,16 @@
 -- The pairs of a table, listed place by place and then sorted by number.
-use Rattle.std.specs.Prelude.{◌≡◌, ◌≢◌, ◌+◌, ◌<◌, ◌≤◌, ◌==◌, if◌then◌else◌, ℕ, Bool, true, false, not, List, [], ◌∷◌, ◌++◌, length, map, count_by, slice_index, take, drop}
+use Rattle.std.specs.Prelude.{◌≡◌, ◌≢◌, ◌+◌, ◌-◌, ◌<◌, ◌≤◌, ◌==◌, ◌||◌, if◌then◌else◌, ℕ, zero, suc, Bool, All, true, false, not, List, [], ◌∷◌, ◌++◌, length, map, slice_index, take, drop}
 use Rattle.std.specs.List.{Contains, list_any}
 use Rattle.std.specs.List.Sorted.{IsNonDecreasingBy, IsPermutation}
 use Rattle.std.proofs.Common.{refl, sym, ap, ◌∙◌, subst, cond, ⊎_elim, arith, get_or, length-drop}
-use Rattle.std.proofs.lemmas.Bool.{and_parts, cases_Bool, cases_eq, eqb-true, eq-eqb, ne_eqb, not-true, or_parts}
-use Rattle.std.proofs.lemmas.List.{append-nil, get_or-take, get_or-drop, get_or-map, length-map, length-take-le, length_push, map-append, take_more}
-use Rattle.std.proofs.lemmas.List.Elements.{Contains-append_left, Contains-push, Contains-push_cases, filter-append}
+use Rattle.std.proofs.lemmas.Bool.{and_from, and_parts, cases_Bool, cases_eq, eqb-true, eq-eqb, ne_eqb, not_from_false, not-true, or_parts}
+use Rattle.std.proofs.lemmas.List.{append-nil, get_or-take, get_or-drop, get_or_default, get_or-map, length-map, length-take-le, length_push, map-append, take_more}
+use Rattle.std.proofs.lemmas.List.Elements.{All-head, All-tail, Contains-append_left, Contains-push, Contains-push_cases, filter-append}
 use Rattle.std.proofs.lemmas.List.Sorted.{Contains-permutation, IsPermutation-map, IsPermutation-sym, length_permutation, sum_by-IsPermutation}
 use Rattle.std.proofs.lemmas.List.Sums.{get_or-le-sum_by, sum_by-cons, sum_by-take-drop}
 use Rattle.mg_model.specs.Tests.{all_distinct}
 use Rattle.mg_index.specs.Words.{numbers_in}
-use Rattle.mg_index.specs.Pairs.{IsExact, IsSortedTable, free_count}
+use Rattle.mg_index.specs.Pairs.{Ascends, HasTwice, IsExact, IsSortedTable, free_count, times}
 
 -- the bound numbers of the places below n stand there with their places, and nothing else
 pub record IsListed (numbers : List ℕ) (n : ℕ) (pairs : List (ℕ × ℕ)) : Type 0 where
@@ -108,10 +108,6 @@ free-and-bound (number ∷ numbers) = ⊎_elim (free (free-and-bound numbers)) (
         let c : cond {A = ℕ} (number == 0) 1 0 ≡ 0 = ap (λ (t : Bool). cond {A = ℕ} t 1 0) is in
         omega (arith, rest, more, b)
 
--- how often a number stands in a list
-abbrev times : ℕ → List ℕ → ℕ
-times number numbers = count_by (λ x. number == x) numbers
-
 times-none : (number : ℕ) (numbers : List ℕ) → list_any (λ x. number == x) numbers ≡ false → times number numbers ≡ 0
 times-none number [] none = refl
 times-none number (x ∷ xs) none =
@@ -162,20 +158,15 @@ rises-once numbers i j before under once is =
     omega arith
 
 pub sorted-table :
-    (numbers : List ℕ) (pairs sorted : List (ℕ × ℕ)) (space : ℕ) → IsExact numbers pairs → map (λ (pair : ℕ × ℕ). pair.0) pairs ≡ numbers_in numbers → all_distinct (numbers_in numbers) ≡ true
+    (numbers : List ℕ) (pairs sorted : List (ℕ × ℕ)) (space : ℕ) → IsExact numbers pairs → map (λ (pair : ℕ × ℕ). pair.0) pairs ≡ numbers_in numbers
     → IsPermutation pairs sorted → IsNonDecreasingBy (λ (pair : ℕ × ℕ). pair.0) sorted → length numbers ≤ space → IsSortedTable numbers sorted space
-sorted-table numbers pairs sorted space exact bound distinct moved order room =
+sorted-table numbers pairs sorted space exact bound moved order room =
     record {
-      ascends =
-          λ i j d before under.
-          let le = order i j d (omega arith) under in
+      order = order;
+      same =
+          λ number.
           let first = λ (pair : ℕ × ℕ). pair.0 in
-          let l = length-map sorted first in
-          let ne = rises-once (map first sorted) i j before (omega arith) once in
-          let at_i = get_or-map first sorted i d 0 (omega arith) in
-          let at_j = get_or-map first sorted j d 0 under in
-          let other : (get_or sorted i d).0 ≢ (get_or sorted j d).0 = λ is. ne (at_i ∙ is ∙ sym at_j) in
-          omega arith;
+          sum_by-IsPermutation (λ (x : ℕ). cond (number == x) 1 0) (map first pairs) (map first sorted) (IsPermutation-map first pairs sorted moved) ∙ ap (times number) bound;
       exact =
           λ pair. (
             λ there. (exact pair).0 (Contains-permutation sorted pairs pair (IsPermutation-sym pairs sorted moved) there),
@@ -189,11 +180,104 @@ sorted-table numbers pairs sorted space exact bound distinct moved order room =
           omega arith;
       room = room;
     }
+
+-- a number that stands in two pairs is not distinct
+pub twice-not : (numbers : List ℕ) (pairs : List (ℕ × ℕ)) (space : ℕ) → IsSortedTable numbers pairs space → HasTwice pairs → all_distinct (numbers_in numbers) ≡ false
+twice-not numbers pairs space table twice = ⊎_elim (λ distinct. absurd (never distinct)) (λ is. is) (cases_Bool (all_distinct (numbers_in numbers)))
   where
-    once : (number : ℕ) → times number (map (λ (pair : ℕ × ℕ). pair.0) sorted) ≤ 1
-    once number =
-        let first = λ (pair : ℕ × ℕ). pair.0 in
-        let same = sum_by-IsPermutation (λ (x : ℕ). cond (number == x) 1 0) (map first pairs) (map first sorted) (IsPermutation-map first pairs sorted moved) in
-        let is = ap (times number) bound in
-        let one = times-once number (numbers_in numbers) distinct in
+    first : ℕ × ℕ → ℕ
+    first pair = pair.0
+
+    never : all_distinct (numbers_in numbers) ≡ true → ⊥
+    never distinct =
+        let k = twice.0 in
+        let l = length-map pairs (λ (pair : ℕ × ℕ). pair.0) in
+        let under : k + 1 < length pairs = twice.1 in
+        let once = λ (number : ℕ). let s = table.same number in let t = times-once number (numbers_in numbers) distinct in let P : ℕ → Type 0 = λ n. n ≤ 1 in subst P (sym s) t in
+        rises-once (map (λ (pair : ℕ × ℕ). pair.0) pairs) k (k + 1) (omega arith) (omega arith) once
+        (get_or-map (λ (pair : ℕ × ℕ). pair.0) pairs k (0, 0) 0 (omega arith) ∙ twice.2 ∙ sym (get_or-map (λ (pair : ℕ × ℕ). pair.0) pairs (k + 1) (0, 0) 0 under))
+
+-- numbers that rise are distinct
+none-above : (number : ℕ) (pairs : List (ℕ × ℕ)) → All (λ (pair : ℕ × ℕ). number < pair.0) pairs → times number (map (λ (pair : ℕ × ℕ). pair.0) pairs) ≡ 0
+none-above number [] above = refl
+none-above number (pair ∷ pairs) above =
+    let rest = none-above number pairs (All-tail (λ (pair : ℕ × ℕ). number < pair.0) pair pairs above) in
+    let here = All-head (λ (pair : ℕ × ℕ). number < pair.0) pair pairs above in
+    let more = sum_by-cons (λ (y : ℕ). cond (number == y) 1 0) pair.0 (map (λ (pair : ℕ × ℕ). pair.0) pairs) in
+    let c : cond {A = ℕ} (number == pair.0) 1 0 ≡ 0 = ap (λ (t : Bool). cond {A = ℕ} t 1 0) (ne_eqb number pair.0 (omega arith)) in
+    omega arith
+
+rising-once : (number : ℕ) (pairs : List (ℕ × ℕ)) → Ascends pairs → times number (map (λ (pair : ℕ × ℕ). pair.0) pairs) ≤ 1
+rising-once number [] up = omega arith
+rising-once number (pair ∷ pairs) up = ⊎_elim here (other (rising-once number pairs (λ i j d before under. up (suc i) (suc j) d (omega arith) (omega arith)))) (cases_Bool (number == pair.0))
+  where
+    more : times number (map (λ (pair : ℕ × ℕ). pair.0) (pair ∷ pairs)) ≡ cond {A = ℕ} (number == pair.0) 1 0 + times number (map (λ (pair : ℕ × ℕ). pair.0) pairs)
+    more = sum_by-cons (λ (y : ℕ). cond (number == y) 1 0) pair.0 (map (λ (pair : ℕ × ℕ). pair.0) pairs)
+
+    here : (number == pair.0) ≡ true → times number (map (λ (pair : ℕ × ℕ). pair.0) (pair ∷ pairs)) ≤ 1
+    here is =
+        let same : number ≡ pair.0 = eqb-true number pair.0 is in
+        let none = none-above pair.0 pairs (λ k d under. up 0 (suc k) d (omega arith) (omega arith)) in
+        let moved = ap (λ n. times n (map (λ (pair : ℕ × ℕ). pair.0) pairs)) same in
+        let c : cond {A = ℕ} (number == pair.0) 1 0 ≡ 1 = ap (λ (t : Bool). cond {A = ℕ} t 1 0) is in
+        omega (arith, more)
+
+    other : times number (map (λ (pair : ℕ × ℕ). pair.0) pairs) ≤ 1 → (number == pair.0) ≡ false → times number (map (λ (pair : ℕ × ℕ). pair.0) (pair ∷ pairs)) ≤ 1
+    other rest is =
+        let c : cond {A = ℕ} (number == pair.0) 1 0 ≡ 0 = ap (λ (t : Bool). cond {A = ℕ} t 1 0) is in
+        omega (arith, more, rest)
+
+there-counts : (number : ℕ) (numbers : List ℕ) → list_any (λ x. number == x) numbers ≡ true → 1 ≤ times number numbers
+there-counts number [] is = absurd (cc)
+there-counts number (x ∷ xs) is = ⊎_elim here (later (there-counts number xs)) (cases_Bool (number == x))
+  where
+    more : times number (x ∷ xs) ≡ cond {A = ℕ} (number == x) 1 0 + times number xs
+    more = sum_by-cons (λ (y : ℕ). cond (number == y) 1 0) x xs
+
+    here : (number == x) ≡ true → 1 ≤ times number (x ∷ xs)
+    here t = let c : cond {A = ℕ} (number == x) 1 0 ≡ 1 = ap (λ (b : Bool). cond {A = ℕ} b 1 0) t in omega (arith, more)
+
+    later : (list_any (λ x. number == x) xs ≡ true → 1 ≤ times number xs) → (number == x) ≡ false → 1 ≤ times number (x ∷ xs)
+    later again f =
+        let rest : list_any (λ x. number == x) xs ≡ true = sym (ap (λ b. b || list_any (λ x. number == x) xs) f) ∙ is in
+        let a = again rest in
+        omega (arith, more)
+
+once-distinct : (numbers : List ℕ) → ((number : ℕ) → times number numbers ≤ 1) → all_distinct numbers ≡ true
+once-distinct [] once = refl
+once-distinct (x ∷ xs) once =
+    and_from (not (list_any (λ y. x == y) xs)) (all_distinct xs) (not_from_false (list_any (λ y. x == y) xs) (⊎_elim twice (λ f. f) (cases_Bool (list_any (λ y. x == y) xs))))
+    (once-distinct xs (λ n. let more = sum_by-cons (λ (y : ℕ). cond (n == y) 1 0) x xs in let o = once n in omega arith))
+  where
+    twice : list_any (λ y. x == y) xs ≡ true → list_any (λ y. x == y) xs ≡ false
+    twice t =
+        let more = sum_by-cons (λ (y : ℕ). cond (x == y) 1 0) x xs in
+        let c : cond {A = ℕ} (x == x) 1 0 ≡ 1 = ap (λ (b : Bool). cond {A = ℕ} b 1 0) (eq-eqb x x refl) in
+        let a = there-counts x xs t in
+        let o = once x in
+        absurd (omega arith)
+
+pub rising-distinct : (numbers : List ℕ) (pairs : List (ℕ × ℕ)) (space : ℕ) → IsSortedTable numbers pairs space → Ascends pairs → all_distinct (numbers_in numbers) ≡ true
+rising-distinct numbers pairs space table up =
+    once-distinct (numbers_in numbers) (λ number. let P : ℕ → Type 0 = λ n. n ≤ 1 in subst P (table.same number) (rising-once number pairs up))
+
+-- neighbours that rise
+pub rising-all : (pairs : List (ℕ × ℕ)) → ((k : ℕ) → k + 1 < length pairs → (get_or pairs k (0, 0)).0 < (get_or pairs (k + 1) (0, 0)).0) → Ascends pairs
+rising-all pairs each i j d before under = go (j - (i + 1)) j (omega arith) under
+  where
+    go : (n j : ℕ) → j ≡ i + 1 + n → j < length pairs → (get_or pairs i d).0 < (get_or pairs j d).0
+    go zero j is within =
+        let e : j ≡ i + 1 = omega arith in
+        let step = each i (omega arith) in
+        let a = ap (λ (p : ℕ × ℕ). p.0) (get_or_default pairs i (0, 0) d (omega arith)) in
+        let b = ap (λ (p : ℕ × ℕ). p.0) (get_or_default pairs (i + 1) (0, 0) d (omega arith)) in
+        let c = ap (λ k. (get_or pairs k d).0) e in
+        omega arith
+    go (suc n) j is within =
+        let before = go n (i + 1 + n) refl (omega arith) in
+        let step = each (i + 1 + n) (omega arith) in
+        let e : j ≡ i + 1 + n + 1 = omega arith in
+        let a = ap (λ (p : ℕ × ℕ). p.0) (get_or_default pairs (i + 1 + n) (0, 0) d (omega arith)) in
+        let b = ap (λ (p : ℕ × ℕ). p.0) (get_or_default pairs (i + 1 + n + 1) (0, 0) d (omega arith)) in
+        let c = ap (λ k. (get_or pairs k d).0) e in
         omega arith

@@ -1,12 +1,12 @@
 // Numbers in places.
-ghost use Rattle.std.specs.Prelude.{◌≡◌, ◌≢◌, ◌≤◌, ◌<◌, ◌+◌, ◌^◌, ◌==◌, IfOk, Some, false, length, map, position, replicate, slice_index, slice_set, true};
+ghost use Rattle.std.specs.Prelude.{◌≡◌, ◌≢◌, ◌≤◌, ◌<◌, ◌+◌, ◌^◌, ◌==◌, if◌then◌else◌, IfOk, None, Some, false, length, map, position, replicate, slice_index, slice_set, true};
 ghost use Rattle.std.specs.List.{list_any};
 ghost use Rattle.mg_model.specs.Tests.{all_distinct};
 ghost use Rattle.mg_index.specs.Words.{numbers_in};
 ghost use Rattle.mg_index.specs.Pairs.{Ascends, IsExact};
 ghost use Rattle.mg_index.specs.Words.{unless_within};
 
-use crate::pairs::{count_below, free_places, part_of, sorted_pairs};
+use crate::pairs::{count_below, free_places, part_of, rise, sorted_pairs};
 use std::alloc::{AllocError, Global};
 use std::marker::Model;
 
@@ -47,19 +47,22 @@ impl Index {
         })
     }
 
-    /// These numbers in their places, 0 for a free one: at most 65,536 places, and no number twice. All memory that they
-    /// will need is taken here.
-    pub fn of(alloc: Global, numbers: Vec<u64>) -> Result<Index, AllocError>
-        requires few { length numbers.items ≤ 65536 }
-        requires distinct { all_distinct (numbers_in numbers.items) ≡ true }
-        ensures { IfOk result (λ all. all ≡ numbers.items) }
+    /// These numbers in their places, 0 for a free one, in at most 65,536 places: none where a number stands twice. All
+    /// memory that they will need is taken here.
+    pub fn of(alloc: Global, numbers: Vec<u64>) -> Result<Option<Index>, AllocError>
+        requires { length numbers.items ≤ 65536 }
+        ensures { IfOk result (λ made. made ≡ (if all_distinct (numbers_in numbers.items) then Some numbers.items else None)) }
     {
         let pairs = sorted_pairs(alloc, &numbers)?;
-        Ok(Index {
-            numbers,
-            pairs,
-            low: 0,
-        })
+        if rise(&pairs) {
+            Ok(Some(Index {
+                numbers,
+                pairs,
+                low: 0,
+            }))
+        } else {
+            Ok(None)
+        }
     }
 
     /// How many places there are.

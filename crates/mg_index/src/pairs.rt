@@ -1,22 +1,35 @@
 // A list of numbers and their places, which ascends by number.
-ghost use Rattle.std.specs.Prelude.{◌≡◌, ◌≤◌, ◌<◌, ◌+◌, ◌^◌, [], All, IfOk, length, map, true};
+ghost use Rattle.std.specs.Prelude.{◌≡◌, ◌≤◌, ◌<◌, ◌+◌, ◌^◌, [], All, IfOk, length, false, map, true};
 ghost use Rattle.std.specs.List.{AllWithin};
+ghost use Rattle.std.specs.List.Sorted.{IsNonDecreasingBy};
 ghost use Rattle.std.specs.Vec.{vec_capacity};
-ghost use Rattle.mg_model.specs.Tests.{all_distinct};
 ghost use Rattle.mg_index.specs.Words.{numbers_in};
-ghost use Rattle.mg_index.specs.Pairs.{Ascends, IsExact, IsPart, IsSortedTable, freed};
+ghost use Rattle.mg_index.specs.Pairs.{Ascends, HasTwice, IsExact, IsPart, IsSortedTable, freed};
 
 use std::alloc::{AllocError, Global};
 
 /// The numbers of a table with their places, ascending by number, in room for a number in each place.
 pub(crate) fn sorted_pairs(alloc: Global, numbers: &[u64]) -> Result<Vec<(u64, u64)>, AllocError>
-    requires { all_distinct (numbers_in numbers.now) ≡ true }
     ensures { IfOk result (λ pairs. IsSortedTable numbers.now pairs.items (vec_capacity pairs)) }
 {
     let mut pairs = Vec::with_capacity(alloc, numbers.len())?;
     list_pairs(numbers, &mut pairs);
     pairs.sort_unstable_by_key(|pair| pair.0);
     Ok(pairs)
+}
+
+/// Whether each number is above the one before it, in pairs that do not fall.
+pub(crate) fn rise(pairs: &[(u64, u64)]) -> bool
+    requires { IsNonDecreasingBy (λ pair. pair.0) pairs.now }
+    ensures rising { result ≡ true → Ascends pairs.now }
+    ensures twice { result ≡ false → HasTwice pairs.now }
+{
+    for i in 1..pairs.len() {
+        if pairs[i].0 <= pairs[i - 1].0 {
+            return false;
+        }
+    }
+    true
 }
 
 // Lists the numbers of a table with their places, place by place.

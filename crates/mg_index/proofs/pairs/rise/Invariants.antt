@@ -1,0 +1,6 @@
+use Rattle.std.proofs.Common.{◌+◌, ◌<◌, ℕ, get_or}
+use Rattle.mg_index.proofs.pairs.rise.Given as goal
+
+-- each number so far is above the one before it
+abbrev pub invariant-loop-i : goal.invariant-loop-i
+invariant-loop-i l = (k : ℕ) → k + 1 < l.i → (get_or l.pairs k (0, 0)).0 < (get_or l.pairs (k + 1) (0, 0)).0
