@@ -1,5 +1,5 @@
 // The pages of a volume, and what is staged.
-ghost use Rattle.std.specs.Prelude.{[], List, ◌≡◌, ◌≢◌, ◌⊎◌, ◌≤◌, ◌<◌, ◌+◌, ◌%◌, ◌^◌, ◌==◌, ◌&&◌, nat_le, nat_lt, ℕ, true, false, IfOk, IsSomeAnd, OnErr, OnOk, length, map, replicate, slice_index, slice_set, if◌then◌else◌, take, drop};
+ghost use Rattle.std.specs.Prelude.{[], List, ◌≡◌, ◌≢◌, ◌⊎◌, ◌≤◌, ◌<◌, ◌+◌, ◌%◌, ◌^◌, ◌==◌, ◌&&◌, nat_le, nat_lt, ℕ, true, false, IfOk, IsOk, IsSomeAnd, OnErr, OnOk, length, map, replicate, slice_index, slice_set, if◌then◌else◌, take, drop};
 ghost use Rattle.std.specs.List.{list_any};
 ghost use Rattle.std.specs.Option.{ForSome};
 ghost use Rattle.mg_disk.specs.Disk.{block_at, SameBut};
@@ -84,6 +84,7 @@ impl Pages {
         ensures coming { (image : List (List ℕ)) → coming self.new image ≡ coming self.old image }
         ensures shape { SameShape self.old self.new }
         ensures unstaged { staged_of self.new ≡ 0 }
+        ensures words { words_in self.new ≡ words_in self.old }
         ensures writes { WritesNothing D.Disk disk.old disk.new }
         ensures cause { OnErr result (CountRose D.Disk disk.old disk.new) }
         ensures count { CountGoes D.Disk disk.old disk.new }
@@ -208,8 +209,8 @@ impl Pages {
         self.writes.stage(block, from);
     }
 
-    /// Makes what is staged durable. With nothing staged no call is made. After [`Failed`], which comes only where a call
-    /// of the disk failed, the pages are not live: the disk has the old contents or the new.
+    /// Makes what is staged durable. With nothing staged no call is made, and the answer is Ok. After [`Failed`], which comes
+    /// only where a call of the disk failed, the pages are not live: the disk has the old contents or the new.
     pub fn commit<D: Disk>(&mut self, disk: &mut D) -> Result<(), Failed>
         requires live { is_live self.old ≡ true }
         requires stands { StandsOn D.Disk self.old disk.old }
@@ -225,6 +226,7 @@ impl Pages {
         ensures live { OnOk result (is_live self.new ≡ true) }
         ensures dead { OnErr result (is_live self.new ≡ false) }
         ensures words { words_in self.new ≡ words_in self.old }
+        ensures nothing { staged_of self.old ≡ 0 → (disk.new ≡ disk.old) × IsOk result }
         ensures cause { OnErr result (CountRose D.Disk disk.old disk.new) }
         ensures count { CountGoes D.Disk disk.old disk.new }
         ensures blocks { D.block_count disk.new ≡ D.block_count disk.old }

@@ -1,5 +1,6 @@
 use Rattle.std.proofs.Common.{◌∙◌, ap, length, refl, subst, sym}
 use Rattle.std.specs.Prelude.{◌⊎◌, IsSomeAnd, is_ok}
+use Rattle.std.proofs.lemmas.List.{nil_from_length}
 use Rattle.mg_disk.specs.Runs.{leaves_wider}
 use Rattle.mg_journal.specs.CommitRuns.{some_of}
 use Rattle.mg_journal.specs.Contents.{NewContents, SameContents}
@@ -112,3 +113,15 @@ pub returns-in-Err-clause-table : goal.returns-in-Err-clause-table
 returns-in-Err-clause-table g c =
     let i = c.self.inside in
     table-is c.commit.new.self i.frames i.writes i.count _ refl ∙ sym (table-is i.store i.frames i.writes i.count c.args.self.now c.self.view_is)
+
+pub returns-in-Ok-clause-nothing : goal.returns-in-Ok-clause-nothing
+returns-in-Ok-clause-nothing g c none =
+    let i = c.self.inside in
+    let empty = nil_from_length i.writes (sym (staged-is i.store i.frames i.writes i.count c.args.self.now c.self.view_is) ∙ none) in
+    ((c.commit.ensures.no_call empty).0, refl)
+
+pub returns-in-Err-clause-nothing : goal.returns-in-Err-clause-nothing
+returns-in-Err-clause-nothing g c none =
+    let i = c.self.inside in
+    let empty = nil_from_length i.writes (sym (staged-is i.store i.frames i.writes i.count c.args.self.now c.self.view_is) ∙ none) in
+    ((c.commit.ensures.no_call empty).0, rw c.in-Err.is at (c.commit.ensures.no_call empty).1)

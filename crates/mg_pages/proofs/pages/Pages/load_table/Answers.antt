@@ -1,9 +1,9 @@
-use Rattle.std.proofs.Common.{◌∙◌, ap, replicate, subst, sym}
+use Rattle.std.proofs.Common.{◌∙◌, ap, refl, replicate, subst, sym}
 use Rattle.std.proofs.lemmas.Result.{on_ok_weaker}
 use Rattle.mg_journal.specs.Standing.{Stands}
 use Rattle.mg_pages.proofs.Loaded.{loaded-coming, loaded-stands, loaded-staged, loaded-table}
 use Rattle.mg_pages.proofs.OneBlock.{same-shape}
-use Rattle.mg_pages.proofs.Opened.{count-is, store-is, table-is}
+use Rattle.mg_pages.proofs.Opened.{count-is, store-is, table-is, words-is}
 use Rattle.mg_pages.proofs.pages.Pages.load_table.Goals as goal
 
 pub load_entries-requires-clause-stands : goal.load_entries-requires-clause-stands
@@ -49,3 +49,8 @@ pub returns-clause-unstaged : goal.returns-clause-unstaged
 returns-clause-unstaged g c =
     let i = c.self.inside in
     loaded-staged i.store i.frames c.load_entries.new.frames i.writes i.count c.args.self.now c.self.view_is c.requires.unstaged
+
+pub returns-clause-words : goal.returns-clause-words
+returns-clause-words g c =
+    let i = c.self.inside in
+    words-is i.store c.load_entries.new.frames i.writes i.count _ refl ∙ sym (words-is i.store i.frames i.writes i.count c.args.self.now c.self.view_is)
