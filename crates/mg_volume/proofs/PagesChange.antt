@@ -18,7 +18,7 @@ use Rattle.mg_pages.specs.Meaning as pages
 use Rattle.mg_volume.proofs.FreeFrame.{free_frame}
 use Rattle.mg_volume.specs.Again.{with_pages}
 use Rattle.mg_volume.specs.Held.{VolumeHeld}
-use Rattle.mg_volume.specs.Meaning.{IsHeld, IsKept, Keeps, has_page, is_live, is_page_in, is_sound, now_of, objects_in, staged_of, threads_in, total_of}
+use Rattle.mg_volume.specs.Meaning.{IsHeld, IsKept, Keeps, SameParts, accounts_in, counters_in, has_page, is_live, is_page_in, is_sound, now_of, objects_in, settings_in, staged_of, threads_in, total_of}
 use Rattle.mg_volume.specs.PageWords.{objects-set, word-spelled}
 use Rattle.mg_volume.specs.Sound.{all_spelled, is_sound_held, sound_is}
 
@@ -26,6 +26,10 @@ use Rattle.mg_volume.specs.Sound.{all_spelled, is_sound_held, sound_is}
 pub same_objects : (v : VolumeHeld) (p : PagesHeld) → objects_in (with_pages v p) ≡ objects_in v
 unfolding objects_in
 same_objects v p = refl
+
+pub same_parts : (v : VolumeHeld) (p : PagesHeld) → SameParts v (with_pages v p)
+unfolding settings_in counters_in accounts_in threads_in
+same_parts v p = record { settings = refl; counters = refl; accounts = refl; threads = refl }
 
 pub same_sound : (v : VolumeHeld) (p : PagesHeld) (image image' : Image) → is_sound (now_of (with_pages v p) image') ≡ is_sound (now_of v image)
 unfolding objects_in threads_in

@@ -153,3 +153,10 @@ pub record SameShape (old new : VolumeHeld) : Type 0 where
   pub total : total_of new ≡ total_of old
   pub live : is_live new ≡ is_live old
   pub words : words_in new ≡ words_in old
+
+-- the parts of the state beside the objects are as they were
+pub record SameParts (old new : VolumeHeld) : Type 0 where
+  pub settings : settings_in new ≡ settings_in old
+  pub counters : counters_in new ≡ counters_in old
+  pub accounts : accounts_in new ≡ accounts_in old
+  pub threads : threads_in new ≡ threads_in old

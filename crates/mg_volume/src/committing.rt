@@ -1,9 +1,9 @@
 // Commits of a volume.
-ghost use Rattle.std.specs.Prelude.{◌≡◌, ◌⊎◌, true, false, IsTrue, OnErr, OnOk};
+ghost use Rattle.std.specs.Prelude.{◌≡◌, ◌⊎◌, true, false, IsOk, IsTrue, OnErr, OnOk};
 ghost use Rattle.std.specs.Option.{ForSome};
 ghost use Rattle.mg_disk.specs.Stops.{CountGoes, CountRose, Leaves};
 ghost use Rattle.mg_model.specs.Volume.{Is, volume};
-ghost use Rattle.mg_volume.specs.Meaning.{StandsOn, is_live, is_sound, now_of, objects_in, staged_of, total_of, words_in};
+ghost use Rattle.mg_volume.specs.Meaning.{SameParts, StandsOn, is_live, is_sound, now_of, objects_in, staged_of, total_of, words_in};
 ghost use Rattle.mg_volume.specs.Opening.{Holds};
 
 use crate::volume::Volume;
@@ -11,8 +11,8 @@ use mg_disk::Disk;
 use mg_faults::Failed;
 
 impl Volume {
-    /// Makes what is staged durable. After [`Failed`], which comes only where a call of the disk failed, the volume is not
-    /// live: the disk has the old state or the new.
+    /// Makes what is staged durable. With nothing staged no call of the disk is made, and the answer is Ok. After [`Failed`],
+    /// which comes only where a call of the disk failed, the volume is not live: the disk has the old state or the new.
     pub fn commit<D: Disk>(&mut self, disk: &mut D) -> Result<(), Failed>
         requires live { IsTrue (is_live self.old) }
         requires stands { StandsOn D.Disk self.old disk.old }
@@ -30,6 +30,8 @@ impl Volume {
         ensures cause { OnErr result (CountRose D.Disk disk.old disk.new) }
         ensures count { CountGoes D.Disk disk.old disk.new }
         ensures blocks { D.block_count disk.new ≡ D.block_count disk.old }
+        ensures parts { SameParts self.old self.new }
+        ensures nothing { staged_of self.old ≡ 0 → (disk.new ≡ disk.old) × IsOk result }
     {
         self.pages.commit(disk)
     }

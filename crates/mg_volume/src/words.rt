@@ -4,7 +4,7 @@ ghost use Rattle.std.specs.Option.{ForSome};
 ghost use Rattle.mg_disk.specs.Stops.{CountRose};
 ghost use Rattle.mg_model.specs.Objects.{with_word, word_at};
 ghost use Rattle.mg_volume.specs.Calls.{Reads, Serves};
-ghost use Rattle.mg_volume.specs.Meaning.{Keeps, StandsOn, has_page, is_sound, now_of, objects_in, staged_of, total_of};
+ghost use Rattle.mg_volume.specs.Meaning.{Keeps, SameParts, StandsOn, has_page, is_sound, now_of, objects_in, staged_of, total_of};
 ghost use Rattle.mg_volume.specs.Staging.{ObjectsStillStaged};
 
 use crate::volume::Volume;
@@ -60,6 +60,7 @@ impl Volume {
         ensures one { OnOk result (steps.new ≡ steps.old + 1) }
         ensures none { OnErr result (steps.new ≡ steps.old) }
         ensures cause { OnErr result (CountRose D.Disk disk.old disk.new) }
+        ensures parts { SameParts self.old self.new }
     {
         let _staged = self.pages.staged();
         self.pages.set_word(disk, page, index, value, steps)

@@ -7,7 +7,7 @@ use Rattle.mg_model.specs.Volume.{Is, volume}
 use Rattle.mg_pages.specs.Committing.{HasContents}
 use Rattle.mg_pages.specs.Meaning as pages
 use Rattle.mg_volume.proofs.CommitChange.{held_now, left_volume, stands_now}
-use Rattle.mg_volume.proofs.PagesChange.{held_same, same_objects, same_sound}
+use Rattle.mg_volume.proofs.PagesChange.{held_same, same_objects, same_parts, same_sound}
 use Rattle.mg_volume.specs.Again.{pages_stand}
 use Rattle.mg_volume.specs.Meaning.{is_live, now_of, staged_of, total_of, words_in}
 use Rattle.mg_volume.specs.contracts.volume.Volume.{the_view}
@@ -89,3 +89,10 @@ returns-clause-dead g c = c.commit.ensures.dead
 pub returns-clause-words : goal.returns-clause-words
 unfolding words_in
 returns-clause-words g c = rw (← c.self.view_is) c.commit.ensures.words
+
+pub returns-clause-parts : goal.returns-clause-parts
+returns-clause-parts g c = rw (← c.self.view_is) (same_parts (the_view c.self.inside) c.commit.new.self)
+
+pub returns-clause-nothing : goal.returns-clause-nothing
+unfolding staged_of
+returns-clause-nothing g c none = c.commit.ensures.nothing (rw (← c.self.view_is) at none)

@@ -1,6 +1,6 @@
 use Rattle.std.proofs.Common.{◌∙◌, ap, inl, inr, refl, ⊎_elim}
 use Rattle.std.proofs.lemmas.Result.{on_err_weaker, on_ok_weaker}
-use Rattle.mg_volume.proofs.PagesChange.{counted, frame_free, held_again, keeps_now, rows_same, same_objects, same_sound, some_page, word_set}
+use Rattle.mg_volume.proofs.PagesChange.{counted, frame_free, held_again, keeps_now, rows_same, same_objects, same_parts, same_sound, some_page, word_set}
 use Rattle.mg_volume.proofs.StillStaged.{objects_wait, still_staged}
 use Rattle.mg_volume.specs.Again.{pages_stand, stands_same, with_pages}
 use Rattle.mg_volume.specs.Meaning.{has_page, is_live, staged_of, total_of, words_in}
@@ -71,3 +71,6 @@ pub returns-clause-objects : goal.returns-clause-objects
 returns-clause-objects g c =
     let v = the_view c.self.inside in
     rw (← c.self.view_is) (objects_wait v (with_pages v c.set_word.new.self) refl c.set_word.ensures.staged.still)
+
+pub returns-clause-parts : goal.returns-clause-parts
+returns-clause-parts g c = rw (← c.self.view_is) (same_parts (the_view c.self.inside) c.set_word.new.self)
