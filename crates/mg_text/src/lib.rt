@@ -2,7 +2,8 @@
 //!
 //! A line of the input is read in one pass, with its words as slices of it, and a reply is written into a buffer of 256
 //! bytes; neither allocates. What the layer above learns is an equation for each call: what was read or written is what
-//! the definitions in `mg_model` say (`Words`, `Lines`, `Print`). Only the words for the code's own steps stand in `specs/`.
+//! the definitions in `mg_model` say (`Words`, `Lines`, `Print`), and that a line asks for no call that is not built
+//! (`Built`). The whole table of calls is read; to build a call, its word joins the words that are built.
 #![tactic(auto)]
 
 mod args;
