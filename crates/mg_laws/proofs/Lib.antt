@@ -18,6 +18,7 @@ mod LinesInRange
 mod Lowest
 mod LowestPages
 mod NextReady
+mod NoLater
 mod Passed
 mod RefusedLeaves
 mod ReplyWords

@@ -21,8 +21,8 @@ use Rattle.mg_model.specs.Threads.{free_number, is_thread}
 use Rattle.mg_model.specs.Turn.{after_of, picked, run_next, thread_call, turn, turn_state}
 
 -- an answer that is no refusal
-record IsOk (answer : Reply) : Type 0 where
-  ok : (word : Refusal) → answer ≡ reply.No word → ⊥
+pub record IsOk (answer : Reply) : Type 0 where
+  pub ok : (word : Refusal) → answer ≡ reply.No word → ⊥
 
 -- if the answer is a refusal, the new state is the old one
 record Leaves (state new : State) (answer : Reply) : Type 0 where
@@ -35,28 +35,28 @@ row-leaves (Some refused) state done is = record { leaves = λ word no. refl }
 same-leaves : (state : State) (answer : Reply) → Leaves state state answer
 same-leaves state answer = record { leaves = λ word no. refl }
 
-done-ok : IsOk reply.Done
+pub done-ok : IsOk reply.Done
 done-ok = record { ok = λ word no. cc }
 
-value-ok : (w : ℕ) → IsOk (reply.Value w)
+pub value-ok : (w : ℕ) → IsOk (reply.Value w)
 value-ok w = record { ok = λ word no. cc }
 
-count-ok : (n : ℕ) → IsOk (reply.Count n)
+pub count-ok : (n : ℕ) → IsOk (reply.Count n)
 count-ok n = record { ok = λ word no. cc }
 
-made-ok : (base password : ℕ) → IsOk (reply.Made base password)
+pub made-ok : (base password : ℕ) → IsOk (reply.Made base password)
 made-ok base password = record { ok = λ word no. cc }
 
-opened-ok : (number password : ℕ) → IsOk (reply.Opened number password)
+pub opened-ok : (number password : ℕ) → IsOk (reply.Opened number password)
 opened-ok number password = record { ok = λ word no. cc }
 
 about-ok : (base pages account passwords entries extension : ℕ) → IsOk (reply.About base pages account passwords entries extension)
 about-ok base pages account passwords entries extension = record { ok = λ word no. cc }
 
-funds-ok : (balance owed pages : ℕ) → IsOk (reply.Funds balance owed pages)
+pub funds-ok : (balance owed pages : ℕ) → IsOk (reply.Funds balance owed pages)
 funds-ok balance owed pages = record { ok = λ word no. cc }
 
-info-ok : (state : State) (b : ℕ) → IsOk (about (row_at state b))
+pub info-ok : (state : State) (b : ℕ) → IsOk (about (row_at state b))
 info-ok state b = about-ok _ _ _ _ _ _
 
 thread_call-leaves : (state : State) (t : ℕ) (made : Call) → Leaves state (thread_call state t made).0 (thread_call state t made).1
@@ -87,10 +87,10 @@ of_thread-leaves : (state : State) (t : ℕ) (done : Answer) → Leaves state do
 of_thread-leaves state t done leaves =
     cond_both (is_thread state t) done (state, reply.No refusal.NoThread) (λ (answer : Answer). Leaves state answer.0 answer.1) (λ _. leaves) (λ _. same-leaves state (reply.No refusal.NoThread))
 
-collected-ok : (period rate paid : ℕ) → IsOk (reply.Collected period rate paid)
+pub collected-ok : (period rate paid : ℕ) → IsOk (reply.Collected period rate paid)
 collected-ok period rate paid = record { ok = λ word no. cc }
 
-turned-ok : (after : After) → IsOk (reply.Turned after)
+pub turned-ok : (after : After) → IsOk (reply.Turned after)
 turned-ok after = record { ok = λ word no. cc }
 
 run_next-leaves : (state : State) (o : Option Thread) → Leaves state (run_next state o).0 (run_next state o).1

@@ -1,10 +1,10 @@
 -- Laws of the machine, as statements on its steps, its access and its input.
-use Rattle.std.specs.Prelude.{◌≡◌, ◌<◌, ◌≤◌, ◌+◌, ◌*◌, ℕ, Bool, true, false, List, All, None}
+use Rattle.std.specs.Prelude.{◌≡◌, ◌≢◌, ◌<◌, ◌≤◌, ◌+◌, ◌*◌, ℕ, Bool, true, false, List, All, None}
 use Rattle.mg_model.specs.declared.calls.Call.{Call}
 use Rattle.mg_model.specs.declared.calls.Call.TheVariants as call
 use Rattle.mg_model.specs.declared.calls.Line.{Line}
 use Rattle.mg_model.specs.declared.replies.Refusal.{Refusal}
-use Rattle.mg_model.specs.declared.replies.Refusal.TheVariants.{Idle}
+use Rattle.mg_model.specs.declared.replies.Refusal.TheVariants.{Idle, Later}
 use Rattle.mg_model.specs.declared.replies.Reply.{Reply}
 use Rattle.mg_model.specs.declared.replies.Reply.TheVariants.{No, Ran}
 use Rattle.mg_model.specs.declared.rights.Right.{Right}
@@ -109,3 +109,11 @@ RanNext state other = (other ≡ No Idle) × NoneReady state
 
 abbrev pub RunsNextReady : (State → Answer) → Type 0
 RunsNextReady next = (state : State) → IsWellFormed state → RanNext state (next state).1
+
+-- no call is refused by Later
+abbrev pub IsNeverLater : (State → ℕ → Call → Answer) → Type 0
+IsNeverLater calls = (state : State) (t : ℕ) (made : Call) → (calls state t made).1 ≢ No Later
+
+-- a line is answered Later only where its call is not built
+abbrev pub IsLaterWhereUnbuilt : (State → Line → Answer) → Type 0
+IsLaterWhereUnbuilt steps = (state : State) (line : Line) → (steps state line).1 ≡ No Later → line.call ≡ call.Later

@@ -6,12 +6,12 @@
 
 ghost use Rattle.mg_model.specs.Access.{allowed};
 ghost use Rattle.mg_model.specs.Fresh.{fresh};
-ghost use Rattle.mg_laws.specs.Laws.{AnswersWhateverState, BeginsWellFormed, FindsLowest, ReadsInRange, RefusedLeaves, RestsOnDomain, RunsKeepWellFormed, RunsNextReady, TakesLeastNumber, TakesLowest};
+ghost use Rattle.mg_laws.specs.Laws.{AnswersWhateverState, BeginsWellFormed, FindsLowest, IsLaterWhereUnbuilt, IsNeverLater, ReadsInRange, RefusedLeaves, RestsOnDomain, RunsKeepWellFormed, RunsNextReady, TakesLeastNumber, TakesLowest};
 ghost use Rattle.mg_model.specs.Lines.{lines};
 ghost use Rattle.mg_model.specs.Objects.{lowest_free};
 ghost use Rattle.mg_model.specs.Step.{after, step};
 ghost use Rattle.mg_model.specs.Threads.{free_number};
-ghost use Rattle.mg_model.specs.Turn.{next};
+ghost use Rattle.mg_model.specs.Turn.{next, thread_call};
 ghost use Rattle.mg_model.specs.WellFormed.{KeepsWellFormed};
 
 /// The fresh state of any settings is well formed, and each step keeps a state well formed: numbers stay in their ranges,
@@ -55,4 +55,10 @@ pub fn free_numbers_are_least()
 /// where no thread is Ready.
 pub fn next_runs_the_least_ready_thread()
     ensures { RunsNextReady next }
+{}
+
+/// Later is the answer to a line whose call is not built, and to no other: a script never sees it.
+pub fn only_unbuilt_calls_are_later()
+    ensures lines { IsLaterWhereUnbuilt step }
+    ensures calls { IsNeverLater thread_call }
 {}

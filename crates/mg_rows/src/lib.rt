@@ -2,7 +2,7 @@
 //!
 //! A layer above learns what some bytes spell: nothing, that a row is free ([`Spelled::Free`]), or a row. A row is spelled
 //! in one way alone, so a reader takes it exactly where its fields keep their rules and writing them gives the bytes back,
-//! and what was written is read as it was.
+//! and what was written is read as it was: [`rows_are_spelled_in_one_way`].
 //!
 //! Objects stand four in a block, and accounts 64: [`object_in`], [`account_in`] and [`put_object`] name a row by its place
 //! there, so that no layer above counts bytes.
