@@ -115,6 +115,7 @@ who_pays =
     ∷ (codes "rent", codes "ok 1 1 1")
     ∷ (codes "1 balance 2 0x1aed8da0b819d2bd", codes "ok 0 1 1")
     ∷ (codes "1 recharge 0x100000000 2 0x1aed8da0b819d2bd", codes "no Debt")
+    ∷ (codes "1 create 1 2 0x1aed8da0b819d2bd", codes "no Debt")
     ∷ (codes "1 pay 1 0x28bd8653e56a5d40 2 5", codes "ok")
     ∷ (codes "1 balance 2 0x1aed8da0b819d2bd", codes "ok 5 1 1")
     ∷ (codes "1 balance 1 0x28bd8653e56a5d40", codes "ok 995 0 1")
