@@ -11,6 +11,9 @@ const BLOCKS: u64 = 1300;
 /// The calls of an opening that finds no open segment.
 const OPENING: u64 = 17;
 
+/// The calls of one that finds a segment with two bodies open.
+const RECOVERY: u64 = 24;
+
 /// The calls of a commit of two blocks.
 const COMMIT: u64 = 11;
 
@@ -130,6 +133,36 @@ fn a_commit_is_whole_or_absent(rt: HostRuntime) -> Result<(), AllocError> {
             (Some(died), Some(failed)),
             "call {call}"
         );
+    }
+    Ok(())
+}
+
+// Where a commit stopped while the gate was opened or the homes were written, and the opening then dies after so many calls:
+// whether it was done, and what is new when it is made again.
+fn opened_again(
+    alloc: Global,
+    commit: u64,
+    opening: u64,
+) -> Result<(bool, Option<[bool; 3]>), AllocError>
+    requires few { commit ≤ 11 }
+{
+    let (_, stopped) = stopped_commit(alloc, commit)?;
+    let mut fuse = Fuse::new(stopped.stopped(alloc, Left::Gates)?, opening);
+    let is_open = Store::open(alloc, &mut fuse, BLOCKS).is_ok();
+    Ok((is_open, new_after(alloc, &fuse.into_inner())?))
+}
+
+#[test]
+fn a_stopped_opening_is_made_again(rt: HostRuntime) -> Result<(), AllocError> {
+    for commit in [5, 8] {
+        for opening in 0..=RECOVERY {
+            let wanted = (opening == RECOVERY, Some([true; 3]));
+            assert_eq!(rt;
+                opened_again(rt.alloc(), commit, opening)?,
+                wanted,
+                "{commit} {opening}"
+            );
+        }
     }
     Ok(())
 }

@@ -8,8 +8,6 @@
 
 mod calls;
 mod kernel;
-#[cfg(test)]
-mod tests;
 mod validating;
 mod words;
 

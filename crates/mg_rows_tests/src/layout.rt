@@ -1,5 +1,5 @@
 // Where the parts of a volume lie, its superblock, and what a fresh one holds.
-use mg_disk::{BLOCK_SIZE, Block, Counts, MemDisk};
+use mg_disk::{BLOCK_SIZE, Block, Counts, Disk, Fuse, Left, MemDisk};
 use mg_layout::{Geometry, Super, format, fresh_block, read_super, write_super};
 use mg_model::{Params, Tariff};
 use std::alloc::{AllocError, Global};
@@ -118,22 +118,92 @@ fn the_superblock(rt: HostRuntime) {
     assert!(rt; has_words(fresh(SEED, 1), &words));
 }
 
-// The calls that make a volume, where it was made.
-fn calls_of_format(alloc: Global) -> Result<Option<Counts>, AllocError> {
-    let mut disk = MemDisk::new(alloc, 2660, 1313, Vec::new(alloc))?;
-    match settings([0; 32]) {
-        Some(p) if format(&mut disk, &p).is_ok() => Ok(Some(disk.counts())),
-        _ => Ok(None),
+/// The calls that make a volume of 64 frames.
+const CALLS: u64 = 1313;
+
+// A disk of zeros with room for such a volume.
+fn zeros(alloc: Global) -> Result<MemDisk, AllocError> {
+    MemDisk::new(alloc, 2660, CALLS, Vec::new(alloc))
+}
+
+fn calls_of_format(alloc: Global, p: &Params) -> Result<Option<Counts>, AllocError> {
+    let mut disk = zeros(alloc)?;
+    match format(&mut disk, p) {
+        Ok(()) => Ok(Some(disk.counts())),
+        Err(_) => Ok(None),
     }
 }
 
 #[test]
 fn a_volume_is_made(rt: HostRuntime) -> Result<(), AllocError> {
+    let Some(p) = settings([0; 32]) else {
+        return Err(AllocError);
+    };
     let counts = Counts {
         reads: 0,
         writes: 1310,
         syncs: 3,
     };
-    assert_eq!(rt; calls_of_format(rt.alloc())?, Some(counts));
+    assert_eq!(rt; calls_of_format(rt.alloc(), &p)?, Some(counts));
+    Ok(())
+}
+
+// Whether block `i` of a disk begins with these bytes.
+fn begins(disk: &mut MemDisk, i: u64, bytes: &[u8]) -> bool {
+    let mut out = [0; BLOCK_SIZE];
+    i < disk.blocks() && disk.read(i, &mut out).is_ok() && out.starts_with(bytes)
+}
+
+// Whether block `i`, behind the gate, is written where a volume of 64 frames is made.
+fn is_written(i: u64) -> bool {
+    i == 1 || (i < 1298 && i % 162 == 2) || (i >= 1298 && i <= 2596)
+}
+
+fn has_fresh(disk: &mut MemDisk, p: &Params, i: u64) -> bool {
+    let mut fresh = [0; BLOCK_SIZE];
+    if i < Geometry::of(p.frames()).total {
+        fresh_block(p, i, &mut fresh);
+    }
+    begins(disk, i, &fresh)
+}
+
+// Whether a disk has no volume, or each block of the fresh one that is written.
+fn is_none_or_fresh(disk: &mut MemDisk, p: &Params) -> bool {
+    if !begins(disk, 0, &[0xA5]) || !begins(disk, 1, b"MUNGIVOL") {
+        return true;
+    }
+    for i in 1..2597 {
+        if is_written(i) && !has_fresh(disk, p, i) {
+            return false;
+        }
+    }
+    true
+}
+
+// Whether a volume was made on a disk that dies after so many calls, and whether each stop then leaves none or the fresh
+// one.
+fn dies_after(alloc: Global, p: &Params, calls: u64) -> Result<(bool, [bool; 3]), AllocError> {
+    let mut fuse = Fuse::new(zeros(alloc)?, calls);
+    let made = format(&mut fuse, p).is_ok();
+    let disk = fuse.into_inner();
+    let mut are_good = [false; 3];
+    for (left, is_good) in [Left::Old, Left::New, Left::Gates]
+        .into_iter()
+        .zip(&mut are_good)
+    {
+        *is_good = is_none_or_fresh(&mut disk.stopped(alloc, left)?, p);
+    }
+    Ok((made, are_good))
+}
+
+#[test]
+fn a_stop_leaves_none_or_the_fresh_one(rt: HostRuntime) -> Result<(), AllocError> {
+    let Some(p) = settings([0; 32]) else {
+        return Err(AllocError);
+    };
+    for calls in (0..21).chain(1290..CALLS + 1) {
+        let left = dies_after(rt.alloc(), &p, calls)?;
+        assert_eq!(rt; left, (calls == CALLS, [true; 3]), "after {calls} calls");
+    }
     Ok(())
 }

@@ -9,7 +9,6 @@ mod Replayed
 mod RowOrder
 mod SoundRows
 mod ToldSettings
-mod Trial
 pub mod BareRows
 pub mod BlockParts
 pub mod CommitChange

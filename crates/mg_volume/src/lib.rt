@@ -26,8 +26,6 @@ mod reading;
 mod settings;
 mod soundness;
 mod staging;
-#[cfg(test)]
-mod staging_tests;
 mod tables;
 mod thread_list;
 mod threads;

@@ -72,24 +72,3 @@ pub(crate) fn open_as<D: Disk>(
     };
     load(alloc, params, tables, store, disk)
 }
-
-#[cfg(test)]
-mod tests {
-    use crate::volume::Volume;
-    use mg_disk::MemDisk;
-    use mg_layout::format;
-    use mg_model::{Params, Tariff};
-    use std::alloc::AllocError;
-
-    #[test]
-    fn opens_a_fresh_volume(rt: HostRuntime) -> Result<(), AllocError> {
-        let mut disk = MemDisk::new(rt.alloc(), 2660, 6000, Vec::new(rt.alloc()))?;
-        let params = Params::new(64, [7; 32], 1000, Tariff::usual(64)).expect(&rt, "settings");
-        assert!(rt; format(&mut disk, &params).is_ok());
-        let volume = Volume::open(rt.alloc(), &mut disk).expect(&rt, "a volume");
-        assert!(rt; volume.params() == params);
-        assert!(rt; volume.thread(1).is_some() && volume.thread(2).is_none());
-        assert!(rt; volume.object(1 << 32).is_some());
-        Ok(())
-    }
-}

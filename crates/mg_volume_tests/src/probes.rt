@@ -1,9 +1,9 @@
-// Sessions on a volume in memory.
+// Probes of a volume in memory.
 ghost use Rattle.std.specs.Prelude.{◌≡◌, ◌<◌, IfOk};
 ghost use Rattle.mg_kernel.specs.Meaning.{StandsOn};
 
-use crate::kernel::Kernel;
 use mg_disk::{Disk, MemDisk};
+use mg_kernel::Kernel;
 use mg_layout::format;
 use mg_model::{Call, Line, Params, Reply, Right, Steps, Tariff};
 use std::alloc::Global;
@@ -32,24 +32,19 @@ fn opened<D: Disk>(alloc: Global, disk: &mut D) -> Result<Kernel, Fail>
     }
 }
 
-/// The reply to a call of thread 1, where there is room for what it stages.
-fn reply<D: Disk, L: Ledger>(
-    kernel: &mut Kernel,
-    disk: &mut D,
-    call: Call,
-    steps: &mut Steps<L>,
-) -> Option<Reply>
+/// Whether thread 1 empties the root's list, where there is room for what that stages.
+fn is_emptied<D: Disk, L: Ledger>(kernel: &mut Kernel, disk: &mut D, steps: &mut Steps<L>) -> bool
     requires { StandsOn D.Disk kernel.old disk.old }
     ensures { StandsOn D.Disk kernel.new disk.new }
 {
-    let is_built = matches!(
-        call,
-        Call::Load { .. } | Call::Store { .. } | Call::Info { .. }
-    );
-    if !is_built || !kernel.live() || kernel.staged() > 28 {
-        return None;
+    if !kernel.live() || kernel.staged() > 28 {
+        return false;
     }
-    kernel.step(disk, &Line { thread: 1, call }, steps).ok()
+    let call = Call::Store { a: ROOT, value: 0 };
+    match kernel.step(disk, &Line { thread: 1, call }, steps) {
+        Ok(reply) => reply == Reply::Done,
+        Err(_) => false,
+    }
 }
 
 /// What a probe answers, where there is room for what it stages.
@@ -73,35 +68,6 @@ fn is_committed<D: Disk>(kernel: &mut Kernel, disk: &mut D) -> bool
     requires { StandsOn D.Disk kernel.old disk.old }
 {
     kernel.live() && kernel.commit(disk).is_ok()
-}
-
-/// The replies before and after a store on a fresh volume, and after it was committed and the volume opened again.
-fn replies<L: Ledger>(alloc: Global, blank: Blank) -> Result<[Option<Reply>; 3], Fail>
-    requires name { blank.name ≡ L.name }
-    requires parts { blank.parts ≡ L.parts }
-    requires some { 0 < blank.parts }
-{
-    let mut steps = Steps::<L>::new(blank);
-    let mut disk = fresh(alloc)?;
-    let a = ROOT + 32;
-    let mut kernel = opened(alloc, &mut disk)?;
-    let before = reply(&mut kernel, &mut disk, Call::Load { a }, &mut steps);
-    let store = Call::Store { a, value: 5 };
-    let stored = reply(&mut kernel, &mut disk, store, &mut steps);
-    if !is_committed(&mut kernel, &mut disk) {
-        return Err("not committed".into());
-    }
-    let mut again = opened(alloc, &mut disk)?;
-    let after = reply(&mut again, &mut disk, Call::Load { a }, &mut steps);
-    Ok([before, stored, after])
-}
-
-#[test]
-fn a_committed_word_is_found_again(rt: HostRuntime) -> Result<(), Fail> {
-    let replies = replies::<Brand>(rt.alloc(), Blank::new(1))?;
-    let want = [Reply::Value(0), Reply::Done, Reply::Value(5)];
-    assert_eq!(rt; replies, want.map(Some));
-    Ok(())
 }
 
 /// A thread, an address and a right.
@@ -152,8 +118,7 @@ fn locked_out<L: Ledger>(alloc: Global, blank: Blank) -> Result<[Vec<Option<u64>
     let mut disk = fresh(alloc)?;
     let mut kernel = opened(alloc, &mut disk)?;
     let before = all_probed(alloc, &mut kernel, &mut disk, &mut steps)?;
-    let store = Call::Store { a: ROOT, value: 0 };
-    if reply(&mut kernel, &mut disk, store, &mut steps) != Some(Reply::Done) {
+    if !is_emptied(&mut kernel, &mut disk, &mut steps) {
         return Err("not stored".into());
     }
     let staged = all_probed(alloc, &mut kernel, &mut disk, &mut steps)?;
