@@ -1,9 +1,6 @@
-pub mod ChangedImages
-pub mod Formatting
-pub mod FreshBelow
-pub mod FreshBlocks
-pub mod FreshImage
-pub mod FreshVolume
-pub mod Laws
-pub mod MayFormat
+-- Definitions, in the order in which one reads them.
 pub mod SuperBlock
+pub mod FreshImage
+pub mod FreshBelow
+pub mod MayFormat
+pub mod Laws

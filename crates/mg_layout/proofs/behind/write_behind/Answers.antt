@@ -2,7 +2,7 @@ use Rattle.std.proofs.Common.{rules, refl, ap, ◌∙◌, ◌+◌, ◌≤◌, ar
 use Rattle.mg_disk.specs.Disk.{SameBut}
 use Rattle.mg_disk.specs.Runs.{stands, torn}
 use Rattle.mg_layout.specs.FreshBelow.{with_block}
-use Rattle.mg_layout.specs.Formatting.{map_more, map_none}
+use Rattle.mg_layout.proofs.FormatSteps.{map_more, map_none}
 use Rattle.mg_layout.proofs.behind.write_behind.Goals as goal
 
 pub loop-i-init : goal.loop-i-init

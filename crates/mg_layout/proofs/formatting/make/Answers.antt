@@ -3,8 +3,8 @@ use Rattle.std.proofs.lemmas.Result.{on_ok_weaker}
 use Rattle.mg_model.specs.Fresh.{fresh}
 use Rattle.mg_model.specs.Layout.{first_frame, total_blocks}
 use Rattle.mg_layout.specs.FreshBelow.{fresh_until}
-use Rattle.mg_layout.specs.FreshBlocks.{at_gate}
-use Rattle.mg_layout.specs.Formatting.{all_made, first_phase, second_phase, third_phase, with_closed, with_rest}
+use Rattle.mg_layout.proofs.FreshBlocks.{at_gate}
+use Rattle.mg_layout.proofs.FormatSteps.{all_made, first_phase, second_phase, third_phase, with_closed, with_rest}
 use Rattle.mg_layout.proofs.formatting.make.Goals as goal
 
 pub returns-in_err-write_firmly-clause-any_moment : goal.returns-in_err-write_firmly-clause-any_moment

@@ -15,9 +15,10 @@ use Rattle.mg_model.specs.Settings.{Settings, within_limits}
 use Rattle.mg_model.specs.Volume.{Is, NotVolume, VolumeRead, volume, gate_byte}
 use Rattle.mg_model.specs.VolumeReads.{volume-closed, volume-same_behind, volume-short}
 use Rattle.mg_model.specs.WellFormed.{IsSettings}
-use Rattle.mg_layout.specs.FreshBelow.{fresh_until, length-until, until-block, until-more, until-none, with_block, written-low}
+use Rattle.mg_layout.proofs.BlocksBelow.{length-until, until-block, until-more, until-none, written-low}
+use Rattle.mg_layout.specs.FreshBelow.{fresh_until, with_block}
 use Rattle.mg_layout.specs.FreshImage.{IsFreshImage, gate_bytes}
-use Rattle.mg_layout.specs.FreshVolume.{fresh_volume}
+use Rattle.mg_layout.proofs.FreshVolume.{fresh_volume}
 use Rattle.mg_layout.specs.MayFormat.{IsNoState, MayFormat, ReadsFresh, opened}
 
 -- what options of images become

@@ -24,7 +24,7 @@ use Rattle.mg_model.specs.SuperReads.{super_read-written}
 use Rattle.mg_model.specs.Volume.{Damaged, Is, account_row_bytes, fitting, live_rows, object_row_bytes, page_words, replayed_volume, rows_of, state_fits, state_spelled, table_entries, thread_row_bytes, volume, volume_behind, whole_table}
 use Rattle.mg_model.specs.VolumeReads.{rows-read, rows_with, settled-closed, state_with, volume-opened}
 use Rattle.mg_model.specs.WellFormed.{IsSettings}
-use Rattle.mg_layout.specs.FreshBlocks.{IsOther, at_accounts, at_frame, at_globals, at_objects, at_other, at_super, at_table, at_threads}
+use Rattle.mg_layout.proofs.FreshBlocks.{IsOther, at_accounts, at_frame, at_globals, at_objects, at_other, at_super, at_table, at_threads}
 use Rattle.mg_layout.specs.FreshImage.{IsFreshImage, accounts_bytes, frame_bytes, fresh_bytes, is_written, objects_bytes, table_bytes}
 
 -- blocks that are written

@@ -1,0 +1,5 @@
+pub mod BlocksBelow
+pub mod ChangedImages
+pub mod FormatSteps
+pub mod FreshBlocks
+pub mod FreshVolume
