@@ -1,7 +1,7 @@
 use Rattle.std.proofs.Common.{◌≡◌, ◌∙◌, rules, slice_set, arith}
 use Rattle.std.specs.Prelude.{option_map}
 use Rattle.mg_disk.specs.Runs.{nothing_then}
-use Rattle.mg_disk_trial.specs.Copy.{copied_more}
+use Rattle.mg_disk_trial.proofs.Copied.{copied_more}
 use Rattle.mg_disk_trial.proofs.copy.copy_blocks.Goals as goal
 
 pub loop-i-preserved : goal.loop-i-preserved

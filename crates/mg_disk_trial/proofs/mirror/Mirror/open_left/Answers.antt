@@ -1,5 +1,6 @@
 use Rattle.std.proofs.Common.{◌≡◌, None, rules}
-use Rattle.mg_disk_trial.specs.Copy.{IsCopied, copied_still}
+use Rattle.mg_disk_trial.proofs.Copied.{copied_still}
+use Rattle.mg_disk_trial.specs.Copy.{IsCopied}
 use Rattle.mg_disk_trial.proofs.mirror.Mirror.open_left.Goals as goal
 
 pub invariant_of-result-clause-same : goal.invariant_of-result-clause-same
