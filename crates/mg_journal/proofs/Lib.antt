@@ -1,7 +1,12 @@
 mod ApplySteps
 mod Bodies
+mod ClosingSteps
+mod CommitRuns
+mod CommitSteps
+mod Homes
 mod Lookups
 mod OpenSteps
+mod PhaseSteps
 mod RecoverSteps
 mod Spliced
 mod Waits

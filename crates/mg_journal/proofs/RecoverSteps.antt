@@ -9,7 +9,7 @@ use Rattle.mg_model.specs.Replay.{replay, written}
 use Rattle.mg_journal.specs.Applied.{filled}
 use Rattle.mg_journal.specs.Contents.{InJournal, SameContents, names}
 use Rattle.mg_journal.specs.Facts.{open_writes, replay-some, same_wider, seen_both}
-use Rattle.mg_journal.specs.Homes.{homes_torn, homes_written}
+use Rattle.mg_journal.proofs.Homes.{homes_torn, homes_written}
 use Rattle.mg_journal.specs.Places.{Fits, Placed}
 use Rattle.mg_journal.specs.Recovery.{IsClosedUpTo, IsRecovered, IsStill}
 use Rattle.mg_journal.proofs.ApplySteps.{filled_since}

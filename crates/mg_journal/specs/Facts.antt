@@ -1,4 +1,4 @@
--- What changes inside the journal do to the contents. No disk is spoken of.
+-- Lemmas on what changes inside the journal do to the contents. No disk is spoken of.
 use Rattle.std.specs.Prelude.{◌≡◌, ◌≢◌, ◌⊎◌, ◌+◌, ◌-◌, ◌≤◌, ◌<◌, ◌==◌, nat_le, ℕ, suc, true, false, List, [], ◌++◌, if◌then◌else◌, slice_index, option_map, Option, Some, None}
 use Rattle.std.proofs.Common.{sym, ap, subst, ◌∙◌, ⊎_elim, inl, inr, arith}
 use Rattle.std.proofs.lemmas.Bool.{and_parts, both_ways, cases_Bool, cases_eq}

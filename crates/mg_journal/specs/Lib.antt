@@ -1,17 +1,16 @@
-pub mod Applied
-pub mod CommitRuns
-pub mod CommitSteps
+-- Definitions, in the order in which one reads them: the contents, what the journal stands by, and what waits.
 pub mod Contents
-pub mod Facts
-pub mod Homes
-pub mod Looked
-pub mod PhaseSteps
+pub mod Standing
+pub mod Staged
+-- What the parts of a commit and of an opening do.
 pub mod Phases
 pub mod Places
+pub mod Looked
+pub mod Applied
 pub mod Recovery
-pub mod RecoverySteps
+-- Lemmas that Standing or crates above cite. None of them is part of a statement.
+pub mod Facts
+pub mod ResultLemmas
 pub mod Segments
-pub mod Staged
-pub mod Standing
 pub mod Words
 pub mod WrittenOver

@@ -1,4 +1,4 @@
--- What a replay takes from each segment, in images that are alike there.
+-- Lemmas on what a replay takes from each segment, in images that are alike there.
 use Rattle.std.specs.Prelude.{◌≡◌, ◌+◌, ◌*◌, ◌≤◌, ◌<◌, ◌==◌, ◌&&◌, nat_le, ℕ, zero, suc, true, false, [], ◌++◌, if◌then◌else◌, slice_index}
 use Rattle.std.proofs.Common.{refl, sym, ap, ◌∙◌, ⊎_elim, arith, append_assoc}
 use Rattle.std.proofs.lemmas.Bool.{and_from, and_left, and_parts, cases_Bool, cases_eq, leb-true}

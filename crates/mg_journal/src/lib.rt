@@ -6,7 +6,7 @@
 //! stay at each moment of it, and after Ok no segment is open.
 //!
 //! `specs/Contents.antt` and `specs/Standing.antt` have the words of the contracts. What changes inside the journal do to
-//! the contents is told by `specs/Facts.antt` (closed segments, and the gate of a written one) and `specs/Homes.antt`
+//! the contents is told by `specs/Facts.antt` (closed segments, and the gate of a written one) and `proofs/Homes.antt`
 //! (homes of open segments, and the closing of gates), for any segment and with no disk in them.
 #![tactic(auto)]
 

@@ -6,7 +6,7 @@ use Rattle.mg_disk.specs.Disk.{Image}
 use Rattle.mg_disk.specs.Runs.{leaves_quiet, leaves_then, leaves_wider, leaves_yet, only_image, still_seen}
 use Rattle.mg_disk.specs.Stops.{Leaves, NothingPending, WritesNothing}
 use Rattle.mg_disk.specs.declared.disk.Disk.{Ghosts}
-use Rattle.mg_journal.specs.CommitRuns.{some_of}
+use Rattle.mg_journal.specs.ResultLemmas.{some_of}
 use Rattle.mg_journal.specs.Contents.{SameContents}
 use Rattle.mg_model.specs.Layout.{total_blocks}
 use Rattle.mg_model.specs.Replay.{replay}

@@ -2,7 +2,7 @@ use Rattle.std.proofs.Common.{rules, ◌≡◌, ◌∙◌, ap, option_map, slice
 use Rattle.mg_disk.specs.Disk.{SameBut}
 use Rattle.mg_disk.specs.Runs.{torn}
 use Rattle.mg_journal.specs.Contents.{names}
-use Rattle.mg_journal.specs.PhaseSteps.{homes_more, named_item}
+use Rattle.mg_journal.proofs.PhaseSteps.{homes_more, named_item}
 use Rattle.mg_journal.specs.Staged.{bytes_of, home_at}
 use Rattle.mg_journal.proofs.committing.write_homes.Goals as goal
 

@@ -6,7 +6,7 @@ use Rattle.mg_disk.specs.Runs.{leaves_then, leaves_wider}
 use Rattle.mg_model.specs.Layout.{segment_count}
 use Rattle.mg_model.specs.Replay.{written}
 use Rattle.mg_journal.specs.Applied.{filled}
-use Rattle.mg_journal.specs.CommitRuns.{some_of}
+use Rattle.mg_journal.specs.ResultLemmas.{some_of}
 use Rattle.mg_journal.specs.Contents.{SameContents, names}
 use Rattle.mg_journal.specs.Recovery.{IsClosedUpTo, IsRecovered, IsStill}
 use Rattle.mg_journal.proofs.RecoverSteps.{came_back, own, recovered_to, some_weaker, while_applied, while_closed}

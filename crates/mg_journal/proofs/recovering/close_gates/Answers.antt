@@ -2,7 +2,7 @@ use Rattle.std.proofs.Common.{rules, refl, ◌∙◌, ◌≡◌, subst, arith}
 use Rattle.std.specs.Prelude.{IsSomeAnd}
 use Rattle.mg_model.specs.Layout.{segment_count}
 use Rattle.mg_journal.specs.Recovery.{IsClosedUpTo}
-use Rattle.mg_journal.specs.RecoverySteps.{begin_closing, close_more, close_run, close_seen, still_now}
+use Rattle.mg_journal.proofs.ClosingSteps.{begin_closing, close_more, close_run, close_seen, still_now}
 use Rattle.mg_journal.proofs.recovering.close_gates.Goals as goal
 
 pub loop-segment-init : goal.loop-segment-init

@@ -2,7 +2,7 @@ use Rattle.std.proofs.Common.{◌≡◌, ℕ, Some, is_some}
 use Rattle.std.specs.Option.{ForSome}
 use Rattle.mg_disk.specs.Stops.{CountGoes, NothingPending}
 use Rattle.mg_model.specs.Replay.{replay}
-use Rattle.mg_journal.specs.RecoverySteps.{IsClosing}
+use Rattle.mg_journal.proofs.ClosingSteps.{IsClosing}
 use Rattle.mg_journal.proofs.recovering.close_gates.Given as goal
 
 -- the segments before this one are closed

@@ -5,9 +5,9 @@ use Rattle.std.proofs.lemmas.Result.{on_ok_weaker}
 use Rattle.mg_disk.specs.Disk.{SameBut}
 use Rattle.mg_disk.specs.Runs.{torn}
 use Rattle.mg_model.specs.Layout.{segment_body}
-use Rattle.mg_journal.specs.CommitRuns.{mapped}
+use Rattle.mg_journal.proofs.CommitRuns.{mapped}
 use Rattle.mg_journal.specs.Phases.{HoldsWrites, IsBehind, with_bodies}
-use Rattle.mg_journal.specs.PhaseSteps.{bodies_more, holds_all}
+use Rattle.mg_journal.proofs.PhaseSteps.{bodies_more, holds_all}
 use Rattle.mg_journal.specs.Staged.{bytes_of}
 use Rattle.mg_journal.proofs.segment.write_segment.Goals as goal
 

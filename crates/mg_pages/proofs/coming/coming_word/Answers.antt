@@ -1,5 +1,5 @@
 use Rattle.std.proofs.Common.{◌≡◌, ◌<◌, ◌*◌, ◌∙◌, ap, arith, length, sym}
-use Rattle.mg_journal.specs.CommitRuns.{some_of}
+use Rattle.mg_journal.specs.ResultLemmas.{some_of}
 use Rattle.mg_journal.specs.Staged.{waiting}
 use Rattle.mg_model.specs.Bytes.{number_at}
 use Rattle.mg_pages.proofs.Awaited.{coming-none, coming-waiting}

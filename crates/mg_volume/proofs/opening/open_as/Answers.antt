@@ -4,7 +4,7 @@ use Rattle.std.specs.Option.{ForSome}
 use Rattle.std.proofs.lemmas.Result.{IfOk-weaker}
 use Rattle.mg_disk.specs.Disk.{Image}
 use Rattle.mg_disk.specs.Runs.{nothing_none}
-use Rattle.mg_journal.specs.CommitRuns.{some_of}
+use Rattle.mg_journal.specs.ResultLemmas.{some_of}
 use Rattle.mg_journal.specs.Standing as journal
 use Rattle.mg_model.specs.Volume.{volume}
 use Rattle.mg_volume.specs.Loading.{IsLoaded}

@@ -1,6 +1,6 @@
 use Rattle.std.proofs.Common.{◌≡◌, ◌∙◌, [], sym, subst}
 use Rattle.std.specs.Prelude.{IsSomeAnd}
-use Rattle.mg_journal.specs.CommitRuns.{empty_from, new_itself, yet}
+use Rattle.mg_journal.proofs.CommitRuns.{empty_from, new_itself, yet}
 use Rattle.mg_journal.specs.Contents.{NewContents}
 use Rattle.mg_journal.proofs.store.Store.commit.Goals as goal
 

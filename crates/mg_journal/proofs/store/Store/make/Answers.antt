@@ -4,8 +4,9 @@ use Rattle.std.proofs.lemmas.Result.{on_ok_weaker}
 use Rattle.mg_disk.specs.Places.{same_set}
 use Rattle.mg_model.specs.Layout.{globals_block}
 use Rattle.mg_model.specs.Replay.{written}
-use Rattle.mg_journal.specs.CommitRuns.{after_bodies, after_close, after_gate, after_homes, mapped, on_ok_both, some_of}
-use Rattle.mg_journal.specs.CommitSteps.{close_may, closed_after, homes_below}
+use Rattle.mg_journal.proofs.CommitRuns.{after_bodies, after_close, after_gate, after_homes, mapped}
+use Rattle.mg_journal.specs.ResultLemmas.{on_ok_both, some_of}
+use Rattle.mg_journal.proofs.CommitSteps.{close_may, closed_after, homes_below}
 use Rattle.mg_journal.specs.Contents.{NewContents}
 use Rattle.mg_journal.specs.Phases.{HoldsWrites}
 use Rattle.mg_journal.specs.Standing.{AllClosed, closed_fits, fits_closed}

@@ -1,5 +1,5 @@
 use Rattle.std.proofs.Common.{◌∙◌, ap, arith, is_some, sym, true}
-use Rattle.mg_journal.specs.CommitRuns.{some_of}
+use Rattle.mg_journal.specs.ResultLemmas.{some_of}
 use Rattle.mg_journal.specs.Contents.{SameContents}
 use Rattle.mg_journal.specs.Recovery.{IsRecovered}
 use Rattle.mg_journal.specs.Standing.{closed_fits}

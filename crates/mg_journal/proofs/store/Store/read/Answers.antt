@@ -3,7 +3,7 @@ use Rattle.std.specs.Option.{ForSome}
 use Rattle.std.proofs.lemmas.Result.{on_ok_weaker}
 use Rattle.mg_disk.specs.Disk.{block_at}
 use Rattle.mg_disk.specs.Runs.{still_seen}
-use Rattle.mg_journal.specs.CommitRuns.{some_same}
+use Rattle.mg_journal.proofs.CommitRuns.{some_same}
 use Rattle.mg_journal.specs.Standing.{IsFitting, fits_closed, own_replay}
 use Rattle.mg_journal.proofs.store.Store.read.Goals as goal
 

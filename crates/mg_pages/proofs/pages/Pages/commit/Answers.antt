@@ -2,7 +2,7 @@ use Rattle.std.proofs.Common.{◌∙◌, ap, length, refl, subst, sym}
 use Rattle.std.specs.Prelude.{◌⊎◌, IsSomeAnd, is_ok}
 use Rattle.std.proofs.lemmas.List.{nil_from_length}
 use Rattle.mg_disk.specs.Runs.{leaves_wider}
-use Rattle.mg_journal.specs.CommitRuns.{some_of}
+use Rattle.mg_journal.specs.ResultLemmas.{some_of}
 use Rattle.mg_journal.specs.Contents.{NewContents, SameContents}
 use Rattle.mg_journal.specs.Standing.{OldOrNew}
 use Rattle.mg_pages.proofs.Committed.{has-coming, old-or-coming, stands-then}

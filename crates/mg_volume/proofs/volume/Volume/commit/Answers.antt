@@ -1,7 +1,7 @@
 use Rattle.std.proofs.Common.{◌∙◌}
 use Rattle.std.proofs.lemmas.Result.{on_ok_weaker}
 use Rattle.mg_disk.specs.Runs.{leaves_wider}
-use Rattle.mg_journal.specs.CommitRuns.{on_ok_both, some_of}
+use Rattle.mg_journal.specs.ResultLemmas.{on_ok_both, some_of}
 use Rattle.mg_journal.specs.Contents.{SameContents}
 use Rattle.mg_model.specs.Volume.{Is, volume}
 use Rattle.mg_pages.specs.Committing.{HasContents}

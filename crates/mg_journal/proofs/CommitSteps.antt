@@ -10,7 +10,7 @@ use Rattle.mg_model.specs.Layout.{body_limit, gate_open, globals_block, segment_
 use Rattle.mg_model.specs.Replay.{body_count, homes_fit, is_open, replay, segment_fits, written}
 use Rattle.mg_journal.specs.Contents.{InClosed, InJournal, NewContents, bodies_fit, bodies_of, names}
 use Rattle.mg_journal.specs.Facts.{any_gate, closed_segments, open_writes, replay-some, same_gate, same_wider, up_to}
-use Rattle.mg_journal.specs.Homes.{first_gate_torn, fit-behind, homes_torn, homes_written}
+use Rattle.mg_journal.proofs.Homes.{first_gate_torn, fit-behind, homes_torn, homes_written}
 use Rattle.mg_journal.specs.Phases.{HoldsWrites, IsBehind}
 use Rattle.mg_journal.specs.Segments.{fits-closed, fits-each, fits-open, same-bodies_fit, same-bodies_of, writes-open}
 use Rattle.mg_journal.specs.Standing.{AllClosed, OldOrNew}

@@ -1,5 +1,5 @@
--- What a stop may leave over the phases of a commit.
-use Rattle.std.specs.Prelude.{◌≡◌, ◌≤◌, ◌==◌, ℕ, Bool, true, List, [], ◌∷◌, length, slice_index, slice_set, Result, Ok, Err, Option, Some, None, IsSomeAnd, OnOk, option_map}
+-- Lemmas on what a stop may leave over the phases of a commit.
+use Rattle.std.specs.Prelude.{◌≡◌, ◌≤◌, ◌==◌, ℕ, Bool, true, List, [], ◌∷◌, length, slice_index, slice_set, Option, Some, None, option_map}
 use Rattle.std.proofs.Common.{refl, sym, subst, ◌∙◌, inl, inr, arith}
 use Rattle.std.proofs.lemmas.Bool.{eqb-true}
 use Rattle.mg_disk.specs.Disk.{Image, SameBut, SeenBut, only_place}
@@ -8,19 +8,10 @@ use Rattle.mg_disk.specs.Stops.{Leaves, NothingPending}
 use Rattle.mg_disk.specs.declared.disk.Disk.{Ghosts}
 use Rattle.mg_model.specs.Layout.{body_limit, gate_open, globals_block, segment_gate}
 use Rattle.mg_model.specs.Replay.{homes_fit, replay, written}
-use Rattle.mg_journal.specs.CommitSteps.{bodies_may, close_may, gate_may, homes_may}
+use Rattle.mg_journal.proofs.CommitSteps.{bodies_may, close_may, gate_may, homes_may}
 use Rattle.mg_journal.specs.Contents.{InJournal, NewContents, SameContents, names}
 use Rattle.mg_journal.specs.Phases.{HoldsWrites, IsBehind}
 use Rattle.mg_journal.specs.Standing.{AllClosed, OldOrNew}
-
-pub on_ok_both : {T E : Type 0} (P Q : Type 0) (r : Result T E) → OnOk r P → OnOk r Q → OnOk r (P × Q)
-on_ok_both P Q (Ok x) p q = (p, q)
-on_ok_both P Q (Err e) p q = tt
-
--- the value that an option has
-pub some_of : {T : Type 0} (P : T → Type 0) (told : Option T) → IsSomeAnd told P → (x : T) × (told ≡ Some x) × P x
-some_of P None is = absurd is
-some_of P (Some x) is = (x, refl, is)
 
 none_some : (x : Image) → None ≡ Some x → ⊥
 none_some x is = cc

@@ -10,11 +10,11 @@ use Rattle.mg_disk.specs.Stops.{Leaves, NothingPending}
 use Rattle.mg_disk.specs.declared.disk.Disk.{Ghosts}
 use Rattle.mg_model.specs.Layout.{segment_count, segment_gate}
 use Rattle.mg_model.specs.Replay.{is_open, replay}
-use Rattle.mg_journal.specs.CommitRuns.{some_of}
-use Rattle.mg_journal.specs.CommitSteps.{same_then}
+use Rattle.mg_journal.specs.ResultLemmas.{some_of}
+use Rattle.mg_journal.proofs.CommitSteps.{same_then}
 use Rattle.mg_journal.specs.Contents.{InJournal}
 use Rattle.mg_journal.specs.Facts.{same_gate, same_wider}
-use Rattle.mg_journal.specs.Homes.{first_gate_torn}
+use Rattle.mg_journal.proofs.Homes.{first_gate_torn}
 use Rattle.mg_journal.specs.Recovery.{ClosedOne, IsClosedUpTo, IsStill, MayCloseOne}
 
 -- while one more gate is closed
