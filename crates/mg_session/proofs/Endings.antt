@@ -11,7 +11,7 @@ use Rattle.mg_kernel.specs.Meaning.{StandsOn, is_live, now_of}
 use Rattle.mg_session.specs.declared.batches.Ended.{Ended}
 use Rattle.mg_session.specs.declared.batches.Ended.TheVariants as ended
 use Rattle.mg_session.specs.Headline.{Answers, Ends, Holds, HoldsExactly, IsWithin, KeepsExactly, SpellsAfter, TakesMore, UnlessDisk, status_at, status_of}
-use Rattle.mg_session.specs.declared.program.Status.TheVariants as status
+use Rattle.mg_session.specs.declared.status.Status.TheVariants as status
 use Rattle.mg_session.specs.Readings.{Finishes, Stops}
 use Rattle.mg_session.specs.Sessions.{Entry, Point}
 use Rattle.mg_session.specs.Waiting.{Waiting}

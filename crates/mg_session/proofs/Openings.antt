@@ -21,8 +21,8 @@ use Rattle.mg_model.specs.Print.{answered}
 use Rattle.mg_model.specs.Lines.{built_words, lines}
 use Rattle.mg_model.specs.State.{State}
 use Rattle.mg_model.specs.Volume.{Damaged, Is, NotVolume, OldVolume, VolumeRead, volume}
-use Rattle.mg_session.specs.declared.program.Status.{Status}
-use Rattle.mg_session.specs.declared.program.Status.TheVariants as status
+use Rattle.mg_session.specs.declared.status.Status.{Status}
+use Rattle.mg_session.specs.declared.status.Status.TheVariants as status
 use Rattle.mg_session.specs.Headline.{Answers, AnswersLines, AnswersPrefix, AreAnswered, Holds, HoldsExactly, IfState, IsPrefix, KeepsAnswered, MayTell, OnVolume, TellsOfNone, check_line, replies, summary_line}
 use Rattle.mg_session.specs.Unopened.{EndsWith, FaultTells, IsQuiet, fault_line}
 use Rattle.mg_session.proofs.SessionSteps.{left_spells, no_lines}

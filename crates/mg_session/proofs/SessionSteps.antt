@@ -40,9 +40,6 @@ prefix_longer s ls more c (k, few, spelled) = (
 pub no_lines : (s : State) (ls : List Line) (c : Image) → volume c ≡ Is s → IsPrefix s ls c
 no_lines s ls c is = (0, omega arith, is)
 
-pub all_lines : (s : State) (ls : List Line) (c : Image) → volume c ≡ Is (after s ls) → IsPrefix s ls c
-all_lines s ls c is = (length ls, omega arith, is ∙ ap (λ v. Is (after s v)) (sym (take_all (length ls) ls (omega arith))))
-
 -- the first ones of two lists of lines, where as many are answered
 pub first_lines : (n : ℕ) (done waiting ls : List Line) → ls ≡ done ++ waiting → n ≡ length done → take n ls ≡ done
 first_lines n done waiting ls split count = ap (λ v. take v ls) count ∙ ap (λ v. take (length done) v) split ∙ take-append_seam done waiting

@@ -27,8 +27,8 @@ use Rattle.mg_model.specs.Step.{after}
 use Rattle.mg_model.specs.Volume.{Damaged, Is, NotVolume, OldVolume, VolumeRead, volume}
 use Rattle.mg_session.specs.declared.batches.Ended.{Ended}
 use Rattle.mg_session.specs.declared.batches.Ended.TheVariants as ended
-use Rattle.mg_session.specs.declared.program.Status.{Status}
-use Rattle.mg_session.specs.declared.program.Status.TheVariants as status
+use Rattle.mg_session.specs.declared.status.Status.{Status}
+use Rattle.mg_session.specs.declared.status.Status.TheVariants as status
 
 -- How a command ends
 

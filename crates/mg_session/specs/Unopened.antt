@@ -5,8 +5,8 @@ use Rattle.mg_check.specs.declared.examining.OpenFault.{OpenFault}
 use Rattle.mg_check.specs.declared.examining.OpenFault.TheVariants as fault
 use Rattle.mg_disk.specs.Disk.{Image}
 use Rattle.mg_model.specs.Volume.{Damaged, NotVolume, OldVolume, volume}
-use Rattle.mg_session.specs.declared.program.Status.{Status}
-use Rattle.mg_session.specs.declared.program.Status.TheVariants as status
+use Rattle.mg_session.specs.declared.status.Status.{Status}
+use Rattle.mg_session.specs.declared.status.Status.TheVariants as status
 use Rattle.mg_session.specs.Headline.{check_line}
 
 -- the line of a fault of the opening, if it has one

@@ -8,8 +8,8 @@ ghost use Rattle.mg_io.specs.Known.{AppendsPrefix};
 ghost use Rattle.mg_model.specs.Volume.{volume};
 ghost use Rattle.mg_session.specs.Headline.{EndsCheck, IsDoneOrMemory, MayTell, OnVolume, TellsOfNone, TellsVolume, check_line, summary_line};
 
-use crate::opening::put_fault;
-use crate::program::Status;
+use crate::fault_line::put_fault;
+use crate::status::Status;
 use arrayvec::ArrayVec;
 use mg_check::{Summary, examine};
 use mg_disk::Disk;

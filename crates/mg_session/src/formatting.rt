@@ -5,7 +5,7 @@ ghost use Rattle.mg_faults.specs.Faults.{Rose};
 ghost use Rattle.mg_io.specs.Known.{AppendsPrefix};
 ghost use Rattle.mg_session.specs.Headline.{FormatKeeps, made_line, small_line};
 
-use crate::program::Status;
+use crate::status::Status;
 use arrayvec::ArrayVec;
 use mg_disk::Disk;
 use mg_faults::Failed;

@@ -6,27 +6,30 @@
 //! for every disk, source and sink, those that fail at any call among them: what the sink took, how much the source gave, what
 //! the disk holds and what a stop may leave of it at each moment, and when each status comes.
 //!
-//! The definitions stand in `specs/`: `Commands` (what the words spell), `Headline`, `Volumes` and `Formats` (the words of the
-//! clauses of [`top`]); for the layers below it `Sessions` (lines kept and answered, and lines that wait), `Incoming` (bytes
-//! and the lines that they end) and `Readings` (the ends of a session).
+//! The definitions stand in `specs/`: `Commands` (what the words spell) and `Headline` (what each command keeps, in one
+//! record, which is a clause of [`top`], and the words of it); for the layers below it `Sessions` (lines kept and answered, and
+//! lines that wait), `Incoming` (bytes and the lines that they end), `Readings` (the ends of a session) and `Unopened` (what a
+//! fault of the opening tells).
 #![tactic(auto)]
 
 mod batches;
 mod buffers;
 mod checking;
+mod dry;
+mod fault_line;
 mod formatting;
 mod incoming;
-mod opening;
 mod partial;
-mod program;
 mod running;
-mod scratch;
-mod session;
+mod serving;
+mod status;
+mod top_call;
 mod words;
 
 pub use batches::Ended;
 pub use buffers::Buffers;
-pub use program::{Status, top};
 pub use running::INPUT;
-pub use session::serve;
+pub use serving::serve;
+pub use status::Status;
+pub use top_call::top;
 pub use words::{Command, read_words};

@@ -11,9 +11,9 @@ ghost use Rattle.mg_session.specs.Unopened.{EndsSession};
 
 use crate::batches::Ended;
 use crate::buffers::Buffers;
-use crate::opening::put_fault;
-use crate::program::Status;
-use crate::session::serve;
+use crate::fault_line::put_fault;
+use crate::serving::serve;
+use crate::status::Status;
 use mg_disk::Disk;
 use mg_io::{Sink, Source};
 use mg_kernel::Kernel;

@@ -5,7 +5,7 @@ use Rattle.mg_faults.specs.Faults.{CountGoesOn}
 use Rattle.mg_kernel.specs.Meaning.{StandsOn, is_live, staged_of, words_in}
 use Rattle.mg_model.specs.Counts.{CountsAlike}
 use Rattle.mg_session.specs.Readings.{Reading}
-use Rattle.mg_session.proofs.session.serve_pieces.Given as goal
+use Rattle.mg_session.proofs.serving.serve_pieces.Given as goal
 
 abbrev pub invariant-pieces : goal.invariant-pieces
 invariant-pieces g l = record {

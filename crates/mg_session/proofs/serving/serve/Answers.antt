@@ -1,7 +1,7 @@
 use Rattle.mg_disk.specs.Stops.{CountRose}
 use Rattle.mg_faults.specs.Faults.{Rose}
 use Rattle.mg_session.proofs.Endings.{session_answers, session_at_disk, session_complete, session_ends, session_exactly, session_holds, session_kept}
-use Rattle.mg_session.proofs.session.serve.Goals as goal
+use Rattle.mg_session.proofs.serving.serve.Goals as goal
 
 pub returns-clause-answers : goal.returns-clause-answers
 returns-clause-answers g c = session_answers g.D.Disk (record { kernel = c.args.kernel.now; disk = c.args.disk.now; taken = g.K.Sink.taken c.args.sink.now }) c.args.limit c.args.batch (g.S.Source.left c.args.source.now) (g.S.Source.left c.serve_pieces.new.source) (record { kernel = c.serve_pieces.new.kernel; disk = c.serve_pieces.new.disk; owed = c.serve_pieces.new.owed; taken = g.K.Sink.taken c.serve_pieces.new.sink }) c.serve_pieces.result c.serve_pieces.ensures.finishes c.serve_pieces.ensures.stands c.serve_pieces.ensures.stops

@@ -5,7 +5,7 @@ ghost use Rattle.mg_faults.specs.Faults.{Rose};
 ghost use Rattle.mg_io.specs.Known.{AppendsPrefix};
 ghost use Rattle.mg_session.specs.Unopened.{EndsWith, IsQuiet, fault_line};
 
-use crate::program::Status;
+use crate::status::Status;
 use mg_check::OpenFault;
 use mg_io::{Sink, put_all};
 

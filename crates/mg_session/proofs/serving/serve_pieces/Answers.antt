@@ -10,7 +10,7 @@ use Rattle.mg_session.proofs.IncomingSteps.{alike_none, alike_then}
 use Rattle.mg_session.proofs.ReadingSteps.{Finishes-last, Reading-more, Reading-none, Stops-bytes, Stops-last, Stops-source, Stops-too_long}
 use Rattle.mg_session.proofs.Results.{if_err_both, on_ok_both}
 use Rattle.mg_session.proofs.SessionSteps.{Session-begins}
-use Rattle.mg_session.proofs.session.serve_pieces.Goals as goal
+use Rattle.mg_session.proofs.serving.serve_pieces.Goals as goal
 
 pub pieces-init : goal.pieces-init
 pieces-init g c = record {

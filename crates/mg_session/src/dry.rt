@@ -2,8 +2,8 @@
 ghost use Rattle.mg_session.specs.Headline.{DryKeeps};
 
 use crate::buffers::BATCH_LIMIT;
-use crate::program::Status;
 use crate::running::run;
+use crate::status::Status;
 use mg_disk::ScratchDisk;
 use mg_io::{Sink, Source};
 use mg_layout::{Geometry, format};

@@ -1,53 +1,22 @@
-// What the program does.
+// All that the program does.
 ghost use Rattle.std.specs.Prelude.{◌≡◌, ◌⊎◌, IfSome, IsSome, None};
 ghost use Rattle.std.specs.Io.KnownBytes.{Appends};
 ghost use Rattle.mg_faults.specs.Faults.{Rose};
 ghost use Rattle.mg_io.specs.Known.{AppendsPrefix};
 ghost use Rattle.mg_session.specs.Commands.{check_of, command_of, dry_of, format_of, opening_of, run_of, words_of};
-ghost use Rattle.mg_session.specs.Headline.{CheckKeeps, DryKeeps, FormatKeeps, RunKeeps, UsageKeeps, code_of, usage_line};
+ghost use Rattle.mg_session.specs.Headline.{CheckKeeps, DryKeeps, FormatKeeps, RunKeeps, UsageKeeps, usage_line};
 
 use crate::checking::check;
+use crate::dry::dry;
 use crate::formatting::make_volume;
 use crate::running::run;
-use crate::scratch::dry;
+use crate::status::Status;
 use crate::words::{Command, read_words};
 use mg_disk::Disk;
 use mg_io::{Sink, Source, put_all};
 use mg_model::Steps;
 use std::alloc::Global;
 use std::sync::ledger::Ledger;
-
-/// How the program ends.
-#[derive(Clone, Copy, Debug, PartialEq, Eq)]
-pub enum Status {
-    /// The command was carried out.
-    Done,
-    /// The words spell no command.
-    Usage,
-    /// The disk holds no volume.
-    NoVolume,
-    /// Memory was wanting.
-    Memory,
-    /// A call of the disk failed.
-    Disk,
-    /// A call of the source failed.
-    Source,
-    /// A call of the sink failed.
-    Sink,
-    /// More bytes came than a session may take.
-    TooLong,
-    /// The disk is too small for the volume.
-    TooSmall,
-}
-
-impl Status {
-    /// The exit status, 0 to 8.
-    pub fn code(self) -> u8
-        ensures { result ≡ code_of self }
-    {
-        self as u8
-    }
-}
 
 /// Puts the line `usage`.
 fn usage<K: Sink>(sink: &mut K) -> Status
