@@ -1,21 +1,55 @@
 -- How a kernel stands on a disk, from what is known of its volume.
-use Rattle.std.specs.Prelude.{◌≡◌, true, Result, Ok, Err, OnOk}
+use Rattle.std.specs.Prelude.{◌≡◌, true, ℕ, Result, Ok, Err, IfOk, OnErr}
 use Rattle.std.specs.Option.{ForSome}
+use Rattle.std.proofs.Common.{sym, ap, subst, ◌∙◌}
+use Rattle.mg_disk.specs.Disk.{AreBytes, Image}
+use Rattle.mg_disk.specs.Stops.{WritesNothing}
 use Rattle.mg_disk.specs.declared.disk.Disk.{Ghosts}
 use Rattle.mg_kernel.specs.Meaning.{IsSpelledBy, StandsOn, total_of}
 use Rattle.mg_kernel.specs.declared.kernel.Kernel.{Kernel}
+use Rattle.mg_model.specs.declared.calls.Line.{Line}
+use Rattle.mg_model.specs.declared.replies.Reply.{Reply}
+use Rattle.mg_model.specs.Refused.{Answer}
+use Rattle.mg_model.specs.State.{State}
+use Rattle.mg_model.specs.Step.{step}
+use Rattle.mg_model.specs.WellFormed.{IsInRange, IsWellFormed, KeepsWellFormed}
+use Rattle.mg_volume.specs.Calls.{IsSoundOn}
+use Rattle.mg_volume.specs.Held.{VolumeHeld}
 use Rattle.mg_volume.specs.Meaning as held
 
-pub stands-sound : {D : Type 0} (facts : Ghosts D) (k : Kernel) (disk : D) → held.StandsOn facts k.volume disk → ForSome (facts.seen disk) (λ image. held.is_sound (held.now_of k.volume image) ≡ true) → StandsOn facts k disk
-unfolding IsSpelledBy total_of
-stands-sound facts k disk stands sound = record {
-  room = stands.room;
-  settled = stands.settled;
-  fits = λ image told. record { fitting = stands.fits image told; sound = sound image told };
-}
+-- what `Volume::is_formed` says
+abbrev pub IsFormedBy : VolumeHeld → Type 0
+IsFormedBy v = (image : Image) → AreBytes image → held.IsSpelledBy v image → held.staged_of v ≡ 0 → held.is_sound (held.now_of v image) ≡ true → IsWellFormed (held.now_of v image)
 
--- the same where a call answered Ok
-pub on_ok-stands : {D T E : Type 0} (facts : Ghosts D) (k : Kernel) (disk : D) (r : Result T E) → OnOk r (held.StandsOn facts k.volume disk) → ForSome (facts.seen disk) (λ image. OnOk r (held.is_sound (held.now_of k.volume image) ≡ true))
-    → OnOk r (StandsOn facts k disk)
-on_ok-stands facts k disk (Ok x) stands sound = stands-sound facts k disk stands sound
-on_ok-stands facts k disk (Err e) stands sound = tt
+module _ {D : Type 0} (facts : Ghosts D) where
+  pub stands-formed : (k : Kernel) (disk : D) → held.StandsOn facts k.volume disk → ForSome (facts.seen disk) (λ image. IsWellFormed (held.now_of k.volume image)) → StandsOn facts k disk
+  unfolding IsSpelledBy total_of
+  stands-formed k disk stands formed = record {
+    room = stands.room;
+    settled = stands.settled;
+    fits = λ image told. record { fitting = stands.fits image told; formed = formed image told };
+  }
+
+  -- where nothing is staged
+  pub stands-opened : (k : Kernel) (disk : D) → held.StandsOn facts k.volume disk → ForSome (facts.seen disk) AreBytes → IsFormedBy k.volume → held.staged_of k.volume ≡ 0
+      → ForSome (facts.seen disk) (λ image. held.is_sound (held.now_of k.volume image) ≡ true) → StandsOn facts k disk
+  stands-opened k disk stands bytes formed none sound = stands-formed k disk stands (λ image told. formed image (bytes image told) (stands.fits image told) none (sound image told))
+
+  -- what the volume's calls ask for
+  pub sound-of : (k : Kernel) (disk : D) → StandsOn facts k disk → IsSoundOn facts k.volume disk
+  unfolding IsSpelledBy total_of
+  sound-of k disk is = record {
+    stands = record { room = is.room; settled = is.settled; fits = λ image told. (is.fits image told).fitting };
+    formed = λ image told. (is.fits image told).formed;
+  }
+
+  -- a step keeps the state well formed, whatever its call
+  pub step-formed : {E : Type 0} (old new : VolumeHeld) (before after : D) (line : Line) (r : Result Reply E) → KeepsWellFormed (λ state line. (step state line).0) → IsInRange line → WritesNothing facts before after
+      → ForSome (facts.seen before) (λ image. IsWellFormed (held.now_of old image)) → IfOk r (λ reply. ForSome (facts.seen before) (λ image. step (held.now_of old image) line ≡ (held.now_of new image, reply)))
+      → OnErr r (held.Keeps old new) → ForSome (facts.seen after) (λ image. IsWellFormed (held.now_of new image))
+  step-formed old new before after line (Ok reply) keeps range writes formed answers failed = λ image told.
+      let was = sym writes.same ∙ told in
+      subst IsWellFormed (ap (λ (answer : Answer). answer.0) (answers image was)) (keeps (held.now_of old image) line (formed image was) range)
+  step-formed old new before after line (Err e) keeps range writes formed answers failed = λ image told.
+      let was = sym writes.same ∙ told in
+      subst IsWellFormed (sym (failed.now image)) (formed image was)

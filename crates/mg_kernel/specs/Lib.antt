@@ -1,4 +1,2 @@
 pub mod Meaning
 pub mod Opening
-pub mod Reading
-pub mod Searching

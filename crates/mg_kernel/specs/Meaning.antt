@@ -5,10 +5,9 @@ use Rattle.mg_disk.specs.Disk.{Image}
 use Rattle.mg_disk.specs.Stops.{NothingPending}
 use Rattle.mg_disk.specs.declared.disk.Disk.{Ghosts}
 use Rattle.mg_kernel.specs.declared.kernel.Kernel.{Kernel}
-use Rattle.mg_model.specs.declared.replies.Reply.{Reply}
-use Rattle.mg_model.specs.declared.replies.Reply.TheVariants as reply
 use Rattle.mg_model.specs.State.{State}
 use Rattle.mg_model.specs.Volume.{Is, volume}
+use Rattle.mg_model.specs.WellFormed.{IsWellFormed}
 use Rattle.mg_volume.specs.Laws as laws
 use Rattle.mg_volume.specs.Meaning as held
 
@@ -16,10 +15,10 @@ use Rattle.mg_volume.specs.Meaning as held
 unfoldable pub now_of : Kernel → Image → State
 now_of k image = held.now_of k.volume image
 
--- the image is a volume, what the kernel holds is what the image spells and what is staged, and the state is sound
+-- the image is a volume, what the kernel holds is what the image spells and what is staged, and the state is well formed
 pub record Spelled (k : Kernel) (image : Image) : Type 0 where
   pub fitting : held.IsSpelledBy k.volume image
-  pub sound : held.is_sound (held.now_of k.volume image) ≡ true
+  pub formed : IsWellFormed (held.now_of k.volume image)
 
 unfoldable pub IsSpelledBy : Kernel → Image → Type 0
 IsSpelledBy k image = Spelled k image
@@ -45,11 +44,6 @@ pub record StandsOn {D : Type 0} (facts : Ghosts D) (k : Kernel) (disk : D) : Ty
   pub room : total_of k ≤ facts.block_count disk
   pub settled : NothingPending facts disk
   pub fits : ForSome (facts.seen disk) (λ image. IsSpelledBy k image)
-
--- the line was refused
-abbrev pub IsRefusal : Reply → Type 0
-IsRefusal (reply.No refusal) = Unit {0}
-IsRefusal other = ⊥
 
 -- an image that the kernel fits is a volume
 pub spelled_volume : (k : Kernel) (image : Image) → IsSpelledBy k image → (state : State) × (volume image ≡ Is state)

@@ -2,20 +2,23 @@
 ghost use Rattle.std.specs.Prelude.{List, ◌≡◌, ◌≤◌, ◌<◌, ◌+◌, ◌⊎◌, ℕ, true, false, IfOk, IsTrue, MatchOption, None, OnErr, OnOk, option_map, if◌then◌else◌};
 ghost use Rattle.std.specs.Option.{ForSome};
 ghost use Rattle.mg_disk.specs.Stops.{CountGoes, CountRose, Leaves, NothingPending, WritesNothing};
-ghost use Rattle.mg_kernel.specs.Meaning.{IsRefusal, StandsOn, is_live, now_of, staged_of, words_in};
+ghost use Rattle.mg_kernel.specs.Meaning.{StandsOn, is_live, now_of, staged_of, words_in};
 ghost use Rattle.mg_kernel.specs.Opening.{Holds, Opens};
 ghost use Rattle.mg_model.specs.Access.{allowed, at};
 ghost use Rattle.mg_model.specs.Built.{IsBuilt};
+ghost use Rattle.mg_model.specs.Refused.{IsRefusal};
 ghost use Rattle.mg_model.specs.Step.{step};
 ghost use Rattle.mg_model.specs.Volume.{Damaged, Is, NotVolume, OldVolume, volume};
 ghost use Rattle.mg_model.specs.Counts.{CountsAlike};
 ghost use Rattle.mg_model.specs.FewSlots.{HasFewSlots};
 
-use crate::calls::{info, load, store};
-use crate::validating::validate;
+use crate::answering::answer;
+use crate::ranges::keeps_ranges;
+use mg_calls_dom::validate;
 use mg_disk::Disk;
 use mg_faults::Failed;
-use mg_model::{Call, Line, Refusal, Reply, Right, Steps};
+use mg_laws::steps_keep_states_well_formed;
+use mg_model::{Line, Reply, Right, Steps};
 use mg_volume::{OpenFault, Volume};
 use std::alloc::Global;
 use std::sync::ledger::Ledger;
@@ -50,13 +53,16 @@ impl Kernel {
         ensures blocks { D.block_count disk.new ≡ D.block_count disk.old }
     {
         match Volume::open(alloc, disk) {
-            Ok(volume) => Ok(Kernel { volume }),
+            Ok(volume) => {
+                volume.is_formed();
+                Ok(Kernel { volume })
+            }
             Err(fault) => Err(fault),
         }
     }
 
     /// One line: its reply, and the state after it. It writes nothing. [`Failed`] comes only where a call of the disk
-    /// failed; the state is then as before, and the kernel still serves.
+    /// failed; the state and what is staged are then as before, and the kernel still serves.
     pub fn step<D: Disk, L: Ledger>(
         &mut self,
         disk: &mut D,
@@ -70,6 +76,7 @@ impl Kernel {
         ensures replies { IfOk result (λ reply. ForSome (D.seen disk.old) (λ image. reply ≡ (step (now_of self.old image) line.now).1)) }
         ensures state { OnOk result (ForSome (D.seen disk.old) (λ image. now_of self.new image ≡ (step (now_of self.old image) line.now).0)) }
         ensures failed { OnErr result (ForSome (D.seen disk.old) (λ image. now_of self.new image ≡ now_of self.old image)) }
+        ensures failed_staged { OnErr result (staged_of self.new ≡ staged_of self.old) }
         ensures refused { IfOk result (λ reply. IsRefusal reply → staged_of self.new ≡ staged_of self.old) }
         ensures slots { IfOk result HasFewSlots }
         ensures stands { StandsOn D.Disk self.new disk.new }
@@ -81,14 +88,9 @@ impl Kernel {
         ensures count { CountGoes D.Disk disk.old disk.new }
         ensures blocks { D.block_count disk.new ≡ D.block_count disk.old }
     {
-        match line.call {
-            Call::Load { a } => load(&mut self.volume, disk, line.thread, a, steps),
-            Call::Store { a, value } => store(&mut self.volume, disk, line.thread, a, value, steps),
-            Call::Info { base } => info(&mut self.volume, disk, line.thread, base, steps),
-            Call::Bad => Ok(Reply::No(Refusal::Syntax)),
-            Call::Later => Ok(Reply::No(Refusal::Later)),
-            _ => unreachable!(),
-        }
+        keeps_ranges(line);
+        steps_keep_states_well_formed();
+        answer(&mut self.volume, disk, line, steps)
     }
 
     /// The base of the object that has an address, where a thread may reach it with the right; None where it may not, or no
@@ -134,7 +136,13 @@ impl Kernel {
         ensures count { CountGoes D.Disk disk.old disk.new }
         ensures blocks { D.block_count disk.new ≡ D.block_count disk.old }
     {
-        self.volume.commit(disk)
+        match self.volume.commit(disk) {
+            Ok(()) => {
+                self.volume.is_formed();
+                Ok(())
+            }
+            Err(Failed) => Err(Failed),
+        }
     }
 
     /// How many blocks are staged, 0 to 160.

@@ -1,15 +1,15 @@
 //! The kernel: one line is one step of the machine, on a volume.
 //!
 //! A layer above learns that a step gives the machine's reply and leaves its state as `now`, that it writes nothing, and
-//! that a commit makes the state durable: at each moment of it a stop leaves the state of before or the new one.
+//! that a commit makes the state durable: at each moment of it a stop leaves the state of before or the new one. The state is
+//! well formed wherever a kernel stands.
 //!
 //! `specs/Meaning.antt` has the words of the contracts, `specs/Opening.antt` what an opening and a commit give.
 #![tactic(auto)]
 
-mod calls;
+mod answering;
 mod kernel;
-mod validating;
-mod words;
+mod ranges;
 
 pub use kernel::Kernel;
 pub use mg_volume::OpenFault;

@@ -1,5 +1,14 @@
-use Rattle.mg_kernel.proofs.Standing.{on_ok-stands}
+use Rattle.mg_kernel.proofs.Standing.{sound-of, stands-opened}
+use Rattle.mg_volume.specs.Formed.{formed_sound}
+use Rattle.mg_volume.specs.Meaning.{now_of}
 use Rattle.mg_kernel.proofs.kernel.Kernel.commit.Goals as goal
 
-pub returns-clause-stands : goal.returns-clause-stands
-returns-clause-stands g c = on_ok-stands g.D.Disk (record { volume = c.commit.new.self }) c.commit.new.disk c.commit.result c.commit.ensures.stands c.commit.ensures.sound
+pub commit-requires-clause-sound : goal.commit-requires-clause-sound
+commit-requires-clause-sound g c image told = formed_sound (now_of c.args.self.now.volume image) ((sound-of g.D.Disk c.args.self.now c.args.disk.now c.requires.stands).formed image told)
+
+pub returns-in-Ok-clause-stands : goal.returns-in-Ok-clause-stands
+returns-in-Ok-clause-stands g c =
+    let stands = rw c.in-Ok.is at c.commit.ensures.stands in
+    let none = rw c.in-Ok.is at c.commit.ensures.staged in
+    let sound = rw c.in-Ok.is at c.commit.ensures.sound in
+    stands-opened g.D.Disk (record { volume = c.commit.new.self }) c.commit.new.disk stands (g.met.D.Disk.seen_bytes c.commit.new.disk) c.is_formed.ensures none sound

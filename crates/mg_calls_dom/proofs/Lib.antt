@@ -1,0 +1,5 @@
+mod Apart
+mod Entries
+mod Reached
+mod Refusals
+mod Told

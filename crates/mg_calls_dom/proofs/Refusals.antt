@@ -1,0 +1,52 @@
+-- The rows of `load` and `store`, by what was found.
+use Rattle.std.proofs.Common.{ℕ, ◌+◌, ◌*◌, ◌/◌, ◌%◌, ◌≡◌, ◌==◌, ◌&&◌, Bool, true, false, not, List, [], ◌∷◌, if◌then◌else◌, Option, Some, None, refl, sym, ap, ◌∙◌, arith}
+use Rattle.std.specs.Prelude.{option_map}
+use Rattle.std.specs.List.{list_any}
+use Rattle.std.specs.Option.{option_map_or}
+use Rattle.mg_calls_dom.specs.ReachedLemmas.{reached_allowed, reached_none}
+use Rattle.mg_calls_dom.specs.Searching.{access_refusal, allowed_row, reached_row}
+use Rattle.mg_model.specs.declared.replies.Refusal.TheVariants.{Align, Denied}
+use Rattle.mg_model.specs.declared.rights.Right.{Right}
+use Rattle.mg_model.specs.declared.slots.Slot.{Slot}
+use Rattle.mg_model.specs.Access.{allowed, at, capabilities, domain_of, holds, last_slots, thread_of}
+use Rattle.mg_model.specs.ObjectCalls.{is_aligned}
+use Rattle.mg_model.specs.Refused.{first_refusal}
+use Rattle.mg_model.specs.State.{Object, ObjectRow, State, Thread}
+
+module _ (state : State) (t a : ℕ) (right : Right) where
+  -- the slots of a thread that lives
+  thread-slots : (thread : Thread) (slots : List Slot) → thread_of state t ≡ Some thread → slots ≡ last_slots thread.row.frames → domain_of state t ≡ slots
+  thread-slots thread slots lives is = ap (λ (o : Option Thread). option_map_or (λ (x : Thread). last_slots x.row.frames) o []) lives ∙ sym is
+
+  -- what its slots reach it may reach
+  pub allowed-somebody : (thread : Thread) (slots : List Slot) → thread_of state t ≡ Some thread → slots ≡ last_slots thread.row.frames → reached_row state slots a right ≡ allowed_row state t a right
+  allowed-somebody thread slots lives is = ap (λ s. reached_row state s a right) (sym (thread-slots thread slots lives is))
+
+  -- and nobody reaches anything
+  pub allowed-nobody : thread_of state t ≡ None → None ≡ allowed_row state t a right
+  allowed-nobody none =
+      sym (ap (λ (o : Option Thread). reached_row state (option_map_or (λ (x : Thread). last_slots x.row.frames) o []) a right) none
+      ∙ ap (λ v. if v then option_map (λ (object : Object). object.row) (at state.objects a) else None) (slotless (at state.objects a)))
+    where
+      slotless : (o : Option Object) → option_map_or (λ (object : Object). list_any (λ (entry : ℕ × ℕ). entry.0 == object.row.base && holds state.counters.period object.row entry.1 right) (capabilities state.objects state.counters.period [])) o false ≡ false
+      slotless None = refl
+      slotless (Some object) = refl
+
+  by_access : (v : Bool) → is_aligned a ≡ true → allowed state t a right ≡ v → access_refusal state t a right ≡ (if not v then Some Denied else None)
+  by_access v on may = ap (λ b. if not b then Some Align else first_refusal ((not (allowed state t a right), Denied) ∷ [])) on ∙ ap (λ b. if not b then Some Denied else None) may
+
+  pub refusal-denied : is_aligned a ≡ true → None ≡ allowed_row state t a right → access_refusal state t a right ≡ Some Denied
+  refusal-denied on none = by_access false on (reached_none state t a right none)
+
+  pub refusal-none : (row : ObjectRow) → is_aligned a ≡ true → Some row ≡ allowed_row state t a right → access_refusal state t a right ≡ None
+  refusal-none row on some = by_access true on (reached_allowed state t a right row some)
+
+-- the base of what is reached
+pub base-of : (v : Bool) (o : Option Object) (found : Option ObjectRow) → found ≡ (if v then option_map (λ (object : Object). object.row) o else None) → option_map (λ (row : ObjectRow). row.base) found ≡ (if v then option_map (λ (object : Object). object.row.base) o else None)
+base-of true None found h = ap (option_map (λ (row : ObjectRow). row.base)) h
+base-of true (Some object) found h = ap (option_map (λ (row : ObjectRow). row.base)) h
+base-of false o found h = ap (option_map (λ (row : ObjectRow). row.base)) h
+
+-- the address of a word, from its page and its place there
+pub word-address : (a page index : ℕ) → page ≡ a / 4096 → index ≡ a % 4096 / 8 → a % 8 ≡ 0 → 4096 * page + 8 * index ≡ a
+word-address a page index p i aligned = omega arith

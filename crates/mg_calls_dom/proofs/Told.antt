@@ -1,0 +1,37 @@
+-- What is told of the state of a volume that stands on a disk.
+use Rattle.std.proofs.Common.{ℕ, ◌+◌, ◌*◌, ◌/◌, ◌<◌, ◌≡◌, ◌==◌, ◌&&◌, Bool, true, false, length, Option, Some, refl, sym, ap, subst, ◌∙◌}
+use Rattle.std.specs.Prelude.{find, map, nat_le, slice_index}
+use Rattle.std.specs.List.{list_all}
+use Rattle.mg_disk.specs.Disk.{Image}
+use Rattle.mg_calls_dom.proofs.Apart.{word-based}
+use Rattle.mg_calls_dom.specs.Searching.{words_based}
+use Rattle.mg_model.specs.Bank.{used}
+use Rattle.mg_model.specs.Objects.{word_at}
+use Rattle.mg_model.specs.State.{Object, ObjectRow, State}
+use Rattle.mg_model.specs.Tests.{is_object_row}
+use Rattle.mg_model.specs.WellFormed.{IsWellFormed}
+use Rattle.mg_model.specs.Volume.{accounts_fit, are_apart, threads_fit}
+use Rattle.mg_volume.specs.Held.{VolumeHeld}
+use Rattle.mg_volume.specs.Formed.{formed_sound}
+use Rattle.mg_volume.specs.Laws.{now_rows}
+use Rattle.mg_volume.specs.Meaning.{IsSpelledBy, is_sound, now_of, objects_in}
+use Rattle.mg_volume.specs.Placed.{held_rows}
+use Rattle.mg_volume.specs.RunLemmas.{told_rows}
+
+middle : (a b c d e : Bool) → (a && (b && c && d) && e) ≡ true → b ≡ true
+middle true true c d e h = refl
+middle true false c d e h = cc
+middle false b c d e h = cc
+
+-- the objects of a sound state lie apart
+sound-apart : (state : State) → is_sound state ≡ true → are_apart state.objects ≡ true
+sound-apart state sound =
+    middle (accounts_fit state.settings.credits state.counters.period state.accounts) (are_apart state.objects)
+    (list_all (λ (object : Object). nat_le object.row.account (length state.accounts)) state.objects) (nat_le (used state.objects) state.settings.frames) (threads_fit state.counters.births state.threads) sound
+
+pub told-word : (v : VolumeHeld) (image : Image) → IsSpelledBy v image → IsWellFormed (now_of v image) → (row : ObjectRow) → find (λ (r : ObjectRow). r.base == row.base) (objects_in v) ≡ Some row → (index : ℕ) → index < 512
+    → word_at (now_of v image).objects (4096 * (row.base / 4096) + 8 * index) ≡ slice_index (words_based (now_of v image).objects row.base) index
+told-word v image fits formed row held index few =
+    word-based (now_of v image).objects (sound-apart (now_of v image) (formed_sound (now_of v image) formed))
+    (subst (λ rows. list_all is_object_row rows ≡ true) (sym (now_rows v image)) (held_rows v image fits)) row
+    (told_rows v image (λ (r : ObjectRow). r.base == row.base) (Some row) held) index few

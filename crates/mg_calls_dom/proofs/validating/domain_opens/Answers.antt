@@ -1,0 +1,36 @@
+use Rattle.std.proofs.Common.{get_or, sym, ◌∙◌}
+use Rattle.mg_calls_dom.specs.Searching.{slot_opens}
+use Rattle.mg_calls_dom.specs.ReachedLemmas.{any_end, any_hit, any_miss}
+use Rattle.mg_volume.specs.RunLemmas.{reads_then, told_since}
+use Rattle.mg_model.specs.declared.slots.Slot.{Slot}
+use Rattle.mg_volume.specs.Meaning.{now_of}
+use Rattle.mg_calls_dom.proofs.validating.domain_opens.Goals as goal
+
+pub returns-in_err-slot_opens-clause-reads : goal.returns-in_err-slot_opens-clause-reads
+returns-in_err-slot_opens-clause-reads g c =
+    reads_then g.D.Disk c.args.v.now c.loop-slot.v c.slot_opens.new.v c.args.disk.now c.loop-slot.disk c.slot_opens.new.disk c.args.steps.now c.loop-slot.steps c.slot_opens.new.steps c.loop-slot.invariant.reads c.slot_opens.ensures.reads
+
+pub returns-then-branch-clause-reads : goal.returns-then-branch-clause-reads
+returns-then-branch-clause-reads g c =
+    reads_then g.D.Disk c.args.v.now c.loop-slot.v c.slot_opens.new.v c.args.disk.now c.loop-slot.disk c.slot_opens.new.disk c.args.steps.now c.loop-slot.steps c.slot_opens.new.steps c.loop-slot.invariant.reads c.slot_opens.ensures.reads
+
+pub loop-slot-preserved : goal.loop-slot-preserved
+loop-slot-preserved g c = record {
+  reads = reads_then g.D.Disk c.args.v.now c.loop-slot.v c.slot_opens.new.v c.args.disk.now c.loop-slot.disk c.slot_opens.new.disk c.args.steps.now c.loop-slot.steps c.slot_opens.new.steps c.loop-slot.invariant.reads c.slot_opens.ensures.reads;
+  rest = λ image told.
+      let none : Slot = record { base = 0; password = 0 } in
+      let found = told_since g.D.Disk c.args.v.now c.loop-slot.v c.args.disk.now c.loop-slot.disk c.args.steps.now c.loop-slot.steps c.in_ok-slot_opens.field-0 (λ state. slot_opens state c.args.sought.now (get_or c.args.slots.now c.loop-slot.slot-index none))
+      c.loop-slot.invariant.reads c.in_ok-slot_opens.ensures.opens image told in
+      any_miss (λ slot. slot_opens (now_of c.args.v.now image) c.args.sought.now slot) c.args.slots.now c.loop-slot.slot-index none c.loop-slot-test.true (sym c.if-branch.false ∙ found) (c.loop-slot.invariant.rest image told);
+}
+
+pub returns-then-branch-clause-opens : goal.returns-then-branch-clause-opens
+returns-then-branch-clause-opens g c image told =
+    let none : Slot = record { base = 0; password = 0 } in
+    let found = told_since g.D.Disk c.args.v.now c.loop-slot.v c.args.disk.now c.loop-slot.disk c.args.steps.now c.loop-slot.steps c.in_ok-slot_opens.field-0 (λ state. slot_opens state c.args.sought.now (get_or c.args.slots.now c.loop-slot.slot-index none))
+    c.loop-slot.invariant.reads c.in_ok-slot_opens.ensures.opens image told in
+    any_hit (λ slot. slot_opens (now_of c.args.v.now image) c.args.sought.now slot) c.args.slots.now c.loop-slot.slot-index none c.loop-slot-test.true (sym c.if-branch.true ∙ found) (c.loop-slot.invariant.rest image told)
+
+pub returns-clause-opens : goal.returns-clause-opens
+returns-clause-opens g c image told =
+    any_end (λ slot. slot_opens (now_of c.args.v.now image) c.args.sought.now slot) c.args.slots.now c.loop-slot.slot-index c.loop-slot-test.false (c.loop-slot.invariant.rest image told)

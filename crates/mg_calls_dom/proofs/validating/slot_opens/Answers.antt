@@ -1,0 +1,30 @@
+use Rattle.std.proofs.Common.{◌==◌, Some, None, [], if◌then◌else◌, sym, ap, ◌∙◌}
+use Rattle.std.specs.List.{list_any}
+use Rattle.std.proofs.lemmas.Result.{IfOk-weaker}
+use Rattle.mg_calls_dom.specs.Searching.{opens, words_based}
+use Rattle.mg_calls_dom.proofs.Apart.{held-own}
+use Rattle.mg_calls_dom.proofs.Reached.{slot-none, slot-some}
+use Rattle.mg_volume.specs.RunLemmas.{told_rows}
+use Rattle.mg_model.specs.Access.{entries_of}
+use Rattle.mg_volume.specs.Meaning.{now_of, objects_in}
+use Rattle.mg_calls_dom.proofs.validating.slot_opens.Goals as goal
+
+pub returns-in_default-clause-opens : goal.returns-in_default-clause-opens
+returns-in_default-clause-opens g c image told =
+    sym (slot-none (now_of c.args.v.now image) c.args.sought.now c.args.slot.now (told_rows c.args.v.now image (λ row. row.base == c.args.slot.now.base) None (sym c.in_default.ensures)))
+
+pub returns-then-not-holds-clause-opens : goal.returns-then-not-holds-clause-opens
+returns-then-not-holds-clause-opens g c image told =
+    sym (slot-some (now_of c.args.v.now image) c.args.sought.now c.args.slot.now c.in-Some.clist (told_rows c.args.v.now image (λ row. row.base == c.args.slot.now.base) (Some c.in-Some.clist) (sym c.in-Some.ensures))
+    ∙ ap (λ v. list_any (λ entry. opens c.args.sought.now entry) (if v then entries_of (words_based (now_of c.args.v.now image).objects c.in-Some.clist.base) else [])) (sym c.holds.ensures ∙ c.if-not-holds.true))
+
+pub list_opens-requires-clause-held : goal.list_opens-requires-clause-held
+list_opens-requires-clause-held g c = held-own (objects_in c.args.v.now) c.args.slot.now.base c.in-Some.clist (sym c.in-Some.ensures)
+
+pub returns-clause-opens : goal.returns-clause-opens
+returns-clause-opens g c =
+    IfOk-weaker c.list_opens.result _ _
+    (λ found is image told. is image told
+    ∙ sym (slot-some (now_of c.args.v.now image) c.args.sought.now c.args.slot.now c.in-Some.clist (told_rows c.args.v.now image (λ row. row.base == c.args.slot.now.base) (Some c.in-Some.clist) (sym c.in-Some.ensures))
+    ∙ ap (λ v. list_any (λ entry. opens c.args.sought.now entry) (if v then entries_of (words_based (now_of c.args.v.now image).objects c.in-Some.clist.base) else [])) (sym c.holds.ensures ∙ c.if-not-holds.false)))
+    c.list_opens.ensures.opens

@@ -1,0 +1,51 @@
+-- Lemmas on what was reached: what the row that is found tells of the access, and steps of a search through a list.
+use Rattle.std.proofs.Common.{ℕ, suc, ◌+◌, ◌<◌, ◌≤◌, ◌≡◌, ◌||◌, ◌&&◌, ◌==◌, Bool, true, false, List, length, get_or, drop, if◌then◌else◌, Option, Some, None, refl, sym, ap, ◌∙◌, arith}
+use Rattle.std.specs.Prelude.{option_map}
+use Rattle.std.specs.List.{list_any}
+use Rattle.std.specs.Option.{option_map_or}
+use Rattle.std.proofs.Math.Seq.{drop-cons}
+use Rattle.std.proofs.lemmas.List.{drop_all}
+use Rattle.mg_calls_dom.specs.Searching.{allowed_row}
+use Rattle.mg_model.specs.declared.rights.Right.{Right}
+use Rattle.mg_model.specs.Access.{allowed, at, capabilities, domain_of, holds}
+use Rattle.mg_model.specs.ObjectCalls.{no_row, row_at}
+use Rattle.mg_model.specs.State.{Object, ObjectRow, State}
+
+-- where a row is reached the access is allowed, and the row is that of the address
+reached-when : (v : Bool) (o : Option Object) (row : ObjectRow) → Some row ≡ (if v then option_map (λ (object : Object). object.row) o else None) → (v ≡ true) × (option_map_or (λ (object : Object). object.row) o no_row ≡ row)
+reached-when true None row h = cc
+reached-when true (Some object) row h = let is : object.row ≡ row = cc in (refl, is)
+reached-when false o row h = cc
+
+pub reached_allowed : (state : State) (t a : ℕ) (right : Right) (row : ObjectRow) → Some row ≡ allowed_row state t a right → allowed state t a right ≡ true
+reached_allowed state t a right row h = (reached-when (allowed state t a right) (at state.objects a) row h).0
+
+pub reached_at : (state : State) (t a : ℕ) (right : Right) (row : ObjectRow) → Some row ≡ allowed_row state t a right → row_at state a ≡ row
+reached_at state t a right row h = (reached-when (allowed state t a right) (at state.objects a) row h).1
+
+-- where none is, the access is not allowed: an address that no object has is reached by none
+unreached-when : (o : Option Object) (test : Object → Bool) → None ≡ (if option_map_or test o false then option_map (λ (object : Object). object.row) o else None) → option_map_or test o false ≡ false
+unreached-when None test h = refl
+unreached-when (Some object) test h = by_test (test object) h
+  where
+    by_test : (v : Bool) → None ≡ (if v then Some object.row else None) → v ≡ false
+    by_test true h = cc
+    by_test false h = refl
+
+pub reached_none : (state : State) (t a : ℕ) (right : Right) → None ≡ allowed_row state t a right → allowed state t a right ≡ false
+reached_none state t a right h =
+    unreached-when (at state.objects a) (λ (object : Object). list_any (λ (entry : ℕ × ℕ). entry.0 == object.row.base && holds state.counters.period object.row entry.1 right) (capabilities state.objects state.counters.period (domain_of state t))) h
+
+-- an element that passes ends a search through a list
+pub any_hit : {X : Type 0} (test : X → Bool) (xs : List X) (i : ℕ) (x : X) → i < length xs → true ≡ test (get_or xs i x) → list_any test xs ≡ list_any test (drop i xs) → true ≡ list_any test xs
+any_hit test xs i x h hit same = sym (same ∙ ap (λ ys. list_any test ys) (drop-cons xs i x h) ∙ ap (λ v. v || list_any test (drop (suc i) xs)) (sym hit))
+
+-- one that does not leaves the later ones
+pub any_miss : {X : Type 0} (test : X → Bool) (xs : List X) (i : ℕ) (x : X) → i < length xs → false ≡ test (get_or xs i x) → list_any test xs ≡ list_any test (drop i xs) → list_any test xs ≡ list_any test (drop (i + 1) xs)
+any_miss test xs i x h miss same =
+    let next : suc i ≡ i + 1 = omega arith in
+    same ∙ ap (λ ys. list_any test ys) (drop-cons xs i x h) ∙ ap (λ v. v || list_any test (drop (suc i) xs)) (sym miss) ∙ ap (λ k. list_any test (drop k xs)) next
+
+-- behind the last there is none
+pub any_end : {X : Type 0} (test : X → Bool) (xs : List X) (i : ℕ) → length xs ≤ i → list_any test xs ≡ list_any test (drop i xs) → false ≡ list_any test xs
+any_end test xs i h same = sym (same ∙ ap (λ ys. list_any test ys) (drop_all i xs h))

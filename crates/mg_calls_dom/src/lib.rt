@@ -1,0 +1,16 @@
+//! The calls on a protection domain: what a thread may reach, and the words there that it reads and writes.
+//!
+//! A layer above learns of each call that its reply and the state after it are those of its row of the definition, from the
+//! point where the thread is known; what it read and staged is said in the words of `mg_volume`'s `specs/Calls.antt`.
+//! `reach` gives the row of the object that an address names where an access to it is allowed, which is what calls on an
+//! object begin with, and `validate` its base.
+//!
+//! `specs/Searching.antt` has what a search asks of the words of capability lists, `specs/ReachedLemmas.antt` what follows
+//! from what was reached.
+#![tactic(auto)]
+
+mod access;
+mod validating;
+
+pub use access::{load, store};
+pub use validating::{reach, validate};

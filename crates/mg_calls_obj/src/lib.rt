@@ -1,0 +1,9 @@
+//! The calls on an object.
+//!
+//! A layer above learns of each call that its reply and the state after it are those of its row of the definition, from the
+//! point where the thread is known; what it read and staged is said in the words of `mg_volume`'s `specs/Calls.antt`.
+#![tactic(auto)]
+
+mod telling;
+
+pub use telling::info;

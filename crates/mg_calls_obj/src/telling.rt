@@ -1,0 +1,57 @@
+// What is told of an object.
+ghost use Rattle.std.specs.Prelude.{List, ◌≡◌, ℕ, IfOk, OnErr};
+ghost use Rattle.std.specs.Option.{ForSome};
+ghost use Rattle.mg_disk.specs.Stops.{CountRose};
+ghost use Rattle.mg_model.specs.FewSlots.{HasFewSlots};
+ghost use Rattle.mg_model.specs.ObjectCalls as calls;
+ghost use Rattle.mg_volume.specs.Calls.{IsSoundOn, Reads};
+ghost use Rattle.mg_volume.specs.Meaning.{now_of};
+
+use mg_calls_dom::reach;
+use mg_disk::Disk;
+use mg_faults::Failed;
+use mg_model::{ObjRow, Refusal, Reply, Right, Steps};
+use mg_volume::Volume;
+use std::sync::ledger::Ledger;
+
+/// The rights in the order of their bits.
+const RIGHTS: [Right; 6] = [Right::R, Right::W, Right::X, Right::D, Right::P, Right::O];
+
+/// What is told of the object that has an address, to a thread with any right to it; one with none is refused (Denied), as
+/// where no such thread lives. Rights are tried in the order of their bits, and none behind the first that is given.
+/// [`Failed`] comes only where a call of the disk failed. The state stays.
+pub fn info<D: Disk, L: Ledger>(
+    v: &mut Volume,
+    disk: &mut D,
+    t: u64,
+    a: u64,
+    steps: &mut Steps<L>,
+) -> Result<Reply, Failed>
+    requires sound { IsSoundOn D.Disk v.old disk.old }
+    ensures answers { IfOk result (λ reply. ForSome (D.seen disk.old) (λ image. calls.info (now_of v.old image) t a ≡ (now_of v.new image, reply))) }
+    ensures slots { IfOk result HasFewSlots }
+    ensures reads { Reads D.Disk v.old v.new disk.old disk.new steps.old steps.new }
+    ensures cause { OnErr result (CountRose D.Disk disk.old disk.new) }
+{
+    for right in RIGHTS {
+        match reach(v, disk, t, a, right, steps)? {
+            Some(object) => return Ok(about(&object)),
+            None => {}
+        }
+    }
+    Ok(Reply::No(Refusal::Denied))
+}
+
+// What is told of it.
+fn about(object: &ObjRow) -> Reply
+    ensures { result ≡ calls.about object.now }
+{
+    Reply::About {
+        base: object.base(),
+        pages: object.pages(),
+        account: object.account(),
+        passwords: object.passwords().len() as u64,
+        entries: object.entries().len() as u64,
+        ext: object.ext().is_some() as u64,
+    }
+}

@@ -1,0 +1,42 @@
+-- Which thread makes a call.
+use Rattle.std.specs.Prelude.{◌≡◌, ◌==◌, ℕ, Bool, true, false, Option, Some, None, find, is_some, option_map, if◌then◌else◌}
+use Rattle.std.proofs.Common.{refl, sym, ap, ◌∙◌}
+use Rattle.mg_disk.specs.Disk.{Image}
+use Rattle.mg_model.specs.declared.calls.Call.{Call}
+use Rattle.mg_model.specs.declared.calls.Call.TheVariants as call
+use Rattle.mg_model.specs.declared.replies.Refusal.TheVariants.{NoThread}
+use Rattle.mg_model.specs.declared.replies.Reply.TheVariants.{No}
+use Rattle.mg_model.specs.Refused.{Answer}
+use Rattle.mg_model.specs.State.{State, Thread, ThreadRow}
+use Rattle.mg_model.specs.Step.{of_thread, step_of}
+use Rattle.mg_model.specs.Turn.{thread_call}
+use Rattle.mg_volume.specs.Held.{VolumeHeld}
+use Rattle.mg_volume.specs.Meaning.{now_of, threads_in}
+use Rattle.mg_volume.specs.RunLemmas.{told_thread}
+
+found-row : (o : Option Thread) (row : Option ThreadRow) → option_map (λ (thread : Thread). thread.row) o ≡ row → is_some o ≡ is_some row
+found-row None row h = ap is_some h
+found-row (Some thread) row h = ap is_some h
+
+module _ (v : VolumeHeld) (image : Image) (t : ℕ) (answer : Answer) where
+  by_row : (row : Option ThreadRow) (lives : Bool) → is_some row ≡ lives → option_map (λ (thread : Thread). thread.row) (find (λ (thread : Thread). thread.number == t) (threads_in v)) ≡ row
+      → of_thread (now_of v image) t answer ≡ (if lives then answer else (now_of v image, No NoThread))
+  by_row row lives is found =
+      ap (λ b. if b then answer else (now_of v image, No NoThread))
+      (ap is_some (told_thread v image t (find (λ (thread : Thread). thread.number == t) (threads_in v)) refl) ∙ found-row (find (λ (thread : Thread). thread.number == t) (threads_in v)) row found ∙ is)
+
+  pub lives : (row : ThreadRow) → option_map (λ (thread : Thread). thread.row) (find (λ (thread : Thread). thread.number == t) (threads_in v)) ≡ Some row → of_thread (now_of v image) t answer ≡ answer
+  lives row found = by_row (Some row) true refl found
+
+  pub gone : option_map (λ (thread : Thread). thread.row) (find (λ (thread : Thread). thread.number == t) (threads_in v)) ≡ None → of_thread (now_of v image) t answer ≡ (now_of v image, No NoThread)
+  gone found = by_row None false refl found
+
+-- a line of none of the calls that the machine answers without a thread
+pub by-thread : (made : Call) (state : State) (t : ℕ) → (made ≡ call.Bad → ⊥) → (made ≡ call.Later → ⊥) → (made ≡ call.Turn → ⊥) → (made ≡ call.Next → ⊥) → (made ≡ call.Rent → ⊥)
+    → step_of state t made ≡ of_thread state t (thread_call state t made)
+by-thread call.Bad state t bad later turn next rent = absurd (bad refl)
+by-thread call.Later state t bad later turn next rent = absurd (later refl)
+by-thread call.Turn state t bad later turn next rent = absurd (turn refl)
+by-thread call.Next state t bad later turn next rent = absurd (next refl)
+by-thread call.Rent state t bad later turn next rent = absurd (rent refl)
+by-thread other state t bad later turn next rent = refl

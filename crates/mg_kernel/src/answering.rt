@@ -1,0 +1,115 @@
+// What a line is answered: the order of the first refusals, and the call that answers else.
+ghost use Rattle.std.specs.Prelude.{List, ◌≡◌, ◌≤◌, ℕ, true, false, IfOk, OnErr};
+ghost use Rattle.std.specs.Option.{ForSome};
+ghost use Rattle.mg_disk.specs.Stops.{CountRose};
+ghost use Rattle.mg_model.specs.Built.{IsBuilt, is_built};
+ghost use Rattle.mg_model.specs.FewSlots.{HasFewSlots};
+ghost use Rattle.mg_model.specs.Refused.{IsRefusal};
+ghost use Rattle.mg_model.specs.Step.{of_thread, step};
+ghost use Rattle.mg_model.specs.Turn.{thread_call};
+ghost use Rattle.mg_volume.specs.Calls.{IsSoundOn, Serves};
+ghost use Rattle.mg_volume.specs.Meaning.{Keeps, now_of, staged_of};
+
+use mg_calls_dom::{load, store};
+use mg_calls_obj::info;
+use mg_disk::Disk;
+use mg_faults::Failed;
+use mg_model::{Call, Line, Refusal, Reply, Steps};
+use mg_volume::Volume;
+use std::sync::ledger::Ledger;
+
+/// What a line is answered. [`Failed`] comes only where a call of the disk failed, and the state then stays.
+pub(crate) fn answer<D: Disk, L: Ledger>(
+    v: &mut Volume,
+    disk: &mut D,
+    line: &Line,
+    steps: &mut Steps<L>,
+) -> Result<Reply, Failed>
+    requires sound { IsSoundOn D.Disk v.old disk.old }
+    requires few { staged_of v.old ≤ 28 }
+    requires built { IsBuilt line.now }
+    ensures answers { IfOk result (λ reply. ForSome (D.seen disk.old) (λ image. step (now_of v.old image) line.now ≡ (now_of v.new image, reply))) }
+    ensures refused { IfOk result (λ reply. IsRefusal reply → staged_of v.new ≡ staged_of v.old) }
+    ensures failed { OnErr result (Keeps v.old v.new) }
+    ensures slots { IfOk result HasFewSlots }
+    ensures serves { Serves 132 D.Disk v.old v.new disk.old disk.new steps.old steps.new }
+    ensures cause { OnErr result (CountRose D.Disk disk.old disk.new) }
+{
+    match line.call {
+        Call::Bad => Ok(Reply::No(Refusal::Syntax)),
+        Call::Later => Ok(Reply::No(Refusal::Later)),
+        Call::Turn | Call::Next | Call::Rent => unreachable!(),
+        _ => by_thread(v, disk, line.thread, &line.call, steps),
+    }
+}
+
+// What a call of a thread is answered, NoThread where no such thread lives.
+fn by_thread<D: Disk, L: Ledger>(
+    v: &mut Volume,
+    disk: &mut D,
+    t: u64,
+    call: &Call,
+    steps: &mut Steps<L>,
+) -> Result<Reply, Failed>
+    requires sound { IsSoundOn D.Disk v.old disk.old }
+    requires few { staged_of v.old ≤ 28 }
+    requires built { is_built call.now ≡ true }
+    ensures answers { IfOk result (λ reply. ForSome (D.seen disk.old) (λ image. of_thread (now_of v.old image) t (thread_call (now_of v.old image) t call.now) ≡ (now_of v.new image, reply))) }
+    ensures refused { IfOk result (λ reply. IsRefusal reply → staged_of v.new ≡ staged_of v.old) }
+    ensures failed { OnErr result (Keeps v.old v.new) }
+    ensures slots { IfOk result HasFewSlots }
+    ensures serves { Serves 132 D.Disk v.old v.new disk.old disk.new steps.old steps.new }
+    ensures cause { OnErr result (CountRose D.Disk disk.old disk.new) }
+{
+    match v.thread(t) {
+        Some(_) => called(v, disk, t, call, steps),
+        None => Ok(Reply::No(Refusal::NoThread)),
+    }
+}
+
+// The call, of a thread that lives.
+fn called<D: Disk, L: Ledger>(
+    v: &mut Volume,
+    disk: &mut D,
+    t: u64,
+    call: &Call,
+    steps: &mut Steps<L>,
+) -> Result<Reply, Failed>
+    requires sound { IsSoundOn D.Disk v.old disk.old }
+    requires few { staged_of v.old ≤ 28 }
+    requires built { is_built call.now ≡ true }
+    ensures answers { IfOk result (λ reply. ForSome (D.seen disk.old) (λ image. thread_call (now_of v.old image) t call.now ≡ (now_of v.new image, reply))) }
+    ensures refused { IfOk result (λ reply. IsRefusal reply → staged_of v.new ≡ staged_of v.old) }
+    ensures failed { OnErr result (Keeps v.old v.new) }
+    ensures slots { IfOk result HasFewSlots }
+    ensures serves { Serves 132 D.Disk v.old v.new disk.old disk.new steps.old steps.new }
+    ensures cause { OnErr result (CountRose D.Disk disk.old disk.new) }
+{
+    match *call {
+        Call::Load { a } => load(v, disk, t, a, steps),
+        Call::Store { a, value } => store(v, disk, t, a, value, steps),
+        Call::Info { base } => info(v, disk, t, base, steps),
+        Call::Turn | Call::Next | Call::Rent | Call::Bad | Call::Later => {
+            Ok(Reply::No(Refusal::Syntax))
+        }
+        // Not built yet.
+        Call::Create { .. }
+        | Call::Delete { .. }
+        | Call::Pwadd { .. }
+        | Call::Pwdel { .. }
+        | Call::Entry { .. }
+        | Call::Ext { .. }
+        | Call::Recharge { .. }
+        | Call::Apdadd { .. }
+        | Call::Apddel { .. }
+        | Call::Apdlist
+        | Call::Pdx { .. }
+        | Call::Ret
+        | Call::Thread { .. }
+        | Call::End { .. }
+        | Call::Resume { .. }
+        | Call::Account { .. }
+        | Call::Pay { .. }
+        | Call::Balance { .. } => unreachable!(),
+    }
+}
