@@ -11,6 +11,7 @@ mod SoundRows
 mod ToldSettings
 pub mod BareRows
 pub mod BlockParts
+pub mod ChangedBy
 pub mod CommitChange
 pub mod Drawn
 pub mod Found

@@ -176,11 +176,11 @@ module _ {D : Type 0} (facts : Ghosts D) where
   }
 
 -- what is found among the rows that are held is found in the state
-pub told-rows : (v : VolumeHeld) (image : Image) (test : ObjectRow → Bool) (found : Option ObjectRow) → find test (objects_in v) ≡ found → find test (map (λ (o : Object). o.row) (now_of v image).objects) ≡ found
-told-rows v image test found is = ap (λ rows. find test rows) (now_rows v image) ∙ is
+pub told_rows : (v : VolumeHeld) (image : Image) (test : ObjectRow → Bool) (found : Option ObjectRow) → find test (objects_in v) ≡ found → find test (map (λ (o : Object). o.row) (now_of v image).objects) ≡ found
+told_rows v image test found is = ap (λ rows. find test rows) (now_rows v image) ∙ is
 
-pub told-period : (v : VolumeHeld) (image : Image) (counters : Counters) → counters ≡ counters_in v → (now_of v image).counters.period ≡ counters.period
-told-period v image counters is = ap (λ (k : Counters). k.period) (now_counters v image ∙ sym is)
+pub told_period : (v : VolumeHeld) (image : Image) (counters : Counters) → counters ≡ counters_in v → (now_of v image).counters.period ≡ counters.period
+told_period v image counters is = ap (λ (k : Counters). k.period) (now_counters v image ∙ sym is)
 
-pub told-thread : (v : VolumeHeld) (image : Image) (t : ℕ) (found : Option Thread) → find (λ (thread : Thread). thread.number == t) (threads_in v) ≡ found → thread_of (now_of v image) t ≡ found
-told-thread v image t found is = ap (λ threads. find (λ (thread : Thread). thread.number == t) threads) (now_threads v image) ∙ is
+pub told_thread : (v : VolumeHeld) (image : Image) (t : ℕ) (found : Option Thread) → find (λ (thread : Thread). thread.number == t) (threads_in v) ≡ found → thread_of (now_of v image) t ≡ found
+told_thread v image t found is = ap (λ threads. find (λ (thread : Thread). thread.number == t) threads) (now_threads v image) ∙ is

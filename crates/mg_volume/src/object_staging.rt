@@ -1,5 +1,5 @@
 // Objects of a volume that are staged.
-ghost use Rattle.std.specs.Prelude.{List, ◌≡◌, ◌⊎◌, ◌≤◌, ◌<◌, ◌+◌, ◌*◌, ◌/◌, ◌==◌, ℕ, true, find, length, position, slice_index_or, None, Some};
+ghost use Rattle.std.specs.Prelude.{List, ◌≡◌, ◌⊎◌, ◌≤◌, ◌<◌, ◌+◌, ◌*◌, ◌/◌, ◌==◌, ℕ, true, find, length, position, slice_index_or, None, Some, IfSome};
 ghost use Rattle.mg_model.specs.Objects.{with_object, with_row, without_object};
 ghost use Rattle.mg_model.specs.State.{ObjectRow};
 ghost use Rattle.mg_volume.specs.Calls.{Stages};
@@ -42,11 +42,12 @@ impl Volume {
     }
 
     /// Stages another row of an object that is there, with as many pages. Its block is staged already, or fewer than 160 are;
-    /// one more is at most.
+    /// one more is at most. The state is the one that any change gives which makes this row of the old one.
     pub fn change(&mut self, row: ObjRow)
         requires change { MayChange (objects_in self.old) row }
         requires room { (is_object_staged self.old row.base ≡ true) ⊎ (staged_of self.old < 160) }
-        ensures now { (image : List (List ℕ)) → IsSpelledBy self.old image → now_of self.new image ≡ record (now_of self.old image) { objects = with_row row.base (λ old. row) (now_of self.old image).objects } }
+        ensures now { (change : ObjectRow → ObjectRow) → IfSome (find (λ old. old.base == row.base) (objects_in self.old)) (λ old. change old ≡ row)
+            → (image : List (List ℕ)) → IsSpelledBy self.old image → now_of self.new image ≡ record (now_of self.old image) { objects = with_row row.base change (now_of self.old image).objects } }
         ensures rows { objects_in self.new ≡ with_other_row row (objects_in self.old) }
         ensures stages { Stages 1 self.old self.new }
         ensures objects { ObjectsStillStaged self.old self.new }

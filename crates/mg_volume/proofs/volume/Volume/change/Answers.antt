@@ -1,10 +1,11 @@
 use Rattle.std.proofs.Common.{◌∙◌, ap, set, sym, refl, arith, ⊎_elim, inl, inr}
+use Rattle.mg_volume.proofs.ChangedBy.{changed_by}
 use Rattle.mg_volume.proofs.ObjectChanged.{changed_held, changed_here, changed_low, changed_room, changed_rows, changed_still, stands_at, StandsAt}
 use Rattle.mg_volume.proofs.ObjectStaged.{change_now, change_staged, with_objects}
 use Rattle.mg_volume.proofs.RowsApart.{changes_there}
 use Rattle.mg_volume.proofs.Stages.{stages_is}
 use Rattle.mg_volume.specs.Again.{pages_spelled}
-use Rattle.mg_volume.specs.Meaning.{objects_in, staged_of}
+use Rattle.mg_volume.specs.Meaning.{now_of, objects_in, staged_of}
 use Rattle.mg_volume.specs.Staging.{has_base}
 use Rattle.mg_volume.specs.contracts.volume.Volume.{the_view}
 use Rattle.mg_volume.proofs.volume.Volume.change.Goals as goal
@@ -35,12 +36,13 @@ invariant_of-self c =
     changed_held (the_view c.self.inside) c.index_of-i.result c.index.result.now c.args.row c.self.invariant.kept (at c) c.stage_row.new.pages _ _ _ _ c.self.invariant c.base-base.ensures.kept (omega arith) c.stage_row.ensures.shape.frames c.stage_row.ensures.table
 
 pub returns-clause-now : goal.returns-clause-now
-returns-clause-now c image is =
+returns-clause-now c change gives image is =
     let v = the_view c.self.inside in
     let s = at c in
     let was = rw (← c.self.view_is) at is in
     rw (← c.self.view_is)
-    (change_now v c.stage_row.new.pages image c.index_of-i.result c.index.result.now c.args.row c.deref.result.now s.few was c.self.invariant.kept s.there c.stage_row.ensures.table s.base s.pages c.stage_row.ensures.rows)
+    (change_now v c.stage_row.new.pages image c.index_of-i.result c.index.result.now c.args.row c.deref.result.now s.few was c.self.invariant.kept s.there c.stage_row.ensures.table s.base s.pages c.stage_row.ensures.rows
+    ∙ ap (λ objects. record (now_of v image) { objects = objects }) (changed_by v image c.args.row change c.self.invariant.kept (rw (← c.self.view_is) at c.requires.change) (rw (← c.self.view_is) at gives)))
 
 pub returns-clause-rows : goal.returns-clause-rows
 returns-clause-rows c =
