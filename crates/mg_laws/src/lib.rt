@@ -1,7 +1,7 @@
 //! Laws of the machine that `mg_model` defines: each is the contract of a public function, which does nothing when it runs.
 //!
 //! `specs/Laws.antt` has the statements, as relations on a step, an access or a search; the contracts below say of which
-//! definition each holds. Nothing else stands on this crate, so the definitions can be cited without their laws.
+//! definition each holds. A crate that needs no law stands on the definitions alone, and does not wait for these proofs.
 #![tactic(auto)]
 
 ghost use Rattle.mg_model.specs.Access.{allowed};
