@@ -1,5 +1,5 @@
 // The kernel.
-ghost use Rattle.std.specs.Prelude.{List, ◌≡◌, ◌≤◌, ◌<◌, ◌+◌, ◌⊎◌, ℕ, true, false, IfOk, IsTrue, MatchOption, None, OnErr, OnOk, option_map, if◌then◌else◌};
+ghost use Rattle.std.specs.Prelude.{List, ◌≡◌, ◌≤◌, ◌<◌, ◌+◌, ◌⊎◌, ℕ, true, false, IfOk, IsOk, IsTrue, MatchOption, None, OnErr, OnOk, option_map, if◌then◌else◌};
 ghost use Rattle.std.specs.Option.{ForSome};
 ghost use Rattle.mg_disk.specs.Stops.{CountGoes, CountRose, Leaves, NothingPending, WritesNothing};
 ghost use Rattle.mg_kernel.specs.Meaning.{StandsOn, is_live, now_of, staged_of, words_in};
@@ -120,8 +120,8 @@ impl Kernel {
         validate(&mut self.volume, disk, t, a, r, steps)
     }
 
-    /// Makes the state durable. After [`Failed`], which comes only where a call of the disk failed, the kernel is not live,
-    /// and a stop leaves the state of before or the new one.
+    /// Makes the state durable. With nothing staged no call of the disk is made. After [`Failed`], which comes only where a
+    /// call of the disk failed, the kernel is not live, and a stop leaves the state of before or the new one.
     pub fn commit<D: Disk>(&mut self, disk: &mut D) -> Result<(), Failed>
         requires live { IsTrue (is_live self.old) }
         requires stands { StandsOn D.Disk self.old disk.old }
@@ -135,6 +135,7 @@ impl Kernel {
         ensures cause { OnErr result (CountRose D.Disk disk.old disk.new) }
         ensures count { CountGoes D.Disk disk.old disk.new }
         ensures blocks { D.block_count disk.new ≡ D.block_count disk.old }
+        ensures nothing { staged_of self.old ≡ 0 → (disk.new ≡ disk.old) × IsOk result }
     {
         match self.volume.commit(disk) {
             Ok(()) => {

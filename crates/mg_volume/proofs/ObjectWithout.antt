@@ -1,5 +1,5 @@
 -- A volume without one of its objects, whose pages are unbound.
-use Rattle.std.specs.Prelude.{◌≡◌, ◌≢◌, ◌⊎◌, ◌+◌, ◌-◌, ◌/◌, ◌≤◌, ◌<◌, ◌==◌, ◌||◌, nat_le, nat_lt, ℕ, Bool, true, false, not, All, List, [], ◌∷◌, filter, find, if◌then◌else◌, length, map, remove, Option, Some, None}
+use Rattle.std.specs.Prelude.{◌≡◌, ◌≢◌, ◌⊎◌, ◌+◌, ◌/◌, ◌≤◌, ◌<◌, ◌==◌, ◌||◌, nat_le, nat_lt, ℕ, Bool, true, false, not, All, List, [], ◌∷◌, filter, find, if◌then◌else◌, length, map, remove, Option, Some, None}
 use Rattle.std.specs.List.{list_any}
 use Rattle.std.specs.Option.{option_map_or}
 use Rattle.std.proofs.Common.{refl, sym, ap, subst, get_or, ◌∙◌, ⊎_elim, inl, inr, arith}
@@ -8,7 +8,7 @@ use Rattle.std.proofs.lemmas.List.Elements.{All-filter, All-get_or, All-head, Al
 use Rattle.std.proofs.lemmas.List.Kept.{AllPairs-filter}
 use Rattle.mg_disk.specs.Disk.{Image}
 use Rattle.mg_model.specs.KeptLists.{All-both, length-filter-le, sum_by-filter-le}
-use Rattle.mg_model.specs.Layout.{first_object_block, first_thread_block, globals_block, object_rows}
+use Rattle.mg_model.specs.Layout.{first_object_block, object_rows}
 use Rattle.mg_model.specs.Objects.{page_behind, page_of, without_object}
 use Rattle.mg_model.specs.Ranges.{IsObjectRow}
 use Rattle.mg_model.specs.State.{Object, ObjectRow}

@@ -1,5 +1,5 @@
 -- Objects that lie apart, in the order of their bases.
-use Rattle.std.specs.Prelude.{◌≡◌, ◌≢◌, ◌≤◌, ◌<◌, ◌/◌, ◌⊎◌, ◌==◌, ◌&&◌, ◌||◌, nat_le, nat_lt, ℕ, true, false, All, List, [], ◌∷◌, filter, find, not, if◌then◌else◌, IsSomeAnd, Some}
+use Rattle.std.specs.Prelude.{◌≡◌, ◌≢◌, ◌≤◌, ◌<◌, ◌/◌, ◌⊎◌, ◌==◌, ◌&&◌, ◌||◌, nat_le, nat_lt, ℕ, true, false, All, List, [], ◌∷◌, find, if◌then◌else◌, IsSomeAnd, Some}
 use Rattle.std.specs.List.{list_any}
 use Rattle.std.proofs.Common.{refl, sym, ap, subst, ◌∙◌, ⊎_elim, inl, inr, arith}
 use Rattle.std.proofs.Math.Bool.{and-false}
@@ -10,7 +10,7 @@ use Rattle.mg_model.specs.Ranges.{IsObjectRow}
 use Rattle.mg_model.specs.State.{ObjectRow}
 use Rattle.mg_volume.specs.Held.{VolumeHeld}
 use Rattle.mg_volume.specs.Meaning.{IsKept, is_page_in, objects_in, rows_apart}
-use Rattle.mg_volume.specs.Staging.{MayChange, MayJoin, has_base, is_apart_from, with_new_row}
+use Rattle.mg_volume.specs.Staging.{MayChange, has_base, is_apart_from, with_new_row}
 
 -- the rows that a volume holds keep their ranges
 pub kept_rows : (v : VolumeHeld) → IsKept v → All IsObjectRow (objects_in v)

@@ -15,7 +15,7 @@ use Rattle.mg_model.specs.WellFormed.{IsWellFormed}
 use Rattle.mg_volume.specs.Calls.{IsSoundOn, Reads, Serves, Stages}
 use Rattle.mg_volume.specs.Held.{VolumeHeld}
 use Rattle.mg_volume.specs.Laws.{now_counters, now_rows, now_threads, staged_stands}
-use Rattle.mg_volume.specs.Meaning.{Keeps, SameShape, StandsOn, counters_in, now_of, objects_in, staged_of, threads_in, words_in}
+use Rattle.mg_volume.specs.Meaning.{Keeps, SameShape, StandsOn, counters_in, now_of, objects_in, threads_in, words_in}
 use Rattle.mg_volume.specs.Staging.{StillStaged}
 
 -- no word

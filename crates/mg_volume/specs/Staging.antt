@@ -1,9 +1,9 @@
 -- What may be staged of a volume, what that makes of its rows, and which blocks wait for a commit.
-use Rattle.std.specs.Prelude.{◌≡◌, ◌⊎◌, ◌+◌, ◌-◌, ◌*◌, ◌/◌, ◌≤◌, ◌<◌, ◌||◌, nat_le, nat_lt, ℕ, zero, suc, Bool, true, List, [], ◌∷◌, Some, if◌then◌else◌, find, length, map, replicate, sum_by, IsSomeAnd, Option, None, filter, not, ◌==◌}
+use Rattle.std.specs.Prelude.{◌≡◌, ◌+◌, ◌-◌, ◌*◌, ◌/◌, ◌≤◌, ◌<◌, ◌||◌, nat_le, nat_lt, ℕ, zero, suc, Bool, true, List, [], ◌∷◌, Some, if◌then◌else◌, find, length, map, replicate, sum_by, IsSomeAnd, Option, None, filter, not, ◌==◌}
 use Rattle.std.specs.List.{list_all, list_any}
 use Rattle.std.specs.Option.{option_map_or}
 use Rattle.mg_model.specs.Layout.{first_object_block, first_thread_block, globals_block, object_rows}
-use Rattle.mg_model.specs.Objects.{page_behind, page_of, with_object, with_row, without_object}
+use Rattle.mg_model.specs.Objects.{page_behind, page_of}
 use Rattle.mg_model.specs.State.{Object, ObjectRow, Thread, ThreadRow}
 use Rattle.mg_model.specs.Threads.{with_new_thread}
 use Rattle.mg_pages.specs.Meaning as pages

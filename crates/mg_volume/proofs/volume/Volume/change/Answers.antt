@@ -1,4 +1,4 @@
-use Rattle.std.proofs.Common.{◌∙◌, ap, set, sym, refl, arith, ⊎_elim, inl, inr}
+use Rattle.std.proofs.Common.{◌∙◌, ap, set, refl, arith, ⊎_elim, inl, inr}
 use Rattle.mg_volume.proofs.ChangedBy.{changed_by}
 use Rattle.mg_volume.proofs.ObjectChanged.{changed_held, changed_here, changed_low, changed_room, changed_rows, changed_still, stands_at, StandsAt}
 use Rattle.mg_volume.proofs.ObjectStaged.{change_now, change_staged, with_objects}

@@ -1,4 +1,4 @@
-use Rattle.std.proofs.Common.{None, Some, sym, ◌∙◌}
+use Rattle.std.proofs.Common.{None, Some}
 use Rattle.mg_model.specs.Access.{covers}
 use Rattle.mg_volume.proofs.Found.{object_found}
 use Rattle.mg_volume.proofs.FoundOwn.{found_own}
