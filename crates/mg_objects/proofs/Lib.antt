@@ -1,0 +1,5 @@
+mod Apart
+mod Changes
+mod Keys
+mod Lists
+mod Rows

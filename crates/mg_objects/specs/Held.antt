@@ -1,0 +1,60 @@
+-- The objects of a volume as a list: each row with its place in the table, in the order of the bases.
+use Rattle.std.specs.Prelude.{◌≡◌, ◌+◌, ◌≤◌, ◌<◌, ◌==◌, ◌⊎◌, ℕ, nat_lt, false, true, All, List, [], ◌∷◌, Option, None, Some, if◌then◌else◌, length, map}
+use Rattle.std.specs.List.{AllPairs, list_any}
+use Rattle.std.specs.Option.{ForSome}
+use Rattle.mg_model.specs.Objects.{page_behind, page_of}
+use Rattle.mg_model.specs.Ranges.{IsObjectRow}
+use Rattle.mg_model.specs.State.{ObjectRow}
+
+-- the rows that are there, each with its place, where the first place is i
+abbrev pub live_from : ℕ → List (Option ObjectRow) → List (ℕ × ObjectRow)
+live_from i [] = []
+live_from i (None ∷ rows) = live_from (i + 1) rows
+live_from i (Some row ∷ rows) = (i, row) ∷ live_from (i + 1) rows
+
+-- a row before the first with a larger base
+abbrev pub into_place : ℕ × ObjectRow → List (ℕ × ObjectRow) → List (ℕ × ObjectRow)
+into_place new [] = new ∷ []
+into_place new (o ∷ objects) = if nat_lt new.1.base o.1.base then new ∷ o ∷ objects else o ∷ into_place new objects
+
+abbrev pub by_base : List (ℕ × ObjectRow) → List (ℕ × ObjectRow)
+by_base [] = []
+by_base (o ∷ objects) = into_place o (by_base objects)
+
+-- the objects of a table
+abbrev pub objects_in : List (Option ObjectRow) → List (ℕ × ObjectRow)
+objects_in rows = by_base (live_from 0 rows)
+
+-- no page of the first is one of the second or behind it
+abbrev pub IsBefore : ℕ × ObjectRow → ℕ × ObjectRow → Type 0
+IsBefore a b = page_behind a.1 ≤ page_of b.1
+
+-- no two share a page
+abbrev pub AreApart : List (ℕ × ObjectRow) → Type 0
+AreApart objects = AllPairs IsBefore objects
+
+-- the base of a row, 0 where there is none
+abbrev pub base_of : Option ObjectRow → ℕ
+base_of None = 0
+base_of (Some row) = row.base
+
+-- a table of rows, and the bases in its places
+pub record AreHeld (rows : List (Option ObjectRow)) (bases : List ℕ) : Type 0 where
+  pub long : length rows ≡ 4096
+  pub bases_are : bases ≡ map base_of rows
+  pub rows_are : All (λ (row : Option ObjectRow). ForSome row IsObjectRow) rows
+  pub apart : AreApart (objects_in rows)
+
+-- a row that shares no page with any of these
+abbrev pub MeetsNone : ObjectRow → List (ℕ × ObjectRow) → Type 0
+MeetsNone row objects = All (λ (o : ℕ × ObjectRow). (page_behind row ≤ page_of o.1) ⊎ (page_behind o.1 ≤ page_of row)) objects
+
+-- the objects with another row for the one that has its base
+abbrev pub with_row : ObjectRow → List (ℕ × ObjectRow) → List (ℕ × ObjectRow)
+with_row row objects = map (λ (o : ℕ × ObjectRow). if o.1.base == row.base then (o.0, row) else o) objects
+
+-- the lowest place that no object has
+pub record IsLowestFree (place : ℕ) (objects : List (ℕ × ObjectRow)) : Type 0 where
+  pub within : place < 4096
+  pub free : list_any (λ (o : ℕ × ObjectRow). o.0 == place) objects ≡ false
+  pub lowest : (k : ℕ) → k < place → list_any (λ (o : ℕ × ObjectRow). o.0 == k) objects ≡ true

@@ -1,0 +1,175 @@
+// The objects of a volume, by place and by base.
+ghost use Rattle.std.specs.Prelude.{◌≡◌, ◌≤◌, ◌<◌, ◌==◌, [], ℕ, All, IfOk, None, filter, find, length, not, replicate, true};
+ghost use Rattle.std.specs.List.{AllWithin, HoldsAt, list_any};
+ghost use Rattle.std.specs.Option.{option_copied, option_map};
+ghost use Rattle.mg_model.specs.Access.{covers};
+ghost use Rattle.mg_model.specs.Ranges.{IsObjectRow};
+ghost use Rattle.mg_objects.specs.Held.{AreApart, IsLowestFree, MeetsNone, into_place, with_row};
+
+use mg_index::Index;
+use mg_model::ObjRow;
+use std::alloc::{AllocError, Global};
+use std::marker::Model;
+
+/// How many objects a volume has room for.
+pub const MOST_OBJECTS: u64 = 4096;
+
+/// The objects of a volume, no two of which share a page.
+#[derive(Drop)]
+pub struct Objects {
+    // The rows by place.
+    rows: Vec<Option<ObjRow>>,
+    // The base of each row, 0 where there is none.
+    bases: Index,
+}
+
+impl Model for Objects {
+    ghost use Rattle.std.specs.Prelude.{ℕ, List};
+    ghost use Rattle.mg_model.specs.State.{ObjectRow};
+    ghost use Rattle.mg_objects.specs.Held.{AreHeld, objects_in};
+
+    ghost Value = { List (ℕ × ObjectRow) };
+
+    ghost view = { λ objects. objects_in objects.rows.items };
+
+    ghost invariant = { λ objects. AreHeld objects.rows.items objects.bases };
+}
+
+impl Objects {
+    /// No objects, and room for 4,096. All memory that they will need is taken here.
+    pub fn new(alloc: Global) -> Result<Objects, AllocError>
+        ensures { IfOk result (λ objects. objects ≡ []) }
+    {
+        let rows = no_rows(alloc, MOST_OBJECTS)?;
+        let bases = Index::new(alloc, MOST_OBJECTS)?;
+        Ok(Objects { rows, bases })
+    }
+
+    /// How many objects there are, 4,096 at most. No two share a page, and each has a place of its own.
+    pub fn len(&self) -> usize
+        ensures count { result ≡ length self.now }
+        ensures few { result ≤ 4096 }
+        ensures apart { AreApart self.now }
+        ensures places { All (λ o. o.0 < 4096) self.now }
+        ensures rows { All (λ o. IsObjectRow o.1) self.now }
+    {
+        self.bases.pairs().len()
+    }
+
+    /// The object of this rank in the order of the bases, 0 for the first.
+    pub fn nth(&self, i: usize) -> &ObjRow
+        requires { i < length self.now }
+        ensures { HoldsAt (λ o. result.now ≡ o.1) self.now i }
+    {
+        let (_, place) = self.bases.pairs()[i];
+        match &self.rows[place as usize] {
+            Some(row) => row,
+            None => unreachable!(),
+        }
+    }
+
+    /// The place of the object with this base.
+    pub fn place(&self, base: u64) -> Option<u64>
+        ensures { result ≡ option_map (λ o. o.0) (find (λ o. o.1.base == base) self.now) }
+    {
+        let bases = &self.bases;
+        if base == 0 {
+            return None;
+        }
+        bases.place_of(base)
+    }
+
+    /// The row in a place of the table.
+    pub fn at(&self, place: u64) -> Option<&ObjRow>
+        ensures { option_copied result ≡ option_map (λ o. o.1) (find (λ o. o.0 == place) self.now) }
+    {
+        let rows = &self.rows;
+        if place >= MOST_OBJECTS {
+            return None;
+        }
+        rows[place as usize].as_ref()
+    }
+
+    /// The object with this base.
+    pub fn get(&self, base: u64) -> Option<&ObjRow>
+        ensures { option_copied result ≡ option_map (λ o. o.1) (find (λ o. o.1.base == base) self.now) }
+    {
+        let _ = &self.rows;
+        match self.place(base) {
+            Some(place) => self.at(place),
+            None => None,
+        }
+    }
+
+    /// The object that has this address. It halves what is left at each step.
+    pub fn covering(&self, a: u64) -> Option<&ObjRow>
+        ensures { option_copied result ≡ option_map (λ o. o.1) (find (λ o. covers o.1 a) self.now) }
+    {
+        let _ = &self.rows;
+        let count = self.count_up_to(a);
+        if count == 0 {
+            return None;
+        }
+        let row = self.nth(count - 1);
+        if row.covers(a) { Some(row) } else { None }
+    }
+
+    /// One object more, in the lowest place that is free, and gives that place. It shares no page with another.
+    pub fn insert(&mut self, row: ObjRow) -> u64
+        requires few { length self.old < 4096 }
+        requires apart { MeetsNone row self.old }
+        ensures objects { self.new ≡ into_place (result, row) self.old }
+        ensures place { IsLowestFree result self.old }
+    {
+        let base = row.base();
+        let place = self.bases.add(base);
+        self.rows[place as usize] = Some(row);
+        place
+    }
+
+    /// The object with this base goes, and its place is free.
+    pub fn remove(&mut self, base: u64)
+        requires { list_any (λ o. o.1.base == base) self.old ≡ true }
+        ensures { self.new ≡ filter (λ o. not (o.1.base == base)) self.old }
+    {
+        match self.place(base) {
+            Some(place) => {
+                self.bases.release_range(base, 1);
+                self.rows[place as usize] = None;
+            }
+            None => unreachable!(),
+        }
+    }
+
+    /// Another row for the object with its base, which has as many pages. It stands in the same place.
+    pub fn update(&mut self, row: ObjRow)
+        requires there { list_any (λ o. o.1.base == row.base) self.old ≡ true }
+        requires pages { All (λ o. o.1.base ≡ row.base → o.1.pages ≡ row.pages) self.old }
+        ensures { self.new ≡ with_row row self.old }
+    {
+        match self.place(row.base()) {
+            Some(place) => self.rows[place as usize] = Some(row),
+            None => unreachable!(),
+        }
+    }
+
+    // How many objects begin at this address or before it.
+    fn count_up_to(&self, a: u64) -> usize
+        ensures within { result ≤ length self.now }
+        ensures below { AllWithin (λ o. o.1.base ≤ a) self.now 0 result }
+        ensures above { AllWithin (λ o. a < o.1.base) self.now result (length self.now) }
+    {
+        self.bases.pairs().partition_point(|pair| pair.0 <= a)
+    }
+}
+
+// So many places without a row.
+fn no_rows(alloc: Global, places: u64) -> Result<Vec<Option<ObjRow>>, AllocError>
+    ensures { IfOk result (λ rows. rows.items ≡ replicate places None) }
+{
+    let mut rows = Vec::with_capacity(alloc, places as usize)?;
+    for _ in 0..places {
+        rows.push(None)?;
+    }
+    Ok(rows)
+}
