@@ -5,8 +5,8 @@
 //! more, has to be the same each time. Where the file asks for stops, the disk is stopped after each call that follows the
 //! opening; what is opened then has to answer the rest as the whole run did. `docs/SESSIONS.md` has the form of a file.
 //!
-//! A line is put for each file: how much was compared, or where it differs, and then the status is 1. It is 2 where the files
-//! can't be read, the lines can't be put, or memory is wanting.
+//! A line is put for each file: how much was compared, or where it differs, and then the status is 1. It is 2 where the folder
+//! can't be listed, the lines can't be put, or memory is wanting.
 #![tactic(auto)]
 
 mod kept;
@@ -43,8 +43,12 @@ fn main(rt: HostRuntime) -> ExitCode {
 fn check_files<R: Files + Env + Print + AllocGlobal + Clone + Drop>(rt: &R) -> io::Result<bool> {
     let mut is_good = true;
     for path in paths(rt)? {
-        let bytes = fs::read(rt, path.as_str())?;
         let name = name_of(path.as_str());
+        let Ok(bytes) = fs::read(rt, path.as_str()) else {
+            println!(rt; "{name}: can't be read")?;
+            is_good = false;
+            continue;
+        };
         match told(rt.alloc(), name, &bytes) {
             Ok(line) => println!(rt; "{name}: {line}")?,
             Err(Trouble::Memory) => return Err(AllocError.into()),

@@ -16,9 +16,11 @@ const BATCH: &str = "8";
 pub fn read_session(alloc: Global, bytes: &[u8]) -> Result<Session, Trouble> {
     let mut session = empty_session(alloc)?;
     let mut run = empty_run(alloc);
+    let mut last = 0;
     for (i, line) in bytes.split_inclusive(|b| *b == b'\n').enumerate() {
         let number = i.saturating_add(1);
         let text = line.strip_suffix(b"\n").unwrap_or(line);
+        last = number;
         run.input.extend_from_slice(line)?;
         if is_call(text) {
             add_call(alloc, &mut run, number, line.ends_with(b"\n"), text)?;
@@ -31,7 +33,7 @@ pub fn read_session(alloc: Global, bytes: &[u8]) -> Result<Session, Trouble> {
             set(alloc, &mut session, number, setting)?;
         }
     }
-    session.runs.push(whole(alloc, run, 0)?)?;
+    session.runs.push(whole(alloc, run, last)?)?;
     Ok(session)
 }
 
@@ -75,7 +77,11 @@ fn add_call(
 ) -> Result<(), Trouble> {
     let early = if is_ended { 0 } else { 1 };
     if run.answers.len() != run.calls.len().saturating_add(early) {
-        return Err(trouble(alloc, number, "the line before it has not one answer")?);
+        return Err(trouble(
+            alloc,
+            number,
+            "the calls before it have not one answer each",
+        )?);
     }
     run.calls.push(Call {
         number,
@@ -91,10 +97,10 @@ fn ended(alloc: Global, text: &[u8]) -> Result<Vec<u8>, AllocError> {
     Ok(line)
 }
 
-/// A run that ends before this line; the end of the file is line 0.
+/// A run that ends with this line.
 fn whole(alloc: Global, run: Run, number: usize) -> Result<Run, Trouble> {
     if run.answers.len() != run.calls.len() {
-        return Err(trouble(alloc, number, "the last call before it has not one answer")?);
+        return Err(trouble(alloc, number, "the calls up to it have not one answer each")?);
     }
     Ok(run)
 }
@@ -119,7 +125,7 @@ fn set(alloc: Global, session: &mut Session, number: usize, text: &[u8]) -> Resu
     Ok(())
 }
 
-/// What is told of a file that is no session; line 0 is its end.
+/// What is told of a file that is no session.
 fn trouble(alloc: Global, number: usize, text: &str) -> Result<Trouble, AllocError> {
     Ok(Trouble::Told(format!(in alloc; "line {number}: {text}")?))
 }
