@@ -9,8 +9,8 @@
 //! can't be listed, the lines can't be put, or memory is wanting.
 #![tactic(auto)]
 
+mod bench;
 mod kept;
-mod openings;
 mod parts;
 mod reading;
 mod running;
