@@ -1,5 +1,5 @@
 -- What slots reach, in terms of rows.
-use Rattle.std.proofs.Common.{ℕ, ◌≡◌, ◌==◌, ◌||◌, ◌&&◌, Bool, false, List, [], ◌∷◌, if◌then◌else◌, Option, Some, None, refl, sym, ap, ◌∙◌}
+use Rattle.std.proofs.Common.{ℕ, ◌≡◌, ◌==◌, ◌&&◌, Bool, false, List, [], if◌then◌else◌, Option, Some, None, sym, ap, ◌∙◌}
 use Rattle.std.specs.Prelude.{find, map, option_map}
 use Rattle.std.specs.List.{list_any}
 use Rattle.std.specs.Option.{option_map_or}

@@ -1,6 +1,6 @@
 -- What is told of the state of a volume that stands on a disk.
-use Rattle.std.proofs.Common.{ℕ, ◌+◌, ◌*◌, ◌/◌, ◌<◌, ◌≡◌, ◌==◌, ◌&&◌, Bool, true, false, length, Option, Some, refl, sym, ap, subst, ◌∙◌}
-use Rattle.std.specs.Prelude.{find, map, nat_le, slice_index}
+use Rattle.std.proofs.Common.{ℕ, ◌+◌, ◌*◌, ◌/◌, ◌<◌, ◌≡◌, ◌==◌, ◌&&◌, Bool, true, false, length, Some, refl, sym, subst}
+use Rattle.std.specs.Prelude.{find, nat_le, slice_index}
 use Rattle.std.specs.List.{list_all}
 use Rattle.mg_disk.specs.Disk.{Image}
 use Rattle.mg_calls_dom.proofs.Apart.{word-based}

@@ -1,5 +1,5 @@
 -- How a kernel stands on a disk, from what is known of its volume.
-use Rattle.std.specs.Prelude.{◌≡◌, true, ℕ, Result, Ok, Err, IfOk, OnErr}
+use Rattle.std.specs.Prelude.{◌≡◌, true, Result, Ok, Err, IfOk, OnErr}
 use Rattle.std.specs.Option.{ForSome}
 use Rattle.std.proofs.Common.{sym, ap, subst, ◌∙◌}
 use Rattle.mg_disk.specs.Disk.{AreBytes, Image}
@@ -10,7 +10,6 @@ use Rattle.mg_kernel.specs.declared.kernel.Kernel.{Kernel}
 use Rattle.mg_model.specs.declared.calls.Line.{Line}
 use Rattle.mg_model.specs.declared.replies.Reply.{Reply}
 use Rattle.mg_model.specs.Refused.{Answer}
-use Rattle.mg_model.specs.State.{State}
 use Rattle.mg_model.specs.Step.{step}
 use Rattle.mg_model.specs.WellFormed.{IsInRange, IsWellFormed, KeepsWellFormed}
 use Rattle.mg_volume.specs.Calls.{IsSoundOn}

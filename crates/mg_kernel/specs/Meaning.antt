@@ -1,5 +1,5 @@
 -- What a kernel is, as functions of the value and an image. The layers above see these words by their names.
-use Rattle.std.specs.Prelude.{◌≡◌, ◌≤◌, ℕ, Bool, true}
+use Rattle.std.specs.Prelude.{◌≡◌, ◌≤◌, ℕ, Bool}
 use Rattle.std.specs.Option.{ForSome}
 use Rattle.mg_disk.specs.Disk.{Image}
 use Rattle.mg_disk.specs.Stops.{NothingPending}

@@ -1,4 +1,4 @@
-use Rattle.std.proofs.Common.{None, Some, get_or, sym, ap, ◌∙◌}
+use Rattle.std.proofs.Common.{get_or, sym, ap, ◌∙◌}
 use Rattle.mg_calls_dom.specs.ReachedLemmas.{any_end, any_hit, any_miss, reached_allowed, reached_none}
 use Rattle.mg_calls_dom.specs.Searching.{allowed_row}
 use Rattle.mg_calls_obj.proofs.Told.{info-denied, info-known}
