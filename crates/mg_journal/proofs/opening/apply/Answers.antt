@@ -1,5 +1,5 @@
 use Rattle.std.proofs.Common.{rules, ◌≡◌, ◌∙◌, ℕ, sym, true}
-use Rattle.mg_disk.specs.Disk.{Image, SameBut}
+use Rattle.mg_disk.specs.Disk.{SameBut}
 use Rattle.mg_disk.specs.Runs.{quiet, torn}
 use Rattle.mg_journal.specs.Applied.{filled}
 use Rattle.mg_journal.specs.Contents.{names}
