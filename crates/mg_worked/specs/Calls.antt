@@ -115,3 +115,85 @@ calls_that_are_none =
     ∷ (codes "1 load 0x100000848", codes "ok 0x1aed8da0b819d2bd")
     ∷ (codes "1 info 0x100000000", codes "ok 0x0000000100000000 1 1 2 0 0")
     ∷ []
+
+-- A script sees refusals by their numbers; the root has 32 passwords before. The sessions of scripts and of instructions have
+-- 1, 3, 4, 13, 14, 16 and 22; those of calls that no script makes are 18, 19 and 21.
+abbrev pub refusals_by_number : Session
+refusals_by_number =
+    ((codes "1 account 1 0x28bd8653e56a5d40 0", codes "ok 2 0x1aed8da0b819d2bd")
+    ∷ (codes "1 create 1 2 0x1aed8da0b819d2bd", codes "ok 0x0000000100001000 0xc70d778bccef36a8")
+    ∷ (codes "rent", codes "ok 1 1 1")
+    ∷ (codes "1 apdadd 1 0", codes "ok 1")
+    ∷ (codes "1 apdadd 2 0", codes "ok 2")
+    ∷ (codes "1 apdadd 3 0", codes "ok 3")
+    ∷ (codes "1 apdadd 4 0", codes "ok 4")
+    ∷ (codes "1 apdadd 5 0", codes "ok 5")
+    ∷ (codes "1 apdadd 6 0", codes "ok 6")
+    ∷ (codes "1 apdadd 7 0", codes "ok 7")
+    ∷ [])
+    ++ stores 0x100000400 (
+    -- 2, no thread 9
+    0x100000702 ∷ 0xf00000001 ∷ 0x900000101 ∷ 0xe ∷ 0x80000070007 ∷
+    -- 5, a size of 0
+    0x300000001 ∷ 0x101 ∷ 0xe ∷ 0x80800070007 ∷
+    -- 6, no account 9
+    0x1200000001 ∷ 0x900000101 ∷ 0xe ∷ 0x81000070007 ∷
+    -- 20, 1001 credits of account 1
+    0x1000000001 ∷ 0x100000101 ∷ 0xe56a5d4000000201 ∷ 0x28bd865300000202 ∷ 0x3e900000301 ∷ 0xe ∷ 0x81800070007 ∷
+    -- 9, 64 pages
+    0x300000001 ∷ 0x4000000101 ∷ 0x100000201 ∷ 0xe56a5d4000000301 ∷ 0x28bd865300000302 ∷ 0xe ∷ 0x82000070007 ∷
+    -- 7, account 2 owes
+    0x300000001 ∷ 0x100000101 ∷ 0x200000201 ∷ 0xb819d2bd00000301 ∷ 0x1aed8da000000302 ∷ 0xe ∷ 0x82800070007 ∷
+    -- 10, no password 1
+    0x700000001 ∷ 0x101 ∷ 0x100000102 ∷ 0x100000201 ∷ 0xe ∷ 0x83000070007 ∷
+    -- 11, an offset of 4
+    0x800000001 ∷ 0x400000201 ∷ 0xe ∷ 0x83800070007 ∷
+    -- 8, a 33rd password
+    0x600000001 ∷ 0x100000201 ∷ 0xe ∷ 0x84000070007 ∷
+    -- 17, thread 1
+    0xe00000001 ∷ 0x100000101 ∷ 0xe ∷ 0x84800070007 ∷
+    -- 12, a ninth slot
+    0xb00000001 ∷ 0xe ∷ 0x85000070007 ∷
+    0x0 ∷
+    [])
+    ++ stores 0x100000a00 (
+    -- 15, a seventeenth frame
+    0xa0000000101 ∷ 0x100000102 ∷ 0x100000201 ∷ 0x2010b ∷ 0x85800070007 ∷ 0x0 ∷
+    [])
+    ++ ((codes "1 thread 0x100000400", codes "ok 2")
+    ∷ [])
+    ++ replicate 55 (codes "2 turn", codes "ok Ready")
+    ++ ((codes "2 turn", codes "ok Stopped")
+    ∷ (codes "1 entry 0x100000000 0xa00", codes "ok 0x0000000100000a00")
+    ∷ (codes "2 pdx 0x100000a00 1", codes "ok 2")
+    ∷ (codes "2 pdx 0x100000a00 1", codes "ok 3")
+    ∷ (codes "2 pdx 0x100000a00 1", codes "ok 4")
+    ∷ (codes "2 pdx 0x100000a00 1", codes "ok 5")
+    ∷ (codes "2 pdx 0x100000a00 1", codes "ok 6")
+    ∷ (codes "2 pdx 0x100000a00 1", codes "ok 7")
+    ∷ (codes "2 pdx 0x100000a00 1", codes "ok 8")
+    ∷ (codes "2 pdx 0x100000a00 1", codes "ok 9")
+    ∷ (codes "2 pdx 0x100000a00 1", codes "ok 10")
+    ∷ (codes "2 pdx 0x100000a00 1", codes "ok 11")
+    ∷ (codes "2 pdx 0x100000a00 1", codes "ok 12")
+    ∷ (codes "2 pdx 0x100000a00 1", codes "ok 13")
+    ∷ (codes "2 pdx 0x100000a00 1", codes "ok 14")
+    ∷ (codes "2 pdx 0x100000a00 1", codes "ok 15")
+    ∷ (codes "2 pdx 0x100000a00 1", codes "ok 16")
+    ∷ (codes "1 resume 2", codes "ok")
+    ∷ [])
+    ++ replicate 5 (codes "2 turn", codes "ok Ready")
+    ++ (codes "2 turn", codes "ok Stopped")
+    ∷ (codes "1 load 0x100000800", codes "ok 0x0000000000000002")
+    ∷ (codes "1 load 0x100000808", codes "ok 0x0000000000000005")
+    ∷ (codes "1 load 0x100000810", codes "ok 0x0000000000000006")
+    ∷ (codes "1 load 0x100000818", codes "ok 0x0000000000000014")
+    ∷ (codes "1 load 0x100000820", codes "ok 0x0000000000000009")
+    ∷ (codes "1 load 0x100000828", codes "ok 0x0000000000000007")
+    ∷ (codes "1 load 0x100000830", codes "ok 0x000000000000000a")
+    ∷ (codes "1 load 0x100000838", codes "ok 0x000000000000000b")
+    ∷ (codes "1 load 0x100000840", codes "ok 0x0000000000000008")
+    ∷ (codes "1 load 0x100000848", codes "ok 0x0000000000000011")
+    ∷ (codes "1 load 0x100000850", codes "ok 0x000000000000000c")
+    ∷ (codes "1 load 0x100000858", codes "ok 0x000000000000000f")
+    ∷ []

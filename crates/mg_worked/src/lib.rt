@@ -14,7 +14,7 @@ ghost use Rattle.mg_worked.specs.Rights.{all_frames_are_taken, each_right_alone,
 ghost use Rattle.mg_worked.specs.Domains.{domain_ends_with_its_frame, eight_slots, entry_is_there_once, sixteen_frames};
 ghost use Rattle.mg_worked.specs.Scripts.{creators_are_births, script_asks_for_a_balance, script_sees_a_refusal, store_into_a_list};
 ghost use Rattle.mg_worked.specs.Instructions.{arithmetic_and_jumps, each_field_is_looked_at, scripts_enter_and_return, sums_wrap};
-ghost use Rattle.mg_worked.specs.Calls.{calls_by_number, calls_that_are_none};
+ghost use Rattle.mg_worked.specs.Calls.{calls_by_number, calls_that_are_none, refusals_by_number};
 ghost use Rattle.mg_worked.specs.Accounts.{object_is_recharged, password_ends, rent_takes_what_is_there};
 ghost use Rattle.mg_worked.specs.Refusals.{counted, full_root, last_password, last_period, many_accounts, many_threads, many_threads_live, more_accounts, refusals, thirty_two_passwords};
 ghost use Rattle.mg_worked.specs.Edges.{last_until, no_more_births, no_more_objects, no_more_passwords, sixteen_entries, slots_in_order, steps_of_the_tariff, too_many_pages, what_is_denied, who_pays, with_births, with_objects};
@@ -79,6 +79,7 @@ pub fn sessions_of_instructions()
 pub fn sessions_of_calls()
     ensures calls_by_number { IsAnswered (fresh small) calls_by_number }
     ensures calls_that_are_none { IsAnswered (fresh small) calls_that_are_none }
+    ensures refusals_by_number { IsAnswered (full_root 31) refusals_by_number }
 {}
 
 /// Accounts, rent and passwords that end.
