@@ -1,10 +1,10 @@
 -- Worked sessions: rows of the table of calls at their edges.
-use Rattle.std.specs.Prelude.{ℕ, [], ◌∷◌, codes, replicate}
+use Rattle.std.specs.Prelude.{◌++◌, ℕ, [], ◌∷◌, codes, replicate}
 use Rattle.mg_model.specs.Draw.{password_drawn}
 use Rattle.mg_model.specs.Fresh.{fresh, root_object}
 use Rattle.mg_model.specs.State.{State}
 use Rattle.mg_worked.specs.Drawn.{zero_seed}
-use Rattle.mg_worked.specs.Sessions.{Session, small}
+use Rattle.mg_worked.specs.Sessions.{Session, small, stores}
 
 -- a fresh state with so many objects, all like the root
 abbrev pub with_objects : ℕ → State
@@ -188,4 +188,39 @@ abbrev pub no_more_births : Session
 no_more_births =
     (codes "1 thread 0x100000000", codes "ok 2")
     ∷ (codes "1 thread 0x100000000", codes "no Limit")
+    ∷ []
+
+-- From the last period but one: passwords without an until, of `create` and of `pwadd`, still reach at the last.
+abbrev pub without_until : Session
+without_until =
+    (codes "1 create 1 1 0x28bd8653e56a5d40", codes "ok 0x0000000100001000 0x1aed8da0b819d2bd")
+    ∷ (codes "1 store 0x100000020 0x100001000", codes "ok")
+    ∷ (codes "1 store 0x100000028 0x1aed8da0b819d2bd", codes "ok")
+    ∷ (codes "1 store 0x100000000 2", codes "ok")
+    ∷ (codes "1 pwadd 0x100001000 R", codes "ok 0xc70d778bccef36a8")
+    ∷ (codes "rent", codes "ok 16777215 1 2")
+    ∷ (codes "1 load 0x100001000", codes "ok 0x0000000000000000")
+    ∷ (codes "1 store 0x100000028 0xc70d778bccef36a8", codes "ok")
+    ∷ (codes "1 load 0x100001000", codes "ok 0x0000000000000000")
+    ∷ (codes "1 store 0x100001000 1", codes "no Denied")
+    ∷ (codes "rent", codes "no Calendar")
+    ∷ []
+
+-- A thread that ends itself in its turn; the cursor keeps its number, which the next thread gets again.
+abbrev pub ended_in_its_turn : Session
+ended_in_its_turn =
+    stores 0x100000200 (0xe00000001 ∷ 0x200000101 ∷ 0xe ∷ [])
+    ++ (codes "1 thread 0x100000200", codes "ok 2")
+    ∷ (codes "2 ret", codes "no NoFrame")
+    ∷ (codes "next", codes "ok 2 Ready")
+    ∷ (codes "next", codes "ok 2 Ready")
+    ∷ (codes "next", codes "ok 2 Ended")
+    ∷ (codes "next", codes "no Idle")
+    ∷ (codes "1 thread 0x100000200", codes "ok 2")
+    ∷ (codes "1 thread 0x100000200", codes "ok 3")
+    ∷ (codes "next", codes "ok 3 Ready")
+    ∷ (codes "next", codes "ok 2 Ready")
+    ∷ (codes "next", codes "ok 3 Ready")
+    ∷ (codes "1 end 2", codes "ok")
+    ∷ (codes "next", codes "ok 3 Ready")
     ∷ []

@@ -17,7 +17,7 @@ ghost use Rattle.mg_worked.specs.Instructions.{arithmetic_and_jumps, each_field_
 ghost use Rattle.mg_worked.specs.Calls.{calls_by_number, calls_that_are_none, refusals_by_number};
 ghost use Rattle.mg_worked.specs.Accounts.{object_is_recharged, password_ends, rent_takes_what_is_there};
 ghost use Rattle.mg_worked.specs.Refusals.{counted, full_root, last_password, last_period, many_accounts, many_threads, many_threads_live, more_accounts, refusals, thirty_two_passwords};
-ghost use Rattle.mg_worked.specs.Edges.{last_until, no_more_births, no_more_objects, no_more_passwords, sixteen_entries, slots_in_order, steps_of_the_tariff, too_many_pages, what_is_denied, who_pays, with_births, with_objects};
+ghost use Rattle.mg_worked.specs.Edges.{ended_in_its_turn, last_until, no_more_births, no_more_objects, no_more_passwords, sixteen_entries, slots_in_order, steps_of_the_tariff, too_many_pages, what_is_denied, who_pays, with_births, with_objects, without_until};
 ghost use Rattle.mg_worked.specs.Users.{documents_and_mailbox};
 ghost use Rattle.mg_worked.specs.Forms.{blanks, early, early_replies, forms, notes, notes_replies, numbers};
 ghost use Rattle.mg_worked.specs.Drawn.{DrawsFirst};
@@ -111,6 +111,8 @@ pub fn sessions_at_the_edges()
     ensures no_more_objects { IsAnswered (with_objects 4096) no_more_objects }
     ensures too_many_pages { IsAnswered (with_objects 4095) too_many_pages }
     ensures no_more_births { IsAnswered (with_births 4294967294) no_more_births }
+    ensures without_until { IsAnswered (counted 2 16777214) without_until }
+    ensures ended_in_its_turn { IsAnswered (fresh small) ended_in_its_turn }
 {}
 
 /// Documents, code and accounts of a user.

@@ -44,3 +44,11 @@ returns-clause-too_many_pages c = refl
 pub returns-clause-no_more_births : goal.returns-clause-no_more_births
 unfolding block_word double_rounds quarter_round column_round diagonal_round u32_at hex_text digits
 returns-clause-no_more_births c = refl
+
+pub returns-clause-without_until : goal.returns-clause-without_until
+unfolding block_word double_rounds quarter_round column_round diagonal_round u32_at hex_text digits
+returns-clause-without_until c = refl
+
+pub returns-clause-ended_in_its_turn : goal.returns-clause-ended_in_its_turn
+unfolding block_word double_rounds quarter_round column_round diagonal_round u32_at hex_text digits
+returns-clause-ended_in_its_turn c = refl
