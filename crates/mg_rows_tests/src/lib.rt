@@ -1,10 +1,12 @@
 //! Tests of rows, settings and places: bytes and numbers that no contract spells out.
 //!
-//! They stand above `mg_model`, `mg_rows` and `mg_layout`, over their public calls, so that those are proved once. A contract
-//! there says of each call what its definition answers; here are bytes of rows, a superblock and a fresh volume that were
-//! worked out by hand from docs/VOLUME.md, and passwords that RFC 8439 prints.
+//! They stand above `mg_model`, `mg_rows`, `mg_layout`, `mg_index` and `mg_objects`, over their public calls, so that those
+//! are proved once. A contract there says of each call what its definition answers; here are bytes of rows, a superblock and a
+//! fresh volume that were worked out by hand from docs/VOLUME.md, passwords that RFC 8439 prints, and calls that take memory.
 #![tactic(auto)]
 
+#[cfg(test)]
+mod indexes;
 #[cfg(test)]
 mod layout;
 #[cfg(test)]
