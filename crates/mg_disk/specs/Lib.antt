@@ -1,11 +1,14 @@
-pub mod Blocks
-pub mod Calls
+-- Definitions, in the order in which one reads them: what a disk promises, and the same in the words of the layers above.
 pub mod Disk
-pub mod Fuse
-pub mod Held
+pub mod Stops
+pub mod Calls
+-- What the disks of this crate show.
+pub mod Blocks
 pub mod Memory
 pub mod MemoryTurn
+pub mod Held
+pub mod Fuse
+pub use Rattle.mg_faults.specs.Faults
+-- Lemmas that Held or crates above cite. None of them is part of a statement.
 pub mod Places
 pub mod Runs
-pub mod Stops
-pub use Rattle.mg_faults.specs.Faults
