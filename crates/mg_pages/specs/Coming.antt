@@ -1,4 +1,4 @@
--- What lies outside the journal's reach: the length of an image, and the blocks before the globals.
+-- Lemmas on what lies outside the journal's reach: the length of an image, and the blocks before the globals.
 use Rattle.std.specs.Prelude.{◌≡◌, ◌+◌, ◌<◌, ◌&&◌, nat_le, nat_lt, ℕ, zero, suc, true, false, List, [], ◌∷◌, ◌++◌, length, slice_set, Option, Some}
 use Rattle.std.specs.Option.{option_map_or}
 use Rattle.std.proofs.Common.{refl, sym, ap, ◌∙◌, ⊎_elim, arith}

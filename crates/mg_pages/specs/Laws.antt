@@ -1,4 +1,4 @@
--- What the layer above may know of an image that spells the pages.
+-- Lemmas on an image that spells the pages: what the layer above may know of it.
 use Rattle.std.specs.Prelude.{◌≡◌, ◌≤◌, ℕ, true, List, [], ◌∷◌, drop, length, Option, Some}
 use Rattle.std.specs.Option.{option_map_or}
 use Rattle.std.proofs.Common.{refl, sym, ap, ◌∙◌, arith}

@@ -1,4 +1,4 @@
--- A page has 512 words, wherever it lies.
+-- Lemmas on lengths: a page has 512 words, wherever it lies.
 use Rattle.std.specs.Prelude.{◌≡◌, ◌+◌, ◌==◌, ℕ, zero, suc, List, length, position, replicate, Option, Some, None}
 use Rattle.std.specs.Option.{option_map_or}
 use Rattle.std.proofs.Common.{refl, ap}

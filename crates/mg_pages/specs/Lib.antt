@@ -1,9 +1,12 @@
-pub mod Coming
-pub mod Committing
-pub mod Entries
+-- Definitions, in the order in which one reads them. First what a layer above sees.
 pub mod Held
+pub mod Once
+pub mod Meaning
+-- What the parts of this crate do.
+pub mod Entries
+pub mod Parts
+pub mod Committing
+-- Lemmas that crates above cite. None of them is part of a statement.
+pub mod Coming
 pub mod Laws
 pub mod Lengths
-pub mod Meaning
-pub mod Once
-pub mod Parts
