@@ -1,4 +1,4 @@
--- How runs of reads join.
+-- Lemmas on how runs of reads join.
 use Rattle.std.specs.Prelude.{◌≡◌, ℕ}
 use Rattle.std.proofs.Common.{refl, sym, ap, ◌∙◌, arith}
 use Rattle.mg_disk.specs.declared.disk.Disk.{Ghosts}
