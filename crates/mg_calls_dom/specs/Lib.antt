@@ -1,2 +1,4 @@
-pub mod ReachedLemmas
+-- Definitions.
 pub mod Searching
+-- Lemmas that crates above cite. None of them is part of a statement.
+pub mod ReachedLemmas

@@ -1,4 +1,6 @@
-pub mod Distinct
-pub mod Pairs
-pub mod Places
+-- Definitions.
 pub mod Words
+pub mod Pairs
+-- Lemmas that crates above cite. None of them is part of a statement.
+pub mod Distinct
+pub mod Places

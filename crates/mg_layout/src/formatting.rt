@@ -1,4 +1,4 @@
-// How a volume is made, so that a stop at any moment leaves the volume from before, none, or the fresh one.
+// How a volume is made, so that a stop at any moment leaves what the blocks behind the gate spelled, no volume, or the fresh one.
 ghost use Rattle.std.specs.Prelude.{◌≡◌, ◌≤◌, ◌<◌, OnErr, OnOk, option_map, slice_set};
 ghost use Rattle.std.specs.Option.{ForSome};
 ghost use Rattle.mg_disk.specs.Disk.{Image, SameBut, only_place};
@@ -23,7 +23,8 @@ pub enum FormatFault {
     /// The volume needs more blocks than the disk has. No call was made on the disk.
     #[error("the volume needs {need} blocks, and the disk has {have}")]
     TooSmall { need: u64, have: u64 },
-    /// A call of the disk failed. What the disk holds is no volume, the volume from before, or the fresh one.
+    /// A call of the disk failed. What the disk holds is no volume, what the blocks behind the gate spelled, or the fresh
+    /// one.
     #[error("a call of the disk failed")]
     Disk,
 }

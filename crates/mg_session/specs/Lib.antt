@@ -1,7 +1,9 @@
+-- Definitions, in the order in which one reads them. First what the top call promises.
 pub mod Commands
 pub mod Headline
+-- What the parts of a session do.
 pub mod Incoming
+pub mod Waiting
 pub mod Readings
 pub mod Sessions
 pub mod Unopened
-pub mod Waiting

@@ -29,7 +29,7 @@ use Rattle.mg_volume.specs.Meaning.{IsHeld, IsKept, IsSpelledBy, Spelled, bare_r
 use Rattle.mg_volume.specs.Staging.{MayJoin, ObjectsStillStaged, blank, free_place, has_base, is_object_staged, place_for, with_new_row}
 use Rattle.mg_volume.specs.RowLists.{row_at, row_set, set_other, set_placed}
 use Rattle.mg_volume.specs.Sound.{all_spelled, object-placed}
-use Rattle.mg_volume.specs.Staged.{objects_apart}
+use Rattle.mg_volume.proofs.Staged.{objects_apart}
 use Rattle.mg_volume.specs.StagesRows.{StagesRows}
 
 -- a page that no frame holds reads as zeros

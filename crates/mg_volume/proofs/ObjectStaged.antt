@@ -22,7 +22,7 @@ use Rattle.mg_volume.specs.Meaning.{IsKept, IsSpelledBy, Spelled, by_base, now_o
 use Rattle.mg_volume.specs.RowLists.{DistinctBy, ArePlaced, row_at, row_set, set_other, set_placed, tell, told}
 use Rattle.mg_volume.specs.Sound.{all_spelled}
 use Rattle.mg_volume.specs.StagesRows.{StagesRows}
-use Rattle.mg_volume.specs.Staged.{agree, objects_apart, set_apart, set_there}
+use Rattle.mg_volume.proofs.Staged.{agree, objects_apart, set_apart, set_there}
 
 abbrev pub with_objects : VolumeHeld → List (ℕ × ObjectRow) → PagesHeld → VolumeHeld
 with_objects v objects p = record v { objects = objects; pages = p }

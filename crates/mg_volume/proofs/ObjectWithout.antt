@@ -19,7 +19,7 @@ use Rattle.mg_volume.proofs.ObjectRemoved.{IsOrApart, LiesBefore, any_kept, apar
 use Rattle.mg_volume.proofs.ObjectStaged.{distinct_of, objects_staged, placed_of, with_objects}
 use Rattle.mg_volume.proofs.PagesChange.{all-bound, each-bound}
 use Rattle.mg_volume.proofs.RemovedOrder.{filter_order, row_set_none}
-use Rattle.mg_volume.specs.Again.{spelled_same}
+use Rattle.mg_volume.proofs.Again.{spelled_same}
 use Rattle.mg_volume.specs.Held.{VolumeHeld}
 use Rattle.mg_volume.specs.Meaning.{IsHeld, IsKept, IsSpelledBy, Spelled, by_base, has_page, is_page_in, now_of, objects_in, threads_in}
 use Rattle.mg_volume.proofs.StillStaged.{objects_still}
@@ -27,7 +27,7 @@ use Rattle.mg_volume.specs.Staging.{ObjectsStillStaged, free_place, has_base, pl
 use Rattle.mg_volume.specs.PageWords.{pages-same}
 use Rattle.mg_volume.specs.RowLists.{row_set, set_other, set_placed}
 use Rattle.mg_volume.specs.Sound.{all_spelled}
-use Rattle.mg_volume.specs.Staged.{objects_apart}
+use Rattle.mg_volume.proofs.Staged.{objects_apart}
 use Rattle.mg_volume.specs.StagesRows.{StagesRows}
 
 -- the objects but the one with a base

@@ -18,7 +18,7 @@ use Rattle.mg_volume.specs.Held.{VolumeHeld}
 use Rattle.mg_volume.specs.Meaning.{IsHeld, IsSpelledBy, Spelled, now_of, objects_in, threads_in}
 use Rattle.mg_volume.specs.Staging.{threads_with}
 use Rattle.mg_volume.specs.Numbered.{HasRoom, has_number, rows_with}
-use Rattle.mg_volume.specs.Staged.{agree, set_apart, set_there, staged_objects}
+use Rattle.mg_volume.proofs.Staged.{agree, set_apart, set_there, staged_objects}
 
 abbrev pub with_threads : VolumeHeld → List (ℕ × ThreadRow) → PagesHeld → VolumeHeld
 with_threads v rows p = record v { threads = rows; pages = p }

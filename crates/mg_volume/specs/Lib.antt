@@ -1,18 +1,19 @@
-pub mod Again
+-- Definitions, in the order in which one reads them. First what a layer above sees.
+pub mod Held
+pub mod Meaning
+pub mod Opening
+pub mod Staging
 pub mod Calls
+-- What the parts of this crate do.
+pub mod RowLists
+pub mod StagesRows
+pub mod Numbered
+pub mod Loading
+pub mod Sound
+-- Lemmas that crates above cite, and what these rest on. None of them is part of a statement.
 pub mod Contents
 pub mod Formed
-pub mod Held
 pub mod Laws
-pub mod Loading
-pub mod Meaning
-pub mod Numbered
-pub mod Opening
 pub mod PageWords
 pub mod Placed
-pub mod RowLists
 pub mod RunLemmas
-pub mod Sound
-pub mod Staged
-pub mod StagesRows
-pub mod Staging

@@ -4,7 +4,7 @@ use Rattle.mg_volume.proofs.ObjectChanged.{changed_held, changed_here, changed_l
 use Rattle.mg_volume.proofs.ObjectStaged.{change_now, change_staged, with_objects}
 use Rattle.mg_volume.proofs.RowsApart.{changes_there}
 use Rattle.mg_volume.proofs.Stages.{stages_is}
-use Rattle.mg_volume.specs.Again.{pages_spelled}
+use Rattle.mg_volume.proofs.Again.{pages_spelled}
 use Rattle.mg_volume.specs.Meaning.{now_of, objects_in, staged_of}
 use Rattle.mg_volume.specs.Staging.{has_base}
 use Rattle.mg_volume.specs.contracts.volume.Volume.{the_view}

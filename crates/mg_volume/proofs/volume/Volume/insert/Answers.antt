@@ -2,7 +2,7 @@ use Rattle.std.proofs.Common.{◌∙◌, ap, subst, arith, refl, ⊎_elim, inl, 
 use Rattle.mg_volume.proofs.ObjectInserted.{few_enough, inserted_held, inserted_here, inserted_low, inserted_now, inserted_room, inserted_rows, inserted_spelled, inserted_still}
 use Rattle.mg_volume.proofs.ObjectStaged.{with_objects}
 use Rattle.mg_volume.proofs.Stages.{stages_is}
-use Rattle.mg_volume.specs.Again.{pages_spelled}
+use Rattle.mg_volume.proofs.Again.{pages_spelled}
 use Rattle.mg_volume.specs.Meaning.{staged_of}
 use Rattle.mg_volume.specs.Staging.{free_place}
 use Rattle.mg_volume.specs.StagesRows.{StagesRows}

@@ -4,7 +4,7 @@ use Rattle.mg_pages.specs.Meaning as pages
 use Rattle.mg_volume.proofs.ObjectStaged.{with_objects}
 use Rattle.mg_volume.proofs.ObjectWithout.{Goes, goes, held_without, now_without, rows_without, shape_then, spelled_without, stages_then, still_without}
 use Rattle.mg_volume.proofs.Stages.{stages_is}
-use Rattle.mg_volume.specs.Again.{pages_spelled}
+use Rattle.mg_volume.proofs.Again.{pages_spelled}
 use Rattle.mg_volume.specs.Meaning.{staged_of}
 use Rattle.mg_volume.specs.contracts.volume.Volume.{the_view}
 use Rattle.mg_volume.proofs.volume.Volume.remove.Goals as goal

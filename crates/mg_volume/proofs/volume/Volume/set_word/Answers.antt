@@ -2,7 +2,7 @@ use Rattle.std.proofs.Common.{◌∙◌, ap, inl, inr, refl, ⊎_elim}
 use Rattle.std.proofs.lemmas.Result.{on_err_weaker, on_ok_weaker}
 use Rattle.mg_volume.proofs.PagesChange.{counted, frame_free, held_again, keeps_now, rows_same, same_objects, same_parts, same_sound, some_page, word_set}
 use Rattle.mg_volume.proofs.StillStaged.{objects_wait, still_staged}
-use Rattle.mg_volume.specs.Again.{pages_stand, stands_same, with_pages}
+use Rattle.mg_volume.proofs.Again.{pages_stand, stands_same, with_pages}
 use Rattle.mg_volume.specs.Meaning.{has_page, is_live, staged_of, total_of, words_in}
 use Rattle.mg_volume.specs.contracts.volume.Volume.{the_view}
 use Rattle.mg_volume.proofs.volume.Volume.set_word.Goals as goal

@@ -4,7 +4,7 @@ use Rattle.mg_volume.proofs.Stages.{held_counters, stages_is}
 use Rattle.mg_volume.proofs.StillStaged.{objects_wait}
 use Rattle.mg_volume.proofs.StillWaiting.{counters_here, counters_room}
 use Rattle.mg_volume.specs.Meaning.{objects_in}
-use Rattle.mg_volume.specs.Staged.{counters_now, counters_staged, with_counters}
+use Rattle.mg_volume.proofs.Staged.{counters_now, counters_staged, with_counters}
 use Rattle.mg_volume.specs.contracts.volume.Volume.{the_view}
 use Rattle.mg_volume.proofs.volume.Volume.stage_globals.Goals as goal
 
