@@ -1,35 +1,29 @@
 -- Which thread makes a call.
-use Rattle.std.specs.Prelude.{◌≡◌, ◌==◌, ℕ, Bool, true, false, Option, Some, None, find, is_some, option_map, if◌then◌else◌}
-use Rattle.std.proofs.Common.{refl, ap, ◌∙◌}
+use Rattle.std.specs.Prelude.{◌≡◌, ◌==◌, ℕ, Bool, true, false, Option, Some, None, find, is_some, if◌then◌else◌}
+use Rattle.std.proofs.Common.{refl, ap}
 use Rattle.mg_disk.specs.Disk.{Image}
 use Rattle.mg_model.specs.declared.calls.Call.{Call}
 use Rattle.mg_model.specs.declared.calls.Call.TheVariants as call
 use Rattle.mg_model.specs.declared.replies.Refusal.TheVariants.{NoThread}
 use Rattle.mg_model.specs.declared.replies.Reply.TheVariants.{No}
 use Rattle.mg_model.specs.Refused.{Answer}
-use Rattle.mg_model.specs.State.{State, Thread, ThreadRow}
+use Rattle.mg_model.specs.State.{State, Thread}
 use Rattle.mg_model.specs.Step.{of_thread, step_of}
 use Rattle.mg_model.specs.Turn.{thread_call}
 use Rattle.mg_volume.specs.Held.{VolumeHeld}
 use Rattle.mg_volume.specs.Meaning.{now_of, threads_in}
 use Rattle.mg_volume.specs.RunLemmas.{told_thread}
 
-found-row : (o : Option Thread) (row : Option ThreadRow) → option_map (λ (thread : Thread). thread.row) o ≡ row → is_some o ≡ is_some row
-found-row None row h = ap is_some h
-found-row (Some thread) row h = ap is_some h
-
 module _ (v : VolumeHeld) (image : Image) (t : ℕ) (answer : Answer) where
-  by_row : (row : Option ThreadRow) (lives : Bool) → is_some row ≡ lives → option_map (λ (thread : Thread). thread.row) (find (λ (thread : Thread). thread.number == t) (threads_in v)) ≡ row
-      → of_thread (now_of v image) t answer ≡ (if lives then answer else (now_of v image, No NoThread))
-  by_row row lives is found =
-      ap (λ b. if b then answer else (now_of v image, No NoThread))
-      (ap is_some (told_thread v image t (find (λ (thread : Thread). thread.number == t) (threads_in v)) refl) ∙ found-row (find (λ (thread : Thread). thread.number == t) (threads_in v)) row found ∙ is)
+  by_found : (found : Option Thread) → find (λ (thread : Thread). thread.number == t) (threads_in v) ≡ found
+      → of_thread (now_of v image) t answer ≡ (if is_some found then answer else (now_of v image, No NoThread))
+  by_found found is = ap (λ o. if is_some o then answer else (now_of v image, No NoThread)) (told_thread v image t found is)
 
-  pub lives : (row : ThreadRow) → option_map (λ (thread : Thread). thread.row) (find (λ (thread : Thread). thread.number == t) (threads_in v)) ≡ Some row → of_thread (now_of v image) t answer ≡ answer
-  lives row found = by_row (Some row) true refl found
+  pub lives : (thread : Thread) → find (λ (thread : Thread). thread.number == t) (threads_in v) ≡ Some thread → of_thread (now_of v image) t answer ≡ answer
+  lives thread found = by_found (Some thread) found
 
-  pub gone : option_map (λ (thread : Thread). thread.row) (find (λ (thread : Thread). thread.number == t) (threads_in v)) ≡ None → of_thread (now_of v image) t answer ≡ (now_of v image, No NoThread)
-  gone found = by_row None false refl found
+  pub gone : find (λ (thread : Thread). thread.number == t) (threads_in v) ≡ None → of_thread (now_of v image) t answer ≡ (now_of v image, No NoThread)
+  gone found = by_found None found
 
 -- a line of none of the calls that the machine answers without a thread
 pub by-thread : (made : Call) (state : State) (t : ℕ) → (made ≡ call.Bad → ⊥) → (made ≡ call.Later → ⊥) → (made ≡ call.Turn → ⊥) → (made ≡ call.Next → ⊥) → (made ≡ call.Rent → ⊥)

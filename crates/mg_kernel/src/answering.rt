@@ -61,7 +61,7 @@ fn by_thread<D: Disk, L: Ledger>(
     ensures serves { Serves 132 D.Disk v.old v.new disk.old disk.new steps.old steps.new }
     ensures cause { OnErr result (CountRose D.Disk disk.old disk.new) }
 {
-    match v.thread(t) {
+    match v.frame(t) {
         Some(_) => called(v, disk, t, call, steps),
         None => Ok(Reply::No(Refusal::NoThread)),
     }
