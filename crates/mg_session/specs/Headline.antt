@@ -23,7 +23,7 @@ use Rattle.mg_model.specs.Lines.{built_words, lines}
 use Rattle.mg_model.specs.Print.{answered, hex_text, ok_text, spaced, text}
 use Rattle.mg_model.specs.Settings.{Settings}
 use Rattle.mg_model.specs.State.{State}
-use Rattle.mg_model.specs.Step.{after}
+use Rattle.mg_model.specs.Step.{after, prefix}
 use Rattle.mg_model.specs.Volume.{Damaged, Is, NotVolume, OldVolume, VolumeRead, volume}
 use Rattle.mg_session.specs.declared.batches.Ended.{Ended}
 use Rattle.mg_session.specs.declared.batches.Ended.TheVariants as ended
@@ -127,7 +127,7 @@ SpellsAfter s input told = IsSomeAnd told (λ image. volume image ≡ Is (after 
 
 -- the image spells the state after some first ones of the lines
 abbrev pub IsPrefix : State → List Line → Image → Type 0
-IsPrefix s ls c = (k : ℕ) × (k ≤ length ls) × (volume c ≡ Is (after s (take k ls)))
+IsPrefix s ls c = (k : ℕ) × (k ≤ length ls) × (volume c ≡ Is (prefix s ls k))
 
 -- so many lines at least are answered
 abbrev pub AreAnswered : Option (List ℕ) → Option (List ℕ) → ℕ → Type 0
@@ -141,17 +141,17 @@ pub record IsAnswered (input rest : List ℕ) (taken taken' : Option (List ℕ))
 -- At a stop now the volume has the state after some first lines: among them are all that are answered, and all came.
 abbrev pub KeepsAnswered : (Image → Type 0) → State → Option (List ℕ) → Option (List ℕ) → Option (List ℕ) → Option (List ℕ) → Type 0
 KeepsAnswered left_now s left left' taken taken' = IfSome left (λ input. IsSomeAnd left' (λ rest. (c : Image) → left_now c →
-    (k : ℕ) × IsAnswered input rest taken taken' k × (volume c ≡ Is (after s (take k (lines built_words input))))))
+    (k : ℕ) × IsAnswered input rest taken taken' k × (volume c ≡ Is (prefix s (lines built_words input) k))))
 
 -- At a stop now the volume has the state after the answered lines and no others.
 abbrev pub KeepsExactly : (Image → Type 0) → State → Option (List ℕ) → Option (List ℕ) → Option (List ℕ) → Type 0
 KeepsExactly left_now s left taken taken' = IfSome left (λ input. IfSome taken (λ before. IsSomeAnd taken' (λ now. (c : Image) → left_now c →
-    volume c ≡ Is (after s (take (answered (drop (length before) now)) (lines built_words input))))))
+    volume c ≡ Is (prefix s (lines built_words input) (answered (drop (length before) now))))))
 
 -- Whatever a stop leaves now, it is one and the same state: that after some first lines, as above.
 abbrev pub KeepsOne : (Image → Type 0) → State → Option (List ℕ) → Option (List ℕ) → Option (List ℕ) → Option (List ℕ) → Type 0
 KeepsOne left_now s left left' taken taken' = IfSome left (λ input. IsSomeAnd left' (λ rest.
-    (k : ℕ) × IsAnswered input rest taken taken' k × ((c : Image) → left_now c → volume c ≡ Is (after s (take k (lines built_words input))))))
+    (k : ℕ) × IsAnswered input rest taken taken' k × ((c : Image) → left_now c → volume c ≡ Is (prefix s (lines built_words input) k))))
 
 -- What a stop leaves of a session from the state `s`.
 pub record Holds {D : Type 0} (facts : disks.Ghosts D) (s : State) (disk disk' : D) (left left' taken taken' : Option (List ℕ)) : Type 0 where
