@@ -166,36 +166,3 @@ where
         counted(fault(outcome), &mut self.count)
     }
 }
-
-#[cfg(test)]
-mod tests {
-    use super::*;
-    use std::fs;
-
-    #[test]
-    fn a_file_keeps_what_was_synced(rt: HostRuntime) -> io::Result<()> {
-        let _ = fs::remove_file(&rt, "volume");
-        let block: Block = [7; BLOCK_SIZE];
-        let mut first = FileDisk::new(&rt, "volume");
-        assert!(rt; first.write(2, &block).is_ok());
-        assert!(rt; first.sync().is_ok());
-        let mut second = FileDisk::new(&rt, "volume");
-        for (i, byte) in [(0, 0), (2, 7), (3, 0), (69_999, 0)] {
-            let mut out: Block = [1; BLOCK_SIZE];
-            assert!(rt; second.read(i, &mut out).is_ok());
-            assert!(rt; out.iter().all(|&b| b == byte), "block {i}");
-        }
-        assert_eq!(rt; second.count.get(), 0);
-        fs::remove_file(&rt, "volume")
-    }
-
-    #[test]
-    fn a_folder_fails_at_each_call(rt: HostRuntime) {
-        let mut block: Block = [0; BLOCK_SIZE];
-        let mut disk = FileDisk::new(&rt, ".");
-        assert!(rt; disk.read(0, &mut block).is_err());
-        assert!(rt; disk.write(0, &block).is_err());
-        assert!(rt; disk.sync().is_err());
-        assert_eq!(rt; disk.count.get(), 3);
-    }
-}

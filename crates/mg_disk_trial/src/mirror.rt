@@ -325,32 +325,3 @@ impl<D: Disk, E: Disk, K: Opened> Disk for Mirror<D, E, K> {
         }
     }
 }
-
-#[cfg(test)]
-mod tests {
-    use super::*;
-    use mg_disk::{BLOCK_SIZE, Fuse, MemDisk};
-    use std::alloc::AllocError;
-
-    #[test]
-    fn goes_on_with_one_side(rt: HostRuntime) -> Result<(), AllocError> {
-        let left = MemDisk::new(rt.alloc(), 2, 9, Vec::new(rt.alloc()))?;
-        let right = MemDisk::new(rt.alloc(), 3, 9, Vec::new(rt.alloc()))?;
-        // Opening makes two writes and a sync on the right side.
-        let Ok(mut mirror) = Mirror::<_, _, Brand>::open(left, Fuse::new(right, 3), Side::Left)
-        else {
-            panic!(rt; "the left side does not fail")
-        };
-        assert_eq!(rt; mirror.blocks(), 2);
-        assert_eq!(rt; mirror.alone(), None);
-        assert!(rt; mirror.write(1, &[7; BLOCK_SIZE]).is_ok());
-        assert_eq!(rt; mirror.alone(), Some(Side::Left));
-        let mut out: Block = [0; BLOCK_SIZE];
-        assert!(rt; mirror.read(1, &mut out).is_ok());
-        assert_eq!(rt; out[0], 7);
-        assert!(rt; mirror.sync().is_ok());
-        let (left, _right) = mirror.sides();
-        assert_eq!(rt; left.counts().reads, 3);
-        Ok(())
-    }
-}

@@ -53,35 +53,3 @@ fn write_at<D: Disk, E: Disk, K: Opened>(
         failed,
     })
 }
-
-#[cfg(test)]
-mod tests {
-    use super::*;
-    use mg_disk::{BLOCK_SIZE, Fuse, MemDisk};
-    use std::alloc::AllocError;
-
-    #[test]
-    fn fails_where_both_fail(rt: HostRuntime) -> Result<(), AllocError> {
-        let left = MemDisk::new(rt.alloc(), 2, 9, Vec::new(rt.alloc()))?;
-        let right = MemDisk::new(rt.alloc(), 2, 9, Vec::new(rt.alloc()))?;
-        // The right side fails as the mirror is opened, and the left one after one read.
-        let Ok(pair) = write_pair(Fuse::new(left, 1), Fuse::new(right, 0), 0, &[7; BLOCK_SIZE])
-        else {
-            panic!(rt; "the left side gives its block")
-        };
-        assert!(rt; pair.failed);
-        Ok(())
-    }
-
-    #[test]
-    fn goes_on_where_one_does(rt: HostRuntime) -> Result<(), AllocError> {
-        let left = MemDisk::new(rt.alloc(), 2, 9, Vec::new(rt.alloc()))?;
-        let right = MemDisk::new(rt.alloc(), 2, 9, Vec::new(rt.alloc()))?;
-        let Ok(pair) = write_pair(left, Fuse::new(right, 0), 0, &[7; BLOCK_SIZE]) else {
-            panic!(rt; "the left side does not fail")
-        };
-        assert!(rt; !pair.failed);
-        assert_eq!(rt; pair.left.counts().writes, 1);
-        Ok(())
-    }
-}

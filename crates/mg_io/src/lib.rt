@@ -16,8 +16,6 @@ mod mem_source;
 mod plan;
 mod putting;
 mod streams;
-#[cfg(test)]
-mod tests;
 mod traits;
 
 pub use mem_sink::MemSink;

@@ -1,5 +1,5 @@
 // Each form once at a concrete type, and the answers of the forms in memory as tables.
-use super::{MemSink, MemSource, ReaderSource, Sink, Source, WriterSink, put_all};
+use mg_io::{MemSink, MemSource, ReaderSource, Sink, Source, WriterSink, put_all};
 use std::io;
 use std::io::{Cursor, ErrorKind, Read, Write};
 use std::test::Fail;
