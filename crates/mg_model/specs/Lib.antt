@@ -18,6 +18,12 @@ pub mod BankCalls
 pub mod Script
 pub mod Turn
 pub mod Step
+-- Which accesses a line makes and what they may cost, what a cache of rights keeps, and what each seat of it rests on.
+pub mod Accesses
+pub mod Keys
+pub mod Warmth
+pub mod Kept
+pub mod Backed
 -- From bytes to lines, and from replies to bytes.
 pub mod Words
 pub mod Lines

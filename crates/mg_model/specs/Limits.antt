@@ -79,3 +79,17 @@ credit_limit = 2 ^ 62
 -- the largest number of a step of the tariff
 abbrev pub step_limit : ℕ
 step_limit = 2 ^ 20
+
+-- the seats of the validation cache, and how far the number of a seat moves by a page and by a right
+abbrev pub seat_count : ℕ
+seat_count = 256
+
+abbrev pub page_stride : ℕ
+page_stride = 37
+
+abbrev pub right_stride : ℕ
+right_stride = 101
+
+-- a search for a right reads at most so many words: a count and 255 entries of two words, in each of 8 lists
+abbrev pub search_limit : ℕ
+search_limit = 4088

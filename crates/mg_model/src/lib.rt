@@ -10,9 +10,10 @@
 //! 2. The rows of the table of calls, each with its refusals in their order: `ObjectCalls`, `Domains`, `Threads` and
 //!    `BankCalls`, over `Draw`, `Bank` and `Refused`.
 //! 3. `Script` and `Turn`: what a thread does in its turn. `Step`: what a line does.
-//! 4. `Words`, `Lines` and `Print`: from bytes to calls, and from replies to bytes. `Fresh`: where the machine begins.
+//! 4. What the validation cache may spare and must not change: `Accesses`, `Keys`, `Warmth`, `Kept` and `Backed`.
+//! 5. `Words`, `Lines` and `Print`: from bytes to calls, and from replies to bytes. `Fresh`: where the machine begins.
 //!    `WellFormed`: what every state keeps.
-//! 5. `Layout`, `Spelling`, `Replay` and `Volume`: which state an image of a disk spells.
+//! 6. `Layout`, `Spelling`, `Replay` and `Volume`: which state an image of a disk spells.
 //!
 //! The files behind these are lemmas that crates above cite; no statement rests on them. Laws on the definitions are the
 //! contracts of `mg_laws`, and sessions that are computed by them stand in `mg_worked`.
@@ -29,6 +30,7 @@ pub mod limits;
 mod objects;
 mod replies;
 mod rights;
+mod seats;
 mod settings;
 mod slots;
 mod steps;
@@ -45,6 +47,7 @@ pub use instructions::Instr;
 pub use objects::ObjRow;
 pub use replies::{After, Refusal, Reply};
 pub use rights::{Right, Rights};
+pub use seats::Seat;
 pub use settings::Params;
 pub use slots::{Pw, Slot};
 pub use steps::Steps;

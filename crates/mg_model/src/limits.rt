@@ -65,3 +65,15 @@ pub const CREDIT_LIMIT: u64 = 1 << 62;
 
 /// The largest number of pages or rate of a step of the tariff.
 pub const STEP_LIMIT: u64 = 1 << 20;
+
+/// How many seats the validation cache has.
+pub const SEAT_COUNT: usize = 256;
+
+/// How far the number of a seat moves by a page of the base.
+pub const PAGE_STRIDE: u64 = 37;
+
+/// How far it moves by a right.
+pub const RIGHT_STRIDE: u64 = 101;
+
+/// How many words a search for a right reads at most: a count and 255 entries of two words, in each of 8 lists.
+pub const SEARCH_LIMIT: u64 = 4088;

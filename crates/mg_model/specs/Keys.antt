@@ -1,0 +1,58 @@
+-- Under which keys rights are kept, and the one seat of 256 that a key can have.
+use Rattle.std.specs.Prelude.{ℕ, ◌+◌, ◌*◌, ◌/◌, ◌%◌, ◌==◌, ◌&&◌, ◌||◌, Bool, not, List, [], ◌∷◌, ◌++◌, if◌then◌else◌, find, Option, option_map}
+use Rattle.std.specs.Option.{option_to_list}
+use Rattle.std.specs.List.{list_all}
+use Rattle.mg_model.specs.declared.rights.Right.{Right}
+use Rattle.mg_model.specs.declared.rights.Right.TheVariants.{R, W, X, D, P, O}
+use Rattle.mg_model.specs.Access.{at}
+use Rattle.mg_model.specs.Accesses.{Access, is_allowed}
+use Rattle.mg_model.specs.Limits.{page_size, page_stride, right_stride, seat_count}
+use Rattle.mg_model.specs.State.{Object, State}
+
+-- a thread, the base of an object, and a right: all addresses of the object have one key
+pub record Key : Type 0 where
+  pub thread : ℕ
+  pub base : ℕ
+  pub right : Right
+
+-- the rights are numbered in the order of their bits
+abbrev pub right_number : Right → ℕ
+right_number R = 0
+right_number W = 1
+right_number X = 2
+right_number D = 3
+right_number P = 4
+right_number O = 5
+
+abbrev pub seat_of : Key → ℕ
+seat_of key = (key.thread + page_stride * (key.base / page_size) + right_stride * right_number key.right) % seat_count
+
+-- whether two keys are one
+abbrev pub is_key : Key → Key → Bool
+is_key key other = key.thread == other.thread && (key.base == other.base && right_number key.right == right_number other.right)
+
+-- the key of an access; one to an address of no object has none
+abbrev pub key_of : State → Access → Option Key
+key_of state access =
+    option_map (λ (object : Object). record { thread = access.thread; base = object.row.base; right = access.right }) (at state.objects access.address)
+
+-- the key that takes its seat by an access: only one that is allowed takes any
+abbrev pub taken : State → Access → List Key
+taken state access = if is_allowed state access then option_to_list (key_of state access) else []
+
+-- the keys that take their seats by accesses one after another, the last one first
+abbrev pub taken_by : State → List Access → List Key
+taken_by state [] = []
+taken_by state (access ∷ more) = taken_by state more ++ taken state access
+
+-- of keys that took their seats, the last one first, the one that has this seat now
+abbrev pub first_at : ℕ → List Key → Option Key
+first_at seat keys = find (λ key. seat_of key == seat) keys
+
+-- whether the key's seat was taken by none of these but the key itself
+abbrev pub has_seat : List Key → Key → Bool
+has_seat keys key = list_all (λ other. is_key other key || not (seat_of other == seat_of key)) keys
+
+-- whether it was taken by none of these at all
+abbrev pub is_elsewhere : List Key → Key → Bool
+is_elsewhere keys key = list_all (λ other. not (seat_of other == seat_of key)) keys
