@@ -6,6 +6,7 @@ pub mod Committed
 pub mod Counted
 pub mod Entries
 pub mod Loaded
+pub mod Made
 pub mod Numbers
 pub mod OneBlock
 pub mod Opened

@@ -1,16 +1,18 @@
 -- Lemmas on an image that spells the pages: what the layer above may know of it.
 use Rattle.std.specs.Prelude.{◌≡◌, ◌≤◌, ℕ, true, List, [], ◌∷◌, drop, length, Option, Some}
-use Rattle.std.specs.Option.{option_map_or}
+use Rattle.std.specs.Option.{ForSome, option_map_or}
 use Rattle.std.proofs.Common.{refl, sym, ap, ◌∙◌, arith}
 use Rattle.mg_disk.specs.Disk.{Image}
+use Rattle.mg_disk.specs.declared.disk.Disk.{Ghosts}
 use Rattle.mg_journal.specs.Standing as journal
+use Rattle.mg_journal.specs.declared.store.Store.{Store}
 use Rattle.mg_model.specs.Bytes.{are_zeros}
 use Rattle.mg_model.specs.Layout.{total_blocks}
 use Rattle.mg_model.specs.Replay.{replay, written}
 use Rattle.mg_model.specs.Tests.{all_distinct}
 use Rattle.mg_model.specs.Volume.{bound_pages, table_of, whole_table}
 use Rattle.mg_pages.specs.Held.{PagesHeld}
-use Rattle.mg_pages.specs.Meaning.{IsSpelledBy, Spelled, coming, frame_count, replayed, staged_of, table_in, total_of}
+use Rattle.mg_pages.specs.Meaning.{IsSpelledBy, Spelled, StandsOn, coming, frame_count, replayed, staged_of, store_of, table_in, total_of}
 
 spelled : (p : PagesHeld) (image : Image) → IsSpelledBy p image → Spelled p image
 unfolding IsSpelledBy
@@ -37,6 +39,18 @@ past_spelled p image is = (spelled p image is).past
 
 pub no_page_twice : (p : PagesHeld) (image : Image) → IsSpelledBy p image → all_distinct (bound_pages (table_in p)) ≡ true
 no_page_twice p image is = (spelled p image is).distinct
+
+-- pages whose journal stands on a disk stand there, where what it tells spells them
+pub stands_spelled : {D : Type 0} (facts : Ghosts D) (store : Store) (p : PagesHeld) (disk : D) → store_of p ≡ store → journal.Stands facts store disk → ForSome (facts.seen disk) (IsSpelledBy p) → StandsOn facts p disk
+unfolding total_of store_of
+stands_spelled facts store p disk is stands spells =
+    let e : total_of p ≡ store.total = ap (λ (s : Store). s.total) is in
+    let room = stands.room in
+    record {
+      room = omega arith;
+      settled = stands.settled;
+      fits = spells;
+    }
 
 -- the journal can be replayed
 replayed_is : (total : ℕ) (image r : Image) → replay image total ≡ Some r → replayed total image ≡ r

@@ -136,6 +136,11 @@ pub record IsTable (frames : ℕ) (r : Image) : Type 0 where
   pub past : are_zeros (drop frames (whole_table r frames)) ≡ true
   pub distinct : all_distinct (bound_pages (table_of r frames)) ≡ true
 
+-- these entries, one a frame, are the frame table that a replayed image spells, and nothing stands behind its last entry
+pub record HasTable (entries : List ℕ) (r : Image) : Type 0 where
+  pub table : table_of r (length entries) ≡ entries
+  pub past : are_zeros (drop (length entries) (whole_table r (length entries))) ≡ true
+
 -- the pages of a range read as zeros; the other pages, and all blocks before the frame table, are as they were
 pub record Releases (old new : PagesHeld) (image : Image) (first pages : ℕ) : Type 0 where
   pub inside : (page : ℕ) → page ≢ 0 → first ≤ page → page < first + pages → page_now new image page ≡ replicate 512 0

@@ -11,7 +11,7 @@ ghost use Rattle.mg_model.specs.Layout.{first_frame, globals_block, table_block,
 ghost use Rattle.mg_model.specs.Replay.{replay};
 ghost use Rattle.mg_model.specs.Tests.{all_distinct};
 ghost use Rattle.mg_model.specs.Volume.{bound_pages, table_of, whole_table};
-ghost use Rattle.mg_pages.specs.Meaning.{BindsOnly, CountsNone, CountsOne, IsKept, IsTable, Keeps, Releases, SameShape, SetsWord, StagesMore, StandsOn, Unbinds, IsSpelledBy, coming, frame_count, is_bound, is_live, is_staged, page_now, replayed, staged_of, store_of, table_in, total_of, words_in};
+ghost use Rattle.mg_pages.specs.Meaning.{BindsOnly, CountsNone, CountsOne, HasTable, IsKept, IsTable, Keeps, Releases, SameShape, SetsWord, StagesMore, StandsOn, Unbinds, IsSpelledBy, coming, frame_count, is_bound, is_live, is_staged, page_now, replayed, staged_of, store_of, table_in, total_of, words_in};
 ghost use Rattle.mg_pages.specs.Committing.{HasContents};
 
 use crate::coming::page_word;
@@ -48,6 +48,37 @@ impl Model for Pages {
 }
 
 impl Pages {
+    /// The pages of a volume with this journal and these entries of its frame table, one a frame, 16 to 65,536 of them: the
+    /// page that the frame holds, or 0. No page stands there twice. All memory that they will need is taken here.
+    pub fn open(alloc: Global, store: Store, entries: Vec<u64>) -> Result<Pages, AllocError>
+        requires some { 16 ≤ length entries.items }
+        requires few { length entries.items ≤ 65536 }
+        requires total { journal.total_of store ≡ total_blocks (length entries.items) }
+        requires distinct { all_distinct (bound_pages entries.items) ≡ true }
+        ensures store { IfOk result (λ p. store_of p ≡ store) }
+        ensures total { IfOk result (λ p. total_of p ≡ journal.total_of store) }
+        ensures frames { IfOk result (λ p. frame_count p ≡ length entries.items) }
+        ensures table { IfOk result (λ p. table_in p ≡ entries.items) }
+        ensures live { IfOk result (λ p. is_live p ≡ journal.is_live store) }
+        ensures staged { IfOk result (λ p. staged_of p ≡ 0) }
+        ensures words { IfOk result (λ p. words_in p ≡ 0) }
+        ensures coming { IfOk result (λ p. (image : List (List ℕ)) → coming p image ≡ replayed (journal.total_of store) image) }
+        ensures spelled { IfOk result (λ p. (image : List (List ℕ)) → journal.IsFitting store image → journal.total_of store ≤ length image
+            → HasTable entries.items (replayed (journal.total_of store) image) → IsSpelledBy p image) }
+    {
+        let frames = match Frames::of(alloc, entries)? {
+            Some(frames) => frames,
+            None => unreachable!(),
+        };
+        let writes = Writes::new(alloc)?;
+        Ok(Pages {
+            store,
+            frames,
+            writes,
+            count: 0,
+        })
+    }
+
     /// The pages of a volume with this journal and these places, none bound yet. All memory that they will need is taken
     /// here.
     pub fn new(alloc: Global, store: Store, g: Geometry) -> Result<Pages, AllocError>
