@@ -2,7 +2,7 @@
 use Rattle.std.specs.Prelude.{◌≡◌, ℕ, zero, suc, ◌+◌, ◌-◌, ◌*◌, ◌≤◌, ◌==◌, true, List, [], ◌∷◌, ◌++◌, All, drop, length, replicate, take}
 use Rattle.std.specs.Int.{from_le_bytes, w64}
 use Rattle.std.proofs.Common.{refl, sym, ap, ◌∙◌, arith, append_assoc, length-append, add_assoc}
-use Rattle.std.proofs.lemmas.List.{append-nil, drop_at, take_at, length-replicate, drop-drop}
+use Rattle.std.proofs.lemmas.List.{append-nil, drop_at, length-replicate, drop-drop}
 use Rattle.std.proofs.lemmas.Bool.{and_from, eq-eqb}
 use Rattle.std.proofs.lemmas.List.Elements.{All-head, All-tail}
 use Rattle.std.proofs.lemmas.Nat.{from_le_bytes-to_le_bytes_8}
@@ -27,15 +27,9 @@ numbers_at-behind xs ys n k (suc m) is =
     ap (λ v. v ∷ numbers_at (xs ++ ys) (n + k + 8) m) (number_at-behind xs ys n k is)
     ∙ ap (λ v. number_at ys k ∷ v) (ap (λ o. numbers_at (xs ++ ys) o m) (add_assoc n k 8) ∙ numbers_at-behind xs ys n (k + 8) m is)
 
--- the first bytes, the first number, the first numbers
-pub bytes_at-first : (xs ys : List ℕ) (n : ℕ) → length xs ≡ n → bytes_at (xs ++ ys) 0 n ≡ xs
-bytes_at-first xs ys n is = take_at xs ys n is
-
+-- the first number, the first numbers
 pub number_at-first : (n : ℕ) (ys : List ℕ) → IsWord n → number_at (word_bytes n ++ ys) 0 ≡ n
 number_at-first n ys fits = from_le_bytes-to_le_bytes_8 n fits
-
-pub length-word_bytes : (n : ℕ) → length (word_bytes n) ≡ 8
-length-word_bytes n = refl
 
 pub numbers_at-first : (ns : List ℕ) (ys : List ℕ) → All IsWord ns → numbers_at (words_bytes ns ++ ys) 0 (length ns) ≡ ns
 numbers_at-first [] ys fit = refl

@@ -46,9 +46,7 @@ pub mod Volume
 pub mod Filled
 pub mod Counts
 -- Lemmas that crates above cite. None of them is part of a statement.
-pub mod Answered
 pub mod BytesReads
-pub mod Cutting
 pub mod DrawnWords
 pub mod FilledLemmas
 pub mod KeptLists

@@ -334,16 +334,7 @@ opened-same a b opened_a opened_b super same =
     ∙ ap (λ block. volume_behind b (super_read block)) super
     ∙ sym (volume-opened b opened_b)
 
--- Two images whose gates are open have the same volume where they agree on the blocks from the superblock on, below the
--- total of the frames that it names, and both have those blocks. So blocks behind the total change nothing.
-pub volume-same : (a b : List (List ℕ)) → IsOpened a → IsOpened b → block_of a super_block ≡ block_of b super_block
-    → ((settings : Settings) → super_read (block_of a super_block) ≡ Spells settings
-    → (total_blocks settings.frames ≤ length a) × (total_blocks settings.frames ≤ length b) × Agree (total_blocks settings.frames) a b)
-    → volume a ≡ volume b
-volume-same a b opened_a opened_b super same =
-    opened-same a b opened_a opened_b super (λ settings read. let s = same settings read in settled-same settings a b s.0 s.1 s.2)
-
--- So have two of the same length that agree everywhere but in block 0.
+-- Two images of the same length whose gates are open have the same volume where they agree everywhere but in block 0.
 pub volume-same_behind : (a b : List (List ℕ)) → IsOpened a → IsOpened b → length a ≡ length b → ((k : ℕ) → super_block ≤ k → block_of a k ≡ block_of b k) → volume a ≡ volume b
 volume-same_behind a b opened_a opened_b long each = opened-same a b opened_a opened_b (each super_block (omega arith)) (λ settings read. settled settings)
   where

@@ -15,7 +15,7 @@ use Rattle.mg_kernel.specs.Meaning.{StandsOn, now_kept, now_of, staged_of}
 use Rattle.mg_kernel.specs.Opening.{Holds}
 use Rattle.mg_model.specs.declared.calls.Line.{Line}
 use Rattle.mg_model.specs.declared.replies.Reply.{Reply}
-use Rattle.mg_model.specs.Answered.{after-append, answered-append, reply_answers, text-append}
+use Rattle.mg_session.proofs.Answered.{after-append, answered-append, reply_answers, text-append}
 use Rattle.mg_model.specs.Print.{answered, reply_line, text}
 use Rattle.mg_model.specs.State.{State}
 use Rattle.mg_model.specs.Step.{after, step}

@@ -1,5 +1,5 @@
--- Lemmas that crates above need: how replies add up over lines, and that each line is answered by one line.
-use Rattle.std.specs.Prelude.{ℕ, zero, suc, ◌+◌, ◌≡◌, ◌==◌, ◌/◌, ◌%◌, Bool, true, false, List, [], ◌∷◌, ◌++◌, length, if◌then◌else◌, cond, count_by, map, take}
+-- How replies add up over lines, and that each is one line.
+use Rattle.std.specs.Prelude.{ℕ, zero, suc, ◌+◌, ◌≡◌, ◌==◌, ◌/◌, ◌%◌, Bool, true, false, List, [], ◌∷◌, ◌++◌, if◌then◌else◌, cond, count_by, map, take}
 use Rattle.std.specs.Fmt.{decimal, digit_glyph, digits, digits_onto}
 use Rattle.std.proofs.Common.{refl, sym, ap, ◌∙◌, append_assoc, arith}
 use Rattle.std.proofs.lemmas.Grind.{common_steps}
@@ -142,11 +142,3 @@ reply_no_newline (reply.Collected period rate paid) =
 -- a reply is one line
 pub reply_answers : (answer : Reply) → answered (reply_line answer) ≡ 1
 reply_answers answer = answered-append (reply_text answer) (10 ∷ []) ∙ ap (λ v. v + 1) (reply_no_newline answer)
-
--- each line is answered by one line
-pub text_answers : (state : State) (ls : List Line) → answered (text state ls) ≡ length ls
-text_answers state [] = refl
-text_answers state (line ∷ more) =
-    let one : answered (reply_line (step state line).1) ≡ 1 = reply_answers (step state line).1 in
-    let rest : answered (text (step state line).0 more) ≡ length more = text_answers (step state line).0 more in
-    omega (arith, answered-append (reply_line (step state line).1) (text (step state line).0 more))
