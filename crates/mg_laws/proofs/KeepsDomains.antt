@@ -52,7 +52,7 @@ pub domain_of-formed : (state : State) (t : ℕ) → IsWellFormed state → AreS
 domain_of-formed state t formed = slots_of_thread state t (thread_of state t) formed refl
 
 -- other slots in the last frame
-length-with_last_slots : (frames : List CallFrame) (slots : List Slot) → length (with_last_slots frames slots) ≡ length frames
+pub length-with_last_slots : (frames : List CallFrame) (slots : List Slot) → length (with_last_slots frames slots) ≡ length frames
 length-with_last_slots [] slots = refl
 length-with_last_slots (frame ∷ []) slots = refl
 length-with_last_slots (frame ∷ next ∷ frames) slots = ap suc (length-with_last_slots (next ∷ frames) slots)

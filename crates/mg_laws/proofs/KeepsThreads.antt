@@ -87,7 +87,7 @@ distinct-with_new_thread new (x ∷ xs) distinct before =
     (distinct-with_new_thread new xs (AllPairs-tail HasOtherBirth x xs distinct) (All-tail (λ (thread : Thread). thread.row.birth < new.row.birth) x xs before)))
 
 -- another number finds what it found
-find-with_new_thread : (t : ℕ) (new : Thread) (threads : List Thread) → new.number ≢ t →
+pub find-with_new_thread : (t : ℕ) (new : Thread) (threads : List Thread) → new.number ≢ t →
     find (λ (thread : Thread). eqb thread.number t) (with_new_thread new threads) ≡ find (λ (thread : Thread). eqb thread.number t) threads
 find-with_new_thread t new [] other = cond-false _ _ _ (ne_eqb _ _ other)
 find-with_new_thread t new (x ∷ xs) other =
@@ -174,7 +174,7 @@ make_thread-keeps state t pc formed word =
     made-keeps state t pc formed word (aligned_from pc to_denied.0) (leb-false _ _ limits.0) (leb-false _ _ limits.1))
 
 -- one thread less
-find-without : (i t : ℕ) (threads : List Thread) → i ≢ t →
+pub find-without : (i t : ℕ) (threads : List Thread) → i ≢ t →
     find (λ (thread : Thread). eqb thread.number t) (filter (λ (thread : Thread). not (eqb thread.number i)) threads) ≡ find (λ (thread : Thread). eqb thread.number t) threads
 find-without i t [] other = refl
 find-without i t (x ∷ xs) other =

@@ -1,3 +1,7 @@
+mod Backs
+mod BacksObjects
+mod BacksThreads
+mod Finds
 mod FreshFormed
 mod Keeps
 mod KeepsBank

@@ -1,0 +1,188 @@
+-- What a step must keep so that a seat stays backed, and the changes of objects that keep it.
+use Rattle.std.proofs.Common.{ℕ, zero, suc, ◌+◌, ◌*◌, ◌<◌, ◌≤◌, ◌≡◌, ◌≢◌, ◌||◌, ◌&&◌, ◌/◌, ◌-◌, Bool, true, false, not, cond, eqb, leb, ltb, min, List, [], ◌∷◌, ◌++◌, get_or, length, map, filter, Option, Some, None, refl, sym, ap, ◌∙◌, subst, arith, All, Contains}
+use Rattle.std.proofs.lemmas.Bool.{and_from, and_parts, cond_both, eq-eqb, eqb-false, eqb-true, false≢true, le-leb, leb-true, lt-ltb, ltb-false, ltb-true, or_left, or_parts}
+use Rattle.std.proofs.Math.Seq.{get_or-set_other}
+use Rattle.std.proofs.lemmas.List.Folds.{list_any-append}
+use Rattle.std.specs.Prelude.{find, slice_index, slice_set}
+use Rattle.std.specs.Option.{option_map_or}
+use Rattle.std.specs.List.{list_any}
+use Rattle.mg_laws.proofs.Finds.{find-filter, pass-map, read-map}
+use Rattle.mg_model.specs.declared.replies.Refusal.{Refusal}
+use Rattle.mg_model.specs.declared.rights.Right.{Right}
+use Rattle.mg_model.specs.declared.rights.Right.TheVariants.{R}
+use Rattle.mg_model.specs.declared.seats.Seat.{Seat}
+use Rattle.mg_model.specs.declared.slots.Pw.{Pw}
+use Rattle.mg_model.specs.declared.slots.Slot.{Slot}
+use Rattle.mg_model.specs.Access.{based_at, covers, domain_of, entries_from, entries_of, gives, holds, last_slots}
+use Rattle.mg_model.specs.Backed.{IsBacked, KeepsBacked, by_none, by_via, by_word, entries_at, held_at}
+use Rattle.mg_model.specs.ObjectCalls.{drawn, with_row_at, row_at}
+use Rattle.mg_model.specs.Objects.{with_row, with_word, without_object}
+use Rattle.mg_model.specs.Refused.{Answer, unless_refused}
+use Rattle.mg_model.specs.State.{Object, ObjectRow, State, Thread}
+
+-- each of these slots is among those
+abbrev pub KeepsSlots : List Slot → List Slot → Type 0
+KeepsSlots old new = (slot : Slot) → Contains old slot → Contains new slot
+
+-- what an object with this base held it holds still
+abbrev pub KeepsHeld : State → State → ℕ → Type 0
+KeepsHeld old new base = (password : ℕ) (right : Right) → held_at old base password right ≡ true → held_at new base password right ≡ true
+
+-- what a step keeps for a seat: the slots of the thread, the entries of the list, what opens the list, and what gives the right
+pub record KeepsParts (old new : State) (seat : Seat) : Type 0 where
+  pub slots : KeepsSlots (domain_of old seat.thread) (domain_of new seat.thread)
+  pub entries : entries_at new seat.via ≡ entries_at old seat.via
+  pub opened : KeepsHeld old new seat.via
+  pub held : KeepsHeld old new seat.base
+
+pub backed_from : (old new : State) (seat : Seat) → KeepsParts old new seat → IsBacked old seat → IsBacked new seat
+backed_from old new seat keeps backed = record {
+  slot = backed.slot;
+  slots = keeps.slots backed.slot backed.slots;
+  via = backed.via;
+  opened = keeps.opened backed.slot.password R backed.opened;
+  entry = backed.entry;
+  entries = subst (λ (entries : List (ℕ × ℕ)). Contains entries backed.entry) (sym keeps.entries) backed.entries;
+  base = backed.base;
+  held = keeps.held backed.entry.1 seat.right backed.held;
+}
+
+-- a row of the table: where it is refused nothing changes
+pub unless_refused-backed : (ended : Seat → Bool) (state : State) (refused : Option Refusal) (done : Answer) → (refused ≡ None → KeepsBacked ended state done.0) → KeepsBacked ended state (unless_refused refused state done).0
+unless_refused-backed ended state None done keeps = keeps refl
+unless_refused-backed ended state (Some word) done keeps = λ seat stays backed. backed
+
+-- the same state
+pub same-backed : (ended : Seat → Bool) (state : State) → KeepsBacked ended state state
+same-backed ended state = λ seat stays backed. backed
+
+-- one step that ends none, and then another, or the other way round
+pub first-backed : (ended : Seat → Bool) (old mid new : State) → KeepsBacked by_none old mid → KeepsBacked ended mid new → KeepsBacked ended old new
+first-backed ended old mid new first second = λ seat stays backed. second seat stays (first seat refl backed)
+
+pub last-backed : (ended : Seat → Bool) (old mid new : State) → KeepsBacked ended old mid → KeepsBacked by_none mid new → KeepsBacked ended old new
+last-backed ended old mid new first second = λ seat stays backed. second seat refl (first seat stays backed)
+
+-- a step that ends none ends none of these
+pub none-backed : (ended : Seat → Bool) (old new : State) → KeepsBacked by_none old new → KeepsBacked ended old new
+none-backed ended old new keeps = λ seat stays backed. keeps seat refl backed
+
+-- a word from the 512th on is no part of a capability list
+entries_from-set : (words : List ℕ) (i value j n : ℕ) → 2 * (j + n) + 2 ≤ i → entries_from (slice_set words i value) j n ≡ entries_from words j n
+entries_from-set words i value j zero high = refl
+entries_from-set words i value j (suc n) high =
+    let first : slice_index (slice_set words i value) (2 + 2 * j) ≡ slice_index words (2 + 2 * j) = get_or-set_other words i (2 + 2 * j) value 0 (omega arith) in
+    let second : slice_index (slice_set words i value) (3 + 2 * j) ≡ slice_index words (3 + 2 * j) = get_or-set_other words i (3 + 2 * j) value 0 (omega arith) in
+    let rest : entries_from (slice_set words i value) (j + 1) n ≡ entries_from words (j + 1) n = entries_from-set words i value (j + 1) n (omega arith) in
+    rw (first, second, rest) refl
+
+entries_of-set : (words : List ℕ) (i value : ℕ) → 512 ≤ i → entries_of (slice_set words i value) ≡ entries_of words
+entries_of-set words i value high =
+    let count : slice_index (slice_set words i value) 0 ≡ slice_index words 0 = get_or-set_other words i 0 value 0 (omega arith) in
+    ap (λ (n : ℕ). entries_from (slice_set words i value) 0 (min n 255)) count ∙ entries_from-set words i value 0 (min (slice_index words 0) 255) (omega arith)
+
+-- the object with another word, if it has the address
+abbrev stored : ℕ → ℕ → Object → Object
+stored address value object = cond (covers object.row address) (record object { words = slice_set object.words ((address - object.row.base) / 8) value }) object
+
+stored-row : (address value : ℕ) (object : Object) → (stored address value object).row ≡ object.row
+stored-row address value object = cond_both (covers object.row address) _ _ (λ (x : Object). x.row ≡ object.row) (λ _. refl) (λ _. refl)
+
+stored-entries : (address value via : ℕ) (object : Object) → (leb via address && ltb address (via + 4096)) ≡ false → object.row.base ≡ via → entries_of (stored address value object).words ≡ entries_of object.words
+stored-entries address value via object beyond same =
+    cond_both (covers object.row address) _ _ (λ (x : Object). entries_of x.words ≡ entries_of object.words)
+    (λ there.
+    let above : object.row.base ≤ address = leb-true _ _ (and_parts _ _ there).0 in
+    let behind : via + 4096 ≤ address = far (ltb address (via + 4096)) refl (omega arith) in
+    entries_of-set object.words ((address - object.row.base) / 8) value (omega arith))
+    (λ _. refl)
+  where
+    far : (v : Bool) → ltb address (via + 4096) ≡ v → via ≤ address → via + 4096 ≤ address
+    far true near above = absurd (false≢true (sym beyond ∙ and_from _ _ (le-leb via address above) near))
+    far false past above = ltb-false _ _ past
+
+pub with_word-backed : (state : State) (address value : ℕ) → KeepsBacked (by_word address) state (record state { objects = with_word state.objects address value })
+with_word-backed state address value seat beyond =
+    let new : State = record state { objects = with_word state.objects address value } in
+    let held : (base : ℕ) → KeepsHeld state new base = λ base password right.
+    pass-map (λ (x : Object). eqb x.row.base base) (stored address value) (λ (x : Object). holds state.counters.period x.row password right) (λ (x : Object). holds state.counters.period x.row password right) state.objects
+    (λ x. ap (λ (row : ObjectRow). eqb row.base base) (stored-row address value x))
+    (λ x _ there. ap (λ (row : ObjectRow). holds state.counters.period row password right) (stored-row address value x) ∙ there) in
+    backed_from state new seat (record {
+      slots = λ slot there. there;
+      entries = read-map (λ (x : Object). eqb x.row.base seat.via) (stored address value) (λ (x : Object). entries_of x.words) [] state.objects
+          (λ x. ap (λ (row : ObjectRow). eqb row.base seat.via) (stored-row address value x))
+          (λ x same. stored-entries address value seat.via x beyond (eqb-true _ _ same));
+      opened = held seat.via;
+      held = held seat.base;
+    })
+
+-- the object with a change of its row, if it has this base
+abbrev rewritten : ℕ → (ObjectRow → ObjectRow) → Object → Object
+rewritten x change object = cond (eqb object.row.base x) (record object { row = change object.row }) object
+
+rewritten-base : (x : ℕ) (change : ObjectRow → ObjectRow) (object : Object) → ((row : ObjectRow) → (change row).base ≡ row.base) → (rewritten x change object).row.base ≡ object.row.base
+rewritten-base x change object same = cond_both (eqb object.row.base x) _ _ (λ (o : Object). o.row.base ≡ object.row.base) (λ _. same object.row) (λ _. refl)
+
+rewritten-words : (x : ℕ) (change : ObjectRow → ObjectRow) (object : Object) → (rewritten x change object).words ≡ object.words
+rewritten-words x change object = cond_both (eqb object.row.base x) _ _ (λ (o : Object). o.words ≡ object.words) (λ _. refl) (λ _. refl)
+
+-- a change of the row with base x takes no password away that the object with this base holds
+abbrev pub TakesNone : ℕ → ℕ → (ObjectRow → ObjectRow) → ℕ → Type 0
+TakesNone period x change base = x ≡ base → (row : ObjectRow) (password : ℕ) (right : Right) → holds period row password right ≡ true → holds period (change row) password right ≡ true
+
+with_row-held : (state new : State) (x base : ℕ) (change : ObjectRow → ObjectRow) → new.objects ≡ with_row x change state.objects → new.counters.period ≡ state.counters.period → ((row : ObjectRow) → (change row).base ≡ row.base) → TakesNone state.counters.period x change base → KeepsHeld state new base
+with_row-held state new x base change objects period same none password right there =
+    ap (λ (p : ℕ). option_map_or (λ (o : Object). holds p o.row password right) (based_at new.objects base) false) period
+    ∙ ap (λ (os : List Object). option_map_or (λ (o : Object). holds state.counters.period o.row password right) (based_at os base) false) objects
+    ∙ pass-map (λ (o : Object). eqb o.row.base base) (rewritten x change) (λ (o : Object). holds state.counters.period o.row password right) (λ (o : Object). holds state.counters.period o.row password right) state.objects
+    (λ o. ap (λ (b : ℕ). eqb b base) (rewritten-base x change o same))
+    (λ o found holds_it. cond_both (eqb o.row.base x) _ _ (λ (n : Object). holds state.counters.period n.row password right ≡ true)
+    (λ it. none (sym (eqb-true _ _ it) ∙ eqb-true _ _ found) o.row password right holds_it)
+    (λ _. holds_it))
+    there
+
+with_row-entries : (state new : State) (x base : ℕ) (change : ObjectRow → ObjectRow) → new.objects ≡ with_row x change state.objects → ((row : ObjectRow) → (change row).base ≡ row.base) → entries_at new base ≡ entries_at state base
+with_row-entries state new x base change objects same =
+    ap (λ (os : List Object). option_map_or (λ (o : Object). entries_of o.words) (based_at os base) []) objects
+    ∙ read-map (λ (o : Object). eqb o.row.base base) (rewritten x change) (λ (o : Object). entries_of o.words) [] state.objects
+    (λ o. ap (λ (b : ℕ). eqb b base) (rewritten-base x change o same))
+    (λ o _. ap entries_of (rewritten-words x change o))
+
+-- a change of the row with base x, which keeps its base, keeps a seat that it takes no password from
+pub with_row-backed : (state new : State) (x : ℕ) (change : ObjectRow → ObjectRow) (seat : Seat) → new.objects ≡ with_row x change state.objects → new.counters.period ≡ state.counters.period → new.threads ≡ state.threads → ((row : ObjectRow) → (change row).base ≡ row.base) → TakesNone state.counters.period x change seat.via → TakesNone state.counters.period x change seat.base → IsBacked state seat → IsBacked new seat
+with_row-backed state new x change seat objects period threads same via base =
+    backed_from state new seat (record {
+      slots = λ slot there. subst (λ (ts : List Thread). Contains (option_map_or (λ (thread : Thread). last_slots thread.row.frames) (find (λ (thread : Thread). eqb thread.number seat.thread) ts) []) slot) (sym threads) there;
+      entries = with_row-entries state new x seat.via change objects same;
+      opened = with_row-held state new x seat.via change objects period same via;
+      held = with_row-held state new x seat.base change objects period same base;
+    })
+
+-- where the list and the object are found as before, the period and the threads are as they were, a seat is kept
+pub found-backed : (old new : State) (seat : Seat) → new.counters.period ≡ old.counters.period → new.threads ≡ old.threads → based_at new.objects seat.via ≡ based_at old.objects seat.via → based_at new.objects seat.base ≡ based_at old.objects seat.base → IsBacked old seat → IsBacked new seat
+found-backed old new seat period threads via base =
+    let held : (at : ℕ) → based_at new.objects at ≡ based_at old.objects at → KeepsHeld old new at = λ at same password right there.
+    ap (λ (p : ℕ). option_map_or (λ (o : Object). holds p o.row password right) (based_at new.objects at) false) period
+    ∙ ap (λ (f : Option Object). option_map_or (λ (o : Object). holds old.counters.period o.row password right) f false) same
+    ∙ there in
+    backed_from old new seat (record {
+      slots = λ slot there. subst (λ (ts : List Thread). Contains (option_map_or (λ (thread : Thread). last_slots thread.row.frames) (find (λ (thread : Thread). eqb thread.number seat.thread) ts) []) slot) (sym threads) there;
+      entries = ap (λ (f : Option Object). option_map_or (λ (o : Object). entries_of o.words) f []) via;
+      opened = held seat.via via;
+      held = held seat.base base;
+    })
+
+-- what a seat rests on: the objects, the period, and the slots of the thread's present frame
+pub rests-backed : (old new : State) (seat : Seat) → new.objects ≡ old.objects → new.counters.period ≡ old.counters.period → KeepsSlots (domain_of old seat.thread) (domain_of new seat.thread) → IsBacked old seat → IsBacked new seat
+rests-backed old new seat objects period slots =
+    let held : (at : ℕ) → KeepsHeld old new at = λ at password right there.
+    ap (λ (p : ℕ). option_map_or (λ (o : Object). holds p o.row password right) (based_at new.objects at) false) period
+    ∙ ap (λ (os : List Object). option_map_or (λ (o : Object). holds old.counters.period o.row password right) (based_at os at) false) objects
+    ∙ there in
+    backed_from old new seat (record {
+      slots = slots;
+      entries = ap (λ (os : List Object). option_map_or (λ (o : Object). entries_of o.words) (based_at os seat.via) []) objects;
+      opened = held seat.via;
+      held = held seat.base;
+    })
