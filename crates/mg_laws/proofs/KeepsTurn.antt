@@ -191,7 +191,7 @@ pub turn-keeps : (state : State) (t : ℕ) → IsWellFormed state → IsWellForm
 turn-keeps state t formed = unless_refused-keeps _ state _ formed (λ _. turn_state-keeps state t formed)
 
 -- the cursor
-with_cursor-keeps : (state : State) (n : ℕ) → IsWellFormed state → n ≤ 256 → IsWellFormed (record state { counters = record state.counters { cursor = n } })
+pub with_cursor-keeps : (state : State) (n : ℕ) → IsWellFormed state → n ≤ 256 → IsWellFormed (record state { counters = record state.counters { cursor = n } })
 with_cursor-keeps state n formed few = record {
   settings = formed.settings;
   counters = record {

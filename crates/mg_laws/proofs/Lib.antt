@@ -1,5 +1,6 @@
 mod Backs
 mod BacksObjects
+mod BacksSteps
 mod BacksThreads
 mod Finds
 mod FreshFormed
