@@ -1,5 +1,5 @@
 -- What a seat of the validation cache rests on in a state, and which seats a line ends.
-use Rattle.std.specs.Prelude.{ℕ, ◌≡◌, ◌+◌, ◌==◌, ◌&&◌, ◌||◌, nat_le, nat_lt, Bool, true, false, List, [], Contains, Option, Some}
+use Rattle.std.specs.Prelude.{ℕ, ◌≡◌, ◌+◌, ◌==◌, ◌&&◌, ◌||◌, nat_le, nat_lt, Bool, true, false, List, [], Contains, Option, Some, if◌then◌else◌}
 use Rattle.std.specs.Option.{option_map_or}
 use Rattle.mg_model.specs.declared.calls.Call.{Call}
 use Rattle.mg_model.specs.declared.calls.Call.TheVariants as call
@@ -54,6 +54,10 @@ by_none seat = false
 
 abbrev pub by_each : Seat → Bool
 by_each seat = true
+
+-- the seats that a store to an address of the object with this base ends: none beyond the object's first page
+abbrev pub by_list : ℕ → ℕ → Seat → Bool
+by_list base address = if nat_lt address (base + page_size) then by_via base else by_none
 
 -- a seat that was backed is backed still, unless it is one of the ended
 abbrev pub KeepsBacked : (Seat → Bool) → State → State → Type 0
