@@ -1,22 +1,18 @@
 -- What a step must keep so that a seat stays backed, and the changes of objects that keep it.
-use Rattle.std.proofs.Common.{ℕ, zero, suc, ◌+◌, ◌*◌, ◌<◌, ◌≤◌, ◌≡◌, ◌≢◌, ◌||◌, ◌&&◌, ◌/◌, ◌-◌, Bool, true, false, not, cond, eqb, leb, ltb, min, List, [], ◌∷◌, ◌++◌, get_or, length, map, filter, Option, Some, None, refl, sym, ap, ◌∙◌, subst, arith, All, Contains}
-use Rattle.std.proofs.lemmas.Bool.{and_from, and_parts, cond_both, eq-eqb, eqb-false, eqb-true, false≢true, le-leb, leb-true, lt-ltb, ltb-false, ltb-true, or_left, or_parts}
+use Rattle.std.proofs.Common.{ℕ, zero, suc, ◌+◌, ◌*◌, ◌≤◌, ◌≡◌, ◌&&◌, ◌/◌, ◌-◌, Bool, true, false, cond, eqb, leb, ltb, min, List, [], Option, Some, None, refl, sym, ap, ◌∙◌, subst, arith, Contains}
+use Rattle.std.proofs.lemmas.Bool.{and_from, and_parts, cond_both, eqb-true, false≢true, le-leb, leb-true, ltb-false}
 use Rattle.std.proofs.Math.Seq.{get_or-set_other}
-use Rattle.std.proofs.lemmas.List.Folds.{list_any-append}
 use Rattle.std.specs.Prelude.{find, slice_index, slice_set}
 use Rattle.std.specs.Option.{option_map_or}
-use Rattle.std.specs.List.{list_any}
-use Rattle.mg_laws.proofs.Finds.{find-filter, pass-map, read-map}
+use Rattle.mg_laws.proofs.Finds.{pass-map, read-map}
 use Rattle.mg_model.specs.declared.replies.Refusal.{Refusal}
 use Rattle.mg_model.specs.declared.rights.Right.{Right}
 use Rattle.mg_model.specs.declared.rights.Right.TheVariants.{R}
 use Rattle.mg_model.specs.declared.seats.Seat.{Seat}
-use Rattle.mg_model.specs.declared.slots.Pw.{Pw}
 use Rattle.mg_model.specs.declared.slots.Slot.{Slot}
-use Rattle.mg_model.specs.Access.{based_at, covers, domain_of, entries_from, entries_of, gives, holds, last_slots}
-use Rattle.mg_model.specs.Backed.{IsBacked, KeepsBacked, by_none, by_via, by_word, entries_at, held_at}
-use Rattle.mg_model.specs.ObjectCalls.{drawn, with_row_at, row_at}
-use Rattle.mg_model.specs.Objects.{with_row, with_word, without_object}
+use Rattle.mg_model.specs.Access.{based_at, covers, domain_of, entries_from, entries_of, holds, last_slots}
+use Rattle.mg_model.specs.Backed.{IsBacked, KeepsBacked, by_none, by_word, entries_at, held_at}
+use Rattle.mg_model.specs.Objects.{with_row, with_word}
 use Rattle.mg_model.specs.Refused.{Answer, unless_refused}
 use Rattle.mg_model.specs.State.{Object, ObjectRow, State, Thread}
 

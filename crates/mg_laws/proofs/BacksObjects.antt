@@ -1,26 +1,24 @@
 -- The calls on words and objects keep seats backed, but for those that they end.
-use Rattle.std.proofs.Common.{ℕ, ◌+◌, ◌*◌, ◌<◌, ◌≤◌, ◌≡◌, ◌≢◌, ◌||◌, Bool, true, false, not, cond, eqb, leb, ltb, List, [], ◌∷◌, ◌++◌, length, filter, Option, Some, None, refl, sym, ap, ◌∙◌, inl, inr, arith, All}
-use Rattle.std.proofs.lemmas.Bool.{cond_both, cond-false, eqb-false, eqb-true, false≢true, ltb-false, ne_eqb, or_left, or_parts, not-false}
-use Rattle.std.proofs.lemmas.List.Elements.{All-weaker}
+use Rattle.std.proofs.Common.{ℕ, ◌+◌, ◌*◌, ◌≤◌, ◌≡◌, ◌≢◌, true, false, not, cond, eqb, ltb, List, [], ◌∷◌, ◌++◌, length, filter, Option, Some, None, refl, sym, ap, ◌∙◌, inl, inr, arith, All}
+use Rattle.std.proofs.lemmas.Bool.{cond_both, cond-false, eqb-false, eqb-true, false≢true, ltb-false, ne_eqb, or_left, or_parts}
 use Rattle.std.proofs.lemmas.List.Folds.{list_any-append}
-use Rattle.std.specs.Prelude.{find, unwrap_or}
+use Rattle.std.specs.Prelude.{unwrap_or}
 use Rattle.std.specs.Option.{option_map_or}
 use Rattle.std.specs.List.{list_any}
-use Rattle.mg_laws.proofs.Backs.{KeepsHeld, KeepsSlots, TakesNone, found-backed, unless_refused-backed, with_row-backed, with_word-backed}
+use Rattle.mg_laws.proofs.Backs.{TakesNone, found-backed, unless_refused-backed, with_row-backed, with_word-backed}
 use Rattle.mg_laws.proofs.Finds.{find-filter, find-none}
 use Rattle.mg_laws.proofs.KeepsCreate.{frames-few}
 use Rattle.mg_laws.proofs.Lowest.{IsApart, is_free-true, lowest_free-exists}
 use Rattle.mg_laws.proofs.Passed.{unrefused}
 use Rattle.mg_model.specs.declared.rights.Right.{Right}
 use Rattle.mg_model.specs.declared.rights.Right.TheVariants.{R}
-use Rattle.mg_model.specs.declared.seats.Seat.{Seat}
 use Rattle.mg_model.specs.declared.slots.Pw.{Pw}
-use Rattle.mg_model.specs.Access.{based_at, entries_of, gives, holds}
-use Rattle.mg_model.specs.Backed.{IsBacked, KeepsBacked, by_none, by_via, by_word, entries_at, held_at}
+use Rattle.mg_model.specs.Access.{based_at, gives, holds}
+use Rattle.mg_model.specs.Backed.{KeepsBacked, by_none, by_via, by_word, held_at}
 use Rattle.mg_model.specs.KeptLists.{All-both}
-use Rattle.mg_model.specs.Limits.{never, object_page_limit}
+use Rattle.mg_model.specs.Limits.{never}
 use Rattle.mg_model.specs.ObjectCalls.{create, delete, drawn, entry, ext, extension_of, has_password, is_entry, next_password, pwadd, pwdel, recharge, row_at, store, with_entry, with_row_at}
-use Rattle.mg_model.specs.Objects.{lowest_free, new_object, page_behind, page_of, with_object, with_word, without_object}
+use Rattle.mg_model.specs.Objects.{lowest_free, new_object, with_object, with_word, without_object}
 use Rattle.mg_model.specs.State.{Object, ObjectRow, State}
 use Rattle.mg_model.specs.WellFormed.{IsObject, IsWellFormed}
 

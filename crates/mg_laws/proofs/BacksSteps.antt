@@ -1,6 +1,6 @@
 -- A thread's calls, its turns and all lines keep seats backed, but for those that they end.
-use Rattle.std.proofs.Common.{ℕ, List, [], ◌∷◌, ◌+◌, ◌%◌, if◌then◌else◌, ◌<◌, ◌≤◌, ◌≡◌, ◌≢◌, ◌&&◌, Bool, true, false, not, cond, eqb, ltb, All, AllPairs, Contains, Option, Some, None, refl, sym, ap, ◌∙◌, subst, arith}
-use Rattle.std.proofs.lemmas.Bool.{cond_both, cond-true, eqb-true, not-false}
+use Rattle.std.proofs.Common.{ℕ, List, [], ◌∷◌, ◌+◌, ◌%◌, if◌then◌else◌, ◌≤◌, ◌≡◌, ◌&&◌, Bool, true, false, not, cond, eqb, ltb, Contains, Option, Some, None, refl, sym, ap, ◌∙◌, subst}
+use Rattle.std.proofs.lemmas.Bool.{cond_both, cond-true, not-false}
 use Rattle.std.proofs.lemmas.Option.{same_Some}
 use Rattle.std.specs.Option.{option_map_or, option_or}
 use Rattle.std.proofs.lemmas.List.Elements.{All-contains}
@@ -15,7 +15,6 @@ use Rattle.mg_laws.proofs.Passed.{unrefused}
 use Rattle.mg_laws.specs.Backing.{CallsKeepBacked, StepsKeepBacked}
 use Rattle.mg_model.specs.declared.calls.Call.{Call}
 use Rattle.mg_model.specs.declared.calls.Call.TheVariants as call
-use Rattle.mg_model.specs.declared.calls.Line.{Line}
 use Rattle.mg_model.specs.declared.instructions.Instr.{Instr}
 use Rattle.mg_model.specs.declared.instructions.Instr.TheVariants as op
 use Rattle.mg_model.specs.declared.replies.Refusal.TheVariants as refusal
@@ -25,18 +24,18 @@ use Rattle.mg_model.specs.declared.rights.Right.TheVariants.{R, W, X}
 use Rattle.mg_model.specs.declared.seats.Seat.{Seat}
 use Rattle.mg_model.specs.declared.threads.Fault.{Fault}
 use Rattle.mg_model.specs.declared.threads.Fault.TheVariants as fault
-use Rattle.mg_model.specs.declared.threads.ThrState.TheVariants.{Faulted, Stopped}
+use Rattle.mg_model.specs.declared.threads.ThrState.TheVariants.{Faulted}
 use Rattle.mg_model.specs.Access.{allowed, thread_of}
-use Rattle.mg_model.specs.Accesses.{fetched, turning}
-use Rattle.mg_model.specs.Backed.{KeepsBacked, by_none, by_thread, by_word, ended_by, ended_by_call, ended_by_instruction, ended_by_turn, ended_of}
-use Rattle.mg_model.specs.Domains.{pdx, ret, row_of, with_thread}
+use Rattle.mg_model.specs.Accesses.{turning}
+use Rattle.mg_model.specs.Backed.{KeepsBacked, by_none, by_thread, by_word, ended_by_call, ended_by_instruction, ended_by_turn, ended_of}
+use Rattle.mg_model.specs.Domains.{pdx, ret, row_of}
 use Rattle.mg_model.specs.Objects.{with_word, word_at}
 use Rattle.mg_model.specs.Refused.{Answer}
-use Rattle.mg_model.specs.Script.{decoded, jumped, operand, register, with_register, word_end}
-use Rattle.mg_model.specs.State.{Counters, State, Thread, ThreadRow}
+use Rattle.mg_model.specs.Script.{decoded, jumped, operand, register, with_register}
+use Rattle.mg_model.specs.State.{State, Thread, ThreadRow}
 use Rattle.mg_model.specs.Step.{of_thread, step, step_of}
 use Rattle.mg_model.specs.Threads.{is_thread}
-use Rattle.mg_model.specs.Turn.{advanced, faulted, is_ready, next, picked, put_row, ready_above, refusal_number, run, run_next, run_word, seen, spelled, thread_call, thread_is_ready, turn, turn_state, turned, unless_faulted, values_of, with_registers}
+use Rattle.mg_model.specs.Turn.{advanced, faulted, is_ready, picked, put_row, ready_above, refusal_number, run, run_next, run_word, seen, spelled, thread_call, thread_is_ready, turn, turn_state, turned, unless_faulted, values_of, with_registers}
 use Rattle.mg_model.specs.WellFormed.{IsThread, IsWellFormed}
 
 pub call-backed : CallsKeepBacked (λ state t made. (thread_call state t made).0)

@@ -1,8 +1,8 @@
 -- The calls on domains, threads and accounts keep seats backed, but for those that they end.
-use Rattle.std.proofs.Common.{ℕ, suc, ◌+◌, ◌-◌, ◌<◌, ◌≡◌, ◌≢◌, Bool, true, false, not, cond, eqb, List, [], ◌∷◌, ◌++◌, drop, filter, length, take, Option, Some, None, refl, sym, ap, ◌∙◌, subst, arith, All, Contains}
-use Rattle.std.proofs.lemmas.Bool.{cond_both, cond-false, cond-true, eq-eqb, eqb-false, eqb-true, ne_eqb}
+use Rattle.std.proofs.Common.{ℕ, suc, ◌+◌, ◌-◌, ◌<◌, ◌≡◌, ◌≢◌, not, eqb, List, [], ◌∷◌, ◌++◌, drop, filter, length, take, Option, Some, None, refl, sym, ap, ◌∙◌, subst, arith, All, Contains}
+use Rattle.std.proofs.lemmas.Bool.{cond_both, eqb-false, eqb-true, ne_eqb}
 use Rattle.std.proofs.lemmas.List.Elements.{Contains-append_left}
-use Rattle.std.specs.Prelude.{find, option_map, slice_get}
+use Rattle.std.specs.Prelude.{option_map, slice_get}
 use Rattle.std.specs.Option.{option_map_or}
 use Rattle.mg_laws.proofs.Backs.{KeepsSlots, rests-backed, unless_refused-backed}
 use Rattle.mg_laws.proofs.Finds.{find-hit, find-map, find-none}
@@ -14,9 +14,9 @@ use Rattle.mg_model.specs.declared.slots.Slot.{Slot}
 use Rattle.mg_model.specs.declared.threads.ThrState.TheVariants.{Ready}
 use Rattle.mg_model.specs.Access.{domain_of, last_slots, thread_of}
 use Rattle.mg_model.specs.Backed.{IsBacked, KeepsBacked, by_each, by_none, by_thread}
-use Rattle.mg_model.specs.Bank.{given_to, rent_accounts, taken_from}
+use Rattle.mg_model.specs.Bank.{given_to, taken_from}
 use Rattle.mg_model.specs.BankCalls.{open_account, pay, rent}
-use Rattle.mg_model.specs.Domains.{apdadd, apddel, entered_slots, last_back, pdx, ret, row_of, with_last_slots, with_slots, with_thread}
+use Rattle.mg_model.specs.Domains.{apdadd, apddel, entered_slots, last_back, pdx, ret, row_of, with_last_slots, with_thread}
 use Rattle.mg_model.specs.ObjectCalls.{drawn, next_password}
 use Rattle.mg_model.specs.State.{CallFrame, State, Thread, ThreadRow}
 use Rattle.mg_model.specs.Threads.{birth_of, born, end_thread, free_number, make_thread, new_thread, resume, with_new_thread}
@@ -31,6 +31,7 @@ slots-with_thread state t u change keeps =
   where
     slots_of : Option Thread → List Slot
     slots_of o = option_map_or (λ (thread : Thread). last_slots thread.row.frames) o []
+
     by_found : (o : Option Thread) → thread_of state u ≡ o → KeepsSlots (slots_of o) (slots_of (option_map (changed t change) o))
     by_found None is = λ slot there. there
     by_found (Some thread) is =

@@ -23,7 +23,7 @@ found-holds P (object ∷ objects) address none all =
     (λ _. found-holds P objects address none (All-tail (λ (object : Object). P object.row) object objects all))
 
 -- no object behind this one has its base
-other_base : (object other : Object) → IsObject object → IsBefore object other → object.row.base ≢ other.row.base
+pub other_base : (object other : Object) → IsObject object → IsBefore object other → object.row.base ≢ other.row.base
 other_base object other formed before same = let some = formed.row.place.some in absurd (omega arith)
 
 -- the object with the base of the found row has that row

@@ -1,4 +1,5 @@
 mod Backs
+mod BacksAllowed
 mod BacksObjects
 mod BacksSteps
 mod BacksThreads

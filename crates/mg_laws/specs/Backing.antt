@@ -1,5 +1,5 @@
 -- Laws on what a seat of the validation cache rests on.
-use Rattle.std.specs.Prelude.{◌≡◌, ℕ, Bool, true, false, List, Contains, Some, if◌then◌else◌, nat_lt, ◌+◌, ◌&&◌, ◌==◌}
+use Rattle.std.specs.Prelude.{◌≡◌, ℕ, Bool, true, Contains, Some, ◌&&◌, ◌==◌}
 use Rattle.std.specs.List.{list_any}
 use Rattle.mg_model.specs.declared.calls.Call.{Call}
 use Rattle.mg_model.specs.declared.calls.Line.{Line}
@@ -7,10 +7,9 @@ use Rattle.mg_model.specs.declared.rights.Right.{Right}
 use Rattle.mg_model.specs.declared.seats.Seat.{Seat}
 use Rattle.mg_model.specs.declared.slots.Slot.{Slot}
 use Rattle.mg_model.specs.Access.{at, domain_of, entries_under, holds}
-use Rattle.mg_model.specs.Backed.{IsBacked, KeepsBacked, by_none, by_via, by_word, ended_by, ended_by_call}
-use Rattle.mg_model.specs.Domains.{row_of}
-use Rattle.mg_model.specs.Limits.{page_size}
-use Rattle.mg_model.specs.State.{Object, ObjectRow, State, ThreadRow}
+use Rattle.mg_model.specs.Backed.{IsBacked, KeepsBacked, by_list, by_none, by_word, ended_by, ended_by_call}
+use Rattle.mg_model.specs.Domains.{row_of, with_thread}
+use Rattle.mg_model.specs.State.{Object, State, ThreadRow}
 use Rattle.mg_model.specs.WellFormed.{IsWellFormed}
 
 -- a line leaves each seat backed that was backed, but for those that it ends
@@ -20,3 +19,38 @@ StepsKeepBacked steps = (state : State) (line : Line) → IsWellFormed state →
 -- the same of a call, by a line or by a script
 abbrev pub CallsKeepBacked : (State → ℕ → Call → State) → Type 0
 CallsKeepBacked calls = (state : State) (t : ℕ) (made : Call) → IsWellFormed state → KeepsBacked (ended_by_call state t made) state (calls state t made)
+
+-- a seat that is backed tells of each address of its object that its thread may reach it with its right
+abbrev pub BackedAllows : (State → ℕ → ℕ → Right → Bool) → Type 0
+BackedAllows may =
+    (state : State) (seat : Seat) (address : ℕ) (object : Object) → IsWellFormed state → IsBacked state seat → at state.objects address ≡ Some object → object.row.base ≡ seat.base →
+    may state seat.thread address seat.right ≡ true
+
+-- where a thread may reach an address of an object, a seat for the object is backed, by some list
+abbrev pub AllowedIsBacked : (State → ℕ → ℕ → Right → Bool) → Type 0
+AllowedIsBacked may =
+    (state : State) (t address : ℕ) (right : Right) (object : Object) → IsWellFormed state → at state.objects address ≡ Some object → may state t address right ≡ true →
+    (via : ℕ) × IsBacked state (record { thread = t; base = object.row.base; right = right; via = via })
+
+-- and by which: the list of a slot of the thread's that gives an entry for the object with the right
+abbrev pub OpeningBacks : Type 0
+OpeningBacks =
+    (state : State) (t address : ℕ) (right : Right) (object : Object) (slot : Slot) → IsWellFormed state → at state.objects address ≡ Some object → Contains (domain_of state t) slot →
+    list_any (λ (entry : ℕ × ℕ). entry.0 == object.row.base && holds state.counters.period object.row entry.1 right) (entries_under state.objects state.counters.period slot) ≡ true →
+    IsBacked state (record { thread = t; base = object.row.base; right = right; via = slot.base })
+
+-- A change that ends the seats of the list with an address in its first page ends those of the one object that has the
+-- address, and none where the address lies beyond the object's first page.
+abbrev pub EndsOneList : Type 0
+EndsOneList =
+    (old new : State) (address : ℕ) (object : Object) → IsWellFormed old → at old.objects address ≡ Some object → KeepsBacked (by_word address) old new → KeepsBacked (by_list object.row.base address) old new
+
+-- a seat rests on the objects, the period and the slots of its thread's present frame alone
+abbrev pub BackingRestsOnDomain : Type 0
+BackingRestsOnDomain =
+    (old new : State) (seat : Seat) → new.objects ≡ old.objects → new.counters.period ≡ old.counters.period → ((slot : Slot) → Contains (domain_of old seat.thread) slot → Contains (domain_of new seat.thread) slot) →
+    IsBacked old seat → IsBacked new seat
+
+-- so a change of a thread's row that leaves its frames ends none
+abbrev pub FramesKeepBacked : Type 0
+FramesKeepBacked = (state : State) (t : ℕ) (change : ThreadRow → ThreadRow) → ((row : ThreadRow) → row_of state t ≡ Some row → (change row).frames ≡ row.frames) → KeepsBacked by_none state (with_thread state t change)

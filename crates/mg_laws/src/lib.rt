@@ -1,8 +1,11 @@
 //! Laws of the machine that `mg_model` defines: each is the contract of a public function, which does nothing when it runs.
 //!
-//! `specs/Laws.antt` has the statements, as relations on a step, an access or a search; the contracts below say of which
-//! definition each holds. A crate that needs no law stands on the definitions alone, and does not wait for these proofs.
+//! `specs/Laws.antt` and `specs/Backing.antt` have the statements, as relations on a step, an access or a search; the contracts
+//! say of which definition each holds. A crate that needs no law stands on the definitions alone, and does not wait for these
+//! proofs.
 #![tactic(auto)]
+
+mod backing;
 
 ghost use Rattle.mg_model.specs.Access.{allowed};
 ghost use Rattle.mg_model.specs.Fresh.{fresh};
@@ -13,6 +16,10 @@ ghost use Rattle.mg_model.specs.Step.{after, step};
 ghost use Rattle.mg_model.specs.Threads.{free_number};
 ghost use Rattle.mg_model.specs.Turn.{next, thread_call};
 ghost use Rattle.mg_model.specs.WellFormed.{KeepsWellFormed};
+
+pub use backing::{
+    backed_seats_are_allowed, backing_rests_on_the_domain, steps_keep_backing, stores_end_one_list,
+};
 
 /// The fresh state of any settings is well formed, and each step keeps a state well formed: numbers stay in their ranges,
 /// objects apart and within the frames, threads in order with births of their own, and the balances sum to the credits.

@@ -1,0 +1,9 @@
+use Rattle.mg_laws.proofs.Backs.{rests-backed}
+use Rattle.mg_laws.proofs.BacksThreads.{frames-backed}
+use Rattle.mg_laws.proofs.backing.backing_rests_on_the_domain.Goals as goal
+
+pub returns-clause-rests : goal.returns-clause-rests
+returns-clause-rests c = rests-backed
+
+pub returns-clause-frames : goal.returns-clause-frames
+returns-clause-frames c = frames-backed
