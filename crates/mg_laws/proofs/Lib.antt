@@ -3,6 +3,7 @@ mod BacksAllowed
 mod BacksObjects
 mod BacksSteps
 mod BacksThreads
+mod CostsBound
 mod Finds
 mod FreshFormed
 mod Keeps
@@ -19,6 +20,9 @@ mod KeptObjects
 mod KeptRegisters
 mod KeptRent
 mod KeptRowAt
+mod KeysSearched
+mod KeysSeats
+mod KeysTaken
 mod LeastNumber
 mod LinesInRange
 mod Lowest

@@ -1,11 +1,12 @@
 //! Laws of the machine that `mg_model` defines: each is the contract of a public function, which does nothing when it runs.
 //!
-//! `specs/Laws.antt` and `specs/Backing.antt` have the statements, as relations on a step, an access or a search; the contracts
-//! say of which definition each holds. A crate that needs no law stands on the definitions alone, and does not wait for these
-//! proofs.
+//! `specs/` has the statements, in `Laws.antt`, `Backing.antt` and `Costs.antt`, as relations on a step, an access or a search;
+//! the contracts say of which definition each holds. A crate that needs no law stands on the definitions alone, and does not
+//! wait for these proofs.
 #![tactic(auto)]
 
 mod backing;
+mod costs;
 
 ghost use Rattle.mg_model.specs.Access.{allowed};
 ghost use Rattle.mg_model.specs.Fresh.{fresh};
@@ -19,6 +20,10 @@ ghost use Rattle.mg_model.specs.WellFormed.{KeepsWellFormed};
 
 pub use backing::{
     backed_seats_are_allowed, backing_rests_on_the_domain, steps_keep_backing, stores_end_one_list,
+};
+pub use costs::{
+    accesses_keep_the_rules_of_a_line, costs_add_up, lines_cost_no_more, recent_keys_were_taken,
+    warm_keys_are_kept,
 };
 
 /// The fresh state of any settings is well formed, and each step keeps a state well formed: numbers stay in their ranges,
