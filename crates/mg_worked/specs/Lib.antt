@@ -11,3 +11,4 @@ pub mod Refusals
 pub mod Edges
 pub mod Users
 pub mod Forms
+pub mod Costs

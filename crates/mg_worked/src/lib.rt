@@ -19,6 +19,7 @@ ghost use Rattle.mg_worked.specs.Accounts.{object_is_recharged, password_ends, r
 ghost use Rattle.mg_worked.specs.Refusals.{counted, full_root, last_password, last_period, many_accounts, many_threads, many_threads_live, more_accounts, refusals, thirty_two_passwords};
 ghost use Rattle.mg_worked.specs.Edges.{ended_in_its_turn, last_until, no_more_births, no_more_objects, no_more_passwords, sixteen_entries, slots_in_order, steps_of_the_tariff, too_many_pages, what_is_denied, who_pays, with_births, with_objects, without_until};
 ghost use Rattle.mg_worked.specs.Users.{documents_and_mailbox};
+ghost use Rattle.mg_worked.specs.Costs.{IsPaid, behind, info_twice, linked_threads, one_seat, refused_between_loads, short_script, store_between_loads, turns_of_a_script, two_seats, words_of_one_object};
 ghost use Rattle.mg_worked.specs.Forms.{blanks, early, early_replies, forms, notes, notes_replies, numbers};
 ghost use Rattle.mg_worked.specs.Drawn.{DrawsFirst};
 ghost use Rattle.mg_worked.specs.Sessions.{IsAnswered, small};
@@ -127,4 +128,15 @@ pub fn sessions_of_forms()
     ensures blanks { IsAnswered (fresh small) blanks }
     ensures passed_over { text (fresh small) (lines all_words notes) ≡ notes_replies }
     ensures not_built { text (fresh small) (lines (codes "load" ∷ []) early) ≡ early_replies }
+{}
+
+/// What sessions may cost, in words: one for each that a line loads, stores or fetches, and 4,088 for each search.
+pub fn sessions_and_their_costs()
+    ensures words_of_one_object { IsPaid (fresh small) words_of_one_object 4090 }
+    ensures store_between_loads { IsPaid (fresh small) store_between_loads 12267 }
+    ensures info_twice { IsPaid (fresh small) info_twice 4088 }
+    ensures refused_between_loads { IsPaid (fresh small) refused_between_loads 8178 }
+    ensures turns_of_a_script { IsPaid (behind short_script) turns_of_a_script 4090 }
+    ensures one_seat { IsPaid (behind linked_threads) one_seat 12267 }
+    ensures two_seats { IsPaid (behind linked_threads) two_seats 8179 }
 {}

@@ -1,0 +1,92 @@
+-- Worked costs: what the lines of a session may cost, from a fresh state or behind an earlier session. A whole search costs
+-- 4,088 words.
+use Rattle.std.specs.Prelude.{◌≡◌, ℕ, zero, suc, ◌+◌, [], ◌∷◌, ◌++◌, codes}
+use Rattle.std.specs.Fmt.{decimal}
+use Rattle.mg_model.specs.Fresh.{fresh}
+use Rattle.mg_model.specs.Lines.{all_words, lines}
+use Rattle.mg_model.specs.State.{State}
+use Rattle.mg_model.specs.Step.{after}
+use Rattle.mg_model.specs.Warmth.{cost}
+use Rattle.mg_worked.specs.Sessions.{IsAnswered, Session, input, linked, small}
+
+-- from this state the lines get these replies, and so many words are the most that they may cost
+pub record IsPaid (state : State) (session : Session) (words : ℕ) : Type 0 where
+  pub answered : IsAnswered state session
+  pub paid : cost state (lines all_words (input session)) ≡ words
+
+-- a fresh state behind an earlier session
+abbrev pub behind : Session → State
+behind session = after (fresh small) (lines all_words (input session))
+
+-- thread 1 makes threads with these numbers
+abbrev pub made_threads : ℕ → ℕ → Session
+made_threads first zero = []
+made_threads first (suc n) = (codes "1 thread 0x100000000", codes "ok " ++ decimal first) ∷ made_threads (first + 1) n
+
+-- one search for two words of an object
+abbrev pub words_of_one_object : Session
+words_of_one_object =
+    (codes "1 load 0x100000000", codes "ok 0x0000000000000001")
+    ∷ (codes "1 load 0x100000008", codes "ok 0x0000000000000000")
+    ∷ []
+
+-- a store into a list makes all cold
+abbrev pub store_between_loads : Session
+store_between_loads =
+    (codes "1 load 0x100000000", codes "ok 0x0000000000000001")
+    ∷ (codes "1 store 0x100000020 5", codes "ok")
+    ∷ (codes "1 load 0x100000000", codes "ok 0x0000000000000001")
+    ∷ []
+
+-- of six rights the first is allowed, and no word is loaded
+abbrev pub info_twice : Session
+info_twice =
+    (codes "1 info 0x100000000", codes "ok 0x0000000100000000 1 1 1 0 0")
+    ∷ (codes "1 info 0x100000000", codes "ok 0x0000000100000000 1 1 1 0 0")
+    ∷ []
+
+-- What is refused disturbs nothing. An address of no object is searched for, one of no word is not, and a thread that does
+-- not live asks for nothing.
+abbrev pub refused_between_loads : Session
+refused_between_loads =
+    (codes "1 load 0x100000000", codes "ok 0x0000000000000001")
+    ∷ (codes "1 load 0x200000000", codes "no Denied")
+    ∷ (codes "1 load 0x100000001", codes "no Align")
+    ∷ (codes "7 load 0x100000000", codes "no NoThread")
+    ∷ (codes "1 load 0x100000000", codes "ok 0x0000000000000001")
+    ∷ []
+
+-- a script of one instruction, and a thread that is to run it
+abbrev pub short_script : Session
+short_script =
+    (codes "1 store 0x100000040 0x0000000500000001", codes "ok")
+    ∷ (codes "1 thread 0x100000040", codes "ok 2")
+    ∷ []
+
+-- two fetches from one object, and a turn of a thread that has stopped
+abbrev pub turns_of_a_script : Session
+turns_of_a_script =
+    (codes "2 turn", codes "ok Ready")
+    ∷ (codes "2 turn", codes "ok Stopped")
+    ∷ (codes "2 turn", codes "no NotReady")
+    ∷ []
+
+-- an object of two pages, and threads 2 to 38
+abbrev pub linked_threads : Session
+linked_threads = linked ++ made_threads 2 37
+
+-- thread 1 in the second object and thread 38 in the first have one seat
+abbrev pub one_seat : Session
+one_seat =
+    (codes "1 load 0x100001000", codes "ok 0x0000000000000000")
+    ∷ (codes "38 load 0x100000000", codes "ok 0x0000000000000002")
+    ∷ (codes "1 load 0x100001000", codes "ok 0x0000000000000000")
+    ∷ []
+
+-- thread 37 has another
+abbrev pub two_seats : Session
+two_seats =
+    (codes "1 load 0x100001000", codes "ok 0x0000000000000000")
+    ∷ (codes "37 load 0x100000000", codes "ok 0x0000000000000002")
+    ∷ (codes "1 load 0x100001000", codes "ok 0x0000000000000000")
+    ∷ []
