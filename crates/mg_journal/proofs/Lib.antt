@@ -5,6 +5,7 @@ mod CommitRuns
 mod CommitSteps
 mod Homes
 mod Lookups
+mod Once
 mod OpenSteps
 mod PhaseSteps
 mod RecoverSteps

@@ -17,8 +17,8 @@ module _ (writes : List (ℕ × List ℕ)) (block : ℕ) where
   by-place : waiting writes block ≡ option_map (λ (write : ℕ × List ℕ). write.1) (slice_get writes first)
   by-place = ap (option_map (λ (write : ℕ × List ℕ). write.1)) (find_at (goes_to block) writes)
 
-  pub waits-none : position (goes_to block) writes ≡ None → waiting writes block ≡ None
-  waits-none none =
+  pub waits_none : position (goes_to block) writes ≡ None → waiting writes block ≡ None
+  waits_none none =
       by-place
       ∙ ap (option_map (λ (write : ℕ × List ℕ). write.1))
       (⊎_elim (λ there. absurd (clash (ap (λ b. cond b (Some first) None) (lt-ltb first (length writes) there.1)))) (λ past. past.1) (slice_get_cases writes first).1)

@@ -1,6 +1,12 @@
 -- Writes that wait for a commit: pairs of a block and its bytes, no block twice.
-use Rattle.std.specs.Prelude.{◌==◌, ℕ, Bool, List, [], ◌∷◌, ◌++◌, find, option_map, position, slice_index_or, slice_set, Option}
+use Rattle.std.specs.Prelude.{◌==◌, ◌&&◌, ℕ, Bool, true, not, List, [], ◌∷◌, ◌++◌, find, option_map, position, slice_index_or, slice_set, Option}
 use Rattle.std.specs.Option.{option_map_or}
+use Rattle.mg_journal.specs.Contents.{names}
+
+-- whether no two of these writes go to one block
+abbrev pub are_once : List (ℕ × List ℕ) → Bool
+are_once [] = true
+are_once ((i, block) ∷ writes) = not (names writes i) && are_once writes
 
 -- whether a write goes to this block
 abbrev pub goes_to : ℕ → ℕ × List ℕ → Bool

@@ -1,8 +1,8 @@
 // Writes that wait for a commit.
-ghost use Rattle.std.specs.Prelude.{◌≡◌, ◌<◌, ◌≤◌, ◌⊎◌, ◌+◌, [], ◌∷◌, ◌++◌, IfOk, IfSome, IsSome, MatchOption, None, Some, find, is_some, length, option_copied, position, slice_set};
+ghost use Rattle.std.specs.Prelude.{◌≡◌, ◌<◌, ◌≤◌, ◌⊎◌, ◌+◌, [], ◌∷◌, ◌++◌, IfOk, IfSome, IsSome, MatchOption, None, Some, find, is_some, length, option_copied, position, slice_set, true};
 ghost use Rattle.std.specs.List.{splice};
 ghost use Rattle.mg_model.specs.Layout.{body_limit};
-ghost use Rattle.mg_journal.specs.Staged.{bytes_of, goes_to, home_at, staged, waiting};
+ghost use Rattle.mg_journal.specs.Staged.{are_once, bytes_of, goes_to, home_at, staged, waiting};
 
 use mg_disk::Block;
 use std::alloc::{AllocError, Global};
@@ -18,13 +18,14 @@ pub struct Writes {
 }
 
 impl Model for Writes {
-    ghost use Rattle.std.specs.Prelude.{◌≤◌, ℕ, List, length, vec_capacity};
+    ghost use Rattle.std.specs.Prelude.{◌≡◌, ◌≤◌, ℕ, List, length, true, vec_capacity};
+    ghost use Rattle.mg_journal.specs.Staged.{are_once};
 
     ghost Value = { List (ℕ × List ℕ) };
 
     ghost view = { λ w. w.items.items };
 
-    ghost invariant = { λ w. (160 ≤ vec_capacity w.items) × (length w.items.items ≤ 160) };
+    ghost invariant = { λ w. (160 ≤ vec_capacity w.items) × (length w.items.items ≤ 160) × (are_once w.items.items ≡ true) };
 }
 
 impl Writes {
@@ -41,6 +42,7 @@ impl Writes {
     pub fn len(&self) -> usize
         ensures count { result ≡ length self.now }
         ensures few { result ≤ body_limit }
+        ensures once { are_once self.now ≡ true }
     {
         self.items.len()
     }
@@ -78,6 +80,7 @@ impl Writes {
     }
 
     /// Stages a write, in place of the one to that block if there is one. It takes no memory.
+    #[tactic(auto, using(crate::proofs::Waits::waits_none))]
     pub fn stage(&mut self, block: u64, from: &Block)
         requires room { IsSome (position (goes_to block) self.old) ⊎ (length self.old < body_limit) }
         ensures { self.new ≡ staged self.old block from.now }
@@ -115,8 +118,10 @@ impl Writes {
     }
 
     // Stages a write behind the others.
+    #[tactic(auto, using(crate::proofs::Once::once_more))]
     fn add(&mut self, block: u64, from: &Block)
         requires room { length self.old < body_limit }
+        requires new { waiting self.old block ≡ None }
         ensures { self.new ≡ self.old ++ (block, from.now) ∷ [] }
     {
         if self.items.push((block, *from)).is_err() {

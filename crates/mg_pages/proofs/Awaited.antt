@@ -4,14 +4,13 @@ use Rattle.std.specs.Option.{option_map_or}
 use Rattle.std.proofs.Common.{sym, ap, ◌∙◌, arith}
 use Rattle.mg_disk.specs.Disk.{Image, block_at}
 use Rattle.mg_journal.specs.Facts.{open_writes, replayed-is}
-use Rattle.mg_journal.specs.Staged.{waiting}
+use Rattle.mg_journal.specs.Staged.{are_once, waiting}
 use Rattle.mg_journal.specs.Standing.{IsFitting, fitting_replays, total_of}
 use Rattle.mg_journal.specs.WrittenOver.{written_elsewhere}
 use Rattle.mg_journal.specs.declared.store.Store.{Store}
 use Rattle.mg_model.specs.Replay.{replay}
 use Rattle.mg_pages.proofs.Staging.{written-none, written-waiting}
 use Rattle.mg_pages.specs.Meaning.{replayed}
-use Rattle.mg_pages.specs.Once.{are_once}
 use Rattle.mg_pages.specs.Parts.{coming_of}
 
 pub replayed-some : (total : ℕ) (image r : Image) → replay image total ≡ Some r → replayed total image ≡ r

@@ -5,7 +5,7 @@ use Rattle.std.proofs.lemmas.Bool.{cases_eq, cases_lt}
 use Rattle.std.proofs.lemmas.List.{get_or-map, get_or-set_other, get_or-set_same, get_or_past, length-map}
 use Rattle.mg_disk.specs.Disk.{Image, block_at}
 use Rattle.mg_frames.specs.Words.{is_within, unless_within}
-use Rattle.mg_journal.specs.Staged.{staged}
+use Rattle.mg_journal.specs.Staged.{are_once, staged}
 use Rattle.mg_journal.specs.WrittenOver.{written_elsewhere}
 use Rattle.mg_model.specs.Bytes.{number_at}
 use Rattle.mg_model.specs.Layout.{table_block}
@@ -13,7 +13,6 @@ use Rattle.mg_model.specs.Replay.{written}
 use Rattle.mg_pages.proofs.OneBlock.{still-named}
 use Rattle.mg_pages.proofs.Staging.{fit-staged, length-staged, once-staged, written-staged}
 use Rattle.mg_pages.specs.Entries.{HoldsEntries}
-use Rattle.mg_pages.specs.Once.{are_once}
 use Rattle.mg_pages.specs.Parts.{StagesTable}
 
 pub none-staged : (frames new_frames : List ℕ) (writes : List (ℕ × List ℕ)) → are_once writes ≡ true → StagesTable frames new_frames 0 writes writes

@@ -8,11 +8,10 @@ use Rattle.std.proofs.lemmas.List.{get_or-set_same, length-set, set_comm, set-se
 use Rattle.mg_disk.specs.Disk.{Image, block_at}
 use Rattle.mg_frames.specs.Places.{position-here, position-there}
 use Rattle.mg_journal.specs.Contents.{names}
-use Rattle.mg_journal.specs.Staged.{goes_to, staged, waiting}
+use Rattle.mg_journal.specs.Staged.{are_once, goes_to, staged, waiting}
 use Rattle.mg_journal.specs.WrittenOver.{written_elsewhere}
 use Rattle.mg_model.specs.Layout.{globals_block}
 use Rattle.mg_model.specs.Replay.{homes_fit, written}
-use Rattle.mg_pages.specs.Once.{are_once}
 
 -- a write more, told by the first of those that wait
 pub staged-here : (i b : ℕ) (x y : List ℕ) (ws : List (ℕ × List ℕ)) → (i == b) ≡ true → staged ((i, x) ∷ ws) b y ≡ (b, y) ∷ ws

@@ -5,7 +5,7 @@ use Rattle.mg_model.specs.Layout.{body_limit, total_blocks}
 use Rattle.mg_model.specs.Replay.{homes_fit}
 use Rattle.mg_model.specs.Tests.{all_distinct}
 use Rattle.mg_model.specs.Volume.{bound_pages}
-use Rattle.mg_pages.specs.Once.{are_once}
+use Rattle.mg_journal.specs.Staged.{are_once}
 
 -- the journal, the page that each frame holds (0 for a free one), the writes that wait, and how many words were read and
 -- written, modulo 2^64

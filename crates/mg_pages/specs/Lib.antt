@@ -1,6 +1,5 @@
 -- Definitions, in the order in which one reads them. First what a layer above sees.
 pub mod Held
-pub mod Once
 pub mod Meaning
 -- What the parts of this crate do.
 pub mod Entries

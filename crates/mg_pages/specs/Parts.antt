@@ -4,14 +4,13 @@ use Rattle.std.specs.List.{list_any, position}
 use Rattle.std.specs.Option.{ForSome}
 use Rattle.mg_disk.specs.Disk.{Image, block_at}
 use Rattle.mg_journal.specs.Contents.{names}
-use Rattle.mg_journal.specs.Staged.{staged}
+use Rattle.mg_journal.specs.Staged.{are_once, staged}
 use Rattle.mg_journal.specs.declared.store.Store.{Store}
 use Rattle.mg_model.specs.Bytes.{block_words}
 use Rattle.mg_model.specs.Layout.{first_frame, table_block}
 use Rattle.mg_model.specs.Replay.{homes_fit, written}
 use Rattle.mg_pages.specs.Entries.{HoldsEntries}
 use Rattle.mg_pages.specs.Meaning.{replayed}
-use Rattle.mg_pages.specs.Once.{are_once}
 
 -- the blocks that an image will have once these writes are committed
 abbrev pub coming_of : Store → List (ℕ × List ℕ) → Image → Image

@@ -3,12 +3,11 @@ ghost use Rattle.std.specs.Prelude.{◌≡◌, ◌≢◌, ◌≤◌, ◌<◌, �
 ghost use Rattle.std.specs.Option.{ForSome};
 ghost use Rattle.mg_disk.specs.Disk.{block_at};
 ghost use Rattle.mg_disk.specs.Stops.{CountGoes, CountRose, WritesNothing};
-ghost use Rattle.mg_journal.specs.Staged.{waiting};
+ghost use Rattle.mg_journal.specs.Staged.{are_once, waiting};
 ghost use Rattle.mg_journal.specs.Standing.{Stands, total_of};
 ghost use Rattle.mg_model.specs.Bytes.{number_at};
 ghost use Rattle.mg_model.specs.Layout.{total_blocks};
 ghost use Rattle.mg_model.specs.Volume.{page_words};
-ghost use Rattle.mg_pages.specs.Once.{are_once};
 ghost use Rattle.mg_pages.specs.Parts.{coming_of};
 
 use crate::table::frame_block;

@@ -2,7 +2,7 @@
 ghost use Rattle.std.specs.Prelude.{◌≡◌, ◌+◌, ◌*◌, ◌/◌, ◌≤◌, ◌<◌, ◌^◌, ℕ, false, true, length, map, slice_index, slice_index_or};
 ghost use Rattle.mg_frames.specs.Words.{is_within, unless_within};
 ghost use Rattle.mg_model.specs.Layout.{body_limit, table_blocks};
-ghost use Rattle.mg_pages.specs.Once.{are_once};
+ghost use Rattle.mg_journal.specs.Staged.{are_once};
 ghost use Rattle.mg_pages.specs.Parts.{StagesTable};
 
 use crate::table::entries_block;

@@ -4,11 +4,10 @@ ghost use Rattle.std.specs.List.{list_any};
 ghost use Rattle.std.specs.Option.{ForSome};
 ghost use Rattle.mg_disk.specs.Disk.{block_at};
 ghost use Rattle.mg_disk.specs.Stops.{CountGoes, CountRose, WritesNothing};
-ghost use Rattle.mg_journal.specs.Staged.{waiting};
+ghost use Rattle.mg_journal.specs.Staged.{are_once, waiting};
 ghost use Rattle.mg_journal.specs.Standing.{Stands, total_of};
 ghost use Rattle.mg_model.specs.Bytes.{block_words};
 ghost use Rattle.mg_model.specs.Layout.{body_limit, total_blocks};
-ghost use Rattle.mg_pages.specs.Once.{are_once};
 ghost use Rattle.mg_pages.specs.Parts.{Begins, Stores, StagesBlock, coming_of};
 
 use crate::table::{entries_block, frame_block};

@@ -1,6 +1,6 @@
 use Rattle.std.proofs.Common.{◌≡◌, ap, sym, ◌∙◌, ◌+◌, ℕ, List, length, is_some, Option, MatchOption, IfSome, subst, refl}
 use Rattle.std.specs.List.{splice}
-use Rattle.mg_journal.proofs.Waits.{place-below, staged-there, waits-none, waits-there}
+use Rattle.mg_journal.proofs.Waits.{place-below, staged-there, waits_none, waits-there}
 use Rattle.mg_journal.specs.Staged.{bytes_of, staged}
 use Rattle.mg_journal.proofs.writes.Writes.put.Goals as goal
 
@@ -28,14 +28,14 @@ returns-in-Some-clause-whole c =
 
 pub returns-in-None-clause-waits : goal.returns-in-None-clause-waits
 returns-in-None-clause-waits c =
-    ap (λ (o : Option (List ℕ)). is_some o) (sym (waits-none c.args.self.now c.args.block (sym c.place_of.ensures ∙ c.in-None.is)))
+    ap (λ (o : Option (List ℕ)). is_some o) (sym (waits_none c.args.self.now c.args.block (sym c.place_of.ensures ∙ c.in-None.is)))
 
 pub returns-in-None-clause-put : goal.returns-in-None-clause-put
 returns-in-None-clause-put c =
     let old = c.args.self.now in
     subst (λ o. MatchOption o (old ≡ old) (λ bytes. old ≡ staged old c.args.block (splice bytes c.args.at (c.args.at + 8) c.args.word.now)))
-    (sym (waits-none old c.args.block (sym c.place_of.ensures ∙ c.in-None.is))) refl
+    (sym (waits_none old c.args.block (sym c.place_of.ensures ∙ c.in-None.is))) refl
 
 pub returns-in-None-clause-whole : goal.returns-in-None-clause-whole
 returns-in-None-clause-whole c =
-    subst (λ o. IfSome o (λ bytes. length bytes ≡ 4096)) (sym (waits-none c.args.self.now c.args.block (sym c.place_of.ensures ∙ c.in-None.is))) tt
+    subst (λ o. IfSome o (λ bytes. length bytes ≡ 4096)) (sym (waits_none c.args.self.now c.args.block (sym c.place_of.ensures ∙ c.in-None.is))) tt
