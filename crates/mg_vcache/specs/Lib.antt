@@ -1,0 +1,5 @@
+-- Definitions.
+pub mod Seats
+pub mod EndedSeats
+-- Lemmas that crates above cite. None of them is part of a statement.
+pub mod SeatLemmas
