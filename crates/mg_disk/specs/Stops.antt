@@ -1,5 +1,5 @@
 -- What the layers above say of a disk, each in one word. The trait's members come as one value, `D.Disk` in a clause.
-use Rattle.std.specs.Prelude.{◌≡◌, Some}
+use Rattle.std.specs.Prelude.{◌≡◌, OnErr, Result, Some}
 use Rattle.mg_faults.specs.Faults.{CountGoesOn, Rose}
 use Rattle.mg_disk.specs.Disk.{Image, GoesOn, no_image, OnlySeen}
 use Rattle.mg_disk.specs.declared.disk.Disk.{Ghosts}
@@ -36,3 +36,16 @@ CountGoes facts old new = CountGoesOn (facts.faults old) (facts.faults new) (fac
 -- the count of faults rose, or stands at its last value at the end
 abbrev pub CountRose : {D : Type 0} → Ghosts D → D → D → Type 0
 CountRose facts old new = Rose (facts.faults old) (facts.faults new) (facts.is_spent new)
+
+-- What is said of every run of calls, whatever they read or write: the count of faults went on, there are as many blocks, and
+-- where the run failed the count rose.
+pub record DiskCallsBy {D : Type 0} (facts : Ghosts D) (old new : D) (failed : Type 0) : Type 0 where
+  pub count : CountGoes facts old new
+  pub blocks : facts.block_count new ≡ facts.block_count old
+  pub cause : failed → CountRose facts old new
+
+-- the same where each error is a call of the disk that failed
+pub record DiskCalls {D T E : Type 0} (facts : Ghosts D) (old new : D) (result : Result T E) : Type 0 where
+  pub count : CountGoes facts old new
+  pub blocks : facts.block_count new ≡ facts.block_count old
+  pub cause : OnErr result (CountRose facts old new)

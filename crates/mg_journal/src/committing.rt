@@ -2,7 +2,7 @@
 ghost use Rattle.std.specs.Prelude.{◌≡◌, ◌<◌, All, OnErr, OnOk, option_map, slice_set, true};
 ghost use Rattle.std.specs.Option.{ForSome};
 ghost use Rattle.mg_disk.specs.Disk.{SameBut, SeenBut, only_place};
-ghost use Rattle.mg_disk.specs.Stops.{CountGoes, CountRose, Leaves, NothingPending};
+ghost use Rattle.mg_disk.specs.Stops.{DiskCalls, Leaves, NothingPending};
 ghost use Rattle.mg_model.specs.Replay.{written};
 ghost use Rattle.mg_journal.specs.Contents.{names};
 
@@ -16,9 +16,7 @@ pub(crate) fn write_firmly<D: Disk>(disk: &mut D, i: u64, from: &Block) -> Resul
     ensures written { OnOk result (D.seen disk.new ≡ option_map (λ image. slice_set image i from.now) (D.seen disk.old)) }
     ensures torn { SeenBut (only_place i) (D.seen disk.old) (D.seen disk.new) }
     ensures settled { OnOk result (NothingPending D.Disk disk.new) }
-    ensures cause { OnErr result (CountRose D.Disk disk.old disk.new) }
-    ensures count { CountGoes D.Disk disk.old disk.new }
-    ensures blocks { D.block_count disk.new ≡ D.block_count disk.old }
+    ensures calls { DiskCalls D.Disk disk.old disk.new result }
 {
     disk.write(i, from)?;
     disk.sync()
@@ -30,9 +28,7 @@ pub(crate) fn write_homes<D: Disk>(disk: &mut D, writes: &[(u64, Block)]) -> Res
     ensures any_moment { NothingPending D.Disk disk.old → ForSome (D.seen disk.old) (λ image. Leaves D.Disk disk.old disk.new (SameBut (λ k. names writes.now k ≡ true) image)) }
     ensures written { OnOk result (D.seen disk.new ≡ option_map (λ image. written image writes.now) (D.seen disk.old)) }
     ensures settled { OnOk result (NothingPending D.Disk disk.new) }
-    ensures cause { OnErr result (CountRose D.Disk disk.old disk.new) }
-    ensures count { CountGoes D.Disk disk.old disk.new }
-    ensures blocks { D.block_count disk.new ≡ D.block_count disk.old }
+    ensures calls { DiskCalls D.Disk disk.old disk.new result }
 {
     for write in writes {
         disk.write(write.0, &write.1)?;

@@ -2,7 +2,7 @@
 ghost use Rattle.std.specs.Prelude.{◌≡◌, ◌≤◌, ◌<◌, ◌+◌, ◌++◌, ◌∷◌, ◌&&◌, [], ℕ, All, IfOk, OnErr, OnOk, false, length, nat_le, nat_lt, true, vec_capacity};
 ghost use Rattle.std.specs.Option.{ForSome};
 ghost use Rattle.mg_disk.specs.Disk.{Image, block_at};
-ghost use Rattle.mg_disk.specs.Stops.{CountGoes, CountRose, WritesNothing};
+ghost use Rattle.mg_disk.specs.Stops.{DiskCalls, DiskCallsBy, WritesNothing};
 ghost use Rattle.mg_model.specs.Bytes.{number_at};
 ghost use Rattle.mg_model.specs.Layout.{body_limit, globals_block, segment_count, segment_index};
 ghost use Rattle.mg_model.specs.Replay.{body_count, is_open, segment_fits};
@@ -81,9 +81,7 @@ fn is_open<D: Disk>(disk: &mut D, segment: u64) -> Result<bool, Failed>
     requires room { globals_block ≤ D.block_count disk.old }
     ensures open_now { IfOk result (λ opened. ForSome (D.seen disk.old) (λ image. is_open image segment ≡ opened)) }
     ensures writes { WritesNothing D.Disk disk.old disk.new }
-    ensures cause { OnErr result (CountRose D.Disk disk.old disk.new) }
-    ensures count { CountGoes D.Disk disk.old disk.new }
-    ensures blocks { D.block_count disk.new ≡ D.block_count disk.old }
+    ensures calls { DiskCalls D.Disk disk.old disk.new result }
 {
     let mut gate = [0; BLOCK_SIZE];
     disk.read(gate_of(segment), &mut gate)?;
@@ -108,9 +106,7 @@ fn look_index<D: Disk>(
     ensures few { length places.new.items ≤ length places.old.items + body_limit }
     ensures capacity { vec_capacity places.old ≤ vec_capacity places.new }
     ensures writes { WritesNothing D.Disk disk.old disk.new }
-    ensures cause { result ≡ Err ViewFault.Disk → CountRose D.Disk disk.old disk.new }
-    ensures count { CountGoes D.Disk disk.old disk.new }
-    ensures block_count { D.block_count disk.new ≡ D.block_count disk.old }
+    ensures calls { DiskCallsBy D.Disk disk.old disk.new (result ≡ Err ViewFault.Disk) }
 {
     let mut index = [0; BLOCK_SIZE];
     match disk.read(index_of(segment), &mut index) {
@@ -145,9 +141,7 @@ pub(crate) fn look_segment<D: Disk>(
     ensures few { length places.new.items ≤ length places.old.items + body_limit }
     ensures capacity { vec_capacity places.old ≤ vec_capacity places.new }
     ensures writes { WritesNothing D.Disk disk.old disk.new }
-    ensures cause { result ≡ Err ViewFault.Disk → CountRose D.Disk disk.old disk.new }
-    ensures count { CountGoes D.Disk disk.old disk.new }
-    ensures block_count { D.block_count disk.new ≡ D.block_count disk.old }
+    ensures calls { DiskCallsBy D.Disk disk.old disk.new (result ≡ Err ViewFault.Disk) }
 {
     match is_open(disk, segment) {
         Ok(true) => look_index(disk, segment, total, places),

@@ -1,7 +1,7 @@
 // Recovery: what is done with the segments that are open where a store is opened.
 ghost use Rattle.std.specs.Prelude.{◌≡◌, ◌≤◌, ◌<◌, ◌==◌, ℕ, IsSomeAnd, OnErr, OnOk, Some, is_some, slice_index};
 ghost use Rattle.std.specs.Option.{ForSome};
-ghost use Rattle.mg_disk.specs.Stops.{CountGoes, CountRose, Leaves, NothingPending, WritesNothing};
+ghost use Rattle.mg_disk.specs.Stops.{DiskCalls, Leaves, NothingPending};
 ghost use Rattle.mg_model.specs.Layout.{gate_open, globals_block, segment_count};
 ghost use Rattle.mg_model.specs.Replay.{is_open, replay};
 ghost use Rattle.mg_journal.specs.Recovery.{ClosedOne, IsClosedUpTo, IsStill, MayCloseOne};
@@ -21,9 +21,7 @@ fn close_gate<D: Disk>(disk: &mut D, segment: u64) -> Result<(), Failed>
     ensures closed { OnOk result (ForSome (D.seen disk.old) (λ image. IsSomeAnd (D.seen disk.new) (ClosedOne segment image))) }
     ensures tells { is_some (D.seen disk.new) ≡ is_some (D.seen disk.old) }
     ensures settled { OnOk result (NothingPending D.Disk disk.new) }
-    ensures cause { OnErr result (CountRose D.Disk disk.old disk.new) }
-    ensures count { CountGoes D.Disk disk.old disk.new }
-    ensures blocks { D.block_count disk.new ≡ D.block_count disk.old }
+    ensures calls { DiskCalls D.Disk disk.old disk.new result }
 {
     let mut gate = [0; BLOCK_SIZE];
     disk.read(gate_of(segment), &mut gate)?;
@@ -44,9 +42,7 @@ pub(crate) fn close_gates<D: Disk>(disk: &mut D) -> Result<(), Failed>
     ensures still { ForSome (D.seen disk.old) (λ image. (total : ℕ) → replay image total ≡ Some image → IsSomeAnd (D.seen disk.new) (IsStill total image)) }
     ensures tells { is_some (D.seen disk.new) ≡ is_some (D.seen disk.old) }
     ensures settled { OnOk result (NothingPending D.Disk disk.new) }
-    ensures cause { OnErr result (CountRose D.Disk disk.old disk.new) }
-    ensures count { CountGoes D.Disk disk.old disk.new }
-    ensures blocks { D.block_count disk.new ≡ D.block_count disk.old }
+    ensures calls { DiskCalls D.Disk disk.old disk.new result }
 {
     for segment in 0..SEGMENTS {
         close_gate(disk, segment)?;

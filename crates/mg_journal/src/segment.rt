@@ -2,7 +2,7 @@
 ghost use Rattle.std.specs.Prelude.{◌≡◌, ◌≤◌, ◌<◌, IsSomeAnd, OnErr, OnOk, length};
 ghost use Rattle.std.specs.Option.{ForSome};
 ghost use Rattle.mg_disk.specs.Disk.{SameBut};
-ghost use Rattle.mg_disk.specs.Stops.{CountGoes, CountRose, Leaves, NothingPending};
+ghost use Rattle.mg_disk.specs.Stops.{DiskCalls, Leaves, NothingPending};
 ghost use Rattle.mg_model.specs.Layout.{body_limit, globals_block, segment_count};
 ghost use Rattle.mg_journal.specs.Phases.{HoldsWrites, IsBehind};
 
@@ -24,9 +24,7 @@ pub(crate) fn write_segment<D: Disk>(
     ensures written { OnOk result (ForSome (D.seen disk.old) (λ image. IsSomeAnd (D.seen disk.new) (HoldsWrites segment writes.now image))) }
     ensures comes_from { OnOk result (ForSome (D.seen disk.new) (λ now. IsSomeAnd (D.seen disk.old) (λ image. HoldsWrites segment writes.now image now))) }
     ensures settled { OnOk result (NothingPending D.Disk disk.new) }
-    ensures cause { OnErr result (CountRose D.Disk disk.old disk.new) }
-    ensures count { CountGoes D.Disk disk.old disk.new }
-    ensures blocks { D.block_count disk.new ≡ D.block_count disk.old }
+    ensures calls { DiskCalls D.Disk disk.old disk.new result }
 {
     disk.write(index_of(segment), &index_block(writes))?;
     let first = index_of(segment) + 1;

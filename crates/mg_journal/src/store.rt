@@ -2,7 +2,7 @@
 ghost use Rattle.std.specs.Prelude.{◌≡◌, ◌≤◌, ◌<◌, [], IfOk, IsOk, IsSome, IsSomeAnd, None, OnErr, OnOk, is_ok, length, true};
 ghost use Rattle.std.specs.Option.{ForSome};
 ghost use Rattle.mg_disk.specs.Disk.{block_at};
-ghost use Rattle.mg_disk.specs.Stops.{CountGoes, CountRose, Leaves, NothingPending, WritesNothing};
+ghost use Rattle.mg_disk.specs.Stops.{DiskCalls, DiskCallsBy, Leaves, NothingPending, WritesNothing};
 ghost use Rattle.mg_model.specs.Layout.{body_limit, globals_block};
 ghost use Rattle.mg_model.specs.Replay.{homes_fit, replay};
 ghost use Rattle.mg_journal.specs.Contents.{NewContents, SameContents};
@@ -47,9 +47,7 @@ impl Store {
         ensures replayed { IfOk result (λ _. ForSome (D.seen disk.old) (λ image. IsSome (replay image total))) }
         ensures damaged { result ≡ Err ViewFault.Damaged → ForSome (D.seen disk.old) (λ image. replay image total ≡ None) }
         ensures untouched { result ≡ Err ViewFault.Damaged → WritesNothing D.Disk disk.old disk.new }
-        ensures cause { result ≡ Err ViewFault.Disk → CountRose D.Disk disk.old disk.new }
-        ensures count { CountGoes D.Disk disk.old disk.new }
-        ensures blocks { D.block_count disk.new ≡ D.block_count disk.old }
+        ensures calls { DiskCallsBy D.Disk disk.old disk.new (result ≡ Err ViewFault.Disk) }
     {
         let view = match View::look(alloc, disk, total) {
             Ok(view) => view,
@@ -82,9 +80,7 @@ impl Store {
         ensures live { is_live self.new ≡ is_ok result }
         ensures total { total_of self.new ≡ total_of self.old }
         ensures no_call { w.now ≡ [] → (disk.new ≡ disk.old) × IsOk result }
-        ensures cause { OnErr result (CountRose D.Disk disk.old disk.new) }
-        ensures count { CountGoes D.Disk disk.old disk.new }
-        ensures blocks { D.block_count disk.new ≡ D.block_count disk.old }
+        ensures calls { DiskCalls D.Disk disk.old disk.new result }
     {
         let writes = w.as_slice();
         if writes.is_empty() {
@@ -106,9 +102,7 @@ impl Store {
         ensures block { OnOk result (ForSome (D.seen disk.old) (λ image. ForSome (replay image (total_of self.now)) (λ r. out.new ≡ block_at r i))) }
         ensures stands { Stands D.Disk self.now disk.new }
         ensures writes { WritesNothing D.Disk disk.old disk.new }
-        ensures cause { OnErr result (CountRose D.Disk disk.old disk.new) }
-        ensures count { CountGoes D.Disk disk.old disk.new }
-        ensures blocks { D.block_count disk.new ≡ D.block_count disk.old }
+        ensures calls { DiskCalls D.Disk disk.old disk.new result }
     {
         disk.read(i, out)
     }
@@ -122,9 +116,7 @@ impl Store {
         ensures done { OnOk result (ForSome (D.seen disk.old) (λ image. IsSomeAnd (D.seen disk.new) (NewContents (total_of self.now) image writes.now))) }
         ensures came_from { OnOk result (ForSome (D.seen disk.new) (λ now. IsSomeAnd (D.seen disk.old) (λ image. NewContents (total_of self.now) image writes.now now))) }
         ensures stands { OnOk result (Stands D.Disk self.now disk.new) }
-        ensures cause { OnErr result (CountRose D.Disk disk.old disk.new) }
-        ensures count { CountGoes D.Disk disk.old disk.new }
-        ensures blocks { D.block_count disk.new ≡ D.block_count disk.old }
+        ensures calls { DiskCalls D.Disk disk.old disk.new result }
     {
         write_segment(disk, 0, writes)?;
         write_firmly(disk, FIRST_GATE, &opened_gate())?;

@@ -2,7 +2,7 @@
 ghost use Rattle.std.specs.Prelude.{◌≡◌, ◌≤◌, ◌<◌, ◌==◌, All, IfOk, IsSome, None, OnErr, OnOk, find, option_copied, reverse};
 ghost use Rattle.std.specs.Option.{ForSome};
 ghost use Rattle.mg_disk.specs.Disk.{block_at};
-ghost use Rattle.mg_disk.specs.Stops.{CountGoes, CountRose, WritesNothing};
+ghost use Rattle.mg_disk.specs.Stops.{DiskCalls, DiskCallsBy, WritesNothing};
 ghost use Rattle.mg_model.specs.Layout.{globals_block, segment_count};
 ghost use Rattle.mg_model.specs.Replay.{replay};
 ghost use Rattle.mg_journal.specs.Looked.{held_at};
@@ -58,9 +58,7 @@ impl View {
         ensures damaged { result ≡ Err ViewFault.Damaged → ForSome (D.seen disk.old) (λ image. replay image total ≡ None) }
         ensures replayed { IfOk result (λ _. ForSome (D.seen disk.old) (λ image. IsSome (replay image total))) }
         ensures writes { WritesNothing D.Disk disk.old disk.new }
-        ensures cause { result ≡ Err ViewFault.Disk → CountRose D.Disk disk.old disk.new }
-        ensures count { CountGoes D.Disk disk.old disk.new }
-        ensures blocks { D.block_count disk.new ≡ D.block_count disk.old }
+        ensures calls { DiskCallsBy D.Disk disk.old disk.new (result ≡ Err ViewFault.Disk) }
     {
         let mut places = match Vec::with_capacity(alloc, MOST_PLACES) {
             Ok(places) => places,
@@ -110,9 +108,7 @@ impl View {
         requires fits { ForSome (D.seen disk.old) (λ image. Fits self.now image) }
         ensures block { OnOk result (ForSome (D.seen disk.old) (λ image. ForSome (replay image self.now.total) (λ r. out.new ≡ block_at r i))) }
         ensures writes { WritesNothing D.Disk disk.old disk.new }
-        ensures cause { OnErr result (CountRose D.Disk disk.old disk.new) }
-        ensures count { CountGoes D.Disk disk.old disk.new }
-        ensures blocks { D.block_count disk.new ≡ D.block_count disk.old }
+        ensures calls { DiskCalls D.Disk disk.old disk.new result }
     {
         disk.read(self.place_of(i), out)
     }

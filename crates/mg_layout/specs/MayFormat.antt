@@ -40,9 +40,3 @@ abbrev pub IsUntouchedSmall : {T D : Type 0} → D → D → Result T FormatFaul
 IsUntouchedSmall old new (Ok x) = Unit {0}
 IsUntouchedSmall old new (Err fault.Disk) = Unit {0}
 IsUntouchedSmall old new (Err (fault.TooSmall n h)) = new ≡ old
-
--- where the disk is said to have failed, this holds
-abbrev pub OnDisk : {T : Type 0} → Result T FormatFault → Type 0 → Type 0
-OnDisk (Ok x) P = Unit {0}
-OnDisk (Err fault.Disk) P = P
-OnDisk (Err (fault.TooSmall n h)) P = Unit {0}

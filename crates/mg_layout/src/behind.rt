@@ -2,7 +2,7 @@
 ghost use Rattle.std.specs.Prelude.{◌≡◌, ◌≤◌, ◌<◌, ◌+◌, OnErr, OnOk, option_map};
 ghost use Rattle.std.specs.Option.{ForSome};
 ghost use Rattle.mg_disk.specs.Disk.{SameBut, Torn};
-ghost use Rattle.mg_disk.specs.Stops.{CountGoes, CountRose, Leaves, NothingPending, TimeGoes};
+ghost use Rattle.mg_disk.specs.Stops.{DiskCalls, Leaves, NothingPending, TimeGoes};
 ghost use Rattle.mg_model.specs.Layout.{first_frame, total_blocks};
 ghost use Rattle.mg_layout.specs.FreshBelow.{fresh_until, with_block};
 ghost use Rattle.mg_layout.specs.FreshImage.{is_written};
@@ -19,9 +19,7 @@ pub(crate) fn write_behind<D: Disk>(disk: &mut D, p: &Params) -> Result<(), Fail
     ensures any_moment { NothingPending D.Disk disk.old → ForSome (D.seen disk.old) (λ image. Leaves D.Disk disk.old disk.new (SameBut (λ i. 1 ≤ i) image)) }
     ensures written { OnOk result (D.seen disk.new ≡ option_map (fresh_until p.now (first_frame p.now.frames)) (D.seen disk.old)) }
     ensures settled { OnOk result (NothingPending D.Disk disk.new) }
-    ensures cause { OnErr result (CountRose D.Disk disk.old disk.new) }
-    ensures count { CountGoes D.Disk disk.old disk.new }
-    ensures blocks { D.block_count disk.new ≡ D.block_count disk.old }
+    ensures calls { DiskCalls D.Disk disk.old disk.new result }
 {
     let last = Geometry::of(p.frames()).first_frame;
     for i in 0..last {
@@ -36,9 +34,7 @@ fn write_fresh<D: Disk>(disk: &mut D, p: &Params, i: u64) -> Result<(), Failed>
     requires in_range { i < total_blocks p.now.frames }
     ensures stops { TimeGoes D.Disk disk.old disk.new (Torn i (D.left_since disk.old (D.moment disk.old))) }
     ensures written { OnOk result (D.seen disk.new ≡ option_map (with_block p.now i) (D.seen disk.old)) }
-    ensures cause { OnErr result (CountRose D.Disk disk.old disk.new) }
-    ensures count { CountGoes D.Disk disk.old disk.new }
-    ensures blocks { D.block_count disk.new ≡ D.block_count disk.old }
+    ensures calls { DiskCalls D.Disk disk.old disk.new result }
 {
     if !is_written(p.frames(), i) {
         return Ok(());

@@ -2,11 +2,11 @@
 ghost use Rattle.std.specs.Prelude.{◌≡◌, ◌≤◌, ◌<◌, OnErr, OnOk, option_map, slice_set};
 ghost use Rattle.std.specs.Option.{ForSome};
 ghost use Rattle.mg_disk.specs.Disk.{Image, SameBut, only_place};
-ghost use Rattle.mg_disk.specs.Stops.{CountGoes, CountRose, Leaves, NothingPending};
+ghost use Rattle.mg_disk.specs.Stops.{DiskCalls, DiskCallsBy, Leaves, NothingPending};
 ghost use Rattle.mg_model.specs.Fresh.{fresh};
 ghost use Rattle.mg_model.specs.Layout.{total_blocks};
 ghost use Rattle.mg_model.specs.Volume.{Is, volume};
-ghost use Rattle.mg_layout.specs.MayFormat.{IsUntouchedSmall, MayFormat, OnDisk, ReadsFresh, TellsSmall};
+ghost use Rattle.mg_layout.specs.MayFormat.{IsUntouchedSmall, MayFormat, ReadsFresh, TellsSmall};
 
 use crate::behind::write_behind;
 use crate::fresh::fresh_block;
@@ -40,9 +40,7 @@ pub fn format<D: Disk>(disk: &mut D, p: &Params) -> Result<(), FormatFault>
     ensures left { OnOk result ((c : Image) → D.left_since disk.new (D.moment disk.new) c → volume c ≡ Is (fresh p.now)) }
     ensures small { TellsSmall (total_blocks p.now.frames) (D.block_count disk.old) result }
     ensures no_call { IsUntouchedSmall disk.old disk.new result }
-    ensures cause { OnDisk result (CountRose D.Disk disk.old disk.new) }
-    ensures count { CountGoes D.Disk disk.old disk.new }
-    ensures blocks { D.block_count disk.new ≡ D.block_count disk.old }
+    ensures calls { DiskCallsBy D.Disk disk.old disk.new (result ≡ Err FormatFault.Disk) }
 {
     let need = Geometry::of(p.frames()).total;
     let have = disk.blocks();
@@ -61,9 +59,7 @@ fn make<D: Disk>(disk: &mut D, p: &Params) -> Result<(), Failed>
     ensures any_moment { NothingPending D.Disk disk.old → ForSome (D.seen disk.old) (λ image. Leaves D.Disk disk.old disk.new (MayFormat image p.now)) }
     ensures made { OnOk result (ReadsFresh p.now (D.seen disk.old) (D.seen disk.new)) }
     ensures settled { OnOk result (NothingPending D.Disk disk.new) }
-    ensures cause { OnErr result (CountRose D.Disk disk.old disk.new) }
-    ensures count { CountGoes D.Disk disk.old disk.new }
-    ensures blocks { D.block_count disk.new ≡ D.block_count disk.old }
+    ensures calls { DiskCalls D.Disk disk.old disk.new result }
 {
     settings_keep_rules(p);
     let mut gate = [0; BLOCK_SIZE];
@@ -79,9 +75,7 @@ fn write_firmly<D: Disk>(disk: &mut D, i: u64, from: &Block) -> Result<(), Faile
     ensures any_moment { NothingPending D.Disk disk.old → ForSome (D.seen disk.old) (λ image. Leaves D.Disk disk.old disk.new (SameBut (only_place i) image)) }
     ensures written { OnOk result (D.seen disk.new ≡ option_map (λ image. slice_set image i from.now) (D.seen disk.old)) }
     ensures settled { OnOk result (NothingPending D.Disk disk.new) }
-    ensures cause { OnErr result (CountRose D.Disk disk.old disk.new) }
-    ensures count { CountGoes D.Disk disk.old disk.new }
-    ensures blocks { D.block_count disk.new ≡ D.block_count disk.old }
+    ensures calls { DiskCalls D.Disk disk.old disk.new result }
 {
     disk.write(i, from)?;
     disk.sync()

@@ -20,7 +20,7 @@ returns-in_err-close_gate-clause-any_moment g c image told total own =
 
 pub loop-segment-preserved : goal.loop-segment-preserved
 loop-segment-preserved g c = record {
-  blocks = c.close_gate.ensures.blocks ∙ c.loop-segment.invariant.blocks;
+  blocks = c.close_gate.ensures.calls.blocks ∙ c.loop-segment.invariant.blocks;
   count = search rules;
   settled = c.in_ok-close_gate.ensures.settled;
   tells = c.close_gate.ensures.tells ∙ c.loop-segment.invariant.tells;

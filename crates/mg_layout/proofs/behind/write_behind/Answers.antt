@@ -21,7 +21,7 @@ loop-i-preserved g c =
     let i = c.loop-i.i in
     let inv = c.loop-i.invariant in
     record {
-      blocks = c.write_fresh.ensures.blocks ∙ inv.blocks;
+      blocks = c.write_fresh.ensures.calls.blocks ∙ inv.blocks;
       count = search rules;
       written = c.in_ok-write_fresh.ensures.written ∙ ap (option_map (with_block p (i + 1))) inv.written ∙ map_more p i (g.D.Disk.seen c.args.disk.now);
       tracks = λ pending image told.

@@ -16,7 +16,7 @@ pub write_homes-requires : goal.write_homes-requires
 write_homes-requires g c =
     let stands = c.requires.stands in
     let high = stands.room in
-    record { room = homes_below c.args.self.now.total (g.D.Disk.block_count c.write_firmly.new.disk) c.args.writes.now (omega (arith, c.write_firmly.ensures.blocks, c.write_segment.ensures.blocks)) c.requires.homes }
+    record { room = homes_below c.args.self.now.total (g.D.Disk.block_count c.write_firmly.new.disk) c.args.writes.now (omega (arith, c.write_firmly.ensures.calls.blocks, c.write_segment.ensures.calls.blocks)) c.requires.homes }
 
 pub returns-in_err-write_segment-clause-any_moment : goal.returns-in_err-write_segment-clause-any_moment
 returns-in_err-write_segment-clause-any_moment g c image told =
@@ -135,7 +135,7 @@ returns-clause-stands g c =
     let high = stands.room in
     record {
       journal = low;
-      room = omega (arith, c.write_firmly-2.ensures.blocks, c.write_homes.ensures.blocks, c.write_firmly.ensures.blocks, c.write_segment.ensures.blocks);
+      room = omega (arith, c.write_firmly-2.ensures.calls.blocks, c.write_homes.ensures.calls.blocks, c.write_firmly.ensures.calls.blocks, c.write_segment.ensures.calls.blocks);
       settled = both.1;
       fits = λ last told.
           closed_fits c.args.self.now last

@@ -38,7 +38,7 @@ returns-in-Ok-recover-clause-stands g c =
     let total = c.in-Ok.view.total in
     record {
       journal = c.requires.journal;
-      room = let room = c.requires.room in omega (arith, c.recover.ensures.blocks, c.look.ensures.blocks);
+      room = let room = c.requires.room in omega (arith, c.recover.ensures.calls.blocks, c.look.ensures.calls.blocks);
       settled = c.in-Ok-recover.ensures.settled;
       fits = λ now told. closed_fits (record { total = c.args.total; live = true }) now (some_of (λ image. IsRecovered total image now) (g.D.Disk.seen c.look.new.disk) (c.in-Ok-recover.ensures.came_from now told)).2.closed;
     }

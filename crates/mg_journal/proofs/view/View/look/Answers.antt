@@ -44,7 +44,7 @@ loop-segment-preserved g c =
       capacity = omega (arith, look.capacity, inv.capacity);
       writes = nothing_then g.D.Disk c.args.disk.now c.loop-segment.disk c.look_segment.new.disk inv.writes look.writes;
       count = search rules;
-      blocks = look.block_count ∙ inv.blocks;
+      blocks = look.calls.blocks ∙ inv.blocks;
     }
 
 pub returns-clause-fits : goal.returns-clause-fits
