@@ -2,7 +2,7 @@
 ghost use Rattle.std.specs.Prelude.{◌≡◌, ◌≢◌, ◌≤◌, ◌<◌, ◌*◌, true, IfOk, IsSomeAnd, MatchOption, None, OnErr, length, slice_index};
 ghost use Rattle.std.specs.Option.{ForSome};
 ghost use Rattle.mg_disk.specs.Disk.{block_at};
-ghost use Rattle.mg_disk.specs.Stops.{CountGoes, CountRose, WritesNothing};
+ghost use Rattle.mg_disk.specs.Stops.{DiskCalls, WritesNothing};
 ghost use Rattle.mg_journal.specs.Staged.{are_once, waiting};
 ghost use Rattle.mg_journal.specs.Standing.{Stands, total_of};
 ghost use Rattle.mg_model.specs.Bytes.{number_at};
@@ -32,9 +32,7 @@ pub(crate) fn coming_word<D: Disk>(
     ensures word { IfOk result (λ word. ForSome (D.seen disk.old) (λ image. word ≡ number_at (block_at (coming_of store.now writes.now image) block) (8 * index))) }
     ensures stands { Stands D.Disk store.now disk.new }
     ensures writes { WritesNothing D.Disk disk.old disk.new }
-    ensures cause { OnErr result (CountRose D.Disk disk.old disk.new) }
-    ensures count { CountGoes D.Disk disk.old disk.new }
-    ensures blocks { D.block_count disk.new ≡ D.block_count disk.old }
+    ensures calls { DiskCalls D.Disk disk.old disk.new result }
 {
     match staged_word(writes, block, index) {
         Some(word) => Ok(word),
@@ -78,9 +76,7 @@ pub(crate) fn page_word<D: Disk>(
         word ≡ slice_index (page_words (coming_of store.now writes.now image) (length frames.now) frames.now page) index)) }
     ensures stands { Stands D.Disk store.now disk.new }
     ensures writes { WritesNothing D.Disk disk.old disk.new }
-    ensures cause { OnErr result (CountRose D.Disk disk.old disk.new) }
-    ensures count { CountGoes D.Disk disk.old disk.new }
-    ensures blocks { D.block_count disk.new ≡ D.block_count disk.old }
+    ensures calls { DiskCalls D.Disk disk.old disk.new result }
 {
     match frames.frame_of(page) {
         Some(frame) => coming_word(store, writes, disk, frame_block(frames.len(), frame), index),

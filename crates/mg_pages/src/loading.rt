@@ -1,7 +1,7 @@
 // The frame table of a disk, bound page by page.
 ghost use Rattle.std.specs.Prelude.{◌≡◌, ◌+◌, ◌*◌, ◌≤◌, ◌<◌, ℕ, OnErr, OnOk, length, replicate, slice_index, true};
 ghost use Rattle.std.specs.Option.{ForSome};
-ghost use Rattle.mg_disk.specs.Stops.{CountGoes, CountRose, WritesNothing};
+ghost use Rattle.mg_disk.specs.Stops.{DiskCalls, WritesNothing};
 ghost use Rattle.mg_journal.specs.Standing.{Stands, total_of};
 ghost use Rattle.mg_model.specs.Bytes.{block_words};
 ghost use Rattle.mg_model.specs.Layout.{table_blocks, total_blocks};
@@ -35,9 +35,7 @@ pub(crate) fn load_entries<D: Disk>(
     ensures kept { all_distinct (bound_pages frames.new) ≡ true }
     ensures stands { Stands D.Disk store.now disk.new }
     ensures writes { WritesNothing D.Disk disk.old disk.new }
-    ensures cause { OnErr result (CountRose D.Disk disk.old disk.new) }
-    ensures count { CountGoes D.Disk disk.old disk.new }
-    ensures blocks { D.block_count disk.new ≡ D.block_count disk.old }
+    ensures calls { DiskCalls D.Disk disk.old disk.new result }
 {
     let mut block = [0; BLOCK_SIZE];
     let blocks = Geometry::of(frames.len()).table;

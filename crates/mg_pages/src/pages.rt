@@ -3,7 +3,7 @@ ghost use Rattle.std.specs.Prelude.{[], List, ◌≡◌, ◌≢◌, ◌⊎◌, �
 ghost use Rattle.std.specs.List.{list_any};
 ghost use Rattle.std.specs.Option.{ForSome};
 ghost use Rattle.mg_disk.specs.Disk.{block_at, SameBut};
-ghost use Rattle.mg_disk.specs.Stops.{CountGoes, CountRose, Leaves, WritesNothing};
+ghost use Rattle.mg_disk.specs.Stops.{DiskCalls, Leaves, WritesNothing};
 ghost use Rattle.mg_journal.specs.Contents.{InJournal, SameContents};
 ghost use Rattle.mg_journal.specs.Standing as journal;
 ghost use Rattle.mg_model.specs.Bytes.{are_zeros};
@@ -117,9 +117,7 @@ impl Pages {
         ensures unstaged { staged_of self.new ≡ 0 }
         ensures words { words_in self.new ≡ words_in self.old }
         ensures writes { WritesNothing D.Disk disk.old disk.new }
-        ensures cause { OnErr result (CountRose D.Disk disk.old disk.new) }
-        ensures count { CountGoes D.Disk disk.old disk.new }
-        ensures blocks { D.block_count disk.new ≡ D.block_count disk.old }
+        ensures calls { DiskCalls D.Disk disk.old disk.new result }
     {
         load_entries(&self.store, &mut self.frames, disk)
     }
@@ -165,9 +163,7 @@ impl Pages {
         ensures writes { WritesNothing D.Disk disk.old disk.new }
         ensures counts { OnOk result (CountsOne self.old self.new steps.old steps.new) }
         ensures counts_failed { OnErr result (CountsNone self.old self.new steps.old steps.new) }
-        ensures cause { OnErr result (CountRose D.Disk disk.old disk.new) }
-        ensures count { CountGoes D.Disk disk.old disk.new }
-        ensures blocks { D.block_count disk.new ≡ D.block_count disk.old }
+        ensures calls { DiskCalls D.Disk disk.old disk.new result }
     {
         match page_word(&self.store, &self.frames, &self.writes, disk, page, index) {
             Ok(word) => {
@@ -203,9 +199,7 @@ impl Pages {
         ensures writes { WritesNothing D.Disk disk.old disk.new }
         ensures counts { OnOk result (CountsOne self.old self.new steps.old steps.new) }
         ensures counts_failed { OnErr result (CountsNone self.old self.new steps.old steps.new) }
-        ensures cause { OnErr result (CountRose D.Disk disk.old disk.new) }
-        ensures count { CountGoes D.Disk disk.old disk.new }
-        ensures blocks { D.block_count disk.new ≡ D.block_count disk.old }
+        ensures calls { DiskCalls D.Disk disk.old disk.new result }
     {
         match store_word(
             &self.store,
@@ -258,9 +252,7 @@ impl Pages {
         ensures dead { OnErr result (is_live self.new ≡ false) }
         ensures words { words_in self.new ≡ words_in self.old }
         ensures nothing { staged_of self.old ≡ 0 → (disk.new ≡ disk.old) × IsOk result }
-        ensures cause { OnErr result (CountRose D.Disk disk.old disk.new) }
-        ensures count { CountGoes D.Disk disk.old disk.new }
-        ensures blocks { D.block_count disk.new ≡ D.block_count disk.old }
+        ensures calls { DiskCalls D.Disk disk.old disk.new result }
     {
         match self.store.commit(disk, &self.writes) {
             Ok(()) => {

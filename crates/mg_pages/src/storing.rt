@@ -3,7 +3,7 @@ ghost use Rattle.std.specs.Prelude.{◌≡◌, ◌≢◌, ◌⊎◌, ◌+◌, �
 ghost use Rattle.std.specs.List.{list_any};
 ghost use Rattle.std.specs.Option.{ForSome};
 ghost use Rattle.mg_disk.specs.Disk.{block_at};
-ghost use Rattle.mg_disk.specs.Stops.{CountGoes, CountRose, WritesNothing};
+ghost use Rattle.mg_disk.specs.Stops.{DiskCalls, WritesNothing};
 ghost use Rattle.mg_journal.specs.Staged.{are_once, waiting};
 ghost use Rattle.mg_journal.specs.Standing.{Stands, total_of};
 ghost use Rattle.mg_model.specs.Bytes.{block_words};
@@ -40,9 +40,7 @@ pub(crate) fn store_word<D: Disk>(
     ensures failed { OnErr result ((frames.new ≡ frames.old) × (writes.new ≡ writes.old)) }
     ensures stands { Stands D.Disk store.now disk.new }
     ensures writes { WritesNothing D.Disk disk.old disk.new }
-    ensures cause { OnErr result (CountRose D.Disk disk.old disk.new) }
-    ensures count { CountGoes D.Disk disk.old disk.new }
-    ensures blocks { D.block_count disk.new ≡ D.block_count disk.old }
+    ensures calls { DiskCalls D.Disk disk.old disk.new result }
 {
     match frames.frame_of(page) {
         Some(frame) => change(
@@ -79,9 +77,7 @@ fn change<D: Disk>(
     ensures failed { OnErr result (writes.new ≡ writes.old) }
     ensures stands { Stands D.Disk store.now disk.new }
     ensures writes { WritesNothing D.Disk disk.old disk.new }
-    ensures cause { OnErr result (CountRose D.Disk disk.old disk.new) }
-    ensures count { CountGoes D.Disk disk.old disk.new }
-    ensures blocks { D.block_count disk.new ≡ D.block_count disk.old }
+    ensures calls { DiskCalls D.Disk disk.old disk.new result }
 {
     if put_staged(writes, block, index, value) {
         return Ok(());

@@ -27,8 +27,8 @@ loop-k-preserved g c =
     record {
       stands = c.read.ensures.stands;
       quiet = nothing_then g.D.Disk d0 d1 d2 inv.quiet c.read.ensures.writes;
-      count = count_then (g.D.Disk.faults d0) (g.D.Disk.faults d1) (g.D.Disk.faults d2) (g.D.Disk.is_spent d0) (g.D.Disk.is_spent d1) (g.D.Disk.is_spent d2) inv.count c.read.ensures.count;
-      blocks = c.read.ensures.blocks ∙ inv.blocks;
+      count = count_then (g.D.Disk.faults d0) (g.D.Disk.faults d1) (g.D.Disk.faults d2) (g.D.Disk.is_spent d0) (g.D.Disk.is_spent d1) (g.D.Disk.is_spent d2) inv.count c.read.ensures.calls.count;
+      blocks = c.read.ensures.calls.blocks ∙ inv.blocks;
       long = ap (λ xs. length xs) c.bind_entries.ensures.bound ∙ length-bound words fs (512 * k) ∙ inv.long;
       free = λ i past. c.bind_entries.ensures.free i (omega arith);
       kept = ap (λ xs. all_distinct (bound_pages xs)) c.bind_entries.ensures.bound ∙ distinct-bound words fs (512 * k) inv.kept;

@@ -59,7 +59,7 @@ returns-in-Ok-clause-stands g c =
     let all = stored (g.D.Disk.seen c.args.disk.now) i.store c.args.page c.args.index c.args.value i.frames c.store_word.new.frames i.writes c.store_word.new.writes i.count c.count_word.new.count
     c.args.self.now c.self.view_is c.self.invariant c.requires.page (room-two i.store i.frames i.writes i.count c.args.self.now c.self.view_is c.requires.few) c.in-Ok.ensures.stored in
     stands-again g.D.Disk c.args.self.now (held i.store c.store_word.new.frames c.store_word.new.writes c.count_word.new.count) c.args.disk.now c.store_word.new.disk c.requires.stands
-    c.store_word.ensures.writes.same c.store_word.ensures.blocks c.store_word.ensures.stands.settled
+    c.store_word.ensures.writes.same c.store_word.ensures.calls.blocks c.store_word.ensures.stands.settled
     (same-shape i.store i.frames c.store_word.new.frames i.writes c.store_word.new.writes i.count c.count_word.new.count c.args.self.now c.self.view_is all.many).total
     (λ image told is. all.spelled image is)
 

@@ -20,7 +20,7 @@ returns-in-Ok-clause-keeps g c =
 pub returns-in-Ok-clause-stands : goal.returns-in-Ok-clause-stands
 returns-in-Ok-clause-stands g c =
     let i = c.self.inside in
-    stands-count i.store i.frames i.writes i.count c.count_word.new.count c.args.self.now c.self.view_is g.D.Disk c.args.disk.now c.page_word.new.disk c.page_word.ensures.writes.same c.page_word.ensures.blocks
+    stands-count i.store i.frames i.writes i.count c.count_word.new.count c.args.self.now c.self.view_is g.D.Disk c.args.disk.now c.page_word.new.disk c.page_word.ensures.writes.same c.page_word.ensures.calls.blocks
     c.page_word.ensures.stands.settled c.requires.stands
 
 pub returns-in-Ok-clause-counts : goal.returns-in-Ok-clause-counts

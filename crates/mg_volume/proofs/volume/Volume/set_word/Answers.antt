@@ -63,8 +63,8 @@ returns-clause-serves g c =
       staged = said.staged.staged;
       still = still_staged v (with_pages v c.set_word.new.self) said.staged.still;
       counted = counted c.set_word.result c.self.inside.pages c.set_word.new.self c.args.steps.now c.set_word.new.steps said.counts said.counts_failed;
-      count = said.count;
-      blocks = said.blocks;
+      count = said.calls.count;
+      blocks = said.calls.blocks;
     })
 
 pub returns-clause-objects : goal.returns-clause-objects

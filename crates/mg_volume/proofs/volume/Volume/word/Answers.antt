@@ -41,7 +41,7 @@ returns-clause-reads g c =
     (reads_of g.D.Disk v (with_pages v c.word.new.self) c.args.disk.now c.word.new.disk c.args.steps.now c.word.new.steps (keeps_now v c.word.new.self said.keeps) (same_objects v c.word.new.self)
     (still_staged v (with_pages v c.word.new.self) (λ block waits. said.keeps.each block ∙ waits))
     (stands_same g.D.Disk v c.args.disk.now (rw (← c.self.view_is) at c.requires.stands) c.word.new.self c.word.new.disk said.stands said.writes.same said.keeps.shape.frames (λ image told k low. ap (λ i. block_at i k) (said.keeps.coming image)))
-    said.writes (counted c.word.result c.self.inside.pages c.word.new.self c.args.steps.now c.word.new.steps said.counts said.counts_failed) said.count said.blocks)
+    said.writes (counted c.word.result c.self.inside.pages c.word.new.self c.args.steps.now c.word.new.steps said.counts said.counts_failed) said.calls.count said.calls.blocks)
 
 pub returns-clause-objects : goal.returns-clause-objects
 returns-clause-objects g c =
