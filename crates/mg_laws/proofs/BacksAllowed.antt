@@ -1,4 +1,4 @@
--- A seat that is backed is an access that is allowed, and the other way round; and a list is found by the words in its first page.
+-- A seat that is backed is an access that is allowed, and the other way round. A list is found by the words of its first page.
 use Rattle.std.proofs.Common.{ℕ, ◌+◌, ◌*◌, ◌<◌, ◌≤◌, ◌≡◌, ◌≢◌, ◌||◌, ◌&&◌, Bool, true, false, eqb, leb, ltb, if◌then◌else◌, List, [], ◌∷◌, get_or, Option, Some, None, refl, sym, ap, ◌∙◌, subst, inl, inr, arith, AllPairs, Contains}
 use Rattle.std.proofs.lemmas.Bool.{and_from, and_parts, cases_lt, cond-true, eq-eqb, eqb-true, false≢true, leb-true, le-leb, lt-ltb, ltb-true, or_left}
 use Rattle.std.proofs.lemmas.List.Elements.{All-contains, at_from_Contains}

@@ -89,9 +89,6 @@ module _ (state : State) (t : ℕ) (row : ThreadRow) (formed : IsWellFormed stat
   put-backed : (new : ThreadRow) → new.frames ≡ row.frames → KeepsBacked by_none state (put_row state t new)
   put-backed new same = frames-backed state t (λ _. new) (λ old there. same ∙ ap (λ (r : ThreadRow). r.frames) (same_Some row old (sym is ∙ there)))
 
-  before : State
-  before = put_row state t (advanced row)
-
   before_formed : IsWellFormed (put_row state t (advanced row))
   before_formed = put_row-keeps state t row (advanced row) formed is (advanced-keeps row (row-formed state t row formed is))
 

@@ -19,7 +19,8 @@ pub fn backed_seats_are_allowed()
     ensures opened { OpeningBacks }
 {}
 
-/// A store to the first page of an object ends only seats that its list gave, and one beyond it none.
+/// A store to the first page of an object ends no seats but those that its list gave or that are for it, and one beyond that
+/// page ends none.
 pub fn stores_end_one_list()
     ensures { EndsOneList }
 {}
