@@ -1,5 +1,5 @@
 // The frames of a volume.
-ghost use Rattle.std.specs.Prelude.{◌≡◌, ◌≢◌, ◌≤◌, ◌<◌, ◌+◌, ◌^◌, ◌==◌, if◌then◌else◌, IfOk, None, Some, false, length, map, position, replicate, slice_index, slice_set, true};
+ghost use Rattle.std.specs.Prelude.{◌≡◌, ◌≢◌, ◌≤◌, ◌<◌, ◌==◌, if◌then◌else◌, IfOk, None, Some, false, length, map, position, replicate, slice_index, slice_set, true};
 ghost use Rattle.std.specs.List.{list_any};
 ghost use Rattle.mg_index.specs.Pairs.{Ascends, IsExact};
 ghost use Rattle.mg_model.specs.Tests.{all_distinct};
@@ -110,7 +110,6 @@ impl Frames {
 
     /// Frees the frames of all pages in a range.
     pub fn release_range(&mut self, first: u64, pages: u64)
-        requires { first + pages < 2 ^ 64 }
         ensures { self.new ≡ map (unless_within first pages) self.old }
     {
         self.pages.release_range(first, pages);

@@ -1,5 +1,5 @@
 // Numbers in places.
-ghost use Rattle.std.specs.Prelude.{◌≡◌, ◌≢◌, ◌≤◌, ◌<◌, ◌+◌, ◌^◌, ◌==◌, if◌then◌else◌, IfOk, None, Some, false, length, map, position, replicate, slice_index, slice_set, true};
+ghost use Rattle.std.specs.Prelude.{◌≡◌, ◌≢◌, ◌≤◌, ◌<◌, ◌+◌, ◌==◌, if◌then◌else◌, IfOk, None, Some, false, length, map, position, replicate, slice_index, slice_set, true};
 ghost use Rattle.std.specs.List.{list_any};
 ghost use Rattle.mg_model.specs.Tests.{all_distinct};
 ghost use Rattle.mg_index.specs.Words.{numbers_in};
@@ -140,7 +140,6 @@ impl Index {
 
     /// Frees the places of all numbers in a range.
     pub fn release_range(&mut self, first: u64, count: u64)
-        requires { first + count < 2 ^ 64 }
         ensures { self.new ≡ map (unless_within first count) self.old }
     {
         let (from, to) = part_of(&self.pairs, first, count);

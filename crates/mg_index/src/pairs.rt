@@ -1,5 +1,5 @@
 // A list of numbers and their places, which ascends by number.
-ghost use Rattle.std.specs.Prelude.{◌≡◌, ◌≤◌, ◌<◌, ◌+◌, ◌^◌, [], All, IfOk, length, false, map, true};
+ghost use Rattle.std.specs.Prelude.{◌≡◌, ◌≤◌, ◌<◌, ◌+◌, [], All, IfOk, length, false, map, nat_lt, true};
 ghost use Rattle.std.specs.List.{AllWithin};
 ghost use Rattle.std.specs.List.Sorted.{IsNonDecreasingBy};
 ghost use Rattle.std.specs.Vec.{vec_capacity};
@@ -60,13 +60,29 @@ pub(crate) fn count_below(pairs: &[(u64, u64)], number: u64) -> usize
 
 /// Where the pairs of the numbers in a range begin and end.
 pub(crate) fn part_of(pairs: &[(u64, u64)], first: u64, count: u64) -> (usize, usize)
-    requires ascends { Ascends pairs.now }
-    requires range { first + count < 2 ^ 64 }
+    requires { Ascends pairs.now }
     ensures { IsPart pairs.now first count result.0 result.1 }
 {
     let from = count_below(pairs, first);
-    let to = count_below(pairs, first + count);
+    let to = count_to(pairs, first, count);
     (from, to)
+}
+
+// How many pairs have a number below the end of a range.
+fn count_to(pairs: &[(u64, u64)], first: u64, count: u64) -> usize
+    requires { Ascends pairs.now }
+    ensures within { result ≤ length pairs.now }
+    ensures below { AllWithin (λ pair. pair.0 < first + count) pairs.now 0 result }
+    ensures above { AllWithin (λ pair. first + count ≤ pair.0) pairs.now result (length pairs.now) }
+{
+    pairs.partition_point(|pair| is_below(pair.0, first, count))
+}
+
+// Whether a number is below the end of a range.
+fn is_below(number: u64, first: u64, count: u64) -> bool
+    ensures { result ≡ nat_lt number (first + count) }
+{
+    number < first || number - first < count
 }
 
 /// Frees the places of these pairs, and gives the lowest of them, or `low` where that is lower.

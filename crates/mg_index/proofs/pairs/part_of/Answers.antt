@@ -4,7 +4,7 @@ use Rattle.mg_index.proofs.pairs.part_of.Goals as goal
 pub returns : goal.returns
 returns c =
     let from = c.count_below-from in
-    let to = c.count_below-to in
+    let to = c.count_to-to in
     record {
       before = from.ensures.below;
       behind_first = from.ensures.above;

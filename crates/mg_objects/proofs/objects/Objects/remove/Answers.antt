@@ -2,20 +2,9 @@ use Rattle.std.proofs.Common.{◌≡◌, ◌==◌, ◌∙◌, ℕ, List, None, a
 use Rattle.std.specs.Option.{option_map}
 use Rattle.mg_model.specs.State.{ObjectRow}
 use Rattle.mg_objects.specs.Held.{AreHeld}
-use Rattle.mg_objects.proofs.Keys.{good, held_remove, place_row, within-table}
+use Rattle.mg_objects.proofs.Keys.{held_remove, place_row, within-table}
 use Rattle.mg_objects.proofs.Lists.{none-mapped}
 use Rattle.mg_objects.proofs.objects.Objects.remove.Goals as goal
-
-pub release_range-requires : goal.release_range-requires
-release_range-requires c =
-    let rows = c.self.inside.rows.items in
-    let bases = c.self.inside.bases in
-    let by_base = λ (objects : List (ℕ × ObjectRow)). option_map (λ (o : ℕ × ObjectRow). o.0) (find (λ (o : ℕ × ObjectRow). o.1.base == c.args.base) objects) in
-    let row = place_row rows bases c.self.invariant c.args.base c.in-Some.place (c.in-Some.ensures ∙ ap by_base (sym c.self.view_is)) in
-    let is = good rows bases c.self.invariant c.in-Some.place row.0 row.1 in
-    let high = is.place.high in
-    let aligned = is.place.aligned in
-    omega (arith, row.2)
 
 pub index_mut-requires : goal.index_mut-requires
 index_mut-requires c =
