@@ -1,10 +1,10 @@
 // The frame table of a disk, bound page by page.
-ghost use Rattle.std.specs.Prelude.{◌≡◌, ◌+◌, ◌*◌, ◌≤◌, ◌<◌, ℕ, OnErr, OnOk, length, replicate, slice_index, true};
+ghost use Rattle.std.specs.Prelude.{◌≡◌, ◌+◌, ◌*◌, ◌≤◌, ℕ, OnErr, OnOk, length, replicate, slice_index, true};
 ghost use Rattle.std.specs.Option.{ForSome};
 ghost use Rattle.mg_disk.specs.Stops.{DiskCalls, WritesNothing};
 ghost use Rattle.mg_journal.specs.Standing.{Stands, total_of};
 ghost use Rattle.mg_model.specs.Bytes.{block_words};
-ghost use Rattle.mg_model.specs.Layout.{table_blocks, total_blocks};
+ghost use Rattle.mg_model.specs.Layout.{total_blocks};
 ghost use Rattle.mg_model.specs.Tests.{all_distinct};
 ghost use Rattle.mg_model.specs.Volume.{bound_pages, table_of};
 ghost use Rattle.mg_pages.specs.Meaning.{IsTable, replayed};

@@ -1,16 +1,12 @@
 // The pages of a volume, and what is staged.
-ghost use Rattle.std.specs.Prelude.{[], List, ◌≡◌, ◌≢◌, ◌⊎◌, ◌≤◌, ◌<◌, ◌+◌, ◌%◌, ◌^◌, ◌==◌, ◌&&◌, nat_le, nat_lt, ℕ, true, false, IfOk, IsOk, IsSomeAnd, OnErr, OnOk, length, map, replicate, slice_index, slice_set, if◌then◌else◌, take, drop};
-ghost use Rattle.std.specs.List.{list_any};
+ghost use Rattle.std.specs.Prelude.{[], List, ◌≡◌, ◌≢◌, ◌⊎◌, ◌≤◌, ◌<◌, ◌+◌, ◌%◌, ◌^◌, ℕ, true, false, IfOk, IsOk, IsSomeAnd, OnErr, OnOk, length, replicate, slice_index, slice_set};
 ghost use Rattle.std.specs.Option.{ForSome};
-ghost use Rattle.mg_disk.specs.Disk.{block_at, SameBut};
 ghost use Rattle.mg_disk.specs.Stops.{DiskCalls, Leaves, WritesNothing};
-ghost use Rattle.mg_journal.specs.Contents.{InJournal, SameContents};
+ghost use Rattle.mg_journal.specs.Contents.{SameContents};
 ghost use Rattle.mg_journal.specs.Standing as journal;
-ghost use Rattle.mg_model.specs.Bytes.{are_zeros};
 ghost use Rattle.mg_model.specs.Layout.{first_frame, globals_block, table_block, table_blocks, total_blocks};
-ghost use Rattle.mg_model.specs.Replay.{replay};
 ghost use Rattle.mg_model.specs.Tests.{all_distinct};
-ghost use Rattle.mg_model.specs.Volume.{bound_pages, table_of, whole_table};
+ghost use Rattle.mg_model.specs.Volume.{bound_pages, table_of};
 ghost use Rattle.mg_pages.specs.Meaning.{BindsOnly, CountsNone, CountsOne, HasTable, IsKept, IsTable, Keeps, Releases, SameShape, SetsWord, StagesMore, StandsOn, Unbinds, IsSpelledBy, coming, frame_count, is_bound, is_live, is_staged, page_now, replayed, staged_of, store_of, table_in, total_of, words_in};
 ghost use Rattle.mg_pages.specs.Committing.{HasContents};
 
@@ -266,6 +262,7 @@ impl Pages {
     /// How many blocks are staged, 0 to 160.
     pub fn staged(&self) -> usize
         ensures staged { result ≡ staged_of self.now }
+        ensures few { result ≤ 160 }
         ensures kept { IsKept self.now }
     {
         self.writes.len()

@@ -1,5 +1,5 @@
 // The frame table: one entry of 8 bytes a frame.
-ghost use Rattle.std.specs.Prelude.{◌≡◌, ◌+◌, ◌*◌, ◌≤◌, ◌<◌, length, slice_index};
+ghost use Rattle.std.specs.Prelude.{◌≡◌, ◌+◌, ◌*◌, ◌≤◌, ◌<◌, slice_index};
 ghost use Rattle.mg_model.specs.Layout.{first_frame};
 ghost use Rattle.mg_pages.specs.Entries.{HoldsEntries};
 
