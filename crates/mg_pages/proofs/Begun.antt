@@ -19,7 +19,7 @@ use Rattle.mg_pages.proofs.Opened.{coming-is, held-spelled, table-is}
 use Rattle.mg_pages.proofs.PageWords.{other-words, page-none, this-word}
 use Rattle.mg_pages.proofs.Places.{any-set, place-of, position-bound, position-set}
 use Rattle.mg_pages.proofs.Sound.{sound-frames, sound-staged}
-use Rattle.mg_pages.proofs.Staging.{length-staged, once-staged, written-staged}
+use Rattle.mg_pages.proofs.Staging.{length-kept, length-staged, once-staged, written-staged}
 use Rattle.mg_pages.proofs.Tables.{held, holds-bound, spelled-is, spelled-new}
 use Rattle.mg_pages.specs.Entries.{HoldsEntries}
 use Rattle.mg_pages.specs.Held.{IsSound, PagesHeld}
@@ -69,7 +69,9 @@ module _ (store : Store) (frames : List ℕ) (writes : List (ℕ × List ℕ)) (
   staged-begun =
       let e = length-staged writes block bytes in
       let f' = length-staged first table entries in
-      stages-more 2 store frames (slice_set frames f page) writes both count count' p view (omega arith) (λ b is. still-named first table entries b (still-named writes block bytes b is))
+      let g = length-kept writes block bytes in
+      let h = length-kept first table entries in
+      stages-more 2 store frames (slice_set frames f page) writes both count count' p view (omega arith) (omega arith) (λ b is. still-named first table entries b (still-named writes block bytes b is))
 
   written-begun : (image : Image) → coming_of store both image ≡ slice_set (slice_set (coming_of store writes image) block bytes) table entries
   written-begun image =

@@ -16,7 +16,7 @@ use Rattle.mg_pages.proofs.Opened.{coming-is, held-spelled, table-is}
 use Rattle.mg_pages.proofs.PageWords.{other-words, page-in, this-word}
 use Rattle.mg_pages.proofs.Places.{place-of}
 use Rattle.mg_pages.proofs.Sound.{sound-frames, sound-staged}
-use Rattle.mg_pages.proofs.Staging.{length-staged, written-staged}
+use Rattle.mg_pages.proofs.Staging.{length-kept, length-staged, written-staged}
 use Rattle.mg_pages.proofs.Tables.{held, holds-apart, spelled-is, spelled-new}
 use Rattle.mg_pages.specs.Held.{IsSound, PagesHeld}
 use Rattle.mg_pages.specs.Meaning.{BindsOnly, IsSpelledBy, SetsWord, Spelled, StagesMore, page_now, replayed, total_of}
@@ -48,7 +48,7 @@ module _ (store : Store) (frames : List ℕ) (writes : List (ℕ × List ℕ)) (
   sound-changed = sound-frames store frames frames (staged writes block bytes) count count' refl sound.distinct (sound-staged store frames writes count block bytes low high (inr (omega arith)) sound)
 
   pub staged-changed : StagesMore 2 p changed
-  staged-changed = let e = length-staged writes block bytes in stages-more 2 store frames frames writes (staged writes block bytes) count count' p view (omega arith) (still-named writes block bytes)
+  staged-changed = let e = length-staged writes block bytes in stages-more 2 store frames frames writes (staged writes block bytes) count count' p view (length-kept writes block bytes) (omega arith) (still-named writes block bytes)
 
   written-changed : (image : Image) → coming_of store (staged writes block bytes) image ≡ slice_set (coming_of store writes image) block bytes
   written-changed image = written-staged writes (replayed store.total image) block bytes sound.once

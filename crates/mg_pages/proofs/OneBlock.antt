@@ -28,12 +28,13 @@ same-shape store frames frames' writes writes' count count' p view same =
 
 -- what is staged more, over the lists
 pub stages-more : (most : ℕ) (store : Store) (frames frames' : List ℕ) (writes writes' : List (ℕ × List ℕ)) (count count' : ℕ) (p : PagesHeld) → held store frames writes count ≡ p
-    → length writes' ≤ length writes + most → ((block : ℕ) → names writes block ≡ true → names writes' block ≡ true) → StagesMore most p (held store frames' writes' count')
-stages-more most store frames frames' writes writes' count count' p view few still =
+    → length writes ≤ length writes' → length writes' ≤ length writes + most → ((block : ℕ) → names writes block ≡ true → names writes' block ≡ true) → StagesMore most p (held store frames' writes' count')
+stages-more most store frames frames' writes writes' count count' p view least few still =
     let q = held store frames' writes' count' in
     let now = staged-is store frames' writes' count' q refl in
     let was = staged-is store frames writes count p view in
     record {
+      least = omega arith;
       staged = omega arith;
       still = λ block is. names-is store frames' writes' count' q refl block ∙ still block (sym (names-is store frames writes count p view block) ∙ is);
     }

@@ -117,7 +117,7 @@ module _ (store : Store) (frames : List ℕ) (writes writes' : List (ℕ × List
   staged-released =
       let few = sound.few in
       let more = stages.few in
-      stages-more 128 store frames (map (unless_within first pages) frames) writes writes' count count p view (omega arith) stages.still
+      stages-more 128 store frames (map (unless_within first pages) frames) writes writes' count count p view stages.least (omega arith) stages.still
 
   long-replayed : (image : Image) → IsSpelledBy p image → table_block + table_blocks (length frames) ≤ length (replayed store.total image)
   long-replayed image is =

@@ -11,13 +11,14 @@ use Rattle.mg_model.specs.Bytes.{number_at}
 use Rattle.mg_model.specs.Layout.{table_block}
 use Rattle.mg_model.specs.Replay.{written}
 use Rattle.mg_pages.proofs.OneBlock.{still-named}
-use Rattle.mg_pages.proofs.Staging.{fit-staged, length-staged, once-staged, written-staged}
+use Rattle.mg_pages.proofs.Staging.{fit-staged, length-kept, length-staged, once-staged, written-staged}
 use Rattle.mg_pages.specs.Entries.{HoldsEntries}
 use Rattle.mg_pages.specs.Parts.{StagesTable}
 
 pub none-staged : (frames new_frames : List ℕ) (writes : List (ℕ × List ℕ)) → are_once writes ≡ true → StagesTable frames new_frames 0 writes writes
 none-staged frames new_frames writes once = record {
   once = once;
+  least = omega arith;
   few = omega arith;
   still = λ block is. is;
   homes = λ total room fit. fit;
@@ -30,6 +31,7 @@ module _ (frames new_frames : List ℕ) (k : ℕ) (old mid : List (ℕ × List �
   pub more-staged : (entries : List ℕ) → HoldsEntries new_frames k entries → StagesTable frames new_frames (k + 1) old (staged mid (table_block + k) entries)
   more-staged entries hold = record {
     once = once-staged mid (table_block + k) entries so_far.once;
+    least = let least = so_far.least in let e = length-kept mid (table_block + k) entries in omega arith;
     few = let few = so_far.few in let e = length-staged mid (table_block + k) entries in omega arith;
     still = λ block is. still-named mid (table_block + k) entries block (so_far.still block is);
     homes = λ total room fit. fit-staged total mid (table_block + k) entries (omega arith) (omega arith) (so_far.homes total (omega arith) fit);
@@ -57,6 +59,7 @@ module _ (frames new_frames : List ℕ) (k : ℕ) (old mid : List (ℕ × List �
   pub more-same : ((i : ℕ) → i < 512 → slice_index new_frames (512 * k + i) ≡ slice_index frames (512 * k + i)) → StagesTable frames new_frames (k + 1) old mid
   more-same same = record {
     once = so_far.once;
+    least = so_far.least;
     few = let few = so_far.few in omega arith;
     still = so_far.still;
     homes = λ total room fit. so_far.homes total (omega arith) fit;

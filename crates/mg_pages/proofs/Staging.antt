@@ -2,7 +2,7 @@
 use Rattle.std.specs.Prelude.{◌≡◌, ◌+◌, ◌≤◌, ◌<◌, ◌==◌, ◌&&◌, ◌||◌, nat_le, nat_lt, ℕ, suc, Bool, true, false, not, List, [], ◌∷◌, ◌++◌, length, option_map, slice_set, Option, Some, None, IsSome}
 use Rattle.std.specs.List.{position}
 use Rattle.std.specs.Option.{option_map_or}
-use Rattle.std.proofs.Common.{refl, sym, ap, ◌∙◌, ⊎_elim, arith}
+use Rattle.std.proofs.Common.{refl, sym, ap, ◌∙◌, ⊎_elim, arith, length-append}
 use Rattle.std.proofs.lemmas.Bool.{and_from, and_parts, both_ways, cases_Bool, eq-eqb, eqb-true, le-leb, lt-ltb, ne_eqb, not_from_false, not-true, or_from, or_parts}
 use Rattle.std.proofs.lemmas.List.{get_or-set_same, length-set, set_comm, set-set}
 use Rattle.mg_disk.specs.Disk.{Image, block_at}
@@ -114,15 +114,15 @@ fit-staged total ((i, x) ∷ ws) b y low high fit = ⊎_elim here (there (fit-st
     there rest not_same = ap (homes_fit total) (staged-there i b x y ws not_same) ∙ and_from (nat_le globals_block i && nat_lt i total) (homes_fit total (staged ws b y)) those.0 (rest those.1)
 
 -- how many wait then
-pub length-staged : (ws : List (ℕ × List ℕ)) (b : ℕ) (y : List ℕ) → length (staged ws b y) ≤ length ws + 1
-length-staged [] b y = omega arith
-length-staged ((i, x) ∷ ws) b y = ⊎_elim here (there (length-staged ws b y)) (cases_Bool (i == b))
-  where
-    here : (i == b) ≡ true → length (staged ((i, x) ∷ ws) b y) ≤ length ((i, x) ∷ ws) + 1
-    here same = let e = ap (λ w. length w) (staged-here i b x y ws same) in omega arith
+longer : (ws : List (ℕ × List ℕ)) (b : ℕ) (y : List ℕ) (place : Option ℕ) → let more = option_map_or (λ k. slice_set ws k (b, y)) place (ws ++ (b, y) ∷ []) in (length ws ≤ length more) × (length more ≤ length ws + 1)
+longer ws b y None = let e = length-append ws ((b, y) ∷ []) in (omega arith, omega arith)
+longer ws b y (Some k) = let e = length-set ws k (b, y) in (omega arith, omega arith)
 
-    there : length (staged ws b y) ≤ length ws + 1 → (i == b) ≡ false → length (staged ((i, x) ∷ ws) b y) ≤ length ((i, x) ∷ ws) + 1
-    there rest not_same = let e = ap (λ w. length w) (staged-there i b x y ws not_same) in omega arith
+pub length-kept : (ws : List (ℕ × List ℕ)) (b : ℕ) (y : List ℕ) → length ws ≤ length (staged ws b y)
+length-kept ws b y = (longer ws b y (position (goes_to b) ws)).0
+
+pub length-staged : (ws : List (ℕ × List ℕ)) (b : ℕ) (y : List ℕ) → length (staged ws b y) ≤ length ws + 1
+length-staged ws b y = (longer ws b y (position (goes_to b) ws)).1
 
 pub length-again : (ws : List (ℕ × List ℕ)) (b : ℕ) (y : List ℕ) → names ws b ≡ true → length (staged ws b y) ≡ length ws
 length-again [] b y named = absurd (both_ways false refl named)

@@ -108,6 +108,7 @@ pub record Keeps (old new : PagesHeld) : Type 0 where
 
 -- what was staged still is, and so many blocks more at most
 pub record StagesMore (most : ℕ) (old new : PagesHeld) : Type 0 where
+  pub least : staged_of old ≤ staged_of new
   pub staged : staged_of new ≤ staged_of old + most
   pub still : (block : ℕ) → is_staged old block ≡ true → is_staged new block ≡ true
 

@@ -62,6 +62,7 @@ bound_from frames frame (page ∷ pages) = bound_from (bound_at frames frame pag
 -- the first blocks of a frame table spell other frames: those of them that change are staged
 pub record StagesTable (old_frames new_frames : List ℕ) (n : ℕ) (old new : List (ℕ × List ℕ)) : Type 0 where
   pub once : are_once new ≡ true
+  pub least : length old ≤ length new
   pub few : length new ≤ length old + n
   pub still : (block : ℕ) → names old block ≡ true → names new block ≡ true
   pub homes : (total : ℕ) → table_block + n ≤ total → homes_fit total old ≡ true → homes_fit total new ≡ true

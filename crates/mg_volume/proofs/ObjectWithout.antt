@@ -125,6 +125,7 @@ place-found found x free is = ap (λ (o : Option (ℕ × ObjectRow)). option_map
 -- one call after the other stages no more than both
 pub stages_then : (a b : ℕ) (old middle new : PagesHeld) → pages.StagesMore a old middle → pages.StagesMore b middle new → pages.StagesMore (a + b) old new
 stages_then a b old middle new first second = record {
+  least = (let x = first.least in let y = second.least in omega arith);
   staged = (let x = first.staged in let y = second.staged in omega arith);
   still = λ block is. second.still block (first.still block is);
 }

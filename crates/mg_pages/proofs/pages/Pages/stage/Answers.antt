@@ -2,7 +2,7 @@ use Rattle.std.proofs.Common.{◌≡◌, arith, refl, slice_set, subst, sym, tru
 use Rattle.mg_disk.specs.Disk.{Image}
 use Rattle.mg_pages.proofs.OneBlock.{coming-more, here-more, room-is, same-shape, spelled-more, stages-more, still-named, table-more, words-more}
 use Rattle.mg_pages.proofs.Sound.{room-staged, sound-staged}
-use Rattle.mg_pages.proofs.Staging.{length-staged}
+use Rattle.mg_pages.proofs.Staging.{length-kept, length-staged}
 use Rattle.mg_pages.proofs.Tables.{held}
 use Rattle.mg_pages.specs.Held.{IsSound}
 use Rattle.mg_pages.specs.Meaning.{IsSpelledBy, StagesMore, coming, is_staged, table_in, words_in}
@@ -43,7 +43,7 @@ pub returns-clause-staged : goal.returns-clause-staged
 returns-clause-staged c =
     let i = c.self.inside in
     subst (λ writes. StagesMore 1 c.args.self.now (held i.store i.frames writes i.count)) (sym c.stage.ensures)
-    (stages-more 1 i.store i.frames i.frames i.writes _ i.count i.count c.args.self.now c.self.view_is (length-staged i.writes c.args.block c.args.from.now) (still-named i.writes c.args.block c.args.from.now))
+    (stages-more 1 i.store i.frames i.frames i.writes _ i.count i.count c.args.self.now c.self.view_is (length-kept i.writes c.args.block c.args.from.now) (length-staged i.writes c.args.block c.args.from.now) (still-named i.writes c.args.block c.args.from.now))
 
 pub returns-clause-here : goal.returns-clause-here
 returns-clause-here c =
