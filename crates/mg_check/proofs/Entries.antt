@@ -1,18 +1,16 @@
 -- The entries of the frame table, one after another.
-use Rattle.std.specs.Prelude.{◌≡◌, ℕ, zero, suc, ◌+◌, ◌-◌, ◌*◌, ◌/◌, ◌%◌, ◌<◌, ◌≤◌, ◌==◌, ◌&&◌, min, not, true, false, List, [], ◌∷◌, ◌++◌, drop, if◌then◌else◌, length, take}
-use Rattle.std.specs.List.Sorted.{IsPermutation}
-use Rattle.std.proofs.Common.{refl, sym, ap, ◌∙◌, subst, arith, ⊎_elim}
-use Rattle.std.proofs.lemmas.Bool.{and_from, and_left, and_right, cases_eq, cases_lt}
-use Rattle.std.proofs.lemmas.List.{append-nil, drop_at, take_at}
-use Rattle.std.proofs.lemmas.List.Elements.{filter-append}
+use Rattle.std.specs.Prelude.{◌≡◌, ℕ, zero, suc, ◌+◌, ◌-◌, ◌*◌, ◌/◌, ◌%◌, ◌<◌, ◌≤◌, ◌==◌, ◌&&◌, min, true, false, List, [], ◌∷◌, ◌++◌, drop, length, take}
+use Rattle.std.proofs.Common.{refl, sym, ap, ◌∙◌, arith, ⊎_elim}
+use Rattle.std.proofs.lemmas.Bool.{and_from, and_left, and_right, cases_eq}
+use Rattle.std.proofs.lemmas.List.{drop_at, take_at}
 use Rattle.std.proofs.lemmas.List.Folds.{list_all-append}
 use Rattle.std.proofs.Math.Bool.{and-true}
 use Rattle.std.proofs.Math.Nat.{mul-suc}
 use Rattle.mg_model.specs.Bytes.{are_zeros, number_at, numbers_at}
 use Rattle.mg_model.specs.Layout.{table_block, table_blocks}
 use Rattle.mg_model.specs.Replay.{block_of}
-use Rattle.mg_model.specs.Volume.{bound_pages, table_entries, table_of, whole_table}
-use Rattle.mg_check.specs.TableTold.{AreBound, HasRest, IsTable, entries, entry_in, table_entry}
+use Rattle.mg_model.specs.Volume.{table_entries, table_of, whole_table}
+use Rattle.mg_check.specs.TableTold.{AreEntries, HasRest, IsTable, entries, entry_in, table_entry}
 
 module _ (entry : ℕ → ℕ) where
   length-entries : (i n : ℕ) → length (entries entry i n) ≡ n
@@ -29,9 +27,6 @@ module _ (entry : ℕ → ℕ) where
   one_more : (i n : ℕ) → entries entry i (n + 1) ≡ entries entry i n ++ entry (i + n) ∷ []
   one_more i n = split i n 1
 
-  bound_more : (pages : List ℕ) (page : ℕ) → bound_pages (pages ++ page ∷ []) ≡ bound_pages pages ++ (if not (page == 0) then page ∷ [] else [])
-  bound_more pages page = filter-append (λ p. not (p == 0)) pages (page ∷ [])
-
   zeros_more : (xs : List ℕ) (x : ℕ) → are_zeros (xs ++ x ∷ []) ≡ (are_zeros xs && x == 0)
   zeros_more xs x = list_all-append (λ b. b == 0) xs (x ∷ []) ∙ ap (λ t. are_zeros xs && t) (and-true (x == 0))
 
@@ -42,45 +37,34 @@ module _ (entry : ℕ → ℕ) where
       (λ other. and_right (entry i == 0) (are_zeros (entries entry (i + 1) m)) (not_zeros (i + 1) m f (omega arith) (omega arith) some))
       (cases_eq f i)
 
-  none_bound : (frames : ℕ) → AreBound entry 0 frames []
-  none_bound frames = record {
-    bound = ap (λ n. bound_pages (entries entry 0 n)) (let e : 0 ≡ min 0 frames = omega arith in e);
+  pub entries-none : (frames : ℕ) (table : List ℕ) → table ≡ [] → AreEntries entry 0 frames table
+  entries-none frames table none = record {
+    are = none ∙ ap (entries entry 0) (let e : 0 ≡ min 0 frames = omega arith in e);
     rest = ap (λ n. are_zeros (entries entry frames n)) (let e : 0 - frames ≡ 0 = omega arith in e);
   }
 
   -- an entry of a frame
-  frame_more : (f frames : ℕ) (old new : List ℕ) → f < frames → AreBound entry f frames old → new ≡ old ++ (if not (entry f == 0) then entry f ∷ [] else []) → AreBound entry (f + 1) frames new
-  frame_more f frames old new below are added = record {
-    bound =
+  pub entry-held : (f frames : ℕ) (old new : List ℕ) → f < frames → AreEntries entry f frames old → new ≡ old ++ entry f ∷ [] → AreEntries entry (f + 1) frames new
+  entry-held f frames old new below told added = record {
+    are =
         added
-        ∙ ap (λ pages. pages ++ (if not (entry f == 0) then entry f ∷ [] else [])) (are.bound ∙ ap (λ n. bound_pages (entries entry 0 n)) (let e : min f frames ≡ f = omega arith in e))
-        ∙ sym (bound_more (entries entry 0 f) (entry f))
-        ∙ ap (λ k. bound_pages (entries entry 0 f ++ entry k ∷ [])) (let e : f ≡ 0 + f = omega arith in e)
-        ∙ ap bound_pages (sym (one_more 0 f))
-        ∙ ap (λ n. bound_pages (entries entry 0 n)) (let e : f + 1 ≡ min (f + 1) frames = omega arith in e);
+        ∙ ap (λ table. table ++ entry f ∷ []) (told.are ∙ ap (entries entry 0) (let e : min f frames ≡ f = omega arith in e))
+        ∙ ap (λ k. entries entry 0 f ++ entry k ∷ []) (let e : f ≡ 0 + f = omega arith in e)
+        ∙ sym (one_more 0 f)
+        ∙ ap (entries entry 0) (let e : f + 1 ≡ min (f + 1) frames = omega arith in e);
     rest = ap (λ n. are_zeros (entries entry frames n)) (let e : f + 1 - frames ≡ 0 = omega arith in e);
   }
 
   -- an entry behind the last frame
-  rest_more : (f frames : ℕ) (old : List ℕ) → frames ≤ f → AreBound entry f frames old → (entry f == 0) ≡ true → AreBound entry (f + 1) frames old
-  rest_more f frames old behind are nothing = record {
-    bound = are.bound ∙ ap (λ n. bound_pages (entries entry 0 n)) (let e : min f frames ≡ min (f + 1) frames = omega arith in e);
+  pub entry-free : (f frames : ℕ) (old : List ℕ) → frames ≤ f → AreEntries entry f frames old → (entry f == 0) ≡ true → AreEntries entry (f + 1) frames old
+  entry-free f frames old behind told nothing = record {
+    are = told.are ∙ ap (entries entry 0) (let e : min f frames ≡ min (f + 1) frames = omega arith in e);
     rest =
         ap (λ n. are_zeros (entries entry frames n)) (let e : f + 1 - frames ≡ (f - frames) + 1 = omega arith in e)
         ∙ ap are_zeros (one_more frames (f - frames))
         ∙ zeros_more (entries entry frames (f - frames)) (entry (frames + (f - frames)))
-        ∙ and_from (are_zeros (entries entry frames (f - frames))) (entry (frames + (f - frames)) == 0) are.rest (ap (λ k. entry k == 0) (let e : frames + (f - frames) ≡ f = omega arith in e) ∙ nothing);
+        ∙ and_from (are_zeros (entries entry frames (f - frames))) (entry (frames + (f - frames)) == 0) told.rest (ap (λ k. entry k == 0) (let e : frames + (f - frames) ≡ f = omega arith in e) ∙ nothing);
   }
-
-  -- an entry is taken
-  pub entry-free : (f frames : ℕ) (pages : List ℕ) → AreBound entry f frames pages → (entry f == 0) ≡ true → AreBound entry (f + 1) frames pages
-  entry-free f frames pages are nothing =
-      ⊎_elim (λ below. frame_more f frames pages pages below are (sym (append-nil pages) ∙ ap (λ t. pages ++ (if not t then entry f ∷ [] else [])) (sym nothing)))
-      (λ behind. rest_more f frames pages behind are nothing)
-      (cases_lt f frames)
-
-  pub entry-bound : (f frames : ℕ) (old new : List ℕ) → AreBound entry f frames old → f < frames → (entry f == 0) ≡ false → new ≡ old ++ entry f ∷ [] → AreBound entry (f + 1) frames new
-  entry-bound f frames old new are below some added = frame_more f frames old new below are (added ∙ ap (λ t. old ++ (if not t then entry f ∷ [] else [])) (sym some))
 
 -- the blocks of the table
 module _ (image : List (List ℕ)) (block : ℕ) where
@@ -148,12 +132,10 @@ module _ (image : List (List ℕ)) (frames n : ℕ) (is : n ≡ 512 * table_bloc
   back : drop frames (whole_table image frames) ≡ entries (table_entry image) frames (n - frames)
   back = ap (drop frames) halves ∙ drop_at (entries (table_entry image) 0 frames) (entries (table_entry image) frames (n - frames)) frames (length-entries (table_entry image) 0 frames)
 
-  pub table-told : (pages sorted : List ℕ) → AreBound (table_entry image) n frames pages → IsPermutation pages sorted → IsTable image frames sorted
-  table-told pages sorted are moved = record {
-    bound =
-        subst (λ ps. IsPermutation ps sorted)
-        (are.bound ∙ ap (λ k. bound_pages (entries (table_entry image) 0 k)) (let f = enough in let e : min n frames ≡ frames = omega arith in e) ∙ ap bound_pages (sym front)) moved;
-    rest = ap are_zeros back ∙ are.rest;
+  pub table-told : (table : List ℕ) → AreEntries (table_entry image) n frames table → IsTable image frames table
+  table-told table told = record {
+    are = front ∙ ap (entries (table_entry image) 0) (let f = enough in let e : frames ≡ min n frames = omega arith in e) ∙ sym told.are;
+    rest = ap are_zeros back ∙ told.rest;
   }
 
   pub table-rest : (f : ℕ) → frames ≤ f → f < n → (table_entry image f == 0) ≡ false → HasRest image frames

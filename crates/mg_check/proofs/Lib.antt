@@ -1,9 +1,10 @@
-pub mod AccountSums
 pub mod Apart
+pub mod Counted
 pub mod Covered
 pub mod Entries
-pub mod MoreRows
+pub mod Gaps
 pub mod NoRows
 pub mod ObjectOrder
+pub mod Placed
 pub mod SettledVolume
 pub mod StateFits

@@ -1,15 +1,18 @@
--- Where something is not spelled, there are no rows.
-use Rattle.std.specs.Prelude.{◌≡◌, ℕ, false, List, drop, if◌then◌else◌, take, Option, None, Some}
-use Rattle.std.proofs.Common.{refl, ap, ◌∙◌}
+-- Where something is not spelled, or an account stands behind a free row, there is no state.
+use Rattle.std.specs.Prelude.{◌≡◌, ◌&&◌, ℕ, true, false, List, drop, if◌then◌else◌, length, take, Option, None, Some}
+use Rattle.std.specs.Option.{option_map_or}
+use Rattle.std.proofs.Common.{refl, ap, ◌∙◌, ⊎_elim}
+use Rattle.std.proofs.lemmas.Bool.{cases_Bool}
 use Rattle.mg_model.specs.declared.accounts.AccRow.{AccRow}
 use Rattle.mg_model.specs.Bytes.{are_zeros}
 use Rattle.mg_model.specs.Layout.{account_rows, globals_block, object_rows, thread_rows}
 use Rattle.mg_model.specs.Replay.{block_of}
-use Rattle.mg_model.specs.Spelling.{account_read, globals_read, object_read, thread_read}
+use Rattle.mg_model.specs.Settings.{Settings}
+use Rattle.mg_model.specs.Spelling.{Read, account_read, globals_read, object_read, thread_read}
 use Rattle.mg_model.specs.State.{Counters, ObjectRow, ThreadRow}
-use Rattle.mg_model.specs.Volume.{account_row_bytes, live_rows, object_row_bytes, thread_row_bytes, whole_table}
+use Rattle.mg_model.specs.Volume.{Damaged, Is, Rows, VolumeRead, account_row_bytes, accounts_fit, fitting, has_no_gap, live_rows, object_row_bytes, objects_fit, rows_of, state_spelled, table_fits, thread_row_bytes, threads_fit, whole_table}
 use Rattle.mg_model.specs.VolumeReads.{rows_from, rows_with}
-use Rattle.mg_check.specs.RowsTold.{HasNoRows, NoCounters}
+use Rattle.mg_check.specs.RowsTold.{HasGap, HasNoState, NoCounters}
 use Rattle.mg_check.specs.TableTold.{HasRest}
 use Rattle.mg_check.specs.Told.{NotSpelled}
 
@@ -37,36 +40,80 @@ module _ (frames : ℕ) (whole : List ℕ) where
   no_table (Some c) (Some a) (Some t) None rest = refl
   no_table (Some c) (Some a) (Some t) (Some o) rest = ap (λ b. if b then Some (rows_with c a t o (take frames whole)) else None) rest
 
-module _ (image : List (List ℕ)) (frames : ℕ) where
-  pub without-counters : NoCounters image → HasNoRows image frames
-  without-counters missing = record {
-    none = ap (λ c. rows_from frames c (live_rows (λ i. account_read (account_row_bytes image i)) 0 account_rows) (live_rows (λ i. thread_read (thread_row_bytes image i)) 0 thread_rows) (live_rows (λ i. object_read (object_row_bytes image i)) 0 object_rows) (whole_table image frames)) missing.none;
-  }
+-- an account behind a free row
+module _ (settings : Settings) (image : List (List ℕ)) where
+  abbrev reading : Option Rows → VolumeRead
+  reading found = option_map_or (λ rows. fitting rows (state_spelled image settings rows)) found Damaged
 
-  pub without-accounts : NotSpelled (λ i. account_read (account_row_bytes image i)) account_rows → HasNoRows image frames
-  without-accounts missing = record {
-    none =
-        ap (λ a. rows_from frames (globals_read (block_of image globals_block)) a (live_rows (λ i. thread_read (thread_row_bytes image i)) 0 thread_rows) (live_rows (λ i. object_read (object_row_bytes image i)) 0 object_rows) (whole_table image frames)) missing.none
-        ∙ no_accounts frames (whole_table image frames) (globals_read (block_of image globals_block)) (live_rows (λ i. thread_read (thread_row_bytes image i)) 0 thread_rows) (live_rows (λ i. object_read (object_row_bytes image i)) 0 object_rows);
-  }
+  gap_unfit : (rows : Rows) → has_no_gap 0 rows.accounts ≡ false → reading (Some rows) ≡ Damaged
+  gap_unfit rows gap =
+      let state = state_spelled image settings rows in
+      ap (λ b.
+      if (b && accounts_fit state.settings.credits state.counters.period state.accounts
+      && objects_fit state.settings.frames (length state.accounts) state.objects
+      && threads_fit state.counters.births state.threads
+      && table_fits state.objects rows.table) then Is state else Damaged) gap
 
-  pub without-threads : NotSpelled (λ i. thread_read (thread_row_bytes image i)) thread_rows → HasNoRows image frames
-  without-threads missing = record {
-    none =
-        ap (λ t. rows_from frames (globals_read (block_of image globals_block)) (live_rows (λ i. account_read (account_row_bytes image i)) 0 account_rows) t (live_rows (λ i. object_read (object_row_bytes image i)) 0 object_rows) (whole_table image frames)) missing.none
-        ∙ no_threads frames (whole_table image frames) (globals_read (block_of image globals_block)) (live_rows (λ i. account_read (account_row_bytes image i)) 0 account_rows) (live_rows (λ i. object_read (object_row_bytes image i)) 0 object_rows);
-  }
+  unfit : (n : ℕ) (c : Option Counters) (t : Option (List (ℕ × ThreadRow))) (o : Option (List (ℕ × ObjectRow))) (whole : List ℕ) (rows : List (ℕ × AccRow)) → has_no_gap 0 rows ≡ false → reading (rows_from n c (Some rows) t o whole) ≡ Damaged
+  unfit n None t o whole rows gap = refl
+  unfit n (Some c) None o whole rows gap = refl
+  unfit n (Some c) (Some t) None whole rows gap = refl
+  unfit n (Some c) (Some t) (Some o) whole rows gap = ⊎_elim zeros others (cases_Bool (are_zeros (drop n whole)))
+    where
+      zeros : are_zeros (drop n whole) ≡ true → reading (if are_zeros (drop n whole) then Some (rows_with c rows t o (take n whole)) else None) ≡ Damaged
+      zeros is = ap (λ b. reading (if b then Some (rows_with c rows t o (take n whole)) else None)) is ∙ gap_unfit (rows_with c rows t o (take n whole)) gap
 
-  pub without-objects : NotSpelled (λ i. object_read (object_row_bytes image i)) object_rows → HasNoRows image frames
-  without-objects missing = record {
-    none =
-        ap (λ o. rows_from frames (globals_read (block_of image globals_block)) (live_rows (λ i. account_read (account_row_bytes image i)) 0 account_rows) (live_rows (λ i. thread_read (thread_row_bytes image i)) 0 thread_rows) o (whole_table image frames)) missing.none
-        ∙ no_objects frames (whole_table image frames) (globals_read (block_of image globals_block)) (live_rows (λ i. account_read (account_row_bytes image i)) 0 account_rows) (live_rows (λ i. thread_read (thread_row_bytes image i)) 0 thread_rows);
-  }
+      others : are_zeros (drop n whole) ≡ false → reading (if are_zeros (drop n whole) then Some (rows_with c rows t o (take n whole)) else None) ≡ Damaged
+      others is = ap (λ b. reading (if b then Some (rows_with c rows t o (take n whole)) else None)) is
 
-  pub without-zeros : HasRest image frames → HasNoRows image frames
-  without-zeros missing = record {
-    none =
-        no_table frames (whole_table image frames) (globals_read (block_of image globals_block)) (live_rows (λ i. account_read (account_row_bytes image i)) 0 account_rows) (live_rows (λ i. thread_read (thread_row_bytes image i)) 0 thread_rows)
-        (live_rows (λ i. object_read (object_row_bytes image i)) 0 object_rows) missing.rest;
-  }
+module _ (settings : Settings) (image : List (List ℕ)) where
+  abbrev frames : ℕ
+  frames = settings.frames
+
+  abbrev whole : List ℕ
+  whole = whole_table image settings.frames
+
+  abbrev counters : Option Counters
+  counters = globals_read (block_of image globals_block)
+
+  abbrev accounts : ℕ → Option (List (ℕ × AccRow))
+  accounts n = live_rows (λ i. account_read (account_row_bytes image i)) 0 n
+
+  abbrev threads : ℕ → Option (List (ℕ × ThreadRow))
+  threads n = live_rows (λ i. thread_read (thread_row_bytes image i)) 0 n
+
+  abbrev objects : ℕ → Option (List (ℕ × ObjectRow))
+  objects n = live_rows (λ i. object_read (object_row_bytes image i)) 0 n
+
+  no_state : rows_of image settings.frames ≡ None → HasNoState settings image
+  no_state none = record { none = ap (reading settings image) none }
+
+  pub without-counters : NoCounters image → HasNoState settings image
+  without-counters missing = no_state (ap (λ c. rows_from frames c (accounts account_rows) (threads thread_rows) (objects object_rows) whole) missing.none)
+
+  pub without-threads : NotSpelled (λ i. thread_read (thread_row_bytes image i)) thread_rows → HasNoState settings image
+  without-threads missing = no_state (ap (λ t. rows_from frames counters (accounts account_rows) t (objects object_rows) whole) missing.none ∙ no_threads frames whole counters (accounts account_rows) (objects object_rows))
+
+  pub without-objects : NotSpelled (λ i. object_read (object_row_bytes image i)) object_rows → HasNoState settings image
+  without-objects missing = no_state (ap (λ o. rows_from frames counters (accounts account_rows) (threads thread_rows) o whole) missing.none ∙ no_objects frames whole counters (accounts account_rows) (threads thread_rows))
+
+  pub without-zeros : HasRest image settings.frames → HasNoState settings image
+  without-zeros missing = no_state (no_table frames whole counters (accounts account_rows) (threads thread_rows) (objects object_rows) missing.rest)
+
+  -- where no account is spelled, or one stands behind a free row
+  pub with-gap : HasGap (λ i. account_read (account_row_bytes image i)) account_rows → HasNoState settings image
+  with-gap gap = at (accounts account_rows) refl
+    where
+      read : ℕ → Read AccRow
+      read i = account_read (account_row_bytes image i)
+
+      rows_are : (found : Option (List (ℕ × AccRow))) → accounts account_rows ≡ found → rows_of image settings.frames ≡ rows_from frames counters found (threads thread_rows) (objects object_rows) whole
+      rows_are found is = ap (λ a. rows_from frames counters a (threads thread_rows) (objects object_rows) whole) is
+
+      at : (found : Option (List (ℕ × AccRow))) → accounts account_rows ≡ found → HasNoState settings image
+      at None is = no_state (rows_are None is ∙ no_accounts frames whole counters (threads thread_rows) (objects object_rows))
+      at (Some rows) is = record {
+        none =
+            ap (reading settings image) (rows_are (Some rows) is)
+            ∙ unfit settings image frames counters (threads thread_rows) (objects object_rows) whole rows (gap.each rows is);
+      }

@@ -4,6 +4,7 @@ use Rattle.std.specs.List.{list_all, list_any}
 use Rattle.std.specs.List.Sorted.{IsPermutation}
 use Rattle.std.proofs.Common.{refl, sym, ap, ◌∙◌, subst, arith, ⊎_elim}
 use Rattle.std.proofs.lemmas.Bool.{and_from, and_parts, cases_Bool, le-leb, ltb-true, ltb-false}
+use Rattle.std.proofs.lemmas.List.Elements.{All-cons, All-head, All-nil, All-tail}
 use Rattle.std.proofs.lemmas.List.Sorted.{IsPermutation-cons, IsPermutation-map, IsPermutation-middle, IsPermutation-refl, IsPermutation-sym, IsPermutation-trans, All-permutation, length_permutation, list_any-IsPermutation, sum_by-IsPermutation}
 use Rattle.std.proofs.lemmas.List.{length-map}
 use Rattle.std.proofs.lemmas.List.Folds.{list_all-map}
@@ -11,10 +12,12 @@ use Rattle.std.proofs.lemmas.List.Sums.{AllPass-from_list_all, list_all-from_All
 use Rattle.std.proofs.lemmas.Simd.{map-map}
 use Rattle.mg_model.specs.Bank.{used}
 use Rattle.mg_model.specs.Objects.{page_behind, page_of, with_object}
+use Rattle.mg_model.specs.Ranges.{IsObjectRow}
 use Rattle.mg_model.specs.State.{Object, ObjectRow}
 use Rattle.mg_model.specs.Volume.{are_apart, is_page_of, object_spelled, objects_spelled}
+use Rattle.mg_check.specs.RowsRead.{AreInRange}
 use Rattle.mg_check.specs.Spans.{IsSome, apart_from, is_in, ordered_from}
-use Rattle.mg_check.specs.ObjectsTold.{place_of, places_of}
+use Rattle.mg_check.specs.Rules.{AreSpans, place_of, places_of}
 use Rattle.mg_check.proofs.Apart.{apart-same, both_ways}
 
 -- the place of an object
@@ -79,6 +82,18 @@ all-moved p xs ys moved =
     both_ways (list_all p xs) (list_all p ys)
     (λ all. list_all-from_AllPass p ys (All-permutation (λ x. p x ≡ true) xs ys moved (AllPass-from_list_all p xs all)))
     (λ all. list_all-from_AllPass p xs (All-permutation (λ x. p x ≡ true) ys xs (IsPermutation-sym xs ys moved) (AllPass-from_list_all p ys all)))
+
+-- the places of objects in their ranges, and these in order
+places_some : (rows : List (ℕ × ObjectRow)) → AreInRange rows → All IsSome (places_of rows)
+places_some [] ranges = All-nil IsSome
+places_some (row ∷ rows) ranges =
+    let range = All-head (λ (o : ℕ × ObjectRow). IsObjectRow o.1) row rows ranges in
+    All-cons IsSome (place_of row.1) (places_of rows) (let some = range.place.some in omega arith) (places_some rows (All-tail (λ (o : ℕ × ObjectRow). IsObjectRow o.1) row rows ranges))
+
+pub spans-are : (rows : List (ℕ × ObjectRow)) (found sorted : List (ℕ × ℕ)) → AreInRange rows → found ≡ places_of rows → IsPermutation found sorted → ordered_from 0 sorted ≡ true → AreSpans sorted rows
+spans-are rows found sorted ranges are moved ordered =
+    let places : IsPermutation (places_of rows) sorted = subst (λ xs. IsPermutation xs sorted) are moved in
+    record { are = places; ordered = ordered; each = All-permutation IsSome (places_of rows) sorted places (places_some rows ranges) }
 
 module _ (image : List (List ℕ)) (frames : ℕ) (table : List ℕ) where
   abbrev spelled : ℕ × ObjectRow → Object

@@ -1,17 +1,17 @@
 -- From what is told of the rows to what is told of the image.
-use Rattle.std.specs.Prelude.{◌≡◌, ℕ, ◌<◌, ◌≤◌, ◌==◌, Bool, true, List, IsSome, if◌then◌else◌, length, Option, None, Some}
+use Rattle.std.specs.Prelude.{◌≡◌, ℕ, ◌<◌, ◌≤◌, ◌==◌, nat_le, Bool, true, List, IsSome, if◌then◌else◌, length, Option, None, Some}
 use Rattle.std.specs.Option.{option_map_or}
-use Rattle.std.proofs.Common.{refl, ap, ◌∙◌}
-use Rattle.std.proofs.lemmas.Bool.{eqb-true, le-leb, lt-leb}
-use Rattle.mg_check.specs.declared.examining.Summary.{Summary}
+use Rattle.std.proofs.Common.{refl, sym, ap, ◌∙◌}
+use Rattle.std.proofs.lemmas.Bool.{and_from, eq-eqb, eqb-true, le-leb, lt-leb}
+use Rattle.mg_check.specs.declared.volume_rows.VolumeRows.{VolumeRows}
+use Rattle.mg_check.specs.RowsRead.{IsReadAs}
 use Rattle.mg_check.specs.RowsTold.{TellsRows}
-use Rattle.mg_check.specs.Settled.{HasSettings, TellsSettled}
-use Rattle.mg_check.specs.Summaries.{Tells}
+use Rattle.mg_check.specs.Settled.{HasSettings, IsSettled}
 use Rattle.mg_model.specs.Layout.{gate_open, super_block, total_blocks}
 use Rattle.mg_model.specs.Replay.{block_of, replay}
 use Rattle.mg_model.specs.Settings.{Settings}
-use Rattle.mg_model.specs.Spelling.{SuperRead, super_read}
-use Rattle.mg_model.specs.Volume.{Damaged, VolumeRead, replayed_volume, settled_volume, volume, volume_behind, IsOpened, gate_byte}
+use Rattle.mg_model.specs.Spelling.{Spells, SuperRead, super_read}
+use Rattle.mg_model.specs.Volume.{Damaged, VolumeRead, replayed_volume, rows_of, settled_volume, volume, volume_behind, IsOpened, gate_byte}
 use Rattle.mg_model.specs.VolumeReads.{volume-opened}
 
 pub some_in : {X : Type 0} (o : Option X) → IsSome o → (x : X) × (o ≡ Some x)
@@ -36,18 +36,27 @@ module _ (settings : Settings) (image : List (List ℕ)) where
   pub settled-damaged : (r : List (List ℕ)) → total_blocks settings.frames ≤ length image → replay image (total_blocks settings.frames) ≡ Some r → replayed_volume settings r ≡ Damaged → settled_volume image settings ≡ Damaged
   settled-damaged r long is broken = settled_at (Some r) long is ∙ broken
 
-  pub settled-tells : (r : List (List ℕ)) (summary : Summary) → total_blocks settings.frames ≤ length image → replay image (total_blocks settings.frames) ≡ Some r → TellsRows settings summary r → TellsSettled settings summary image
-  settled-tells r summary long is tells = record { state = tells.state; is = settled_at (Some r) long is ∙ tells.is; told = tells.told }
-
   -- the volume
   volume_settled : HasSettings settings image → volume image ≡ settled_volume image settings
   volume_settled has = volume-opened image has.opened ∙ ap (volume_behind image) has.spelled
 
-  pub volume-tells : (summary : Summary) → HasSettings settings image → TellsSettled settings summary image → Tells summary image
-  volume-tells summary has tells = record { state = tells.state; is = volume_settled has ∙ tells.is; told = tells.told }
-
   pub volume-damaged : HasSettings settings image → settled_volume image settings ≡ Damaged → volume image ≡ Damaged
   volume-damaged has broken = volume_settled has ∙ broken
+
+-- rows that were read
+module _ (settings : Settings) (image : List (List ℕ)) (rows : VolumeRows) where
+  pub settled-tells : (r : List (List ℕ)) → total_blocks settings.frames ≤ length image → replay image (total_blocks settings.frames) ≡ Some r → TellsRows settings rows r → IsSettled settings rows image
+  settled-tells r long is tells = record { replayed = r; replay_is = is; rows_are = tells.are; is = settled_at settings image (Some r) long is ∙ tells.is }
+
+  pub volume-read : rows.params ≡ settings → HasSettings settings image → IsSettled settings rows image → IsReadAs rows image
+  volume-read same has settled = record {
+    gated = and_from (nat_le 2 (length image)) (gate_byte image == gate_open) (le-leb 2 (length image) has.opened.long) (eq-eqb (gate_byte image) gate_open has.opened.gate);
+    super = has.spelled ∙ ap (λ s. Spells s) (sym same);
+    replayed = settled.replayed;
+    replay_is = ap (λ (s : Settings). replay image (total_blocks s.frames)) same ∙ settled.replay_is;
+    rows_are = ap (λ (s : Settings). rows_of settled.replayed s.frames) same ∙ settled.rows_are;
+    is = volume_settled settings image has ∙ settled.is;
+  }
 
 -- an image with an open gate, and what its superblock spells
 pub opened-by : (image : List (List ℕ)) → 2 ≤ length image → (gate_byte image == gate_open) ≡ true → IsOpened image

@@ -1,10 +1,9 @@
--- What is kept of the frame table.
+-- What is read of the frame table.
 use Rattle.std.specs.Prelude.{◌≡◌, ℕ, zero, suc, ◌+◌, ◌-◌, ◌*◌, ◌/◌, ◌%◌, min, true, false, List, [], ◌∷◌, drop}
-use Rattle.std.specs.List.Sorted.{IsPermutation}
 use Rattle.mg_model.specs.Bytes.{are_zeros, number_at}
 use Rattle.mg_model.specs.Layout.{table_block}
 use Rattle.mg_model.specs.Replay.{block_of}
-use Rattle.mg_model.specs.Volume.{bound_pages, table_of, whole_table}
+use Rattle.mg_model.specs.Volume.{table_of, whole_table}
 
 -- entry i of the table in its block
 abbrev pub entry_in : List ℕ → ℕ → ℕ
@@ -18,14 +17,14 @@ abbrev pub entries : (ℕ → ℕ) → ℕ → ℕ → List ℕ
 entries entry i zero = []
 entries entry i (suc n) = entry i ∷ entries entry (i + 1) n
 
--- of the first n entries these are the pages that are bound, and those behind the last frame are 0
-pub record AreBound (entry : ℕ → ℕ) (n frames : ℕ) (pages : List ℕ) : Type 0 where
-  pub bound : pages ≡ bound_pages (entries entry 0 (min n frames))
+-- of the first n entries these are those of frames, and those behind the last frame are 0
+pub record AreEntries (entry : ℕ → ℕ) (n frames : ℕ) (table : List ℕ) : Type 0 where
+  pub are : table ≡ entries entry 0 (min n frames)
   pub rest : are_zeros (entries entry frames (n - frames)) ≡ true
 
--- these are the pages that are bound, and the bytes behind the last entry are 0
-pub record IsTable (image : List (List ℕ)) (frames : ℕ) (pages : List ℕ) : Type 0 where
-  pub bound : IsPermutation (bound_pages (table_of image frames)) pages
+-- these are the entries of all frames, and the bytes behind the last one are 0
+pub record IsTable (image : List (List ℕ)) (frames : ℕ) (table : List ℕ) : Type 0 where
+  pub are : table_of image frames ≡ table
   pub rest : are_zeros (drop frames (whole_table image frames)) ≡ true
 
 -- a byte behind the last entry is not 0

@@ -8,10 +8,16 @@ mod accounts;
 mod examining;
 mod faults;
 mod objects;
+mod opening;
 mod reading;
+mod settings;
 mod sorted;
+mod soundness;
 mod table;
 mod tables;
 mod threads;
+mod volume_rows;
 
 pub use examining::{OpenFault, Summary, examine};
+pub use opening::read_volume;
+pub use volume_rows::VolumeRows;

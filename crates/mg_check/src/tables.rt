@@ -1,22 +1,21 @@
 // All tables of a volume.
-ghost use Rattle.std.specs.Prelude.{◌≡◌, ◌≤◌, IfOk, Some, length};
+ghost use Rattle.std.specs.Prelude.{◌≡◌, ◌≤◌, IfOk, Some};
 ghost use Rattle.std.specs.Option.{ForSome};
+ghost use Rattle.mg_check.specs.Reads.{CanRead, OnlyRead, contents};
+ghost use Rattle.mg_check.specs.RowsRead.{AreHeld, AreKept};
+ghost use Rattle.mg_check.specs.RowsTold.{AreTold, HasNoState, NoCounters, TellsRows};
 ghost use Rattle.mg_disk.specs.Stops.{CountRose};
-ghost use Rattle.mg_model.specs.Layout.{globals_block, object_rows, table_block, total_blocks};
+ghost use Rattle.mg_model.specs.Layout.{globals_block, table_block, total_blocks};
 ghost use Rattle.mg_model.specs.Replay.{block_of};
 ghost use Rattle.mg_model.specs.Spelling.{globals_read};
-ghost use Rattle.mg_model.specs.Volume.{Damaged, replayed_volume};
-ghost use Rattle.mg_check.specs.ObjectsTold.{AreSome};
-ghost use Rattle.mg_check.specs.Reads.{CanRead, OnlyRead, contents};
-ghost use Rattle.mg_check.specs.RowsTold.{AreInOrder, AreTold, HasNoRows, NoCounters, TellsRows, fits};
 
-use crate::accounts::{AccountsSeen, read_accounts};
-use crate::examining::Summary;
+use crate::accounts::read_accounts;
 use crate::faults::RowFault;
-use crate::objects::{ObjectsSeen, read_objects};
+use crate::objects::read_objects;
 use crate::reading::read_block;
-use crate::table::{read_table, table_fits};
-use crate::threads::{ThreadsSeen, read_threads};
+use crate::table::read_table;
+use crate::threads::read_threads;
+use crate::volume_rows::VolumeRows;
 use mg_disk::{BLOCK_SIZE, Disk};
 use mg_faults::Failed;
 use mg_journal::View;
@@ -24,48 +23,6 @@ use mg_layout::GLOBALS_BLOCK;
 use mg_model::{Globals, Params};
 use mg_rows::read_globals;
 use std::alloc::Global;
-
-/// What an account may owe for each period, in credits.
-const DEBT: u64 = 1 << 36;
-
-/// What is kept of the tables of a volume.
-#[derive(Drop)]
-pub(crate) struct Tables {
-    pub(crate) globals: Globals,
-    pub(crate) accounts: AccountsSeen,
-    pub(crate) threads: ThreadsSeen,
-    pub(crate) objects: ObjectsSeen,
-    /// The pages that are bound to frames.
-    pub(crate) pages: Vec<u64>,
-}
-
-impl Tables {
-    // Whether they may stand beside each other on a volume with these settings.
-    fn fit(&self, p: &Params) -> bool
-        requires some { AreSome object_rows self.now.objects }
-        ensures { result ≡ fits p.now self.now.accounts self.now.threads self.now.objects self.now.pages.items }
-    {
-        self.accounts.fit(p.credits())
-            && self.objects.fit(p.frames())
-            && self.threads.fit()
-            && table_fits(&self.objects.spans, &self.pages)
-    }
-
-    // What is told of a volume with these tables.
-    fn summary(&self, p: &Params) -> Summary
-        ensures { result ≡ record { frames = p.now.frames; objects = length self.now.objects.spans.items; pages = self.now.objects.used; accounts = self.now.accounts.count; threads = length self.now.threads.births.items; period = self.now.globals.period; credits = p.now.credits } }
-    {
-        Summary {
-            frames: p.frames(),
-            objects: self.objects.spans.len() as u64,
-            pages: self.objects.used,
-            accounts: self.accounts.count,
-            threads: self.threads.births.len() as u64,
-            period: self.globals.period(),
-            credits: p.credits(),
-        }
-    }
-}
 
 // Reads the globals.
 fn read_counters<D: Disk>(view: &View, disk: &mut D) -> Result<Globals, RowFault>
@@ -86,55 +43,58 @@ fn read_counters<D: Disk>(view: &View, disk: &mut D) -> Result<Globals, RowFault
     }
 }
 
-// Reads all tables of a volume of so many frames, in the order in which they lie behind the journal.
+// Reads all tables of a volume with these settings, in the order in which they lie behind the journal.
 fn read_tables<D: Disk>(
     alloc: Global,
     view: &View,
     disk: &mut D,
-    frames: u64,
-) -> Result<Tables, RowFault>
-    requires few { frames ≤ 65536 }
-    requires room { total_blocks frames ≤ view.now.total }
+    p: &Params,
+) -> Result<VolumeRows, RowFault>
+    requires room { total_blocks p.now.frames ≤ view.now.total }
     requires can { CanRead D.Disk disk.old view.now }
-    ensures told { IfOk result (λ tables. ForSome (contents D.Disk disk.old view.now.total) (λ r. AreTold r frames tables)) }
-    ensures ordered { IfOk result (λ tables. AreInOrder tables) }
-    ensures damaged { result ≡ Err RowFault.Damaged → ForSome (contents D.Disk disk.old view.now.total) (λ r. HasNoRows r frames) }
+    ensures told { IfOk result (λ rows. ForSome (contents D.Disk disk.old view.now.total) (AreTold rows)) }
+    ensures params { IfOk result (λ rows. rows.params ≡ p.now) }
+    ensures held { IfOk result AreHeld }
+    ensures damaged { result ≡ Err RowFault.Damaged → ForSome (contents D.Disk disk.old view.now.total) (HasNoState p.now) }
     ensures cause { result ≡ Err RowFault.Disk → CountRose D.Disk disk.old disk.new }
     ensures reads { OnlyRead D.Disk disk.old disk.new }
 {
+    let frames = p.frames();
     let globals = read_counters(view, disk)?;
-    let accounts = read_accounts(view, disk, globals.period() * DEBT)?;
-    let threads = read_threads(alloc, view, disk, globals.births())?;
-    let objects = read_objects(alloc, view, disk, accounts.count)?;
-    let pages = read_table(alloc, view, disk, frames)?;
-    Ok(Tables {
+    let accounts = read_accounts(alloc, view, disk)?;
+    let threads = read_threads(alloc, view, disk)?;
+    let objects = read_objects(alloc, view, disk)?;
+    let table = read_table(alloc, view, disk, frames)?;
+    Ok(VolumeRows {
+        params: *p,
         globals,
         accounts,
         threads,
         objects,
-        pages,
+        table,
     })
 }
 
-/// Tells what the tables of a volume with these settings spell.
-pub(crate) fn tell_rows<D: Disk>(
+/// Reads the tables of a volume with these settings. Its rows may stand beside each other.
+pub(crate) fn read_rows<D: Disk>(
     alloc: Global,
     view: &View,
     disk: &mut D,
     p: &Params,
-) -> Result<Summary, RowFault>
+) -> Result<VolumeRows, RowFault>
     requires room { total_blocks p.now.frames ≤ view.now.total }
     requires can { CanRead D.Disk disk.old view.now }
-    ensures tells { IfOk result (λ summary. ForSome (contents D.Disk disk.old view.now.total) (λ r. TellsRows p.now summary r)) }
-    ensures frames { IfOk result (λ summary. summary.frames ≡ p.now.frames) }
-    ensures damaged { result ≡ Err RowFault.Damaged → ForSome (contents D.Disk disk.old view.now.total) (λ r. replayed_volume p.now r ≡ Damaged) }
+    ensures told { IfOk result (λ rows. ForSome (contents D.Disk disk.old view.now.total) (TellsRows p.now rows)) }
+    ensures params { IfOk result (λ rows. rows.params ≡ p.now) }
+    ensures kept { IfOk result AreKept }
+    ensures damaged { result ≡ Err RowFault.Damaged → ForSome (contents D.Disk disk.old view.now.total) (HasNoState p.now) }
     ensures cause { result ≡ Err RowFault.Disk → CountRose D.Disk disk.old disk.new }
     ensures reads { OnlyRead D.Disk disk.old disk.new }
 {
-    let tables = read_tables(alloc, view, disk, p.frames())?;
-    if tables.fit(p) {
-        Ok(tables.summary(p))
-    } else {
-        Err(RowFault::Damaged)
+    let rows = read_tables(alloc, view, disk, p)?;
+    match rows.fit(alloc) {
+        Ok(true) => Ok(rows),
+        Ok(false) => Err(RowFault::Damaged),
+        Err(_) => Err(RowFault::Memory),
     }
 }

@@ -1,16 +1,20 @@
-use Rattle.std.proofs.Common.{◌≡◌, ◌≢◌, Some, ◌+◌, ◌/◌, ◌%◌, Err, ap, sym, ◌∙◌, arith}
+use Rattle.std.proofs.Common.{◌≡◌, ◌≢◌, ℕ, Some, ◌+◌, ◌/◌, ◌%◌, Err, ap, sym, subst, ◌∙◌, arith, ◌≤◌, length, List}
 use Rattle.std.proofs.lemmas.Bool.{eqb-false}
 use Rattle.std.proofs.lemmas.Result.{err_from_is_err_and}
 use Rattle.mg_disk.specs.Disk.{Image}
-use Rattle.mg_check.specs.Reads.{contents}
-use Rattle.mg_check.specs.declared.faults.RowFault.TheVariants as fault
+use Rattle.mg_model.specs.declared.accounts.AccRow.{AccRow}
 use Rattle.mg_model.specs.Layout.{account_rows, first_account_block}
 use Rattle.mg_model.specs.Replay.{block_of}
 use Rattle.mg_model.specs.Spelling.{account_read}
 use Rattle.mg_model.specs.Volume.{account_row_bytes}
 use Rattle.mg_rows.specs.Blocks.{account_in}
-use Rattle.mg_check.specs.LiveRows.{not_spelled}
-use Rattle.mg_check.specs.ReadRuns.{only_then, same_contents, still_read}
+use Rattle.mg_check.specs.LiveRows.{told_none}
+use Rattle.mg_check.specs.ReadRuns.{only_none, only_then, same_contents, still_read}
+use Rattle.mg_check.specs.Reads.{contents}
+use Rattle.mg_check.specs.RowsRead.{placed_from}
+use Rattle.mg_check.specs.RowsTold.{AreAccounts}
+use Rattle.mg_check.specs.Told.{IsTold}
+use Rattle.mg_check.specs.declared.faults.RowFault.TheVariants as fault
 use Rattle.mg_check.proofs.accounts.read_accounts.Goals as goal
 
 pub turn_to-requires-clause-can : goal.turn_to-requires-clause-can
@@ -18,14 +22,16 @@ turn_to-requires-clause-can g c = still_read g.D.Disk c.args.disk.now c.loop-i.d
 
 pub returns-in_err-take-clause-damaged : goal.returns-in_err-take-clause-damaged
 returns-in_err-take-clause-damaged g c is r told =
-    let p = err_from_is_err_and c.from_residual.result c.from_residual.ensures.1 in
+    let p = err_from_is_err_and c.from_residual-in_err-take.result c.from_residual-in_err-take.ensures.1 in
     let was = c.in_err-take.was in
     let first = p.1 in
     let same = p.2 in
     let damaged : c.take.result ≡ Err fault.Damaged = cc in
     let there = c.in-Ok.ensures.block r (same_contents g.D.Disk c.args.disk.now c.loop-i.disk c.args.view.now.total c.loop-i.invariant.reads ∙ told) in
-    not_spelled (λ i. account_read (account_row_bytes r i)) account_rows c.loop-i.i
-    (ap (λ block. account_in block (c.loop-i.i % 64)) (sym there) ∙ c.take.ensures.damaged damaged) (omega arith)
+    c.take.ensures.damaged damaged (λ i. account_read (account_row_bytes r i)) (ap (λ block. account_in block (c.loop-i.i % 64)) (sym there)) (c.loop-i.invariant.told r told)
+
+pub returns-in_err-take-clause-reads : goal.returns-in_err-take-clause-reads
+returns-in_err-take-clause-reads g c = only_then g.D.Disk c.args.disk.now c.loop-i.disk c.turn_to.new.disk c.loop-i.invariant.reads c.turn_to.ensures.reads
 
 pub loop-i-preserved : goal.loop-i-preserved
 loop-i-preserved g c =
@@ -39,5 +45,21 @@ loop-i-preserved g c =
           let same : i / 64 ≡ (i + 1) / 64 = omega arith in
           at_hand r told ∙ ap (λ k. block_of r (first_account_block + k)) same;
       told = λ r told. c.in_ok-take.ensures.told (λ i. account_read (account_row_bytes r i)) (ap (λ block. account_in block (i % 64)) (sym (at_hand r told))) (c.loop-i.invariant.told r told);
-      few = c.in_ok-take.ensures.few;
+      few = let before = c.loop-i.invariant.few in let more = c.in_ok-take.ensures.few in omega arith;
+      room = let before = c.loop-i.invariant.room in let more = c.take.ensures.room in omega arith;
     }
+
+pub loop-i-init : goal.loop-i-init
+loop-i-init g c = record {
+  reads = only_none g.D.Disk c.args.disk.now (g.met.D.Disk.now_has_been c.args.disk.now);
+  there = λ test. absurd (cc);
+  told = λ r told. told_none (λ i. account_read (account_row_bytes r i)) (AreAccounts c.in_ok-accounts.accounts.items) (ap (placed_from 0) (sym c.in_ok-accounts.ensures.none));
+  few = subst (λ (xs : List AccRow). length xs ≤ 0) (sym c.in_ok-accounts.ensures.none) (omega arith);
+  room = c.in_ok-accounts.ensures.room;
+}
+
+pub returns-clause-told : goal.returns-clause-told
+returns-clause-told g c r told =
+    let all : c.loop-i.i ≡ account_rows = let past = c.loop-i-test.false in let end = c.loop-i.auto.i-end in omega arith in
+    let P : ℕ → Type 0 = λ n. IsTold (λ i. account_read (account_row_bytes r i)) n (AreAccounts c.loop-i.accounts.items) in
+    subst P all (c.loop-i.invariant.told r told)

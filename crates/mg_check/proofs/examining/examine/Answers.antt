@@ -1,13 +1,10 @@
-use Rattle.std.proofs.Common.{Err, ap, ◌∙◌}
-use Rattle.mg_check.proofs.SettledVolume.{volume-damaged, volume-tells}
+use Rattle.std.proofs.Common.{◌∙◌}
+use Rattle.mg_check.specs.RowsRead.{state_in}
+use Rattle.mg_check.proofs.Counted.{counted}
 use Rattle.mg_check.proofs.examining.examine.Goals as goal
 
 pub returns-in-Ok-clause-tells : goal.returns-in-Ok-clause-tells
 returns-in-Ok-clause-tells g c image told =
-    let later = c.read_settings.ensures.reads.writes.same ∙ told in
-    volume-tells c.in_ok-p.p image c.in-Ok.summary (c.in_ok-p.ensures.told image told) (c.in-Ok.ensures.tells image later)
-
-pub returns-in-Err-Damaged-clause-damaged : goal.returns-in-Err-Damaged-clause-damaged
-returns-in-Err-Damaged-clause-damaged g c is image told =
-    let later = c.read_settings.ensures.reads.writes.same ∙ told in
-    volume-damaged c.in_ok-p.p image (c.in_ok-p.ensures.told image told) (c.settle.ensures.damaged (c.in-Err-Damaged.is ∙ ap Err c.in-Err-Damaged.field-0-is) image later)
+    let rows = c.in-Ok.rows in
+    let read = c.in-Ok.ensures.told image told in
+    record { state = state_in rows read.replayed; is = read.is; told = c.summary_of.ensures ∙ counted rows read.replayed }

@@ -1,17 +1,23 @@
-use Rattle.std.proofs.Common.{◌≡◌, ◌≢◌, Some, ◌+◌, ◌/◌, ◌%◌, Err, ap, sym, ◌∙◌, arith}
+use Rattle.std.proofs.Common.{◌≡◌, ◌≢◌, ℕ, Some, ◌+◌, ◌/◌, ◌%◌, Err, ap, sym, subst, ◌∙◌, arith, List}
 use Rattle.std.proofs.lemmas.Bool.{eqb-false}
+use Rattle.std.proofs.lemmas.List.Elements.{All-nil}
 use Rattle.std.proofs.lemmas.Result.{err_from_is_err_and}
 use Rattle.mg_disk.specs.Disk.{Image}
-use Rattle.mg_check.specs.ObjectsTold.{AreObjects}
-use Rattle.mg_check.specs.Reads.{contents}
-use Rattle.mg_check.specs.declared.faults.RowFault.TheVariants as fault
 use Rattle.mg_model.specs.Layout.{object_rows, first_object_block}
+use Rattle.mg_model.specs.Ranges.{IsObjectRow}
 use Rattle.mg_model.specs.Replay.{block_of}
 use Rattle.mg_model.specs.Spelling.{object_read}
+use Rattle.mg_model.specs.State.{ObjectRow}
 use Rattle.mg_model.specs.Volume.{object_row_bytes}
 use Rattle.mg_rows.specs.Blocks.{object_in}
-use Rattle.mg_check.specs.LiveRows.{not_spelled, told_none, told_weaker}
+use Rattle.mg_check.specs.LiveRows.{not_spelled, told_none}
 use Rattle.mg_check.specs.ReadRuns.{only_none, only_then, same_contents, still_read}
+use Rattle.mg_check.specs.Reads.{contents}
+use Rattle.mg_check.specs.RowsRead.{AreInRange, ArePlaced}
+use Rattle.mg_check.specs.RowsTold.{AreRows}
+use Rattle.mg_check.specs.Told.{IsTold}
+use Rattle.mg_check.specs.declared.faults.RowFault.TheVariants as fault
+use Rattle.mg_check.proofs.Placed.{placed_all, placed_none}
 use Rattle.mg_check.proofs.objects.read_objects.Goals as goal
 
 pub turn_to-requires-clause-can : goal.turn_to-requires-clause-can
@@ -28,6 +34,9 @@ returns-in_err-take-clause-damaged g c is r told =
     not_spelled (λ i. object_read (object_row_bytes r i)) object_rows c.loop-i.i
     (ap (λ block. object_in block (c.loop-i.i % 4)) (sym there) ∙ c.take.ensures.damaged damaged) (omega arith)
 
+pub returns-in_err-take-clause-reads : goal.returns-in_err-take-clause-reads
+returns-in_err-take-clause-reads g c = only_then g.D.Disk c.args.disk.now c.loop-i.disk c.turn_to.new.disk c.loop-i.invariant.reads c.turn_to.ensures.reads
+
 pub loop-i-preserved : goal.loop-i-preserved
 loop-i-preserved g c =
     let i = c.loop-i.i in
@@ -40,21 +49,28 @@ loop-i-preserved g c =
           let same : i / 4 ≡ (i + 1) / 4 = omega arith in
           at_hand r told ∙ ap (λ k. block_of r (first_object_block + k)) same;
       told = λ r told. c.in_ok-take.ensures.told (λ i. object_read (object_row_bytes r i)) (ap (λ block. object_in block (i % 4)) (sym (at_hand r told))) (c.loop-i.invariant.told r told);
-      some = c.in_ok-take.ensures.some;
+      placed = c.in_ok-take.ensures.placed c.loop-i.invariant.placed;
+      ranges = c.in_ok-take.ensures.ranges c.loop-i.invariant.ranges;
+      room = let before = c.loop-i.invariant.room in let more = c.take.ensures.room in omega arith;
     }
 
 pub loop-i-init : goal.loop-i-init
 loop-i-init g c = record {
   reads = only_none g.D.Disk c.args.disk.now (g.met.D.Disk.now_has_been c.args.disk.now);
   there = λ test. absurd (cc);
-  told = λ r told. told_none (λ i. object_read (object_row_bytes r i)) (AreObjects c.args.accounts c.in_ok-seen.seen) (c.in_ok-seen.ensures.none c.args.accounts);
-  some = c.in_ok-seen.ensures.some;
+  told = λ r told. told_none (λ i. object_read (object_row_bytes r i)) (AreRows c.in_ok-objects.objects.items) (sym c.in_ok-objects.ensures.none);
+  placed = subst (λ (xs : List (ℕ × ObjectRow)). ArePlaced 0 xs) (sym c.in_ok-objects.ensures.none) placed_none;
+  ranges = subst AreInRange (sym c.in_ok-objects.ensures.none) (All-nil (λ (o : ℕ × ObjectRow). IsObjectRow o.1));
+  room = c.in_ok-objects.ensures.room;
 }
-
-pub returns-in_err-take-clause-reads : goal.returns-in_err-take-clause-reads
-returns-in_err-take-clause-reads g c = only_then g.D.Disk c.args.disk.now c.loop-i.disk c.turn_to.new.disk c.loop-i.invariant.reads c.turn_to.ensures.reads
 
 pub returns-clause-told : goal.returns-clause-told
 returns-clause-told g c r told =
-    let at_end : c.loop-i.i ≡ object_rows = let past = c.loop-i-test.false in let end = c.loop-i.auto.i-end in omega arith in
-    told_weaker (λ i. object_read (object_row_bytes r i)) c.loop-i.i object_rows (AreObjects c.args.accounts c.loop-i.seen) (AreObjects c.args.accounts c.sort.new.self) at_end (c.loop-i.invariant.told r told) (c.sort.ensures.kept c.args.accounts)
+    let all : c.loop-i.i ≡ object_rows = let past = c.loop-i-test.false in let end = c.loop-i.auto.i-end in omega arith in
+    let P : ℕ → Type 0 = λ n. IsTold (λ i. object_read (object_row_bytes r i)) n (AreRows c.loop-i.objects.items) in
+    subst P all (c.loop-i.invariant.told r told)
+
+pub returns-clause-placed : goal.returns-clause-placed
+returns-clause-placed g c =
+    let all : c.loop-i.i ≡ object_rows = let past = c.loop-i-test.false in let end = c.loop-i.auto.i-end in omega arith in
+    placed_all c.loop-i.i object_rows c.loop-i.objects.items all c.loop-i.invariant.placed

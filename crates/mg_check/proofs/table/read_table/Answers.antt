@@ -7,7 +7,6 @@ use Rattle.mg_model.specs.Replay.{block_of}
 use Rattle.mg_check.specs.Reads.{contents}
 use Rattle.mg_check.specs.TableTold.{entry_in, table_entry}
 use Rattle.mg_check.specs.declared.faults.RowFault.TheVariants as fault
-use Rattle.mg_check.proofs.Apart.{sorted-numbers}
 use Rattle.mg_check.proofs.Entries.{table-rest, table-told}
 use Rattle.mg_check.specs.ReadRuns.{only_then, same_contents, still_read}
 use Rattle.mg_check.proofs.table.read_table.Goals as goal
@@ -38,12 +37,10 @@ loop-f-preserved g c =
           let same : f / 512 ≡ (f + 1) / 512 = omega arith in
           at_hand r told ∙ ap (λ k. block_of r (table_block + k)) same;
       told = λ r told. c.in_ok-take.ensures.told (table_entry r) (ap (λ block. entry_in block f) (sym (at_hand r told))) (c.loop-f.invariant.told r told);
+      long = c.in_ok-take.ensures.long c.loop-f.invariant.long;
     }
 
 pub returns-clause-told : goal.returns-clause-told
 returns-clause-told g c r told =
     let at_end : c.loop-f.f ≡ 512 * table_blocks c.args.frames = let past = c.loop-f-test.false in let end = c.loop-f.auto.f-end in omega arith in
-    table-told r c.args.frames c.loop-f.f at_end c.loop-f.pages.items c.sort_unstable.new.self.items (c.loop-f.invariant.told r told) c.sort_unstable.ensures.permutation
-
-pub returns-clause-ordered : goal.returns-clause-ordered
-returns-clause-ordered g c = sorted-numbers c.sort_unstable.new.self.items c.sort_unstable.ensures.sorted
+    table-told r c.args.frames c.loop-f.f at_end c.loop-f.table.items (c.loop-f.invariant.told r told)

@@ -1,14 +1,10 @@
-use Rattle.std.proofs.Common.{◌≡◌, Err, ◌*◌, ◌^◌, subst, ◌∙◌}
+use Rattle.std.proofs.Common.{◌≡◌, Err, subst, ◌∙◌}
 use Rattle.std.proofs.lemmas.Result.{err_from_is_err_and}
-use Rattle.mg_check.specs.AccountsTold.{AreAccounts}
-use Rattle.mg_check.specs.ThreadsTold.{AreThreads}
-use Rattle.mg_check.specs.Told.{IsTold}
-use Rattle.mg_check.specs.declared.faults.RowFault.TheVariants as fault
-use Rattle.mg_model.specs.Layout.{account_rows, thread_rows}
-use Rattle.mg_model.specs.Spelling.{account_read, thread_read}
-use Rattle.mg_model.specs.Volume.{account_row_bytes, thread_row_bytes}
-use Rattle.mg_check.proofs.NoRows.{without-objects, without-threads, without-zeros}
 use Rattle.mg_check.specs.ReadRuns.{only_then, same_contents, still_read}
+use Rattle.mg_check.specs.TableTold.{HasRest, IsTable}
+use Rattle.mg_check.specs.declared.faults.RowFault.TheVariants as fault
+use Rattle.mg_check.proofs.NoRows.{with-gap, without-counters, without-objects, without-threads, without-zeros}
+use Rattle.mg_check.proofs.StateFits.{tables-told}
 use Rattle.mg_check.proofs.tables.read_tables.Goals as goal
 
 pub read_accounts-requires-clause-can : goal.read_accounts-requires-clause-can
@@ -23,6 +19,24 @@ read_objects-requires-clause-can g c = still_read g.D.Disk c.args.disk.now c.rea
 pub read_table-requires-clause-can : goal.read_table-requires-clause-can
 read_table-requires-clause-can g c = still_read g.D.Disk c.args.disk.now c.read_objects.new.disk c.args.view.now c.requires.can (only_then g.D.Disk c.args.disk.now c.read_threads.new.disk c.read_objects.new.disk (only_then g.D.Disk c.args.disk.now c.read_accounts.new.disk c.read_threads.new.disk (only_then g.D.Disk c.args.disk.now c.read_counters.new.disk c.read_accounts.new.disk c.read_counters.ensures.reads c.read_accounts.ensures.reads) c.read_threads.ensures.reads) c.read_objects.ensures.reads)
 
+pub returns-in_err-globals-clause-damaged : goal.returns-in_err-globals-clause-damaged
+returns-in_err-globals-clause-damaged g c is r told =
+    let p = err_from_is_err_and c.from_residual.result c.from_residual.ensures.1 in
+    let was = c.in_err-globals.was in
+    let first = p.1 in
+    let same = p.2 in
+    let damaged : c.read_counters.result ≡ Err fault.Damaged = cc in
+    without-counters c.args.p.now r (c.read_counters.ensures.damaged damaged r told)
+
+pub returns-in_err-accounts-clause-damaged : goal.returns-in_err-accounts-clause-damaged
+returns-in_err-accounts-clause-damaged g c is r told =
+    let p = err_from_is_err_and c.from_residual-in_err-accounts.result c.from_residual-in_err-accounts.ensures.1 in
+    let was = c.in_err-accounts.was in
+    let first = p.1 in
+    let same = p.2 in
+    let damaged : c.read_accounts.result ≡ Err fault.Damaged = cc in
+    with-gap c.args.p.now r (c.read_accounts.ensures.damaged damaged r (same_contents g.D.Disk c.args.disk.now c.read_counters.new.disk c.args.view.now.total c.read_counters.ensures.reads ∙ told))
+
 pub returns-in_err-threads-clause-damaged : goal.returns-in_err-threads-clause-damaged
 returns-in_err-threads-clause-damaged g c is r told =
     let p = err_from_is_err_and c.from_residual-in_err-threads.result c.from_residual-in_err-threads.ensures.1 in
@@ -30,7 +44,7 @@ returns-in_err-threads-clause-damaged g c is r told =
     let first = p.1 in
     let same = p.2 in
     let damaged : c.read_threads.result ≡ Err fault.Damaged = cc in
-    without-threads r c.args.frames (c.read_threads.ensures.damaged damaged r (same_contents g.D.Disk c.args.disk.now c.read_accounts.new.disk c.args.view.now.total (only_then g.D.Disk c.args.disk.now c.read_counters.new.disk c.read_accounts.new.disk c.read_counters.ensures.reads c.read_accounts.ensures.reads) ∙ told))
+    without-threads c.args.p.now r (c.read_threads.ensures.damaged damaged r (same_contents g.D.Disk c.args.disk.now c.read_accounts.new.disk c.args.view.now.total (only_then g.D.Disk c.args.disk.now c.read_counters.new.disk c.read_accounts.new.disk c.read_counters.ensures.reads c.read_accounts.ensures.reads) ∙ told))
 
 pub returns-in_err-objects-clause-damaged : goal.returns-in_err-objects-clause-damaged
 returns-in_err-objects-clause-damaged g c is r told =
@@ -39,26 +53,21 @@ returns-in_err-objects-clause-damaged g c is r told =
     let first = p.1 in
     let same = p.2 in
     let damaged : c.read_objects.result ≡ Err fault.Damaged = cc in
-    without-objects r c.args.frames (c.read_objects.ensures.damaged damaged r (same_contents g.D.Disk c.args.disk.now c.read_threads.new.disk c.args.view.now.total (only_then g.D.Disk c.args.disk.now c.read_accounts.new.disk c.read_threads.new.disk (only_then g.D.Disk c.args.disk.now c.read_counters.new.disk c.read_accounts.new.disk c.read_counters.ensures.reads c.read_accounts.ensures.reads) c.read_threads.ensures.reads) ∙ told))
+    without-objects c.args.p.now r (c.read_objects.ensures.damaged damaged r (same_contents g.D.Disk c.args.disk.now c.read_threads.new.disk c.args.view.now.total (only_then g.D.Disk c.args.disk.now c.read_accounts.new.disk c.read_threads.new.disk (only_then g.D.Disk c.args.disk.now c.read_counters.new.disk c.read_accounts.new.disk c.read_counters.ensures.reads c.read_accounts.ensures.reads) c.read_threads.ensures.reads) ∙ told))
 
-pub returns-in_err-pages-clause-damaged : goal.returns-in_err-pages-clause-damaged
-returns-in_err-pages-clause-damaged g c is r told =
-    let p = err_from_is_err_and c.from_residual-in_err-pages.result c.from_residual-in_err-pages.ensures.1 in
-    let was = c.in_err-pages.was in
+pub returns-in_err-table-clause-damaged : goal.returns-in_err-table-clause-damaged
+returns-in_err-table-clause-damaged g c is r told =
+    let p = err_from_is_err_and c.from_residual-in_err-table.result c.from_residual-in_err-table.ensures.1 in
+    let was = c.in_err-table.was in
     let first = p.1 in
     let same = p.2 in
     let damaged : c.read_table.result ≡ Err fault.Damaged = cc in
-    without-zeros r c.args.frames (c.read_table.ensures.damaged damaged r (same_contents g.D.Disk c.args.disk.now c.read_objects.new.disk c.args.view.now.total (only_then g.D.Disk c.args.disk.now c.read_threads.new.disk c.read_objects.new.disk (only_then g.D.Disk c.args.disk.now c.read_accounts.new.disk c.read_threads.new.disk (only_then g.D.Disk c.args.disk.now c.read_counters.new.disk c.read_accounts.new.disk c.read_counters.ensures.reads c.read_accounts.ensures.reads) c.read_threads.ensures.reads) c.read_objects.ensures.reads) ∙ told))
+    without-zeros c.args.p.now r (subst (HasRest r) c.frames-frames.ensures.value (c.read_table.ensures.damaged damaged r (same_contents g.D.Disk c.args.disk.now c.read_objects.new.disk c.args.view.now.total (only_then g.D.Disk c.args.disk.now c.read_threads.new.disk c.read_objects.new.disk (only_then g.D.Disk c.args.disk.now c.read_accounts.new.disk c.read_threads.new.disk (only_then g.D.Disk c.args.disk.now c.read_counters.new.disk c.read_accounts.new.disk c.read_counters.ensures.reads c.read_accounts.ensures.reads) c.read_threads.ensures.reads) c.read_objects.ensures.reads) ∙ told)))
 
 pub returns-clause-told : goal.returns-clause-told
-returns-clause-told g c r told = record {
-  counters_are = c.in_ok-globals.ensures.told r told;
-  accounts_are =
-      subst (λ n. IsTold (λ i. account_read (account_row_bytes r i)) account_rows (AreAccounts (n * 2 ^ 36) c.in_ok-accounts.accounts)) c.period.ensures
-      (c.in_ok-accounts.ensures.told r (same_contents g.D.Disk c.args.disk.now c.read_counters.new.disk c.args.view.now.total c.read_counters.ensures.reads ∙ told));
-  threads_are =
-      subst (λ n. IsTold (λ i. thread_read (thread_row_bytes r i)) thread_rows (AreThreads n c.in_ok-threads.threads)) c.births.ensures
-      (c.in_ok-threads.ensures.told r (same_contents g.D.Disk c.args.disk.now c.read_accounts.new.disk c.args.view.now.total (only_then g.D.Disk c.args.disk.now c.read_counters.new.disk c.read_accounts.new.disk c.read_counters.ensures.reads c.read_accounts.ensures.reads) ∙ told));
-  objects_are = c.in_ok-objects.ensures.told r (same_contents g.D.Disk c.args.disk.now c.read_threads.new.disk c.args.view.now.total (only_then g.D.Disk c.args.disk.now c.read_accounts.new.disk c.read_threads.new.disk (only_then g.D.Disk c.args.disk.now c.read_counters.new.disk c.read_accounts.new.disk c.read_counters.ensures.reads c.read_accounts.ensures.reads) c.read_threads.ensures.reads) ∙ told);
-  table_is = c.in_ok-pages.ensures.told r (same_contents g.D.Disk c.args.disk.now c.read_objects.new.disk c.args.view.now.total (only_then g.D.Disk c.args.disk.now c.read_threads.new.disk c.read_objects.new.disk (only_then g.D.Disk c.args.disk.now c.read_accounts.new.disk c.read_threads.new.disk (only_then g.D.Disk c.args.disk.now c.read_counters.new.disk c.read_accounts.new.disk c.read_counters.ensures.reads c.read_accounts.ensures.reads) c.read_threads.ensures.reads) c.read_objects.ensures.reads) ∙ told);
-}
+returns-clause-told g c r told =
+    tables-told _ r (c.in_ok-globals.ensures.told r told)
+    (c.in_ok-accounts.ensures.told r (same_contents g.D.Disk c.args.disk.now c.read_counters.new.disk c.args.view.now.total c.read_counters.ensures.reads ∙ told))
+    (c.in_ok-threads.ensures.told r (same_contents g.D.Disk c.args.disk.now c.read_accounts.new.disk c.args.view.now.total (only_then g.D.Disk c.args.disk.now c.read_counters.new.disk c.read_accounts.new.disk c.read_counters.ensures.reads c.read_accounts.ensures.reads) ∙ told))
+    (c.in_ok-objects.ensures.told r (same_contents g.D.Disk c.args.disk.now c.read_threads.new.disk c.args.view.now.total (only_then g.D.Disk c.args.disk.now c.read_accounts.new.disk c.read_threads.new.disk (only_then g.D.Disk c.args.disk.now c.read_counters.new.disk c.read_accounts.new.disk c.read_counters.ensures.reads c.read_accounts.ensures.reads) c.read_threads.ensures.reads) ∙ told))
+    (subst (λ n. IsTable r n c.in_ok-table.table.items) c.frames-frames.ensures.value (c.in_ok-table.ensures.told r (same_contents g.D.Disk c.args.disk.now c.read_objects.new.disk c.args.view.now.total (only_then g.D.Disk c.args.disk.now c.read_threads.new.disk c.read_objects.new.disk (only_then g.D.Disk c.args.disk.now c.read_accounts.new.disk c.read_threads.new.disk (only_then g.D.Disk c.args.disk.now c.read_counters.new.disk c.read_accounts.new.disk c.read_counters.ensures.reads c.read_accounts.ensures.reads) c.read_threads.ensures.reads) c.read_objects.ensures.reads) ∙ told)))

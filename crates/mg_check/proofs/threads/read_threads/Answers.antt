@@ -1,14 +1,18 @@
-use Rattle.std.proofs.Common.{◌≡◌, Err, Some, ap, sym, ◌∙◌, arith}
+use Rattle.std.proofs.Common.{◌≡◌, ℕ, List, Err, Some, ap, sym, subst, ◌∙◌, arith}
 use Rattle.std.proofs.lemmas.Result.{err_from_is_err_and}
 use Rattle.mg_disk.specs.Disk.{Image}
 use Rattle.mg_model.specs.Layout.{thread_rows}
 use Rattle.mg_model.specs.Spelling.{thread_read}
+use Rattle.mg_model.specs.State.{ThreadRow}
 use Rattle.mg_model.specs.Volume.{thread_row_bytes}
-use Rattle.mg_check.specs.LiveRows.{not_spelled, told_none, told_weaker}
+use Rattle.mg_check.specs.LiveRows.{not_spelled, told_none}
 use Rattle.mg_check.specs.ReadRuns.{only_none, only_then, same_contents, still_read}
 use Rattle.mg_check.specs.Reads.{contents}
-use Rattle.mg_check.specs.ThreadsTold.{AreThreads}
+use Rattle.mg_check.specs.RowsRead.{ArePlaced}
+use Rattle.mg_check.specs.RowsTold.{AreRows}
+use Rattle.mg_check.specs.Told.{IsTold}
 use Rattle.mg_check.specs.declared.faults.RowFault.TheVariants as fault
+use Rattle.mg_check.proofs.Placed.{placed_all, placed_none}
 use Rattle.mg_check.proofs.threads.read_threads.Goals as goal
 
 pub read_block-requires-clause-can : goal.read_block-requires-clause-can
@@ -24,26 +28,35 @@ returns-in_err-take-clause-damaged g c is r told =
     let there = c.in-Ok.ensures.block r (same_contents g.D.Disk c.args.disk.now c.loop-i.disk c.args.view.now.total c.loop-i.invariant.reads ∙ told) in
     not_spelled (λ i. thread_read (thread_row_bytes r i)) thread_rows c.loop-i.i (ap thread_read (sym there) ∙ c.take.ensures.damaged damaged) (omega arith)
 
+pub returns-in_err-take-clause-reads : goal.returns-in_err-take-clause-reads
+returns-in_err-take-clause-reads g c = only_then g.D.Disk c.args.disk.now c.loop-i.disk c.read_block.new.disk c.loop-i.invariant.reads c.read_block.ensures.reads
+
 pub loop-i-preserved : goal.loop-i-preserved
 loop-i-preserved g c =
-    let i = c.loop-i.i in
     let total = c.args.view.now.total in
     let at_hand = λ (r : Image) (told : contents g.D.Disk c.args.disk.now total ≡ Some r). c.in-Ok.ensures.block r (same_contents g.D.Disk c.args.disk.now c.loop-i.disk total c.loop-i.invariant.reads ∙ told) in
     record {
       reads = only_then g.D.Disk c.args.disk.now c.loop-i.disk c.read_block.new.disk c.loop-i.invariant.reads c.read_block.ensures.reads;
       told = λ r told. c.in_ok-take.ensures.told (λ i. thread_read (thread_row_bytes r i)) (ap thread_read (sym (at_hand r told))) (c.loop-i.invariant.told r told);
+      placed = c.in_ok-take.ensures.placed c.loop-i.invariant.placed;
+      room = let before = c.loop-i.invariant.room in let more = c.take.ensures.room in omega arith;
     }
 
 pub loop-i-init : goal.loop-i-init
 loop-i-init g c = record {
   reads = only_none g.D.Disk c.args.disk.now (g.met.D.Disk.now_has_been c.args.disk.now);
-  told = λ r told. told_none (λ i. thread_read (thread_row_bytes r i)) (AreThreads c.args.births c.in_ok-seen.seen) (c.in_ok-seen.ensures.none c.args.births);
+  told = λ r told. told_none (λ i. thread_read (thread_row_bytes r i)) (AreRows c.in_ok-threads.threads.items) (sym c.in_ok-threads.ensures.none);
+  placed = subst (λ (xs : List (ℕ × ThreadRow)). ArePlaced 0 xs) (sym c.in_ok-threads.ensures.none) placed_none;
+  room = c.in_ok-threads.ensures.room;
 }
-
-pub returns-in_err-take-clause-reads : goal.returns-in_err-take-clause-reads
-returns-in_err-take-clause-reads g c = only_then g.D.Disk c.args.disk.now c.loop-i.disk c.read_block.new.disk c.loop-i.invariant.reads c.read_block.ensures.reads
 
 pub returns-clause-told : goal.returns-clause-told
 returns-clause-told g c r told =
-    let at_end : c.loop-i.i ≡ thread_rows = let past = c.loop-i-test.false in let end = c.loop-i.auto.i-end in omega arith in
-    told_weaker (λ i. thread_read (thread_row_bytes r i)) c.loop-i.i thread_rows (AreThreads c.args.births c.loop-i.seen) (AreThreads c.args.births c.sort.new.self) at_end (c.loop-i.invariant.told r told) (c.sort.ensures.kept c.args.births)
+    let all : c.loop-i.i ≡ thread_rows = let past = c.loop-i-test.false in let end = c.loop-i.auto.i-end in omega arith in
+    let P : ℕ → Type 0 = λ n. IsTold (λ i. thread_read (thread_row_bytes r i)) n (AreRows c.loop-i.threads.items) in
+    subst P all (c.loop-i.invariant.told r told)
+
+pub returns-clause-placed : goal.returns-clause-placed
+returns-clause-placed g c =
+    let all : c.loop-i.i ≡ thread_rows = let past = c.loop-i-test.false in let end = c.loop-i.auto.i-end in omega arith in
+    placed_all c.loop-i.i thread_rows c.loop-i.threads.items all c.loop-i.invariant.placed

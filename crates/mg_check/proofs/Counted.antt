@@ -1,0 +1,36 @@
+-- What is told of a volume by its rows.
+use Rattle.std.specs.Prelude.{◌≡◌, ◌+◌, ℕ, List, length, sum_by}
+use Rattle.std.proofs.Common.{sym, ap, ◌∙◌}
+use Rattle.std.proofs.lemmas.List.{length-map}
+use Rattle.mg_check.specs.declared.examining.Summary.{Summary}
+use Rattle.mg_check.specs.declared.volume_rows.VolumeRows.{VolumeRows}
+use Rattle.mg_check.specs.RowsRead.{placed_from, state_in}
+use Rattle.mg_check.specs.Summaries.{summary_of}
+use Rattle.mg_check.proofs.ObjectOrder.{spelled-count, spelled-used}
+use Rattle.mg_check.proofs.StateFits.{accounts-placed}
+use Rattle.mg_disk.specs.Disk.{Image}
+use Rattle.mg_model.specs.declared.accounts.AccRow.{AccRow}
+use Rattle.mg_model.specs.Bank.{used}
+use Rattle.mg_model.specs.State.{ObjectRow, Thread, ThreadRow}
+use Rattle.mg_model.specs.Volume.{accounts_spelled, objects_spelled}
+
+-- a record of these parts
+abbrev summary_with : ℕ → ℕ → ℕ → ℕ → ℕ → ℕ → ℕ → Summary
+summary_with frames objects pages accounts threads period credits = record { frames = frames; objects = objects; pages = pages; accounts = accounts; threads = threads; period = period; credits = credits }
+
+abbrev thread_of : ℕ × ThreadRow → Thread
+thread_of row = record { number = row.0 + 1; row = row.1 }
+
+pub counted : (rows : VolumeRows) (image : Image)
+    → summary_with rows.params.frames (length rows.objects.items) (sum_by (λ (o : ℕ × ObjectRow). o.1.pages) rows.objects.items) (length rows.accounts.items) (length rows.threads.items) rows.globals.period rows.params.credits ≡ summary_of (state_in rows image)
+counted rows image =
+    let frames = rows.params.frames in
+    let period = rows.globals.period in
+    let credits = rows.params.credits in
+    let objects = rows.objects.items in
+    let threads = rows.threads.items in
+    let spelled = objects_spelled image frames rows.table.items objects in
+    ap (λ n. summary_with frames n (sum_by (λ (o : ℕ × ObjectRow). o.1.pages) objects) (length rows.accounts.items) (length threads) period credits) (sym (spelled-count image frames rows.table.items objects))
+    ∙ ap (λ n. summary_with frames (length spelled) n (length rows.accounts.items) (length threads) period credits) (sym (spelled-used image frames rows.table.items objects))
+    ∙ ap (λ (accounts : List AccRow). summary_with frames (length spelled) (used spelled) (length accounts) (length threads) period credits) (sym (accounts-placed 0 rows.accounts.items))
+    ∙ ap (λ n. summary_with frames (length spelled) (used spelled) (length (accounts_spelled (placed_from 0 rows.accounts.items))) n period credits) (sym (length-map threads thread_of))

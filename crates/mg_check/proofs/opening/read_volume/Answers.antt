@@ -1,0 +1,13 @@
+use Rattle.std.proofs.Common.{Err, ap, ◌∙◌}
+use Rattle.mg_check.proofs.SettledVolume.{volume-damaged, volume-read}
+use Rattle.mg_check.proofs.opening.read_volume.Goals as goal
+
+pub returns-in-Ok-clause-told : goal.returns-in-Ok-clause-told
+returns-in-Ok-clause-told g c image told =
+    let later = c.read_settings.ensures.reads.writes.same ∙ told in
+    volume-read c.in_ok-p.p image c.in-Ok.rows c.in-Ok.ensures.params (c.in_ok-p.ensures.told image told) (c.in-Ok.ensures.told image later)
+
+pub returns-in-Err-Damaged-clause-damaged : goal.returns-in-Err-Damaged-clause-damaged
+returns-in-Err-Damaged-clause-damaged g c is image told =
+    let later = c.read_settings.ensures.reads.writes.same ∙ told in
+    volume-damaged c.in_ok-p.p image (c.in_ok-p.ensures.told image told) (c.settle.ensures.damaged (c.in-Err-Damaged.is ∙ ap Err c.in-Err-Damaged.field-0-is) image later)

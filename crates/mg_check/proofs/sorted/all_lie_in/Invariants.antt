@@ -1,0 +1,8 @@
+use Rattle.std.proofs.Common.{◌≡◌, drop}
+use Rattle.std.specs.List.{list_all, list_any}
+use Rattle.mg_check.specs.Spans.{is_in}
+use Rattle.mg_check.proofs.sorted.all_lie_in.Given as goal
+
+-- what is left decides
+abbrev pub invariant-loop-number : goal.invariant-loop-number
+invariant-loop-number l = list_all (λ number. list_any (is_in number) l.spans) l.numbers ≡ list_all (λ number. list_any (is_in number) l.spans) (drop l.number-index l.numbers)
