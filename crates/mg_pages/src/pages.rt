@@ -126,12 +126,10 @@ impl Pages {
         self.frames.page_at(frame)
     }
 
-    /// Unbinds the pages of a range, 1 to 1024 of them: they read as zeros. At most 32 blocks may be staged before.
+    /// Unbinds the pages of a range: they read as zeros. At most 32 blocks may be staged before, and at most 128 more are then.
     pub fn release(&mut self, first: u64, pages: u64)
-        requires some { 1 ≤ pages }
-        requires range { first + pages ≤ 2 ^ 40 }
-        requires few { staged_of self.old ≤ 32 }
-        ensures released { (image : List (List ℕ)) → IsSpelledBy self.old image → Releases self.old self.new image first pages }
+        requires { staged_of self.old ≤ 32 }
+        ensures released { (image : List (List ℕ)) → Releases self.old self.new image first pages }
         ensures spelled { (image : List (List ℕ)) → IsSpelledBy self.old image → IsSpelledBy self.new image }
         ensures unbinds { Unbinds first pages self.old self.new }
         ensures shape { SameShape self.old self.new }

@@ -15,7 +15,6 @@ const MOST_BLOCKS: usize = 128;
 
 /// Frees the frames of all pages in a range, and stages each block of the frame table that changes.
 pub(crate) fn release_pages(frames: &mut Frames, writes: &mut Writes, first: u64, pages: u64)
-    requires range { first + pages < 2 ^ 64 }
     requires some { 16 ≤ length frames.old }
     requires few { length frames.old ≤ 65536 }
     requires once { are_once writes.old ≡ true }
@@ -35,8 +34,7 @@ pub(crate) fn release_pages(frames: &mut Frames, writes: &mut Writes, first: u64
 
 // Which blocks of the frame table name a page of a range.
 fn blocks_with(frames: &[u64], first: u64, pages: u64) -> [bool; MOST_BLOCKS]
-    requires range { first + pages < 2 ^ 64 }
-    requires few { length frames.now ≤ 65536 }
+    requires { length frames.now ≤ 65536 }
     ensures { (i : ℕ) → i < length frames.now → slice_index_or result (i / 512) true ≡ false → is_within first pages (slice_index frames.now i) ≡ false }
 {
     let mut found = [false; MOST_BLOCKS];
@@ -50,8 +48,7 @@ fn blocks_with(frames: &[u64], first: u64, pages: u64) -> [bool; MOST_BLOCKS]
 
 // Whether a page lies in a range.
 fn lies_within(page: u64, first: u64, pages: u64) -> bool
-    requires { first + pages < 2 ^ 64 }
     ensures { result ≡ is_within first pages page }
 {
-    first <= page && page < first + pages
+    first <= page && page - first < pages
 }

@@ -181,11 +181,11 @@ module _ (v : VolumeHeld) (p : PagesHeld) (image : Image) (i : ℕ) (d : ℕ × 
       let Q : ℕ × ObjectRow → Type 0 = λ x. row.base ≡ x.1.base → objects ≡ set v.objects i (x.0, row) → StagesRows objects x.0 v.pages p → IsSpelledBy (with_objects v (set v.objects i (x.0, row)) p) image in
       subst Q (sym there) (at_index is fitting frames)
 
-  pub change_now : IsSpelledBy v image → IsKept v → d ≡ get_or v.objects i d → pages.table_in p ≡ pages.table_in v.pages → row.base ≡ d.1.base → d.1.pages ≡ row.pages → StagesRows objects d.0 v.pages p
+  pub change_now : IsKept v → d ≡ get_or v.objects i d → pages.table_in p ≡ pages.table_in v.pages → row.base ≡ d.1.base → d.1.pages ≡ row.pages → StagesRows objects d.0 v.pages p
       → now_of (with_objects v (set v.objects i (d.0, row)) p) image ≡ record (now_of v image) { objects = with_row row.base (λ old. row) (now_of v image).objects }
-  unfolding IsSpelledBy now_of threads_in
-  change_now is kept there table base same staged =
-      let below : d.0 < object_rows = subst (λ (x : ℕ × ObjectRow). x.0 < object_rows) (sym there) (place_below v image i d is few) in
+  unfolding now_of threads_in
+  change_now kept there table base same staged =
+      let below : d.0 < object_rows = subst (λ (x : ℕ × ObjectRow). x.0 < object_rows) (sym there) (All-get_or (λ (o : ℕ × ObjectRow). o.0 < object_rows) v.objects i d few kept.places) in
       let r = pages.coming v.pages image in
       let frames = v.settings.frames in
       let t = pages.table_in v.pages in

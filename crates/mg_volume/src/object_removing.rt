@@ -39,7 +39,7 @@ pub(crate) fn take_object(
 /// Unbinds the pages of an object: they read as zeros.
 pub(crate) fn release_object(pages: &mut Pages, row: &ObjRow)
     requires few { staged_of pages.old ≤ 32 }
-    ensures released { (image : List (List ℕ)) → IsSpelledBy pages.old image → Releases pages.old pages.new image (page_of row.now) row.now.pages }
+    ensures released { (image : List (List ℕ)) → Releases pages.old pages.new image (page_of row.now) row.now.pages }
     ensures unbinds { Unbinds (page_of row.now) row.now.pages pages.old pages.new }
     ensures shape { SameShape pages.old pages.new }
     ensures staged { StagesMore 128 pages.old pages.new }

@@ -3,7 +3,7 @@ ghost use Rattle.std.specs.Prelude.{List, ◌≡◌, ◌⊎◌, ◌≤◌, ◌<�
 ghost use Rattle.mg_model.specs.Objects.{with_object, with_row, without_object};
 ghost use Rattle.mg_model.specs.State.{ObjectRow};
 ghost use Rattle.mg_volume.specs.Calls.{Stages};
-ghost use Rattle.mg_volume.specs.Meaning.{IsSpelledBy, now_of, objects_in, settings_in, staged_of};
+ghost use Rattle.mg_volume.specs.Meaning.{now_of, objects_in, settings_in, staged_of};
 ghost use Rattle.mg_volume.specs.RowLists.{DistinctBy};
 ghost use Rattle.mg_volume.specs.Staging.{MayChange, MayJoin, ObjectsStillStaged, blank, has_base, is_object_staged, with_new_row, with_other_row, without_row};
 
@@ -47,7 +47,7 @@ impl Volume {
         requires change { MayChange (objects_in self.old) row }
         requires room { (is_object_staged self.old row.base ≡ true) ⊎ (staged_of self.old < 160) }
         ensures now { (change : ObjectRow → ObjectRow) → IfSome (find (λ old. old.base == row.base) (objects_in self.old)) (λ old. change old ≡ row)
-            → (image : List (List ℕ)) → IsSpelledBy self.old image → now_of self.new image ≡ record (now_of self.old image) { objects = with_row row.base change (now_of self.old image).objects } }
+            → (image : List (List ℕ)) → now_of self.new image ≡ record (now_of self.old image) { objects = with_row row.base change (now_of self.old image).objects } }
         ensures rows { objects_in self.new ≡ with_other_row row (objects_in self.old) }
         ensures stages { Stages 1 self.old self.new }
         ensures objects { ObjectsStillStaged self.old self.new }
@@ -66,7 +66,7 @@ impl Volume {
     pub fn insert(&mut self, row: ObjRow)
         requires join { MayJoin (objects_in self.old) (settings_in self.old).frames row }
         requires room { (is_object_staged self.old row.base ≡ true) ⊎ (staged_of self.old < 160) }
-        ensures now { (image : List (List ℕ)) → IsSpelledBy self.old image → now_of self.new image ≡ record (now_of self.old image) { objects = with_object (blank row) (now_of self.old image).objects } }
+        ensures now { (image : List (List ℕ)) → now_of self.new image ≡ record (now_of self.old image) { objects = with_object (blank row) (now_of self.old image).objects } }
         ensures rows { objects_in self.new ≡ with_new_row row (objects_in self.old) }
         ensures stages { Stages 1 self.old self.new }
         ensures objects { ObjectsStillStaged self.old self.new }
@@ -84,7 +84,7 @@ impl Volume {
     pub fn remove(&mut self, base: u64)
         requires there { has_base base (objects_in self.old) ≡ true }
         requires few { staged_of self.old ≤ 30 }
-        ensures now { (image : List (List ℕ)) → IsSpelledBy self.old image → now_of self.new image ≡ record (now_of self.old image) { objects = without_object base (now_of self.old image).objects } }
+        ensures now { (image : List (List ℕ)) → now_of self.new image ≡ record (now_of self.old image) { objects = without_object base (now_of self.old image).objects } }
         ensures rows { objects_in self.new ≡ without_row base (objects_in self.old) }
         ensures stages { Stages 129 self.old self.new }
         ensures objects { ObjectsStillStaged self.old self.new }

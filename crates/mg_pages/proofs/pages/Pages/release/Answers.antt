@@ -14,7 +14,7 @@ use Rattle.mg_pages.proofs.pages.Pages.release.Goals as goal
 pub release_pages-requires-clause-room : goal.release_pages-requires-clause-room
 release_pages-requires-clause-room c =
     let i = c.self.inside in
-    room-many i.store i.frames i.writes i.count c.args.self.now c.self.view_is c.requires.few
+    room-many i.store i.frames i.writes i.count c.args.self.now c.self.view_is c.requires
 
 pub invariant_of-self : goal.invariant_of-self
 invariant_of-self c =
@@ -22,15 +22,15 @@ invariant_of-self c =
     let stages = subst (λ frames. StagesTable i.frames frames (table_blocks (length i.frames)) i.writes c.release_pages.new.writes) c.release_pages.ensures.frames c.release_pages.ensures.staged in
     subst (λ frames. IsSound (held i.store frames c.release_pages.new.writes i.count)) (sym c.release_pages.ensures.frames)
     (sound-released i.store i.frames i.writes c.release_pages.new.writes i.count c.args.first c.args.pages c.args.self.now c.self.view_is c.self.invariant stages
-    (room-many i.store i.frames i.writes i.count c.args.self.now c.self.view_is c.requires.few))
+    (room-many i.store i.frames i.writes i.count c.args.self.now c.self.view_is c.requires))
 
 pub returns-clause-released : goal.returns-clause-released
-returns-clause-released c image is =
+returns-clause-released c image =
     let i = c.self.inside in
     let stages = subst (λ frames. StagesTable i.frames frames (table_blocks (length i.frames)) i.writes c.release_pages.new.writes) c.release_pages.ensures.frames c.release_pages.ensures.staged in
     subst (λ frames. Releases c.args.self.now (held i.store frames c.release_pages.new.writes i.count) image c.args.first c.args.pages) (sym c.release_pages.ensures.frames)
     (releases i.store i.frames i.writes c.release_pages.new.writes i.count c.args.first c.args.pages c.args.self.now c.self.view_is c.self.invariant stages
-    (room-many i.store i.frames i.writes i.count c.args.self.now c.self.view_is c.requires.few) image)
+    (room-many i.store i.frames i.writes i.count c.args.self.now c.self.view_is c.requires) image)
 
 pub returns-clause-spelled : goal.returns-clause-spelled
 returns-clause-spelled c =
@@ -38,7 +38,7 @@ returns-clause-spelled c =
     let stages = subst (λ frames. StagesTable i.frames frames (table_blocks (length i.frames)) i.writes c.release_pages.new.writes) c.release_pages.ensures.frames c.release_pages.ensures.staged in
     subst (λ frames. (image : Image) → IsSpelledBy c.args.self.now image → IsSpelledBy (held i.store frames c.release_pages.new.writes i.count) image) (sym c.release_pages.ensures.frames)
     (spelled-released i.store i.frames i.writes c.release_pages.new.writes i.count c.args.first c.args.pages c.args.self.now c.self.view_is c.self.invariant stages
-    (room-many i.store i.frames i.writes i.count c.args.self.now c.self.view_is c.requires.few))
+    (room-many i.store i.frames i.writes i.count c.args.self.now c.self.view_is c.requires))
 
 pub returns-clause-unbinds : goal.returns-clause-unbinds
 returns-clause-unbinds c =
@@ -46,7 +46,7 @@ returns-clause-unbinds c =
     let stages = subst (λ frames. StagesTable i.frames frames (table_blocks (length i.frames)) i.writes c.release_pages.new.writes) c.release_pages.ensures.frames c.release_pages.ensures.staged in
     subst (λ frames. Unbinds c.args.first c.args.pages c.args.self.now (held i.store frames c.release_pages.new.writes i.count)) (sym c.release_pages.ensures.frames)
     (unbinds-released i.store i.frames i.writes c.release_pages.new.writes i.count c.args.first c.args.pages c.args.self.now c.self.view_is c.self.invariant stages
-    (room-many i.store i.frames i.writes i.count c.args.self.now c.self.view_is c.requires.few))
+    (room-many i.store i.frames i.writes i.count c.args.self.now c.self.view_is c.requires))
 
 pub returns-clause-shape : goal.returns-clause-shape
 returns-clause-shape c =
@@ -55,7 +55,7 @@ returns-clause-shape c =
     subst (λ frames. SameShape c.args.self.now (held i.store frames c.release_pages.new.writes i.count)) (sym c.release_pages.ensures.frames)
     (same-shape i.store i.frames (map (unless_within c.args.first c.args.pages) i.frames) i.writes c.release_pages.new.writes i.count i.count c.args.self.now c.self.view_is
     (as-many i.store i.frames i.writes c.release_pages.new.writes i.count c.args.first c.args.pages c.args.self.now c.self.view_is c.self.invariant stages
-    (room-many i.store i.frames i.writes i.count c.args.self.now c.self.view_is c.requires.few)))
+    (room-many i.store i.frames i.writes i.count c.args.self.now c.self.view_is c.requires)))
 
 pub returns-clause-staged : goal.returns-clause-staged
 returns-clause-staged c =
@@ -63,7 +63,7 @@ returns-clause-staged c =
     let stages = subst (λ frames. StagesTable i.frames frames (table_blocks (length i.frames)) i.writes c.release_pages.new.writes) c.release_pages.ensures.frames c.release_pages.ensures.staged in
     subst (λ frames. StagesMore 128 c.args.self.now (held i.store frames c.release_pages.new.writes i.count)) (sym c.release_pages.ensures.frames)
     (staged-released i.store i.frames i.writes c.release_pages.new.writes i.count c.args.first c.args.pages c.args.self.now c.self.view_is c.self.invariant stages
-    (room-many i.store i.frames i.writes i.count c.args.self.now c.self.view_is c.requires.few))
+    (room-many i.store i.frames i.writes i.count c.args.self.now c.self.view_is c.requires))
 
 pub returns-clause-words : goal.returns-clause-words
 returns-clause-words c =

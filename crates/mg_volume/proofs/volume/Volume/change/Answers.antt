@@ -36,12 +36,11 @@ invariant_of-self c =
     changed_held (the_view c.self.inside) c.index_of-i.result c.index.result.now c.args.row c.self.invariant.kept (at c) c.stage_row.new.pages _ _ _ _ c.self.invariant c.base-base.ensures.kept (omega arith) c.stage_row.ensures.shape.frames c.stage_row.ensures.table
 
 pub returns-clause-now : goal.returns-clause-now
-returns-clause-now c change gives image is =
+returns-clause-now c change gives image =
     let v = the_view c.self.inside in
     let s = at c in
-    let was = rw (← c.self.view_is) at is in
     rw (← c.self.view_is)
-    (change_now v c.stage_row.new.pages image c.index_of-i.result c.index.result.now c.args.row c.deref.result.now s.few was c.self.invariant.kept s.there c.stage_row.ensures.table s.base s.pages c.stage_row.ensures.rows
+    (change_now v c.stage_row.new.pages image c.index_of-i.result c.index.result.now c.args.row c.deref.result.now s.few c.self.invariant.kept s.there c.stage_row.ensures.table s.base s.pages c.stage_row.ensures.rows
     ∙ ap (λ objects. record (now_of v image) { objects = objects }) (changed_by v image c.args.row change c.self.invariant.kept (rw (← c.self.view_is) at c.requires.change) (rw (← c.self.view_is) at gives)))
 
 pub returns-clause-rows : goal.returns-clause-rows

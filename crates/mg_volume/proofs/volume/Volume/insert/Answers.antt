@@ -32,7 +32,7 @@ invariant_of-self c =
     inserted_held (the_view c.self.inside) c.args.row c.free_place-place.result c.base-base.ensures.kept c.self.invariant.kept join (c.free_place-place.ensures ∙ ap free_place c.deref.ensures.value) c.stage_row.new.pages c.add_object.new.objects.items c.add_object.ensures.objects _ _ _ _ c.self.invariant (omega arith) c.stage_row.ensures.shape.frames c.stage_row.ensures.table
 
 pub returns-clause-now : goal.returns-clause-now
-returns-clause-now c image is =
+returns-clause-now c image =
     let join = rw (← c.self.view_is) at c.requires.join in
     rw (← c.self.view_is)
     (inserted_now (the_view c.self.inside) c.args.row c.free_place-place.result c.base-base.ensures.kept c.self.invariant.kept join (c.free_place-place.ensures ∙ ap free_place c.deref.ensures.value) c.stage_row.new.pages c.add_object.new.objects.items c.add_object.ensures.objects image c.stage_row.ensures.table (subst (λ l. StagesRows l c.free_place-place.result c.self.inside.pages c.stage_row.new.pages) c.deref-2.ensures.value c.stage_row.ensures.rows))

@@ -39,13 +39,12 @@ invariant_of-self c =
     (c.release_object.ensures.shape.frames ∙ taken.shape.frames) taken.table c.release_object.ensures.unbinds
 
 pub returns-clause-now : goal.returns-clause-now
-returns-clause-now c image is =
+returns-clause-now c image =
     let v = the_view c.self.inside in
-    let was = rw (← c.self.view_is) at is in
     let taken = c.take_object-taken.ensures in
     rw (← c.self.view_is, ← base_is c)
     (now_without v c.index_of-i.result c.take_object-taken.result c.take_object-taken.new.objects.items (gone_is c) c.take_object-taken.new.pages c.release_object.new.pages image c.self.invariant.kept taken.shape.frames taken.table taken.rows
-    c.release_object.ensures.shape.frames (c.release_object.ensures.released image (taken.spelled image (pages_spelled v image was))))
+    c.release_object.ensures.shape.frames (c.release_object.ensures.released image))
 
 pub returns-clause-rows : goal.returns-clause-rows
 returns-clause-rows c =
@@ -61,7 +60,7 @@ returns-clause-stages c =
     (λ image was.
     let middle = taken.spelled image (pages_spelled v image was) in
     spelled_without v c.index_of-i.result c.take_object-taken.result c.take_object-taken.new.objects.items (gone_is c) c.take_object-taken.new.pages c.release_object.new.pages image was middle taken.shape.frames taken.rows
-    (c.release_object.ensures.spelled image middle) c.release_object.ensures.shape.frames (c.release_object.ensures.released image middle)))
+    (c.release_object.ensures.spelled image middle) c.release_object.ensures.shape.frames (c.release_object.ensures.released image)))
 
 pub returns-clause-objects : goal.returns-clause-objects
 returns-clause-objects c =
