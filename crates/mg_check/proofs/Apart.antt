@@ -1,5 +1,5 @@
 -- Runs are apart exactly where no number lies in two of them; so a list can be tested in another order.
-use Rattle.std.specs.Prelude.{◌≡◌, ℕ, zero, suc, ◌+◌, ◌<◌, ◌≤◌, ◌==◌, ◌&&◌, ◌||◌, nat_le, nat_lt, not, Bool, true, false, List, [], ◌∷◌, All, if◌then◌else◌, length, slice_index_or}
+use Rattle.std.specs.Prelude.{◌≡◌, ℕ, zero, suc, ◌+◌, ◌<◌, ◌≤◌, ◌==◌, ◌&&◌, ◌||◌, nat_le, nat_lt, not, Bool, true, false, List, [], ◌∷◌, All, if◌then◌else◌, length, map, slice_index_or, sum_by}
 use Rattle.std.specs.List.{AllAdjacentBelow, list_any}
 use Rattle.std.specs.List.Sorted.{IsPermutation, IsSorted}
 use Rattle.std.specs.Ordering.{is_lt, nat_cmp, ordering_then}
@@ -11,7 +11,18 @@ use Rattle.std.proofs.lemmas.List.Sorted.{sum_by-IsPermutation, IsPermutation-ma
 use Rattle.std.proofs.lemmas.List.Sums.{sum_by-cons}
 use Rattle.std.proofs.Math.Nat.{zero-add}
 use Rattle.mg_model.specs.Tests.{all_distinct}
-use Rattle.mg_check.specs.Spans.{IsSome, apart_from, is_in, ordered_from, rises_from, times, unit, units}
+use Rattle.mg_check.specs.Spans.{IsSome, apart_from, is_in, ordered_from, rises_from}
+
+-- in how many runs it lies
+abbrev pub times : ℕ → List (ℕ × ℕ) → ℕ
+times n spans = sum_by (λ (span : ℕ × ℕ). if is_in n span then 1 else 0) spans
+
+-- a number as a run
+abbrev pub unit : ℕ → ℕ × ℕ
+unit n = (n, n + 1)
+
+abbrev pub units : List ℕ → List (ℕ × ℕ)
+units ns = map unit ns
 
 -- two tests that follow from each other
 pub both_ways : (a b : Bool) → (a ≡ true → b ≡ true) → (b ≡ true → a ≡ true) → a ≡ b

@@ -1,18 +1,15 @@
 -- A live account behind a free row is a gap.
-use Rattle.std.specs.Prelude.{◌≡◌, ◌≢◌, ℕ, zero, suc, ◌+◌, ◌-◌, ◌<◌, ◌==◌, false, List, [], ◌∷◌, ◌++◌, length, Option, Some, None}
+use Rattle.std.specs.Prelude.{◌≡◌, ◌≢◌, ℕ, zero, suc, ◌+◌, ◌-◌, ◌<◌, ◌==◌, false, List, [], ◌∷◌, ◌++◌, length, Option, Some}
 use Rattle.std.proofs.Common.{refl, sym, ap, ◌∙◌, subst, arith}
 use Rattle.std.proofs.lemmas.Bool.{and_left, and_right, ne_eqb}
 use Rattle.mg_model.specs.declared.accounts.AccRow.{AccRow}
 use Rattle.mg_model.specs.Spelling.{Read}
 use Rattle.mg_model.specs.Volume.{has_no_gap, live_rows, with_live}
 use Rattle.mg_model.specs.Words.{and_then}
+use Rattle.mg_check.specs.LiveRows.{and_then_some, with_live_more}
 use Rattle.mg_check.specs.RowsRead.{placed_from}
 use Rattle.mg_check.specs.RowsTold.{AreAccounts, HasGap}
 use Rattle.mg_check.specs.Told.{IsTold, NotSpelled}
-
-and_then_some : {X Y : Type 0} (o : Option X) (f : X → Option Y) (y : Y) → and_then o f ≡ Some y → (x : X) × (o ≡ Some x) × (f x ≡ Some y)
-and_then_some None f y is = absurd (cc)
-and_then_some (Some x) f y is = (x, refl, is)
 
 -- one account more
 placed_more : (i j : ℕ) (accounts : List AccRow) (row : AccRow) → i + length accounts ≡ j → placed_from i (accounts ++ row ∷ []) ≡ placed_from i accounts ++ (j, row) ∷ []
@@ -22,17 +19,18 @@ placed_more i j (a ∷ accounts) row at = ap (λ rest. (i, a) ∷ rest) (placed_
 pub accounts_more : (rows : List (ℕ × AccRow)) (old new : List AccRow) (i : ℕ) (row : AccRow) → AreAccounts old rows → length old ≡ i → new ≡ old ++ row ∷ [] → AreAccounts new (rows ++ (i, row) ∷ [])
 accounts_more rows old new i row are at more = ap (λ xs. xs ++ (i, row) ∷ []) are ∙ sym (placed_more 0 i old row (omega arith)) ∙ ap (placed_from 0) (sym more)
 
-with_live_after : (i : ℕ) (row : Option AccRow) (xs ys : List (ℕ × AccRow)) → with_live i row (xs ++ ys) ≡ with_live i row xs ++ ys
-with_live_after i None xs ys = refl
-with_live_after i (Some row) xs ys = refl
-
 gap_there : (i k : ℕ) (row : AccRow) (accounts : List AccRow) (rest : List (ℕ × AccRow)) → i + length accounts ≢ k → has_no_gap i (placed_from i accounts ++ (k, row) ∷ rest) ≡ false
 gap_there i k row [] rest other = and_left (k == i) (has_no_gap (i + 1) rest) (ne_eqb k i (λ same. other (omega arith)))
 gap_there i k row (a ∷ accounts) rest other = and_right (i == i) (has_no_gap (i + 1) (placed_from (i + 1) accounts ++ (k, row) ∷ rest)) (gap_there (i + 1) k row accounts rest (λ same. other (omega arith)))
 
 join : (i : ℕ) (a c : Option AccRow) (b d rest xs all : List (ℕ × AccRow)) → with_live i a b ≡ xs → with_live i c d ≡ all → c ≡ a → d ≡ b ++ rest → all ≡ xs ++ rest
 join i a c b d rest xs all first whole row more =
-    sym whole ∙ ap (λ o. with_live i o d) row ∙ ap (with_live i a) more ∙ with_live_after i a b rest ∙ ap (λ ys. ys ++ rest) first
+    sym whole ∙ ap (λ o. with_live i o d) row ∙ ap (with_live i a) more ∙ with_live_more i a b rest ∙ ap (λ ys. ys ++ rest) first
+
+with_last : (accounts : List AccRow) (k : ℕ) (row : AccRow) (o : Option AccRow) (rows xs rest behind : List (ℕ × AccRow)) → rows ≡ xs ++ rest → xs ≡ placed_from 0 accounts → with_live k o behind ≡ rest → o ≡ Some row
+    → rows ≡ placed_from 0 accounts ++ (k, row) ∷ behind
+with_last accounts k row o rows xs rest behind whole first last live =
+    whole ∙ ap (λ ys. ys ++ rest) first ∙ ap (λ ys. placed_from 0 accounts ++ ys) (sym last ∙ ap (λ l. with_live k l behind) live)
 
 module _ (read : ℕ → Read AccRow) where
   -- the live rows of the first places begin those of more places
@@ -80,6 +78,5 @@ module _ (read : ℕ → Read AccRow) where
               let b = and_then_some (live_rows read (k + 1) m) (λ rows. Some (with_live k a.0 rows)) parts.0 a.2 in
               let row_is : a.0 ≡ Some row = (let e = a.1 in cc) in
               let rest_is : with_live k a.0 b.0 ≡ parts.0 = (let e = b.2 in cc) in
-              let rows_are : rows ≡ placed_from 0 accounts ++ (k, row) ∷ b.0 =
-              parts.2 ∙ ap (λ xs. xs ++ parts.0) told.which ∙ ap (λ ys. placed_from 0 accounts ++ ys) (sym rest_is ∙ ap (λ o. with_live k o b.0) row_is) in
+              let rows_are = with_last accounts k row a.0 rows told.rows parts.0 b.0 parts.2 told.which rest_is row_is in
               ap (has_no_gap 0) rows_are ∙ gap_there 0 k row accounts b.0 (λ same. other (omega arith))

@@ -8,7 +8,7 @@ use Rattle.mg_model.specs.Volume.{live_rows, with_live}
 use Rattle.mg_model.specs.Words.{and_then}
 use Rattle.mg_check.specs.Told.{IsTold, NotSpelled}
 
-and_then_some : {X Y : Type 0} (o : Option X) (f : X → Option Y) (y : Y) → and_then o f ≡ Some y → (x : X) × (o ≡ Some x) × (f x ≡ Some y)
+pub and_then_some : {X Y : Type 0} (o : Option X) (f : X → Option Y) (y : Y) → and_then o f ≡ Some y → (x : X) × (o ≡ Some x) × (f x ≡ Some y)
 and_then_some None f y is = absurd (cc)
 and_then_some (Some x) f y is = (x, refl, is)
 
@@ -16,7 +16,7 @@ and_then_none : {X Y : Type 0} (o : Option X) (f : X → Option Y) → ((x : X) 
 and_then_none None f each = refl
 and_then_none (Some x) f each = each x
 
-with_live_more : {R : Type 0} (i : ℕ) (row : Option R) (xs ys : List (ℕ × R)) → with_live i row (xs ++ ys) ≡ with_live i row xs ++ ys
+pub with_live_more : {R : Type 0} (i : ℕ) (row : Option R) (xs ys : List (ℕ × R)) → with_live i row (xs ++ ys) ≡ with_live i row xs ++ ys
 with_live_more i None xs ys = refl
 with_live_more i (Some row) xs ys = refl
 

@@ -1,5 +1,5 @@
 -- Runs of numbers: each a pair of its first number and the one right behind it.
-use Rattle.std.specs.Prelude.{ℕ, ◌+◌, ◌<◌, ◌&&◌, nat_le, nat_lt, Bool, true, List, [], ◌∷◌, if◌then◌else◌, map, sum_by}
+use Rattle.std.specs.Prelude.{ℕ, ◌+◌, ◌<◌, ◌&&◌, nat_le, nat_lt, Bool, true, List, [], ◌∷◌}
 
 -- whether each run begins at or behind the end of the one before, and the first at or behind a bound
 abbrev pub apart_from : ℕ → List (ℕ × ℕ) → Bool
@@ -20,17 +20,6 @@ ordered_from bound (span ∷ spans) = nat_le bound span.0 && ordered_from span.0
 abbrev pub is_in : ℕ → ℕ × ℕ → Bool
 is_in n span = nat_le span.0 n && nat_lt n span.1
 
--- in how many runs it lies
-abbrev pub times : ℕ → List (ℕ × ℕ) → ℕ
-times n spans = sum_by (λ (span : ℕ × ℕ). if is_in n span then 1 else 0) spans
-
 -- a run has a number in it
 abbrev pub IsSome : ℕ × ℕ → Type 0
 IsSome span = span.0 < span.1
-
--- a number as a run
-abbrev pub unit : ℕ → ℕ × ℕ
-unit n = (n, n + 1)
-
-abbrev pub units : List ℕ → List (ℕ × ℕ)
-units ns = map unit ns

@@ -1,7 +1,9 @@
-//! Whether a disk holds a volume.
+//! Whether a disk holds a volume, and the rows of one.
 //!
-//! A layer above learns from [`examine`] what the image that reads give spells: no volume, an older one, a damaged one, or a
-//! state, exactly by the definition `volume` of `mg_model`, and without a write.
+//! A layer above learns from [`read_volume`] what the image that reads give spells: no volume, an older one, a damaged one, or
+//! a state, exactly by the definition `volume` of `mg_model`, and without a write. Of a volume it gets the rows and the frame
+//! table, which keep the rules between rows on every disk: `IsReadAs` and `AreKept` in `specs/RowsRead.antt`. [`examine`]
+//! tells what one counts in them.
 #![tactic(auto)]
 
 mod accounts;
