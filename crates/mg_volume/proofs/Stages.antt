@@ -13,6 +13,10 @@ pub same_shape : (v w : VolumeHeld) → w.settings ≡ v.settings → pages.Same
 unfolding settings_in is_live total_of words_in
 same_shape v w settings shape words = record { settings = settings; total = shape.total; live = shape.live; words = words }
 
+staged_least : (v w : VolumeHeld) (most : ℕ) → pages.StagesMore most v.pages w.pages → staged_of v ≤ staged_of w
+unfolding staged_of
+staged_least v w most more = more.least
+
 pub staged_more : (v w : VolumeHeld) (most : ℕ) → pages.StagesMore most v.pages w.pages → staged_of w ≤ staged_of v + most
 unfolding staged_of
 staged_more v w most more = more.staged
@@ -23,6 +27,7 @@ pub stages_is : (v w : VolumeHeld) (most : ℕ) → w.settings ≡ v.settings �
 stages_is v w most settings shape words more spelled = record {
   shape = same_shape v w settings shape words;
   spelled = spelled;
+  least = staged_least v w most more;
   staged = staged_more v w most more;
   still = still_staged v w more.still;
 }

@@ -16,10 +16,12 @@ use Rattle.mg_volume.specs.Held.{VolumeHeld}
 use Rattle.mg_volume.specs.Meaning.{IsSpelledBy, Keeps, SameShape, StandsOn, is_live, now_of, objects_in, staged_of, words_in}
 use Rattle.mg_volume.specs.Staging.{StillStaged}
 
--- At most so many blocks more are staged, without the disk: the volume is spelled where it was, and what waited waits still.
+-- At most so many blocks more are staged, and none fewer, without the disk: the volume is spelled where it was, and what waited
+-- waits still.
 pub record Stages (most : ℕ) (old new : VolumeHeld) : Type 0 where
   pub shape : SameShape old new
   pub spelled : (image : Image) → IsSpelledBy old image → IsSpelledBy new image
+  pub least : staged_of old ≤ staged_of new
   pub staged : staged_of new ≤ staged_of old + most
   pub still : StillStaged old new
 
@@ -50,11 +52,13 @@ pub record Reads {D : Type 0} (facts : Ghosts D) (old new : VolumeHeld) (before 
   pub count : CountGoes facts before after
   pub blocks : facts.block_count after ≡ facts.block_count before
 
--- Words were read, and perhaps blocks staged: at most so many more, and what waited waits still. Nothing was written.
+-- Words were read, and perhaps blocks staged: at most so many more and none fewer, and what waited waits still. Nothing was
+-- written.
 pub record Serves {D : Type 0} (most : ℕ) (facts : Ghosts D) (old new : VolumeHeld) (before after : D) (steps steps' : ℕ) : Type 0 where
   pub stands : StandsOn facts new after
   pub writes : WritesNothing facts before after
   pub live : is_live new ≡ is_live old
+  pub least : staged_of old ≤ staged_of new
   pub staged : staged_of new ≤ staged_of old + most
   pub still : StillStaged old new
   pub counted : CountsAlike (words_in old) (words_in new) steps steps'

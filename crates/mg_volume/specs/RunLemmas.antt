@@ -58,19 +58,20 @@ shape_then a b c first second = record {
 }
 
 pub stages_none : (most : ℕ) (v : VolumeHeld) → Stages most v v
-stages_none most v = record { shape = shape_none v; spelled = λ image is. is; staged = omega arith; still = still_none v }
+stages_none most v = record { shape = shape_none v; spelled = λ image is. is; least = omega arith; staged = omega arith; still = still_none v }
 
 pub stages_then : (n m : ℕ) (a b c : VolumeHeld) → Stages n a b → Stages m b c → Stages (n + m) a c
 stages_then n m a b c first second = record {
   shape = shape_then a b c first.shape second.shape;
   spelled = λ image is. second.spelled image (first.spelled image is);
+  least = let one = first.least in let more = second.least in omega arith;
   staged = let one = first.staged in let more = second.staged in omega arith;
   still = still_then a b c first.still second.still;
 }
 
 -- fewer may be said to be staged
 pub stages_wider : (n m : ℕ) (a b : VolumeHeld) → n ≤ m → Stages n a b → Stages m a b
-stages_wider n m a b fewer run = record { shape = run.shape; spelled = run.spelled; staged = let some = run.staged in omega arith; still = run.still }
+stages_wider n m a b fewer run = record { shape = run.shape; spelled = run.spelled; least = run.least; staged = let some = run.staged in omega arith; still = run.still }
 
 module _ {D : Type 0} (facts : Ghosts D) where
   -- a state that stays is as well formed as it was
@@ -125,6 +126,7 @@ module _ {D : Type 0} (facts : Ghosts D) where
     stands = run.stands;
     writes = run.writes;
     live = run.keeps.live;
+    least = let same = run.keeps.staged in omega arith;
     staged = let same = run.keeps.staged in omega arith;
     still = run.still;
     counted = run.counted;
@@ -138,6 +140,7 @@ module _ {D : Type 0} (facts : Ghosts D) where
     stands = second.stands;
     writes = nothing_then facts d e f first.writes second.writes;
     live = second.live ∙ first.keeps.live;
+    least = let same = first.keeps.staged in let more = second.least in omega arith;
     staged = let same = first.keeps.staged in let more = second.staged in omega arith;
     still = still_then a b c first.still second.still;
     counted = alike_then (words_in a) (words_in b) (words_in c) s t u first.counted second.counted;
@@ -151,6 +154,7 @@ module _ {D : Type 0} (facts : Ghosts D) where
     stands = staged_stands facts b c e run.stands more.shape more.spelled;
     writes = run.writes;
     live = more.shape.live ∙ run.keeps.live;
+    least = let same = run.keeps.staged in let some = more.least in omega arith;
     staged = let same = run.keeps.staged in let some = more.staged in omega arith;
     still = still_then a b c run.still more.still;
     counted = subst (λ words. CountsAlike (words_in a) words s t) (sym more.shape.words) run.counted;
@@ -168,6 +172,7 @@ module _ {D : Type 0} (facts : Ghosts D) where
     stands = run.stands;
     writes = run.writes;
     live = run.live;
+    least = run.least;
     staged = let some = run.staged in omega arith;
     still = run.still;
     counted = run.counted;

@@ -60,6 +60,7 @@ returns-clause-serves g c =
           (rows_same c.set_word.result g.D.Disk c.args.disk.now v c.set_word.new.self c.args.page c.args.index c.args.value said.sets said.failed);
       writes = said.writes;
       live = said.shape.live;
+      least = said.staged.least;
       staged = said.staged.staged;
       still = still_staged v (with_pages v c.set_word.new.self) said.staged.still;
       counted = counted c.set_word.result c.self.inside.pages c.set_word.new.self c.args.steps.now c.set_word.new.steps said.counts said.counts_failed;
