@@ -4,6 +4,7 @@ use Rattle.std.specs.Prelude.{find, map, nat_le, nat_lt, option_map, slice_index
 use Rattle.std.specs.List.{list_all, list_any}
 use Rattle.std.specs.Option.{option_map_or}
 use Rattle.std.proofs.lemmas.Bool.{and_from, and_parts, eqb-true, leb-true, le-leb, lt-ltb, ltb-true, or_left, or_right}
+use Rattle.mg_calls_dom.specs.KnownLemmas.{find-rows}
 use Rattle.mg_calls_dom.specs.Searching.{words_based}
 use Rattle.mg_model.specs.declared.slots.Slot.{Slot}
 use Rattle.mg_model.specs.Access.{at, based_at, covers}
@@ -14,16 +15,6 @@ use Rattle.mg_model.specs.Tests.{all_distinct, is_entry_of, is_object_row, is_pa
 use Rattle.mg_model.specs.TestsTell.{place-tells}
 use Rattle.mg_model.specs.Volume.{are_apart}
 use Rattle.mg_volume.specs.Meaning.{is_page_in}
-
--- a row that is found is that of the object that is found
-pub find-rows : (test : ObjectRow → Bool) (objects : List Object) → find test (map (λ (o : Object). o.row) objects) ≡ option_map (λ (o : Object). o.row) (find (λ (o : Object). test o.row) objects)
-find-rows test [] = refl
-find-rows test (o ∷ objects) = by_test (test o.row) (find-rows test objects)
-  where
-    by_test : (v : Bool) → find test (map (λ (o : Object). o.row) objects) ≡ option_map (λ (o : Object). o.row) (find (λ (o : Object). test o.row) objects)
-        → (if v then Some o.row else find test (map (λ (o : Object). o.row) objects)) ≡ option_map (λ (o : Object). o.row) (if v then Some o else find (λ (o : Object). test o.row) objects)
-    by_test true later = refl
-    by_test false later = later
 
 -- the object behind a row
 pub found-object : (o : Option Object) (row : ObjectRow) → option_map (λ (o : Object). o.row) o ≡ Some row → (object : Object) × (o ≡ Some object) × (object.row ≡ row)

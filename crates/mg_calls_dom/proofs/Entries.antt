@@ -5,7 +5,7 @@ use Rattle.std.specs.List.{list_any}
 use Rattle.std.specs.Option.{option_map_or}
 use Rattle.std.proofs.lemmas.List.Folds.{list_any-append}
 use Rattle.mg_calls_dom.specs.Searching.{entry_at, opens, slot_opens}
-use Rattle.mg_calls_dom.specs.declared.validating.Sought.{Sought}
+use Rattle.mg_calls_dom.specs.declared.lists.Sought.{Sought}
 use Rattle.mg_model.specs.declared.slots.Slot.{Slot}
 use Rattle.mg_model.specs.Access.{at, capabilities, entries_from, entries_of, entries_under, reaches}
 use Rattle.mg_model.specs.State.{Object, State}

@@ -4,10 +4,11 @@ use Rattle.std.specs.Prelude.{find, map, option_map}
 use Rattle.std.specs.List.{list_any}
 use Rattle.std.specs.Option.{option_map_or}
 use Rattle.std.proofs.lemmas.Bool.{eqb-true}
-use Rattle.mg_calls_dom.proofs.Apart.{find-rows, found-none, found-object, found-passes}
+use Rattle.mg_calls_dom.proofs.Apart.{found-none, found-object, found-passes}
+use Rattle.mg_calls_dom.specs.KnownLemmas.{find-rows}
 use Rattle.mg_calls_dom.proofs.Entries.{reaches-at}
 use Rattle.mg_calls_dom.specs.Searching.{opens, reached_row, slot_opens, words_based}
-use Rattle.mg_calls_dom.specs.declared.validating.Sought.{Sought}
+use Rattle.mg_calls_dom.specs.declared.lists.Sought.{Sought}
 use Rattle.mg_model.specs.declared.rights.Right.{Right}
 use Rattle.mg_model.specs.declared.rights.Right.TheVariants.{R}
 use Rattle.mg_model.specs.declared.slots.Slot.{Slot}

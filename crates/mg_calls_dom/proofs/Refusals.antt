@@ -14,24 +14,6 @@ use Rattle.mg_model.specs.Refused.{first_refusal}
 use Rattle.mg_model.specs.State.{Object, ObjectRow, State, Thread}
 
 module _ (state : State) (t a : ℕ) (right : Right) where
-  -- the slots of a thread that lives
-  thread-slots : (thread : Thread) (slots : List Slot) → thread_of state t ≡ Some thread → slots ≡ last_slots thread.row.frames → domain_of state t ≡ slots
-  thread-slots thread slots lives is = ap (λ (o : Option Thread). option_map_or (λ (x : Thread). last_slots x.row.frames) o []) lives ∙ sym is
-
-  -- what its slots reach it may reach
-  pub allowed-somebody : (thread : Thread) (slots : List Slot) → thread_of state t ≡ Some thread → slots ≡ last_slots thread.row.frames → reached_row state slots a right ≡ allowed_row state t a right
-  allowed-somebody thread slots lives is = ap (λ s. reached_row state s a right) (sym (thread-slots thread slots lives is))
-
-  -- and nobody reaches anything
-  pub allowed-nobody : thread_of state t ≡ None → None ≡ allowed_row state t a right
-  allowed-nobody none =
-      sym (ap (λ (o : Option Thread). reached_row state (option_map_or (λ (x : Thread). last_slots x.row.frames) o []) a right) none
-      ∙ ap (λ v. if v then option_map (λ (object : Object). object.row) (at state.objects a) else None) (slotless (at state.objects a)))
-    where
-      slotless : (o : Option Object) → option_map_or (λ (object : Object). list_any (λ (entry : ℕ × ℕ). entry.0 == object.row.base && holds state.counters.period object.row entry.1 right) (capabilities state.objects state.counters.period [])) o false ≡ false
-      slotless None = refl
-      slotless (Some object) = refl
-
   by_access : (v : Bool) → is_aligned a ≡ true → allowed state t a right ≡ v → access_refusal state t a right ≡ (if not v then Some Denied else None)
   by_access v on may = ap (λ b. if not b then Some Align else first_refusal ((not (allowed state t a right), Denied) ∷ [])) on ∙ ap (λ b. if not b then Some Denied else None) may
 

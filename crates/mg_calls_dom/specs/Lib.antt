@@ -1,4 +1,7 @@
 -- Definitions.
 pub mod Searching
+pub mod Known
 -- Lemmas that crates above cite. None of them is part of a statement.
+pub mod KnownLemmas
+pub mod LineLemmas
 pub mod ReachedLemmas

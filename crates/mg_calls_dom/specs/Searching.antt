@@ -1,12 +1,14 @@
 -- What the search for an access asks of the words of an object.
-use Rattle.std.specs.Prelude.{ℕ, ◌+◌, ◌*◌, ◌==◌, ◌&&◌, Bool, not, List, [], ◌∷◌, if◌then◌else◌, option_map, slice_index, Option, None}
+use Rattle.std.specs.Prelude.{ℕ, ◌≡◌, true, Contains, ◌+◌, ◌*◌, ◌==◌, ◌&&◌, Bool, not, List, [], ◌∷◌, if◌then◌else◌, option_map, slice_index, Option, None}
 use Rattle.std.specs.List.{list_any}
 use Rattle.std.specs.Option.{option_map_or}
-use Rattle.mg_calls_dom.specs.declared.validating.Sought.{Sought}
+use Rattle.mg_calls_dom.specs.declared.lists.Sought.{Sought}
 use Rattle.mg_model.specs.declared.replies.Refusal.{Refusal}
 use Rattle.mg_model.specs.declared.replies.Refusal.TheVariants.{Align, Denied}
 use Rattle.mg_model.specs.declared.rights.Right.{Right}
 use Rattle.mg_model.specs.declared.slots.Slot.{Slot}
+use Rattle.mg_model.specs.Accesses.{Access, word_access}
+use Rattle.mg_model.specs.Threads.{is_thread}
 use Rattle.mg_model.specs.Access.{allowed, at, based_at, entries_under, holds, reaches}
 use Rattle.mg_model.specs.ObjectCalls.{is_aligned}
 use Rattle.mg_model.specs.Refused.{first_refusal}
@@ -28,6 +30,13 @@ opens sought entry = entry.0 == sought.object.base && holds sought.period sought
 abbrev pub slot_opens : State → Sought → Slot → Bool
 slot_opens state sought slot = list_any (λ entry. opens sought entry) (entries_under state.objects sought.period slot)
 
+-- one of these slots opens it, by the capability list with this base
+pub record IsOpenedBy (state : State) (sought : Sought) (slots : List Slot) (via : ℕ) : Type 0 where
+  pub slot : Slot
+  pub among : Contains slots slot
+  pub base : slot.base ≡ via
+  pub opened : slot_opens state sought slot ≡ true
+
 -- the row of the object that has the address, where these slots reach it with the right
 abbrev pub reached_row : State → List Slot → ℕ → Right → Option ObjectRow
 reached_row state slots address right =
@@ -40,3 +49,7 @@ allowed_row state t address right = if allowed state t address right then option
 -- why a load or a store is refused, with the right that it wants
 abbrev pub access_refusal : State → ℕ → ℕ → Right → Option Refusal
 access_refusal state t a right = first_refusal ((not (is_aligned a), Align) ∷ (not (allowed state t a right), Denied) ∷ [])
+
+-- the access of a load or a store, with the right that it wants; one of no thread makes none
+abbrev pub word_accesses : State → ℕ → ℕ → Right → List Access
+word_accesses state t a right = if is_thread state t then word_access t a right else []

@@ -1,20 +1,26 @@
 // The calls on words.
-ghost use Rattle.std.specs.Prelude.{List, ◌≡◌, ◌≤◌, ◌<◌, ◌/◌, ◌%◌, ℕ, true, IfOk, MatchResult, None, OnErr, Some};
+ghost use Rattle.std.specs.Prelude.{List, ◌≡◌, ◌≤◌, ◌<◌, ◌+◌, ◌-◌, ◌/◌, ◌%◌, ℕ, true, nat_lt, if◌then◌else◌, IfOk, MatchResult, None, OnErr, OnOk, Some};
 ghost use Rattle.std.specs.Option.{ForSome};
-ghost use Rattle.mg_calls_dom.specs.Searching.{access_refusal};
+ghost use Rattle.mg_calls_dom.specs.Searching.{access_refusal, allowed_row, word_accesses};
 ghost use Rattle.mg_disk.specs.Stops.{CountRose};
 ghost use Rattle.mg_model.specs.Access.{covers};
+ghost use Rattle.mg_model.specs.Backed.{by_via};
 ghost use Rattle.mg_model.specs.FewSlots.{HasFewSlots};
+ghost use Rattle.mg_model.specs.Kept.{KeepsLine, KeepsRules, line_limit, searches_limit};
+ghost use Rattle.mg_model.specs.Limits.{page_size};
 ghost use Rattle.mg_model.specs.ObjectCalls as calls;
 ghost use Rattle.mg_model.specs.Refused.{IsRefusal};
+ghost use Rattle.mg_vcache.specs.Seats.{AllBacked, is_kept, without};
 ghost use Rattle.mg_volume.specs.Calls.{IsSoundOn, Reads, Serves};
 ghost use Rattle.mg_volume.specs.Meaning.{Keeps, has_page, is_page_in, now_of, staged_of};
 
 use crate::validating::reach;
 use mg_disk::Disk;
 use mg_faults::Failed;
+use mg_laws::{accesses_keep_the_rules_of_a_line, steps_keep_backing, stores_end_one_list};
 use mg_model::limits::PAGE_SIZE;
-use mg_model::{ObjRow, Refusal, Reply, Right, Steps};
+use mg_model::{Call, Line, ObjRow, Refusal, Reply, Right, Steps};
+use mg_vcache::VCache;
 use mg_volume::Volume;
 use std::sync::ledger::Ledger;
 
@@ -25,27 +31,37 @@ const WORD: u64 = 8;
 /// thread lives. [`Failed`] comes only where a call of the disk failed. The state stays.
 pub fn load<D: Disk, L: Ledger>(
     v: &mut Volume,
+    c: &mut VCache,
     disk: &mut D,
     t: u64,
     a: u64,
     steps: &mut Steps<L>,
 ) -> Result<Reply, Failed>
     requires sound { IsSoundOn D.Disk v.old disk.old }
+    requires backed { ForSome (D.seen disk.old) (λ image. AllBacked (now_of v.old image) c.old) }
     ensures answers { IfOk result (λ reply. ForSome (D.seen disk.old) (λ image. calls.load (now_of v.old image) t a ≡ (now_of v.new image, reply))) }
     ensures slots { IfOk result HasFewSlots }
+    ensures backed { ForSome (D.seen disk.old) (λ image. AllBacked (now_of v.new image) c.new) }
+    ensures keeps { OnOk result (ForSome (D.seen disk.old) (λ image. KeepsLine (now_of v.old image) (record { thread = t; call = Call.Load a }) (λ key. is_kept c.old key) (λ key. is_kept c.new key) steps.old steps.new)) }
+    ensures limit { ForSome (D.seen disk.old) (λ image. steps.new ≤ steps.old + line_limit (λ key. is_kept c.old key) (now_of v.old image) (record { thread = t; call = Call.Load a })) }
     ensures reads { Reads D.Disk v.old v.new disk.old disk.new steps.old steps.new }
     ensures cause { OnErr result (CountRose D.Disk disk.old disk.new) }
 {
-    match word_page(v, disk, t, a, Right::R, steps)? {
-        Ok(page) => Ok(Reply::Value(v.word(disk, page, index_of(a), steps)?)),
+    match word_object(v, c, disk, t, a, Right::R, steps)? {
+        Ok(object) => {
+            let page = page_of(&object, a);
+            Ok(Reply::Value(v.word(disk, page, index_of(a), steps)?))
+        }
         Err(word) => Ok(Reply::No(word)),
     }
 }
 
-/// Another word at an address. The refusals come in the order of `load`, with W in place of R. [`Failed`] comes only where a
-/// call of the disk failed, and the state then stays, as where the call is refused.
+/// Another word at an address. The refusals come in the order of `load`, with W in place of R. A store to the first page of an
+/// object drops what is kept of the rights that its list gave. [`Failed`] comes only where a call of the disk failed, and the
+/// state then stays, as where the call is refused.
 pub fn store<D: Disk, L: Ledger>(
     v: &mut Volume,
+    c: &mut VCache,
     disk: &mut D,
     t: u64,
     a: u64,
@@ -54,43 +70,61 @@ pub fn store<D: Disk, L: Ledger>(
 ) -> Result<Reply, Failed>
     requires sound { IsSoundOn D.Disk v.old disk.old }
     requires few { staged_of v.old ≤ 158 }
+    requires backed { ForSome (D.seen disk.old) (λ image. AllBacked (now_of v.old image) c.old) }
     ensures answers { IfOk result (λ reply. ForSome (D.seen disk.old) (λ image. calls.store (now_of v.old image) t a value ≡ (now_of v.new image, reply))) }
     ensures refused { IfOk result (λ reply. IsRefusal reply → staged_of v.new ≡ staged_of v.old) }
     ensures failed { OnErr result (Keeps v.old v.new) }
     ensures slots { IfOk result HasFewSlots }
+    ensures backed { ForSome (D.seen disk.old) (λ image. AllBacked (now_of v.new image) c.new) }
+    ensures keeps { OnOk result (ForSome (D.seen disk.old) (λ image. KeepsLine (now_of v.old image) (record { thread = t; call = Call.Store a value }) (λ key. is_kept c.old key) (λ key. is_kept c.new key) steps.old steps.new)) }
+    ensures limit { ForSome (D.seen disk.old) (λ image. steps.new ≤ steps.old + line_limit (λ key. is_kept c.old key) (now_of v.old image) (record { thread = t; call = Call.Store a value })) }
     ensures serves { Serves 2 D.Disk v.old v.new disk.old disk.new steps.old steps.new }
     ensures cause { OnErr result (CountRose D.Disk disk.old disk.new) }
 {
-    match word_page(v, disk, t, a, Right::W, steps)? {
-        Ok(page) => {
+    steps_keep_backing();
+    stores_end_one_list();
+    match word_object(v, c, disk, t, a, Right::W, steps)? {
+        Ok(object) => {
+            let page = page_of(&object, a);
             v.set_word(disk, page, index_of(a), value, steps)?;
+            drop_written(c, &object, a);
             Ok(Reply::Done)
         }
         Err(word) => Ok(Reply::No(word)),
     }
 }
 
-// The page of the word that a thread reads or writes, or why it may not. An address that is no multiple of 8 is refused before
-// any word is read.
-fn word_page<D: Disk, L: Ledger>(
+// The object of the word that a thread reads or writes, or why it may not. An address that is no multiple of 8 is refused
+// before any word is read.
+fn word_object<D: Disk, L: Ledger>(
     v: &mut Volume,
+    c: &mut VCache,
     disk: &mut D,
     t: u64,
     a: u64,
     right: Right,
     steps: &mut Steps<L>,
-) -> Result<Result<u64, Refusal>, Failed>
+) -> Result<Result<ObjRow, Refusal>, Failed>
     requires sound { IsSoundOn D.Disk v.old disk.old }
-    ensures refusal { IfOk result (λ page. ForSome (D.seen disk.old) (λ image. MatchResult page (λ _. access_refusal (now_of v.old image) t a right ≡ None) (λ word. access_refusal (now_of v.old image) t a right ≡ Some word))) }
-    ensures page { IfOk result (λ answer. IfOk answer (λ page. (page ≡ a / 4096) × (has_page v.new page ≡ true) × (a % 8 ≡ 0))) }
+    requires backed { ForSome (D.seen disk.old) (λ image. AllBacked (now_of v.old image) c.old) }
+    ensures refusal { IfOk result (λ object. ForSome (D.seen disk.old) (λ image. MatchResult object (λ _. access_refusal (now_of v.old image) t a right ≡ None) (λ word. access_refusal (now_of v.old image) t a right ≡ Some word))) }
+    ensures row { IfOk result (λ answer. IfOk answer (λ object. ForSome (D.seen disk.old) (λ image. Some object ≡ allowed_row (now_of v.old image) t a right))) }
+    ensures place { IfOk result (λ answer. IfOk answer (λ object. (covers object a ≡ true) × (has_page v.new (a / 4096) ≡ true) × (a % 8 ≡ 0))) }
+    ensures backed { ForSome (D.seen disk.old) (λ image. AllBacked (now_of v.new image) c.new) }
+    ensures rules { OnOk result (ForSome (D.seen disk.old) (λ image. KeepsRules (now_of v.old image) (word_accesses (now_of v.old image) t a right) (λ key. is_kept c.old key) (λ key. is_kept c.new key) (steps.new - steps.old))) }
+    ensures limit { ForSome (D.seen disk.old) (λ image. steps.new ≤ steps.old + searches_limit (λ key. is_kept c.old key) (now_of v.old image) (word_accesses (now_of v.old image) t a right)) }
     ensures reads { Reads D.Disk v.old v.new disk.old disk.new steps.old steps.new }
     ensures cause { OnErr result (CountRose D.Disk disk.old disk.new) }
 {
+    accesses_keep_the_rules_of_a_line();
     if a % WORD != 0 {
         return Ok(Err(Refusal::Align));
     }
-    match reach(v, disk, t, a, right, steps)? {
-        Some(object) => Ok(Ok(page_of(&object, a))),
+    match reach(v, c, disk, t, a, right, steps)? {
+        Some(object) => {
+            let _kept = object.base();
+            Ok(Ok(object))
+        }
         None => Ok(Err(Refusal::Denied)),
     }
 }
@@ -110,4 +144,15 @@ fn index_of(a: u64) -> u64
     ensures { result ≡ a % 4096 / 8 }
 {
     a % PAGE_SIZE / WORD
+}
+
+// A word at this address of an object was written: where it lies in the first page, what the list there gave is dropped.
+fn drop_written(c: &mut VCache, object: &ObjRow, a: u64)
+    requires { covers object.now a ≡ true }
+    ensures { c.new ≡ (if nat_lt a (object.now.base + page_size) then without (by_via object.now.base) c.old else c.old) }
+{
+    let base = object.base();
+    if a - base < PAGE_SIZE {
+        c.drop_via(base);
+    }
 }

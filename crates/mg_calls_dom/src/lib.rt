@@ -10,6 +10,7 @@
 #![tactic(auto)]
 
 mod access;
+mod lists;
 mod validating;
 
 pub use access::{load, store};

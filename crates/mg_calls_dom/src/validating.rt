@@ -1,172 +1,31 @@
-// The search for what a thread may reach. It is made anew for each access, over the words of the moment.
-ghost use Rattle.std.specs.Prelude.{List, ◌≡◌, ◌≤◌, ◌<◌, ◌==◌, ℕ, true, false, find, if◌then◌else◌, option_map, length, slice_index, IfOk, IfSome, None, OnErr, OnOk, Some};
-ghost use Rattle.std.specs.List.{list_any};
+// Whether an access is allowed: by what is kept of earlier ones, or by a search.
+ghost use Rattle.std.specs.Prelude.{List, ◌≡◌, ◌≢◌, ◌≤◌, ◌+◌, ◌-◌, ◌==◌, ℕ, true, find, if◌then◌else◌, option_map, IfOk, IfSome, None, OnErr, OnOk, Some};
 ghost use Rattle.std.specs.Option.{ForSome};
+ghost use Rattle.mg_calls_dom.specs.Known.{rows_know};
 ghost use Rattle.mg_calls_dom.specs.Searching as searching;
 ghost use Rattle.mg_disk.specs.Stops.{CountRose};
-ghost use Rattle.mg_model.specs.Access.{allowed, at, covers, entries_of};
+ghost use Rattle.mg_model.specs.Access.{allowed, at, covers};
+ghost use Rattle.mg_model.specs.Kept.{Validates, access_limit};
+ghost use Rattle.mg_model.specs.Keys.{Key, seat_of};
+ghost use Rattle.mg_model.specs.Limits.{search_limit};
+ghost use Rattle.mg_vcache.specs.Seats.{AllBacked, is_kept};
 ghost use Rattle.mg_volume.specs.Calls.{IsSoundOn, Reads};
-ghost use Rattle.mg_volume.specs.Meaning.{now_of, objects_in};
+ghost use Rattle.mg_volume.specs.Meaning.{now_of, objects_in, threads_in};
 
+use crate::lists::{list_of, Sought};
 use mg_disk::Disk;
 use mg_faults::Failed;
-use mg_model::limits::{ENTRY_LIMIT, PAGE_SIZE};
-use mg_model::{ObjRow, Right, Slot, Steps};
+use mg_laws::backed_seats_are_allowed;
+use mg_model::{ObjRow, Right, Steps};
+use mg_vcache::VCache;
 use mg_volume::Volume;
 use std::sync::ledger::Ledger;
 
-/// What is looked for in capability lists: an object, and a right to it at a period.
-#[derive(Drop)]
-pub(crate) struct Sought {
-    object: ObjRow,
-    right: Right,
-    period: u64,
-}
-
-// A word of the first page of an object, which is its capability list.
-fn list_word<D: Disk, L: Ledger>(
+// The row of the object that has an address, where a thread may reach it with the right. A right that is kept is not
+// searched for, and one that is found is kept.
+fn found<D: Disk, L: Ledger>(
     v: &mut Volume,
-    disk: &mut D,
-    clist: &ObjRow,
-    index: u64,
-    steps: &mut Steps<L>,
-) -> Result<u64, Failed>
-    requires sound { IsSoundOn D.Disk v.old disk.old }
-    requires held { find (λ row. row.base == clist.now.base) (objects_in v.old) ≡ Some clist.now }
-    requires index { index < 512 }
-    ensures word { IfOk result (λ word. ForSome (D.seen disk.old) (λ image. word ≡ slice_index (searching.words_based (now_of v.old image).objects clist.now.base) index)) }
-    ensures reads { Reads D.Disk v.old v.new disk.old disk.new steps.old steps.new }
-    ensures cause { OnErr result (CountRose D.Disk disk.old disk.new) }
-{
-    v.word(disk, clist.base() / PAGE_SIZE, index, steps)
-}
-
-// Whether the entry at place j of a capability list is for the object that is sought, with a password that gives the right.
-// The password is read only where the base is the object's.
-fn entry_opens<D: Disk, L: Ledger>(
-    v: &mut Volume,
-    disk: &mut D,
-    clist: &ObjRow,
-    j: u64,
-    sought: &Sought,
-    steps: &mut Steps<L>,
-) -> Result<bool, Failed>
-    requires sound { IsSoundOn D.Disk v.old disk.old }
-    requires held { find (λ row. row.base == clist.now.base) (objects_in v.old) ≡ Some clist.now }
-    requires place { j < 255 }
-    ensures opens { IfOk result (λ found. ForSome (D.seen disk.old) (λ image. found ≡ searching.opens sought.now (searching.entry_at (searching.words_based (now_of v.old image).objects clist.now.base) j))) }
-    ensures reads { Reads D.Disk v.old v.new disk.old disk.new steps.old steps.new }
-    ensures cause { OnErr result (CountRose D.Disk disk.old disk.new) }
-{
-    let base = list_word(v, disk, clist, 2 + 2 * j, steps)?;
-    if base != sought.object.base() {
-        return Ok(false);
-    }
-    let password = list_word(v, disk, clist, 3 + 2 * j, steps)?;
-    Ok(sought.object.holds(password, sought.right, sought.period))
-}
-
-// Whether an entry of a capability list opens the object. The search stops at the first that does.
-fn list_opens<D: Disk, L: Ledger>(
-    v: &mut Volume,
-    disk: &mut D,
-    clist: &ObjRow,
-    sought: &Sought,
-    steps: &mut Steps<L>,
-) -> Result<bool, Failed>
-    requires sound { IsSoundOn D.Disk v.old disk.old }
-    requires held { find (λ row. row.base == clist.now.base) (objects_in v.old) ≡ Some clist.now }
-    ensures opens { IfOk result (λ found. ForSome (D.seen disk.old) (λ image. found ≡ list_any (λ entry. searching.opens sought.now entry) (entries_of (searching.words_based (now_of v.old image).objects clist.now.base)))) }
-    ensures reads { Reads D.Disk v.old v.new disk.old disk.new steps.old steps.new }
-    ensures cause { OnErr result (CountRose D.Disk disk.old disk.new) }
-{
-    let count = list_word(v, disk, clist, 0, steps)?.min(ENTRY_LIMIT);
-    for j in 0..count {
-        if entry_opens(v, disk, clist, j, sought, steps)? {
-            return Ok(true);
-        }
-    }
-    Ok(false)
-}
-
-// Whether a slot's capability list is opened by the slot's password, and opens the object.
-fn slot_opens<D: Disk, L: Ledger>(
-    v: &mut Volume,
-    disk: &mut D,
-    slot: &Slot,
-    sought: &Sought,
-    steps: &mut Steps<L>,
-) -> Result<bool, Failed>
-    requires sound { IsSoundOn D.Disk v.old disk.old }
-    ensures opens { IfOk result (λ found. ForSome (D.seen disk.old) (λ image. found ≡ searching.slot_opens (now_of v.old image) sought.now slot.now)) }
-    ensures reads { Reads D.Disk v.old v.new disk.old disk.new steps.old steps.new }
-    ensures cause { OnErr result (CountRose D.Disk disk.old disk.new) }
-{
-    let Some(clist) = v.object(slot.base) else {
-        return Ok(false);
-    };
-    if !clist.holds(slot.password, Right::R, sought.period) {
-        return Ok(false);
-    }
-    list_opens(v, disk, &clist, sought, steps)
-}
-
-// Whether one of these slots opens the object. The search stops at the first that does.
-fn domain_opens<D: Disk, L: Ledger>(
-    v: &mut Volume,
-    disk: &mut D,
-    slots: &[Slot],
-    sought: &Sought,
-    steps: &mut Steps<L>,
-) -> Result<bool, Failed>
-    requires sound { IsSoundOn D.Disk v.old disk.old }
-    ensures opens { IfOk result (λ found. ForSome (D.seen disk.old) (λ image. found ≡ list_any (λ slot. searching.slot_opens (now_of v.old image) sought.now slot) slots.now)) }
-    ensures reads { Reads D.Disk v.old v.new disk.old disk.new steps.old steps.new }
-    ensures cause { OnErr result (CountRose D.Disk disk.old disk.new) }
-{
-    for slot in slots {
-        if slot_opens(v, disk, slot, sought, steps)? {
-            return Ok(true);
-        }
-    }
-    Ok(false)
-}
-
-// The row of the object that has an address, where these slots reach it with the right.
-fn reached<D: Disk, L: Ledger>(
-    v: &mut Volume,
-    disk: &mut D,
-    slots: &[Slot],
-    a: u64,
-    right: Right,
-    steps: &mut Steps<L>,
-) -> Result<Option<ObjRow>, Failed>
-    requires sound { IsSoundOn D.Disk v.old disk.old }
-    ensures row { IfOk result (λ found. ForSome (D.seen disk.old) (λ image. found ≡ searching.reached_row (now_of v.old image) slots.now a right)) }
-    ensures covers { IfOk result (λ found. IfSome found (λ row. find (λ row. covers row a) (objects_in v.new) ≡ Some row)) }
-    ensures own { IfOk result (λ found. IfSome found (λ row. find (λ other. other.base == row.base) (objects_in v.new) ≡ Some row)) }
-    ensures reads { Reads D.Disk v.old v.new disk.old disk.new steps.old steps.new }
-    ensures cause { OnErr result (CountRose D.Disk disk.old disk.new) }
-{
-    let Some(object) = v.covering(a) else {
-        return Ok(None);
-    };
-    let sought = Sought {
-        object,
-        right,
-        period: v.globals().period(),
-    };
-    if domain_opens(v, disk, slots, &sought, steps)? {
-        Ok(Some(object))
-    } else {
-        Ok(None)
-    }
-}
-
-/// The row of the object that has an address, where a thread may reach it with the right; None where it may not, or no such
-/// thread lives. It is the row with its base, too. [`Failed`] comes only where a call of the disk failed. The state stays.
-pub fn reach<D: Disk, L: Ledger>(
-    v: &mut Volume,
+    c: &mut VCache,
     disk: &mut D,
     t: u64,
     a: u64,
@@ -174,22 +33,85 @@ pub fn reach<D: Disk, L: Ledger>(
     steps: &mut Steps<L>,
 ) -> Result<Option<ObjRow>, Failed>
     requires sound { IsSoundOn D.Disk v.old disk.old }
+    requires backed { ForSome (D.seen disk.old) (λ image. AllBacked (now_of v.old image) c.old) }
     ensures row { IfOk result (λ found. ForSome (D.seen disk.old) (λ image. found ≡ searching.allowed_row (now_of v.old image) t a right)) }
     ensures covers { IfOk result (λ found. IfSome found (λ row. find (λ row. covers row a) (objects_in v.new) ≡ Some row)) }
     ensures own { IfOk result (λ found. IfSome found (λ row. find (λ other. other.base == row.base) (objects_in v.new) ≡ Some row)) }
+    ensures backed { ForSome (D.seen disk.old) (λ image. AllBacked (now_of v.new image) c.new) }
+    ensures kept { IfOk result (λ found. IfSome found (λ row. is_kept c.new (record { thread = t; base = row.base; right = right }) ≡ true)) }
+    ensures others { IfOk result (λ found. IfSome found (λ row. (key : Key) → seat_of key ≢ seat_of (record { thread = t; base = row.base; right = right }) → is_kept c.new key ≡ is_kept c.old key)) }
+    ensures none { IfOk result (λ found. found ≡ None → c.new ≡ c.old) }
+    ensures failed { OnErr result (c.new ≡ c.old) }
+    ensures known { rows_know (objects_in v.old) c.old t a right ≡ true → (disk.new ≡ disk.old) × (steps.new ≡ steps.old) }
+    ensures nobody { find (λ thread. thread.number == t) (threads_in v.old) ≡ None → steps.new ≡ steps.old }
+    ensures few { steps.new ≤ steps.old + search_limit }
     ensures reads { Reads D.Disk v.old v.new disk.old disk.new steps.old steps.new }
     ensures cause { OnErr result (CountRose D.Disk disk.old disk.new) }
 {
-    match v.frame(t) {
-        Some(frame) => reached(v, disk, frame.slots(), a, right, steps),
+    backed_seats_are_allowed();
+    let Some(object) = v.covering(a) else {
+        return Ok(None);
+    };
+    if c.hit(t, object.base(), right) {
+        return Ok(Some(object));
+    }
+    let sought = Sought {
+        object,
+        right,
+        period: v.globals().period(),
+    };
+    match list_of(v, disk, t, &sought, steps)? {
+        Some(via) => {
+            c.fill(t, object.base(), right, via);
+            Ok(Some(object))
+        }
         None => Ok(None),
     }
 }
 
+/// The row of the object that has an address, where a thread may reach it with the right; None where it may not, or no such
+/// thread lives. It is the row with its base, too.
+///
+/// Where the right is kept no word is read and no call is made on the disk; else at most 4,088 words are read, and a right
+/// that is found is kept then, in its own seat. [`Failed`] comes only where a call of the disk failed. The state stays, and
+/// so does each seat where no row is given.
+pub fn reach<D: Disk, L: Ledger>(
+    v: &mut Volume,
+    c: &mut VCache,
+    disk: &mut D,
+    t: u64,
+    a: u64,
+    right: Right,
+    steps: &mut Steps<L>,
+) -> Result<Option<ObjRow>, Failed>
+    requires sound { IsSoundOn D.Disk v.old disk.old }
+    requires backed { ForSome (D.seen disk.old) (λ image. AllBacked (now_of v.old image) c.old) }
+    ensures row { IfOk result (λ found. ForSome (D.seen disk.old) (λ image. found ≡ searching.allowed_row (now_of v.old image) t a right)) }
+    ensures covers { IfOk result (λ found. IfSome found (λ row. find (λ row. covers row a) (objects_in v.new) ≡ Some row)) }
+    ensures own { IfOk result (λ found. IfSome found (λ row. find (λ other. other.base == row.base) (objects_in v.new) ≡ Some row)) }
+    ensures backed { ForSome (D.seen disk.old) (λ image. AllBacked (now_of v.new image) c.new) }
+    ensures keeps { OnOk result (ForSome (D.seen disk.old) (λ image. Validates (now_of v.old image) (record { thread = t; address = a; right = right }) (λ key. is_kept c.old key) (λ key. is_kept c.new key) (steps.new - steps.old))) }
+    ensures limit { ForSome (D.seen disk.old) (λ image. steps.new ≤ steps.old + access_limit (λ key. is_kept c.old key) (now_of v.old image) (record { thread = t; address = a; right = right })) }
+    ensures none { IfOk result (λ found. found ≡ None → c.new ≡ c.old) }
+    ensures failed { OnErr result (c.new ≡ c.old) }
+    ensures known { rows_know (objects_in v.old) c.old t a right ≡ true → (disk.new ≡ disk.old) × (steps.new ≡ steps.old) }
+    ensures nobody { find (λ thread. thread.number == t) (threads_in v.old) ≡ None → steps.new ≡ steps.old }
+    ensures few { steps.new ≤ steps.old + search_limit }
+    ensures reads { Reads D.Disk v.old v.new disk.old disk.new steps.old steps.new }
+    ensures cause { OnErr result (CountRose D.Disk disk.old disk.new) }
+{
+    match found(v, c, disk, t, a, right, steps) {
+        Ok(row) => Ok(row),
+        Err(failed) => Err(failed),
+    }
+}
+
 /// The base of the object that has an address, where a thread may reach it with the right; None where it may not, or no such
-/// thread lives. [`Failed`] comes only where a call of the disk failed. The state stays.
+/// thread lives. What is read and kept is as by [`reach`]. [`Failed`] comes only where a call of the disk failed. The state
+/// stays, and so does each seat where no base is given.
 pub fn validate<D: Disk, L: Ledger>(
     v: &mut Volume,
+    c: &mut VCache,
     disk: &mut D,
     t: u64,
     a: u64,
@@ -197,11 +119,19 @@ pub fn validate<D: Disk, L: Ledger>(
     steps: &mut Steps<L>,
 ) -> Result<Option<u64>, Failed>
     requires sound { IsSoundOn D.Disk v.old disk.old }
+    requires backed { ForSome (D.seen disk.old) (λ image. AllBacked (now_of v.old image) c.old) }
     ensures base { IfOk result (λ base. ForSome (D.seen disk.old) (λ image. base ≡ (if allowed (now_of v.old image) t a right then option_map (λ object. object.row.base) (at (now_of v.old image).objects a) else None))) }
+    ensures backed { ForSome (D.seen disk.old) (λ image. AllBacked (now_of v.new image) c.new) }
+    ensures keeps { OnOk result (ForSome (D.seen disk.old) (λ image. Validates (now_of v.old image) (record { thread = t; address = a; right = right }) (λ key. is_kept c.old key) (λ key. is_kept c.new key) (steps.new - steps.old))) }
+    ensures limit { ForSome (D.seen disk.old) (λ image. steps.new ≤ steps.old + access_limit (λ key. is_kept c.old key) (now_of v.old image) (record { thread = t; address = a; right = right })) }
+    ensures none { IfOk result (λ base. base ≡ None → c.new ≡ c.old) }
+    ensures failed { OnErr result (c.new ≡ c.old) }
+    ensures known { rows_know (objects_in v.old) c.old t a right ≡ true → (disk.new ≡ disk.old) × (steps.new ≡ steps.old) }
+    ensures few { steps.new ≤ steps.old + search_limit }
     ensures reads { Reads D.Disk v.old v.new disk.old disk.new steps.old steps.new }
     ensures cause { OnErr result (CountRose D.Disk disk.old disk.new) }
 {
-    match reach(v, disk, t, a, right, steps)? {
+    match reach(v, c, disk, t, a, right, steps)? {
         Some(object) => Ok(Some(object.base())),
         None => Ok(None),
     }

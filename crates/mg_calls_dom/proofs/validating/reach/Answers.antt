@@ -1,17 +1,24 @@
-use Rattle.std.proofs.Common.{None, Some, ◌∙◌}
-use Rattle.std.proofs.lemmas.Result.{IfOk-weaker}
-use Rattle.mg_calls_dom.proofs.Refusals.{allowed-nobody, allowed-somebody}
-use Rattle.mg_volume.specs.Meaning.{now_of}
-use Rattle.mg_volume.specs.RunLemmas.{told_thread}
+use Rattle.std.proofs.Common.{Some, None, sym}
+use Rattle.mg_calls_dom.proofs.Tried.{tried, within}
+use Rattle.mg_calls_dom.specs.Known.{rows_know}
+use Rattle.mg_calls_dom.specs.KnownLemmas.{rows_tell}
+use Rattle.mg_model.specs.Kept.{is_known}
+use Rattle.mg_vcache.specs.Seats.{is_kept}
+use Rattle.mg_volume.specs.Meaning.{now_of, objects_in}
 use Rattle.mg_calls_dom.proofs.validating.reach.Goals as goal
 
-pub returns-in-None-clause-row : goal.returns-in-None-clause-row
-returns-in-None-clause-row g c image told = allowed-nobody (now_of c.args.v.now image) c.args.t c.args.a c.args.right (told_thread c.args.v.now image c.args.t None c.in-None.ensures)
+pub returns-in-Ok-clause-limit : goal.returns-in-Ok-clause-limit
+returns-in-Ok-clause-limit g c image told =
+    within (is_known (λ key. is_kept c.args.c.now key) (now_of c.args.v.now image) (record { thread = c.args.t; address = c.args.a; right = c.args.right })) (rows_know (objects_in c.args.v.now) c.args.c.now c.args.t c.args.a c.args.right)
+    c.args.steps.now c.found.new.steps (rows_tell c.args.v.now image c.args.c.now c.args.t c.args.a c.args.right) (λ known. (c.found.ensures.known known).1) c.found.ensures.few
 
-pub returns-in-Some-clause-row : goal.returns-in-Some-clause-row
-returns-in-Some-clause-row g c =
-    let (thread, lives, is) = c.in-Some.ensures in
-    IfOk-weaker c.reached.result _ _
-    (λ found under image told.
-    under image told ∙ allowed-somebody (now_of c.args.v.now image) c.args.t c.args.a c.args.right thread c.slots.result.now (told_thread c.args.v.now image c.args.t (Some thread) lives) (c.slots.ensures ∙ is))
-    c.reached.ensures.row
+pub returns-in-Err-clause-limit : goal.returns-in-Err-clause-limit
+returns-in-Err-clause-limit g c image told =
+    within (is_known (λ key. is_kept c.args.c.now key) (now_of c.args.v.now image) (record { thread = c.args.t; address = c.args.a; right = c.args.right })) (rows_know (objects_in c.args.v.now) c.args.c.now c.args.t c.args.a c.args.right)
+    c.args.steps.now c.found.new.steps (rows_tell c.args.v.now image c.args.c.now c.args.t c.args.a c.args.right) (λ known. (c.found.ensures.known known).1) c.found.ensures.few
+
+pub returns-in-Ok-clause-keeps : goal.returns-in-Ok-clause-keeps
+returns-in-Ok-clause-keeps g c image told =
+    tried c.args.t c.args.a c.args.right (now_of c.args.v.now image) c.args.c.now c.found.new.c c.args.steps.now c.found.new.steps c.in-Ok.row (c.in-Ok.ensures.row image told) c.in-Ok.ensures.kept c.in-Ok.ensures.others c.in-Ok.ensures.none
+    (within (is_known (λ key. is_kept c.args.c.now key) (now_of c.args.v.now image) (record { thread = c.args.t; address = c.args.a; right = c.args.right })) (rows_know (objects_in c.args.v.now) c.args.c.now c.args.t c.args.a c.args.right)
+    c.args.steps.now c.found.new.steps (rows_tell c.args.v.now image c.args.c.now c.args.t c.args.a c.args.right) (λ known. (c.found.ensures.known known).1) c.found.ensures.few)

@@ -4,7 +4,7 @@ use Rattle.mg_model.specs.Objects.{word_at}
 use Rattle.mg_calls_dom.proofs.Apart.{first-page-in, found-any}
 use Rattle.mg_calls_dom.proofs.Told.{told-word}
 use Rattle.mg_volume.specs.Meaning.{is_page_in, now_of, objects_in}
-use Rattle.mg_calls_dom.proofs.validating.list_word.Goals as goal
+use Rattle.mg_calls_dom.proofs.lists.list_word.Goals as goal
 
 pub word-requires-clause-page : goal.word-requires-clause-page
 word-requires-clause-page g c =

@@ -1,16 +1,17 @@
-use Rattle.std.proofs.Common.{◌≡◌, ◌-◌}
+use Rattle.std.proofs.Common.{◌≡◌, ◌-◌, ◌≤◌, ◌+◌, ◌*◌}
 use Rattle.std.specs.List.{list_any}
 use Rattle.std.specs.Option.{ForSome}
 use Rattle.mg_volume.specs.Calls.{Reads}
 use Rattle.mg_calls_dom.specs.Searching.{opens, words_based}
 use Rattle.mg_model.specs.Access.{entries_from, entries_of}
 use Rattle.mg_volume.specs.Meaning.{now_of}
-use Rattle.mg_calls_dom.proofs.validating.list_opens.Given as goal
+use Rattle.mg_calls_dom.proofs.lists.list_opens.Given as goal
 
 -- no entry before this one opens the object
 abbrev pub invariant-loop-j : goal.invariant-loop-j
 invariant-loop-j g l = record {
   reads : Reads g.D.Disk l.fn.v l.v l.fn.disk l.disk l.fn.steps l.steps;
+  few : l.steps ≤ l.fn.steps + 1 + 2 * l.j;
   rest : ForSome (g.D.Disk.seen l.fn.disk) (λ image.
       list_any (λ entry. opens l.sought entry) (entries_of (words_based (now_of l.fn.v image).objects l.clist.base))
       ≡ list_any (λ entry. opens l.sought entry) (entries_from (words_based (now_of l.fn.v image).objects l.clist.base) l.j (l.count - l.j)));

@@ -1,5 +1,5 @@
 use Rattle.mg_volume.specs.RunLemmas.{reads_then}
-use Rattle.mg_calls_dom.proofs.validating.entry_opens.Goals as goal
+use Rattle.mg_calls_dom.proofs.lists.entry_opens.Goals as goal
 
 pub returns-in_err-password-clause-reads : goal.returns-in_err-password-clause-reads
 returns-in_err-password-clause-reads g c =

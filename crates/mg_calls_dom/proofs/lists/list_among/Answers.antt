@@ -1,10 +1,11 @@
-use Rattle.std.proofs.Common.{get_or, sym, ◌∙◌}
+use Rattle.std.proofs.Common.{arith, get_or, refl, sym, ◌∙◌}
+use Rattle.std.proofs.lemmas.List.{get_or_default}
 use Rattle.mg_calls_dom.specs.Searching.{slot_opens}
 use Rattle.mg_calls_dom.specs.ReachedLemmas.{any_end, any_hit, any_miss}
 use Rattle.mg_volume.specs.RunLemmas.{reads_then, told_since}
 use Rattle.mg_model.specs.declared.slots.Slot.{Slot}
 use Rattle.mg_volume.specs.Meaning.{now_of}
-use Rattle.mg_calls_dom.proofs.validating.domain_opens.Goals as goal
+use Rattle.mg_calls_dom.proofs.lists.list_among.Goals as goal
 
 pub returns-in_err-slot_opens-clause-reads : goal.returns-in_err-slot_opens-clause-reads
 returns-in_err-slot_opens-clause-reads g c =
@@ -17,6 +18,7 @@ returns-then-branch-clause-reads g c =
 pub loop-slot-preserved : goal.loop-slot-preserved
 loop-slot-preserved g c = record {
   reads = reads_then g.D.Disk c.args.v.now c.loop-slot.v c.slot_opens.new.v c.args.disk.now c.loop-slot.disk c.slot_opens.new.disk c.args.steps.now c.loop-slot.steps c.slot_opens.new.steps c.loop-slot.invariant.reads c.slot_opens.ensures.reads;
+  few = let was = c.loop-slot.invariant.few in let more = c.slot_opens.ensures.few in omega arith;
   rest = λ image told.
       let none : Slot = record { base = 0; password = 0 } in
       let found = told_since g.D.Disk c.args.v.now c.loop-slot.v c.args.disk.now c.loop-slot.disk c.args.steps.now c.loop-slot.steps c.in_ok-slot_opens.field-0 (λ state. slot_opens state c.args.sought.now (get_or c.args.slots.now c.loop-slot.slot-index none))
@@ -24,13 +26,19 @@ loop-slot-preserved g c = record {
       any_miss (λ slot. slot_opens (now_of c.args.v.now image) c.args.sought.now slot) c.args.slots.now c.loop-slot.slot-index none c.loop-slot-test.true (sym c.if-branch.false ∙ found) (c.loop-slot.invariant.rest image told);
 }
 
-pub returns-then-branch-clause-opens : goal.returns-then-branch-clause-opens
-returns-then-branch-clause-opens g c image told =
+pub returns-then-branch-clause-via : goal.returns-then-branch-clause-via
+returns-then-branch-clause-via g c image told =
     let none : Slot = record { base = 0; password = 0 } in
-    let found = told_since g.D.Disk c.args.v.now c.loop-slot.v c.args.disk.now c.loop-slot.disk c.args.steps.now c.loop-slot.steps c.in_ok-slot_opens.field-0 (λ state. slot_opens state c.args.sought.now (get_or c.args.slots.now c.loop-slot.slot-index none))
-    c.loop-slot.invariant.reads c.in_ok-slot_opens.ensures.opens image told in
-    any_hit (λ slot. slot_opens (now_of c.args.v.now image) c.args.sought.now slot) c.args.slots.now c.loop-slot.slot-index none c.loop-slot-test.true (sym c.if-branch.true ∙ found) (c.loop-slot.invariant.rest image told)
+    let slot = get_or c.args.slots.now c.loop-slot.slot-index none in
+    let found = told_since g.D.Disk c.args.v.now c.loop-slot.v c.args.disk.now c.loop-slot.disk c.args.steps.now c.loop-slot.steps c.in_ok-slot_opens.field-0 (λ state. slot_opens state c.args.sought.now slot) c.loop-slot.invariant.reads
+    c.in_ok-slot_opens.ensures.opens image told in
+    record {
+      slot = slot;
+      among = (c.loop-slot.slot-index, c.loop-slot-test.true, get_or_default c.args.slots.now c.loop-slot.slot-index slot none c.loop-slot-test.true);
+      base = refl;
+      opened = sym found ∙ c.if-branch.true;
+    }
 
-pub returns-clause-opens : goal.returns-clause-opens
-returns-clause-opens g c image told =
-    any_end (λ slot. slot_opens (now_of c.args.v.now image) c.args.sought.now slot) c.args.slots.now c.loop-slot.slot-index c.loop-slot-test.false (c.loop-slot.invariant.rest image told)
+pub returns-clause-via : goal.returns-clause-via
+returns-clause-via g c image told =
+    sym (any_end (λ slot. slot_opens (now_of c.args.v.now image) c.args.sought.now slot) c.args.slots.now c.loop-slot.slot-index c.loop-slot-test.false (c.loop-slot.invariant.rest image told))

@@ -7,7 +7,7 @@ use Rattle.mg_calls_dom.proofs.Reached.{slot-none, slot-some}
 use Rattle.mg_volume.specs.RunLemmas.{told_rows}
 use Rattle.mg_model.specs.Access.{entries_of}
 use Rattle.mg_volume.specs.Meaning.{now_of, objects_in}
-use Rattle.mg_calls_dom.proofs.validating.slot_opens.Goals as goal
+use Rattle.mg_calls_dom.proofs.lists.slot_opens.Goals as goal
 
 pub returns-in_default-clause-opens : goal.returns-in_default-clause-opens
 returns-in_default-clause-opens g c image told =

@@ -1,0 +1,72 @@
+-- The rule of one access, from what was found.
+use Rattle.std.proofs.Common.{ℕ, ◌≡◌, ◌≢◌, ◌≤◌, ◌+◌, ◌-◌, ◌==◌, ◌&&◌, Bool, not, true, false, List, [], ◌∷◌, if◌then◌else◌, Option, Some, None, refl, sym, ap, subst, ◌∙◌, arith}
+use Rattle.std.specs.Prelude.{IfSome, find, option_map}
+use Rattle.std.specs.Option.{option_map_or, option_to_list}
+use Rattle.std.proofs.lemmas.Bool.{and_parts, eq-eqb}
+use Rattle.mg_calls_dom.specs.KnownLemmas.{find-rows}
+use Rattle.mg_calls_dom.specs.Known.{rows_know}
+use Rattle.mg_calls_dom.specs.Searching.{allowed_row}
+use Rattle.mg_disk.specs.Disk.{Image}
+use Rattle.mg_model.specs.declared.rights.Right.{Right}
+use Rattle.mg_model.specs.declared.seats.Seat.{Seat}
+use Rattle.mg_model.specs.Access.{allowed, at, covers}
+use Rattle.mg_model.specs.Accesses.{Access}
+use Rattle.mg_model.specs.Kept.{Validates, access_limit, is_known}
+use Rattle.mg_model.specs.Keys.{Key, is_elsewhere, key_of, seat_of, taken}
+use Rattle.mg_model.specs.Limits.{search_limit}
+use Rattle.mg_model.specs.State.{Object, ObjectRow, State}
+use Rattle.mg_vcache.specs.Seats.{is_kept}
+use Rattle.mg_volume.specs.Held.{VolumeHeld}
+use Rattle.mg_volume.specs.Meaning.{now_of, objects_in}
+
+module _ (t a : ℕ) (right : Right) where
+  -- the key of a row
+  abbrev of : ObjectRow → Key
+  of row = record { thread = t; base = row.base; right = right }
+
+  taken-some : (v : Bool) (o : Option Object) (row : ObjectRow) → Some row ≡ (if v then option_map (λ (object : Object). object.row) o else None)
+      → (if v then option_to_list (option_map (λ (object : Object). record { thread = t; base = object.row.base; right = right }) o) else []) ≡ of row ∷ []
+  taken-some true (Some object) row h = let same : object.row ≡ row = cc in ap (λ (r : ObjectRow). of r ∷ []) same
+  taken-some true None row h = cc
+  taken-some false o row h = cc
+
+  pub taken-none : (v : Bool) (o : Option Object) → None ≡ (if v then option_map (λ (object : Object). object.row) o else None)
+      → (if v then option_to_list {X = Key} (option_map (λ (object : Object). record { thread = t; base = object.row.base; right = right }) o) else []) ≡ []
+  taken-none true (Some object) h = cc
+  taken-none true None h = refl
+  taken-none false o h = refl
+
+  elsewhere : (one key : Key) → is_elsewhere (one ∷ []) key ≡ true → seat_of key ≢ seat_of one
+  elsewhere one key is same =
+      let apart = (and_parts (not (seat_of one == seat_of key)) true is).0 in
+      let at_one = eq-eqb (seat_of one) (seat_of key) (sym same) in
+      by_test (seat_of one == seat_of key) at_one apart
+    where
+      by_test : (v : Bool) → v ≡ true → not v ≡ true → ⊥
+      by_test true is apart = cc
+      by_test false is apart = cc
+
+  -- what one access keeps
+  pub tried : (state : State) (seats seats' : List (Option Seat)) (steps steps' : ℕ) (o : Option ObjectRow) → o ≡ allowed_row state t a right → IfSome o (λ row. is_kept seats' (of row) ≡ true)
+      → IfSome o (λ row. (key : Key) → seat_of key ≢ seat_of (of row) → is_kept seats' key ≡ is_kept seats key) → (o ≡ None → seats' ≡ seats)
+      → steps' ≤ steps + access_limit (λ key. is_kept seats key) state (record { thread = t; address = a; right = right })
+      → Validates state (record { thread = t; address = a; right = right }) (λ key. is_kept seats key) (λ key. is_kept seats' key) (steps' - steps)
+  tried state seats seats' steps steps' (Some row) found kept others none limit =
+      let is = taken-some (allowed state t a right) (at state.objects a) row found in
+      record {
+        own = λ key took. let same : of row ≡ key = cc in subst (λ k. is_kept seats' k ≡ true) same kept;
+        others = λ key far. others key (elsewhere (of row) key (ap (λ keys. is_elsewhere keys key) (sym is) ∙ far));
+        few = omega arith;
+      }
+  tried state seats seats' steps steps' None found kept others none limit =
+      let is = taken-none (allowed state t a right) (at state.objects a) found in
+      record {
+        own = λ key took. let no : [] ≡ key ∷ [] = cc in cc;
+        others = λ key far. ap (λ s. is_kept s key) (none refl);
+        few = omega arith;
+      }
+
+-- a bound on what was searched, from what is known
+pub within : (v known : Bool) (steps steps' : ℕ) → v ≡ known → (known ≡ true → steps' ≡ steps) → steps' ≤ steps + search_limit → steps' ≤ steps + (if v then 0 else search_limit)
+within true known steps steps' is none few = let same = none (sym is) in omega arith
+within false known steps steps' is none few = few

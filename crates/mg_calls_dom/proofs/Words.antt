@@ -1,0 +1,156 @@
+-- The access of a load or a store, and the word itself.
+use Rattle.std.proofs.Common.{ℕ, ◌≡◌, ◌≤◌, ◌+◌, ◌-◌, ◌*◌, ◌==◌, ◌&&◌, Bool, not, true, false, List, [], ◌∷◌, if◌then◌else◌, Option, Some, None, refl, sym, ap, subst, ◌∙◌, arith}
+use Rattle.std.specs.Prelude.{find, is_some, nat_le, nat_lt, option_map}
+use Rattle.std.specs.List.{list_any}
+use Rattle.std.proofs.lemmas.Bool.{and_from, and_parts}
+use Rattle.mg_calls_dom.proofs.Apart.{found-any, found-object, found-passes}
+use Rattle.mg_calls_dom.proofs.Tried.{taken-none}
+use Rattle.mg_calls_dom.specs.LineLemmas.{none_rules, one_limit, one_rules}
+use Rattle.mg_calls_dom.specs.ReachedLemmas.{nobody_reaches, reached_lives, thread_gone}
+use Rattle.mg_calls_dom.specs.Searching.{access_refusal, allowed_row, word_accesses}
+use Rattle.mg_disk.specs.Disk.{Image}
+use Rattle.mg_laws.specs.Backing.{CallsKeepBacked, EndsOneList}
+use Rattle.mg_laws.specs.Costs.{SearchesKeepRules}
+use Rattle.mg_model.specs.declared.calls.Call.TheVariants as call
+use Rattle.mg_model.specs.declared.calls.Line.{Line}
+use Rattle.mg_model.specs.declared.replies.Refusal.{Refusal}
+use Rattle.mg_model.specs.declared.replies.Refusal.TheVariants.{Align, Denied, NoThread}
+use Rattle.mg_model.specs.declared.replies.Reply.TheVariants.{Done, No}
+use Rattle.mg_model.specs.declared.rights.Right.{Right}
+use Rattle.mg_model.specs.declared.rights.Right.TheVariants.{W}
+use Rattle.mg_model.specs.declared.seats.Seat.{Seat}
+use Rattle.mg_model.specs.Access.{allowed, at, covers, thread_of}
+use Rattle.mg_model.specs.Accesses.{Access, accesses, word_access, word_under}
+use Rattle.mg_model.specs.Backed.{KeepsBacked, by_list, by_none, by_via, by_word}
+use Rattle.mg_model.specs.Kept.{KeepsKeys, KeepsRules, Searches, Validates, access_limit, searches_limit}
+use Rattle.mg_model.specs.Keys.{Key, is_elsewhere, taken}
+use Rattle.mg_model.specs.Limits.{page_size}
+use Rattle.mg_model.specs.ObjectCalls.{is_aligned, store}
+use Rattle.mg_model.specs.Refused.{Answer, first_refusal}
+use Rattle.mg_model.specs.State.{Object, ObjectRow, State, Thread}
+use Rattle.mg_model.specs.Step.{step}
+use Rattle.mg_model.specs.Threads.{is_thread}
+use Rattle.mg_model.specs.Turn.{thread_call}
+use Rattle.mg_model.specs.Warmth.{in_first_page, is_disturbing, is_ok}
+use Rattle.mg_model.specs.WellFormed.{IsWellFormed}
+use Rattle.mg_vcache.specs.Seats.{AllBacked, is_kept, without}
+use Rattle.mg_vcache.specs.SeatLemmas.{backed_still, backed_without}
+use Rattle.mg_volume.specs.Held.{VolumeHeld}
+use Rattle.mg_volume.specs.Meaning.{now_of, threads_in}
+use Rattle.mg_volume.specs.RunLemmas.{told_thread}
+
+module _ (state : State) (t a : ℕ) (right : Right) where
+  abbrev access : Access
+  access = record { thread = t; address = a; right = right }
+
+  made-unaligned : is_aligned a ≡ false → word_accesses state t a right ≡ []
+  made-unaligned off = by_thread (is_thread state t)
+    where
+      by_thread : (v : Bool) → (if v then word_access t a right else []) ≡ []
+      by_thread true = ap (λ b. if b then access ∷ [] else []) off
+      by_thread false = refl
+
+  made-nobody : is_thread state t ≡ false → word_accesses state t a right ≡ []
+  made-nobody gone = ap (λ v. if v then word_access t a right else []) gone
+
+  made-one : is_thread state t ≡ true → is_aligned a ≡ true → word_accesses state t a right ≡ access ∷ []
+  made-one lives on = ap (λ v. if v then word_access t a right else []) lives ∙ ap (λ b. if b then access ∷ [] else []) on
+
+  module _ (kept kept' : Key → Bool) (steps steps' : ℕ) (keep : SearchesKeepRules Searches) where
+    pub unaligned-rules : is_aligned a ≡ false → ((key : Key) → kept' key ≡ kept key) → steps' ≡ steps → KeepsRules state (word_accesses state t a right) kept kept' (steps' - steps)
+    unaligned-rules off same none =
+        subst (λ made. KeepsRules state made kept kept' (steps' - steps)) (sym (made-unaligned off)) (none_rules state kept kept' (steps' - steps) same (omega arith) keep)
+
+    -- what the access keeps; one of no thread makes none
+    pub tested-rules : is_aligned a ≡ true → Validates state access kept kept' (steps' - steps) → (is_thread state t ≡ false → steps' ≡ steps) → KeepsRules state (word_accesses state t a right) kept kept' (steps' - steps)
+    tested-rules on valid gone = by_thread (is_thread state t) refl
+      where
+        by_thread : (v : Bool) → is_thread state t ≡ v → KeepsRules state (word_accesses state t a right) kept kept' (steps' - steps)
+        by_thread true is = subst (λ made. KeepsRules state made kept kept' (steps' - steps)) (sym (made-one is on)) (one_rules state access kept kept' (steps' - steps) valid keep)
+        by_thread false is =
+            let none : taken state access ≡ [] = taken-none t a right (allowed state t a right) (at state.objects a) (nobody_reaches state t a right (thread_gone state t is)) in
+            let same = gone is in
+            subst (λ made. KeepsRules state made kept kept' (steps' - steps)) (sym (made-nobody is))
+            (none_rules state kept kept' (steps' - steps) (λ key. valid.others key (ap (λ keys. is_elsewhere keys key) none)) (omega arith) keep)
+
+    pub tested-limit : is_aligned a ≡ true → steps' ≤ steps + access_limit kept state access → (is_thread state t ≡ false → steps' ≡ steps) → steps' ≤ steps + searches_limit kept state (word_accesses state t a right)
+    tested-limit on few gone = by_thread (is_thread state t) refl
+      where
+        by_thread : (v : Bool) → is_thread state t ≡ v → steps' ≤ steps + searches_limit kept state (word_accesses state t a right)
+        by_thread true is =
+            let less : steps' - steps ≤ searches_limit kept state (access ∷ []) = one_limit state access kept (steps' - steps) (omega arith) keep in
+            subst (λ made. steps' ≤ steps + searches_limit kept state made) (sym (made-one is on)) (omega arith)
+        by_thread false is = let same = gone is in omega arith
+
+  own-when : (v on may : Bool) → v ≡ true → first_refusal ((not on, Align) ∷ (not may, Denied) ∷ []) ≡ None → (let n : ℕ = if v then (if on && may then 1 else 0) else 0 in n) ≡ 1
+  own-when true true true is none = refl
+  own-when true true false is none = cc
+  own-when true false may is none = cc
+  own-when false on may is none = cc
+
+  none-when : (v on may : Bool) (word : Refusal) → first_refusal ((not on, Align) ∷ (not may, Denied) ∷ []) ≡ Some word → (let n : ℕ = if v then (if on && may then 1 else 0) else 0 in n) ≡ 0
+  none-when true true true word some = cc
+  none-when true true false word some = refl
+  none-when true false may word some = refl
+  none-when false on may word some = refl
+
+  -- its own word is one where it is not refused, and none where it is
+  pub own-word : (row : ObjectRow) → Some row ≡ allowed_row state t a right → access_refusal state t a right ≡ None → (if is_thread state t then word_under state t a right else 0) ≡ 1
+  own-word row found none = own-when (is_thread state t) (is_aligned a) (allowed state t a right) (reached_lives state t a right row found) none
+
+  pub no-word : (word : Refusal) → access_refusal state t a right ≡ Some word → (if is_thread state t then word_under state t a right else 0) ≡ 0
+  no-word word some = none-when (is_thread state t) (is_aligned a) (allowed state t a right) word some
+
+  -- the object behind a row that is reached
+  pub reached-object : (row : ObjectRow) → Some row ≡ allowed_row state t a right → (object : Object) × (at state.objects a ≡ Some object) × (object.row ≡ row)
+  reached-object row found = by_test (allowed state t a right) (at state.objects a) found
+    where
+      by_test : (v : Bool) (o : Option Object) → Some row ≡ (if v then option_map (λ (x : Object). x.row) o else None) → (object : Object) × (o ≡ Some object) × (object.row ≡ row)
+      by_test true (Some object) h = let same : object.row ≡ row = cc in (object, refl, same)
+      by_test true None h = cc
+      by_test false o h = cc
+
+-- a store, and what it leaves of the seats
+module _ (state : State) (t a value : ℕ) (row : ObjectRow) (found : Some row ≡ allowed_row state t a W) where
+  abbrev line : Line
+  line = record { thread = t; call = call.Store a value }
+
+  -- one into the first page of its object disturbs
+  first-page : nat_lt a (row.base + page_size) ≡ true → in_first_page state.objects a ≡ true
+  first-page below =
+      let (object, there, same) = reached-object state t a W row found in
+      let inside = found-passes (λ (o : Object). covers o.row a) state.objects object there in
+      let above = (and_parts (nat_le object.row.base a) (nat_lt a (object.row.base + 4096 * object.row.pages)) inside).0 in
+      found-any (λ (o : Object). covers o.row a) (λ (o : Object). nat_le o.row.base a && nat_lt a (o.row.base + page_size)) state.objects object there
+      (and_from (nat_le object.row.base a) (nat_lt a (object.row.base + page_size)) above (ap (λ (r : ObjectRow). nat_lt a (r.base + page_size)) same ∙ below))
+
+  disturbs-ok : (v : Bool) (answer : Answer) → v ≡ true → is_ok answer.1 ≡ true → is_ok (if v then answer else (state, No NoThread)).1 ≡ true
+  disturbs-ok true answer is ok = ok
+  disturbs-ok false answer is ok = cc
+
+  pub first-disturbs : (new : State) → store state t a value ≡ (new, Done) → nat_lt a (row.base + page_size) ≡ true → is_disturbing state line ≡ true
+  first-disturbs new done below =
+      and_from (is_ok (step state line).1) (in_first_page state.objects a)
+      (disturbs-ok (is_thread state t) (store state t a value) (reached_lives state t a W row found) (ap (λ (answer : Answer). is_ok answer.1) done)) (first-page below)
+
+  -- a line that does not disturb drops nothing
+  pub dropped-keys : (new : State) (made : List Access) (kept : Key → Bool) (seats seats' : List (Option Seat)) → store state t a value ≡ (new, Done) → seats' ≡ (if nat_lt a (row.base + page_size) then without (by_via row.base) seats else seats)
+      → KeepsKeys state made kept (λ key. is_kept seats key) → is_disturbing state line ≡ false → KeepsKeys state made kept (λ key. is_kept seats' key)
+  dropped-keys new made kept seats seats' done dropped keys quiet = by_place (nat_lt a (row.base + page_size)) refl dropped
+    where
+      by_place : (v : Bool) → nat_lt a (row.base + page_size) ≡ v → seats' ≡ (if v then without (by_via row.base) seats else seats) → KeepsKeys state made kept (λ key. is_kept seats' key)
+      by_place true is drops = let loud = first-disturbs new done is in cc
+      by_place false is same = subst (λ s. KeepsKeys state made kept (λ key. is_kept s key)) (sym same) keys
+
+  -- and one that was done leaves each seat backed, once these are dropped
+  pub stored-backed : (new : State) (seats seats' : List (Option Seat)) → IsWellFormed state → CallsKeepBacked (λ state t made. (thread_call state t made).0) → EndsOneList → store state t a value ≡ (new, Done)
+      → seats' ≡ (if nat_lt a (row.base + page_size) then without (by_via row.base) seats else seats) → AllBacked state seats → AllBacked new seats'
+  stored-backed new seats seats' formed keeps ends done dropped all =
+      let (object, there, same) = reached-object state t a W row found in
+      let kept : KeepsBacked (by_word a) state new = subst (λ (answer : Answer). KeepsBacked (by_word a) state answer.0) done (keeps state t (call.Store a value) formed) in
+      let ended : KeepsBacked (by_list row.base a) state new = subst (λ (r : ObjectRow). KeepsBacked (by_list r.base a) state new) same (ends state new a object formed there kept) in
+      by_place (nat_lt a (row.base + page_size)) dropped ended
+    where
+      by_place : (v : Bool) → seats' ≡ (if v then without (by_via row.base) seats else seats) → KeepsBacked (if v then by_via row.base else by_none) state new → AllBacked new seats'
+      by_place true drops ended = subst (λ s. AllBacked new s) (sym drops) (backed_without (by_via row.base) state new seats ended all)
+      by_place false drops ended = subst (λ s. AllBacked new s) (sym drops) (backed_still state new seats ended all)

@@ -1,0 +1,166 @@
+// The search through the capability lists of a thread, over the words of the moment.
+ghost use Rattle.std.specs.Prelude.{List, ◌≡◌, ◌≤◌, ◌<◌, ◌+◌, ◌*◌, ◌==◌, ℕ, true, false, find, length, slice_index, IfOk, MatchOption, None, OnErr, OnOk, Some};
+ghost use Rattle.std.specs.List.{list_any};
+ghost use Rattle.std.specs.Option.{ForSome};
+ghost use Rattle.mg_calls_dom.specs.Searching as searching;
+ghost use Rattle.mg_calls_dom.specs.Searching.{IsOpenedBy};
+ghost use Rattle.mg_disk.specs.Stops.{CountRose};
+ghost use Rattle.mg_model.specs.Access.{domain_of, entries_of};
+ghost use Rattle.mg_model.specs.Limits.{search_limit};
+ghost use Rattle.mg_volume.specs.Calls.{IsSoundOn, Reads};
+ghost use Rattle.mg_volume.specs.Meaning.{now_of, objects_in, threads_in};
+
+use mg_disk::Disk;
+use mg_faults::Failed;
+use mg_model::limits::{ENTRY_LIMIT, PAGE_SIZE};
+use mg_model::{ObjRow, Right, Slot, Steps};
+use mg_volume::Volume;
+use std::sync::ledger::Ledger;
+
+/// What is looked for in capability lists: an object, and a right to it at a period.
+#[derive(Drop)]
+pub(crate) struct Sought {
+    pub(crate) object: ObjRow,
+    pub(crate) right: Right,
+    pub(crate) period: u64,
+}
+
+// A word of the first page of an object, which is its capability list.
+fn list_word<D: Disk, L: Ledger>(
+    v: &mut Volume,
+    disk: &mut D,
+    clist: &ObjRow,
+    index: u64,
+    steps: &mut Steps<L>,
+) -> Result<u64, Failed>
+    requires sound { IsSoundOn D.Disk v.old disk.old }
+    requires held { find (λ row. row.base == clist.now.base) (objects_in v.old) ≡ Some clist.now }
+    requires index { index < 512 }
+    ensures word { IfOk result (λ word. ForSome (D.seen disk.old) (λ image. word ≡ slice_index (searching.words_based (now_of v.old image).objects clist.now.base) index)) }
+    ensures one { OnOk result (steps.new ≡ steps.old + 1) }
+    ensures none { OnErr result (steps.new ≡ steps.old) }
+    ensures reads { Reads D.Disk v.old v.new disk.old disk.new steps.old steps.new }
+    ensures cause { OnErr result (CountRose D.Disk disk.old disk.new) }
+{
+    v.word(disk, clist.base() / PAGE_SIZE, index, steps)
+}
+
+// Whether the entry at place j of a capability list is for the object that is sought, with a password that gives the right.
+// The password is read only where the base is the object's.
+fn entry_opens<D: Disk, L: Ledger>(
+    v: &mut Volume,
+    disk: &mut D,
+    clist: &ObjRow,
+    j: u64,
+    sought: &Sought,
+    steps: &mut Steps<L>,
+) -> Result<bool, Failed>
+    requires sound { IsSoundOn D.Disk v.old disk.old }
+    requires held { find (λ row. row.base == clist.now.base) (objects_in v.old) ≡ Some clist.now }
+    requires place { j < 255 }
+    ensures opens { IfOk result (λ found. ForSome (D.seen disk.old) (λ image. found ≡ searching.opens sought.now (searching.entry_at (searching.words_based (now_of v.old image).objects clist.now.base) j))) }
+    ensures few { steps.new ≤ steps.old + 2 }
+    ensures reads { Reads D.Disk v.old v.new disk.old disk.new steps.old steps.new }
+    ensures cause { OnErr result (CountRose D.Disk disk.old disk.new) }
+{
+    let base = list_word(v, disk, clist, 2 + 2 * j, steps)?;
+    if base != sought.object.base() {
+        return Ok(false);
+    }
+    let password = list_word(v, disk, clist, 3 + 2 * j, steps)?;
+    Ok(sought.object.holds(password, sought.right, sought.period))
+}
+
+// Whether an entry of a capability list opens the object. The search stops at the first that does.
+fn list_opens<D: Disk, L: Ledger>(
+    v: &mut Volume,
+    disk: &mut D,
+    clist: &ObjRow,
+    sought: &Sought,
+    steps: &mut Steps<L>,
+) -> Result<bool, Failed>
+    requires sound { IsSoundOn D.Disk v.old disk.old }
+    requires held { find (λ row. row.base == clist.now.base) (objects_in v.old) ≡ Some clist.now }
+    ensures opens { IfOk result (λ found. ForSome (D.seen disk.old) (λ image. found ≡ list_any (λ entry. searching.opens sought.now entry) (entries_of (searching.words_based (now_of v.old image).objects clist.now.base)))) }
+    ensures few { steps.new ≤ steps.old + 511 }
+    ensures reads { Reads D.Disk v.old v.new disk.old disk.new steps.old steps.new }
+    ensures cause { OnErr result (CountRose D.Disk disk.old disk.new) }
+{
+    let count = list_word(v, disk, clist, 0, steps)?.min(ENTRY_LIMIT);
+    for j in 0..count {
+        if entry_opens(v, disk, clist, j, sought, steps)? {
+            return Ok(true);
+        }
+    }
+    Ok(false)
+}
+
+// Whether a slot's capability list is opened by the slot's password, and opens the object.
+fn slot_opens<D: Disk, L: Ledger>(
+    v: &mut Volume,
+    disk: &mut D,
+    slot: &Slot,
+    sought: &Sought,
+    steps: &mut Steps<L>,
+) -> Result<bool, Failed>
+    requires sound { IsSoundOn D.Disk v.old disk.old }
+    ensures opens { IfOk result (λ found. ForSome (D.seen disk.old) (λ image. found ≡ searching.slot_opens (now_of v.old image) sought.now slot.now)) }
+    ensures few { steps.new ≤ steps.old + 511 }
+    ensures reads { Reads D.Disk v.old v.new disk.old disk.new steps.old steps.new }
+    ensures cause { OnErr result (CountRose D.Disk disk.old disk.new) }
+{
+    let Some(clist) = v.object(slot.base) else {
+        return Ok(false);
+    };
+    if !clist.holds(slot.password, Right::R, sought.period) {
+        return Ok(false);
+    }
+    list_opens(v, disk, &clist, sought, steps)
+}
+
+// The capability list of the first of these slots that opens the object. The search stops there.
+fn list_among<D: Disk, L: Ledger>(
+    v: &mut Volume,
+    disk: &mut D,
+    slots: &[Slot],
+    sought: &Sought,
+    steps: &mut Steps<L>,
+) -> Result<Option<u64>, Failed>
+    requires sound { IsSoundOn D.Disk v.old disk.old }
+    ensures via { IfOk result (λ via. ForSome (D.seen disk.old) (λ image. MatchOption via (list_any (λ slot. searching.slot_opens (now_of v.old image) sought.now slot) slots.now ≡ false) (λ via. IsOpenedBy (now_of v.old image) sought.now slots.now via))) }
+    ensures few { steps.new ≤ steps.old + 511 * length slots.now }
+    ensures reads { Reads D.Disk v.old v.new disk.old disk.new steps.old steps.new }
+    ensures cause { OnErr result (CountRose D.Disk disk.old disk.new) }
+{
+    for slot in slots {
+        if slot_opens(v, disk, slot, sought, steps)? {
+            return Ok(Some(slot.base));
+        }
+    }
+    Ok(None)
+}
+
+/// The capability list by which a thread reaches the object: that of the first slot of its present frame that opens it. None
+/// where none does, or no such thread lives.
+pub(crate) fn list_of<D: Disk, L: Ledger>(
+    v: &mut Volume,
+    disk: &mut D,
+    t: u64,
+    sought: &Sought,
+    steps: &mut Steps<L>,
+) -> Result<Option<u64>, Failed>
+    requires sound { IsSoundOn D.Disk v.old disk.old }
+    ensures via { IfOk result (λ via. ForSome (D.seen disk.old) (λ image. MatchOption via (list_any (λ slot. searching.slot_opens (now_of v.old image) sought.now slot) (domain_of (now_of v.old image) t) ≡ false) (λ via. IsOpenedBy (now_of v.old image) sought.now (domain_of (now_of v.old image) t) via))) }
+    ensures few { steps.new ≤ steps.old + search_limit }
+    ensures nobody { find (λ thread. thread.number == t) (threads_in v.old) ≡ None → steps.new ≡ steps.old }
+    ensures reads { Reads D.Disk v.old v.new disk.old disk.new steps.old steps.new }
+    ensures cause { OnErr result (CountRose D.Disk disk.old disk.new) }
+{
+    match v.frame(t) {
+        Some(frame) => {
+            let _kept = frame.back();
+            list_among(v, disk, frame.slots(), sought, steps)
+        }
+        None => Ok(None),
+    }
+}
