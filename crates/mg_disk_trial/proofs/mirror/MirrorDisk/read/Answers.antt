@@ -1,0 +1,40 @@
+use Rattle.std.proofs.Common.{refl}
+use Rattle.mg_disk.specs.Disk.{no_image}
+use Rattle.mg_disk.specs.Runs.{time_none}
+use Rattle.mg_disk_trial.proofs.MirrorCalls.{quiet_along}
+use Rattle.mg_disk_trial.proofs.mirror.MirrorDisk.read.Goals as goal
+
+pub returns-in-Ok-clause-stops : goal.returns-in-Ok-clause-stops
+returns-in-Ok-clause-stops g c =
+    let was = c.args.self.now in
+    quiet_along g.D.Disk g.E.Disk was.blocks was.alone was.left c.read.new.self was.right was.right c.read.ensures.tells refl c.read.ensures.stops (time_none g.E.Disk was.right no_image (g.met.E.Disk.now_has_been was.right))
+
+pub returns-in-Ok-read-clause-stops : goal.returns-in-Ok-read-clause-stops
+returns-in-Ok-read-clause-stops g c =
+    let was = c.args.self.now in
+    quiet_along g.D.Disk g.E.Disk was.blocks was.alone was.left c.read.new.self was.right c.read-in-Err.new.self c.read.ensures.tells c.read-in-Err.ensures.tells c.read.ensures.stops c.read-in-Err.ensures.stops
+
+pub returns-in-Err-read-clause-stops : goal.returns-in-Err-read-clause-stops
+returns-in-Err-read-clause-stops g c =
+    let was = c.args.self.now in
+    quiet_along g.D.Disk g.E.Disk was.blocks was.alone was.left c.read.new.self was.right c.read-in-Err.new.self c.read.ensures.tells c.read-in-Err.ensures.tells c.read.ensures.stops c.read-in-Err.ensures.stops
+
+pub returns-in-Ok-read-2-clause-stops : goal.returns-in-Ok-read-2-clause-stops
+returns-in-Ok-read-2-clause-stops g c =
+    let was = c.args.self.now in
+    quiet_along g.D.Disk g.E.Disk was.blocks was.alone was.left c.read-in-Some-Left.new.self was.right was.right c.read-in-Some-Left.ensures.tells refl c.read-in-Some-Left.ensures.stops (time_none g.E.Disk was.right no_image (g.met.E.Disk.now_has_been was.right))
+
+pub returns-in-Err-read-2-clause-stops : goal.returns-in-Err-read-2-clause-stops
+returns-in-Err-read-2-clause-stops g c =
+    let was = c.args.self.now in
+    quiet_along g.D.Disk g.E.Disk was.blocks was.alone was.left c.read-in-Some-Left.new.self was.right was.right c.read-in-Some-Left.ensures.tells refl c.read-in-Some-Left.ensures.stops (time_none g.E.Disk was.right no_image (g.met.E.Disk.now_has_been was.right))
+
+pub returns-in-Ok-read-3-clause-stops : goal.returns-in-Ok-read-3-clause-stops
+returns-in-Ok-read-3-clause-stops g c =
+    let was = c.args.self.now in
+    quiet_along g.D.Disk g.E.Disk was.blocks was.alone was.left was.left was.right c.read-in-Some-Right.new.self refl c.read-in-Some-Right.ensures.tells (time_none g.D.Disk was.left no_image (g.met.D.Disk.now_has_been was.left)) c.read-in-Some-Right.ensures.stops
+
+pub returns-in-Err-read-3-clause-stops : goal.returns-in-Err-read-3-clause-stops
+returns-in-Err-read-3-clause-stops g c =
+    let was = c.args.self.now in
+    quiet_along g.D.Disk g.E.Disk was.blocks was.alone was.left was.left was.right c.read-in-Some-Right.new.self refl c.read-in-Some-Right.ensures.tells (time_none g.D.Disk was.left no_image (g.met.D.Disk.now_has_been was.left)) c.read-in-Some-Right.ensures.stops
