@@ -1,0 +1,6 @@
+mod Lists
+mod Spans
+mod Cuts
+mod Kept
+mod Fits
+mod Lowest

@@ -1,0 +1,6 @@
+use Rattle.std.proofs.Common.{take}
+use Rattle.mg_ranges.specs.Gaps.{AreGapsOf}
+use Rattle.mg_ranges.proofs.ranges.Ranges.of.Given as goal
+
+abbrev pub invariant-loop-span : goal.invariant-loop-span
+invariant-loop-span l = AreGapsOf (take l.span-index l.taken) l.ranges

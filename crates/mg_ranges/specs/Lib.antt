@@ -1,0 +1,3 @@
+-- Definitions.
+pub mod Gaps
+pub mod Kept
