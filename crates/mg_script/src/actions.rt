@@ -1,0 +1,157 @@
+// What an instruction does to a thread's row.
+ghost use Rattle.std.specs.Prelude.{◌≡◌, ◌<◌, ◌+◌, ◌*◌, ◌%◌, ◌^◌, ◌==◌, if◌then◌else◌, ℕ};
+ghost use Rattle.mg_model.specs.Ranges.{IsThreadRow};
+ghost use Rattle.mg_model.specs.Script.{jump_by, jumped, operand, register, with_register, word_end};
+ghost use Rattle.mg_model.specs.State.{State};
+ghost use Rattle.mg_model.specs.Turn.{advanced, run};
+ghost use Rattle.mg_script.specs.Actions.{HasPlace, finished};
+ghost use Rattle.mg_script.specs.Encoded.{HasRegisters};
+
+use mg_model::{Instr, ThrRow, ThrState};
+
+/// What an instruction asks of the machine. But for `Next` the thread's row is to be the one with its pc advanced.
+#[derive(Clone, Copy, Debug, PartialEq, Eq)]
+pub enum Action {
+    /// Nothing: this is the thread's row after the turn.
+    Next(ThrRow),
+    /// The word at address `a`, with R, into register `to`.
+    Load { a: u64, to: u8 },
+    /// The value to the word at address `a`, with W.
+    Store { a: u64, value: u64 },
+    /// The call `pdx` with this address and mask; a mask above 255 is refused with Syntax.
+    Pdx { a: u64, mask: u64 },
+    /// The call `ret`.
+    Ret,
+    /// The call that the registers spell.
+    Sys,
+}
+
+/// The pc moves on by the width of a word, and from the last word of all to the first.
+pub fn advance(row: &mut ThrRow)
+    ensures { row.new ≡ advanced row.old }
+{
+    let _kept = row.birth();
+    row.set_pc(row.pc().wrapping_add(8));
+}
+
+/// What an instruction at a thread's pc asks for. The row is the thread's, its pc not advanced; the instruction's registers
+/// are below 8, and so is the register that a `Load` names.
+pub fn execute(i: &Instr, r: &ThrRow) -> Action
+    requires { HasRegisters i.now }
+    ensures turn { (state : State) (t : ℕ) → run state t r.now.pc (advanced r.now) i.now ≡ finished state t (advanced r.now) result }
+    ensures place { HasPlace result }
+{
+    let _kept = r.birth();
+    let here = r.pc();
+    let mut row = *r;
+    advance(&mut row);
+    match *i {
+        Instr::Halt => {
+            row.set_state(ThrState::Stopped);
+            Action::Next(row)
+        }
+        Instr::Set { a, i } => put(row, a, i as u64),
+        Instr::High { a, i } => put(row, a, with_high(value(&row, a), i)),
+        Instr::Add { a, b, c } => put(row, a, value(&row, b).wrapping_add(value(&row, c))),
+        Instr::Sub { a, b, c } => put(row, a, value(&row, b).wrapping_sub(value(&row, c))),
+        Instr::Lt { a, b, c } => put(row, a, (value(&row, b) < value(&row, c)) as u64),
+        Instr::Load { a, b, i } => Action::Load {
+            a: address(&row, b, i),
+            to: a,
+        },
+        Instr::Store { a, b, i } => Action::Store {
+            a: address(&row, b, i),
+            value: value(&row, a),
+        },
+        Instr::Jump { i } => jump(row, here, i),
+        Instr::Jz { a, i } => jump_if_zero(row, a, here, i),
+        Instr::Jnz { a, i } => jump_unless_zero(row, a, here, i),
+        Instr::Pdx { a, b } => Action::Pdx {
+            a: value(&row, a),
+            mask: value(&row, b),
+        },
+        Instr::Ret => Action::Ret,
+        Instr::Yield => Action::Next(row),
+        Instr::Sys => Action::Sys,
+    }
+}
+
+/// What a register holds.
+fn value(row: &ThrRow, number: u8) -> u64
+    requires { number < 8 }
+    ensures { result ≡ register row.now number }
+{
+    row.register(number as usize)
+}
+
+/// A word with another upper half.
+fn with_high(word: u64, i: u32) -> u64
+    ensures { result ≡ word % 2 ^ 32 + i * 2 ^ 32 }
+{
+    word % (1 << 32) + (i as u64) * (1 << 32)
+}
+
+/// The address of a load or a store, modulo `2^64`.
+fn address(row: &ThrRow, b: u8, i: u32) -> u64
+    requires { b < 8 }
+    ensures { result ≡ operand row.now b i }
+{
+    value(row, b).wrapping_add(i as u64)
+}
+
+/// The row with another value in a register.
+fn put(mut row: ThrRow, number: u8, value: u64) -> Action
+    requires { number < 8 }
+    ensures { result ≡ Action.Next (with_register row number value) }
+{
+    row.set_register(number as usize, value);
+    Action::Next(row)
+}
+
+/// The row with its pc so many words from `here`, a multiple of 8.
+fn jump(mut row: ThrRow, here: u64, i: u32) -> Action
+    requires { here % 8 ≡ 0 }
+    ensures { result ≡ Action.Next (jumped row here i) }
+{
+    row.set_pc(target(here, i));
+    Action::Next(row)
+}
+
+/// The same where the register is 0; else the row as it is.
+fn jump_if_zero(row: ThrRow, number: u8, here: u64, i: u32) -> Action
+    requires place { number < 8 }
+    requires aligned { here % 8 ≡ 0 }
+    ensures { result ≡ Action.Next (if register row number == 0 then jumped row here i else row) }
+{
+    if value(&row, number) == 0 {
+        jump(row, here, i)
+    } else {
+        Action::Next(row)
+    }
+}
+
+/// The same where the register is not 0; else the row as it is.
+fn jump_unless_zero(row: ThrRow, number: u8, here: u64, i: u32) -> Action
+    requires place { number < 8 }
+    requires aligned { here % 8 ≡ 0 }
+    ensures { result ≡ Action.Next (if register row number == 0 then row else jumped row here i) }
+{
+    if value(&row, number) != 0 {
+        jump(row, here, i)
+    } else {
+        Action::Next(row)
+    }
+}
+
+/// Where a jump from the word at `here` goes: so many words on or, where the immediate's highest bit is set, back.
+fn target(here: u64, i: u32) -> u64
+    requires { here % 8 ≡ 0 }
+    ensures value { result ≡ (here + jump_by i) % word_end }
+    ensures aligned { result % 8 ≡ 0 }
+{
+    if i < 1 << 31 {
+        here.wrapping_add(8 * i as u64)
+    } else {
+        here.wrapping_sub(8 * ((1 << 32) - i as u64))
+    }
+}

@@ -1,0 +1,18 @@
+//! Scripts: what a thread does in its turn, as far as it asks for no memory.
+//!
+//! A word of a script is decoded to an instruction, and an instruction is executed on a thread's row: it gives the row after
+//! the turn, or says what is still asked of the machine, as an [`Action`]. A call that a script makes is spelled from its
+//! registers, and its reply settled in them. The layer above learns an equation for each: `decode` is `decoded` of the
+//! definition, `spell` is `spelled`, and what `execute` and `settle` leave to be done is the turn of the definition
+//! (`specs/Actions.antt`).
+#![tactic(auto)]
+
+mod actions;
+mod calls;
+mod settling;
+mod words;
+
+pub use actions::{Action, advance, execute};
+pub use calls::spell;
+pub use settling::{refuse, settle};
+pub use words::{decode, encode};

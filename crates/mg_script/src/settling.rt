@@ -1,0 +1,80 @@
+// What a script sees of a reply.
+ghost use Rattle.std.specs.Prelude.{◌≡◌, ◌∷◌, [], ◌+◌, ◌≤◌, length};
+ghost use Rattle.mg_model.specs.Script.{with_register};
+ghost use Rattle.mg_model.specs.Turn.{refusal_number, with_registers};
+ghost use Rattle.mg_script.specs.Actions.{settled};
+
+use mg_model::{Refusal, Reply, ThrRow};
+
+/// Register 0 gets the number of a refusal, 1 to 23; the other registers stay.
+pub fn refuse(r: &mut ThrRow, word: Refusal)
+    ensures { r.new ≡ with_register r.old 0 (refusal_number word) }
+{
+    r.set_register(0, number(word));
+}
+
+/// The registers after the reply to a call that they spelled. Register 0 gets a refusal's number, or 0, and then the registers
+/// from 1 on get the reply's values in order; the others stay. Slots and states of threads are no values.
+pub fn settle(r: &mut ThrRow, reply: &Reply)
+    ensures { r.new ≡ settled reply.now r.old }
+{
+    match *reply {
+        Reply::No(word) => refuse(r, word),
+        Reply::Done | Reply::Slots { .. } | Reply::Turned(_) | Reply::Ran(..) => put(r, &[0]),
+        Reply::Value(word) => put(r, &[0, word]),
+        Reply::Count(count) => put(r, &[0, count]),
+        Reply::Made(base, password) => put(r, &[0, base, password]),
+        Reply::Opened(account, password) => put(r, &[0, account, password]),
+        Reply::About {
+            base,
+            pages,
+            account,
+            passwords,
+            entries,
+            ext,
+        } => put(r, &[0, base, pages, account, passwords, entries, ext]),
+        Reply::Funds(balance, owed, pages) => put(r, &[0, balance, owed, pages]),
+        Reply::Collected(period, rate, paid) => put(r, &[0, period, rate, paid]),
+    }
+}
+
+/// These values in the registers from 0 on.
+fn put(r: &mut ThrRow, values: &[u64])
+    requires { length values.now ≤ 8 }
+    ensures { r.new ≡ with_registers r.old 0 values.now }
+{
+    for i in 0..values.len() {
+        r.set_register(i, values[i]);
+    }
+}
+
+/// The number of a refusal.
+fn number(word: Refusal) -> u64
+    ensures { result ≡ refusal_number word }
+{
+    match word {
+        Refusal::Syntax => 1,
+        Refusal::NoThread => 2,
+        Refusal::Align => 3,
+        Refusal::Denied => 4,
+        Refusal::Size => 5,
+        Refusal::Account => 6,
+        Refusal::Debt => 7,
+        Refusal::Limit => 8,
+        Refusal::Full => 9,
+        Refusal::NoPassword => 10,
+        Refusal::Range => 11,
+        Refusal::SlotFull => 12,
+        Refusal::NoSlot => 13,
+        Refusal::NoEntry => 14,
+        Refusal::Depth => 15,
+        Refusal::NoFrame => 16,
+        Refusal::NotYours => 17,
+        Refusal::NotReady => 18,
+        Refusal::Idle => 19,
+        Refusal::Credit => 20,
+        Refusal::Calendar => 21,
+        Refusal::Past => 22,
+        Refusal::Later => 23,
+    }
+}
