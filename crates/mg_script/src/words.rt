@@ -21,11 +21,10 @@ pub fn decode(w: u64) -> Option<Instr>
     )
 }
 
-/// The word that spells an instruction. Its registers are below 8.
+/// The word that spells an instruction. Where its registers are below 8, the word is decoded to it again.
 pub fn encode(i: &Instr) -> u64
-    requires { HasRegisters i.now }
     ensures value { result ≡ encoded i.now }
-    ensures back { decoded result ≡ Some i.now }
+    ensures back { HasRegisters i.now → decoded result ≡ Some i.now }
 {
     match *i {
         Instr::Halt => word(0, 0, 0, 0, 0),
