@@ -1,5 +1,5 @@
 // Commits of a volume.
-ghost use Rattle.std.specs.Prelude.{◌≡◌, ◌⊎◌, true, false, IsOk, IsTrue, OnErr, OnOk};
+ghost use Rattle.std.specs.Prelude.{◌≡◌, ◌⊎◌, true, false, IsOk, IsSome, IsTrue, OnErr, OnOk};
 ghost use Rattle.std.specs.Option.{ForSome};
 ghost use Rattle.mg_disk.specs.Stops.{CountGoes, CountRose, Leaves};
 ghost use Rattle.mg_model.specs.Volume.{Is, volume};
@@ -21,6 +21,7 @@ impl Volume {
         ensures done { OnOk result (ForSome (D.seen disk.old) (λ image. Holds (now_of self.old image) self.new (D.seen disk.new))) }
         ensures rows { objects_in self.new ≡ objects_in self.old }
         ensures sound { ForSome (D.seen disk.new) (λ image. OnOk result (is_sound (now_of self.new image) ≡ true)) }
+        ensures told { ForSome (D.seen disk.new) (λ _. OnOk result (IsSome (D.seen disk.old))) }
         ensures stands { OnOk result (StandsOn D.Disk self.new disk.new) }
         ensures staged { OnOk result (staged_of self.new ≡ 0) }
         ensures total { total_of self.new ≡ total_of self.old }

@@ -1,4 +1,4 @@
-use Rattle.std.proofs.Common.{◌∙◌}
+use Rattle.std.proofs.Common.{◌∙◌, refl, subst, sym}
 use Rattle.std.proofs.lemmas.Result.{on_ok_weaker}
 use Rattle.mg_disk.specs.Runs.{leaves_wider}
 use Rattle.mg_journal.specs.ResultLemmas.{on_ok_both, some_of}
@@ -11,7 +11,7 @@ use Rattle.mg_volume.proofs.PagesChange.{held_same, same_objects, same_parts, sa
 use Rattle.mg_volume.proofs.Again.{pages_stand}
 use Rattle.mg_volume.specs.Meaning.{is_live, now_of, staged_of, total_of, words_in}
 use Rattle.mg_volume.specs.contracts.volume.Volume.{the_view}
-use Rattle.std.specs.Prelude.{◌≡◌, ◌⊎◌}
+use Rattle.std.specs.Prelude.{◌≡◌, ◌⊎◌, IsSome}
 use Rattle.mg_volume.proofs.volume.Volume.commit.Goals as goal
 
 pub commit-requires-clause-live : goal.commit-requires-clause-live
@@ -58,6 +58,14 @@ returns-clause-sound g c image told =
     (λ came.
     let from = some_of (λ before. HasContents (pages.total_of c.self.inside.pages) (pages.coming c.self.inside.pages before) image) (g.D.Disk.seen c.args.disk.now) (came image told) in
     same_sound v c.commit.new.self from.0 image ∙ sound from.0 from.1)
+    c.commit.ensures.came_from
+
+pub returns-clause-told : goal.returns-clause-told
+returns-clause-told g c image told =
+    on_ok_weaker c.commit.result
+    (λ came.
+    let from = some_of (λ before. HasContents (pages.total_of c.self.inside.pages) (pages.coming c.self.inside.pages before) image) (g.D.Disk.seen c.args.disk.now) (came image told) in
+    subst (λ o. IsSome o) (sym from.1) refl)
     c.commit.ensures.came_from
 
 pub returns-clause-stands : goal.returns-clause-stands
