@@ -1,17 +1,16 @@
 -- What is kept tells of an access, and what is found backs the seat that it fills.
-use Rattle.std.proofs.Common.{ℕ, ◌≡◌, ◌==◌, ◌&&◌, Bool, true, false, List, if◌then◌else◌, Option, Some, None, refl, sym, ap, subst, ◌∙◌}
+use Rattle.std.proofs.Common.{ℕ, ◌≡◌, ◌==◌, ◌&&◌, Bool, true, false, List, if◌then◌else◌, Option, Some, None, sym, ap, subst, ◌∙◌}
 use Rattle.std.specs.Prelude.{Contains, find, map, option_map}
 use Rattle.std.specs.List.{list_any}
 use Rattle.std.proofs.lemmas.List.Folds.{list_any-from_Any}
-use Rattle.mg_calls_dom.proofs.Apart.{found-none, found-object}
+use Rattle.mg_calls_dom.proofs.Apart.{found-object}
 use Rattle.mg_calls_dom.specs.KnownLemmas.{find-rows}
-use Rattle.mg_calls_dom.proofs.Reached.{reached-none, reached-some}
+use Rattle.mg_calls_dom.proofs.Reached.{reached-some}
 use Rattle.mg_calls_dom.specs.Searching.{IsOpenedBy, allowed_row, slot_opens}
 use Rattle.mg_calls_dom.specs.declared.lists.Sought.{Sought}
 use Rattle.mg_laws.specs.Backing.{BackedAllows, OpeningBacks}
 use Rattle.mg_model.specs.declared.rights.Right.{Right}
 use Rattle.mg_model.specs.declared.seats.Seat.{Seat}
-use Rattle.mg_model.specs.declared.slots.Slot.{Slot}
 use Rattle.mg_model.specs.Access.{allowed, at, covers, domain_of, entries_under, holds}
 use Rattle.mg_model.specs.Backed.{IsBacked}
 use Rattle.mg_model.specs.State.{Object, ObjectRow, State}

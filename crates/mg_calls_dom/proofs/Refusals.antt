@@ -1,17 +1,14 @@
 -- The rows of `load` and `store`, by what was found.
-use Rattle.std.proofs.Common.{ℕ, ◌+◌, ◌*◌, ◌/◌, ◌%◌, ◌≡◌, ◌==◌, ◌&&◌, Bool, true, false, not, List, [], ◌∷◌, if◌then◌else◌, Option, Some, None, refl, sym, ap, ◌∙◌, arith}
+use Rattle.std.proofs.Common.{ℕ, ◌+◌, ◌*◌, ◌/◌, ◌%◌, ◌≡◌, Bool, true, false, not, [], ◌∷◌, if◌then◌else◌, Option, Some, None, ap, ◌∙◌, arith}
 use Rattle.std.specs.Prelude.{option_map}
-use Rattle.std.specs.List.{list_any}
-use Rattle.std.specs.Option.{option_map_or}
 use Rattle.mg_calls_dom.specs.ReachedLemmas.{reached_allowed, reached_none}
-use Rattle.mg_calls_dom.specs.Searching.{access_refusal, allowed_row, reached_row}
+use Rattle.mg_calls_dom.specs.Searching.{access_refusal, allowed_row}
 use Rattle.mg_model.specs.declared.replies.Refusal.TheVariants.{Align, Denied}
 use Rattle.mg_model.specs.declared.rights.Right.{Right}
-use Rattle.mg_model.specs.declared.slots.Slot.{Slot}
-use Rattle.mg_model.specs.Access.{allowed, at, capabilities, domain_of, holds, last_slots, thread_of}
+use Rattle.mg_model.specs.Access.{allowed}
 use Rattle.mg_model.specs.ObjectCalls.{is_aligned}
 use Rattle.mg_model.specs.Refused.{first_refusal}
-use Rattle.mg_model.specs.State.{Object, ObjectRow, State, Thread}
+use Rattle.mg_model.specs.State.{Object, ObjectRow, State}
 
 module _ (state : State) (t a : ℕ) (right : Right) where
   by_access : (v : Bool) → is_aligned a ≡ true → allowed state t a right ≡ v → access_refusal state t a right ≡ (if not v then Some Denied else None)

@@ -1,23 +1,17 @@
 -- The rule of one access, from what was found.
-use Rattle.std.proofs.Common.{ℕ, ◌≡◌, ◌≢◌, ◌≤◌, ◌+◌, ◌-◌, ◌==◌, ◌&&◌, Bool, not, true, false, List, [], ◌∷◌, if◌then◌else◌, Option, Some, None, refl, sym, ap, subst, ◌∙◌, arith}
-use Rattle.std.specs.Prelude.{IfSome, find, option_map}
-use Rattle.std.specs.Option.{option_map_or, option_to_list}
+use Rattle.std.proofs.Common.{ℕ, ◌≡◌, ◌≢◌, ◌≤◌, ◌+◌, ◌-◌, ◌==◌, Bool, not, true, false, List, [], ◌∷◌, if◌then◌else◌, Option, Some, None, refl, sym, ap, subst, ◌∙◌, arith}
+use Rattle.std.specs.Prelude.{IfSome, option_map}
+use Rattle.std.specs.Option.{option_to_list}
 use Rattle.std.proofs.lemmas.Bool.{and_parts, eq-eqb}
-use Rattle.mg_calls_dom.specs.KnownLemmas.{find-rows}
-use Rattle.mg_calls_dom.specs.Known.{rows_know}
 use Rattle.mg_calls_dom.specs.Searching.{allowed_row}
-use Rattle.mg_disk.specs.Disk.{Image}
 use Rattle.mg_model.specs.declared.rights.Right.{Right}
 use Rattle.mg_model.specs.declared.seats.Seat.{Seat}
-use Rattle.mg_model.specs.Access.{allowed, at, covers}
-use Rattle.mg_model.specs.Accesses.{Access}
-use Rattle.mg_model.specs.Kept.{Validates, access_limit, is_known}
-use Rattle.mg_model.specs.Keys.{Key, is_elsewhere, key_of, seat_of, taken}
+use Rattle.mg_model.specs.Access.{allowed, at}
+use Rattle.mg_model.specs.Kept.{Validates, access_limit}
+use Rattle.mg_model.specs.Keys.{Key, is_elsewhere, seat_of}
 use Rattle.mg_model.specs.Limits.{search_limit}
 use Rattle.mg_model.specs.State.{Object, ObjectRow, State}
 use Rattle.mg_vcache.specs.Seats.{is_kept}
-use Rattle.mg_volume.specs.Held.{VolumeHeld}
-use Rattle.mg_volume.specs.Meaning.{now_of, objects_in}
 
 module _ (t a : ℕ) (right : Right) where
   -- the key of a row

@@ -1,14 +1,12 @@
 -- The access of a load or a store, and the word itself.
-use Rattle.std.proofs.Common.{ℕ, ◌≡◌, ◌≤◌, ◌+◌, ◌-◌, ◌*◌, ◌==◌, ◌&&◌, Bool, not, true, false, List, [], ◌∷◌, if◌then◌else◌, Option, Some, None, refl, sym, ap, subst, ◌∙◌, arith}
-use Rattle.std.specs.Prelude.{find, is_some, nat_le, nat_lt, option_map}
-use Rattle.std.specs.List.{list_any}
+use Rattle.std.proofs.Common.{ℕ, ◌≡◌, ◌≤◌, ◌+◌, ◌-◌, ◌*◌, ◌&&◌, Bool, not, true, false, List, [], ◌∷◌, if◌then◌else◌, Option, Some, None, refl, sym, ap, subst, ◌∙◌, arith}
+use Rattle.std.specs.Prelude.{nat_le, nat_lt, option_map}
 use Rattle.std.proofs.lemmas.Bool.{and_from, and_parts}
-use Rattle.mg_calls_dom.proofs.Apart.{found-any, found-object, found-passes}
+use Rattle.mg_calls_dom.proofs.Apart.{found-any, found-passes}
 use Rattle.mg_calls_dom.proofs.Tried.{taken-none}
 use Rattle.mg_calls_dom.specs.LineLemmas.{none_rules, one_limit, one_rules}
 use Rattle.mg_calls_dom.specs.ReachedLemmas.{nobody_reaches, reached_lives, thread_gone}
 use Rattle.mg_calls_dom.specs.Searching.{access_refusal, allowed_row, word_accesses}
-use Rattle.mg_disk.specs.Disk.{Image}
 use Rattle.mg_laws.specs.Backing.{CallsKeepBacked, EndsOneList}
 use Rattle.mg_laws.specs.Costs.{SearchesKeepRules}
 use Rattle.mg_model.specs.declared.calls.Call.TheVariants as call
@@ -19,15 +17,15 @@ use Rattle.mg_model.specs.declared.replies.Reply.TheVariants.{Done, No}
 use Rattle.mg_model.specs.declared.rights.Right.{Right}
 use Rattle.mg_model.specs.declared.rights.Right.TheVariants.{W}
 use Rattle.mg_model.specs.declared.seats.Seat.{Seat}
-use Rattle.mg_model.specs.Access.{allowed, at, covers, thread_of}
-use Rattle.mg_model.specs.Accesses.{Access, accesses, word_access, word_under}
+use Rattle.mg_model.specs.Access.{allowed, at, covers}
+use Rattle.mg_model.specs.Accesses.{Access, word_access, word_under}
 use Rattle.mg_model.specs.Backed.{KeepsBacked, by_list, by_none, by_via, by_word}
 use Rattle.mg_model.specs.Kept.{KeepsKeys, KeepsRules, Searches, Validates, access_limit, searches_limit}
 use Rattle.mg_model.specs.Keys.{Key, is_elsewhere, taken}
 use Rattle.mg_model.specs.Limits.{page_size}
 use Rattle.mg_model.specs.ObjectCalls.{is_aligned, store}
 use Rattle.mg_model.specs.Refused.{Answer, first_refusal}
-use Rattle.mg_model.specs.State.{Object, ObjectRow, State, Thread}
+use Rattle.mg_model.specs.State.{Object, ObjectRow, State}
 use Rattle.mg_model.specs.Step.{step}
 use Rattle.mg_model.specs.Threads.{is_thread}
 use Rattle.mg_model.specs.Turn.{thread_call}
@@ -35,9 +33,6 @@ use Rattle.mg_model.specs.Warmth.{in_first_page, is_disturbing, is_ok}
 use Rattle.mg_model.specs.WellFormed.{IsWellFormed}
 use Rattle.mg_vcache.specs.Seats.{AllBacked, is_kept, without}
 use Rattle.mg_vcache.specs.SeatLemmas.{backed_still, backed_without}
-use Rattle.mg_volume.specs.Held.{VolumeHeld}
-use Rattle.mg_volume.specs.Meaning.{now_of, threads_in}
-use Rattle.mg_volume.specs.RunLemmas.{told_thread}
 
 module _ (state : State) (t a : ℕ) (right : Right) where
   abbrev access : Access

@@ -1,15 +1,12 @@
 -- Lemmas on lines of accesses: what a line keeps and costs, from the accesses that it made.
-use Rattle.std.specs.Prelude.{ℕ, ◌≡◌, ◌≢◌, ◌≤◌, ◌+◌, ◌-◌, ◌*◌, ◌==◌, ◌&&◌, ◌||◌, Bool, not, true, false, List, [], ◌∷◌, ◌++◌, if◌then◌else◌, Option, Some, None}
-use Rattle.std.specs.Option.{option_map_or}
-use Rattle.std.specs.List.{list_all}
-use Rattle.std.proofs.Common.{arith, refl, sym, ap, subst, ◌∙◌}
+use Rattle.std.specs.Prelude.{ℕ, ◌≡◌, ◌≤◌, ◌+◌, ◌-◌, ◌==◌, ◌&&◌, Bool, not, true, false, List, [], ◌∷◌, ◌++◌, if◌then◌else◌}
+use Rattle.std.proofs.Common.{arith, refl, ap, ◌∙◌}
 use Rattle.std.proofs.lemmas.Bool.{eq-eqb}
-use Rattle.mg_laws.specs.Costs.{SearchesGoOn, SearchesKeepRules}
+use Rattle.mg_laws.specs.Costs.{SearchesKeepRules}
 use Rattle.mg_model.specs.declared.calls.Line.{Line}
 use Rattle.mg_model.specs.Accesses.{Access, accesses, words_of}
-use Rattle.mg_model.specs.Kept.{KeepsKeys, KeepsLine, KeepsRules, Searches, Validates, access_limit, is_known, is_served, line_limit, searches_limit}
-use Rattle.mg_model.specs.Keys.{Key, is_elsewhere, key_of, seat_of, taken, taken_by}
-use Rattle.mg_model.specs.Limits.{search_limit}
+use Rattle.mg_model.specs.Kept.{KeepsKeys, KeepsLine, KeepsRules, Searches, Validates, access_limit, is_served, line_limit, searches_limit}
+use Rattle.mg_model.specs.Keys.{Key, is_elsewhere, seat_of, taken}
 use Rattle.mg_model.specs.State.{State}
 use Rattle.mg_model.specs.Threads.{is_thread}
 use Rattle.mg_model.specs.Warmth.{failing, is_disturbing}

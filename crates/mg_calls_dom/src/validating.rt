@@ -12,7 +12,7 @@ ghost use Rattle.mg_vcache.specs.Seats.{AllBacked, is_kept};
 ghost use Rattle.mg_volume.specs.Calls.{IsSoundOn, Reads};
 ghost use Rattle.mg_volume.specs.Meaning.{now_of, objects_in, threads_in};
 
-use crate::lists::{list_of, Sought};
+use crate::lists::{Sought, list_of};
 use mg_disk::Disk;
 use mg_faults::Failed;
 use mg_laws::backed_seats_are_allowed;

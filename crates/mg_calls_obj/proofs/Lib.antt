@@ -1,1 +1,2 @@
+mod Rights
 mod Told

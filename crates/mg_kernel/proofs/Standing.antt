@@ -1,38 +1,62 @@
 -- How a kernel stands on a disk, from what is known of its volume.
-use Rattle.std.specs.Prelude.{◌≡◌, true, Result, Ok, Err, IfOk, OnErr}
+use Rattle.std.specs.Prelude.{◌≡◌, true, List, Option, Some, None, Result, Ok, Err, IfOk, IsSome, OnErr}
 use Rattle.std.specs.Option.{ForSome}
-use Rattle.std.proofs.Common.{sym, ap, subst, ◌∙◌}
+use Rattle.std.proofs.Common.{refl, sym, ap, subst, ◌∙◌}
 use Rattle.mg_disk.specs.Disk.{AreBytes, Image}
 use Rattle.mg_disk.specs.Stops.{WritesNothing}
 use Rattle.mg_disk.specs.declared.disk.Disk.{Ghosts}
-use Rattle.mg_kernel.specs.Meaning.{IsSpelledBy, StandsOn, total_of}
+use Rattle.mg_kernel.specs.Meaning.{IsSpelledBy, StandsOn, now_of, seats_in, total_of}
 use Rattle.mg_kernel.specs.declared.kernel.Kernel.{Kernel}
 use Rattle.mg_model.specs.declared.calls.Line.{Line}
 use Rattle.mg_model.specs.declared.replies.Reply.{Reply}
+use Rattle.mg_model.specs.declared.seats.Seat.{Seat}
 use Rattle.mg_model.specs.Refused.{Answer}
 use Rattle.mg_model.specs.Step.{step}
 use Rattle.mg_model.specs.WellFormed.{IsInRange, IsWellFormed, KeepsWellFormed}
 use Rattle.mg_volume.specs.Calls.{IsSoundOn}
 use Rattle.mg_volume.specs.Held.{VolumeHeld}
 use Rattle.mg_volume.specs.Meaning as held
+use Rattle.mg_volume.specs.Opening.{Holds}
+use Rattle.mg_vcache.specs.Seats.{AllBacked}
 
 -- what `Volume::is_formed` says
 abbrev pub IsFormedBy : VolumeHeld → Type 0
 IsFormedBy v = (image : Image) → AreBytes image → held.IsSpelledBy v image → held.staged_of v ≡ 0 → held.is_sound (held.now_of v image) ≡ true → IsWellFormed (held.now_of v image)
 
 module _ {D : Type 0} (facts : Ghosts D) where
-  pub stands-formed : (k : Kernel) (disk : D) → held.StandsOn facts k.volume disk → ForSome (facts.seen disk) (λ image. IsWellFormed (held.now_of k.volume image)) → StandsOn facts k disk
-  unfolding IsSpelledBy total_of
-  stands-formed k disk stands formed = record {
+  pub stands-formed : (k : Kernel) (disk : D) → held.StandsOn facts k.volume disk → ForSome (facts.seen disk) (λ image. IsWellFormed (held.now_of k.volume image)) → ForSome (facts.seen disk) (λ image. AllBacked (held.now_of k.volume image) k.cache)
+      → StandsOn facts k disk
+  unfolding IsSpelledBy total_of now_of seats_in
+  stands-formed k disk stands formed backed = record {
     room = stands.room;
     settled = stands.settled;
     fits = λ image told. record { fitting = stands.fits image told; formed = formed image told };
+    backed = backed;
   }
 
   -- where nothing is staged
   pub stands-opened : (k : Kernel) (disk : D) → held.StandsOn facts k.volume disk → ForSome (facts.seen disk) AreBytes → IsFormedBy k.volume → held.staged_of k.volume ≡ 0
-      → ForSome (facts.seen disk) (λ image. held.is_sound (held.now_of k.volume image) ≡ true) → StandsOn facts k disk
-  stands-opened k disk stands bytes formed none sound = stands-formed k disk stands (λ image told. formed image (bytes image told) (stands.fits image told) none (sound image told))
+      → ForSome (facts.seen disk) (λ image. held.is_sound (held.now_of k.volume image) ≡ true) → ForSome (facts.seen disk) (λ image. AllBacked (held.now_of k.volume image) k.cache) → StandsOn facts k disk
+  stands-opened k disk stands bytes formed none sound backed =
+      stands-formed k disk stands (λ image told. formed image (bytes image told) (stands.fits image told) none (sound image told)) backed
+
+  -- each right that is kept is one that the state gives
+  pub backed-of : (k : Kernel) (disk : D) → StandsOn facts k disk → ForSome (facts.seen disk) (λ image. AllBacked (held.now_of k.volume image) k.cache)
+  unfolding now_of seats_in
+  backed-of k disk is = is.backed
+
+  -- and stays so where the state stays, though it is told of another image
+  pub backed-kept : (old new : VolumeHeld) (seats : List (Option Seat)) (before after : D) → ForSome (facts.seen before) (λ image. AllBacked (held.now_of old image) seats)
+      → ForSome (facts.seen before) (λ image. Holds (held.now_of old image) new (facts.seen after)) → ForSome (facts.seen after) (λ _. IsSome (facts.seen before)) → ForSome (facts.seen after) (λ image. AllBacked (held.now_of new image) seats)
+  backed-kept old new seats before after backed done told = λ image now. by_before (facts.seen before) refl image now (told image now)
+    where
+      by_before : (o : Option Image) → facts.seen before ≡ o → (image : Image) → facts.seen after ≡ Some image → IsSome o → AllBacked (held.now_of new image) seats
+      by_before (Some first) is image now some =
+          let holds = done first is in
+          let both : Some holds.image ≡ Some image = sym holds.is ∙ now in
+          let same : holds.image ≡ image = cc in
+          subst (λ i. AllBacked (held.now_of new i) seats) same (subst (λ s. AllBacked s seats) (sym holds.now) (backed first is))
+      by_before None is image now some = cc
 
   -- what the volume's calls ask for
   pub sound-of : (k : Kernel) (disk : D) → StandsOn facts k disk → IsSoundOn facts k.volume disk

@@ -1,5 +1,5 @@
 -- Which thread makes a call.
-use Rattle.std.specs.Prelude.{◌≡◌, ◌==◌, ℕ, Bool, true, false, Option, Some, None, find, is_some, if◌then◌else◌}
+use Rattle.std.specs.Prelude.{◌≡◌, ◌==◌, ℕ, Option, Some, None, find, is_some, if◌then◌else◌}
 use Rattle.std.proofs.Common.{refl, ap}
 use Rattle.mg_disk.specs.Disk.{Image}
 use Rattle.mg_model.specs.declared.calls.Call.{Call}

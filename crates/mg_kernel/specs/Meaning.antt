@@ -1,13 +1,21 @@
 -- What a kernel is, as functions of the value and an image. The layers above see these words by their names.
-use Rattle.std.specs.Prelude.{◌≡◌, ◌≤◌, ℕ, Bool}
+use Rattle.std.specs.Prelude.{◌≡◌, ◌≤◌, ℕ, Bool, List, Option}
 use Rattle.std.specs.Option.{ForSome}
+use Rattle.std.proofs.Common.{refl, sym, ap}
+use Rattle.mg_calls_dom.specs.Known.{rows_know}
+use Rattle.mg_calls_dom.specs.KnownLemmas.{rows_tell}
 use Rattle.mg_disk.specs.Disk.{Image}
 use Rattle.mg_disk.specs.Stops.{NothingPending}
 use Rattle.mg_disk.specs.declared.disk.Disk.{Ghosts}
 use Rattle.mg_kernel.specs.declared.kernel.Kernel.{Kernel}
+use Rattle.mg_model.specs.declared.rights.Right.{Right}
+use Rattle.mg_model.specs.declared.seats.Seat.{Seat}
+use Rattle.mg_model.specs.Kept.{is_known}
+use Rattle.mg_model.specs.Keys.{Key}
 use Rattle.mg_model.specs.State.{State}
 use Rattle.mg_model.specs.Volume.{Is, volume}
 use Rattle.mg_model.specs.WellFormed.{IsWellFormed}
+use Rattle.mg_vcache.specs.Seats.{AllBacked, is_kept}
 use Rattle.mg_volume.specs.Laws as laws
 use Rattle.mg_volume.specs.Meaning as held
 
@@ -39,11 +47,25 @@ total_of k = held.total_of k.volume
 unfoldable pub words_in : Kernel → ℕ
 words_in k = held.words_in k.volume
 
--- the kernel stands on the disk: nothing is pending, and it fits what reads give
+-- the seats of the validation cache
+unfoldable pub seats_in : Kernel → List (Option Seat)
+seats_in k = k.cache
+
+-- whether a key is kept
+unfoldable pub keeps_key : Kernel → Key → Bool
+keeps_key k key = is_kept k.cache key
+
+-- whether the key of an access of a thread to an address with a right is kept; the rows that are held tell the object
+unfoldable pub knows : Kernel → ℕ → ℕ → Right → Bool
+knows k t address right = rows_know (held.objects_in k.volume) k.cache t address right
+
+-- The kernel stands on the disk: nothing is pending, it fits what reads give, and each right that is kept is one that the
+-- state gives.
 pub record StandsOn {D : Type 0} (facts : Ghosts D) (k : Kernel) (disk : D) : Type 0 where
   pub room : total_of k ≤ facts.block_count disk
   pub settled : NothingPending facts disk
   pub fits : ForSome (facts.seen disk) (λ image. IsSpelledBy k image)
+  pub backed : ForSome (facts.seen disk) (λ image. AllBacked (now_of k image) (seats_in k))
 
 -- an image that the kernel fits is a volume
 pub spelled_volume : (k : Kernel) (image : Image) → IsSpelledBy k image → (state : State) × (volume image ≡ Is state)
@@ -54,3 +76,18 @@ spelled_volume k image is = laws.spelled_volume k.volume image is.fitting
 pub now_kept : (k : Kernel) (image : Image) → IsSpelledBy k image → staged_of k ≡ 0 → volume image ≡ Is (now_of k image)
 unfolding IsSpelledBy staged_of now_of
 now_kept k image is none = laws.now_kept k.volume image is.fitting none
+
+-- where the seats stay, each key stays kept
+pub same_keys : (a b : Kernel) → seats_in b ≡ seats_in a → (key : Key) → keeps_key b key ≡ keeps_key a key
+unfolding seats_in keeps_key
+same_keys a b same key = ap (λ seats. is_kept seats key) same
+
+-- a key is kept in its seat
+pub kept_in : (k : Kernel) (key : Key) → keeps_key k key ≡ is_kept (seats_in k) key
+unfolding seats_in keeps_key
+kept_in k key = refl
+
+-- the rows tell whether a key is kept
+pub knows_is : (k : Kernel) (image : Image) (t a : ℕ) (right : Right) → knows k t a right ≡ is_known (λ key. keeps_key k key) (now_of k image) (record { thread = t; address = a; right = right })
+unfolding knows keeps_key now_of
+knows_is k image t a right = sym (rows_tell k.volume image k.cache t a right)

@@ -1,12 +1,16 @@
 // What a line is answered: the order of the first refusals, and the call that answers else.
-ghost use Rattle.std.specs.Prelude.{List, ◌≡◌, ◌≤◌, ℕ, true, false, IfOk, OnErr};
+ghost use Rattle.std.specs.Prelude.{List, ◌≡◌, ◌≤◌, ◌+◌, ℕ, true, false, IfOk, OnErr, OnOk};
 ghost use Rattle.std.specs.Option.{ForSome};
 ghost use Rattle.mg_disk.specs.Stops.{CountRose};
 ghost use Rattle.mg_model.specs.Built.{IsBuilt, is_built};
 ghost use Rattle.mg_model.specs.FewSlots.{HasFewSlots};
+ghost use Rattle.mg_kernel.specs.Calls.{KeepsCall, KeepsThread, call_limit, thread_limit};
+ghost use Rattle.mg_model.specs.Kept.{KeepsLine, line_limit};
 ghost use Rattle.mg_model.specs.Refused.{IsRefusal};
 ghost use Rattle.mg_model.specs.Step.{of_thread, step};
+ghost use Rattle.mg_model.specs.Threads.{is_thread};
 ghost use Rattle.mg_model.specs.Turn.{thread_call};
+ghost use Rattle.mg_vcache.specs.Seats.{AllBacked, is_kept};
 ghost use Rattle.mg_volume.specs.Calls.{IsSoundOn, Serves};
 ghost use Rattle.mg_volume.specs.Meaning.{Keeps, now_of, staged_of};
 
@@ -15,23 +19,29 @@ use mg_calls_obj::info;
 use mg_disk::Disk;
 use mg_faults::Failed;
 use mg_model::{Call, Line, Refusal, Reply, Steps};
+use mg_vcache::VCache;
 use mg_volume::Volume;
 use std::sync::ledger::Ledger;
 
 /// What a line is answered. [`Failed`] comes only where a call of the disk failed, and the state then stays.
 pub(crate) fn answer<D: Disk, L: Ledger>(
     v: &mut Volume,
+    c: &mut VCache,
     disk: &mut D,
     line: &Line,
     steps: &mut Steps<L>,
 ) -> Result<Reply, Failed>
     requires sound { IsSoundOn D.Disk v.old disk.old }
     requires few { staged_of v.old ≤ 28 }
+    requires backed { ForSome (D.seen disk.old) (λ image. AllBacked (now_of v.old image) c.old) }
     requires built { IsBuilt line.now }
     ensures answers { IfOk result (λ reply. ForSome (D.seen disk.old) (λ image. step (now_of v.old image) line.now ≡ (now_of v.new image, reply))) }
     ensures refused { IfOk result (λ reply. IsRefusal reply → staged_of v.new ≡ staged_of v.old) }
     ensures failed { OnErr result (Keeps v.old v.new) }
     ensures slots { IfOk result HasFewSlots }
+    ensures backed { ForSome (D.seen disk.old) (λ image. AllBacked (now_of v.new image) c.new) }
+    ensures keeps { OnOk result (ForSome (D.seen disk.old) (λ image. KeepsLine (now_of v.old image) line.now (λ key. is_kept c.old key) (λ key. is_kept c.new key) steps.old steps.new)) }
+    ensures limit { ForSome (D.seen disk.old) (λ image. steps.new ≤ steps.old + line_limit (λ key. is_kept c.old key) (now_of v.old image) line.now) }
     ensures serves { Serves 132 D.Disk v.old v.new disk.old disk.new steps.old steps.new }
     ensures cause { OnErr result (CountRose D.Disk disk.old disk.new) }
 {
@@ -39,13 +49,14 @@ pub(crate) fn answer<D: Disk, L: Ledger>(
         Call::Bad => Ok(Reply::No(Refusal::Syntax)),
         Call::Later => Ok(Reply::No(Refusal::Later)),
         Call::Turn | Call::Next | Call::Rent => unreachable!(),
-        _ => by_thread(v, disk, line.thread, &line.call, steps),
+        _ => by_thread(v, c, disk, line.thread, &line.call, steps),
     }
 }
 
 // What a call of a thread is answered, NoThread where no such thread lives.
 fn by_thread<D: Disk, L: Ledger>(
     v: &mut Volume,
+    c: &mut VCache,
     disk: &mut D,
     t: u64,
     call: &Call,
@@ -53,16 +64,20 @@ fn by_thread<D: Disk, L: Ledger>(
 ) -> Result<Reply, Failed>
     requires sound { IsSoundOn D.Disk v.old disk.old }
     requires few { staged_of v.old ≤ 28 }
+    requires backed { ForSome (D.seen disk.old) (λ image. AllBacked (now_of v.old image) c.old) }
     requires built { is_built call.now ≡ true }
     ensures answers { IfOk result (λ reply. ForSome (D.seen disk.old) (λ image. of_thread (now_of v.old image) t (thread_call (now_of v.old image) t call.now) ≡ (now_of v.new image, reply))) }
     ensures refused { IfOk result (λ reply. IsRefusal reply → staged_of v.new ≡ staged_of v.old) }
     ensures failed { OnErr result (Keeps v.old v.new) }
     ensures slots { IfOk result HasFewSlots }
+    ensures backed { ForSome (D.seen disk.old) (λ image. AllBacked (now_of v.new image) c.new) }
+    ensures keeps { OnOk result (ForSome (D.seen disk.old) (λ image. KeepsThread (now_of v.old image) t call.now (λ key. is_kept c.old key) (λ key. is_kept c.new key) steps.old steps.new)) }
+    ensures limit { ForSome (D.seen disk.old) (λ image. steps.new ≤ steps.old + thread_limit (λ key. is_kept c.old key) (now_of v.old image) t call.now) }
     ensures serves { Serves 132 D.Disk v.old v.new disk.old disk.new steps.old steps.new }
     ensures cause { OnErr result (CountRose D.Disk disk.old disk.new) }
 {
     match v.frame(t) {
-        Some(_) => called(v, disk, t, call, steps),
+        Some(_) => called(v, c, disk, t, call, steps),
         None => Ok(Reply::No(Refusal::NoThread)),
     }
 }
@@ -70,6 +85,7 @@ fn by_thread<D: Disk, L: Ledger>(
 // The call, of a thread that lives.
 fn called<D: Disk, L: Ledger>(
     v: &mut Volume,
+    c: &mut VCache,
     disk: &mut D,
     t: u64,
     call: &Call,
@@ -77,18 +93,22 @@ fn called<D: Disk, L: Ledger>(
 ) -> Result<Reply, Failed>
     requires sound { IsSoundOn D.Disk v.old disk.old }
     requires few { staged_of v.old ≤ 28 }
+    requires backed { ForSome (D.seen disk.old) (λ image. AllBacked (now_of v.old image) c.old) }
     requires built { is_built call.now ≡ true }
     ensures answers { IfOk result (λ reply. ForSome (D.seen disk.old) (λ image. thread_call (now_of v.old image) t call.now ≡ (now_of v.new image, reply))) }
     ensures refused { IfOk result (λ reply. IsRefusal reply → staged_of v.new ≡ staged_of v.old) }
     ensures failed { OnErr result (Keeps v.old v.new) }
     ensures slots { IfOk result HasFewSlots }
+    ensures backed { ForSome (D.seen disk.old) (λ image. AllBacked (now_of v.new image) c.new) }
+    ensures keeps { OnOk result (ForSome (D.seen disk.old) (λ image. is_thread (now_of v.old image) t ≡ true → KeepsCall (now_of v.old image) t call.now (λ key. is_kept c.old key) (λ key. is_kept c.new key) steps.old steps.new)) }
+    ensures limit { ForSome (D.seen disk.old) (λ image. is_thread (now_of v.old image) t ≡ true → steps.new ≤ steps.old + call_limit (λ key. is_kept c.old key) (now_of v.old image) t call.now) }
     ensures serves { Serves 132 D.Disk v.old v.new disk.old disk.new steps.old steps.new }
     ensures cause { OnErr result (CountRose D.Disk disk.old disk.new) }
 {
     match *call {
-        Call::Load { a } => load(v, disk, t, a, steps),
-        Call::Store { a, value } => store(v, disk, t, a, value, steps),
-        Call::Info { base } => info(v, disk, t, base, steps),
+        Call::Load { a } => load(v, c, disk, t, a, steps),
+        Call::Store { a, value } => store(v, c, disk, t, a, value, steps),
+        Call::Info { base } => info(v, c, disk, t, base, steps),
         Call::Turn | Call::Next | Call::Rent | Call::Bad | Call::Later => {
             Ok(Reply::No(Refusal::Syntax))
         }

@@ -1,11 +1,13 @@
 // The kernel.
-ghost use Rattle.std.specs.Prelude.{List, ◌≡◌, ◌≤◌, ◌<◌, ◌+◌, ◌⊎◌, ℕ, true, false, IfOk, IsOk, IsTrue, MatchOption, None, OnErr, OnOk, option_map, if◌then◌else◌};
+ghost use Rattle.std.specs.Prelude.{List, ◌≡◌, ◌≤◌, ◌<◌, ◌+◌, ◌-◌, ◌⊎◌, ℕ, true, false, IfErr, IfOk, IsOk, IsTrue, MatchOption, None, OnErr, OnOk, option_map, replicate, if◌then◌else◌};
 ghost use Rattle.std.specs.Option.{ForSome};
 ghost use Rattle.mg_disk.specs.Stops.{CountGoes, CountRose, Leaves, NothingPending, WritesNothing};
-ghost use Rattle.mg_kernel.specs.Meaning.{StandsOn, is_live, now_of, staged_of, words_in};
+ghost use Rattle.mg_kernel.specs.Meaning.{StandsOn, is_live, keeps_key, knows, now_of, seats_in, staged_of, words_in};
 ghost use Rattle.mg_kernel.specs.Opening.{Holds, Opens};
 ghost use Rattle.mg_model.specs.Access.{allowed, at};
 ghost use Rattle.mg_model.specs.Built.{IsBuilt};
+ghost use Rattle.mg_model.specs.Kept.{KeepsLine, Validates, access_limit, line_limit};
+ghost use Rattle.mg_model.specs.Limits.{seat_count};
 ghost use Rattle.mg_model.specs.Refused.{IsRefusal};
 ghost use Rattle.mg_model.specs.Step.{step};
 ghost use Rattle.mg_model.specs.Volume.{Damaged, Is, NotVolume, OldVolume, volume};
@@ -19,17 +21,19 @@ use mg_disk::Disk;
 use mg_faults::Failed;
 use mg_laws::steps_keep_states_well_formed;
 use mg_model::{Line, Reply, Right, Steps};
+use mg_vcache::VCache;
 use mg_volume::{OpenFault, Volume};
 use std::alloc::Global;
 use std::sync::ledger::Ledger;
 
-/// The machine on a volume.
+/// The machine on a volume, and what is kept of the rights that it found.
 #[derive(Drop)]
 pub struct Kernel {
     volume: Volume,
+    cache: VCache,
 }
 
-#[tactic(auto, unfolding(crate::specs::Meaning::now_of, crate::specs::Meaning::staged_of, crate::specs::Meaning::is_live, crate::specs::Meaning::total_of, crate::specs::Meaning::words_in, crate::specs::Meaning::IsSpelledBy))]
+#[tactic(auto, unfolding(crate::specs::Meaning::now_of, crate::specs::Meaning::seats_in, crate::specs::Meaning::keeps_key, crate::specs::Meaning::knows, crate::specs::Meaning::staged_of, crate::specs::Meaning::is_live, crate::specs::Meaning::total_of, crate::specs::Meaning::words_in, crate::specs::Meaning::IsSpelledBy))]
 impl Kernel {
     /// Opens the volume of a disk, whatever a stop left of a commit. All memory that the machine will need is taken here.
     ///
@@ -40,6 +44,7 @@ impl Kernel {
         ensures opens { IfOk result (λ k. ForSome (D.seen disk.old) (λ image. Opens (volume image) k (D.seen disk.new))) }
         ensures stands { IfOk result (λ k. StandsOn D.Disk k disk.new) }
         ensures staged { IfOk result (λ k. staged_of k ≡ 0) }
+        ensures none { IfOk result (λ k. seats_in k ≡ replicate seat_count None) }
         ensures live { IfOk result (λ k. IsTrue (is_live k)) }
         ensures any_moment { NothingPending D.Disk disk.old → ForSome (D.seen disk.old) (λ image. Leaves D.Disk disk.old disk.new (λ c. volume c ≡ volume image)) }
         ensures not { result ≡ Err OpenFault.Not → ForSome (D.seen disk.old) (λ image. volume image ≡ NotVolume) }
@@ -55,7 +60,7 @@ impl Kernel {
         match Volume::open(alloc, disk) {
             Ok(volume) => {
                 volume.is_formed();
-                Ok(Kernel { volume })
+                with_cache(alloc, volume)
             }
             Err(fault) => Err(fault),
         }
@@ -63,6 +68,11 @@ impl Kernel {
 
     /// One line: its reply, and the state after it. It writes nothing. [`Failed`] comes only where a call of the disk
     /// failed; the state and what is staged are then as before, and the kernel still serves.
+    ///
+    /// Whatever comes of it, `steps` rises by no more than the line's own words and, for each access of the line, 4,088, or 0
+    /// where its key was kept and no other key took its seat in the line. Where it is answered its own words are counted, one
+    /// each; and unless it disturbs, keys stay kept but for those whose seat another took, and the last key that took a seat
+    /// is kept.
     pub fn step<D: Disk, L: Ledger>(
         &mut self,
         disk: &mut D,
@@ -84,17 +94,22 @@ impl Kernel {
         ensures live { is_live self.new ≡ is_live self.old }
         ensures staged { staged_of self.new ≤ staged_of self.old + 132 }
         ensures counted { CountsAlike (words_in self.old) (words_in self.new) steps.old steps.new }
+        ensures keeps { OnOk result (ForSome (D.seen disk.old) (λ image. KeepsLine (now_of self.old image) line.now (λ key. keeps_key self.old key) (λ key. keeps_key self.new key) steps.old steps.new)) }
+        ensures limit { ForSome (D.seen disk.old) (λ image. steps.new ≤ steps.old + line_limit (λ key. keeps_key self.old key) (now_of self.old image) line.now) }
         ensures cause { OnErr result (CountRose D.Disk disk.old disk.new) }
         ensures count { CountGoes D.Disk disk.old disk.new }
         ensures blocks { D.block_count disk.new ≡ D.block_count disk.old }
     {
         keeps_ranges(line);
         steps_keep_states_well_formed();
-        answer(&mut self.volume, disk, line, steps)
+        answer(&mut self.volume, &mut self.cache, disk, line, steps)
     }
 
     /// The base of the object that has an address, where a thread may reach it with the right; None where it may not, or no
     /// such thread lives. The state and what is staged stay. [`Failed`] comes only where a call of the disk failed.
+    ///
+    /// Where the key is kept no word is read and no call is made on the disk; else at most 4,088 words are read, and the key
+    /// of a base that is given is kept then. Each other seat stays.
     pub fn probe<D: Disk, L: Ledger>(
         &mut self,
         disk: &mut D,
@@ -113,14 +128,19 @@ impl Kernel {
         ensures live { is_live self.new ≡ is_live self.old }
         ensures staged { staged_of self.new ≡ staged_of self.old }
         ensures counted { CountsAlike (words_in self.old) (words_in self.new) steps.old steps.new }
+        ensures keeps { OnOk result (ForSome (D.seen disk.old) (λ image. Validates (now_of self.old image) (record { thread = t; address = a; right = r }) (λ key. keeps_key self.old key) (λ key. keeps_key self.new key) (steps.new - steps.old))) }
+        ensures limit { ForSome (D.seen disk.old) (λ image. steps.new ≤ steps.old + access_limit (λ key. keeps_key self.old key) (now_of self.old image) (record { thread = t; address = a; right = r })) }
+        ensures known { knows self.old t a r ≡ true → (disk.new ≡ disk.old) × (steps.new ≡ steps.old) }
+        ensures none { IfOk result (λ base. base ≡ None → seats_in self.new ≡ seats_in self.old) }
+        ensures failed { OnErr result (seats_in self.new ≡ seats_in self.old) }
         ensures cause { OnErr result (CountRose D.Disk disk.old disk.new) }
         ensures count { CountGoes D.Disk disk.old disk.new }
         ensures blocks { D.block_count disk.new ≡ D.block_count disk.old }
     {
-        validate(&mut self.volume, disk, t, a, r, steps)
+        validate(&mut self.volume, &mut self.cache, disk, t, a, r, steps)
     }
 
-    /// Makes the state durable. With nothing staged no call of the disk is made. After [`Failed`], which comes only where a
+    /// Makes the state durable. What is kept of rights stays. With nothing staged no call of the disk is made. After [`Failed`], which comes only where a
     /// call of the disk failed, the kernel is not live, and a stop leaves the state of before or the new one.
     pub fn commit<D: Disk>(&mut self, disk: &mut D) -> Result<(), Failed>
         requires live { IsTrue (is_live self.old) }
@@ -132,6 +152,7 @@ impl Kernel {
         ensures live { OnOk result (IsTrue (is_live self.new)) }
         ensures dead { OnErr result (is_live self.new ≡ false) }
         ensures words { words_in self.new ≡ words_in self.old }
+        ensures seats { seats_in self.new ≡ seats_in self.old }
         ensures cause { OnErr result (CountRose D.Disk disk.old disk.new) }
         ensures count { CountGoes D.Disk disk.old disk.new }
         ensures blocks { D.block_count disk.new ≡ D.block_count disk.old }
@@ -159,10 +180,22 @@ impl Kernel {
     {
         self.volume.live()
     }
+
     /// How many words were read and written, modulo `2^64`.
     pub fn words(&self) -> u64
         ensures { result ≡ words_in self.now }
     {
         self.volume.words()
+    }
+}
+
+// A kernel on this volume, of which nothing is kept yet.
+fn with_cache(alloc: Global, volume: Volume) -> Result<Kernel, OpenFault>
+    ensures kernel { IfOk result (λ k. k ≡ record { volume = volume; cache = replicate seat_count None }) }
+    ensures memory { IfErr result (λ fault. fault ≡ OpenFault.Memory) }
+{
+    match VCache::new(alloc) {
+        Ok(cache) => Ok(Kernel { volume, cache }),
+        Err(_) => Err(OpenFault::Memory),
     }
 }

@@ -1,4 +1,4 @@
-use Rattle.std.proofs.Common.{◌≡◌, ◌+◌, ◌-◌, ◌*◌, ◌/◌, ℕ, arith, sym, ap, subst, ◌∙◌}
+use Rattle.std.proofs.Common.{◌≡◌, ◌+◌, ◌-◌, ◌*◌, arith, sym, ap, subst, ◌∙◌}
 use Rattle.mg_calls_dom.proofs.Refusals.{word-address}
 use Rattle.mg_calls_dom.proofs.Words.{no-word, own-word}
 use Rattle.mg_calls_dom.specs.LineLemmas.{keeps_line, limit_line}

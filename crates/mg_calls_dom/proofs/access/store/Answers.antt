@@ -1,4 +1,4 @@
-use Rattle.std.proofs.Common.{◌≡◌, ◌+◌, ◌-◌, ◌*◌, ℕ, arith, sym, ap, subst, ◌∙◌}
+use Rattle.std.proofs.Common.{◌≡◌, ◌+◌, ◌-◌, ◌*◌, arith, sym, ap, subst, ◌∙◌}
 use Rattle.mg_calls_dom.proofs.Refusals.{word-address}
 use Rattle.mg_calls_dom.proofs.Words.{dropped-keys, no-word, own-word, stored-backed}
 use Rattle.mg_calls_dom.specs.LineLemmas.{drops_line, keeps_line, limit_line}

@@ -1,8 +1,8 @@
-use Rattle.std.proofs.Common.{◌%◌, ◌/◌, refl, sym, ap, ◌∙◌}
+use Rattle.std.proofs.Common.{◌%◌, ◌/◌, sym, ◌∙◌}
 use Rattle.std.proofs.lemmas.Bool.{eq-eqb}
-use Rattle.mg_calls_dom.proofs.Apart.{found-any, found-passes, page-in, row-place}
+use Rattle.mg_calls_dom.proofs.Apart.{found-any, found-passes, page-in}
 use Rattle.mg_calls_dom.proofs.Refusals.{refusal-denied, refusal-none}
-use Rattle.mg_calls_dom.proofs.Words.{tested-limit, tested-rules, unaligned-rules}
+use Rattle.mg_calls_dom.proofs.Words.{tested-limit, tested-rules}
 use Rattle.mg_calls_dom.specs.ReachedLemmas.{gone_held}
 use Rattle.mg_model.specs.Access.{covers}
 use Rattle.mg_vcache.specs.Seats.{is_kept}

@@ -1,7 +1,7 @@
 use Rattle.std.proofs.Common.{arith, get_or, refl, sym, ◌∙◌}
 use Rattle.std.proofs.lemmas.List.{get_or_default}
 use Rattle.mg_calls_dom.specs.Searching.{slot_opens}
-use Rattle.mg_calls_dom.specs.ReachedLemmas.{any_end, any_hit, any_miss}
+use Rattle.mg_calls_dom.specs.ReachedLemmas.{any_end, any_miss}
 use Rattle.mg_volume.specs.RunLemmas.{reads_then, told_since}
 use Rattle.mg_model.specs.declared.slots.Slot.{Slot}
 use Rattle.mg_volume.specs.Meaning.{now_of}

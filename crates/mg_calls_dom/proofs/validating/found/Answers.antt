@@ -1,7 +1,6 @@
 use Rattle.std.proofs.Common.{None, Some, sym, ap, subst, ◌∙◌}
 use Rattle.mg_calls_dom.proofs.Allowed.{kept-allowed, opened-allowed, opened-backed, unopened-allowed}
 use Rattle.mg_calls_dom.proofs.Reached.{reached-none}
-use Rattle.mg_calls_dom.specs.Searching.{IsOpenedBy}
 use Rattle.mg_calls_dom.specs.declared.lists.Sought.{Sought}
 use Rattle.mg_model.specs.Access.{covers, domain_of}
 use Rattle.mg_model.specs.Backed.{IsBacked}

@@ -1,4 +1,3 @@
-use Rattle.std.proofs.Common.{Some, None, sym}
 use Rattle.mg_calls_dom.proofs.Tried.{tried, within}
 use Rattle.mg_calls_dom.specs.Known.{rows_know}
 use Rattle.mg_calls_dom.specs.KnownLemmas.{rows_tell}

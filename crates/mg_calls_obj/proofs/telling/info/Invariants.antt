@@ -1,20 +1,30 @@
-use Rattle.std.proofs.Common.{◌≡◌, [], ◌∷◌, List, drop}
+use Rattle.std.proofs.Common.{◌≡◌, ◌==◌, ◌-◌, [], ◌∷◌, List, drop, None, take}
+use Rattle.std.specs.Prelude.{find, map}
 use Rattle.std.specs.List.{list_any}
 use Rattle.std.specs.Option.{ForSome}
+use Rattle.mg_calls_obj.proofs.Rights.{Tries, of}
 use Rattle.mg_model.specs.declared.rights.Right.{Right}
 use Rattle.mg_model.specs.declared.rights.Right.TheVariants.{R, W, X, D, P, O}
 use Rattle.mg_model.specs.Access.{allowed}
+use Rattle.mg_model.specs.Kept.{Searches}
+use Rattle.mg_model.specs.State.{Thread}
+use Rattle.mg_vcache.specs.Seats.{is_kept}
 use Rattle.mg_volume.specs.Calls.{Reads}
-use Rattle.mg_volume.specs.Meaning.{now_of}
+use Rattle.mg_volume.specs.Meaning.{now_of, threads_in}
 use Rattle.mg_calls_obj.proofs.telling.info.Given as goal
 
 abbrev pub rights : List Right
 rights = R ∷ W ∷ X ∷ D ∷ P ∷ O ∷ []
 
--- no right before this one is given
+-- no right before this one is given, and their searches kept nothing
 abbrev pub invariant-loop-right : goal.invariant-loop-right
 invariant-loop-right g l = record {
   reads : Reads g.D.Disk l.fn.v l.v l.fn.disk l.disk l.fn.steps l.steps;
+  same : l.c ≡ l.fn.c;
+  nobody : find (λ (thread : Thread). thread.number == l.fn.t) (threads_in l.fn.v) ≡ None → l.steps ≡ l.fn.steps;
   rest : ForSome (g.D.Disk.seen l.fn.disk) (λ image.
       list_any (λ right. allowed (now_of l.fn.v image) l.fn.t l.fn.a right) rights ≡ list_any (λ right. allowed (now_of l.fn.v image) l.fn.t l.fn.a right) (drop l.right-index rights));
+  tries : ForSome (g.D.Disk.seen l.fn.disk) (λ image. Tries (now_of l.fn.v image) l.fn.t l.fn.a rights l.right-index);
+  searches : ForSome (g.D.Disk.seen l.fn.disk) (λ image.
+      Searches (now_of l.fn.v image) (λ key. is_kept l.fn.c key) (map (of (now_of l.fn.v image) l.fn.t l.fn.a) (take l.right-index rights)) (λ key. is_kept l.fn.c key) (l.steps - l.fn.steps));
 }

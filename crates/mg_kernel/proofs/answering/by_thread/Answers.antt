@@ -1,7 +1,9 @@
 use Rattle.std.proofs.Common.{◌∙◌}
-use Rattle.std.proofs.lemmas.Result.{IfOk-weaker}
+use Rattle.std.proofs.lemmas.Result.{IfOk-weaker, on_ok_weaker}
+use Rattle.mg_kernel.proofs.Counted.{gone-thread, held-gone, held-lives, lives-limit, lives-thread}
 use Rattle.mg_kernel.proofs.Threads.{gone, lives}
 use Rattle.mg_model.specs.Turn.{thread_call}
+use Rattle.mg_vcache.specs.Seats.{is_kept}
 use Rattle.mg_volume.specs.Meaning.{now_of}
 use Rattle.mg_kernel.proofs.answering.by_thread.Goals as goal
 
@@ -12,3 +14,19 @@ returns-in-Some-clause-answers g c =
 
 pub returns-in-None-clause-answers : goal.returns-in-None-clause-answers
 returns-in-None-clause-answers g c image told = gone c.args.v.now image c.args.t (thread_call (now_of c.args.v.now image) c.args.t c.args.call.now) c.in-None.ensures
+
+pub returns-in-Some-clause-keeps : goal.returns-in-Some-clause-keeps
+returns-in-Some-clause-keeps g c =
+    on_ok_weaker c.called.result
+    (λ keeps image told.
+    lives-thread (now_of c.args.v.now image) c.args.t c.args.call.now (λ key. is_kept c.args.c.now key) (λ key. is_kept c.called.new.c key) c.args.steps.now c.called.new.steps
+    (held-lives c.args.v.now image c.args.t c.in-Some.ensures.0 c.in-Some.ensures.1) (keeps image told)) c.called.ensures.keeps
+
+pub returns-in-Some-clause-limit : goal.returns-in-Some-clause-limit
+returns-in-Some-clause-limit g c image told =
+    let lives = held-lives c.args.v.now image c.args.t c.in-Some.ensures.0 c.in-Some.ensures.1 in
+    lives-limit (now_of c.args.v.now image) c.args.t c.args.call.now (λ key. is_kept c.args.c.now key) c.args.steps.now c.called.new.steps lives (c.called.ensures.limit image told lives)
+
+pub returns-in-None-clause-keeps : goal.returns-in-None-clause-keeps
+returns-in-None-clause-keeps g c image told =
+    gone-thread (now_of c.args.v.now image) c.args.t c.args.call.now (λ key. is_kept c.args.c.now key) c.args.steps.now (held-gone c.args.v.now image c.args.t c.in-None.ensures)

@@ -1,0 +1,139 @@
+-- What lines keep and cost, by their calls.
+use Rattle.std.specs.Prelude.{ℕ, ◌≡◌, ◌≤◌, ◌+◌, ◌==◌, ◌&&◌, Bool, true, false, [], find, is_some, if◌then◌else◌, Some, None}
+use Rattle.std.proofs.Common.{arith, refl, sym, ap, subst, ◌∙◌}
+use Rattle.mg_disk.specs.Disk.{Image}
+use Rattle.mg_kernel.specs.Calls.{KeepsCall, KeepsThread, call_limit, thread_limit}
+use Rattle.mg_model.specs.declared.calls.Call.{Call}
+use Rattle.mg_model.specs.declared.calls.Call.TheVariants as call
+use Rattle.mg_model.specs.declared.calls.Line.{Line}
+use Rattle.mg_model.specs.declared.replies.Refusal.TheVariants.{NoThread}
+use Rattle.mg_model.specs.declared.replies.Reply.TheVariants.{No}
+use Rattle.mg_model.specs.Accesses.{accesses, accesses_of, call_accesses, call_words, words_by, words_of}
+use Rattle.mg_model.specs.Kept.{KeepsKeys, KeepsLine, line_limit, searches_limit}
+use Rattle.mg_model.specs.Keys.{Key}
+use Rattle.mg_model.specs.Refused.{Answer}
+use Rattle.mg_model.specs.State.{State, Thread}
+use Rattle.mg_model.specs.Step.{of_thread, step_of}
+use Rattle.mg_model.specs.Threads.{is_thread}
+use Rattle.mg_model.specs.Turn.{thread_call}
+use Rattle.mg_model.specs.Warmth.{disturbs, is_ok}
+use Rattle.mg_volume.specs.Held.{VolumeHeld}
+use Rattle.mg_volume.specs.Meaning.{now_of, threads_in}
+use Rattle.mg_volume.specs.RunLemmas.{told_thread}
+
+-- no access keeps what is kept
+no-keys : (state : State) (kept kept' : Key → Bool) → ((key : Key) → kept' key ≡ kept key) → KeepsKeys state [] kept kept'
+no-keys state kept kept' same = record { stays = λ key was own. same key ∙ was; comes = λ key first. cc }
+
+-- a call that makes no access and has no word
+pub still-call : (state : State) (t : ℕ) (made : Call) (kept : Key → Bool) (steps : ℕ) → call_accesses state t made ≡ [] → call_words state t made ≡ 0 → KeepsCall state t made kept kept steps steps
+still-call state t made kept steps none own = record {
+  keys = λ quiet. subst (λ those. KeepsKeys state those kept kept) (sym none) (no-keys state kept kept (λ key. refl));
+  least = omega arith;
+  most = omega arith;
+}
+
+-- and a line like that
+pub still-line : (state : State) (line : Line) (kept : Key → Bool) (steps : ℕ) → accesses state line ≡ [] → words_of state line ≡ 0 → KeepsLine state line kept kept steps steps
+still-line state line kept steps none own = record {
+  keys = λ quiet. subst (λ those. KeepsKeys state those kept kept) (sym none) (no-keys state kept kept (λ key. refl));
+  least = omega arith;
+  most = omega arith;
+}
+
+-- a call that a thread makes, if it lives
+pub record IsOfThread (state : State) (t : ℕ) (made : Call) : Type 0 where
+  pub answer : step_of state t made ≡ of_thread state t (thread_call state t made)
+  pub accesses : accesses_of state t made ≡ (if is_thread state t then call_accesses state t made else [])
+  pub words : words_by state t made ≡ (if is_thread state t then call_words state t made else 0)
+
+pub of-thread : (made : Call) (state : State) (t : ℕ) → (made ≡ call.Bad → ⊥) → (made ≡ call.Later → ⊥) → (made ≡ call.Turn → ⊥) → (made ≡ call.Next → ⊥) → (made ≡ call.Rent → ⊥) → IsOfThread state t made
+of-thread call.Bad state t bad later turn next rent = absurd (bad refl)
+of-thread call.Later state t bad later turn next rent = absurd (later refl)
+of-thread call.Turn state t bad later turn next rent = absurd (turn refl)
+of-thread call.Next state t bad later turn next rent = absurd (next refl)
+of-thread call.Rent state t bad later turn next rent = absurd (rent refl)
+of-thread other state t bad later turn next rent = record { answer = refl; accesses = refl; words = refl }
+
+module _ (state : State) (t : ℕ) (made : Call) (of : IsOfThread state t made) where
+  abbrev line : Line
+  line = record { thread = t; call = made }
+
+  -- what the line keeps is what the call keeps
+  pub line-call : (kept kept' : Key → Bool) (steps steps' : ℕ) → is_thread state t ≡ true → KeepsLine state line kept kept' steps steps' → KeepsCall state t made kept kept' steps steps'
+  line-call kept kept' steps steps' lives keeps =
+      let those : accesses state line ≡ call_accesses state t made = of.accesses ∙ ap (λ v. if v then call_accesses state t made else []) lives in
+      let own : words_of state line ≡ call_words state t made = of.words ∙ ap (λ v. if v then call_words state t made else 0) lives in
+      let answer : step_of state t made ≡ thread_call state t made = of.answer ∙ ap (λ v. if v then thread_call state t made else (state, No NoThread)) lives in
+      let limit : searches_limit kept state (accesses state line) ≡ searches_limit kept state (call_accesses state t made) = ap (λ xs. searches_limit kept state xs) those in
+      let least = keeps.least in
+      let most = keeps.most in
+      record {
+        keys = λ quiet. subst (λ xs. KeepsKeys state xs kept kept') those (keeps.keys (ap (λ (a : Answer). is_ok a.1 && disturbs state t made) answer ∙ quiet));
+        least = omega arith;
+        most = omega arith;
+      }
+
+  pub limit-call : (kept : Key → Bool) (steps steps' : ℕ) → is_thread state t ≡ true → steps' ≤ steps + line_limit kept state line → steps' ≤ steps + call_limit kept state t made
+  limit-call kept steps steps' lives few =
+      let own : words_of state line ≡ call_words state t made = of.words ∙ ap (λ v. if v then call_words state t made else 0) lives in
+      let limit : searches_limit kept state (accesses state line) ≡ searches_limit kept state (call_accesses state t made) =
+      ap (λ xs. searches_limit kept state xs) (of.accesses ∙ ap (λ v. if v then call_accesses state t made else []) lives) in
+      omega arith
+
+  -- and the other way round, whether the thread lives or not
+  pub thread-line : (kept kept' : Key → Bool) (steps steps' : ℕ) → KeepsThread state t made kept kept' steps steps' → KeepsLine state line kept kept' steps steps'
+  thread-line kept kept' steps steps' keeps = by_thread (is_thread state t) refl
+    where
+      by_thread : (v : Bool) → is_thread state t ≡ v → KeepsLine state line kept kept' steps steps'
+      by_thread true lives =
+          let those : accesses state line ≡ call_accesses state t made = of.accesses ∙ ap (λ v. if v then call_accesses state t made else []) lives in
+          let own : words_of state line ≡ call_words state t made = of.words ∙ ap (λ v. if v then call_words state t made else 0) lives in
+          let answer : step_of state t made ≡ thread_call state t made = of.answer ∙ ap (λ v. if v then thread_call state t made else (state, No NoThread)) lives in
+          let limit : searches_limit kept state (accesses state line) ≡ searches_limit kept state (call_accesses state t made) = ap (λ xs. searches_limit kept state xs) those in
+          let called = keeps.lives lives in
+          let least = called.least in
+          let most = called.most in
+          record {
+            keys = λ quiet. subst (λ xs. KeepsKeys state xs kept kept') (sym those) (called.keys (sym (ap (λ (a : Answer). is_ok a.1 && disturbs state t made) answer) ∙ quiet));
+            least = omega arith;
+            most = omega arith;
+          }
+      by_thread false gone =
+          let those : accesses state line ≡ [] = of.accesses ∙ ap (λ v. if v then call_accesses state t made else []) gone in
+          let own : words_of state line ≡ 0 = of.words ∙ ap (λ v. if v then call_words state t made else 0) gone in
+          let none = keeps.none gone in
+          record {
+            keys = λ quiet. subst (λ xs. KeepsKeys state xs kept kept') (sym those) (no-keys state kept kept' (keeps.keys gone));
+            least = omega arith;
+            most = omega arith;
+          }
+
+  pub thread-limit : (kept : Key → Bool) (steps steps' : ℕ) → steps' ≤ steps + thread_limit kept state t made → steps' ≤ steps + line_limit kept state line
+  thread-limit kept steps steps' few = by_thread (is_thread state t) refl few
+    where
+      by_thread : (v : Bool) → is_thread state t ≡ v → steps' ≤ steps + (if v then call_limit kept state t made else 0) → steps' ≤ steps + line_limit kept state line
+      by_thread true lives few =
+          let own : words_of state line ≡ call_words state t made = of.words ∙ ap (λ v. if v then call_words state t made else 0) lives in
+          let limit : searches_limit kept state (accesses state line) ≡ searches_limit kept state (call_accesses state t made) =
+          ap (λ xs. searches_limit kept state xs) (of.accesses ∙ ap (λ v. if v then call_accesses state t made else []) lives) in
+          omega arith
+      by_thread false gone few = omega arith
+
+-- whether the thread lives, by what is held
+module _ (v : VolumeHeld) (image : Image) (t : ℕ) where
+  pub held-lives : (thread : Thread) → find (λ (thread : Thread). thread.number == t) (threads_in v) ≡ Some thread → is_thread (now_of v image) t ≡ true
+  held-lives thread found = ap is_some (told_thread v image t (Some thread) found)
+
+  pub held-gone : find (λ (thread : Thread). thread.number == t) (threads_in v) ≡ None → is_thread (now_of v image) t ≡ false
+  held-gone found = ap is_some (told_thread v image t None found)
+
+-- what a call of a thread keeps, where the thread lives, and where it does not
+pub lives-thread : (state : State) (t : ℕ) (made : Call) (kept kept' : Key → Bool) (steps steps' : ℕ) → is_thread state t ≡ true → (is_thread state t ≡ true → KeepsCall state t made kept kept' steps steps') → KeepsThread state t made kept kept' steps steps'
+lives-thread state t made kept kept' steps steps' lives keeps = record { lives = keeps; keys = λ gone. cc; none = λ gone. cc }
+
+pub gone-thread : (state : State) (t : ℕ) (made : Call) (kept : Key → Bool) (steps : ℕ) → is_thread state t ≡ false → KeepsThread state t made kept kept steps steps
+gone-thread state t made kept steps gone = record { lives = λ lives. cc; keys = λ gone key. refl; none = λ gone. refl }
+
+pub lives-limit : (state : State) (t : ℕ) (made : Call) (kept : Key → Bool) (steps steps' : ℕ) → is_thread state t ≡ true → steps' ≤ steps + call_limit kept state t made → steps' ≤ steps + thread_limit kept state t made
+lives-limit state t made kept steps steps' lives few = subst (λ v. steps' ≤ steps + (if v then call_limit kept state t made else 0)) (sym lives) few

@@ -1,0 +1,29 @@
+-- What a call of a thread keeps and costs, be it made by a line or by a script.
+use Rattle.std.specs.Prelude.{ℕ, ◌≡◌, ◌≤◌, ◌+◌, ◌&&◌, Bool, true, false, if◌then◌else◌}
+use Rattle.mg_model.specs.declared.calls.Call.{Call}
+use Rattle.mg_model.specs.Accesses.{call_accesses, call_words}
+use Rattle.mg_model.specs.Kept.{KeepsKeys, searches_limit}
+use Rattle.mg_model.specs.Keys.{Key}
+use Rattle.mg_model.specs.State.{State}
+use Rattle.mg_model.specs.Threads.{is_thread}
+use Rattle.mg_model.specs.Turn.{thread_call}
+use Rattle.mg_model.specs.Warmth.{disturbs, is_ok}
+
+-- the most that it adds to the counter of words
+abbrev pub call_limit : (Key → Bool) → State → ℕ → Call → ℕ
+call_limit kept state t made = call_words state t made + searches_limit kept state (call_accesses state t made)
+
+-- it was answered
+pub record KeepsCall (state : State) (t : ℕ) (made : Call) (kept kept' : Key → Bool) (steps steps' : ℕ) : Type 0 where
+  pub keys : is_ok (thread_call state t made).1 && disturbs state t made ≡ false → KeepsKeys state (call_accesses state t made) kept kept'
+  pub least : steps + call_words state t made ≤ steps'
+  pub most : steps' ≤ steps + call_limit kept state t made
+
+-- the same where the thread may not live: then it makes no access, and nothing is read or kept
+abbrev pub thread_limit : (Key → Bool) → State → ℕ → Call → ℕ
+thread_limit kept state t made = if is_thread state t then call_limit kept state t made else 0
+
+pub record KeepsThread (state : State) (t : ℕ) (made : Call) (kept kept' : Key → Bool) (steps steps' : ℕ) : Type 0 where
+  pub lives : is_thread state t ≡ true → KeepsCall state t made kept kept' steps steps'
+  pub keys : is_thread state t ≡ false → (key : Key) → kept' key ≡ kept key
+  pub none : is_thread state t ≡ false → steps' ≡ steps
