@@ -1,13 +1,13 @@
 -- Worked costs: what the lines of a session may cost, from a fresh state or behind an earlier session. A whole search costs
 -- 4,088 words.
-use Rattle.std.specs.Prelude.{◌≡◌, ℕ, zero, suc, ◌+◌, [], ◌∷◌, ◌++◌, codes}
+use Rattle.std.specs.Prelude.{◌≡◌, ℕ, zero, suc, ◌+◌, [], ◌∷◌, ◌++◌, codes, replicate}
 use Rattle.std.specs.Fmt.{decimal}
 use Rattle.mg_model.specs.Fresh.{fresh}
 use Rattle.mg_model.specs.Lines.{all_words, lines}
 use Rattle.mg_model.specs.State.{State}
 use Rattle.mg_model.specs.Step.{after}
 use Rattle.mg_model.specs.Warmth.{cost}
-use Rattle.mg_worked.specs.Sessions.{IsAnswered, Session, input, linked, small}
+use Rattle.mg_worked.specs.Sessions.{IsAnswered, Session, input, linked, small, stores}
 
 -- from this state the lines get these replies, and so many words are the most that they may cost
 pub record IsPaid (state : State) (session : Session) (words : ℕ) : Type 0 where
@@ -89,4 +89,90 @@ two_seats =
     (codes "1 load 0x100001000", codes "ok 0x0000000000000000")
     ∷ (codes "37 load 0x100000000", codes "ok 0x0000000000000002")
     ∷ (codes "1 load 0x100001000", codes "ok 0x0000000000000000")
+    ∷ []
+
+-- what tells of rights, of slots or of an account leaves all warm
+abbrev pub calls_that_only_tell : Session
+calls_that_only_tell =
+    (codes "1 load 0x100000000", codes "ok 0x0000000000000001")
+    ∷ (codes "1 apdlist", codes "ok 1 0x0000000100000000")
+    ∷ (codes "1 balance 1 0x28bd8653e56a5d40", codes "ok 1000 0 1")
+    ∷ (codes "1 info 0x100000000", codes "ok 0x0000000100000000 1 1 1 0 0")
+    ∷ (codes "1 load 0x100000008", codes "ok 0x0000000000000000")
+    ∷ []
+
+-- only a first page is read as a list
+abbrev pub stores_into_both_pages : Session
+stores_into_both_pages =
+    (codes "1 load 0x100001000", codes "ok 0x0000000000000000")
+    ∷ (codes "1 store 0x100002000 5", codes "ok")
+    ∷ (codes "1 load 0x100001000", codes "ok 0x0000000000000000")
+    ∷ (codes "1 store 0x100001000 6", codes "ok")
+    ∷ (codes "1 load 0x100001000", codes "ok 0x0000000000000006")
+    ∷ []
+
+-- what is denied is searched for each time
+abbrev pub denied_twice : Session
+denied_twice =
+    (codes "1 create 2 1 0x28bd8653e56a5d40", codes "ok 0x0000000100001000 0x1aed8da0b819d2bd")
+    ∷ (codes "1 load 0x100001000", codes "no Denied")
+    ∷ (codes "1 load 0x100001000", codes "no Denied")
+    ∷ []
+
+-- a call that would change rights changes none where it is refused
+abbrev pub refused_calls : Session
+refused_calls =
+    (codes "1 load 0x100000000", codes "ok 0x0000000000000001")
+    ∷ (codes "1 pdx 0x100000000 0", codes "no NoEntry")
+    ∷ (codes "1 create 0 1 0x28bd8653e56a5d40", codes "no Size")
+    ∷ (codes "1 load 0x100000000", codes "ok 0x0000000000000001")
+    ∷ []
+
+-- a domain that is left behind for a while
+abbrev pub domain_and_back : Session
+domain_and_back =
+    (codes "1 load 0x100000000", codes "ok 0x0000000000000001")
+    ∷ (codes "1 entry 0x100000000 0", codes "ok 0x0000000100000000")
+    ∷ (codes "1 pdx 0x100000000 0", codes "ok 2")
+    ∷ (codes "1 load 0x100000000", codes "no Denied")
+    ∷ (codes "1 ret", codes "ok 1")
+    ∷ (codes "1 load 0x100000000", codes "ok 0x0000000000000001")
+    ∷ []
+
+-- a script that makes a call, which is refused, and then stores a word
+abbrev pub calling_script : Session
+calling_script =
+    stores 0x100000200 (0xc00000001 ∷ 0x500000101 ∷ 0xe ∷ 0x100000202 ∷ 0x30000020007 ∷ []) ++ (codes "1 thread 0x100000200", codes "ok 2") ∷ []
+
+-- `sys` disturbs whatever the call is answered, and so does a store into a first page
+abbrev pub turns_that_disturb : Session
+turns_that_disturb =
+    replicate 5 (codes "2 turn", codes "ok Ready")
+    ++ (codes "2 turn", codes "ok Stopped")
+    ∷ (codes "1 load 0x100000300", codes "ok 0x000000000000000d")
+    ∷ []
+
+-- a script that loads one word twice
+abbrev pub loading_script : Session
+loading_script = stores 0x100000200 (0x100000102 ∷ 0x10206 ∷ 0x10206 ∷ []) ++ (codes "1 thread 0x100000200", codes "ok 2") ∷ []
+
+-- a turn by `next` fetches and loads
+abbrev pub turns_that_load : Session
+turns_that_load =
+    replicate 3 (codes "next", codes "ok 2 Ready")
+    ++ (codes "next", codes "ok 2 Stopped")
+    ∷ (codes "next", codes "no Idle")
+    ∷ []
+
+-- a script that makes a thread which begins in the root object
+abbrev pub making_script : Session
+making_script = stores 0x100000200 (0xd00000001 ∷ 0x100000102 ∷ 0xe ∷ []) ++ (codes "1 thread 0x100000200", codes "ok 2") ∷ []
+
+-- where its line begins cold, a key that it tests twice is searched for twice
+abbrev pub one_key_twice : Session
+one_key_twice =
+    (codes "2 turn", codes "ok Ready")
+    ∷ (codes "2 turn", codes "ok Ready")
+    ∷ (codes "1 store 0x100000020 5", codes "ok")
+    ∷ (codes "2 turn", codes "ok Ready")
     ∷ []

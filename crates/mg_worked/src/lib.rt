@@ -19,10 +19,10 @@ ghost use Rattle.mg_worked.specs.Accounts.{object_is_recharged, password_ends, r
 ghost use Rattle.mg_worked.specs.Refusals.{counted, full_root, last_password, last_period, many_accounts, many_threads, many_threads_live, more_accounts, refusals, thirty_two_passwords};
 ghost use Rattle.mg_worked.specs.Edges.{ended_in_its_turn, last_until, no_more_births, no_more_objects, no_more_passwords, sixteen_entries, slots_in_order, steps_of_the_tariff, too_many_pages, what_is_denied, who_pays, with_births, with_objects, without_until};
 ghost use Rattle.mg_worked.specs.Users.{documents_and_mailbox};
-ghost use Rattle.mg_worked.specs.Costs.{IsPaid, behind, info_twice, linked_threads, one_seat, refused_between_loads, short_script, store_between_loads, turns_of_a_script, two_seats, words_of_one_object};
+ghost use Rattle.mg_worked.specs.Costs.{IsPaid, behind, calling_script, calls_that_only_tell, denied_twice, domain_and_back, info_twice, linked_threads, loading_script, making_script, one_key_twice, one_seat, refused_between_loads, refused_calls, short_script, store_between_loads, stores_into_both_pages, turns_of_a_script, turns_that_disturb, turns_that_load, two_seats, words_of_one_object};
 ghost use Rattle.mg_worked.specs.Forms.{blanks, early, early_replies, forms, notes, notes_replies, numbers};
 ghost use Rattle.mg_worked.specs.Drawn.{DrawsFirst};
-ghost use Rattle.mg_worked.specs.Sessions.{IsAnswered, small};
+ghost use Rattle.mg_worked.specs.Sessions.{IsAnswered, linked, small};
 
 /// The passwords that a seed draws are the key stream of RFC 8439, eight bytes each.
 pub fn passwords_are_a_key_stream()
@@ -139,4 +139,16 @@ pub fn sessions_and_their_costs()
     ensures turns_of_a_script { IsPaid (behind short_script) turns_of_a_script 4090 }
     ensures one_seat { IsPaid (behind linked_threads) one_seat 12267 }
     ensures two_seats { IsPaid (behind linked_threads) two_seats 8179 }
+{}
+
+/// Which lines leave what is warm, and what a turn may cost.
+pub fn sessions_and_what_disturbs()
+    ensures calls_that_only_tell { IsPaid (fresh small) calls_that_only_tell 4090 }
+    ensures stores_into_both_pages { IsPaid (behind linked) stores_into_both_pages 12269 }
+    ensures denied_twice { IsPaid (fresh small) denied_twice 8176 }
+    ensures refused_calls { IsPaid (fresh small) refused_calls 8178 }
+    ensures domain_and_back { IsPaid (fresh small) domain_and_back 20442 }
+    ensures turns_that_disturb { IsPaid (behind calling_script) turns_that_disturb 20448 }
+    ensures turns_that_load { IsPaid (behind loading_script) turns_that_load 8182 }
+    ensures one_key_twice { IsPaid (behind making_script) one_key_twice 16356 }
 {}
