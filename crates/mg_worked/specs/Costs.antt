@@ -1,12 +1,14 @@
 -- Worked costs: what the lines of a session may cost, from a fresh state or behind an earlier session. A whole search costs
 -- 4,088 words.
-use Rattle.std.specs.Prelude.{◌≡◌, ℕ, zero, suc, ◌+◌, [], ◌∷◌, ◌++◌, codes, replicate}
+use Rattle.std.specs.Prelude.{◌≡◌, ℕ, zero, suc, ◌+◌, List, [], ◌∷◌, ◌++◌, codes, replicate}
 use Rattle.std.specs.Fmt.{decimal}
 use Rattle.mg_model.specs.Fresh.{fresh}
 use Rattle.mg_model.specs.Lines.{all_words, lines}
 use Rattle.mg_model.specs.State.{State}
 use Rattle.mg_model.specs.Step.{after}
+use Rattle.mg_model.specs.Tariff.{usual_tariff}
 use Rattle.mg_model.specs.Warmth.{cost}
+use Rattle.mg_worked.specs.Drawn.{zero_seed}
 use Rattle.mg_worked.specs.Sessions.{IsAnswered, Session, input, linked, small, stores}
 
 -- from this state the lines get these replies, and so many words are the most that they may cost
@@ -107,8 +109,8 @@ stores_into_both_pages =
     (codes "1 load 0x100001000", codes "ok 0x0000000000000000")
     ∷ (codes "1 store 0x100002000 5", codes "ok")
     ∷ (codes "1 load 0x100001000", codes "ok 0x0000000000000000")
-    ∷ (codes "1 store 0x100001000 6", codes "ok")
-    ∷ (codes "1 load 0x100001000", codes "ok 0x0000000000000006")
+    ∷ (codes "1 store 0x100001ff8 6", codes "ok")
+    ∷ (codes "1 load 0x100001ff8", codes "ok 0x0000000000000006")
     ∷ []
 
 -- what is denied is searched for each time
@@ -162,6 +164,7 @@ turns_that_load =
     replicate 3 (codes "next", codes "ok 2 Ready")
     ++ (codes "next", codes "ok 2 Stopped")
     ∷ (codes "next", codes "no Idle")
+    ∷ (codes "2 load 0x100000008", codes "ok 0x0000000000000000")
     ∷ []
 
 -- a script that makes a thread which begins in the root object
@@ -176,3 +179,148 @@ one_key_twice =
     ∷ (codes "1 store 0x100000020 5", codes "ok")
     ∷ (codes "2 turn", codes "ok Ready")
     ∷ []
+
+-- each call on an object asks for one right there
+abbrev pub calls_on_an_object : Session
+calls_on_an_object =
+    (codes "1 pwadd 0x100001000 R", codes "ok 0xc70d778bccef36a8")
+    ∷ (codes "1 pwdel 0x100001000 0xc70d778bccef36a8", codes "ok")
+    ∷ (codes "1 ext 0x100001000 0x100000000 0x903df1a0ade0b876", codes "ok")
+    ∷ (codes "1 recharge 0x100001000 1 0x28bd8653e56a5d40", codes "ok")
+    ∷ (codes "1 thread 0x100001000", codes "ok 2")
+    ∷ (codes "1 delete 0x100001000", codes "ok")
+    ∷ []
+
+-- A line behind others that leave all rights to an object warm but D and X. What is refused is asked for all the same, unless
+-- its address is no word's.
+abbrev pub behind_four_rights : List ℕ × List ℕ → Session
+behind_four_rights line =
+    (codes "1 load 0x100001000", codes "ok 0x0000000000000000")
+    ∷ (codes "1 store 0x100002000 5", codes "ok")
+    ∷ (codes "1 pdx 0x100001000 0", codes "no NoEntry")
+    ∷ (codes "1 entry 0x100001000 4", codes "no Range")
+    ∷ (codes "1 pwdel 0x100001000 5", codes "no NoPassword")
+    ∷ (codes "1 recharge 0x100001000 1 5", codes "no Account")
+    ∷ (codes "1 pdx 0x100001000 0", codes "no NoEntry")
+    ∷ (codes "1 load 0x100001008", codes "ok 0x0000000000000000")
+    ∷ (codes "1 store 0x100002008 5", codes "ok")
+    ∷ (codes "1 pdx 0x100001001 0", codes "no Align")
+    ∷ (codes "1 thread 0x100001001", codes "no Align")
+    ∷ (codes "1 store 0x100001001 5", codes "no Align")
+    ∷ line
+    ∷ []
+
+abbrev pub delete_then : Session
+delete_then = behind_four_rights (codes "1 delete 0x100001000", codes "ok")
+
+abbrev pub thread_then : Session
+thread_then = behind_four_rights (codes "1 thread 0x100001000", codes "ok 2")
+
+abbrev pub pwadd_then : Session
+pwadd_then = behind_four_rights (codes "1 pwadd 0x100001000 R", codes "ok 0xc70d778bccef36a8")
+
+abbrev pub ext_then : Session
+ext_then = behind_four_rights (codes "1 ext 0x100001000 0x100000000 0x903df1a0ade0b876", codes "ok")
+
+-- a script that asks for a domain with a mask above 255, and for one that it then leaves
+abbrev pub entering_script : Session
+entering_script =
+    stores 0x100000200 (0xa0000000101 ∷ 0x100000102 ∷ 0x10000000201 ∷ 0x2010b ∷ 0x100000201 ∷ 0x2010b ∷ 0 ∷ [])
+    ++ (codes "1 store 0x100000a00 0xc", codes "ok")
+    ∷ (codes "1 entry 0x100000000 0xa00", codes "ok 0x0000000100000a00")
+    ∷ (codes "1 thread 0x100000200", codes "ok 2")
+    ∷ []
+
+-- `pdx` and `ret` disturb, the one with the wide mask too, which asks for no right
+abbrev pub turns_that_enter : Session
+turns_that_enter = replicate 7 (codes "2 turn", codes "ok Ready") ++ (codes "2 turn", codes "ok Stopped") ∷ []
+
+-- Four scripts: a jump out of the object, a word that is no instruction, and stores into first pages, one to no word's address
+-- and one into an object to which no right is given.
+abbrev pub faulting_scripts : Session
+faulting_scripts =
+    (codes "1 create 2 1 0x28bd8653e56a5d40", codes "ok 0x0000000100001000 0x1aed8da0b819d2bd")
+    ∷ stores 0x100000200 (0x40000000008 ∷ [])
+    ++ stores 0x100000300 (0x100 ∷ [])
+    ++ stores 0x100000400 (0x100000102 ∷ 0x400010007 ∷ [])
+    ++ stores 0x100000500 (0x100000102 ∷ 0x100000010007 ∷ [])
+    ++ (codes "1 thread 0x100000200", codes "ok 2")
+    ∷ (codes "1 thread 0x100000300", codes "ok 3")
+    ∷ (codes "1 thread 0x100000400", codes "ok 4")
+    ∷ (codes "1 thread 0x100000500", codes "ok 5")
+    ∷ []
+
+-- a fetch that is denied counts no word, one of no instruction counts its own, and a store that faults disturbs nothing
+abbrev pub turns_that_fault : Session
+turns_that_fault =
+    (codes "1 load 0x100000000", codes "ok 0x0000000000000001")
+    ∷ (codes "2 turn", codes "ok Ready")
+    ∷ (codes "2 turn", codes "ok Faulted Denied")
+    ∷ (codes "3 turn", codes "ok Faulted Opcode")
+    ∷ (codes "4 turn", codes "ok Ready")
+    ∷ (codes "4 turn", codes "ok Faulted Align")
+    ∷ (codes "5 turn", codes "ok Ready")
+    ∷ (codes "5 turn", codes "ok Faulted Denied")
+    ∷ (codes "1 load 0x100000000", codes "ok 0x0000000000000001")
+    ∷ []
+
+-- a script that stores twice into a second page
+abbrev pub storing_script : Session
+storing_script =
+    linked ++ stores 0x100000200 (0x100000102 ∷ 0x200000010007 ∷ 0x200000010007 ∷ []) ++ (codes "1 thread 0x100000200", codes "ok 2") ∷ []
+
+abbrev pub turns_that_store : Session
+turns_that_store =
+    replicate 3 (codes "2 turn", codes "ok Ready")
+    ++ (codes "2 turn", codes "ok Stopped")
+    ∷ (codes "2 store 0x100002008 5", codes "ok")
+    ∷ []
+
+-- a script that stores a word by a call, and loads it by another
+abbrev pub script_of_calls : Session
+script_of_calls =
+    linked ++ stores 0x100000200 (0x200000001 ∷ 0x200000000101 ∷ 0x100000102 ∷ 0xe ∷ 0x100000001 ∷ 0xe ∷ []) ++ (codes "1 thread 0x100000200", codes "ok 2") ∷ []
+
+abbrev pub turns_that_call : Session
+turns_that_call = replicate 6 (codes "2 turn", codes "ok Ready") ++ (codes "2 turn", codes "ok Stopped") ∷ []
+
+-- thread 1 may do nothing with the second object but own it, and there are threads 2 to 31
+abbrev pub owner_alone : Session
+owner_alone =
+    linked
+    ++ (codes "1 pwadd 0x100001000 O", codes "ok 0xc70d778bccef36a8")
+    ∷ (codes "1 store 0x100000028 0xc70d778bccef36a8", codes "ok")
+    ∷ made_threads 2 30
+
+-- it asks for six rights in turn, of which the last is allowed; thread 31 in the root object has the seat of that one
+abbrev pub six_rights_in_turn : Session
+six_rights_in_turn =
+    (codes "1 info 0x100001000", codes "ok 0x0000000100001000 2 1 2 0 0")
+    ∷ (codes "31 load 0x100000000", codes "ok 0x0000000000000002")
+    ∷ (codes "1 info 0x100001000", codes "ok 0x0000000100001000 2 1 2 0 0")
+    ∷ []
+
+-- thread 30 has another
+abbrev pub sixth_right_is_kept : Session
+sixth_right_is_kept =
+    (codes "1 info 0x100001000", codes "ok 0x0000000100001000 2 1 2 0 0")
+    ∷ (codes "30 load 0x100000000", codes "ok 0x0000000000000002")
+    ∷ (codes "1 info 0x100001000", codes "ok 0x0000000100001000 2 1 2 0 0")
+    ∷ []
+
+-- 128 frames, an object behind the first 65 pages, and a script that stores into its second page
+abbrev pub far_object : State
+far_object = after (fresh record { frames = 128; seed = zero_seed; credits = 1000; tariff = usual_tariff 128 }) (lines all_words (input far_lines))
+  where
+    far_lines : Session
+    far_lines =
+        (codes "1 create 64 1 0x28bd8653e56a5d40", codes "ok 0x0000000100001000 0x1aed8da0b819d2bd")
+        ∷ (codes "1 create 2 1 0x28bd8653e56a5d40", codes "ok 0x0000000100041000 0xc70d778bccef36a8")
+        ∷ (codes "1 store 0x100000020 0x100041000", codes "ok")
+        ∷ (codes "1 store 0x100000028 0xc70d778bccef36a8", codes "ok")
+        ∷ (codes "1 store 0x100000000 2", codes "ok")
+        ∷ stores 0x100000200 (0x100000102 ∷ 0x4200000010007 ∷ 0x4200000010007 ∷ []) ++ (codes "1 thread 0x100000200", codes "ok 2") ∷ []
+
+-- the fetch and the store of a turn have one seat, so each takes it from the other
+abbrev pub one_seat_in_a_turn : Session
+one_seat_in_a_turn = replicate 3 (codes "2 turn", codes "ok Ready") ++ (codes "2 turn", codes "ok Stopped") ∷ []

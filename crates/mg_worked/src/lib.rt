@@ -19,7 +19,7 @@ ghost use Rattle.mg_worked.specs.Accounts.{object_is_recharged, password_ends, r
 ghost use Rattle.mg_worked.specs.Refusals.{counted, full_root, last_password, last_period, many_accounts, many_threads, many_threads_live, more_accounts, refusals, thirty_two_passwords};
 ghost use Rattle.mg_worked.specs.Edges.{ended_in_its_turn, last_until, no_more_births, no_more_objects, no_more_passwords, sixteen_entries, slots_in_order, steps_of_the_tariff, too_many_pages, what_is_denied, who_pays, with_births, with_objects, without_until};
 ghost use Rattle.mg_worked.specs.Users.{documents_and_mailbox};
-ghost use Rattle.mg_worked.specs.Costs.{IsPaid, behind, calling_script, calls_that_only_tell, denied_twice, domain_and_back, info_twice, linked_threads, loading_script, making_script, one_key_twice, one_seat, refused_between_loads, refused_calls, short_script, store_between_loads, stores_into_both_pages, turns_of_a_script, turns_that_disturb, turns_that_load, two_seats, words_of_one_object};
+ghost use Rattle.mg_worked.specs.Costs.{IsPaid, behind, calling_script, calls_on_an_object, calls_that_only_tell, delete_then, denied_twice, domain_and_back, entering_script, ext_then, far_object, faulting_scripts, info_twice, linked_threads, loading_script, making_script, one_key_twice, one_seat, one_seat_in_a_turn, owner_alone, pwadd_then, refused_between_loads, refused_calls, script_of_calls, short_script, six_rights_in_turn, sixth_right_is_kept, store_between_loads, stores_into_both_pages, storing_script, thread_then, turns_of_a_script, turns_that_call, turns_that_disturb, turns_that_enter, turns_that_fault, turns_that_load, turns_that_store, two_seats, words_of_one_object};
 ghost use Rattle.mg_worked.specs.Forms.{blanks, early, early_replies, forms, notes, notes_replies, numbers};
 ghost use Rattle.mg_worked.specs.Drawn.{DrawsFirst};
 ghost use Rattle.mg_worked.specs.Sessions.{IsAnswered, linked, small};
@@ -149,6 +149,22 @@ pub fn sessions_and_what_disturbs()
     ensures refused_calls { IsPaid (fresh small) refused_calls 8178 }
     ensures domain_and_back { IsPaid (fresh small) domain_and_back 20442 }
     ensures turns_that_disturb { IsPaid (behind calling_script) turns_that_disturb 20448 }
-    ensures turns_that_load { IsPaid (behind loading_script) turns_that_load 8182 }
+    ensures turns_that_load { IsPaid (behind loading_script) turns_that_load 8183 }
     ensures one_key_twice { IsPaid (behind making_script) one_key_twice 16356 }
+{}
+
+/// Which rights a line asks for, and which words it counts.
+pub fn sessions_and_what_they_ask_for()
+    ensures calls_on_an_object { IsPaid (behind linked) calls_on_an_object 24528 }
+    ensures delete_then { IsPaid (behind linked) delete_then 20444 }
+    ensures thread_then { IsPaid (behind linked) thread_then 20444 }
+    ensures pwadd_then { IsPaid (behind linked) pwadd_then 16356 }
+    ensures ext_then { IsPaid (behind linked) ext_then 16356 }
+    ensures turns_that_enter { IsPaid (behind entering_script) turns_that_enter 20448 }
+    ensures turns_that_fault { IsPaid (behind faulting_scripts) turns_that_fault 28624 }
+    ensures turns_that_store { IsPaid (behind storing_script) turns_that_store 8183 }
+    ensures turns_that_call { IsPaid (behind script_of_calls) turns_that_call 20449 }
+    ensures six_rights_in_turn { IsPaid (behind owner_alone) six_rights_in_turn 53145 }
+    ensures sixth_right_is_kept { IsPaid (behind owner_alone) sixth_right_is_kept 49057 }
+    ensures one_seat_in_a_turn { IsPaid far_object one_seat_in_a_turn 20446 }
 {}

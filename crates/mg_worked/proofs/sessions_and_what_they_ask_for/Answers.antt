@@ -1,0 +1,54 @@
+use Rattle.std.proofs.Common.{refl}
+use Rattle.rand_chacha.specs.Block.{block_word, column_round, diagonal_round, double_rounds, quarter_round}
+use Rattle.rand_core.specs.Steps.{u32_at}
+use Rattle.std.specs.Fmt.{digits}
+use Rattle.mg_model.specs.Print.{hex_text}
+use Rattle.mg_worked.proofs.sessions_and_what_they_ask_for.Goals as goal
+
+pub returns-clause-calls_on_an_object : goal.returns-clause-calls_on_an_object
+unfolding block_word double_rounds quarter_round column_round diagonal_round u32_at hex_text digits
+returns-clause-calls_on_an_object c = record { answered = refl; paid = refl }
+
+pub returns-clause-turns_that_enter : goal.returns-clause-turns_that_enter
+unfolding block_word double_rounds quarter_round column_round diagonal_round u32_at hex_text digits
+returns-clause-turns_that_enter c = record { answered = refl; paid = refl }
+
+pub returns-clause-turns_that_fault : goal.returns-clause-turns_that_fault
+unfolding block_word double_rounds quarter_round column_round diagonal_round u32_at hex_text digits
+returns-clause-turns_that_fault c = record { answered = refl; paid = refl }
+
+pub returns-clause-turns_that_store : goal.returns-clause-turns_that_store
+unfolding block_word double_rounds quarter_round column_round diagonal_round u32_at hex_text digits
+returns-clause-turns_that_store c = record { answered = refl; paid = refl }
+
+pub returns-clause-turns_that_call : goal.returns-clause-turns_that_call
+unfolding block_word double_rounds quarter_round column_round diagonal_round u32_at hex_text digits
+returns-clause-turns_that_call c = record { answered = refl; paid = refl }
+
+pub returns-clause-six_rights_in_turn : goal.returns-clause-six_rights_in_turn
+unfolding block_word double_rounds quarter_round column_round diagonal_round u32_at hex_text digits
+returns-clause-six_rights_in_turn c = record { answered = refl; paid = refl }
+
+pub returns-clause-sixth_right_is_kept : goal.returns-clause-sixth_right_is_kept
+unfolding block_word double_rounds quarter_round column_round diagonal_round u32_at hex_text digits
+returns-clause-sixth_right_is_kept c = record { answered = refl; paid = refl }
+
+pub returns-clause-one_seat_in_a_turn : goal.returns-clause-one_seat_in_a_turn
+unfolding block_word double_rounds quarter_round column_round diagonal_round u32_at hex_text digits
+returns-clause-one_seat_in_a_turn c = record { answered = refl; paid = refl }
+
+pub returns-clause-delete_then : goal.returns-clause-delete_then
+unfolding block_word double_rounds quarter_round column_round diagonal_round u32_at hex_text digits
+returns-clause-delete_then c = record { answered = refl; paid = refl }
+
+pub returns-clause-thread_then : goal.returns-clause-thread_then
+unfolding block_word double_rounds quarter_round column_round diagonal_round u32_at hex_text digits
+returns-clause-thread_then c = record { answered = refl; paid = refl }
+
+pub returns-clause-pwadd_then : goal.returns-clause-pwadd_then
+unfolding block_word double_rounds quarter_round column_round diagonal_round u32_at hex_text digits
+returns-clause-pwadd_then c = record { answered = refl; paid = refl }
+
+pub returns-clause-ext_then : goal.returns-clause-ext_then
+unfolding block_word double_rounds quarter_round column_round diagonal_round u32_at hex_text digits
+returns-clause-ext_then c = record { answered = refl; paid = refl }
