@@ -1,13 +1,13 @@
-use Rattle.std.proofs.Common.{rules, ◌≡◌, ◌<◌, ◌+◌, ◌∙◌, ap, sym, subst, arith, length, option_map, slice_set, take, Some}
+use Rattle.std.proofs.Common.{rules, ◌≡◌, ◌<◌, ◌+◌, ◌∙◌, ap, sym, subst, arith, is_some, length, option_map, slice_set, take, Some}
 use Rattle.std.specs.Prelude.{IsSomeAnd}
 use Rattle.std.proofs.lemmas.List.{take_all}
 use Rattle.std.proofs.lemmas.Result.{on_ok_weaker}
 use Rattle.mg_disk.specs.Disk.{SameBut}
 use Rattle.mg_disk.specs.Runs.{torn}
 use Rattle.mg_model.specs.Layout.{segment_body}
-use Rattle.mg_journal.proofs.CommitRuns.{mapped}
 use Rattle.mg_journal.specs.Phases.{HoldsWrites, IsBehind, with_bodies}
 use Rattle.mg_journal.proofs.PhaseSteps.{bodies_more, holds_all}
+use Rattle.mg_journal.proofs.RecoverSteps.{told_map}
 use Rattle.mg_journal.specs.Staged.{bytes_of}
 use Rattle.mg_journal.proofs.segment.write_segment.Goals as goal
 
@@ -51,23 +51,16 @@ returns-clause-written g c =
     (holds_all s writes image index c.requires.place c.requires.few (omega arith) c.index_block.ensures.count c.index_block.ensures.homes))
     c.sync.ensures.durable
 
-pub returns-clause-comes_from : goal.returns-clause-comes_from
-returns-clause-comes_from g c =
+pub returns-clause-tells : goal.returns-clause-tells
+returns-clause-tells g c =
     let writes = c.args.writes.now in
     let s = c.args.segment in
     let k = c.loop-k.k in
     let index = c.index_block.result in
-    let all : take k writes ≡ writes = take_all k writes c.loop-k-test.false in
     on_ok_weaker c.sync.result
-    (λ durable now told.
-    let bodied = mapped (λ i. with_bodies i s 0 (take k writes)) (g.D.Disk.seen c.write.new.self) (g.D.Disk.seen c.sync.new.self) now (c.sync.ensures.seen ∙ c.loop-k.invariant.written) told in
-    let from = mapped (λ i. slice_set i c.index_of.result index) (g.D.Disk.seen c.args.disk.now) (g.D.Disk.seen c.write.new.self) bodied.0 c.in_ok-write.ensures.written bodied.1 in
-    let counted = g.met.D.Disk.seen_count c.args.disk.now from.0 from.1 in
-    let room = c.requires.room in
-    let is = bodied.2 ∙ ap (λ i. with_bodies i s 0 (take k writes)) from.2
-    ∙ ap (λ w. with_bodies (slice_set from.0 c.index_of.result index) s 0 w) all
-    ∙ ap (λ p. with_bodies (slice_set from.0 p index) s 0 writes) c.index_of.ensures in
-    subst (λ o. IsSomeAnd o (λ image. HoldsWrites s writes image now)) (sym from.1)
-    (subst (λ i. HoldsWrites s writes from.0 i) (sym is)
-    (holds_all s writes from.0 index c.requires.place c.requires.few (omega arith) c.index_block.ensures.count c.index_block.ensures.homes)))
+    (λ durable.
+    ap is_some (c.sync.ensures.seen ∙ c.loop-k.invariant.written)
+    ∙ told_map (λ i. with_bodies i s 0 (take k writes)) (g.D.Disk.seen c.write.new.self)
+    ∙ ap is_some c.in_ok-write.ensures.written
+    ∙ told_map (λ i. slice_set i c.index_of.result index) (g.D.Disk.seen c.args.disk.now))
     c.sync.ensures.durable
