@@ -1,5 +1,5 @@
 -- Objects that are apart.
-use Rattle.std.specs.Prelude.{◌≡◌, ◌≢◌, ◌+◌, ◌*◌, ◌/◌, ◌<◌, ◌≤◌, ◌==◌, ◌⊎◌, ℕ, nat_lt, nat_le, true, false, List, [], ◌∷◌, All, find, if◌then◌else◌, None, Some, ◌-◌, length, slice_index_or}
+use Rattle.std.specs.Prelude.{◌≡◌, ◌≢◌, ◌+◌, ◌*◌, ◌/◌, ◌<◌, ◌≤◌, ◌==◌, ◌⊎◌, ℕ, suc, nat_lt, nat_le, true, false, List, [], ◌∷◌, All, find, if◌then◌else◌, None, Some, ◌-◌, length, slice_index_or}
 use Rattle.std.specs.List.{AllPairs, AllWithin, Contains}
 use Rattle.std.proofs.Common.{sym, ap, ◌∙◌, subst, ⊎_elim, arith, get_or}
 use Rattle.std.proofs.lemmas.Bool.{and_parts, cases_Bool, cases_eq, cases_lt, false≢true, leb-true, ltb-false, ltb-true}
@@ -7,7 +7,7 @@ use Rattle.std.proofs.lemmas.List.{get_or-map, get_or_default, length-map}
 use Rattle.std.proofs.lemmas.List.Elements.{All-cons, All-head, All-tail}
 use Rattle.std.proofs.lemmas.List.Kept.{AllPairs-cons}
 use Rattle.mg_model.specs.Access.{covers}
-use Rattle.mg_model.specs.KeptLists.{AllPairs-head, AllPairs-tail}
+use Rattle.mg_model.specs.KeptLists.{AllPairs-head, AllPairs-nil, AllPairs-tail}
 use Rattle.mg_model.specs.Objects.{page_behind, page_of}
 use Rattle.mg_model.specs.Ranges.{IsObjectRow}
 use Rattle.mg_model.specs.State.{ObjectRow}
@@ -70,6 +70,22 @@ into-apart new (o ∷ xs) row rows meets apart =
         ⊎_elim (λ wrong. absurd (let l = before-lower new.1 o.1 row here wrong in let s = row.place.some in omega arith)) (λ is. is) apart_here in
         let Q : List (ℕ × ObjectRow) → Type 0 = AreApart in
         subst Q (sym (into-later new o xs f)) (AllPairs-cons IsBefore o (into_place new xs) (into-all (IsBefore o) new xs before behind) rest)
+
+-- they are, where each ends before the next begins
+pub apart-next : (objects : List (ℕ × ObjectRow)) → ((k : ℕ) (d : ℕ × ObjectRow) → k + 1 < length objects → IsBefore (get_or objects k d) (get_or objects (k + 1) d)) → AreApart objects
+apart-next [] next = AllPairs-nil IsBefore
+apart-next (o ∷ []) next = AllPairs-cons IsBefore o [] (λ k d under. absurd (omega arith)) (AllPairs-nil IsBefore)
+apart-next (o ∷ x ∷ xs) next =
+    let here = next 0 o (omega arith) in
+    let rest = apart-next (x ∷ xs) (λ k d under. behind k d under) in
+    let later = AllPairs-head IsBefore x xs rest in
+    AllPairs-cons IsBefore o (x ∷ xs) (All-cons (IsBefore o) x xs here (λ k d under. let h = later k d under in omega arith)) rest
+  where
+    behind : (k : ℕ) (d : ℕ × ObjectRow) → k + 1 < length (x ∷ xs) → IsBefore (get_or (x ∷ xs) k d) (get_or (x ∷ xs) (k + 1) d)
+    behind k d under =
+        let e : suc k + 1 ≡ suc (k + 1) = omega arith in
+        let P : ℕ → Type 0 = λ n. IsBefore (get_or (x ∷ xs) k d) (get_or (o ∷ x ∷ xs) n d) in
+        subst P e (next (suc k) d (omega arith))
 
 -- another row with the same pages
 pub changed-apart : (row : ObjectRow) (xs : List (ℕ × ObjectRow)) → All (λ (o : ℕ × ObjectRow). o.1.base ≡ row.base → o.1.pages ≡ row.pages) xs → AreApart xs → AreApart (with_row row xs)

@@ -154,6 +154,42 @@ live-others i [] base other = λ k d under. absurd (omega arith)
 live-others i (None ∷ rows) base other = live-others (i + 1) rows base (λ j r is. other (suc j) r is)
 live-others i (Some r ∷ rows) base other = into-all (λ (o : ℕ × ObjectRow). o.1.base ≢ base) (i, r) (by_base (live_from (i + 1) rows)) (other 0 r refl) (live-others (i + 1) rows base (λ j r is. other (suc j) r is))
 
+-- no two rows have one base
+abbrev pub HaveOwnBases : List (Option ObjectRow) → Type 0
+HaveOwnBases rows = (j k : ℕ) (r row : ObjectRow) → slice_index_or rows j None ≡ Some r → slice_index_or rows k None ≡ Some row → r.base ≡ row.base → j ≡ k
+
+-- then the bases rise
+into-rise : (new : ℕ × ObjectRow) (xs : List (ℕ × ObjectRow)) → All (λ (o : ℕ × ObjectRow). o.1.base ≢ new.1.base) xs → AllPairs (λ (a b : ℕ × ObjectRow). a.1.base < b.1.base) xs → AllPairs (λ (a b : ℕ × ObjectRow). a.1.base < b.1.base) (into_place new xs)
+into-rise new [] other up = AllPairs-cons (λ (a b : ℕ × ObjectRow). a.1.base < b.1.base) new [] (λ k d under. absurd (omega arith)) up
+into-rise new (o ∷ xs) other up =
+    ⊎_elim first (later (into-rise new xs (All-tail (λ (o : ℕ × ObjectRow). o.1.base ≢ new.1.base) o xs other) (AllPairs-tail (λ (a b : ℕ × ObjectRow). a.1.base < b.1.base) o xs up))) (cases_Bool (nat_lt new.1.base o.1.base))
+  where
+    behind : All (λ (b : ℕ × ObjectRow). o.1.base < b.1.base) xs
+    behind = AllPairs-head (λ (a b : ℕ × ObjectRow). a.1.base < b.1.base) o xs up
+
+    first : nat_lt new.1.base o.1.base ≡ true → AllPairs (λ (a b : ℕ × ObjectRow). a.1.base < b.1.base) (into_place new (o ∷ xs))
+    first t =
+        let l = ltb-true new.1.base o.1.base t in
+        let P : List (ℕ × ObjectRow) → Type 0 = λ ys. AllPairs (λ (a b : ℕ × ObjectRow). a.1.base < b.1.base) ys in
+        subst P (sym (into-first new o xs t))
+        (AllPairs-cons (λ (a b : ℕ × ObjectRow). a.1.base < b.1.base) new (o ∷ xs)
+        (All-cons (λ (b : ℕ × ObjectRow). new.1.base < b.1.base) o xs l (λ k d under. let h = behind k d under in omega arith)) up)
+
+    later : AllPairs (λ (a b : ℕ × ObjectRow). a.1.base < b.1.base) (into_place new xs) → nat_lt new.1.base o.1.base ≡ false → AllPairs (λ (a b : ℕ × ObjectRow). a.1.base < b.1.base) (into_place new (o ∷ xs))
+    later rest f =
+        let l = ltb-false new.1.base o.1.base f in
+        let e = All-head (λ (o : ℕ × ObjectRow). o.1.base ≢ new.1.base) o xs other in
+        let P : List (ℕ × ObjectRow) → Type 0 = λ ys. AllPairs (λ (a b : ℕ × ObjectRow). a.1.base < b.1.base) ys in
+        subst P (sym (into-later new o xs f))
+        (AllPairs-cons (λ (a b : ℕ × ObjectRow). a.1.base < b.1.base) o (into_place new xs) (into-all (λ (b : ℕ × ObjectRow). o.1.base < b.1.base) new xs (omega arith) behind) rest)
+
+pub rise-live : (i : ℕ) (rows : List (Option ObjectRow)) → HaveOwnBases rows → AllPairs (λ (a b : ℕ × ObjectRow). a.1.base < b.1.base) (by_base (live_from i rows))
+rise-live i [] own = AllPairs-nil (λ (a b : ℕ × ObjectRow). a.1.base < b.1.base)
+rise-live i (None ∷ rows) own = rise-live (i + 1) rows (λ j k r row at_j at_k same. let e = own (suc j) (suc k) r row at_j at_k same in omega arith)
+rise-live i (Some r ∷ rows) own =
+    into-rise (i, r) (by_base (live_from (i + 1) rows)) (live-others (i + 1) rows r.base (λ j q at same. let e = own (suc j) 0 q r at refl same in absurd (omega arith)))
+    (rise-live (i + 1) rows (λ j k r row at_j at_k same. let e = own (suc j) (suc k) r row at_j at_k same in omega arith))
+
 pub all-contained : {X : Type 0} (P : X → Type 0) (xs : List X) (x : X) → All P xs → Contains xs x → P x
 all-contained {X} P xs x all there = let Q : X → Type 0 = P in subst Q there.2 (all there.0 x there.1)
 

@@ -4,26 +4,23 @@ use Rattle.std.specs.List.{AllPairs, Contains, list_any}
 use Rattle.std.specs.List.Sorted.{IsNonDecreasingBy}
 use Rattle.std.specs.Option.{ForSome, option_map}
 use Rattle.std.proofs.Common.{refl, sym, ap, ◌∙◌, subst, ⊎_elim, arith, get_or, get_or-set_other, get_or-set_same, length-set}
-use Rattle.std.proofs.lemmas.Bool.{and_from, and_parts, cases_Bool, cases_eq, cases_lt, eq-eqb, eqb-true, false≢true, le-leb, leb-true, lt-ltb, ltb-true, ne_eqb, or_from}
+use Rattle.std.proofs.lemmas.Bool.{and_from, and_parts, cases_Bool, cases_eq, cases_lt, eq-eqb, eqb-true, false≢true, le-leb, leb-true, lt-ltb, ltb-true, ne_eqb, not_from_false, or_from}
 use Rattle.std.proofs.lemmas.List.{ext_get_or, get_or-map, get_or_default, get_or_past, length-map, length-replicate, map-set, set-get_or}
 use Rattle.std.proofs.lemmas.List.Kept.{AllPairs-filter}
 use Rattle.std.proofs.lemmas.List.Elements.{All-replicate, All-set}
 use Rattle.std.proofs.lemmas.List.Quantifiers.{position-Some}
 use Rattle.mg_index.specs.Pairs.{Ascends, IsExact}
 use Rattle.mg_index.specs.Places.{nowhere_any}
-use Rattle.mg_index.specs.Words.{unless_within}
+use Rattle.mg_index.specs.Words.{numbers_in, unless_within}
 use Rattle.mg_model.specs.Objects.{page_behind, page_of}
 use Rattle.mg_model.specs.Ranges.{IsObjectRow}
 use Rattle.mg_model.specs.State.{ObjectRow}
-use Rattle.mg_objects.specs.Held.{AreApart, AreHeld, IsBefore, IsLowestFree, MeetsNone, base_of, into_place, objects_in, with_row}
+use Rattle.mg_model.specs.Tests.{all_distinct}
+use Rattle.mg_objects.specs.Held.{AreApart, AreHeld, IsBefore, IsLowestFree, MeetsNone, base_of, into_place, key_of, objects_in, with_row}
 use Rattle.mg_objects.proofs.Apart.{AreRows, bases-rise, changed-apart, into-apart}
-use Rattle.mg_objects.proofs.Changes.{all-contained, held-cut, held-put, held-set}
+use Rattle.mg_objects.proofs.Changes.{HaveOwnBases, all-contained, held-cut, held-put, held-set, rise-live}
 use Rattle.mg_objects.proofs.Lists.{Rises, any-from, any-not, find-had, none-from, contains-at, contains-map, find-none, find-only, map-had, same-rising}
 use Rattle.mg_objects.proofs.Rows.{held-full, held-had, held-has, held-none}
-
--- the base of an object, and its place
-abbrev pub key_of : ℕ × ObjectRow → ℕ × ℕ
-key_of o = (o.1.base, o.0)
 
 pub some-none : {X : Type 0} (x : X) → Some x ≡ None → ⊥
 some-none x is = cc
@@ -62,14 +59,118 @@ without-one base x other = ⊎_elim (λ inside. absurd (never inside)) (λ out. 
         let high = ltb-true x (base + 1) both.1 in
         other (omega arith)
 
+-- what stands at a rank, in the list of pairs and in the table
+pub listed_rank :
+    (rows : List (Option ObjectRow)) (pairs : List (ℕ × ℕ)) → map key_of (objects_in rows) ≡ pairs → (i : ℕ) (d : ℕ × ObjectRow) → i < length (objects_in rows)
+    → (get_or pairs i (0, 0) ≡ key_of (get_or (objects_in rows) i d)) × (slice_index_or rows (get_or (objects_in rows) i d).0 None ≡ Some (get_or (objects_in rows) i d).1)
+listed_rank rows pairs listed i d under = (
+  ap (λ ps. get_or ps i (0, 0)) (sym listed) ∙ get_or-map key_of (objects_in rows) i d (0, 0) under,
+  held-had rows (get_or (objects_in rows) i d) (contains-at (objects_in rows) i d (get_or (objects_in rows) i d) under refl),
+)
+
+-- the place there, and the row in it
+pub listed_place : (rows : List (Option ObjectRow)) (pairs : List (ℕ × ℕ)) → map key_of (objects_in rows) ≡ pairs → (i : ℕ) (d : ℕ × ObjectRow) → i < length (objects_in rows) → (get_or pairs i (0, 0)).1 < length rows
+listed_place rows pairs listed i d under =
+    let rank = listed_rank rows pairs listed i d under in
+    let place = ap (λ (p : ℕ × ℕ). p.1) rank.0 in
+    let within = within-table rows (get_or (objects_in rows) i d).0 (get_or (objects_in rows) i d).1 rank.1 in
+    omega arith
+
+pub listed_row :
+    (rows : List (Option ObjectRow)) (pairs : List (ℕ × ℕ)) → map key_of (objects_in rows) ≡ pairs → (i : ℕ) (d : ℕ × ObjectRow) (e : Option ObjectRow) → i < length (objects_in rows)
+    → slice_index_or rows (get_or pairs i (0, 0)).1 e ≡ Some (get_or (objects_in rows) i d).1
+listed_row rows pairs listed i d e under =
+    let rank = listed_rank rows pairs listed i d under in
+    get_or_default rows (get_or pairs i (0, 0)).1 e None (listed_place rows pairs listed i d under) ∙ ap (λ (p : ℕ × ℕ). get_or rows p.1 None) rank.0 ∙ rank.1
+
+-- a table whose bases these are
+module _ (rows : List (Option ObjectRow)) (bases : List ℕ) (bases_are : bases ≡ map base_of rows) (rows_are : All (λ (row : Option ObjectRow). ForSome row IsObjectRow) rows) where
+  table_rows : AreRows (objects_in rows)
+  table_rows k d under =
+      let o = slice_index_or (objects_in rows) k d in
+      row-good rows rows_are o.0 o.1 (held-had rows o (contains-at (objects_in rows) k d o under refl))
+
+  base_there : (k : ℕ) (row : ObjectRow) → slice_index_or rows k None ≡ Some row → slice_index bases k ≡ row.base
+  base_there k row is =
+      ap (λ xs. slice_index xs k) bases_are ∙ get_or-map base_of rows k None 0 (within-table rows k row is) ∙ ap base_of is
+
+  row_there : (k base : ℕ) → base ≢ 0 → k < length bases → slice_index bases k ≡ base → (row : ObjectRow) × (slice_index_or rows k None ≡ Some row) × (row.base ≡ base)
+  row_there k base some under is = go (slice_index_or rows k None) refl
+    where
+      under_rows : k < length rows
+      under_rows = let l = ap length bases_are in let m = length-map rows base_of in omega arith
+
+      there : base_of (slice_index_or rows k None) ≡ base
+      there = sym (get_or-map base_of rows k None 0 under_rows) ∙ sym (ap (λ xs. slice_index xs k) bases_are) ∙ is
+
+      go : (o : Option ObjectRow) → slice_index_or rows k None ≡ o → (row : ObjectRow) × (slice_index_or rows k None ≡ Some row) × (row.base ≡ base)
+      go None at = absurd (some (sym there ∙ ap base_of at))
+      go (Some row) at = (row, at, sym (ap base_of at) ∙ there)
+
+  bound_there : (k : ℕ) (row : ObjectRow) → slice_index_or rows k None ≡ Some row → (row.base ≢ 0) × (k < length bases) × (slice_index bases k ≡ row.base)
+  bound_there k row is =
+      let l = ap length bases_are in
+      let m = length-map rows base_of in
+      (base-some row (row-good rows rows_are k row is), omega (arith, within-table rows k row is), base_there k row is)
+
+  -- the pairs of an index are those of the objects, in order
+  rising_keys : AllPairs (λ (a b : ℕ × ObjectRow). a.1.base < b.1.base) (objects_in rows) → (pairs : List (ℕ × ℕ)) → Ascends pairs → IsExact bases pairs → map key_of (objects_in rows) ≡ pairs
+  rising_keys rise pairs up exact = same-rising (λ (p : ℕ × ℕ). p.0) (map key_of (objects_in rows)) pairs keys_rise up to from
+    where
+      keys_rise : Rises (λ (p : ℕ × ℕ). p.0) (map key_of (objects_in rows))
+      keys_rise i j d before under =
+          let l = length-map (objects_in rows) key_of in
+          let e : ℕ × ObjectRow = (d.1, record { base = d.0; pages = 0; account = 0; passwords = []; entries = []; extension = None }) in
+          let a = ap (λ (p : ℕ × ℕ). p.0) (get_or-map key_of (objects_in rows) i e d (omega arith)) in
+          let b = ap (λ (p : ℕ × ℕ). p.0) (get_or-map key_of (objects_in rows) j e d (omega arith)) in
+          let r = rise i j e before (omega arith) in
+          omega arith
+
+      to : (p : ℕ × ℕ) → Contains (map key_of (objects_in rows)) p → Contains pairs p
+      to p there =
+          let o = map-had key_of (objects_in rows) p there in
+          let P = λ (q : ℕ × ℕ). Contains pairs q in
+          subst P o.2 ((exact (key_of o.0)).1 (bound_there o.0.0 o.0.1 (held-had rows o.0 o.1)))
+
+      from : (p : ℕ × ℕ) → Contains pairs p → Contains (map key_of (objects_in rows)) p
+      from p there =
+          let bound = (exact p).0 there in
+          let row = row_there p.1 p.0 bound.0 bound.1 bound.2 in
+          let e : key_of (p.1, row.0) ≡ p = ap (λ n. (n, p.1)) row.2 in
+          let P = λ (q : ℕ × ℕ). Contains (map key_of (objects_in rows)) q in
+          subst P e (contains-map key_of (objects_in rows) (p.1, row.0) (held-has rows p.1 row.0 row.1))
+
+  -- no two rows of an index have one base
+  indexed_once : (pairs : List (ℕ × ℕ)) → Ascends pairs → IsExact bases pairs → HaveOwnBases rows
+  indexed_once pairs up exact j k r row at_j at_k same =
+      let P = λ (n : ℕ). Contains pairs (n, k) in
+      once ((exact (r.base, j)).1 (bound_there j r at_j)) (subst P (sym same) ((exact (row.base, k)).1 (bound_there k row at_k)))
+    where
+      never : (x y : ℕ × ℕ) (m n : ℕ) → m < n → n < length pairs → get_or pairs m x ≡ x → get_or pairs n y ≡ y → x.0 ≡ y.0 → ⊥
+      never x y m n before under at_x at_y e =
+          let l = up m n x before under in
+          let a = ap (λ (p : ℕ × ℕ). p.0) at_x in
+          let b = ap (λ (p : ℕ × ℕ). p.0) (get_or_default pairs n x y under ∙ at_y) in
+          omega arith
+
+      once : Contains pairs (r.base, j) → Contains pairs (r.base, k) → j ≡ k
+      once u w =
+          ⊎_elim (λ l. absurd (never (r.base, j) (r.base, k) u.0 w.0 l w.1 u.2 w.2 refl))
+          (λ le. ⊎_elim (λ l. absurd (never (r.base, k) (r.base, j) w.0 u.0 l u.1 w.2 u.2 refl))
+          (λ ge.
+          let e : u.0 ≡ w.0 = omega arith in
+          ap (λ (p : ℕ × ℕ). p.1) (sym u.2 ∙ get_or_default pairs u.0 (r.base, j) (r.base, k) u.1 ∙ ap (λ n. get_or pairs n (r.base, k)) e ∙ w.2)) (cases_lt w.0 u.0))
+          (cases_lt u.0 w.0)
+
+  pub indexed_keys : (pairs : List (ℕ × ℕ)) → Ascends pairs → IsExact bases pairs → map key_of (objects_in rows) ≡ pairs
+  indexed_keys pairs up exact = rising_keys (rise-live 0 rows (indexed_once pairs up exact)) pairs up exact
+
 module _ (rows : List (Option ObjectRow)) (bases : List ℕ) (held : AreHeld rows bases) where
   pub good : (k : ℕ) (row : ObjectRow) → slice_index_or rows k None ≡ Some row → IsObjectRow row
   good = row-good rows held.rows_are
 
   pub held_rows : AreRows (objects_in rows)
-  held_rows k d under =
-      let o = slice_index_or (objects_in rows) k d in
-      good o.0 o.1 (held-had rows o (contains-at (objects_in rows) k d o under refl))
+  held_rows = table_rows rows bases held.bases_are held.rows_are
 
   pub held_places : All (λ (o : ℕ × ObjectRow). o.0 < 4096) (objects_in rows)
   held_places k d under =
@@ -79,24 +180,13 @@ module _ (rows : List (Option ObjectRow)) (bases : List ℕ) (held : AreHeld row
       omega arith
 
   pub base_at : (k : ℕ) (row : ObjectRow) → slice_index_or rows k None ≡ Some row → slice_index bases k ≡ row.base
-  base_at k row is =
-      ap (λ xs. slice_index xs k) held.bases_are ∙ get_or-map base_of rows k None 0 (within-table rows k row is) ∙ ap base_of is
+  base_at = base_there rows bases held.bases_are held.rows_are
 
   pub row_at : (k base : ℕ) → base ≢ 0 → k < length bases → slice_index bases k ≡ base → (row : ObjectRow) × (slice_index_or rows k None ≡ Some row) × (row.base ≡ base)
-  row_at k base some under is = go (slice_index_or rows k None) refl
-    where
-      under_rows : k < length rows
-      under_rows = let l = ap length held.bases_are in let m = length-map rows base_of in omega arith
-
-      there : base_of (slice_index_or rows k None) ≡ base
-      there = sym (get_or-map base_of rows k None 0 under_rows) ∙ sym (ap (λ xs. slice_index xs k) held.bases_are) ∙ is
-
-      go : (o : Option ObjectRow) → slice_index_or rows k None ≡ o → (row : ObjectRow) × (slice_index_or rows k None ≡ Some row) × (row.base ≡ base)
-      go None at = absurd (some (sym there ∙ ap base_of at))
-      go (Some row) at = (row, at, sym (ap base_of at) ∙ there)
+  row_at = row_there rows bases held.bases_are held.rows_are
 
   -- where two rows have one base, they are one
-  pub one_base : (j k : ℕ) (r row : ObjectRow) → slice_index_or rows j None ≡ Some r → slice_index_or rows k None ≡ Some row → r.base ≡ row.base → j ≡ k
+  pub one_base : HaveOwnBases rows
   one_base j k r row at_j at_k same = go (held-has rows j r at_j) (held-has rows k row at_k)
     where
       rise : AllPairs (λ (a b : ℕ × ObjectRow). a.1.base < b.1.base) (objects_in rows)
@@ -120,34 +210,7 @@ module _ (rows : List (Option ObjectRow)) (bases : List ℕ) (held : AreHeld row
 
   -- the index lists the objects
   pub keys : (pairs : List (ℕ × ℕ)) → Ascends pairs → IsExact bases pairs → map key_of (objects_in rows) ≡ pairs
-  keys pairs up exact = same-rising (λ (p : ℕ × ℕ). p.0) (map key_of (objects_in rows)) pairs keys_rise up to from
-    where
-      keys_rise : Rises (λ (p : ℕ × ℕ). p.0) (map key_of (objects_in rows))
-      keys_rise i j d before under =
-          let l = length-map (objects_in rows) key_of in
-          let e : ℕ × ObjectRow = (d.1, record { base = d.0; pages = 0; account = 0; passwords = []; entries = []; extension = None }) in
-          let a = ap (λ (p : ℕ × ℕ). p.0) (get_or-map key_of (objects_in rows) i e d (omega arith)) in
-          let b = ap (λ (p : ℕ × ℕ). p.0) (get_or-map key_of (objects_in rows) j e d (omega arith)) in
-          let r = bases-rise (objects_in rows) held_rows held.apart i j e before (omega arith) in
-          omega arith
-
-      to : (p : ℕ × ℕ) → Contains (map key_of (objects_in rows)) p → Contains pairs p
-      to p there =
-          let o = map-had key_of (objects_in rows) p there in
-          let at = held-had rows o.0 o.1 in
-          let is = base_at o.0.0 o.0.1 at in
-          let l = ap length held.bases_are in
-          let m = length-map rows base_of in
-          let P = λ (q : ℕ × ℕ). Contains pairs q in
-          subst P o.2 ((exact (key_of o.0)).1 (base-some o.0.1 (good o.0.0 o.0.1 at), omega (arith, within-table rows o.0.0 o.0.1 at), is))
-
-      from : (p : ℕ × ℕ) → Contains pairs p → Contains (map key_of (objects_in rows)) p
-      from p there =
-          let bound = (exact p).0 there in
-          let row = row_at p.1 p.0 bound.0 bound.1 bound.2 in
-          let e : key_of (p.1, row.0) ≡ p = ap (λ n. (n, p.1)) row.2 in
-          let P = λ (q : ℕ × ℕ). Contains (map key_of (objects_in rows)) q in
-          subst P e (contains-map key_of (objects_in rows) (p.1, row.0) (held-has rows p.1 row.0 row.1))
+  keys = indexed_keys rows bases held.bases_are held.rows_are
 
   -- the object with a base, and that in a place
   pub found_base : (base k : ℕ) (row : ObjectRow) → slice_index_or rows k None ≡ Some row → row.base ≡ base → find (λ (o : ℕ × ObjectRow). o.1.base == base) (objects_in rows) ≡ Some (k, row)
@@ -330,6 +393,12 @@ module _ (rows : List (Option ObjectRow)) (bases : List ℕ) (held : AreHeld row
         apart = let P : List (ℕ × ObjectRow) → Type 0 = AreApart in subst P (sym changed) (AllPairs-filter IsBefore (λ (o : ℕ × ObjectRow). not (o.1.base == base)) (objects_in rows) held.apart);
       }
 
+  -- the row of an object that was found
+  pub found_row : (base : ℕ) (o : ℕ × ObjectRow) → find (λ (o : ℕ × ObjectRow). o.1.base == base) (objects_in rows) ≡ Some o → (slice_index_or rows o.0 None ≡ Some o.1) × (o.1.base ≡ base)
+  found_row base o is =
+      let had = find-had (λ (o : ℕ × ObjectRow). o.1.base == base) (objects_in rows) o is in
+      (held-had rows o had.0, eqb-true o.1.base base had.1)
+
   -- the row of an object whose place was found
   pub place_row : (base k : ℕ) → Some k ≡ option_map (λ (o : ℕ × ObjectRow). o.0) (find (λ (o : ℕ × ObjectRow). o.1.base == base) (objects_in rows)) → (row : ObjectRow) × (slice_index_or rows k None ≡ Some row) × (row.base ≡ base)
   place_row base k is = go (find (λ (o : ℕ × ObjectRow). o.1.base == base) (objects_in rows)) refl is
@@ -352,10 +421,32 @@ module _ (rows : List (Option ObjectRow)) (bases : List ℕ) (held : AreHeld row
   pub rank_is :
       (pairs : List (ℕ × ℕ)) → Ascends pairs → IsExact bases pairs → (i : ℕ) (d : ℕ × ObjectRow) → i < length (objects_in rows)
       → (get_or pairs i (0, 0) ≡ key_of (get_or (objects_in rows) i d)) × (slice_index_or rows (get_or (objects_in rows) i d).0 None ≡ Some (get_or (objects_in rows) i d).1)
-  rank_is pairs up exact i d under = (
-    ap (λ ps. get_or ps i (0, 0)) (sym (keys pairs up exact)) ∙ get_or-map key_of (objects_in rows) i d (0, 0) under,
-    held-had rows (get_or (objects_in rows) i d) (contains-at (objects_in rows) i d (get_or (objects_in rows) i d) under refl),
-  )
+  rank_is pairs up exact i d under = listed_rank rows pairs (keys pairs up exact) i d under
+
+-- objects that are apart have bases of their own
+own-bases : (rows : List (Option ObjectRow)) → length rows ≡ 4096 → All (λ (row : Option ObjectRow). ForSome row IsObjectRow) rows → AreApart (objects_in rows) → HaveOwnBases rows
+own-bases rows long rows_are apart = one_base rows (map base_of rows) (record { long = long; bases_are = refl; rows_are = rows_are; apart = apart })
+
+not-bound : (b : ℕ) (rows : List (Option ObjectRow)) → ((j : ℕ) (row : ObjectRow) → slice_index_or rows j None ≡ Some row → (row.base ≢ 0) × (row.base ≢ b)) → list_any (λ y. b == y) (numbers_in (map base_of rows)) ≡ false
+not-bound b [] other = refl
+not-bound b (None ∷ rows) other = not-bound b rows (λ j. other (suc j))
+not-bound b (Some r ∷ rows) other =
+    let here = other 0 r refl in
+    ap (λ t. list_any (λ y. b == y) (if not t then r.base ∷ numbers_in (map base_of rows) else numbers_in (map base_of rows))) (ne_eqb r.base 0 here.0)
+    ∙ or_from (b == r.base) (list_any (λ y. b == y) (numbers_in (map base_of rows))) (ne_eqb b r.base (λ is. here.1 (sym is))) (not-bound b rows (λ j. other (suc j)))
+
+own-distinct : (rows : List (Option ObjectRow)) → ((j : ℕ) (row : ObjectRow) → slice_index_or rows j None ≡ Some row → row.base ≢ 0) → HaveOwnBases rows → all_distinct (numbers_in (map base_of rows)) ≡ true
+own-distinct [] some own = refl
+own-distinct (None ∷ rows) some own = own-distinct rows (λ j. some (suc j)) (λ j k r row at_j at_k same. let e = own (suc j) (suc k) r row at_j at_k same in omega arith)
+own-distinct (Some r ∷ rows) some own =
+    ap (λ t. all_distinct (if not t then r.base ∷ numbers_in (map base_of rows) else numbers_in (map base_of rows))) (ne_eqb r.base 0 (some 0 r refl))
+    ∙ and_from (not (list_any (λ y. r.base == y) (numbers_in (map base_of rows)))) (all_distinct (numbers_in (map base_of rows)))
+    (not_from_false (list_any (λ y. r.base == y) (numbers_in (map base_of rows)))
+    (not-bound r.base rows (λ j row at. (some (suc j) row at, λ same. let e = own (suc j) 0 row r at refl same in absurd (omega arith)))))
+    (own-distinct rows (λ j. some (suc j)) (λ j k r row at_j at_k same. let e = own (suc j) (suc k) r row at_j at_k same in omega arith))
+
+pub apart_distinct : (rows : List (Option ObjectRow)) → length rows ≡ 4096 → All (λ (row : Option ObjectRow). ForSome row IsObjectRow) rows → AreApart (objects_in rows) → all_distinct (numbers_in (map base_of rows)) ≡ true
+apart_distinct rows long rows_are apart = own-distinct rows (λ j row at. base-some row (row-good rows rows_are j row at)) (own-bases rows long rows_are apart)
 
 -- no row yet
 no-bases : (n : ℕ) → map base_of (replicate n None) ≡ replicate n 0

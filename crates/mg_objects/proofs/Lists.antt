@@ -1,5 +1,5 @@
 -- What a list contains, what a search in it gives, and two lists that rise.
-use Rattle.std.specs.Prelude.{◌≡◌, ◌<◌, ◌⊎◌, ◌||◌, ℕ, zero, suc, Bool, true, false, List, [], ◌∷◌, Option, None, Some, filter, find, length, map, cond}
+use Rattle.std.specs.Prelude.{◌≡◌, ◌<◌, ◌⊎◌, ◌||◌, ℕ, zero, suc, Bool, true, false, List, [], ◌∷◌, Option, None, Some, filter, find, length, map, cond, if◌then◌else◌}
 use Rattle.std.specs.List.{AllPairs, Contains, list_any}
 use Rattle.std.specs.Option.{option_map}
 use Rattle.std.proofs.Common.{refl, sym, ap, ◌∙◌, subst, inl, inr, ⊎_elim, arith, get_or}
@@ -141,3 +141,12 @@ none-mapped {X} {Y} f p xs is = go (find p xs) refl is
     go : (found : Option X) → find p xs ≡ found → None ≡ option_map f found → list_any p xs ≡ false
     go None at same = none-found p xs at
     go (Some x) at same = absurd (cc)
+
+-- what a test chose
+pub some_of : {X : Type 0} (t : Bool) (x y : X) → Some x ≡ (if t then Some y else None) → x ≡ y
+some_of true x y is = cc
+some_of false x y is = cc
+
+pub none_of : {X : Type 0} (t : Bool) (y : X) → None ≡ (if t then Some y else None) → t ≡ false
+none_of true y is = cc
+none_of false y is = refl

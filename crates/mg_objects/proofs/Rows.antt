@@ -36,7 +36,7 @@ sorted-moved [] = IsPermutation-refl []
 sorted-moved (o ∷ xs) = IsPermutation-trans (o ∷ xs) (o ∷ by_base xs) (into_place o (by_base xs)) (IsPermutation-cons o xs (by_base xs) (sorted-moved xs)) (into-moved o (by_base xs))
 
 -- the rows that are there
-live-has : (i : ℕ) (rows : List (Option ObjectRow)) (k : ℕ) (row : ObjectRow) → slice_index_or rows k None ≡ Some row → Contains (live_from i rows) (i + k, row)
+pub live-has : (i : ℕ) (rows : List (Option ObjectRow)) (k : ℕ) (row : ObjectRow) → slice_index_or rows k None ≡ Some row → Contains (live_from i rows) (i + k, row)
 live-has i [] k row is = absurd (cc)
 live-has i (None ∷ rows) zero row is = absurd (cc)
 live-has i (Some r ∷ rows) zero row is =
@@ -73,7 +73,7 @@ held-had rows o there =
     ap (λ n. slice_index_or rows n None) e ∙ old.2
 
 -- no rows
-live-none : (i n : ℕ) → live_from i (replicate n None) ≡ []
+pub live-none : {R : Type 0} (i n : ℕ) → live_from {R = R} i (replicate n None) ≡ []
 live-none i zero = refl
 live-none i (suc n) = live-none (i + 1) n
 

@@ -7,7 +7,7 @@ use Rattle.mg_model.specs.Ranges.{IsObjectRow}
 use Rattle.mg_model.specs.State.{ObjectRow}
 
 -- the rows that are there, each with its place, where the first place is i
-abbrev pub live_from : ℕ → List (Option ObjectRow) → List (ℕ × ObjectRow)
+abbrev pub live_from : {R : Type 0} → ℕ → List (Option R) → List (ℕ × R)
 live_from i [] = []
 live_from i (None ∷ rows) = live_from (i + 1) rows
 live_from i (Some row ∷ rows) = (i, row) ∷ live_from (i + 1) rows
@@ -20,6 +20,11 @@ into_place new (o ∷ objects) = if nat_lt new.1.base o.1.base then new ∷ o �
 abbrev pub by_base : List (ℕ × ObjectRow) → List (ℕ × ObjectRow)
 by_base [] = []
 by_base (o ∷ objects) = into_place o (by_base objects)
+
+-- rows with their places: each is one of the table's, and they rise
+pub record IsPlaced (rows : List (ℕ × ObjectRow)) : Type 0 where
+  pub within : All (λ (o : ℕ × ObjectRow). o.0 < 4096) rows
+  pub rise : AllPairs (λ (a b : ℕ × ObjectRow). a.0 < b.0) rows
 
 -- the objects of a table
 abbrev pub objects_in : List (Option ObjectRow) → List (ℕ × ObjectRow)
@@ -37,6 +42,10 @@ AreApart objects = AllPairs IsBefore objects
 abbrev pub base_of : Option ObjectRow → ℕ
 base_of None = 0
 base_of (Some row) = row.base
+
+-- the base of an object, and its place
+abbrev pub key_of : ℕ × ObjectRow → ℕ × ℕ
+key_of o = (o.1.base, o.0)
 
 -- a table of rows, and the bases in its places
 pub record AreHeld (rows : List (Option ObjectRow)) (bases : List ℕ) : Type 0 where

@@ -6,5 +6,6 @@
 #![tactic(auto)]
 
 mod objects;
+mod table;
 
 pub use objects::{MOST_OBJECTS, Objects};

@@ -1,11 +1,12 @@
 // The objects of a volume, by place and by base.
-ghost use Rattle.std.specs.Prelude.{◌≡◌, ◌≤◌, ◌<◌, ◌==◌, [], ℕ, All, IfOk, None, filter, find, length, not, replicate, true};
+ghost use Rattle.std.specs.Prelude.{◌≡◌, ◌≤◌, ◌<◌, ◌==◌, [], ℕ, All, IfOk, MatchOption, Some, filter, find, length, not, true};
 ghost use Rattle.std.specs.List.{AllWithin, HoldsAt, list_any};
 ghost use Rattle.std.specs.Option.{option_copied, option_map};
 ghost use Rattle.mg_model.specs.Access.{covers};
 ghost use Rattle.mg_model.specs.Ranges.{IsObjectRow};
-ghost use Rattle.mg_objects.specs.Held.{AreApart, IsLowestFree, MeetsNone, into_place, with_row};
+ghost use Rattle.mg_objects.specs.Held.{AreApart, IsLowestFree, IsPlaced, MeetsNone, by_base, into_place, with_row};
 
+use crate::table::{are_apart, bases_of, no_rows, row_of, table_of};
 use mg_index::Index;
 use mg_model::ObjRow;
 use std::alloc::{AllocError, Global};
@@ -45,6 +46,26 @@ impl Objects {
         Ok(Objects { rows, bases })
     }
 
+    /// The objects of these rows, each with its place, below 4,096; the places rise. There are none where two of the rows
+    /// share a page. All memory that they will need is taken here.
+    pub fn of(alloc: Global, rows: &[(u64, ObjRow)]) -> Result<Option<Objects>, AllocError>
+        requires { IsPlaced rows.now }
+        ensures { IfOk result (λ made. MatchOption made (AreApart (by_base rows.now) → ⊥) (λ objects. objects ≡ by_base rows.now)) }
+    {
+        let table = table_of(alloc, rows)?;
+        let numbers = bases_of(alloc, &table)?;
+        match Index::of(alloc, numbers)? {
+            Some(bases) => {
+                if are_apart(&table, bases.pairs()) {
+                    Ok(Some(Objects { rows: table, bases }))
+                } else {
+                    Ok(None)
+                }
+            }
+            None => Ok(None),
+        }
+    }
+
     /// How many objects there are, 4,096 at most. No two share a page, and each has a place of its own.
     pub fn len(&self) -> usize
         ensures count { result ≡ length self.now }
@@ -61,11 +82,7 @@ impl Objects {
         requires { i < length self.now }
         ensures { HoldsAt (λ o. result.now ≡ o.1) self.now i }
     {
-        let (_, place) = self.bases.pairs()[i];
-        match &self.rows[place as usize] {
-            Some(row) => row,
-            None => unreachable!(),
-        }
+        row_of(&self.rows, self.bases.pairs(), i)
     }
 
     /// The place of the object with this base.
@@ -127,28 +144,41 @@ impl Objects {
         place
     }
 
-    /// The object with this base goes, and its place is free.
-    pub fn remove(&mut self, base: u64)
+    /// The object with this base goes, and its place is free. It gives that place, and the row.
+    pub fn remove(&mut self, base: u64) -> (u64, ObjRow)
         requires { list_any (λ o. o.1.base == base) self.old ≡ true }
-        ensures { self.new ≡ filter (λ o. not (o.1.base == base)) self.old }
+        ensures objects { self.new ≡ filter (λ o. not (o.1.base == base)) self.old }
+        ensures gone { find (λ o. o.1.base == base) self.old ≡ Some result }
     {
-        match self.place(base) {
-            Some(place) => {
-                self.bases.release_range(base, 1);
-                self.rows[place as usize] = None;
-            }
-            None => unreachable!(),
-        }
+        let gone = self.found(base);
+        self.bases.release_range(base, 1);
+        self.rows[gone.0 as usize] = None;
+        gone
     }
 
-    /// Another row for the object with its base, which has as many pages. It stands in the same place.
-    pub fn update(&mut self, row: ObjRow)
+    /// Another row for the object with its base, which has as many pages. It stands in the same place, and gives that.
+    pub fn update(&mut self, row: ObjRow) -> u64
         requires there { list_any (λ o. o.1.base == row.base) self.old ≡ true }
         requires pages { All (λ o. o.1.base ≡ row.base → o.1.pages ≡ row.pages) self.old }
-        ensures { self.new ≡ with_row row self.old }
+        ensures objects { self.new ≡ with_row row self.old }
+        ensures place { Some result ≡ option_map (λ o. o.0) (find (λ o. o.1.base == row.base) self.old) }
     {
-        match self.place(row.base()) {
-            Some(place) => self.rows[place as usize] = Some(row),
+        let (kept, _) = self.found(row.base());
+        self.rows[kept as usize] = Some(row);
+        kept
+    }
+
+    // The object with this base, which is there, with its place.
+    fn found(&self, base: u64) -> (u64, ObjRow)
+        requires { list_any (λ o. o.1.base == base) self.now ≡ true }
+        ensures { find (λ o. o.1.base == base) self.now ≡ Some result }
+    {
+        let _ = &self.rows;
+        match self.place(base) {
+            Some(place) => match self.at(place) {
+                Some(row) => (place, *row),
+                None => unreachable!(),
+            },
             None => unreachable!(),
         }
     }
@@ -161,15 +191,4 @@ impl Objects {
     {
         self.bases.pairs().partition_point(|pair| pair.0 <= a)
     }
-}
-
-// So many places without a row.
-fn no_rows(alloc: Global, places: u64) -> Result<Vec<Option<ObjRow>>, AllocError>
-    ensures { IfOk result (λ rows. rows.items ≡ replicate places None) }
-{
-    let mut rows = Vec::with_capacity(alloc, places as usize)?;
-    for _ in 0..places {
-        rows.push(None)?;
-    }
-    Ok(rows)
 }

@@ -3,8 +3,8 @@ use Rattle.std.proofs.lemmas.Bool.{leb-false, leb-true}
 use Rattle.std.proofs.lemmas.List.{length-map}
 use Rattle.std.proofs.lemmas.List.Sorted.{IsPartitionPoint-from_clause, IsPartitionedBy-leb}
 use Rattle.mg_model.specs.State.{ObjectRow}
-use Rattle.mg_objects.specs.Held.{objects_in}
-use Rattle.mg_objects.proofs.Keys.{key_of, keys, no-falls, rank_is}
+use Rattle.mg_objects.specs.Held.{key_of, objects_in}
+use Rattle.mg_objects.proofs.Keys.{keys, no-falls, rank_is}
 use Rattle.mg_objects.proofs.objects.Objects.count_up_to.Goals as goal
 
 pub returns-clause-within : goal.returns-clause-within

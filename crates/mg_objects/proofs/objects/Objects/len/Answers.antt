@@ -2,8 +2,8 @@ use Rattle.std.proofs.Common.{◌<◌, ◌∙◌, ℕ, List, All, ap, arith, len
 use Rattle.std.proofs.lemmas.List.{length-map}
 use Rattle.mg_model.specs.Ranges.{IsObjectRow}
 use Rattle.mg_model.specs.State.{ObjectRow}
-use Rattle.mg_objects.specs.Held.{AreApart, objects_in}
-use Rattle.mg_objects.proofs.Keys.{held_places, held_rows, key_of, keys}
+use Rattle.mg_objects.specs.Held.{AreApart, key_of, objects_in}
+use Rattle.mg_objects.proofs.Keys.{held_places, held_rows, keys}
 use Rattle.mg_objects.proofs.Rows.{held-few}
 use Rattle.mg_objects.proofs.objects.Objects.len.Goals as goal
 
