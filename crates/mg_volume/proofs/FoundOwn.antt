@@ -11,7 +11,7 @@ use Rattle.mg_volume.specs.Meaning.{IsKept, objects_in}
 use Rattle.mg_volume.specs.RowLists.{DistinctBy}
 
 -- what all have is had by what is found
-found_keeps : {X : Type 0} (P : X → Type 0) (test : X → Bool) (xs : List X) (x : X) → All P xs → find test xs ≡ Some x → P x
+pub found_keeps : {X : Type 0} (P : X → Type 0) (test : X → Bool) (xs : List X) (x : X) → All P xs → find test xs ≡ Some x → P x
 found_keeps P test [] x all h = cc
 found_keeps P test (y ∷ xs) x all h = by_test (test y) (found_keeps P test xs x (All-tail P y xs all)) h
   where

@@ -1,20 +1,16 @@
 mod Again
 pub mod BareRows
 pub mod BlockParts
-mod BoundPages
+pub mod ByNumber
 pub mod ChangedBy
 pub mod CommitChange
 pub mod Drawn
-mod Fitting
 pub mod Found
 pub mod FoundOwn
 pub mod FreeFrame
 pub mod FreePlace
-mod Gaps
-mod HeldRows
 mod ImageBytes
 pub mod Indexed
-mod LoadSteps
 pub mod ObjectChanged
 pub mod ObjectInserted
 pub mod ObjectLists
@@ -23,17 +19,15 @@ pub mod ObjectRemoved
 pub mod ObjectStaged
 pub mod ObjectWithout
 mod OpenRuns
+pub mod Opened
 pub mod OpenedFormed
 pub mod PagesChange
 pub mod RemovedOrder
-mod Replayed
-mod RowOrder
+mod Reread
 pub mod RowsApart
-mod SoundRows
 mod Staged
 pub mod Stages
 pub mod StillStaged
 pub mod StillWaiting
 pub mod ThreadLists
 pub mod ThreadStaged
-mod ToldSettings

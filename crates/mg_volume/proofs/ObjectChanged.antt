@@ -1,23 +1,30 @@
 -- Another row of an object that is there.
-use Rattle.std.specs.Prelude.{◌≡◌, ◌≢◌, ◌+◌, ◌/◌, ◌≤◌, ◌<◌, ◌==◌, ℕ, zero, suc, Bool, true, false, List, [], ◌∷◌, find, if◌then◌else◌, length, option_map, Option, Some, None}
+use Rattle.std.specs.Prelude.{◌≡◌, ◌≢◌, ◌+◌, ◌/◌, ◌<◌, ◌==◌, ℕ, zero, suc, Bool, true, false, All, List, [], ◌∷◌, find, if◌then◌else◌, length, option_map, IsSomeAnd, Option, Some, None}
+use Rattle.std.specs.List.{list_any}
 use Rattle.std.specs.Option.{option_map_or}
-use Rattle.std.proofs.Common.{refl, sym, ap, subst, get_or, set, ◌∙◌, arith}
-use Rattle.std.proofs.lemmas.Bool.{eq-eqb, ne_eqb}
+use Rattle.std.proofs.Common.{refl, sym, ap, subst, get_or, set, ◌∙◌, ⊎_elim, arith}
+use Rattle.std.proofs.lemmas.Bool.{both_ways, cases_Bool, eq-eqb, eqb-true, ne_eqb}
 use Rattle.std.proofs.lemmas.List.{get_or-map, length-map, map-set}
-use Rattle.std.proofs.lemmas.List.Elements.{All-get_or, All-map}
+use Rattle.std.proofs.lemmas.List.Elements.{All-cons, All-get_or, All-map, All-nil, All-weaker}
+use Rattle.mg_disk.specs.Disk.{Image}
 use Rattle.mg_model.specs.Layout.{first_object_block, object_rows}
+use Rattle.mg_model.specs.Objects as model
 use Rattle.mg_model.specs.Ranges.{IsObjectRow}
 use Rattle.mg_model.specs.State.{ObjectRow}
+use Rattle.mg_objects.specs.Held.{with_row}
 use Rattle.mg_pages.specs.Held.{PagesHeld}
 use Rattle.mg_pages.specs.Meaning as pages
-use Rattle.mg_volume.proofs.Indexed.{held_change, some_at}
+use Rattle.mg_volume.proofs.BareRows.{any_bare}
+use Rattle.mg_volume.proofs.Found.{object_found}
+use Rattle.mg_volume.proofs.Indexed.{found_index, held_change, some_at}
 use Rattle.mg_volume.proofs.ObjectLists.{set_is}
-use Rattle.mg_volume.proofs.ObjectStaged.{bases_distinct, with_objects}
+use Rattle.mg_volume.proofs.ObjectStaged.{bases_distinct, change_now, change_staged, with_objects}
 use Rattle.mg_volume.proofs.PagesChange.{held_same}
 use Rattle.mg_volume.proofs.StillStaged.{base_found, objects_still, place_found, with_base}
 use Rattle.mg_volume.specs.Held.{VolumeHeld}
-use Rattle.mg_volume.specs.Meaning.{IsHeld, IsKept, bare_rows, objects_in}
+use Rattle.mg_volume.specs.Meaning.{IsHeld, IsKept, IsSpelledBy, bare_rows, now_of, objects_in}
 use Rattle.mg_volume.specs.RowLists.{DistinctBy}
+use Rattle.mg_volume.specs.StagesRows.{StagesRows}
 use Rattle.mg_volume.specs.Staging.{MayChange, ObjectsStillStaged, free_place, has_base, is_object_staged, place_for, with_other_row}
 
 pub distinct_bare : (os : List (ℕ × ObjectRow)) → DistinctBy (λ (y : ℕ × ObjectRow). y.1.base) os → DistinctBy (λ (y : ObjectRow). y.base) (bare_rows os)
@@ -66,20 +73,6 @@ pub record StandsAt (v : VolumeHeld) (row : ObjectRow) (i : ℕ) (d : ℕ × Obj
   pub base : row.base ≡ d.1.base
   pub pages : d.1.pages ≡ row.pages
 
-pub stands_at : (v w : VolumeHeld) (row : ObjectRow) (base i : ℕ) (d : ℕ × ObjectRow) → v ≡ w → base ≡ row.base → i < length w.objects → ((d : ℕ × ObjectRow) → find (λ (old : ObjectRow). old.base == base) (objects_in w) ≡ Some (get_or w.objects i d).1)
-    → ((d : ℕ × ObjectRow) → (get_or w.objects i d).1.base ≡ base) → d ≡ get_or v.objects i d → MayChange (objects_in w) row → StandsAt v row i d
-stands_at v w row base i d same is few found at there change =
-    let read : d ≡ get_or w.objects i d = there ∙ ap (λ (x : VolumeHeld). get_or x.objects i d) same in
-    record {
-      few = subst (λ (x : VolumeHeld). i < length x.objects) (sym same) few;
-      there = there;
-      base = sym (ap (λ (o : ℕ × ObjectRow). o.1.base) read ∙ at d ∙ is);
-      pages =
-          ap (λ (o : ℕ × ObjectRow). o.1.pages) read
-          ∙ some_at (find (λ (old : ObjectRow). old.base == row.base) (objects_in w)) (λ (old : ObjectRow). old.pages ≡ row.pages) (get_or w.objects i d).1
-          (ap (λ b. find (λ (old : ObjectRow). old.base == b) (objects_in w)) (sym is) ∙ found d) change;
-    }
-
 module _ (v : VolumeHeld) (i : ℕ) (d : ℕ × ObjectRow) (row : ObjectRow) (kept : IsKept v) (stands : StandsAt v row i d) where
   few : i < length v.objects
   few = stands.few
@@ -126,7 +119,115 @@ module _ (v : VolumeHeld) (i : ℕ) (d : ℕ × ObjectRow) (row : ObjectRow) (ke
       (λ base' was is. place-set base' v.objects i d (d.0, row) few (ap (λ (o : ℕ × ObjectRow). o.0) there) at was)
 
   -- the volume with it is held
-  pub changed_held : (p : PagesHeld) (objects objects' accounts threads : ℕ) → IsHeld v objects accounts threads → IsObjectRow row → objects ≤ objects' → pages.frame_count p ≡ pages.frame_count v.pages → pages.table_in p ≡ pages.table_in v.pages
-      → IsHeld (with_objects v (set v.objects i (d.0, row)) p) objects' accounts threads
-  changed_held p objects objects' accounts threads held is room frames table =
-      held_same (record v { objects = set v.objects i (d.0, row) }) p objects' accounts threads (held_change v i d d.0 row objects objects' accounts threads held is few changed_low at same room) frames table
+  pub changed_held : (p : PagesHeld) (accounts : ℕ) → IsHeld v accounts → IsObjectRow row → pages.frame_count p ≡ pages.frame_count v.pages → pages.table_in p ≡ pages.table_in v.pages
+      → IsHeld (with_objects v (set v.objects i (d.0, row)) p) accounts
+  changed_held p accounts held is frames table =
+      held_same (record v { objects = set v.objects i (d.0, row) }) p accounts (held_change v i d d.0 row accounts held is few changed_low at same) frames table
+
+-- the row is put into a place, where the one with its base stands
+pub record IsPut (v : VolumeHeld) (row : ObjectRow) (place : ℕ) : Type 0 where
+  pub index : ℕ
+  pub old : ℕ × ObjectRow
+  pub stands : StandsAt v row index old
+  pub at : old.0 ≡ place
+  pub set : with_row row v.objects ≡ set v.objects index (old.0, row)
+
+found-place : (o : Option (ℕ × ObjectRow)) (place : ℕ) → Some place ≡ option_map (λ (o : ℕ × ObjectRow). o.0) o → (x : ℕ × ObjectRow) × (o ≡ Some x) × (x.0 ≡ place)
+found-place None place is = cc
+found-place (Some x) place is = (x, refl, (let e : Some place ≡ Some x.0 = is in cc))
+
+pub is_put : (v : VolumeHeld) (row : ObjectRow) (place : ℕ) → IsKept v → MayChange (objects_in v) row → Some place ≡ option_map (λ (o : ℕ × ObjectRow). o.0) (with_base row.base v.objects) → IsPut v row place
+is_put v row place kept change is =
+    let found = found-place (with_base row.base v.objects) place is in
+    let old = found.0 in
+    let at = found_index (λ (o : ℕ × ObjectRow). o.1.base == row.base) v.objects old found.1 in
+    let i = at.0 in
+    let base : old.1.base ≡ row.base = eqb-true old.1.base row.base at.3 in
+    record {
+      index = i;
+      old = old;
+      stands = record {
+        few = at.1;
+        there = sym (at.2 old);
+        base = sym base;
+        pages =
+            some_at (find (λ (old : ObjectRow). old.base == row.base) (objects_in v)) (λ (old : ObjectRow). old.pages ≡ row.pages) old.1
+            (sym (object_found v (λ r. r.base == row.base) (with_base row.base v.objects) refl) ∙ ap (option_map (λ (o : ℕ × ObjectRow). o.1)) found.1) change;
+      };
+      at = found.2;
+      set =
+          sym (set_is (λ (y : ℕ × ObjectRow). y.1.base) (λ y. (y.0, row)) row.base v.objects i old (bases_distinct v kept) at.1 (ap (λ (o : ℕ × ObjectRow). o.1.base) (at.2 old) ∙ base))
+          ∙ ap (λ (o : ℕ × ObjectRow). set v.objects i (o.0, row)) (at.2 old);
+    }
+
+-- what an update asks for
+pub there_is : (v : VolumeHeld) (base : ℕ) → has_base base (objects_in v) ≡ true → list_any (λ (o : ℕ × ObjectRow). o.1.base == base) v.objects ≡ true
+unfolding objects_in
+there_is v base has = any_bare (λ (r : ObjectRow). r.base == base) v.objects ∙ has
+
+same-pages : (row : ObjectRow) (os : List (ℕ × ObjectRow)) → DistinctBy (λ (y : ℕ × ObjectRow). y.1.base) os → IsSomeAnd (find (λ (r : ObjectRow). r.base == row.base) (bare_rows os)) (λ old. old.pages ≡ row.pages)
+    → All (λ (o : ℕ × ObjectRow). o.1.base ≡ row.base → o.1.pages ≡ row.pages) os
+same-pages row [] distinct change = All-nil (λ (o : ℕ × ObjectRow). o.1.base ≡ row.base → o.1.pages ≡ row.pages)
+same-pages row (o ∷ os) distinct change =
+    ⊎_elim
+    (λ here.
+    let own : o.1.base ≡ row.base = eqb-true o.1.base row.base here in
+    let P : Option ObjectRow → Type 0 = λ r. IsSomeAnd r (λ old. old.pages ≡ row.pages) in
+    All-cons (λ (o : ℕ × ObjectRow). o.1.base ≡ row.base → o.1.pages ≡ row.pages) o os
+    (λ is. subst P (ap (λ b. if b then Some o.1 else find (λ (r : ObjectRow). r.base == row.base) (bare_rows os)) here) change)
+    (All-weaker (λ (y : ℕ × ObjectRow). y.1.base ≢ o.1.base) (λ (y : ℕ × ObjectRow). y.1.base ≡ row.base → y.1.pages ≡ row.pages) (λ y differs is. absurd (differs (is ∙ sym own))) os distinct.0))
+    (λ elsewhere.
+    let P : Option ObjectRow → Type 0 = λ r. IsSomeAnd r (λ old. old.pages ≡ row.pages) in
+    All-cons (λ (o : ℕ × ObjectRow). o.1.base ≡ row.base → o.1.pages ≡ row.pages) o os (λ is. absurd (both_ways (o.1.base == row.base) elsewhere (eq-eqb o.1.base row.base is)))
+    (same-pages row os distinct.1 (subst P (ap (λ b. if b then Some o.1 else find (λ (r : ObjectRow). r.base == row.base) (bare_rows os)) elsewhere) change)))
+    (cases_Bool (o.1.base == row.base))
+
+pub pages_same : (v : VolumeHeld) (row : ObjectRow) → IsKept v → MayChange (objects_in v) row → All (λ (o : ℕ × ObjectRow). o.1.base ≡ row.base → o.1.pages ≡ row.pages) v.objects
+unfolding objects_in
+pages_same v row kept change = same-pages row v.objects (bases_distinct v kept) change
+
+-- the volume with it
+module _ (v : VolumeHeld) (row : ObjectRow) (place : ℕ) (kept : IsKept v) (put : IsPut v row place) where
+  pub put_low : place < object_rows
+  put_low = (let low = changed_low v put.index put.old row kept put.stands in let e = put.at in omega arith)
+
+  pub put_room : is_object_staged v row.base ≡ true → pages.is_staged v.pages (first_object_block + place / 4) ≡ true
+  put_room staged = ap (λ n. pages.is_staged v.pages (first_object_block + n / 4)) (sym put.at) ∙ changed_room v put.index put.old row kept put.stands staged
+
+  module _ (p : PagesHeld) (objects : List (ℕ × ObjectRow)) (now : objects ≡ with_row row v.objects) where
+    is : objects ≡ set v.objects put.index (put.old.0, row)
+    is = now ∙ put.set
+
+    staged_rows : StagesRows objects place v.pages p → StagesRows objects put.old.0 v.pages p
+    staged_rows staged = let P : ℕ → Type 0 = λ n. StagesRows objects n v.pages p in subst P (sym put.at) staged
+
+    pub put_rows : objects_in (with_objects v objects p) ≡ with_other_row row (objects_in v)
+    put_rows = ap (λ l. objects_in (with_objects v l p)) is ∙ changed_rows v put.index put.old row kept put.stands p
+
+    pub put_here : has_base row.base (objects_in v) ≡ true → pages.is_staged p (first_object_block + place / 4) ≡ true → is_object_staged (with_objects v objects p) row.base ≡ true
+    put_here has staged =
+        ap (λ l. is_object_staged (with_objects v l p) row.base) is
+        ∙ changed_here v put.index put.old row kept put.stands p has (ap (λ n. pages.is_staged p (first_object_block + n / 4)) put.at ∙ staged)
+
+    pub put_still : (most : ℕ) → pages.StagesMore most v.pages p → ObjectsStillStaged v (with_objects v objects p)
+    put_still most more =
+        let P : List (ℕ × ObjectRow) → Type 0 = λ l. ObjectsStillStaged v (with_objects v l p) in
+        subst P (sym is) (changed_still v put.index put.old row kept put.stands p most more)
+
+    pub put_held : (accounts : ℕ) → IsHeld v accounts → IsObjectRow row → pages.frame_count p ≡ pages.frame_count v.pages → pages.table_in p ≡ pages.table_in v.pages → IsHeld (with_objects v objects p) accounts
+    put_held accounts held good frames table =
+        let P : List (ℕ × ObjectRow) → Type 0 = λ l. IsHeld (with_objects v l p) accounts in
+        subst P (sym is) (changed_held v put.index put.old row kept put.stands p accounts held good frames table)
+
+    pub put_spelled : (image : Image) → IsSpelledBy v image → pages.IsSpelledBy p image → pages.frame_count p ≡ pages.frame_count v.pages → StagesRows objects place v.pages p → IsSpelledBy (with_objects v objects p) image
+    put_spelled image was fitting frames staged =
+        let s = put.stands in
+        let P : List (ℕ × ObjectRow) → Type 0 = λ l. IsSpelledBy (with_objects v l p) image in
+        subst P (sym is) (change_staged v p image put.index put.old row objects s.few s.there was fitting frames s.base is (staged_rows staged))
+
+    pub put_now : (image : Image) → pages.table_in p ≡ pages.table_in v.pages → StagesRows objects place v.pages p
+        → now_of (with_objects v objects p) image ≡ record (now_of v image) { objects = model.with_row row.base (λ old. row) (now_of v image).objects }
+    put_now image table staged =
+        let s = put.stands in
+        ap (λ l. now_of (with_objects v l p) image) is
+        ∙ change_now v p image put.index put.old row objects s.few kept s.there table s.base s.pages (staged_rows staged)

@@ -1,9 +1,9 @@
 -- A new object, in the first row that is free.
-use Rattle.std.specs.Prelude.{◌≡◌, ◌≢◌, ◌+◌, ◌*◌, ◌/◌, ◌≤◌, ◌<◌, ◌==◌, nat_le, nat_lt, ℕ, zero, suc, true, false, not, All, List, [], ◌∷◌, ◌++◌, if◌then◌else◌, length, replicate, sum_by, Some, None}
+use Rattle.std.specs.Prelude.{◌≡◌, ◌≢◌, ◌+◌, ◌*◌, ◌/◌, ◌≤◌, ◌<◌, ◌==◌, ◌||◌, ◌⊎◌, nat_le, nat_lt, ℕ, zero, suc, true, false, not, All, List, [], ◌∷◌, ◌++◌, if◌then◌else◌, length, replicate, sum_by, Some, None}
 use Rattle.std.specs.List.{list_all, list_any, position_or_len}
 use Rattle.std.specs.Option.{option_map_or}
-use Rattle.std.proofs.Common.{refl, sym, ap, subst, ◌∙◌, ⊎_elim, arith}
-use Rattle.std.proofs.lemmas.Bool.{and_from, both_ways, cases_Bool, le-leb, le-ltb, lt-ltb, or_parts}
+use Rattle.std.proofs.Common.{refl, sym, ap, subst, ◌∙◌, ⊎_elim, inl, inr, arith}
+use Rattle.std.proofs.lemmas.Bool.{and_from, and_parts, both_ways, cases_Bool, le-leb, le-ltb, leb-true, lt-ltb, or_cases, or_parts}
 use Rattle.std.proofs.lemmas.List.{length-map, replicate-append-replicate}
 use Rattle.std.proofs.lemmas.List.Elements.{All-cons, All-head, All-nil, All-tail}
 use Rattle.mg_disk.specs.Disk.{Image}
@@ -17,7 +17,7 @@ use Rattle.mg_model.specs.Volume.{bound_pages, page_words, pages_words}
 use Rattle.mg_pages.specs.Held.{PagesHeld}
 use Rattle.mg_pages.specs.Meaning as pages
 use Rattle.mg_volume.proofs.BareRows.{sum_bare}
-use Rattle.mg_volume.proofs.FreePlace.{free_is, is_taken}
+use Rattle.mg_volume.proofs.FreePlace.{is_taken, lowest_is}
 use Rattle.mg_volume.proofs.ObjectLists.{by_base_row, into-all, placed_distinct}
 use Rattle.mg_volume.proofs.ObjectOrder.{from_by_base, into_any, into_found, into_length, into_others, into_rows, into_sum, none_at, set_order}
 use Rattle.mg_volume.proofs.ObjectStaged.{objects_staged, placed_of, with_objects}
@@ -25,8 +25,9 @@ use Rattle.mg_volume.proofs.PagesChange.{all-bound, each-bound}
 use Rattle.mg_volume.proofs.RowsApart.{apart_with, base_apart, kept_rows, no_base, page_apart}
 use Rattle.mg_volume.proofs.StillStaged.{objects_still, place_found, place_new, place_same, with_base}
 use Rattle.mg_volume.specs.Held.{VolumeHeld}
-use Rattle.mg_volume.specs.Meaning.{IsHeld, IsKept, IsSpelledBy, Spelled, bare_rows, by_base, has_page, into_place, is_page_in, now_of, objects_in, rows_apart, settings_in, threads_in}
-use Rattle.mg_volume.specs.Staging.{MayJoin, ObjectsStillStaged, blank, free_place, has_base, is_object_staged, place_for, with_new_row}
+use Rattle.mg_objects.specs.Held.{IsLowestFree, MeetsNone, by_base, into_place}
+use Rattle.mg_volume.specs.Meaning.{IsHeld, IsKept, IsSpelledBy, Spelled, bare_rows, has_page, is_page_in, now_of, objects_in, rows_apart, settings_in, threads_in}
+use Rattle.mg_volume.specs.Staging.{MayJoin, ObjectsStillStaged, blank, free_place, has_base, is_apart_from, is_object_staged, place_for, with_new_row}
 use Rattle.mg_volume.specs.RowLists.{row_at, row_set, set_other, set_placed}
 use Rattle.mg_volume.specs.Sound.{all_spelled, object-placed}
 use Rattle.mg_volume.proofs.Staged.{objects_apart}
@@ -57,17 +58,33 @@ unmap : (P : ObjectRow → Type 0) (os : List (ℕ × ObjectRow)) → All P (bar
 unmap P [] all = All-nil (λ (o : ℕ × ObjectRow). P o.1)
 unmap P (o ∷ os) all = All-cons (λ (o : ℕ × ObjectRow). P o.1) o os (All-head P o.1 (bare_rows os) all) (unmap P os (All-tail P o.1 (bare_rows os) all))
 
-module _ (v : VolumeHeld) (row : ObjectRow) (place : ℕ) (is : IsObjectRow row) (kept : IsKept v) (join : MayJoin (objects_in v) (settings_in v).frames row) (at : place ≡ free_place v.objects) where
-  pub few_enough : length v.objects < object_rows
-  unfolding objects_in
-  few_enough = (let long = length-map v.objects (λ (o : ℕ × ObjectRow). o.1) in let f = join.few in omega arith)
+-- there are fewer objects than rows, and the new one meets none of them
+pub join_few : (v : VolumeHeld) (row : ObjectRow) → MayJoin (objects_in v) (settings_in v).frames row → length v.objects < object_rows
+unfolding objects_in
+join_few v row join = (let long = length-map v.objects (λ (o : ℕ × ObjectRow). o.1) in let f = join.few in omega arith)
+
+meets-none : (row : ObjectRow) (os : List (ℕ × ObjectRow)) → is_apart_from (bare_rows os) row ≡ true → MeetsNone row os
+meets-none row [] apart = All-nil (λ (o : ℕ × ObjectRow). (page_behind row ≤ page_of o.1) ⊎ (page_behind o.1 ≤ page_of row))
+meets-none row (o ∷ os) apart =
+    let parts = and_parts (nat_le (page_behind row) (page_of o.1) || nat_le (page_behind o.1) (page_of row)) (is_apart_from (bare_rows os) row) apart in
+    All-cons (λ (o : ℕ × ObjectRow). (page_behind row ≤ page_of o.1) ⊎ (page_behind o.1 ≤ page_of row)) o os
+    (⊎_elim (λ before. inl (leb-true (page_behind row) (page_of o.1) before)) (λ behind. inr (leb-true (page_behind o.1) (page_of row) behind)) (or_cases (nat_le (page_behind row) (page_of o.1)) (nat_le (page_behind o.1) (page_of row)) parts.0))
+    (meets-none row os parts.1)
+
+pub join_meets : (v : VolumeHeld) (row : ObjectRow) → MayJoin (objects_in v) (settings_in v).frames row → MeetsNone row v.objects
+unfolding objects_in
+join_meets v row join = meets-none row v.objects join.apart
+
+module _ (v : VolumeHeld) (row : ObjectRow) (place : ℕ) (is : IsObjectRow row) (kept : IsKept v) (join : MayJoin (objects_in v) (settings_in v).frames row) (lowest : IsLowestFree place v.objects) where
+  at : place ≡ free_place v.objects
+  at = lowest_is v.objects place lowest
 
   -- there is a free row
   pub inserted_low : place < object_rows
-  inserted_low = (let free = (free_is v.objects few_enough).below in omega arith)
+  inserted_low = lowest.within
 
   free : is_taken v.objects place ≡ false
-  free = ap (is_taken v.objects) at ∙ (free_is v.objects few_enough).free
+  free = lowest.free
 
   other-rows : All (λ other. other.base ≢ row.base) (objects_in v)
   other-rows = base_apart row is (objects_in v) (kept_rows v kept) join.apart
@@ -103,9 +120,9 @@ module _ (v : VolumeHeld) (row : ObjectRow) (place : ℕ) (is : IsObjectRow row)
     inserted_rows = ap bare_rows put ∙ into_rows (place, row) v.objects
 
     -- the volume with it is held
-    pub inserted_held : (cap cap' accounts threads : ℕ) → IsHeld v cap accounts threads → cap ≤ cap' → pages.frame_count p ≡ pages.frame_count v.pages → pages.table_in p ≡ pages.table_in v.pages → IsHeld (with_objects v objects p) cap' accounts threads
+    pub inserted_held : (accounts : ℕ) → IsHeld v accounts → pages.frame_count p ≡ pages.frame_count v.pages → pages.table_in p ≡ pages.table_in v.pages → IsHeld (with_objects v objects p) accounts
     unfolding objects_in settings_in
-    inserted_held cap cap' accounts threads held room frames table = record {
+    inserted_held accounts held frames table = record {
       kept = record {
         frames = frames ∙ kept.frames;
         rows = subst (All (λ (o : ℕ × ObjectRow). IsObjectRow o.1)) (sym put) (into-all (λ (o : ℕ × ObjectRow). IsObjectRow o.1) (place, row) v.objects is kept.rows);
@@ -116,7 +133,7 @@ module _ (v : VolumeHeld) (row : ObjectRow) (place : ℕ) (is : IsObjectRow row)
             let b = sum_bare (λ (row : ObjectRow). row.pages) v.objects in
             let fit = join.fit in
             omega arith);
-        few_objects = (let long = ap (λ (l : List (ℕ × ObjectRow)). length l) put ∙ into_length (place, row) v.objects in let f = few_enough in omega arith);
+        few_objects = (let long = ap (λ (l : List (ℕ × ObjectRow)). length l) put ∙ into_length (place, row) v.objects in let f = join_few v row join in omega arith);
         few_accounts = kept.few_accounts;
         few_threads = kept.few_threads;
         inside =
@@ -126,9 +143,7 @@ module _ (v : VolumeHeld) (row : ObjectRow) (place : ℕ) (is : IsObjectRow row)
             ap (λ l. list_any (λ row. is_page_in page row) (bare_rows l)) put
             ∙ into_any (λ row. is_page_in page row) (place, row) v.objects (each-bound (λ page. has_page v page) page (pages.table_in v.pages) kept.inside some bound));
       };
-      room_objects = (let most = held.room_objects in omega arith);
       room_accounts = held.room_accounts;
-      room_threads = held.room_threads;
     }
 
     -- and spelled

@@ -5,7 +5,7 @@ use Rattle.std.proofs.lemmas.Bool.{cases_Bool, cases_eq, cases_lt, eq-eqb, le-lt
 use Rattle.std.proofs.lemmas.List.Elements.{All-cons, All-get_or, All-head, All-nil, All-tail, All-weaker}
 use Rattle.mg_model.specs.State.{ObjectRow}
 use Rattle.mg_model.specs.Volume.{with_live}
-use Rattle.mg_volume.specs.Meaning.{by_base, into_place}
+use Rattle.mg_objects.specs.Held.{by_base, into_place}
 use Rattle.mg_volume.specs.RowLists.{ArePlaced, DistinctBy, row_at, row_before, row_set}
 
 change-none : {X : Type 0} (key : X → ℕ) (h : X → X) (k : ℕ) (xs : List X) → All (λ y. key y ≢ k) xs → map (λ y. if key y == k then h y else y) xs ≡ xs

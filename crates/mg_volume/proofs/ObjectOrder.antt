@@ -1,6 +1,6 @@
 -- One object more, in the order of the bases and in that of the places.
-use Rattle.std.specs.Prelude.{◌≡◌, ◌≢◌, ◌+◌, ◌≤◌, ◌<◌, ◌⊎◌, ◌==◌, nat_lt, ℕ, suc, Bool, true, false, not, All, List, [], ◌∷◌, if◌then◌else◌, insert, length, sum_by, Some, None}
-use Rattle.std.specs.List.{list_any, position_or_len}
+use Rattle.std.specs.Prelude.{◌≡◌, ◌≢◌, ◌+◌, ◌≤◌, ◌<◌, ◌⊎◌, ◌==◌, ℕ, Bool, true, false, All, List, [], ◌∷◌, if◌then◌else◌, length, sum_by, Some, None}
+use Rattle.std.specs.List.{list_any}
 use Rattle.std.proofs.Common.{refl, sym, ap, subst, ◌∙◌, ⊎_elim, inl, inr, arith}
 use Rattle.std.proofs.lemmas.Bool.{cases_eq, cases_lt, eq-eqb, le-ltb, lt-ltb, ne_eqb, or_cases, or_left, or_parts, or_right}
 use Rattle.std.proofs.lemmas.List.Elements.{All-cons, All-head, All-nil, All-tail}
@@ -9,7 +9,8 @@ use Rattle.mg_model.specs.State.{ObjectRow}
 use Rattle.mg_model.specs.Volume.{with_live}
 use Rattle.mg_volume.proofs.FreePlace.{is_taken}
 use Rattle.mg_volume.proofs.StillStaged.{with_base}
-use Rattle.mg_volume.specs.Meaning.{bare_rows, by_base, into_place}
+use Rattle.mg_objects.specs.Held.{by_base, into_place}
+use Rattle.mg_volume.specs.Meaning.{bare_rows}
 use Rattle.mg_volume.specs.Staging.{with_new_row}
 use Rattle.mg_volume.specs.RowLists.{row_at, row_set}
 
@@ -82,19 +83,6 @@ into_found new (o ∷ os) none =
     place-cases (λ l. with_base new.1.base l ≡ Some new) new o os (ap (λ b. if b then Some new else with_base new.1.base (o ∷ os)) (eq-eqb new.1.base new.1.base refl))
     (ap (λ b. if b then Some o else with_base new.1.base (into_place new os)) (ne_eqb o.1.base new.1.base (All-head (λ (o : ℕ × ObjectRow). o.1.base ≢ new.1.base) o os none))
     ∙ into_found new os (All-tail (λ (o : ℕ × ObjectRow). o.1.base ≢ new.1.base) o os none))
-
--- an insertion at the first larger base
-pub insert_is : (new : ℕ × ObjectRow) (os : List (ℕ × ObjectRow)) → insert os (position_or_len (λ (o : ℕ × ObjectRow). nat_lt new.1.base o.1.base) os) new ≡ into_place new os
-insert_is new [] = refl
-insert_is new (o ∷ os) =
-    ⊎_elim
-    (λ (low : new.1.base < o.1.base).
-    ap (λ b. insert (o ∷ os) (if not b then 1 + position_or_len (λ (o : ℕ × ObjectRow). nat_lt new.1.base o.1.base) os else 0) new) (lt-ltb new.1.base o.1.base low) ∙ sym (before-is new o os low))
-    (λ high.
-    let next : 1 + position_or_len (λ (o : ℕ × ObjectRow). nat_lt new.1.base o.1.base) os ≡ suc (position_or_len (λ (o : ℕ × ObjectRow). nat_lt new.1.base o.1.base) os) = omega arith in
-    ap (λ b. insert (o ∷ os) (if not b then 1 + position_or_len (λ (o : ℕ × ObjectRow). nat_lt new.1.base o.1.base) os else 0) new) (le-ltb new.1.base o.1.base high)
-    ∙ ap (λ k. insert (o ∷ os) k new) next ∙ ap (λ rest. o ∷ rest) (insert_is new os) ∙ sym (behind-is new o os high))
-    (cases_lt new.1.base o.1.base)
 
 -- two whose bases differ may be put in either order
 two-behind : (a b o : ℕ × ObjectRow) (os : List (ℕ × ObjectRow)) → into_place a (into_place b os) ≡ into_place b (into_place a os) → o.1.base ≤ a.1.base → o.1.base ≤ b.1.base → into_place a (into_place b (o ∷ os)) ≡ into_place b (into_place a (o ∷ os))

@@ -18,7 +18,8 @@ use Rattle.mg_rows.specs.Blocks.{object_in}
 use Rattle.mg_volume.proofs.ObjectLists.{by_base_all, by_base_distinct, by_base_row, changed_order, placed_distinct, put_at, row_of_index, set_is}
 use Rattle.mg_volume.specs.Contents.{accounts_within, threads_within}
 use Rattle.mg_volume.specs.Held.{VolumeHeld}
-use Rattle.mg_volume.specs.Meaning.{IsKept, IsSpelledBy, Spelled, by_base, now_of, objects_in, rows_apart, threads_in}
+use Rattle.mg_objects.specs.Held.{by_base}
+use Rattle.mg_volume.specs.Meaning.{IsKept, IsSpelledBy, Spelled, now_of, objects_in, rows_apart, threads_in}
 use Rattle.mg_volume.specs.RowLists.{DistinctBy, ArePlaced, row_at, row_set, set_other, set_placed, tell, told}
 use Rattle.mg_volume.specs.Sound.{all_spelled}
 use Rattle.mg_volume.specs.StagesRows.{StagesRows}

@@ -15,13 +15,15 @@ use Rattle.mg_model.specs.State.{Object, ObjectRow}
 use Rattle.mg_model.specs.Volume.{object_spelled, page_words}
 use Rattle.mg_pages.specs.Held.{PagesHeld}
 use Rattle.mg_pages.specs.Meaning as pages
+use Rattle.mg_volume.proofs.Indexed.{found_index}
 use Rattle.mg_volume.proofs.ObjectRemoved.{IsOrApart, LiesBefore, any_kept, apart_pairs, bases_differ, filter_mapped, find_kept, others_apart, pairs_apart, remove_is}
 use Rattle.mg_volume.proofs.ObjectStaged.{distinct_of, objects_staged, placed_of, with_objects}
 use Rattle.mg_volume.proofs.PagesChange.{all-bound, each-bound}
 use Rattle.mg_volume.proofs.RemovedOrder.{filter_order, row_set_none}
 use Rattle.mg_volume.proofs.Again.{spelled_same}
 use Rattle.mg_volume.specs.Held.{VolumeHeld}
-use Rattle.mg_volume.specs.Meaning.{IsHeld, IsKept, IsSpelledBy, Spelled, by_base, has_page, is_page_in, now_of, objects_in, threads_in}
+use Rattle.mg_objects.specs.Held.{by_base}
+use Rattle.mg_volume.specs.Meaning.{IsHeld, IsKept, IsSpelledBy, Spelled, has_page, is_page_in, now_of, objects_in, threads_in}
 use Rattle.mg_volume.proofs.StillStaged.{objects_still}
 use Rattle.mg_volume.specs.Staging.{ObjectsStillStaged, free_place, has_base, place_for, without_row}
 use Rattle.mg_volume.specs.PageWords.{pages-same}
@@ -44,19 +46,28 @@ pub record Goes (v : VolumeHeld) (i : ℕ) (gone : ℕ × ObjectRow) (os : List 
   pub removed : os ≡ remove v.objects i
   pub rest : os ≡ without gone.1.base v.objects
 
-pub goes : (v : VolumeHeld) (i : ℕ) (gone : ℕ × ObjectRow) (os : List (ℕ × ObjectRow)) → IsKept v → i < length v.objects → gone ≡ get_or v.objects i gone → os ≡ remove v.objects i → Goes v i gone os
+pub goes : (v : VolumeHeld) (base : ℕ) (gone : ℕ × ObjectRow) (os : List (ℕ × ObjectRow)) → IsKept v → find (λ (o : ℕ × ObjectRow). o.1.base == base) v.objects ≡ Some gone → os ≡ without base v.objects → (gone.1.base ≡ base) × (i : ℕ) × Goes v i gone os
 unfolding objects_in
-goes v i gone os kept few at removed =
+goes v base gone os kept found rest =
     let pairs = apart_pairs v.objects kept.apart in
-    record {
-      row = subst (λ (x : ℕ × ObjectRow). IsObjectRow x.1) (sym at) (All-get_or (λ (o : ℕ × ObjectRow). IsObjectRow o.1) v.objects i gone few kept.rows);
-      within = few;
-      at = at;
-      place = subst (λ (x : ℕ × ObjectRow). x.0 < object_rows) (sym at) (All-get_or (λ (o : ℕ × ObjectRow). o.0 < object_rows) v.objects i gone few kept.places);
-      others = subst (λ (x : ℕ × ObjectRow). All (λ (y : ℕ × ObjectRow). IsOrApart x.1 y.1) v.objects) (sym at) (others_apart v.objects i gone pairs few);
-      removed = removed;
-      rest = removed ∙ remove_is (λ (y : ℕ × ObjectRow). y.1.base) gone.1.base v.objects i gone (bases_differ v.objects kept.rows pairs) few (ap (λ (x : ℕ × ObjectRow). x.1.base) (sym at));
-    }
+    let there = found_index (λ (o : ℕ × ObjectRow). o.1.base == base) v.objects gone found in
+    let i = there.0 in
+    let few = there.1 in
+    let at = sym (there.2 gone) in
+    let own : gone.1.base ≡ base = eqb-true gone.1.base base there.3 in
+    let left : os ≡ without gone.1.base v.objects = rest ∙ ap (λ b. without b v.objects) (sym own) in (
+      own,
+      i,
+      record {
+        row = subst (λ (x : ℕ × ObjectRow). IsObjectRow x.1) (sym at) (All-get_or (λ (o : ℕ × ObjectRow). IsObjectRow o.1) v.objects i gone few kept.rows);
+        within = few;
+        at = at;
+        place = subst (λ (x : ℕ × ObjectRow). x.0 < object_rows) (sym at) (All-get_or (λ (o : ℕ × ObjectRow). o.0 < object_rows) v.objects i gone few kept.places);
+        others = subst (λ (x : ℕ × ObjectRow). All (λ (y : ℕ × ObjectRow). IsOrApart x.1 y.1) v.objects) (sym at) (others_apart v.objects i gone pairs few);
+        removed = left ∙ sym (remove_is (λ (y : ℕ × ObjectRow). y.1.base) gone.1.base v.objects i gone (bases_differ v.objects kept.rows pairs) few (ap (λ (x : ℕ × ObjectRow). x.1.base) (sym at)));
+        rest = left;
+      },
+    )
 
 -- the one that has a page is another one, where the page is none of those that go
 other-has : (gone : ObjectRow) (page : ℕ) (y : ℕ × ObjectRow) → 1 ≤ gone.pages → is_page_in page gone ≡ false → IsOrApart gone y.1 → is_page_in page y.1 ≡ true → not (y.1.base == gone.base) ≡ true
@@ -138,11 +149,11 @@ module _ (v : VolumeHeld) (i : ℕ) (gone : ℕ × ObjectRow) (os : List (ℕ ×
   stays o = not (o.1.base == gone.1.base)
 
   -- it is kept as before
-  pub held_without : (middle p : PagesHeld) (objects objects' accounts threads : ℕ) → IsHeld v objects accounts threads → objects' ≡ objects → pages.frame_count p ≡ pages.frame_count v.pages → pages.table_in middle ≡ pages.table_in v.pages
-      → pages.Unbinds (page_of gone.1) gone.1.pages middle p → IsHeld (with_objects v os p) objects' accounts threads
+  pub held_without : (middle p : PagesHeld) (accounts : ℕ) → IsHeld v accounts → pages.frame_count p ≡ pages.frame_count v.pages → pages.table_in middle ≡ pages.table_in v.pages
+      → pages.Unbinds (page_of gone.1) gone.1.pages middle p → IsHeld (with_objects v os p) accounts
   unfolding objects_in stays
-  held_without middle p objects objects' accounts threads held room frames table unbinds =
-      subst (λ (l : List (ℕ × ObjectRow)). IsHeld (with_objects v l p) objects' accounts threads) (sym g.rest)
+  held_without middle p accounts held frames table unbinds =
+      subst (λ (l : List (ℕ × ObjectRow)). IsHeld (with_objects v l p) accounts) (sym g.rest)
       (record {
         kept = record {
           frames = frames ∙ kept.frames;
@@ -155,9 +166,7 @@ module _ (v : VolumeHeld) (i : ℕ) (gone : ℕ × ObjectRow) (os : List (ℕ ×
           few_threads = kept.few_threads;
           inside = all-bound (λ page. has_page (with_objects v (without gone.1.base v.objects) p) page) (pages.table_in p) has;
         };
-        room_objects = (let most = held.room_objects in omega arith);
         room_accounts = held.room_accounts;
-        room_threads = held.room_threads;
       })
     where
       kept : IsKept v

@@ -25,8 +25,8 @@ use Rattle.mg_pages.specs.Lengths.{length-page}
 use Rattle.mg_pages.specs.Meaning as pages
 use Rattle.mg_volume.proofs.Found.{as_thread}
 use Rattle.mg_volume.proofs.ImageBytes.{pages-words, replay-bytes}
-use Rattle.mg_volume.proofs.ThreadLists.{numbered}
 use Rattle.mg_volume.specs.Held.{VolumeHeld}
+use Rattle.mg_volume.specs.Numbered.{numbered}
 use Rattle.mg_volume.specs.Meaning.{IsKept, IsSpelledBy, Spelled, is_sound, now_of, staged_of, threads_in}
 use Rattle.mg_volume.specs.RowLists.{ArePlaced, told}
 use Rattle.mg_volume.specs.Sound.{all_spelled}

@@ -88,10 +88,10 @@ all-bound q (entry ∷ table) each =
     (cases_Bool (entry == 0))
 
 -- the pages that are bound lie in objects still
-pub held_again : (v : VolumeHeld) (p : PagesHeld) (objects accounts threads : ℕ) → IsHeld v objects accounts threads → pages.frame_count p ≡ pages.frame_count v.pages
-    → ((x : ℕ) → x ≢ 0 → pages.is_bound p x ≡ true → (has_page v x ≡ true) ⊎ (pages.is_bound v.pages x ≡ true)) → IsHeld (with_pages v p) objects accounts threads
+pub held_again : (v : VolumeHeld) (p : PagesHeld) (accounts : ℕ) → IsHeld v accounts → pages.frame_count p ≡ pages.frame_count v.pages
+    → ((x : ℕ) → x ≢ 0 → pages.is_bound p x ≡ true → (has_page v x ≡ true) ⊎ (pages.is_bound v.pages x ≡ true)) → IsHeld (with_pages v p) accounts
 unfolding objects_in
-held_again v p objects accounts threads held frames bound = record {
+held_again v p accounts held frames bound = record {
   kept = record {
     frames = frames ∙ kept.frames;
     rows = kept.rows;
@@ -103,18 +103,16 @@ held_again v p objects accounts threads held frames bound = record {
     few_threads = kept.few_threads;
     inside = all-bound (λ page. has_page v page) (pages.table_in p) (λ x other is. ⊎_elim (λ has. has) (each-bound (λ page. has_page v page) x (pages.table_in v.pages) kept.inside other) (bound x other is));
   };
-  room_objects = held.room_objects;
   room_accounts = held.room_accounts;
-  room_threads = held.room_threads;
 }
   where
     kept : IsKept v
     kept = held.kept
 
 -- where the table stays
-pub held_same : (v : VolumeHeld) (p : PagesHeld) (objects accounts threads : ℕ) → IsHeld v objects accounts threads → pages.frame_count p ≡ pages.frame_count v.pages → pages.table_in p ≡ pages.table_in v.pages → IsHeld (with_pages v p) objects accounts threads
-held_same v p objects accounts threads held frames table =
-    held_again v p objects accounts threads held frames (λ x other is. inr (ap (λ t. list_any (λ entry. entry == x) t) (sym table) ∙ is))
+pub held_same : (v : VolumeHeld) (p : PagesHeld) (accounts : ℕ) → IsHeld v accounts → pages.frame_count p ≡ pages.frame_count v.pages → pages.table_in p ≡ pages.table_in v.pages → IsHeld (with_pages v p) accounts
+held_same v p accounts held frames table =
+    held_again v p accounts held frames (λ x other is. inr (ap (λ t. list_any (λ entry. entry == x) t) (sym table) ∙ is))
 
 -- a frame is free for a page of an object
 pub frame_free : (v : VolumeHeld) (page : ℕ) → IsKept v → pages.IsKept v.pages → has_page v page ≡ true → (pages.is_bound v.pages page ≡ true) ⊎ (pages.is_bound v.pages 0 ≡ true)

@@ -6,7 +6,7 @@ use Rattle.std.proofs.lemmas.List.Elements.{All-cons, All-filter, All-head, All-
 use Rattle.mg_model.specs.State.{ObjectRow}
 use Rattle.mg_volume.proofs.ObjectLists.{into-all, placed-none}
 use Rattle.mg_volume.proofs.ObjectRemoved.{filter-all}
-use Rattle.mg_volume.specs.Meaning.{by_base, into_place}
+use Rattle.mg_objects.specs.Held.{by_base, into_place}
 use Rattle.mg_volume.specs.RowLists.{ArePlaced, row_set}
 
 -- no row at a place: all but the one that stands there

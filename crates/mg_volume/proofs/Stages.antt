@@ -37,9 +37,9 @@ unfolding staged_of
 room_for v block few = inr few
 
 -- other counters are held as well
-pub held_counters : (v : VolumeHeld) (counters : Counters) (objects accounts threads : ℕ) → IsHeld v objects accounts threads → IsHeld (record v { counters = counters }) objects accounts threads
+pub held_counters : (v : VolumeHeld) (counters : Counters) (accounts : ℕ) → IsHeld v accounts → IsHeld (record v { counters = counters }) accounts
 unfolding objects_in
-held_counters v counters objects accounts threads held = record {
+held_counters v counters accounts held = record {
   kept = record {
     frames = held.kept.frames;
     rows = held.kept.rows;
@@ -51,7 +51,5 @@ held_counters v counters objects accounts threads held = record {
     few_threads = held.kept.few_threads;
     inside = held.kept.inside;
   };
-  room_objects = held.room_objects;
   room_accounts = held.room_accounts;
-  room_threads = held.room_threads;
 }

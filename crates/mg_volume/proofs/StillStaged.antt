@@ -23,10 +23,6 @@ base_found base (o ∷ os) has =
     (rest.0, ap (λ b. if b then Some o else with_base base os) elsewhere ∙ rest.1))
     (cases_Bool (o.1.base == base))
 
-pub base_none : (v : VolumeHeld) (base : ℕ) → with_base base v.objects ≡ None → has_base base (objects_in v) ≡ true → ⊥
-unfolding objects_in
-base_none v base none has = (let there = base_found base v.objects has in let e : None ≡ Some there.0 = sym none ∙ there.1 in cc)
-
 pub base_absent : (base : ℕ) (os : List (ℕ × ObjectRow)) → has_base base (map (λ (o : ℕ × ObjectRow). o.1) os) ≡ false → with_base base os ≡ None
 base_absent base [] none = refl
 base_absent base (o ∷ os) none =

@@ -1,21 +1,15 @@
 -- Threads with their numbers, as a list.
-use Rattle.std.specs.Prelude.{◌≡◌, ◌≢◌, ◌+◌, ◌≤◌, ◌<◌, ◌==◌, ◌||◌, nat_lt, ℕ, suc, Bool, false, not, List, [], ◌∷◌, filter, if◌then◌else◌, insert, length, map, take, drop, Option, Some, None}
-use Rattle.std.specs.List.{list_any, position, position_or_len}
-use Rattle.std.proofs.Common.{refl, sym, ap, get_or, set, ◌++◌, ◌∙◌, ⊎_elim, arith}
-use Rattle.std.proofs.lemmas.Bool.{cases_Bool, cases_eq, cases_lt, eq-eqb, eqb-false, le-ltb, lt-ltb, ne_eqb, or_parts}
-use Rattle.std.proofs.lemmas.Bool.Decides.{nat_tests}
-use Rattle.std.proofs.lemmas.List.Edits.{map_over_more}
-use Rattle.std.proofs.lemmas.List.Sums.{prefix_len-le-length}
+use Rattle.std.specs.Prelude.{◌≡◌, ◌+◌, ◌<◌, ◌==◌, ◌||◌, nat_lt, ℕ, false, not, List, [], ◌∷◌, filter, if◌then◌else◌, map, Option, Some, None}
+use Rattle.std.specs.List.{list_any}
+use Rattle.std.proofs.Common.{refl, sym, ap, ◌∙◌, ⊎_elim, arith}
+use Rattle.std.proofs.lemmas.Bool.{cases_Bool, cases_eq, cases_lt, eq-eqb, le-ltb, lt-ltb, ne_eqb, or_parts}
 use Rattle.mg_model.specs.State.{Thread, ThreadRow}
 use Rattle.mg_model.specs.Threads.{with_new_thread}
 use Rattle.mg_model.specs.Volume.{with_live}
 use Rattle.mg_volume.proofs.Found.{as_thread}
 use Rattle.mg_volume.specs.RowLists.{ArePlaced, placed_wider, row_set}
 use Rattle.mg_volume.specs.Staging.{threads_with}
-use Rattle.mg_volume.specs.Numbered.{has_number, into_number, rows_with}
-
-abbrev pub numbered : List (ℕ × ThreadRow) → List (ℕ × ThreadRow)
-numbered rows = map (λ (t : ℕ × ThreadRow). (t.0 + 1, t.1)) rows
+use Rattle.mg_volume.specs.Numbered.{has_number, into_number, numbered, rows_with}
 
 -- as threads of the machine
 any-mapped : (t : ℕ) (rows : List (ℕ × ThreadRow)) → has_number t rows ≡ list_any (λ (thread : Thread). thread.number == t) (map as_thread rows)
@@ -73,37 +67,6 @@ threads_mapped t (Some row) rows =
     ∙ into-mapped (t, row) rows
     ∙ sym (ap (λ b. if b then map (λ (thread : Thread). if thread.number == t then record thread { row = row } else thread) (map as_thread rows) else with_new_thread (as_thread (t, row)) (map as_thread rows)) (sym (any-mapped t rows) ∙ other)))
     (cases_Bool (has_number t rows))
-
--- the place of the first that passes
-pub place_found : {X : Type 0} (p : X → Bool) (xs : List X) (k : ℕ) → Some k ≡ position p xs → (k ≡ position_or_len p xs) × (k ≤ length xs)
-place_found p xs k is = (grind (arith, nat_tests), grind (arith, nat_tests))
-
-pub place_none : {X : Type 0} (p : X → Bool) (xs : List X) → None ≡ position p xs → (length xs ≡ position_or_len p xs) × (length xs ≤ length xs)
-place_none p xs is = (let low = prefix_len-le-length (λ x. not (p x)) xs in grind (arith, nat_tests), omega arith)
-
--- one row more is looked at
-pub change_more : (t : ℕ) (row : ThreadRow) (xs ys : List (ℕ × ThreadRow)) (i : ℕ) (x new : ℕ × ThreadRow) → i < length xs
-    → ys ≡ map (λ (x : ℕ × ThreadRow). if x.0 == t then (x.0, row) else x) (take i xs) ++ drop i xs → x ≡ get_or ys i x
-    → new ≡ (if (get_or ys i x).0 == t then ((get_or ys i x).0, row) else get_or ys i x)
-    → set ys i new ≡ map (λ (x : ℕ × ThreadRow). if x.0 == t then (x.0, row) else x) (take (i + 1) xs) ++ drop (i + 1) xs
-change_more t row xs ys i x new few same read is =
-    ap (λ v. set ys i v) (is ∙ ap (λ (x : ℕ × ThreadRow). if x.0 == t then (x.0, row) else x) (sym read)) ∙ map_over_more (λ (x : ℕ × ThreadRow). if x.0 == t then (x.0, row) else x) xs ys i x few same read
-
--- an insertion
-pub insert_is : (t : ℕ) (row : ThreadRow) (rows : List (ℕ × ThreadRow)) → insert rows (position_or_len (λ (x : ℕ × ThreadRow). nat_lt t x.0) rows) (t, row) ≡ into_number (t, row) rows
-insert_is t row [] = refl
-insert_is t row (x ∷ rows) =
-    ⊎_elim
-    (λ before.
-    ap (λ b. insert (x ∷ rows) (if not b then 1 + position_or_len (λ (x : ℕ × ThreadRow). nat_lt t x.0) rows else 0) (t, row)) before
-    ∙ sym (ap (λ b. if b then (t, row) ∷ x ∷ rows else x ∷ into_number (t, row) rows) before))
-    (λ behind.
-    let next : 1 + position_or_len (λ (x : ℕ × ThreadRow). nat_lt t x.0) rows ≡ suc (position_or_len (λ (x : ℕ × ThreadRow). nat_lt t x.0) rows) = omega arith in
-    ap (λ b. insert (x ∷ rows) (if not b then 1 + position_or_len (λ (x : ℕ × ThreadRow). nat_lt t x.0) rows else 0) (t, row)) behind
-    ∙ ap (λ k. insert (x ∷ rows) k (t, row)) next
-    ∙ ap (λ rest. x ∷ rest) (insert_is t row rows)
-    ∙ sym (ap (λ b. if b then (t, row) ∷ x ∷ rows else x ∷ into_number (t, row) rows) behind))
-    (cases_Bool (nat_lt t x.0))
 
 -- where the numbers are the places of rows, each behind the one before
 none-number : (low high p : ℕ) (rows : List (ℕ × ThreadRow)) → ArePlaced low high rows → p < low → has_number (p + 1) (numbered rows) ≡ false
@@ -186,29 +149,4 @@ numbered_set low high p new ((i, r) ∷ rows) placed =
     ∙ ap (λ rest. (i + 1, r) ∷ rest) (numbered_set (i + 1) high p new rows placed.2)
     ∙ sym (with-behind p i r new rows (omega arith)))
     (cases_eq p i))
-    (cases_lt p i)
-
-fit : (low high : ℕ) (rows : List (ℕ × ThreadRow)) → ArePlaced low high rows → low ≤ high → length (numbered rows) + low ≤ high
-fit low high [] placed within = omega arith
-fit low high ((i, r) ∷ rows) placed within =
-    let above = placed.0 in
-    let below = placed.1 in
-    let rest = fit (i + 1) high rows placed.2 (omega arith) in
-    omega arith
-
--- one number that is not there leaves room
-pub has_room : (low high p : ℕ) (rows : List (ℕ × ThreadRow)) → ArePlaced low high rows → low ≤ p → p < high → has_number (p + 1) (numbered rows) ≡ false → length (numbered rows) + low < high
-has_room low high p [] placed from to absent = omega arith
-has_room low high p ((i, r) ∷ rows) placed from to absent =
-    let parts = or_parts (i + 1 == p + 1) (has_number (p + 1) (numbered rows)) absent in
-    let above = placed.0 in
-    let below = placed.1 in
-    ⊎_elim
-    (λ (before : p < i).
-    let few = fit (i + 1) high rows placed.2 (omega arith) in
-    omega arith)
-    (λ behind.
-    let other : i ≢ p = λ is. eqb-false (i + 1) (p + 1) parts.0 (ap (λ k. k + 1) is) in
-    let few = has_room (i + 1) high p rows placed.2 (omega arith) to parts.1 in
-    omega arith)
     (cases_lt p i)

@@ -1,5 +1,5 @@
 -- A thread is staged, and the state has its row.
-use Rattle.std.specs.Prelude.{◌≡◌, ◌+◌, ◌-◌, ◌≤◌, ◌<◌, ℕ, false, List, length, map, slice_set, Option, Some}
+use Rattle.std.specs.Prelude.{◌≡◌, ◌+◌, ◌-◌, ◌≤◌, ◌<◌, ℕ, List, length, map, slice_set, Option, Some}
 use Rattle.std.proofs.Common.{sym, ap, ◌∙◌, arith}
 use Rattle.std.proofs.lemmas.List.{get_or-set_other}
 use Rattle.mg_disk.specs.Disk.{Image}
@@ -12,37 +12,27 @@ use Rattle.mg_pages.specs.Held.{PagesHeld}
 use Rattle.mg_pages.specs.Meaning as pages
 use Rattle.mg_volume.proofs.Found.{as_thread}
 use Rattle.mg_volume.specs.RowLists.{ArePlaced, row_set, told, told_set}
-use Rattle.mg_volume.proofs.ThreadLists.{has_room, numbered, numbered_set, threads_mapped}
+use Rattle.mg_volume.proofs.ThreadLists.{numbered_set, threads_mapped}
 use Rattle.mg_volume.specs.Contents.{accounts_within, objects_within}
 use Rattle.mg_volume.specs.Held.{VolumeHeld}
 use Rattle.mg_volume.specs.Meaning.{IsHeld, IsSpelledBy, Spelled, now_of, objects_in, threads_in}
 use Rattle.mg_volume.specs.Staging.{threads_with}
-use Rattle.mg_volume.specs.Numbered.{HasRoom, has_number, rows_with}
+use Rattle.mg_volume.specs.Numbered.{numbered, rows_with}
 use Rattle.mg_volume.proofs.Staged.{agree, set_apart, set_there, staged_objects}
 
 abbrev pub with_threads : VolumeHeld → List (ℕ × ThreadRow) → PagesHeld → VolumeHeld
 with_threads v rows p = record v { threads = rows; pages = p }
 
 module _ (v : VolumeHeld) (p : PagesHeld) (image : Image) (t place : ℕ) (row : Option ThreadRow) (rows : List (ℕ × ThreadRow)) (bytes : List ℕ)
-    (number : place + 1 ≡ t) (few : place < 256) (coming : pages.coming p image ≡ slice_set (pages.coming v.pages image) (first_thread_block + t - 1) bytes) (put : HasRoom t v.threads → rows ≡ rows_with t row v.threads) where
+    (number : place + 1 ≡ t) (few : place < 256) (coming : pages.coming p image ≡ slice_set (pages.coming v.pages image) (first_thread_block + t - 1) bytes) (put : rows ≡ rows_with t row v.threads) where
   placed : (s : Spelled v image) → ArePlaced 0 256 s.threads
   placed s = (told (λ i. thread_read (thread_row_bytes (pages.coming v.pages image) i)) 0 thread_rows s.threads s.threads_are).placed
-
-  -- there is room, since the numbers are places
-  rows_are : (s : Spelled v image) → rows ≡ rows_with t row v.threads
-  rows_are s =
-      put
-      (λ none.
-      let was : has_number (place + 1) (numbered s.threads) ≡ false = ap (λ n. has_number n (numbered s.threads)) number ∙ ap (has_number t) s.numbered ∙ none in
-      let room = has_room 0 256 place s.threads (placed s) (omega arith) few was in
-      let long = ap (λ (l : List (ℕ × ThreadRow)). length l) s.numbered in
-      omega arith)
 
   pub thread_now : IsSpelledBy v image → pages.table_in p ≡ pages.table_in v.pages → now_of (with_threads v rows p) image ≡ record (now_of v image) { threads = threads_with t row (threads_in v) }
   unfolding IsSpelledBy now_of threads_in
   thread_now s table =
       ap (λ objects. record (now_of v image) { objects = objects; threads = map as_thread rows }) (staged_objects v p image (first_thread_block + t - 1) bytes (omega arith) table coming)
-      ∙ ap (λ threads. record (now_of v image) { threads = threads }) (ap (map as_thread) (rows_are s) ∙ threads_mapped t row v.threads)
+      ∙ ap (λ threads. record (now_of v image) { threads = threads }) (ap (map as_thread) put ∙ threads_mapped t row v.threads)
 
   pub thread_spelled : IsSpelledBy v image → (pages.IsSpelledBy v.pages image → pages.IsSpelledBy p image) → pages.frame_count p ≡ pages.frame_count v.pages → thread_read bytes ≡ Some row → IsSpelledBy (with_threads v rows p) image
   unfolding IsSpelledBy
@@ -67,7 +57,7 @@ module _ (v : VolumeHeld) (p : PagesHeld) (image : Image) (t place : ℕ) (row :
             numbered_set 0 256 place row s.threads (placed s)
             ∙ ap (λ n. rows_with n row (numbered s.threads)) number
             ∙ ap (rows_with t row) s.numbered
-            ∙ sym (rows_are s);
+            ∙ sym put;
         objects = s.objects;
         objects_are = objects_within (pages.coming p image) r (agree r (slice_set r block bytes) (pages.coming p image) coming first_object_block table_block (set_apart r block first_object_block table_block bytes (λ k low high is. omega arith))) ∙ s.objects_are;
         ordered = s.ordered;
@@ -76,9 +66,9 @@ module _ (v : VolumeHeld) (p : PagesHeld) (image : Image) (t place : ℕ) (row :
       }
 
 -- other threads are held as well
-pub held_threads : (v : VolumeHeld) (rows : List (ℕ × ThreadRow)) (objects accounts threads threads' : ℕ) → IsHeld v objects accounts threads → length rows ≤ thread_rows → thread_rows ≤ threads' → IsHeld (record v { threads = rows }) objects accounts threads'
+pub held_threads : (v : VolumeHeld) (rows : List (ℕ × ThreadRow)) (accounts : ℕ) → IsHeld v accounts → length rows ≤ thread_rows → IsHeld (record v { threads = rows }) accounts
 unfolding objects_in
-held_threads v rows objects accounts threads threads' held few room = record {
+held_threads v rows accounts held few = record {
   kept = record {
     frames = held.kept.frames;
     rows = held.kept.rows;
@@ -90,7 +80,5 @@ held_threads v rows objects accounts threads threads' held few room = record {
     few_threads = few;
     inside = held.kept.inside;
   };
-  room_objects = held.room_objects;
   room_accounts = held.room_accounts;
-  room_threads = room;
 }

@@ -156,7 +156,7 @@ pub record IsSet (settings : Settings) (image : Image) : Type 0 where
   pub super : super_read (block_of image super_block) ≡ Spells settings
   pub long : total_blocks settings.frames ≤ length image
 
-opened : (image : Image) → is_gated image ≡ true → IsOpened image
+pub opened : (image : Image) → is_gated image ≡ true → IsOpened image
 opened image gated =
     let parts = and_parts (nat_le 2 (length image)) (gate_byte image == gate_open) gated in
     record { long = leb-true 2 (length image) parts.0; gate = eqb-true (gate_byte image) gate_open parts.1 }

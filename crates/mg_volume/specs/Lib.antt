@@ -8,7 +8,6 @@ pub mod Calls
 pub mod RowLists
 pub mod StagesRows
 pub mod Numbered
-pub mod Loading
 pub mod Sound
 -- Lemmas that crates above cite, and what these rest on. None of them is part of a statement.
 pub mod Contents

@@ -1,7 +1,8 @@
 -- What a volume is, as functions of the value and an image. The layers above see these words by their names.
-use Rattle.std.specs.Prelude.{◌≡◌, ◌+◌, ◌≤◌, ◌<◌, ◌&&◌, nat_le, nat_lt, ℕ, Bool, true, List, [], ◌∷◌, Some, if◌then◌else◌, length, map, sum_by, All}
+use Rattle.std.specs.Prelude.{◌≡◌, ◌+◌, ◌≤◌, ◌<◌, ◌&&◌, nat_le, nat_lt, ℕ, Bool, true, List, [], ◌∷◌, Some, length, map, sum_by, All}
 use Rattle.std.specs.List.{list_all, list_any}
 use Rattle.std.specs.Option.{ForSome}
+use Rattle.mg_check.specs.RowsRead.{placed_from}
 use Rattle.mg_disk.specs.Disk.{Image}
 use Rattle.mg_disk.specs.Stops.{NothingPending}
 use Rattle.mg_disk.specs.declared.disk.Disk.{Ghosts}
@@ -14,6 +15,7 @@ use Rattle.mg_model.specs.Ranges.{IsObjectRow}
 use Rattle.mg_model.specs.Spelling.{Spells, account_read, globals_read, object_read, super_read, thread_read}
 use Rattle.mg_model.specs.State.{Counters, ObjectRow, State, Thread, ThreadRow}
 use Rattle.mg_model.specs.Volume.{Is, account_row_bytes, accounts_fit, bound_pages, is_gated, live_rows, object_row_bytes, object_spelled, objects_fit, thread_row_bytes, threads_fit, volume}
+use Rattle.mg_objects.specs.Held.{by_base}
 use Rattle.mg_pages.specs.Meaning as pages
 use Rattle.mg_volume.specs.Held.{VolumeHeld}
 
@@ -67,20 +69,6 @@ total_of v = pages.total_of v.pages
 unfoldable pub words_in : VolumeHeld → ℕ
 words_in v = pages.words_in v.pages
 
--- rows with their places, in the order of their bases
-abbrev pub into_place : ℕ × ObjectRow → List (ℕ × ObjectRow) → List (ℕ × ObjectRow)
-into_place new [] = new ∷ []
-into_place new (o ∷ rows) = if nat_lt new.1.base o.1.base then new ∷ o ∷ rows else o ∷ into_place new rows
-
-abbrev pub by_base : List (ℕ × ObjectRow) → List (ℕ × ObjectRow)
-by_base [] = []
-by_base (o ∷ rows) = into_place o (by_base rows)
-
--- accounts with their places, from place i on
-abbrev pub placed_from : ℕ → List AccRow → List (ℕ × AccRow)
-placed_from i [] = []
-placed_from i (row ∷ rows) = (i, row) ∷ placed_from (i + 1) rows
-
 -- rows in the order of their bases, of which no two share a page
 abbrev pub rows_apart : List ObjectRow → Bool
 rows_apart [] = true
@@ -100,12 +88,10 @@ pub record IsKept (v : VolumeHeld) : Type 0 where
   pub few_threads : length v.threads ≤ thread_rows
   pub inside : list_all (λ page. has_page v page) (bound_pages (pages.table_in v.pages)) ≡ true
 
--- and there is room for as many rows as a volume may have
-pub record IsHeld (v : VolumeHeld) (objects accounts threads : ℕ) : Type 0 where
+-- and there is room for as many accounts as a volume may have
+pub record IsHeld (v : VolumeHeld) (accounts : ℕ) : Type 0 where
   pub kept : IsKept v
-  pub room_objects : object_rows ≤ objects
   pub room_accounts : account_rows ≤ accounts
-  pub room_threads : thread_rows ≤ threads
 
 -- the image is a volume; what is coming spells the rows and the frame table that are held, and no other row
 pub record Spelled (v : VolumeHeld) (image : Image) : Type 0 where

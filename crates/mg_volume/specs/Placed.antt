@@ -13,7 +13,8 @@ use Rattle.mg_model.specs.Volume.{live_rows, object_row_bytes, with_live}
 use Rattle.mg_model.specs.Words.{and_then, same_bytes}
 use Rattle.mg_pages.specs.Meaning as pages
 use Rattle.mg_volume.specs.Held.{VolumeHeld}
-use Rattle.mg_volume.specs.Meaning.{IsSpelledBy, by_base, into_place, objects_in}
+use Rattle.mg_objects.specs.Held.{by_base, into_place}
+use Rattle.mg_volume.specs.Meaning.{IsSpelledBy, objects_in}
 
 and_then-some : {A B : Type 0} (o : Option A) (f : A → Option B) (b : B) → and_then o f ≡ Some b → (a : A) × (o ≡ Some a) × (f a ≡ Some b)
 and_then-some None f b h = cc

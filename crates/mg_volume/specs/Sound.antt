@@ -18,10 +18,12 @@ use Rattle.mg_model.specs.VolumeReads.{rows-read, rows_with}
 use Rattle.mg_pages.specs.Laws as laws
 use Rattle.mg_pages.specs.Meaning as pages
 use Rattle.mg_volume.specs.Held.{VolumeHeld}
-use Rattle.mg_volume.specs.Meaning.{IsKept, Spelled, by_base, has_page, into_place, is_page_in, is_sound, now_of, objects_in, placed_from, rows_apart, threads_in}
+use Rattle.mg_check.specs.RowsRead.{placed_from}
+use Rattle.mg_objects.specs.Held.{by_base, into_place}
+use Rattle.mg_volume.specs.Meaning.{IsKept, Spelled, has_page, is_page_in, is_sound, now_of, objects_in, rows_apart, threads_in}
 
 -- accounts in their places
-accounts-placed : (i : ℕ) (accounts : List AccRow) → accounts_spelled (placed_from i accounts) ≡ accounts
+pub accounts-placed : (i : ℕ) (accounts : List AccRow) → accounts_spelled (placed_from i accounts) ≡ accounts
 accounts-placed i [] = refl
 accounts-placed i (row ∷ rows) = ap (λ rest. row ∷ rest) (accounts-placed (i + 1) rows)
 
@@ -30,7 +32,7 @@ no-gap i [] = refl
 no-gap i (row ∷ rows) = and_from (i == i) (has_no_gap (i + 1) (placed_from (i + 1) rows)) (eq-eqb i i refl) (no-gap (i + 1) rows)
 
 -- threads with their numbers
-threads-numbered : (rows : List (ℕ × ThreadRow)) → threads_spelled rows ≡ map (λ (t : ℕ × ThreadRow). record { number = t.0; row = t.1 }) (map (λ (t : ℕ × ThreadRow). (t.0 + 1, t.1)) rows)
+pub threads-numbered : (rows : List (ℕ × ThreadRow)) → threads_spelled rows ≡ map (λ (t : ℕ × ThreadRow). record { number = t.0; row = t.1 }) (map (λ (t : ℕ × ThreadRow). (t.0 + 1, t.1)) rows)
 threads-numbered [] = refl
 threads-numbered (t ∷ rows) = ap (λ rest. record { number = t.0 + 1; row = t.1 } ∷ rest) (threads-numbered rows)
 
@@ -54,7 +56,7 @@ module _ (r : Image) (frames : ℕ) (table : List ℕ) where
           ∙ ap (λ objects. object_spelled r frames table next.1 ∷ objects) rest
           ∙ sym (ap (λ b. all_spelled r frames table (if b then o ∷ next ∷ os else next ∷ into_place o os)) t)
 
-  objects-placed : (rows : List (ℕ × ObjectRow)) → objects_spelled r frames table rows ≡ all_spelled r frames table (by_base rows)
+  pub objects-placed : (rows : List (ℕ × ObjectRow)) → objects_spelled r frames table rows ≡ all_spelled r frames table (by_base rows)
   objects-placed [] = refl
   objects-placed ((place, row) ∷ rows) = ap (with_object (object_spelled r frames table row)) (objects-placed rows) ∙ object-placed (place, row) (by_base rows)
 
@@ -85,7 +87,7 @@ used-rows (object ∷ objects) =
     ∙ ap (λ n. object.row.pages + n) (used-rows objects)
     ∙ sym (sum_by-cons (λ (row : ObjectRow). row.pages) object.row (map (λ (object : Object). object.row) objects))
 
-objects-fit : (frames accounts : ℕ) (objects : List Object) → objects_fit frames accounts objects ≡ rows_fit frames accounts (map (λ (object : Object). object.row) objects)
+pub objects-fit : (frames accounts : ℕ) (objects : List Object) → objects_fit frames accounts objects ≡ rows_fit frames accounts (map (λ (object : Object). object.row) objects)
 objects-fit frames accounts objects = (let a = apart-rows objects in let p = paid-rows accounts objects in let u = used-rows objects in cc)
 
 -- whether a state is sound, of the rows that are held
@@ -108,7 +110,7 @@ sound_is v image =
     (objects-fit frames (length v.accounts) objects ∙ ap (rows_fit frames (length v.accounts)) (rows-spelled r frames (pages.table_in v.pages) v.objects))
 
 -- each bound page lies in an object
-in-object : (r : Image) (frames : ℕ) (table : List ℕ) (page : ℕ) (os : List (ℕ × ObjectRow)) → list_any (λ object. is_page_of page object) (all_spelled r frames table os) ≡ list_any (λ row. is_page_in page row) (map (λ (o : ℕ × ObjectRow). o.1) os)
+pub in-object : (r : Image) (frames : ℕ) (table : List ℕ) (page : ℕ) (os : List (ℕ × ObjectRow)) → list_any (λ object. is_page_of page object) (all_spelled r frames table os) ≡ list_any (λ row. is_page_in page row) (map (λ (o : ℕ × ObjectRow). o.1) os)
 in-object r frames table page [] = refl
 in-object r frames table page (o ∷ os) = ap (λ t. is_page_in page o.1 || t) (in-object r frames table page os)
 

@@ -1,14 +1,13 @@
 // A volume that was opened or committed is well formed. What is here does nothing but tell.
 ghost use Rattle.std.specs.Prelude.{List, ◌≡◌, ℕ, All, true};
 ghost use Rattle.mg_disk.specs.Disk.{AreBytes};
-ghost use Rattle.mg_model.specs.Ranges.{IsThreadRow, IsWord};
-ghost use Rattle.mg_model.specs.State.{ThreadRow};
+ghost use Rattle.mg_model.specs.Ranges.{IsWord};
 ghost use Rattle.mg_model.specs.WellFormed.{IsSettings, IsWellFormed};
 ghost use Rattle.mg_model.specs.declared.accounts.AccRow.{AccRow};
 ghost use Rattle.mg_volume.specs.Meaning.{IsSpelledBy, is_sound, now_of, staged_of};
 
 use crate::volume::Volume;
-use mg_model::{AccRow, Params, ThrRow};
+use mg_model::{AccRow, Params};
 
 // The settings are in their ranges.
 fn settings_keep_rules(params: &Params)
@@ -36,15 +35,6 @@ fn accounts_keep_rules(accounts: &[AccRow])
     }
 }
 
-// The rows of threads are in their ranges.
-fn threads_keep_rules(threads: &[(u64, ThrRow)])
-    ensures { All (λ (t : ℕ × ThreadRow). IsThreadRow t.1) threads.now }
-{
-    for t in threads {
-        let _birth = t.1.birth();
-    }
-}
-
 impl Volume {
     /// With nothing staged the state is well formed, where it is sound: of each image that this volume fits. It asks for
     /// an image of bytes, as every disk gives. This looks at no disk and changes nothing; a layer above calls it where it
@@ -54,7 +44,7 @@ impl Volume {
     {
         settings_keep_rules(&self.params);
         accounts_keep_rules(&self.accounts);
-        threads_keep_rules(&self.threads);
+        self.threads.keep_rules();
         let _draws = self.globals.draws();
     }
 }

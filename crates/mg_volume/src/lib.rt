@@ -9,25 +9,13 @@
 //! may be known of them.
 #![tactic(auto)]
 
-mod accounts;
-mod bound;
 mod committing;
-mod faults;
 mod forming;
-mod globals;
-mod loading;
 mod object_block;
-mod object_list;
 mod object_removing;
 mod object_staging;
-mod objects;
 mod opening;
-mod reading;
-mod settings;
-mod soundness;
 mod staging;
-mod tables;
-mod thread_list;
 mod threads;
 mod volume;
 mod words;

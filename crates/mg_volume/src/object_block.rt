@@ -1,5 +1,5 @@
 // The block of four rows of objects.
-ghost use Rattle.std.specs.Prelude.{◌≡◌, ◌<◌, ◌+◌, ◌*◌, ◌/◌, ◌==◌, ◌⊎◌, true, ℕ, List, find, option_copied, None, Some};
+ghost use Rattle.std.specs.Prelude.{◌≡◌, ◌<◌, ◌+◌, ◌*◌, ◌/◌, ◌⊎◌, true, ℕ, List, None, Some};
 ghost use Rattle.std.specs.Option.{option_map_or};
 ghost use Rattle.mg_model.specs.Layout.{first_object_block};
 ghost use Rattle.mg_pages.specs.Meaning.{IsSpelledBy, SameShape, StagesMore, is_staged, staged_of, table_in, words_in};
@@ -10,27 +10,23 @@ ghost use Rattle.mg_volume.specs.StagesRows.{StagesRows};
 use mg_disk::{BLOCK_SIZE, Block};
 use mg_layout::FIRST_OBJECT_BLOCK;
 use mg_model::ObjRow;
+use mg_objects::Objects;
 use mg_pages::Pages;
 use mg_rows::put_object;
 
-// The object whose row stands at a place.
-fn found_at(objects: &[(u64, ObjRow)], place: u64) -> Option<&(u64, ObjRow)>
-    ensures { option_copied result ≡ find (λ o. o.0 == place) objects.now }
-{
-    objects.iter().find(|o| o.0 == place)
-}
-
 // The row at a place, if an object has it.
-fn row_at(objects: &[(u64, ObjRow)], place: u64) -> Option<&ObjRow>
+fn row_at(objects: &Objects, place: u64) -> Option<&ObjRow>
     ensures { option_map_or (λ row. Some row.now) result None ≡ row_at place objects.now }
 {
-    let (_, row) = found_at(objects, place)?;
-    Some(row)
+    match objects.at(place) {
+        Some(row) => Some(row),
+        None => None,
+    }
 }
 
 /// The block of the rows at four places, from `4 * quad` on, for quad below 1024: of a place that no object has the row is
 /// free.
-pub(crate) fn object_block(objects: &[(u64, ObjRow)], quad: u64) -> Block
+pub(crate) fn object_block(objects: &Objects, quad: u64) -> Block
     requires { quad < 1024 }
     ensures { (j : ℕ) → j < 4 → object_in result j ≡ Some (row_at (4 * quad + j) objects.now) }
 {
@@ -42,7 +38,7 @@ pub(crate) fn object_block(objects: &[(u64, ObjRow)], quad: u64) -> Block
 }
 
 /// Stages the block of the row at a place, as the objects are held.
-pub(crate) fn stage_row(pages: &mut Pages, objects: &[(u64, ObjRow)], place: u64)
+pub(crate) fn stage_row(pages: &mut Pages, objects: &Objects, place: u64)
     requires place { place < 4096 }
     requires room { (is_staged pages.old (first_object_block + place / 4) ≡ true) ⊎ (staged_of pages.old < 160) }
     ensures rows { StagesRows objects.now place pages.old pages.new }

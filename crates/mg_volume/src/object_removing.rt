@@ -1,37 +1,34 @@
 // An object goes: its row, and its pages.
-ghost use Rattle.std.specs.Prelude.{List, ◌≡◌, ◌≤◌, ◌<◌, ℕ, All, length, remove, slice_index_or, vec_capacity};
+ghost use Rattle.std.specs.Prelude.{List, ◌≡◌, ◌≤◌, ◌<◌, ◌==◌, ℕ, Some, filter, find, not, true};
+ghost use Rattle.std.specs.List.{list_any};
 ghost use Rattle.mg_model.specs.Objects.{page_of};
-ghost use Rattle.mg_model.specs.State.{ObjectRow};
 ghost use Rattle.mg_pages.specs.Meaning.{IsSpelledBy, Releases, SameShape, StagesMore, Unbinds, staged_of, table_in, words_in};
 ghost use Rattle.mg_volume.specs.StagesRows.{StagesRows};
 
 use crate::object_block::stage_row;
 use mg_model::ObjRow;
+use mg_objects::Objects;
 use mg_pages::Pages;
 
 /// The bytes of a page.
 const PAGE: u64 = 4096;
 
-/// Takes the object at an index out, and stages that its row is free.
-pub(crate) fn take_object(
-    objects: &mut Vec<(u64, ObjRow)>,
-    pages: &mut Pages,
-    i: usize,
-) -> (u64, ObjRow)
-    requires within { i < length objects.old.items }
-    requires places { All (λ (o : ℕ × ObjectRow). o.0 < 4096) objects.old.items }
+/// Takes the object with this base out, and stages that its row is free. It gives that row, with its place.
+pub(crate) fn take_object(objects: &mut Objects, pages: &mut Pages, base: u64) -> (u64, ObjRow)
+    requires there { list_any (λ o. o.1.base == base) objects.old ≡ true }
     requires few { staged_of pages.old < 160 }
-    ensures taken { result ≡ slice_index_or objects.old.items i result }
-    ensures objects { objects.new.items ≡ remove objects.old.items i }
-    ensures room { vec_capacity objects.new ≡ vec_capacity objects.old }
-    ensures rows { StagesRows objects.new.items result.0 pages.old pages.new }
+    ensures taken { find (λ o. o.1.base == base) objects.old ≡ Some result }
+    ensures objects { objects.new ≡ filter (λ o. not (o.1.base == base)) objects.old }
+    ensures rows { StagesRows objects.new result.0 pages.old pages.new }
     ensures table { table_in pages.new ≡ table_in pages.old }
     ensures shape { SameShape pages.old pages.new }
     ensures staged { StagesMore 1 pages.old pages.new }
     ensures words { words_in pages.new ≡ words_in pages.old }
     ensures spelled { (image : List (List ℕ)) → IsSpelledBy pages.old image → IsSpelledBy pages.new image }
 {
-    let taken = objects.remove(i);
+    // It tells that each place is one of the table.
+    let _count = objects.len();
+    let taken = objects.remove(base);
     stage_row(pages, objects, taken.0);
     taken
 }

@@ -1,5 +1,5 @@
 // Objects of a volume that are staged.
-ghost use Rattle.std.specs.Prelude.{List, ◌≡◌, ◌⊎◌, ◌≤◌, ◌<◌, ◌+◌, ◌*◌, ◌/◌, ◌==◌, ℕ, true, find, length, position, slice_index_or, None, Some, IfSome};
+ghost use Rattle.std.specs.Prelude.{List, ◌≡◌, ◌⊎◌, ◌≤◌, ◌<◌, ◌==◌, ℕ, true, find, IfSome};
 ghost use Rattle.mg_model.specs.Objects.{with_object, with_row, without_object};
 ghost use Rattle.mg_model.specs.State.{ObjectRow};
 ghost use Rattle.mg_volume.specs.Calls.{Stages};
@@ -8,32 +8,11 @@ ghost use Rattle.mg_volume.specs.RowLists.{DistinctBy};
 ghost use Rattle.mg_volume.specs.Staging.{MayChange, MayJoin, ObjectsStillStaged, blank, has_base, is_object_staged, with_new_row, with_other_row, without_row};
 
 use crate::object_block::stage_row;
-use crate::object_list::{add_object, free_place};
 use crate::object_removing::{release_object, take_object};
 use crate::volume::Volume;
 use mg_model::ObjRow;
 
 impl Volume {
-    // The place among the objects of the one with this base, if it is there.
-    fn place_of(&self, base: u64) -> Option<usize>
-        ensures { result ≡ position (λ o. o.1.base == base) self.now.objects }
-    {
-        self.objects.iter().position(|o| o.1.base() == base)
-    }
-
-    // The same of one that is there.
-    fn index_of(&self, base: u64) -> usize
-        requires { has_base base (objects_in self.now) ≡ true }
-        ensures within { result < length self.now.objects }
-        ensures found { (d : ℕ × ObjectRow) → find (λ old. old.base == base) (objects_in self.now) ≡ Some (slice_index_or self.now.objects result d).1 }
-        ensures base { (d : ℕ × ObjectRow) → (slice_index_or self.now.objects result d).1.base ≡ base }
-    {
-        match self.place_of(base) {
-            Some(i) => i,
-            None => unreachable!(),
-        }
-    }
-
     // No two objects have one base, as in each volume.
     pub(crate) fn bases_differ(&self)
         ensures { DistinctBy (λ row. row.base) (objects_in self.now) }
@@ -53,10 +32,9 @@ impl Volume {
         ensures objects { ObjectsStillStaged self.old self.new }
         ensures here { is_object_staged self.new row.base ≡ true }
     {
-        let base = row.base();
-        let i = self.index_of(base);
-        let place = self.objects[i].0;
-        self.objects[i] = (place, row);
+        // It tells that the row keeps its ranges.
+        let _base = row.base();
+        let place = self.objects.update(row);
         stage_row(&mut self.pages, &self.objects, place);
     }
 
@@ -74,8 +52,7 @@ impl Volume {
     {
         // It tells that the row keeps its ranges.
         let _base = row.base();
-        let place = free_place(&self.objects);
-        add_object(&mut self.objects, place, row);
+        let place = self.objects.insert(row);
         stage_row(&mut self.pages, &self.objects, place);
     }
 
@@ -89,8 +66,7 @@ impl Volume {
         ensures stages { Stages 129 self.old self.new }
         ensures objects { ObjectsStillStaged self.old self.new }
     {
-        let i = self.index_of(base);
-        let taken = take_object(&mut self.objects, &mut self.pages, i);
+        let taken = take_object(&mut self.objects, &mut self.pages, base);
         release_object(&mut self.pages, &taken.1);
     }
 }

@@ -1,74 +1,81 @@
-// Opening a volume: its journal first, and then its rows and its frame table.
-ghost use Rattle.std.specs.Prelude.{List, ℕ, ◌≡◌, ◌≤◌, true, IfOk, IsSomeAnd, IsTrue};
+// Opening a volume whose rows were read: its journal, and then its frame table.
+ghost use Rattle.std.specs.Prelude.{List, ℕ, ◌≡◌, ◌≤◌, true, IfOk, IsTrue};
 ghost use Rattle.std.specs.Option.{ForSome};
-ghost use Rattle.mg_disk.specs.Stops.{CountGoes, CountRose, Leaves, NothingPending};
-ghost use Rattle.mg_journal.specs.Standing as journal;
+ghost use Rattle.mg_check.specs.RowsRead.{AreKept, IsReadAs};
+ghost use Rattle.mg_disk.specs.Stops.{CountGoes, CountRose, Leaves, NothingPending, WritesNothing};
 ghost use Rattle.mg_model.specs.Layout.{total_blocks};
 ghost use Rattle.mg_model.specs.Volume.{volume};
-ghost use Rattle.mg_volume.specs.Loading.{IsVolume};
+ghost use Rattle.mg_objects.specs.Held.{AreApart, IsPlaced, by_base};
 ghost use Rattle.mg_volume.specs.Meaning.{StandsOn, is_live, is_sound, now_of, staged_of};
 ghost use Rattle.mg_volume.specs.Opening.{Opens};
 
-use crate::faults::LoadFault;
-use crate::loading::load;
-use crate::tables::Tables;
+use crate::threads::Threads;
 use crate::volume::Volume;
+use mg_check::VolumeRows;
 use mg_disk::Disk;
 use mg_journal::{Store, ViewFault};
 use mg_layout::Geometry;
-use mg_model::Params;
-use std::alloc::Global;
+use mg_model::ObjRow;
+use mg_objects::Objects;
+use mg_pages::Pages;
+use std::alloc::{AllocError, Global};
 
-// Opens the journal of a volume with these settings. Where the disk tells its reads, it is not damaged.
-fn open_journal<D: Disk>(alloc: Global, params: &Params, disk: &mut D) -> Result<Store, LoadFault>
-    requires room { total_blocks params.now.frames ≤ D.block_count disk.old }
-    requires volume { ForSome (D.seen disk.old) (IsVolume params.now) }
-    ensures any_moment { NothingPending D.Disk disk.old → ForSome (D.seen disk.old) (λ image. Leaves D.Disk disk.old disk.new (λ c. volume c ≡ volume image)) }
-    ensures still { IfOk result (λ _. ForSome (D.seen disk.old) (λ image. IsSomeAnd (D.seen disk.new) (λ now. volume now ≡ volume image))) }
-    ensures volume { IfOk result (λ _. ForSome (D.seen disk.new) (IsVolume params.now)) }
-    ensures stands { IfOk result (λ store. journal.Stands D.Disk store disk.new) }
-    ensures live { IfOk result (λ store. journal.is_live store ≡ true) }
-    ensures total { IfOk result (λ store. journal.total_of store ≡ total_blocks params.now.frames) }
-    ensures damaged { result ≡ Err LoadFault.Damaged → ForSome (D.seen disk.old) (λ _. ⊥) }
-    ensures cause { result ≡ Err LoadFault.Disk → CountRose D.Disk disk.old disk.new }
-    ensures count { CountGoes D.Disk disk.old disk.new }
-    ensures blocks { D.block_count disk.new ≡ D.block_count disk.old }
+// The objects of these rows, of which no two share a page.
+fn objects_of(alloc: Global, rows: &[(u64, ObjRow)]) -> Result<Objects, AllocError>
+    requires placed { IsPlaced rows.now }
+    requires apart { AreApart (by_base rows.now) }
+    ensures { IfOk result (λ objects. objects ≡ by_base rows.now) }
 {
-    match Store::open(alloc, disk, Geometry::of(params.frames()).total) {
-        Ok(store) => Ok(store),
-        Err(ViewFault::Damaged) => Err(LoadFault::Damaged),
-        Err(ViewFault::Disk) => Err(LoadFault::Disk),
-        Err(ViewFault::Memory) => Err(LoadFault::Memory),
+    match Objects::of(alloc, rows) {
+        Ok(Some(objects)) => Ok(objects),
+        Ok(None) => unreachable!(),
+        Err(fault) => Err(fault),
     }
 }
 
-/// Opens a volume with these settings. Memory for its rows is taken before anything is written. What is opened is sound;
-/// where the disk tells its reads, nothing is damaged.
-pub(crate) fn open_as<D: Disk>(
+/// Opens the volume whose rows these are: they were read from the disk, and keep the rules of a volume. Memory for them is
+/// taken before anything is written. Where the disk tells its reads, nothing is damaged.
+pub(crate) fn open_rows<D: Disk>(
     alloc: Global,
-    params: &Params,
+    rows: VolumeRows,
     disk: &mut D,
-) -> Result<Volume, LoadFault>
-    requires room { total_blocks params.now.frames ≤ D.block_count disk.old }
-    requires volume { ForSome (D.seen disk.old) (IsVolume params.now) }
+) -> Result<Volume, ViewFault>
+    requires kept { AreKept rows }
+    requires told { ForSome (D.seen disk.old) (IsReadAs rows) }
+    requires room { total_blocks rows.params.frames ≤ D.block_count disk.old }
     ensures opens { IfOk result (λ v. ForSome (D.seen disk.old) (λ image. Opens (volume image) v (D.seen disk.new))) }
     ensures stands { IfOk result (λ v. StandsOn D.Disk v disk.new) }
     ensures sound { IfOk result (λ v. (image : List (List ℕ)) → is_sound (now_of v image) ≡ true) }
     ensures staged { IfOk result (λ v. staged_of v ≡ 0) }
     ensures live { IfOk result (λ v. IsTrue (is_live v)) }
     ensures any_moment { NothingPending D.Disk disk.old → ForSome (D.seen disk.old) (λ image. Leaves D.Disk disk.old disk.new (λ c. volume c ≡ volume image)) }
-    ensures damaged { result ≡ Err LoadFault.Damaged → ForSome (D.seen disk.old) (λ _. ⊥) }
-    ensures cause { result ≡ Err LoadFault.Disk → CountRose D.Disk disk.old disk.new }
+    ensures damaged { result ≡ Err ViewFault.Damaged → ForSome (D.seen disk.old) (λ _. ⊥) }
+    ensures untouched { result ≡ Err ViewFault.Damaged → WritesNothing D.Disk disk.old disk.new }
+    ensures cause { result ≡ Err ViewFault.Disk → CountRose D.Disk disk.old disk.new }
     ensures count { CountGoes D.Disk disk.old disk.new }
     ensures blocks { D.block_count disk.new ≡ D.block_count disk.old }
 {
-    let tables = match Tables::new(alloc) {
-        Ok(tables) => tables,
-        Err(_) => return Err(LoadFault::Memory),
+    let objects = match objects_of(alloc, &rows.objects) {
+        Ok(objects) => objects,
+        Err(_) => return Err(ViewFault::Memory),
     };
-    let store = match open_journal(alloc, params, disk) {
+    let threads = match Threads::of(alloc, &rows.threads) {
+        Ok(threads) => threads,
+        Err(_) => return Err(ViewFault::Memory),
+    };
+    let store = match Store::open(alloc, disk, Geometry::of(rows.params.frames()).total) {
         Ok(store) => store,
         Err(fault) => return Err(fault),
     };
-    load(alloc, params, tables, store, disk)
+    match Pages::open(alloc, store, rows.table) {
+        Ok(pages) => Ok(Volume {
+            params: rows.params,
+            globals: rows.globals,
+            objects,
+            accounts: rows.accounts,
+            threads,
+            pages,
+        }),
+        Err(_) => Err(ViewFault::Memory),
+    }
 }

@@ -7,7 +7,6 @@ ghost use Rattle.mg_volume.specs.Calls.{Stages};
 ghost use Rattle.mg_volume.specs.Meaning.{IsSpelledBy, counters_in, now_of, objects_in, staged_of, threads_in};
 ghost use Rattle.mg_volume.specs.Staging.{ObjectsStillStaged, are_counters_staged, is_thread_staged, threads_with};
 
-use crate::thread_list::put_row;
 use crate::volume::Volume;
 use mg_disk::{BLOCK_SIZE, Block};
 use mg_layout::{FIRST_THREAD_BLOCK, GLOBALS_BLOCK};
@@ -44,7 +43,8 @@ impl Volume {
         ensures here { is_thread_staged self.new t ≡ true }
     {
         let block = thread_block(&row);
-        put_row(&mut self.threads, t, row);
+        self.threads.put(t, row);
+        self.threads.keep_rules();
         self.pages.stage(FIRST_THREAD_BLOCK + t - 1, &block);
     }
 

@@ -1,88 +1,110 @@
-// The threads of a volume.
-ghost use Rattle.std.specs.Prelude.{◌≡◌, ◌≢◌, ◌≤◌, ◌<◌, ◌+◌, ◌++◌, ◌∷◌, [], ℕ, None, OnOk, length, vec_capacity};
-ghost use Rattle.std.specs.Option.{ForSome};
-ghost use Rattle.mg_check.specs.Reads.{OnlyRead, contents};
-ghost use Rattle.mg_check.specs.Told.{IsTold, NotSpelled};
-ghost use Rattle.mg_disk.specs.Stops.{CountRose};
-ghost use Rattle.mg_journal.specs.Standing.{Stands, total_of};
-ghost use Rattle.mg_model.specs.Layout.{table_block, thread_rows};
-ghost use Rattle.mg_model.specs.Spelling.{Read, thread_read};
-ghost use Rattle.mg_model.specs.State.{ThreadRow};
-ghost use Rattle.mg_model.specs.Volume.{thread_row_bytes};
-ghost use Rattle.mg_volume.specs.Loading.{AreThreads};
+// The threads of a volume, by their numbers.
+ghost use Rattle.std.specs.Prelude.{◌≡◌, ◌≤◌, ◌==◌, [], All, IfOk, IfSome, None, find, length, replicate};
+ghost use Rattle.std.specs.Option.{ForSome, option_copied, option_map};
+ghost use Rattle.mg_check.specs.RowsRead.{ArePlaced};
+ghost use Rattle.mg_model.specs.Layout.{thread_rows};
+ghost use Rattle.mg_model.specs.Ranges.{IsThreadRow};
+ghost use Rattle.mg_volume.specs.Numbered.{numbered, rows_with};
 
-use crate::faults::LoadFault;
-use crate::reading::read_block;
-use mg_disk::{BLOCK_SIZE, Block, Disk};
-use mg_faults::Failed;
-use mg_journal::Store;
-use mg_layout::FIRST_THREAD_BLOCK;
 use mg_model::ThrRow;
-use mg_rows::{Spelled, read_thread};
+use std::alloc::{AllocError, Global};
+use std::marker::Model;
 
-/// How many rows the table of threads has.
-pub(crate) const THREAD_ROWS: u64 = 256;
+/// How many threads a volume has at most.
+const MOST_THREADS: usize = 256;
 
-// Adds the thread in row `i`, whose number is one more.
-fn add(threads: &mut Vec<(u64, ThrRow)>, i: u64, row: ThrRow) -> Result<(), LoadFault>
-    requires place { i < thread_rows }
-    ensures more { OnOk result (threads.new.items ≡ threads.old.items ++ (i + 1, row) ∷ []) }
-    ensures few { OnOk result (length threads.new.items ≤ length threads.old.items + 1) }
-    ensures room { vec_capacity threads.old ≤ vec_capacity threads.new }
-    ensures memory { result ≢ Err LoadFault.Damaged }
-    ensures no_disk { result ≢ Err LoadFault.Disk }
-{
-    match threads.push((i + 1, row)) {
-        Ok(()) => Ok(()),
-        Err(_) => Err(LoadFault::Memory),
+/// The threads of a volume, in the order of their numbers.
+#[derive(Drop)]
+pub(crate) struct Threads {
+    // The row of thread t, if it lives, in place t - 1.
+    rows: Vec<Option<ThrRow>>,
+}
+
+impl Model for Threads {
+    ghost use Rattle.std.specs.Prelude.{ℕ, List};
+    ghost use Rattle.mg_model.specs.State.{ThreadRow};
+    ghost use Rattle.mg_objects.specs.Held.{live_from};
+    ghost use Rattle.mg_volume.specs.Numbered.{AreByNumber, numbered};
+
+    ghost Value = { List (ℕ × ThreadRow) };
+
+    ghost view = { λ threads. numbered (live_from 0 threads.rows.items) };
+
+    ghost invariant = { λ threads. AreByNumber threads.rows.items };
+}
+
+impl Threads {
+    // No threads. All memory that they will need is taken here.
+    fn new(alloc: Global) -> Result<Threads, AllocError>
+        ensures { IfOk result (λ threads. threads ≡ []) }
+    {
+        let rows = no_rows(alloc)?;
+        Ok(Threads { rows })
+    }
+
+    /// The threads of these rows, each with the place of its row. All memory that they will need is taken here.
+    pub(crate) fn of(alloc: Global, rows: &[(u64, ThrRow)]) -> Result<Threads, AllocError>
+        requires { ArePlaced thread_rows rows.now }
+        ensures { IfOk result (λ threads. threads ≡ numbered rows.now) }
+    {
+        let mut threads = Threads::new(alloc)?;
+        for row in rows {
+            threads.put(row.0 + 1, Some(row.1));
+        }
+        Ok(threads)
+    }
+
+    /// The thread with this number, 1 to 256.
+    pub(crate) fn get(&self, t: u64) -> Option<&ThrRow>
+        ensures found { option_copied result ≡ option_map (λ thread. thread.1) (find (λ thread. thread.0 == t) self.now) }
+        ensures some { IfSome result (λ _. 1 ≤ t) }
+        ensures few { IfSome result (λ _. t ≤ 256) }
+    {
+        let rows = &self.rows;
+        if t == 0 {
+            return None;
+        }
+        match rows.get(t as usize - 1) {
+            Some(row) => row.as_ref(),
+            None => None,
+        }
+    }
+
+    /// Another row for thread t, 1 to 256, or that there is no such thread.
+    pub(crate) fn put(&mut self, t: u64, row: Option<ThrRow>)
+        requires some { 1 ≤ t }
+        requires few { t ≤ 256 }
+        ensures { self.new ≡ rows_with t row self.old }
+    {
+        keep_range(&row);
+        self.rows[t as usize - 1] = row;
+    }
+
+    /// There are 256 at most, and their rows keep their ranges. It does nothing but tell.
+    pub(crate) fn keep_rules(&self)
+        ensures few { length self.now ≤ 256 }
+        ensures rows { All (λ thread. IsThreadRow thread.1) self.now }
+    {
+        let _rows = &self.rows;
     }
 }
 
-// Takes row `i` of the table, which is this block.
-fn take(threads: &mut Vec<(u64, ThrRow)>, i: u64, block: &Block) -> Result<(), LoadFault>
-    requires place { i < thread_rows }
-    ensures told { OnOk result ((read : ℕ → Read ThreadRow) → read i ≡ thread_read block.now → IsTold read i (AreThreads threads.old.items) → IsTold read (i + 1) (AreThreads threads.new.items)) }
-    ensures damaged { result ≡ Err LoadFault.Damaged → thread_read block.now ≡ None }
-    ensures no_disk { result ≢ Err LoadFault.Disk }
-    ensures few { OnOk result (length threads.new.items ≤ length threads.old.items + 1) }
-    ensures room { vec_capacity threads.old ≤ vec_capacity threads.new }
+// A row keeps its ranges. It does nothing but tell.
+fn keep_range(row: &Option<ThrRow>)
+    ensures { ForSome row.now IsThreadRow }
 {
-    match read_thread(block) {
-        Some(spelled) => match spelled {
-            Spelled::Row(row) => add(threads, i, row),
-            Spelled::Free => Ok(()),
-        },
-        None => Err(LoadFault::Damaged),
+    if let Some(row) = row {
+        let _birth = row.birth();
     }
 }
 
-/// Reads all threads, with their numbers.
-pub(crate) fn read_threads<D: Disk>(
-    store: &Store,
-    disk: &mut D,
-    threads: &mut Vec<(u64, ThrRow)>,
-) -> Result<(), LoadFault>
-    requires room { table_block ≤ total_of store.now }
-    requires stands { Stands D.Disk store.now disk.old }
-    requires none { threads.old.items ≡ [] }
-    ensures told { OnOk result (ForSome (contents D.Disk disk.old (total_of store.now)) (λ r. IsTold (λ i. thread_read (thread_row_bytes r i)) thread_rows (AreThreads threads.new.items))) }
-    ensures damaged { result ≡ Err LoadFault.Damaged → ForSome (contents D.Disk disk.old (total_of store.now)) (λ r. NotSpelled (λ i. thread_read (thread_row_bytes r i)) thread_rows) }
-    ensures few { OnOk result (length threads.new.items ≤ thread_rows) }
-    ensures room { vec_capacity threads.old ≤ vec_capacity threads.new }
-    ensures stands { Stands D.Disk store.now disk.new }
-    ensures cause { result ≡ Err LoadFault.Disk → CountRose D.Disk disk.old disk.new }
-    ensures reads { OnlyRead D.Disk disk.old disk.new }
+// No thread in any place.
+fn no_rows(alloc: Global) -> Result<Vec<Option<ThrRow>>, AllocError>
+    ensures { IfOk result (λ rows. rows.items ≡ replicate 256 None) }
 {
-    let mut block = [0; BLOCK_SIZE];
-    for i in 0..THREAD_ROWS {
-        match read_block(store, disk, FIRST_THREAD_BLOCK + i, &mut block) {
-            Ok(()) => {}
-            Err(Failed) => return Err(LoadFault::Disk),
-        }
-        match take(threads, i, &block) {
-            Ok(()) => {}
-            Err(fault) => return Err(fault),
-        }
+    let mut rows = Vec::with_capacity(alloc, MOST_THREADS)?;
+    for _ in 0..MOST_THREADS {
+        rows.push(None)?;
     }
-    Ok(())
+    Ok(rows)
 }

@@ -9,12 +9,13 @@ ghost use Rattle.mg_model.specs.Volume.{Damaged, NotVolume, OldVolume, volume};
 ghost use Rattle.mg_volume.specs.Meaning.{StandsOn, accounts_in, counters_in, is_live, is_sound, now_of, objects_in, settings_in, staged_of, threads_in, words_in};
 ghost use Rattle.mg_volume.specs.Opening.{Opens};
 
-use crate::faults::LoadFault;
-use crate::opening::open_as;
-use crate::settings::settings;
-use mg_check::OpenFault;
+use crate::opening::open_rows;
+use crate::threads::Threads;
+use mg_check::{OpenFault, read_volume};
 use mg_disk::Disk;
+use mg_journal::ViewFault;
 use mg_model::{AccRow, Frame, Globals, ObjRow, Params, ThrRow};
+use mg_objects::Objects;
 use mg_pages::Pages;
 use std::alloc::Global;
 use std::marker::Model;
@@ -24,9 +25,9 @@ use std::marker::Model;
 pub struct Volume {
     pub(crate) params: Params,
     pub(crate) globals: Globals,
-    pub(crate) objects: Vec<(u64, ObjRow)>,
+    pub(crate) objects: Objects,
     pub(crate) accounts: Vec<AccRow>,
-    pub(crate) threads: Vec<(u64, ThrRow)>,
+    pub(crate) threads: Threads,
     pub(crate) pages: Pages,
 }
 
@@ -38,17 +39,19 @@ impl Model for Volume {
 
     ghost use Rattle.mg_volume.specs.Meaning.{IsHeld};
 
-    ghost view = { λ v. record { settings = v.params; counters = v.globals; objects = v.objects.items; accounts = v.accounts.items; threads = v.threads.items; pages = v.pages } };
+    ghost view = { λ v. record { settings = v.params; counters = v.globals; objects = v.objects; accounts = v.accounts.items; threads = v.threads; pages = v.pages } };
 
-    ghost invariant = { λ v. IsHeld (record { settings = v.params; counters = v.globals; objects = v.objects.items; accounts = v.accounts.items; threads = v.threads.items; pages = v.pages }) (vec_capacity v.objects) (vec_capacity v.accounts) (vec_capacity v.threads) };
+    ghost invariant = { λ v. IsHeld (record { settings = v.params; counters = v.globals; objects = v.objects; accounts = v.accounts.items; threads = v.threads; pages = v.pages }) (vec_capacity v.accounts) };
 }
 
 impl Volume {
-    /// Opens the volume of a disk, whatever a stop left of a commit. All memory that it will need is taken here.
+    /// Opens the volume of a disk, whatever a stop left of a commit. Its rows are read once, before the first write, and are
+    /// those that it holds. All memory that it will need is taken here.
     ///
     /// [`OpenFault::Not`], [`OpenFault::Old`] and [`OpenFault::Damaged`] come exactly where the image that reads give is no
-    /// volume, an older one, or a damaged one, and then nothing is written; on a disk that does not tell its reads, what does
-    /// not fit when it is read again is damaged too. [`OpenFault::Disk`] comes only where a call of the disk failed.
+    /// volume, an older one, or a damaged one, and then nothing is written, on every disk; on a disk that does not tell its
+    /// reads, a journal that is another one when it is read again is damaged too. [`OpenFault::Disk`] comes only where a call
+    /// of the disk failed.
     pub fn open<D: Disk>(alloc: Global, disk: &mut D) -> Result<Volume, OpenFault>
         ensures opens { IfOk result (λ v. ForSome (D.seen disk.old) (λ image. Opens (volume image) v (D.seen disk.new))) }
         ensures stands { IfOk result (λ v. StandsOn D.Disk v disk.new) }
@@ -61,20 +64,20 @@ impl Volume {
         ensures damaged { result ≡ Err OpenFault.Damaged → ForSome (D.seen disk.old) (λ image. volume image ≡ Damaged) }
         ensures untouched_not { result ≡ Err OpenFault.Not → WritesNothing D.Disk disk.old disk.new }
         ensures untouched_old { result ≡ Err OpenFault.Old → WritesNothing D.Disk disk.old disk.new }
-        ensures untouched_damaged { result ≡ Err OpenFault.Damaged → ForSome (D.seen disk.old) (λ image. WritesNothing D.Disk disk.old disk.new) }
+        ensures untouched_damaged { result ≡ Err OpenFault.Damaged → WritesNothing D.Disk disk.old disk.new }
         ensures cause { result ≡ Err OpenFault.Disk → CountRose D.Disk disk.old disk.new }
         ensures count { CountGoes D.Disk disk.old disk.new }
         ensures blocks { D.block_count disk.new ≡ D.block_count disk.old }
     {
-        let params = match settings(alloc, disk) {
-            Ok(params) => params,
+        let rows = match read_volume(alloc, disk) {
+            Ok(rows) => rows,
             Err(fault) => return Err(fault),
         };
-        match open_as(alloc, &params, disk) {
+        match open_rows(alloc, rows, disk) {
             Ok(volume) => Ok(volume),
-            Err(LoadFault::Damaged) => Err(OpenFault::Damaged),
-            Err(LoadFault::Disk) => Err(OpenFault::Disk),
-            Err(LoadFault::Memory) => Err(OpenFault::Memory),
+            Err(ViewFault::Damaged) => Err(OpenFault::Damaged),
+            Err(ViewFault::Disk) => Err(OpenFault::Disk),
+            Err(ViewFault::Memory) => Err(OpenFault::Memory),
         }
     }
 
@@ -94,18 +97,18 @@ impl Volume {
         self.globals
     }
 
-    // The object that has an address, with its place.
-    fn found_covering(&self, a: u64) -> Option<&(u64, ObjRow)>
-        ensures { option_copied result ≡ find (λ o. covers o.1 a) self.now.objects }
+    // The row of the object that has an address.
+    fn found_covering(&self, a: u64) -> Option<&ObjRow>
+        ensures { option_copied result ≡ option_map (λ o. o.1) (find (λ o. covers o.1 a) self.now.objects) }
     {
-        self.objects.iter().find(|o| o.1.covers(a))
+        self.objects.covering(a)
     }
 
-    // The object with this base address, with its place.
-    fn found_object(&self, base: u64) -> Option<&(u64, ObjRow)>
-        ensures { option_copied result ≡ find (λ o. o.1.base == base) self.now.objects }
+    // The row of the object with this base address.
+    fn found_object(&self, base: u64) -> Option<&ObjRow>
+        ensures { option_copied result ≡ option_map (λ o. o.1) (find (λ o. o.1.base == base) self.now.objects) }
     {
-        self.objects.iter().find(|o| o.1.base() == base)
+        self.objects.get(base)
     }
 
     /// The object that has an address. It is the one with its base.
@@ -115,7 +118,7 @@ impl Volume {
     {
         self.bases_differ();
         match self.found_covering(a) {
-            Some(o) => Some(o.1),
+            Some(row) => Some(*row),
             None => None,
         }
     }
@@ -125,7 +128,7 @@ impl Volume {
         ensures { result ≡ find (λ row. row.base == base) (objects_in self.now) }
     {
         match self.found_object(base) {
-            Some(o) => Some(o.1),
+            Some(row) => Some(*row),
             None => None,
         }
     }
@@ -141,30 +144,33 @@ impl Volume {
         self.accounts.get(n as usize - 1).copied()
     }
 
-    // The thread with this number.
-    fn found(&self, t: u64) -> Option<&(u64, ThrRow)>
-        ensures { option_copied result ≡ find (λ thread. thread.0 == t) self.now.threads }
+    // The row of the thread with this number.
+    fn found(&self, t: u64) -> Option<&ThrRow>
+        ensures found { option_copied result ≡ option_map (λ thread. thread.1) (find (λ thread. thread.0 == t) self.now.threads) }
+        ensures few { IfSome result (λ _. (1 ≤ t) × (t ≤ 256)) }
     {
-        self.threads.iter().find(|thread| thread.0 == t)
+        self.threads.get(t)
     }
 
-    /// The thread with this number.
+    /// The thread with this number, 1 to 256.
     pub fn thread(&self, t: u64) -> Option<ThrRow>
-        ensures { option_map (λ thread. thread.row) (find (λ thread. thread.number == t) (threads_in self.now)) ≡ result }
+        ensures found { option_map (λ thread. thread.row) (find (λ thread. thread.number == t) (threads_in self.now)) ≡ result }
+        ensures few { IfSome result (λ _. (1 ≤ t) × (t ≤ 256)) }
     {
         match self.found(t) {
-            Some(thread) => Some(thread.1),
+            Some(row) => Some(*row),
             None => None,
         }
     }
 
-    /// The present frame of the thread with this number.
+    /// The present frame of the thread with this number, 1 to 256.
     pub fn frame(&self, t: u64) -> Option<Frame>
-        ensures { MatchOption result (find (λ thread. thread.number == t) (threads_in self.now) ≡ None)
+        ensures found { MatchOption result (find (λ thread. thread.number == t) (threads_in self.now) ≡ None)
             (λ frame. (thread : Thread) × (find (λ thread. thread.number == t) (threads_in self.now) ≡ Some thread) × (frame.slots ≡ last_slots thread.row.frames)) }
+        ensures few { IfSome result (λ _. (1 ≤ t) × (t ≤ 256)) }
     {
         match self.found(t) {
-            Some(thread) => Some(thread.1.last()),
+            Some(row) => Some(row.last()),
             None => None,
         }
     }

@@ -12,7 +12,7 @@ use Rattle.mg_calls_dom.proofs.lists.list_of.Goals as goal
 
 pub returns-in-Some-clause-via : goal.returns-in-Some-clause-via
 returns-in-Some-clause-via g c =
-    let (thread, lives, is) = c.in-Some.ensures in
+    let (thread, lives, is) = c.in-Some.ensures.found in
     IfOk-weaker c.list_among.result _ _
     (λ via under image told.
     let state = now_of c.args.v.now image in
@@ -24,4 +24,4 @@ returns-in-Some-clause-via g c =
 pub returns-in-None-clause-via : goal.returns-in-None-clause-via
 returns-in-None-clause-via g c image told =
     let state = now_of c.args.v.now image in
-    ap (λ (o : Option Thread). list_any (λ slot. slot_opens state c.args.sought.now slot) (option_map_or (λ (x : Thread). last_slots x.row.frames) o [])) (told_thread c.args.v.now image c.args.t None c.in-None.ensures)
+    ap (λ (o : Option Thread). list_any (λ slot. slot_opens state c.args.sought.now slot) (option_map_or (λ (x : Thread). last_slots x.row.frames) o [])) (told_thread c.args.v.now image c.args.t None c.in-None.ensures.found)

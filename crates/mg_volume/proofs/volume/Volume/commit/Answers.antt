@@ -22,7 +22,7 @@ pub commit-requires-clause-stands : goal.commit-requires-clause-stands
 commit-requires-clause-stands g c = pages_stand g.D.Disk (the_view c.self.inside) c.args.disk.now (rw (← c.self.view_is) at c.requires.stands)
 
 pub invariant_of-self : goal.invariant_of-self
-invariant_of-self g c = held_same (the_view c.self.inside) c.commit.new.self _ _ _ c.self.invariant c.commit.ensures.frames c.commit.ensures.table
+invariant_of-self g c = held_same (the_view c.self.inside) c.commit.new.self _ c.self.invariant c.commit.ensures.frames c.commit.ensures.table
 
 pub returns-clause-any_moment : goal.returns-clause-any_moment
 returns-clause-any_moment g c image told =

@@ -1,16 +1,16 @@
 use Rattle.std.proofs.Common.{None, Some}
 use Rattle.mg_model.specs.Access.{covers}
-use Rattle.mg_volume.proofs.Found.{object_found}
+use Rattle.mg_volume.proofs.Found.{row_found}
 use Rattle.mg_volume.proofs.FoundOwn.{found_own}
 use Rattle.mg_volume.specs.Meaning.{objects_in}
 use Rattle.mg_volume.proofs.volume.Volume.covering.Goals as goal
 
 pub returns-in-Some-clause-found : goal.returns-in-Some-clause-found
-returns-in-Some-clause-found c = object_found c.args.self.now (λ row. covers row c.args.a) (Some c.in-Some.o.now) c.in-Some.ensures
+returns-in-Some-clause-found c = row_found c.args.self.now (λ row. covers row c.args.a) (Some c.in-Some.row.now) c.in-Some.ensures
 
 pub returns-in-Some-clause-own : goal.returns-in-Some-clause-own
 returns-in-Some-clause-own c =
-    found_own (λ row. covers row c.args.a) (objects_in c.args.self.now) (Some c.in-Some.o.now.1) c.bases_differ.ensures (object_found c.args.self.now (λ row. covers row c.args.a) (Some c.in-Some.o.now) c.in-Some.ensures)
+    found_own (λ row. covers row c.args.a) (objects_in c.args.self.now) (Some c.in-Some.row.now) c.bases_differ.ensures (row_found c.args.self.now (λ row. covers row c.args.a) (Some c.in-Some.row.now) c.in-Some.ensures)
 
 pub returns-in-None-clause-found : goal.returns-in-None-clause-found
-returns-in-None-clause-found c = object_found c.args.self.now (λ row. covers row c.args.a) None c.in-None.ensures
+returns-in-None-clause-found c = row_found c.args.self.now (λ row. covers row c.args.a) None c.in-None.ensures

@@ -1,62 +1,65 @@
-use Rattle.std.proofs.Common.{◌∙◌, ap, subst, arith, refl, ⊎_elim, inl, inr}
-use Rattle.mg_volume.proofs.ObjectInserted.{few_enough, inserted_held, inserted_here, inserted_low, inserted_now, inserted_room, inserted_rows, inserted_spelled, inserted_still}
+use Rattle.std.proofs.Common.{refl, ⊎_elim, inl, inr}
+use Rattle.mg_volume.proofs.ObjectInserted.{inserted_held, inserted_here, inserted_low, inserted_now, inserted_room, inserted_rows, inserted_spelled, inserted_still, join_few, join_meets}
 use Rattle.mg_volume.proofs.ObjectStaged.{with_objects}
 use Rattle.mg_volume.proofs.Stages.{stages_is}
 use Rattle.mg_volume.proofs.Again.{pages_spelled}
 use Rattle.mg_volume.specs.Meaning.{staged_of}
-use Rattle.mg_volume.specs.Staging.{free_place}
-use Rattle.mg_volume.specs.StagesRows.{StagesRows}
 use Rattle.mg_volume.specs.contracts.volume.Volume.{the_view}
 use Rattle.mg_volume.proofs.volume.Volume.insert.Goals as goal
 
-pub add_object-requires-clause-few : goal.add_object-requires-clause-few
-add_object-requires-clause-few c =
+pub insert-place-requires-clause-few : goal.insert-place-requires-clause-few
+insert-place-requires-clause-few c =
     let join = rw (← c.self.view_is) at c.requires.join in
-    few_enough (the_view c.self.inside) c.args.row c.free_place-place.result c.base-base.ensures.kept c.self.invariant.kept join (c.free_place-place.ensures ∙ ap free_place c.deref.ensures.value)
+    join_few (the_view c.self.inside) c.args.row join
+
+pub insert-place-requires-clause-apart : goal.insert-place-requires-clause-apart
+insert-place-requires-clause-apart c =
+    let join = rw (← c.self.view_is) at c.requires.join in
+    join_meets (the_view c.self.inside) c.args.row join
 
 pub stage_row-requires-clause-place : goal.stage_row-requires-clause-place
 stage_row-requires-clause-place c =
     let join = rw (← c.self.view_is) at c.requires.join in
-    inserted_low (the_view c.self.inside) c.args.row c.free_place-place.result c.base-base.ensures.kept c.self.invariant.kept join (c.free_place-place.ensures ∙ ap free_place c.deref.ensures.value)
+    inserted_low (the_view c.self.inside) c.args.row c.insert-place.result c.base-base.ensures.kept c.self.invariant.kept join c.insert-place.ensures.place
 
 pub stage_row-requires-clause-room : goal.stage_row-requires-clause-room
 unfolding staged_of
 stage_row-requires-clause-room c =
     let join = rw (← c.self.view_is) at c.requires.join in
     let room = rw (← c.self.view_is) at c.requires.room in
-    ⊎_elim (λ waits. inl (inserted_room (the_view c.self.inside) c.args.row c.free_place-place.result c.base-base.ensures.kept c.self.invariant.kept join (c.free_place-place.ensures ∙ ap free_place c.deref.ensures.value) waits)) (λ few. inr few) room
+    ⊎_elim (λ waits. inl (inserted_room (the_view c.self.inside) c.args.row c.insert-place.result c.base-base.ensures.kept c.self.invariant.kept join c.insert-place.ensures.place waits)) (λ few. inr few) room
 
 pub invariant_of-self : goal.invariant_of-self
 invariant_of-self c =
     let join = rw (← c.self.view_is) at c.requires.join in
-    inserted_held (the_view c.self.inside) c.args.row c.free_place-place.result c.base-base.ensures.kept c.self.invariant.kept join (c.free_place-place.ensures ∙ ap free_place c.deref.ensures.value) c.stage_row.new.pages c.add_object.new.objects.items c.add_object.ensures.objects _ _ _ _ c.self.invariant (omega arith) c.stage_row.ensures.shape.frames c.stage_row.ensures.table
+    inserted_held (the_view c.self.inside) c.args.row c.insert-place.result c.base-base.ensures.kept c.self.invariant.kept join c.insert-place.ensures.place c.stage_row.new.pages c.insert-place.new.self c.insert-place.ensures.objects _ c.self.invariant c.stage_row.ensures.shape.frames c.stage_row.ensures.table
 
 pub returns-clause-now : goal.returns-clause-now
 returns-clause-now c image =
     let join = rw (← c.self.view_is) at c.requires.join in
     rw (← c.self.view_is)
-    (inserted_now (the_view c.self.inside) c.args.row c.free_place-place.result c.base-base.ensures.kept c.self.invariant.kept join (c.free_place-place.ensures ∙ ap free_place c.deref.ensures.value) c.stage_row.new.pages c.add_object.new.objects.items c.add_object.ensures.objects image c.stage_row.ensures.table (subst (λ l. StagesRows l c.free_place-place.result c.self.inside.pages c.stage_row.new.pages) c.deref-2.ensures.value c.stage_row.ensures.rows))
+    (inserted_now (the_view c.self.inside) c.args.row c.insert-place.result c.base-base.ensures.kept c.self.invariant.kept join c.insert-place.ensures.place c.stage_row.new.pages c.insert-place.new.self c.insert-place.ensures.objects image c.stage_row.ensures.table c.stage_row.ensures.rows)
 
 pub returns-clause-rows : goal.returns-clause-rows
 returns-clause-rows c =
     let join = rw (← c.self.view_is) at c.requires.join in
-    rw (← c.self.view_is) (inserted_rows (the_view c.self.inside) c.args.row c.free_place-place.result c.base-base.ensures.kept c.self.invariant.kept join (c.free_place-place.ensures ∙ ap free_place c.deref.ensures.value) c.stage_row.new.pages c.add_object.new.objects.items c.add_object.ensures.objects)
+    rw (← c.self.view_is) (inserted_rows (the_view c.self.inside) c.args.row c.insert-place.result c.base-base.ensures.kept c.self.invariant.kept join c.insert-place.ensures.place c.stage_row.new.pages c.insert-place.new.self c.insert-place.ensures.objects)
 
 pub returns-clause-stages : goal.returns-clause-stages
 returns-clause-stages c =
     let v = the_view c.self.inside in
     let join = rw (← c.self.view_is) at c.requires.join in
     rw (← c.self.view_is)
-    (stages_is v (with_objects v c.add_object.new.objects.items c.stage_row.new.pages) 1 refl c.stage_row.ensures.shape c.stage_row.ensures.words c.stage_row.ensures.staged
+    (stages_is v (with_objects v c.insert-place.new.self c.stage_row.new.pages) 1 refl c.stage_row.ensures.shape c.stage_row.ensures.words c.stage_row.ensures.staged
     (λ image was.
-    inserted_spelled v c.args.row c.free_place-place.result c.base-base.ensures.kept c.self.invariant.kept join (c.free_place-place.ensures ∙ ap free_place c.deref.ensures.value) c.stage_row.new.pages c.add_object.new.objects.items c.add_object.ensures.objects image was (c.stage_row.ensures.spelled image (pages_spelled v image was)) c.stage_row.ensures.shape.frames (subst (λ l. StagesRows l c.free_place-place.result c.self.inside.pages c.stage_row.new.pages) c.deref-2.ensures.value c.stage_row.ensures.rows)))
+    inserted_spelled v c.args.row c.insert-place.result c.base-base.ensures.kept c.self.invariant.kept join c.insert-place.ensures.place c.stage_row.new.pages c.insert-place.new.self c.insert-place.ensures.objects image was (c.stage_row.ensures.spelled image (pages_spelled v image was)) c.stage_row.ensures.shape.frames c.stage_row.ensures.rows))
 
 pub returns-clause-objects : goal.returns-clause-objects
 returns-clause-objects c =
     let join = rw (← c.self.view_is) at c.requires.join in
-    rw (← c.self.view_is) (inserted_still (the_view c.self.inside) c.args.row c.free_place-place.result c.base-base.ensures.kept c.self.invariant.kept join (c.free_place-place.ensures ∙ ap free_place c.deref.ensures.value) c.stage_row.new.pages c.add_object.new.objects.items c.add_object.ensures.objects 1 c.stage_row.ensures.staged)
+    rw (← c.self.view_is) (inserted_still (the_view c.self.inside) c.args.row c.insert-place.result c.base-base.ensures.kept c.self.invariant.kept join c.insert-place.ensures.place c.stage_row.new.pages c.insert-place.new.self c.insert-place.ensures.objects 1 c.stage_row.ensures.staged)
 
 pub returns-clause-here : goal.returns-clause-here
 returns-clause-here c =
     let join = rw (← c.self.view_is) at c.requires.join in
-    inserted_here (the_view c.self.inside) c.args.row c.free_place-place.result c.base-base.ensures.kept c.self.invariant.kept join (c.free_place-place.ensures ∙ ap free_place c.deref.ensures.value) c.stage_row.new.pages c.add_object.new.objects.items c.add_object.ensures.objects c.stage_row.ensures.here
+    inserted_here (the_view c.self.inside) c.args.row c.insert-place.result c.base-base.ensures.kept c.self.invariant.kept join c.insert-place.ensures.place c.stage_row.new.pages c.insert-place.new.self c.insert-place.ensures.objects c.stage_row.ensures.here

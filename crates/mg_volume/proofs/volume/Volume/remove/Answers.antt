@@ -1,6 +1,6 @@
-use Rattle.std.proofs.Common.{◌≡◌, ◌∙◌, ℕ, ap, arith, refl}
-use Rattle.mg_model.specs.State.{ObjectRow}
+use Rattle.std.proofs.Common.{◌≡◌, ◌∙◌, ℕ, arith, refl}
 use Rattle.mg_pages.specs.Meaning as pages
+use Rattle.mg_volume.proofs.ObjectChanged.{there_is}
 use Rattle.mg_volume.proofs.ObjectStaged.{with_objects}
 use Rattle.mg_volume.proofs.ObjectWithout.{Goes, goes, held_without, now_without, rows_without, shape_then, spelled_without, stages_then, still_without}
 use Rattle.mg_volume.proofs.Stages.{stages_is}
@@ -17,17 +17,17 @@ pub release_object-requires : goal.release_object-requires
 unfolding staged_of
 release_object-requires c = let few = rw (← c.self.view_is) at c.requires.few in let more = c.take_object-taken.ensures.staged.staged in omega arith
 
+pub take_object-taken-requires-clause-there : goal.take_object-taken-requires-clause-there
+take_object-taken-requires-clause-there c = let has = rw (← c.self.view_is) at c.requires.there in there_is (the_view c.self.inside) c.args.base has
+
 -- the object that is taken out is the one with the base
-gone_is : (c : goal.After-release_object) → Goes (the_view c.self.inside) c.index_of-i.result c.take_object-taken.result c.take_object-taken.new.objects.items
+gone_is : (c : goal.After-release_object) → (c.take_object-taken.result.1.base ≡ c.args.base) × (i : ℕ) × Goes (the_view c.self.inside) i c.take_object-taken.result c.take_object-taken.new.objects
 gone_is c =
-    let few = rw (← c.self.view_is) at c.index_of-i.ensures.within in
     let taken = c.take_object-taken.ensures in
-    goes (the_view c.self.inside) c.index_of-i.result c.take_object-taken.result c.take_object-taken.new.objects.items c.self.invariant.kept few taken.taken taken.objects
+    goes (the_view c.self.inside) c.args.base c.take_object-taken.result c.take_object-taken.new.objects c.self.invariant.kept taken.taken taken.objects
 
 base_is : (c : goal.After-release_object) → c.take_object-taken.result.1.base ≡ c.args.base
-base_is c =
-    let at = rw (← c.self.view_is) at c.index_of-i.ensures.base c.take_object-taken.result in
-    ap (λ (x : ℕ × ObjectRow). x.1.base) c.take_object-taken.ensures.taken ∙ at
+base_is c = (gone_is c).0
 
 more : (c : goal.After-release_object) → pages.StagesMore 129 c.self.inside.pages c.release_object.new.pages
 more c = stages_then 1 128 c.self.inside.pages c.take_object-taken.new.pages c.release_object.new.pages c.take_object-taken.ensures.staged c.release_object.ensures.staged
@@ -35,7 +35,7 @@ more c = stages_then 1 128 c.self.inside.pages c.take_object-taken.new.pages c.r
 pub invariant_of-self : goal.invariant_of-self
 invariant_of-self c =
     let taken = c.take_object-taken.ensures in
-    held_without (the_view c.self.inside) c.index_of-i.result c.take_object-taken.result c.take_object-taken.new.objects.items (gone_is c) c.take_object-taken.new.pages c.release_object.new.pages _ _ _ _ c.self.invariant taken.room
+    held_without (the_view c.self.inside) (gone_is c).1 c.take_object-taken.result c.take_object-taken.new.objects (gone_is c).2 c.take_object-taken.new.pages c.release_object.new.pages _ c.self.invariant
     (c.release_object.ensures.shape.frames ∙ taken.shape.frames) taken.table c.release_object.ensures.unbinds
 
 pub returns-clause-now : goal.returns-clause-now
@@ -43,25 +43,25 @@ returns-clause-now c image =
     let v = the_view c.self.inside in
     let taken = c.take_object-taken.ensures in
     rw (← c.self.view_is, ← base_is c)
-    (now_without v c.index_of-i.result c.take_object-taken.result c.take_object-taken.new.objects.items (gone_is c) c.take_object-taken.new.pages c.release_object.new.pages image c.self.invariant.kept taken.shape.frames taken.table taken.rows
+    (now_without v (gone_is c).1 c.take_object-taken.result c.take_object-taken.new.objects (gone_is c).2 c.take_object-taken.new.pages c.release_object.new.pages image c.self.invariant.kept taken.shape.frames taken.table taken.rows
     c.release_object.ensures.shape.frames (c.release_object.ensures.released image))
 
 pub returns-clause-rows : goal.returns-clause-rows
 returns-clause-rows c =
-    rw (← c.self.view_is, ← base_is c) (rows_without (the_view c.self.inside) c.index_of-i.result c.take_object-taken.result c.take_object-taken.new.objects.items (gone_is c) c.release_object.new.pages)
+    rw (← c.self.view_is, ← base_is c) (rows_without (the_view c.self.inside) (gone_is c).1 c.take_object-taken.result c.take_object-taken.new.objects (gone_is c).2 c.release_object.new.pages)
 
 pub returns-clause-stages : goal.returns-clause-stages
 returns-clause-stages c =
     let v = the_view c.self.inside in
     let taken = c.take_object-taken.ensures in
     rw (← c.self.view_is)
-    (stages_is v (with_objects v c.take_object-taken.new.objects.items c.release_object.new.pages) 129 refl (shape_then c.self.inside.pages c.take_object-taken.new.pages c.release_object.new.pages taken.shape c.release_object.ensures.shape)
+    (stages_is v (with_objects v c.take_object-taken.new.objects c.release_object.new.pages) 129 refl (shape_then c.self.inside.pages c.take_object-taken.new.pages c.release_object.new.pages taken.shape c.release_object.ensures.shape)
     (c.release_object.ensures.words ∙ taken.words) (more c)
     (λ image was.
     let middle = taken.spelled image (pages_spelled v image was) in
-    spelled_without v c.index_of-i.result c.take_object-taken.result c.take_object-taken.new.objects.items (gone_is c) c.take_object-taken.new.pages c.release_object.new.pages image was middle taken.shape.frames taken.rows
+    spelled_without v (gone_is c).1 c.take_object-taken.result c.take_object-taken.new.objects (gone_is c).2 c.take_object-taken.new.pages c.release_object.new.pages image was middle taken.shape.frames taken.rows
     (c.release_object.ensures.spelled image middle) c.release_object.ensures.shape.frames (c.release_object.ensures.released image)))
 
 pub returns-clause-objects : goal.returns-clause-objects
 returns-clause-objects c =
-    rw (← c.self.view_is) (still_without (the_view c.self.inside) c.index_of-i.result c.take_object-taken.result c.take_object-taken.new.objects.items (gone_is c) c.release_object.new.pages 129 (more c))
+    rw (← c.self.view_is) (still_without (the_view c.self.inside) (gone_is c).1 c.take_object-taken.result c.take_object-taken.new.objects (gone_is c).2 c.release_object.new.pages 129 (more c))

@@ -24,7 +24,7 @@ pub invariant_of-self : goal.invariant_of-self
 invariant_of-self g c =
     let v = the_view c.self.inside in
     let has = rw (← c.self.view_is) at c.requires.page in
-    held_again v c.set_word.new.self _ _ _ c.self.invariant c.set_word.ensures.shape.frames
+    held_again v c.set_word.new.self _ c.self.invariant c.set_word.ensures.shape.frames
     (λ x other is. ⊎_elim (λ this. inl (ap (λ page. has_page v page) this ∙ has)) (λ before. inr before) (c.set_word.ensures.binds x is))
 
 pub returns-clause-sets : goal.returns-clause-sets

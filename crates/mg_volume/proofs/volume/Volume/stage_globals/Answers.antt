@@ -14,7 +14,7 @@ stage-requires-clause-room c = counters_room (the_view c.self.inside) (rw (← c
 pub invariant_of-self : goal.invariant_of-self
 invariant_of-self c =
     let v = the_view c.self.inside in
-    held_same (record v { counters = c.args.g }) c.stage.new.self _ _ _ (held_counters v c.args.g _ _ _ c.self.invariant) c.stage.ensures.shape.frames c.stage.ensures.table
+    held_same (record v { counters = c.args.g }) c.stage.new.self _ (held_counters v c.args.g _ c.self.invariant) c.stage.ensures.shape.frames c.stage.ensures.table
 
 pub returns-clause-now : goal.returns-clause-now
 returns-clause-now c image =

@@ -14,14 +14,14 @@ stage-requires-clause-room c = thread_room (the_view c.self.inside) c.args.t (rw
 pub invariant_of-self : goal.invariant_of-self
 invariant_of-self c =
     let v = the_view c.self.inside in
-    held_same (record v { threads = c.put_row.new.rows.items }) c.stage.new.self _ _ _ (held_threads v c.put_row.new.rows.items _ _ _ _ c.self.invariant c.put_row.ensures.few c.put_row.ensures.room) c.stage.ensures.shape.frames c.stage.ensures.table
+    held_same (record v { threads = c.put.new.self }) c.stage.new.self _ (held_threads v c.put.new.self _ c.self.invariant c.keep_rules.ensures.few) c.stage.ensures.shape.frames c.stage.ensures.table
 
 pub returns-clause-now : goal.returns-clause-now
 returns-clause-now c image is =
     let was = rw (← c.self.view_is) at is in
     let number : c.args.t - 1 + 1 ≡ c.args.t = omega arith in
     rw (← c.self.view_is)
-    (thread_now (the_view c.self.inside) c.stage.new.self image c.args.t (c.args.t - 1) c.args.row c.put_row.new.rows.items c.thread_block-block.result number (omega arith) (c.stage.ensures.coming image) c.put_row.ensures.rows was c.stage.ensures.table)
+    (thread_now (the_view c.self.inside) c.stage.new.self image c.args.t (c.args.t - 1) c.args.row c.put.new.self c.thread_block-block.result number (omega arith) (c.stage.ensures.coming image) c.put.ensures was c.stage.ensures.table)
 
 pub returns-clause-rows : goal.returns-clause-rows
 unfolding objects_in
@@ -32,14 +32,14 @@ returns-clause-stages c =
     let v = the_view c.self.inside in
     let number : c.args.t - 1 + 1 ≡ c.args.t = omega arith in
     rw (← c.self.view_is)
-    (stages_is v (with_threads v c.put_row.new.rows.items c.stage.new.self) 1 refl c.stage.ensures.shape c.stage.ensures.words c.stage.ensures.staged
+    (stages_is v (with_threads v c.put.new.self c.stage.new.self) 1 refl c.stage.ensures.shape c.stage.ensures.words c.stage.ensures.staged
     (λ image was.
-    thread_spelled v c.stage.new.self image c.args.t (c.args.t - 1) c.args.row c.put_row.new.rows.items c.thread_block-block.result number (omega arith) (c.stage.ensures.coming image) c.put_row.ensures.rows was (c.stage.ensures.spelled image) c.stage.ensures.shape.frames c.thread_block-block.ensures))
+    thread_spelled v c.stage.new.self image c.args.t (c.args.t - 1) c.args.row c.put.new.self c.thread_block-block.result number (omega arith) (c.stage.ensures.coming image) c.put.ensures was (c.stage.ensures.spelled image) c.stage.ensures.shape.frames c.thread_block-block.ensures))
 
 pub returns-clause-objects : goal.returns-clause-objects
 returns-clause-objects c =
     let v = the_view c.self.inside in
-    rw (← c.self.view_is) (objects_wait v (with_threads v c.put_row.new.rows.items c.stage.new.self) refl c.stage.ensures.staged.still)
+    rw (← c.self.view_is) (objects_wait v (with_threads v c.put.new.self c.stage.new.self) refl c.stage.ensures.staged.still)
 
 pub returns-clause-here : goal.returns-clause-here
-returns-clause-here c = thread_here (with_threads (the_view c.self.inside) c.put_row.new.rows.items c.stage.new.self) c.args.t c.stage.ensures.here
+returns-clause-here c = thread_here (with_threads (the_view c.self.inside) c.put.new.self c.stage.new.self) c.args.t c.stage.ensures.here

@@ -1,10 +1,9 @@
-use Rattle.std.proofs.Common.{ap, None, Some, option_map}
-use Rattle.mg_model.specs.State.{Thread}
+use Rattle.std.proofs.Common.{None, Some}
 use Rattle.mg_volume.proofs.Found.{thread_found}
 use Rattle.mg_volume.proofs.volume.Volume.thread.Goals as goal
 
-pub returns-in-Some : goal.returns-in-Some
-returns-in-Some c = ap (option_map (λ (thread : Thread). thread.row)) (thread_found c.args.self.now c.args.t (Some c.in-Some.thread.now) c.in-Some.ensures)
+pub returns-in-Some-clause-found : goal.returns-in-Some-clause-found
+returns-in-Some-clause-found c = thread_found c.args.self.now c.args.t (Some c.in-Some.row.now) c.in-Some.ensures.found
 
-pub returns-in-None : goal.returns-in-None
-returns-in-None c = ap (option_map (λ (thread : Thread). thread.row)) (thread_found c.args.self.now c.args.t None c.in-None.ensures)
+pub returns-in-None-clause-found : goal.returns-in-None-clause-found
+returns-in-None-clause-found c = thread_found c.args.self.now c.args.t None c.in-None.ensures.found

@@ -20,7 +20,7 @@ pub word-requires-clause-page : goal.word-requires-clause-page
 word-requires-clause-page g c = some_page (the_view c.self.inside) c.args.page c.self.invariant.kept (rw (← c.self.view_is) at c.requires.page)
 
 pub invariant_of-self : goal.invariant_of-self
-invariant_of-self g c = held_same (the_view c.self.inside) c.word.new.self _ _ _ c.self.invariant c.word.ensures.keeps.shape.frames c.word.ensures.keeps.table
+invariant_of-self g c = held_same (the_view c.self.inside) c.word.new.self _ c.self.invariant c.word.ensures.keeps.shape.frames c.word.ensures.keeps.table
 
 pub returns-clause-word : goal.returns-clause-word
 returns-clause-word g c =

@@ -1,0 +1,202 @@
+-- Threads by their numbers: the rows of a table, each in its place, and the list of those that are there.
+use Rattle.std.specs.Prelude.{◌≡◌, ◌+◌, ◌-◌, ◌≤◌, ◌<◌, ◌==◌, ℕ, zero, suc, All, AllPairs, List, [], ◌∷◌, ◌++◌, find, if◌then◌else◌, length, option_map, replicate, slice_set, take, Option, Some, None}
+use Rattle.std.specs.Option.{ForSome}
+use Rattle.std.proofs.Common.{refl, sym, ap, get_or, subst, ◌∙◌, ⊎_elim, arith, length-set}
+use Rattle.std.proofs.lemmas.Bool.{cases_eq, eq-eqb, le-ltb, lt-ltb, ne_eqb}
+use Rattle.std.proofs.lemmas.List.{get_or-take, get_or_default, length-replicate, length-take, take_more}
+use Rattle.std.proofs.lemmas.List.Elements.{All-cons, All-head, All-nil, All-replicate, All-set, All-tail}
+use Rattle.mg_check.specs.RowsRead as check
+use Rattle.mg_model.specs.KeptLists.{AllPairs-head, AllPairs-tail}
+use Rattle.mg_model.specs.Layout.{thread_rows}
+use Rattle.mg_model.specs.Ranges.{IsThreadRow}
+use Rattle.mg_model.specs.State.{ThreadRow}
+use Rattle.mg_model.specs.Volume.{with_live}
+use Rattle.mg_objects.specs.Held.{live_from}
+use Rattle.mg_volume.proofs.ThreadLists.{numbered_set}
+use Rattle.mg_volume.specs.Numbered.{AreByNumber, numbered, rows_with}
+use Rattle.mg_volume.specs.RowLists.{ArePlaced, placed_wider, row_at, row_before, row_set}
+
+-- the rows that are there, in the order of their places
+pub live-placed : {R : Type 0} (i : ℕ) (rows : List (Option R)) → ArePlaced i (i + length rows) (live_from i rows)
+live-placed i [] = tt
+live-placed i (None ∷ rows) = placed_wider (i + 1) i (i + 1 + length rows) (i + suc (length rows)) (live_from (i + 1) rows) (omega arith) (omega arith) (live-placed (i + 1) rows)
+live-placed i (Some row ∷ rows) = (omega arith, omega arith, placed_wider (i + 1) (i + 1) (i + 1 + length rows) (i + suc (length rows)) (live_from (i + 1) rows) (omega arith) (omega arith) (live-placed (i + 1) rows))
+
+pub live-at : {R : Type 0} (i : ℕ) (rows : List (Option R)) (k : ℕ) → row_at (i + k) (live_from i rows) ≡ get_or rows k None
+live-at i [] k = refl
+live-at i (None ∷ rows) zero = row_before (i + 1) (i + 1 + length rows) (i + zero) (live_from (i + 1) rows) (live-placed (i + 1) rows) (omega arith)
+live-at i (Some row ∷ rows) zero = ap (λ b. if b then Some row else row_at (i + zero) (live_from (i + 1) rows)) (eq-eqb i (i + zero) (omega arith))
+live-at i (None ∷ rows) (suc k) = let e : i + suc k ≡ i + 1 + k = omega arith in ap (λ n. row_at n (live_from (i + 1) rows)) e ∙ live-at (i + 1) rows k
+live-at i (Some row ∷ rows) (suc k) =
+    let e : i + suc k ≡ i + 1 + k = omega arith in
+    ap (λ b. if b then Some row else row_at (i + suc k) (live_from (i + 1) rows)) (ne_eqb i (i + suc k) (λ is. omega arith)) ∙ ap (λ n. row_at n (live_from (i + 1) rows)) e ∙ live-at (i + 1) rows k
+
+-- with another one in a place, or none there
+live-cons : {R : Type 0} (i : ℕ) (row : Option R) (rows : List (Option R)) → live_from i (row ∷ rows) ≡ with_live i row (live_from (i + 1) rows)
+live-cons i None rows = refl
+live-cons i (Some row) rows = refl
+
+set-front : {R : Type 0} (low high p : ℕ) (new : Option R) (xs : List (ℕ × R)) → ArePlaced low high xs → p < low → row_set p new xs ≡ with_live p new xs
+set-front low high p new [] placed before = refl
+set-front low high p new ((j, r) ∷ xs) placed before =
+    let above = placed.0 in
+    ap (λ b. if b then with_live p new ((j, r) ∷ xs) else if p == j then with_live p new xs else (j, r) ∷ row_set p new xs) (lt-ltb p j (omega arith))
+
+pub live-set : {R : Type 0} (i : ℕ) (rows : List (Option R)) (k : ℕ) (new : Option R) → k < length rows → live_from i (slice_set rows k new) ≡ row_set (i + k) new (live_from i rows)
+live-set i [] k new under = absurd (omega arith)
+live-set i (None ∷ rows) zero new under =
+    let e : i ≡ i + zero = omega arith in
+    live-cons i new rows ∙ ap (λ n. with_live n new (live_from (i + 1) rows)) e ∙ sym (set-front (i + 1) (i + 1 + length rows) (i + zero) new (live_from (i + 1) rows) (live-placed (i + 1) rows) (omega arith))
+live-set i (Some r ∷ rows) zero new under =
+    let e : i ≡ i + zero = omega arith in
+    let rest = live_from (i + 1) rows in
+    live-cons i new rows ∙ ap (λ n. with_live n new rest) e
+    ∙ sym (ap (λ b. if b then with_live (i + zero) new ((i, r) ∷ rest) else if i + zero == i then with_live (i + zero) new rest else (i, r) ∷ row_set (i + zero) new rest) (le-ltb (i + zero) i (omega arith))
+    ∙ ap (λ b. if b then with_live (i + zero) new rest else (i, r) ∷ row_set (i + zero) new rest) (eq-eqb (i + zero) i (omega arith)))
+live-set i (None ∷ rows) (suc k) new under =
+    let e : i + 1 + k ≡ i + suc k = omega arith in
+    live-set (i + 1) rows k new (omega arith) ∙ ap (λ n. row_set n new (live_from (i + 1) rows)) e
+live-set i (Some r ∷ rows) (suc k) new under =
+    let e : i + 1 + k ≡ i + suc k = omega arith in
+    let rest = live_from (i + 1) rows in
+    ap (λ xs. (i, r) ∷ xs) (live-set (i + 1) rows k new (omega arith) ∙ ap (λ n. row_set n new rest) e)
+    ∙ sym (ap (λ b. if b then with_live (i + suc k) new ((i, r) ∷ rest) else if i + suc k == i then with_live (i + suc k) new rest else (i, r) ∷ row_set (i + suc k) new rest) (le-ltb (i + suc k) i (omega arith))
+    ∙ ap (λ b. if b then with_live (i + suc k) new rest else (i, r) ∷ row_set (i + suc k) new rest) (ne_eqb (i + suc k) i (λ is. omega arith)))
+
+pub put_is : (rows : List (Option ThreadRow)) (t : ℕ) (new : Option ThreadRow) → 1 ≤ t → t ≤ length rows → numbered (live_from 0 (slice_set rows (t - 1) new)) ≡ rows_with t new (numbered (live_from 0 rows))
+put_is rows t new some few =
+    let here : 0 + (t - 1) ≡ t - 1 = omega arith in
+    let number : t - 1 + 1 ≡ t = omega arith in
+    ap numbered (live-set 0 rows (t - 1) new (omega arith) ∙ ap (λ n. row_set n new (live_from 0 rows)) here)
+    ∙ numbered_set 0 (0 + length rows) (t - 1) new (live_from 0 rows) (live-placed 0 rows)
+    ∙ ap (λ n. rows_with n new (numbered (live_from 0 rows))) number
+
+pub put_held : (rows : List (Option ThreadRow)) (k : ℕ) (new : Option ThreadRow) → ForSome new IsThreadRow → AreByNumber rows → AreByNumber (slice_set rows k new)
+put_held rows k new good held = record {
+  long = length-set rows k new ∙ held.long;
+  ranges = All-set (λ (row : Option ThreadRow). ForSome row IsThreadRow) rows k new good held.ranges;
+}
+
+-- no thread
+live-none : (i n : ℕ) → live_from {R = ThreadRow} i (replicate n None) ≡ []
+live-none i zero = refl
+live-none i (suc n) = live-none (i + 1) n
+
+pub none_is : (rows : List (Option ThreadRow)) → rows ≡ replicate 256 None → numbered (live_from 0 rows) ≡ []
+none_is rows is = ap (λ xs. numbered (live_from 0 xs)) is ∙ ap numbered (live-none 0 256)
+
+none-row : (x : ThreadRow) → None ≡ Some x → ⊥
+none-row x is = cc
+
+pub none_held : (rows : List (Option ThreadRow)) → rows ≡ replicate 256 None → AreByNumber rows
+none_held rows is = record {
+  long = ap length is ∙ (let l : length (replicate 256 free) ≡ 256 = length-replicate 256 free in l);
+  ranges = let P : List (Option ThreadRow) → Type 0 = All (λ (row : Option ThreadRow). ForSome row IsThreadRow) in subst P (sym is) (All-replicate (λ (row : Option ThreadRow). ForSome row IsThreadRow) 256 None (λ x same. absurd (none-row x same)));
+}
+  where
+    free : Option ThreadRow
+    free = None
+
+-- a thread by its number
+find-number : (xs : List (ℕ × ThreadRow)) (k : ℕ) → option_map (λ (x : ℕ × ThreadRow). x.1) (find (λ (x : ℕ × ThreadRow). x.0 == k + 1) (numbered xs)) ≡ row_at k xs
+find-number [] k = refl
+find-number ((i, r) ∷ xs) k =
+    ⊎_elim
+    (λ (here : i ≡ k).
+    ap (λ b. option_map (λ (x : ℕ × ThreadRow). x.1) (if b then Some (i + 1, r) else find (λ (x : ℕ × ThreadRow). x.0 == k + 1) (numbered xs))) (eq-eqb (i + 1) (k + 1) (ap (λ n. n + 1) here))
+    ∙ sym (ap (λ b. if b then Some r else row_at k xs) (eq-eqb i k here)))
+    (λ other.
+    ap (λ b. option_map (λ (x : ℕ × ThreadRow). x.1) (if b then Some (i + 1, r) else find (λ (x : ℕ × ThreadRow). x.0 == k + 1) (numbered xs))) (ne_eqb (i + 1) (k + 1) (λ is. omega arith))
+    ∙ find-number xs k
+    ∙ sym (ap (λ b. if b then Some r else row_at k xs) (ne_eqb i k other)))
+    (cases_eq i k)
+
+pub thread_at : (rows : List (Option ThreadRow)) (t : ℕ) → 1 ≤ t → option_map (λ (x : ℕ × ThreadRow). x.1) (find (λ (x : ℕ × ThreadRow). x.0 == t) (numbered (live_from 0 rows))) ≡ get_or rows (t - 1) None
+thread_at rows t some =
+    let number : t ≡ t - 1 + 1 = omega arith in
+    let here : t - 1 ≡ 0 + (t - 1) = omega arith in
+    ap (λ n. option_map (λ (x : ℕ × ThreadRow). x.1) (find (λ (x : ℕ × ThreadRow). x.0 == n) (numbered (live_from 0 rows)))) number
+    ∙ find-number (live_from 0 rows) (t - 1)
+    ∙ ap (λ n. row_at n (live_from 0 rows)) here
+    ∙ live-at 0 rows (t - 1)
+
+pub thread_zero : (xs : List (ℕ × ThreadRow)) → option_map (λ (x : ℕ × ThreadRow). x.1) (find (λ (x : ℕ × ThreadRow). x.0 == 0) (numbered xs)) ≡ None
+thread_zero [] = refl
+thread_zero ((i, r) ∷ xs) =
+    ap (λ b. option_map (λ (x : ℕ × ThreadRow). x.1) (if b then Some (i + 1, r) else find (λ (x : ℕ × ThreadRow). x.0 == 0) (numbered xs))) (ne_eqb (i + 1) 0 (λ is. omega arith)) ∙ thread_zero xs
+
+-- how many there are, and their ranges
+placed-few : {R : Type 0} (low high : ℕ) (xs : List (ℕ × R)) → ArePlaced low high xs → low ≤ high → length xs + low ≤ high
+placed-few low high [] placed within = omega arith
+placed-few low high ((i, r) ∷ xs) placed within =
+    let above = placed.0 in
+    let below = placed.1 in
+    let rest = placed-few (i + 1) high xs placed.2 (omega arith) in
+    omega arith
+
+length-numbered : (rows : List (ℕ × ThreadRow)) → length (numbered rows) ≡ length rows
+length-numbered [] = refl
+length-numbered (t ∷ rows) = let l = length-numbered rows in omega arith
+
+pub few_are : (rows : List (Option ThreadRow)) → AreByNumber rows → length (numbered (live_from 0 rows)) ≤ 256
+few_are rows held =
+    let few = placed-few 0 (0 + length rows) (live_from 0 rows) (live-placed 0 rows) (omega arith) in
+    let same = length-numbered (live_from 0 rows) in
+    let long = held.long in
+    omega (arith, few, same, long)
+
+live-ranges : (i : ℕ) (rows : List (Option ThreadRow)) → All (λ (row : Option ThreadRow). ForSome row IsThreadRow) rows → All (λ (t : ℕ × ThreadRow). IsThreadRow t.1) (numbered (live_from i rows))
+live-ranges i [] all = All-nil (λ (t : ℕ × ThreadRow). IsThreadRow t.1)
+live-ranges i (None ∷ rows) all = live-ranges (i + 1) rows (All-tail (λ (row : Option ThreadRow). ForSome row IsThreadRow) None rows all)
+live-ranges i (Some row ∷ rows) all =
+    All-cons (λ (t : ℕ × ThreadRow). IsThreadRow t.1) (i + 1, row) (numbered (live_from (i + 1) rows)) (All-head (λ (row : Option ThreadRow). ForSome row IsThreadRow) (Some row) rows all row refl)
+    (live-ranges (i + 1) rows (All-tail (λ (row : Option ThreadRow). ForSome row IsThreadRow) (Some row) rows all))
+
+pub ranges_are : (rows : List (Option ThreadRow)) → AreByNumber rows → All (λ (t : ℕ × ThreadRow). IsThreadRow t.1) (numbered (live_from 0 rows))
+ranges_are rows held = live-ranges 0 rows held.ranges
+
+-- rows that come in the order of their places
+set-behind : {R : Type 0} (p : ℕ) (row : R) (xs : List (ℕ × R)) → All (λ (x : ℕ × R). x.0 < p) xs → row_set p (Some row) xs ≡ xs ++ (p, row) ∷ []
+set-behind p row [] low = refl
+set-behind {R} p row ((i, r) ∷ xs) low =
+    let here = All-head (λ (x : ℕ × R). x.0 < p) (i, r) xs low in
+    ap (λ b. if b then with_live p (Some row) ((i, r) ∷ xs) else if p == i then with_live p (Some row) xs else (i, r) ∷ row_set p (Some row) xs) (le-ltb p i (omega arith))
+    ∙ ap (λ b. if b then with_live p (Some row) xs else (i, r) ∷ row_set p (Some row) xs) (ne_eqb p i (λ is. omega arith))
+    ∙ ap (λ ys. (i, r) ∷ ys) (set-behind p row xs (All-tail (λ (x : ℕ × R). x.0 < p) (i, r) xs low))
+
+placed-rows : {R : Type 0} (low high : ℕ) (xs : List (ℕ × R)) → All (λ (x : ℕ × R). low ≤ x.0) xs → All (λ (x : ℕ × R). x.0 < high) xs → AllPairs (λ (x y : ℕ × R). x.0 < y.0) xs → ArePlaced low high xs
+placed-rows low high [] from below rise = tt
+placed-rows {R} low high ((i, r) ∷ xs) from below rise = (
+  All-head (λ (x : ℕ × R). low ≤ x.0) (i, r) xs from,
+  All-head (λ (x : ℕ × R). x.0 < high) (i, r) xs below,
+  placed-rows (i + 1) high xs (λ k d under. let h = AllPairs-head (λ (x y : ℕ × R). x.0 < y.0) (i, r) xs rise k d under in omega arith) (All-tail (λ (x : ℕ × R). x.0 < high) (i, r) xs below)
+      (AllPairs-tail (λ (x y : ℕ × R). x.0 < y.0) (i, r) xs rise),
+)
+
+pub next_row : (rows : List (ℕ × ThreadRow)) (i : ℕ) (o : ℕ × ThreadRow) → check.ArePlaced thread_rows rows → i < length rows → o ≡ get_or rows i o → rows_with (o.0 + 1) (Some o.1) (numbered (take i rows)) ≡ numbered (take (i + 1) rows)
+next_row rows i o placed under at =
+    sym (numbered_set 0 thread_rows o.0 (Some o.1) (take i rows) (placed-rows 0 thread_rows (take i rows) (λ k d few. omega arith) below rise))
+    ∙ ap numbered (set-behind o.0 o.1 (take i rows) low ∙ ap (λ x. take i rows ++ x ∷ []) at ∙ sym (take_more rows i o under))
+  where
+    read : (k : ℕ) (d : ℕ × ThreadRow) → k < length (take i rows) → (k < i) × (k < length rows) × (get_or (take i rows) k d ≡ get_or rows k d)
+    read k d few = let l = length-take i rows in (omega arith, omega arith, get_or-take i rows k d (omega arith))
+
+    below : All (λ (x : ℕ × ThreadRow). x.0 < thread_rows) (take i rows)
+    below k d few = let r = read k d few in let b = placed.below k d r.1 in let e = ap (λ (x : ℕ × ThreadRow). x.0) r.2 in omega arith
+
+    low : All (λ (x : ℕ × ThreadRow). x.0 < o.0) (take i rows)
+    low k d few =
+        let r = read k d few in
+        let before = placed.rise k i d r.0 under in
+        let a = ap (λ (x : ℕ × ThreadRow). x.0) r.2 in
+        let b = ap (λ (x : ℕ × ThreadRow). x.0) (at ∙ get_or_default rows i o d under) in
+        omega arith
+
+    rise : (j k : ℕ) (d : ℕ × ThreadRow) → j < k → k < length (take i rows) → (get_or (take i rows) j d).0 < (get_or (take i rows) k d).0
+    rise j k d before few =
+        let at_k = read k d few in
+        let at_j = read j d (omega arith) in
+        let up = placed.rise j k d before at_k.1 in
+        let a = ap (λ (x : ℕ × ThreadRow). x.0) at_j.2 in
+        let b = ap (λ (x : ℕ × ThreadRow). x.0) at_k.2 in
+        omega arith

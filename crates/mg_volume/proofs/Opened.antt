@@ -1,0 +1,296 @@
+-- A volume is opened from the rows that were read of it.
+use Rattle.std.specs.Prelude.{◌≡◌, ◌≤◌, ◌<◌, ℕ, ◌&&◌, nat_le, true, List, [], ◌∷◌, length, map, sum_by, drop, IsSomeAnd, Option, Some, None}
+use Rattle.std.specs.List.{list_all, list_any}
+use Rattle.std.specs.Option.{ForSome, option_map_or}
+use Rattle.std.proofs.Common.{refl, sym, ap, subst, ◌∙◌, arith}
+use Rattle.std.proofs.lemmas.Bool.{and_from, and_parts, leb-true}
+use Rattle.mg_check.specs.RowsRead.{AreKept, IsReadAs, rows_in, state_in}
+use Rattle.mg_check.specs.declared.volume_rows.VolumeRows.{VolumeRows}
+use Rattle.mg_disk.specs.Disk.{Image}
+use Rattle.mg_disk.specs.Runs.{leaves_wider}
+use Rattle.mg_disk.specs.Stops.{Leaves}
+use Rattle.mg_disk.specs.declared.disk.Disk.{Ghosts}
+use Rattle.mg_journal.specs.Contents.{SameContents}
+use Rattle.mg_journal.specs.ResultLemmas.{some_of}
+use Rattle.mg_journal.specs.Standing as journal
+use Rattle.mg_journal.specs.declared.store.Store.{Store}
+use Rattle.mg_model.specs.declared.accounts.AccRow.{AccRow}
+use Rattle.mg_model.specs.Bytes.{are_zeros}
+use Rattle.mg_model.specs.Layout.{account_rows, globals_block, object_rows, thread_rows, total_blocks}
+use Rattle.mg_model.specs.Ranges.{IsObjectRow}
+use Rattle.mg_model.specs.Replay.{block_of, replay}
+use Rattle.mg_model.specs.Spelling.{account_read, globals_read, object_read, thread_read}
+use Rattle.mg_model.specs.State.{Object, ObjectRow, State, ThreadRow}
+use Rattle.mg_model.specs.Tests.{all_distinct}
+use Rattle.mg_model.specs.Volume.{Rows, account_row_bytes, accounts_fit, bound_pages, has_no_gap, is_page_of, live_rows, object_row_bytes, objects_fit, replayed_volume, state_fits, table_of, thread_row_bytes, threads_fit, volume, whole_table}
+use Rattle.mg_objects.specs.Held.{AreApart, by_base}
+use Rattle.mg_pages.specs.Held.{PagesHeld}
+use Rattle.mg_pages.specs.Laws as laws
+use Rattle.mg_pages.specs.Meaning as pages
+use Rattle.mg_volume.proofs.BareRows.{sum_bare}
+use Rattle.mg_volume.proofs.ObjectLists.{by_base_all}
+use Rattle.mg_volume.proofs.ObjectOrder.{into_length}
+use Rattle.mg_volume.proofs.ObjectRemoved.{apart_pairs}
+use Rattle.mg_volume.proofs.OpenRuns.{Still}
+use Rattle.mg_volume.proofs.Reread.{IsThere, replays, row_parts, there}
+use Rattle.mg_volume.specs.Contents.{volume_of_replay}
+use Rattle.mg_volume.specs.Held.{VolumeHeld}
+use Rattle.mg_volume.specs.Meaning.{IsHeld, IsSpelledBy, Spelled, StandsOn, has_page, is_live, is_sound, now_of, objects_in, rows_apart, staged_of, threads_in, total_of}
+use Rattle.mg_volume.specs.Numbered.{numbered}
+use Rattle.mg_volume.specs.Opening.{Opens}
+use Rattle.mg_volume.specs.Sound.{accounts-placed, all-same, all_spelled, coming_kept, in-object, objects-fit, objects-placed, rows-spelled, rows_fit, threads-numbered}
+
+-- the volume that holds these rows
+abbrev pub holding : VolumeRows → PagesHeld → VolumeHeld
+holding rows p = record {
+  settings = rows.params;
+  counters = rows.globals;
+  objects = by_base rows.objects.items;
+  accounts = rows.accounts.items;
+  threads = numbered rows.threads.items;
+  pages = p;
+}
+
+-- the rules that rows keep, one by one
+pub record AreFit (rows : Rows) (state : State) : Type 0 where
+  pub accounts : accounts_fit state.settings.credits state.counters.period state.accounts ≡ true
+  pub objects : objects_fit state.settings.frames (length state.accounts) state.objects ≡ true
+  pub threads : threads_fit state.counters.births state.threads ≡ true
+  pub inside : list_all (λ page. list_any (λ object. is_page_of page object) state.objects) (bound_pages rows.table) ≡ true
+  pub distinct : all_distinct (bound_pages rows.table) ≡ true
+
+are-fit : (rows : Rows) (state : State) → state_fits rows state ≡ true → AreFit rows state
+are-fit rows state fit =
+    let g = has_no_gap 0 rows.accounts in
+    let a = accounts_fit state.settings.credits state.counters.period state.accounts in
+    let o = objects_fit state.settings.frames (length state.accounts) state.objects in
+    let t = threads_fit state.counters.births state.threads in
+    let i = list_all (λ page. list_any (λ object. is_page_of page object) state.objects) (bound_pages rows.table) in
+    let d = all_distinct (bound_pages rows.table) in
+    let first = and_parts (g && a && o && t) (i && d) fit in
+    let second = and_parts (g && a && o) t first.0 in
+    let third = and_parts (g && a) o second.0 in
+    let fourth = and_parts g a third.0 in
+    let last = and_parts i d first.1 in
+    record { accounts = fourth.1; objects = third.1; threads = second.1; inside = last.0; distinct = last.1 }
+
+by-base-length : (rows : List (ℕ × ObjectRow)) → length (by_base rows) ≡ length rows
+by-base-length [] = refl
+by-base-length (o ∷ rows) = let l = into_length o (by_base rows) in let r = by-base-length rows in omega arith
+
+length-numbered : (rows : List (ℕ × ThreadRow)) → length (numbered rows) ≡ length rows
+length-numbered [] = refl
+length-numbered (t ∷ rows) = let l = length-numbered rows in omega arith
+
+module _ (rows : VolumeRows) (kept : AreKept rows) where
+  pub fits : (r : Image) → AreFit (rows_in rows) (state_in rows r)
+  fits r = are-fit (rows_in rows) (state_in rows r) (kept.fit r)
+
+  -- no page stands twice in the frame table
+  pub distinct_is : all_distinct (bound_pages rows.table.items) ≡ true
+  distinct_is = (fits []).distinct
+
+  -- the rules between objects, of their rows
+  fit-rows : rows_fit rows.params.frames (length rows.accounts.items) (map (λ (o : ℕ × ObjectRow). o.1) (by_base rows.objects.items)) ≡ true
+  fit-rows =
+      let frames = rows.params.frames in
+      let n = length rows.accounts.items in
+      let same : length (state_in rows []).accounts ≡ n = ap length (accounts-placed 0 rows.accounts.items) in
+      let objects = all_spelled [] frames rows.table.items (by_base rows.objects.items) in
+      ap (rows_fit frames n) (sym (rows-spelled [] frames rows.table.items (by_base rows.objects.items)))
+      ∙ sym (objects-fit frames n objects)
+      ∙ ap (λ k. objects_fit frames k objects) (sym same)
+      ∙ ap (objects_fit frames (length (state_in rows []).accounts)) (sym (objects-placed [] frames rows.table.items rows.objects.items))
+      ∙ (fits []).objects
+
+  apart-rows : rows_apart (map (λ (o : ℕ × ObjectRow). o.1) (by_base rows.objects.items)) ≡ true
+  apart-rows =
+      let bare = map (λ (o : ℕ × ObjectRow). o.1) (by_base rows.objects.items) in
+      let paid = list_all (λ (row : ObjectRow). nat_le row.account (length rows.accounts.items)) bare in
+      let few = nat_le (sum_by (λ (row : ObjectRow). row.pages) bare) rows.params.frames in
+      (and_parts (rows_apart bare) paid (and_parts (rows_apart bare && paid) few fit-rows).0).0
+
+  used-rows : sum_by (λ (o : ℕ × ObjectRow). o.1.pages) (by_base rows.objects.items) ≤ rows.params.frames
+  used-rows =
+      let bare = map (λ (o : ℕ × ObjectRow). o.1) (by_base rows.objects.items) in
+      let paid = list_all (λ (row : ObjectRow). nat_le row.account (length rows.accounts.items)) bare in
+      let few = nat_le (sum_by (λ (row : ObjectRow). row.pages) bare) rows.params.frames in
+      let sum = sum_bare (λ (row : ObjectRow). row.pages) (by_base rows.objects.items) in
+      let most = leb-true (sum_by (λ (row : ObjectRow). row.pages) bare) rows.params.frames (and_parts (rows_apart bare && paid) few fit-rows).1 in
+      omega arith
+
+  pub apart_is : AreApart (by_base rows.objects.items)
+  apart_is = apart_pairs (by_base rows.objects.items) apart-rows
+
+  -- with pages of the frame table that was read
+  module _ (p : PagesHeld) (table : pages.table_in p ≡ rows.table.items) (frames : pages.frame_count p ≡ length rows.table.items) where
+    same_frames : pages.frame_count p ≡ rows.params.frames
+    same_frames = frames ∙ kept.held.entries
+
+    -- the state of the volume is the one that the rows spell
+    state_is : (image : Image) → state_in rows (pages.coming p image) ≡ now_of (holding rows p) image
+    unfolding now_of threads_in
+    state_is image =
+        let r = pages.coming p image in
+        let n = rows.params.frames in
+        let v = holding rows p in
+        let made : List Object → List AccRow → State = λ objects accounts. record { settings = rows.params; counters = rows.globals; objects = objects; accounts = accounts; threads = threads_in v } in
+        ap (λ objects. record (state_in rows r) { objects = objects }) (objects-placed r n rows.table.items rows.objects.items ∙ ap (λ t. all_spelled r n t (by_base rows.objects.items)) (sym table))
+        ∙ ap (λ accounts. record (state_in rows r) { objects = all_spelled r n (pages.table_in p) (by_base rows.objects.items); accounts = accounts }) (accounts-placed 0 rows.accounts.items)
+        ∙ ap (λ threads. record (state_in rows r) { objects = all_spelled r n (pages.table_in p) (by_base rows.objects.items); accounts = rows.accounts.items; threads = threads }) (threads-numbered rows.threads.items)
+
+    -- which is sound, whatever the image
+    pub sound_is : (image : Image) → is_sound (now_of (holding rows p) image) ≡ true
+    sound_is image =
+        let fit = fits (pages.coming p image) in
+        let state = state_in rows (pages.coming p image) in
+        let a = accounts_fit state.settings.credits state.counters.period state.accounts in
+        let o = objects_fit state.settings.frames (length state.accounts) state.objects in
+        let t = threads_fit state.counters.births state.threads in
+        ap is_sound (sym (state_is image)) ∙ and_from (a && o) t (and_from a o fit.accounts fit.objects) fit.threads
+
+    -- the value keeps what each value does
+    pub held_is : (accounts : ℕ) → account_rows ≤ accounts → IsHeld (holding rows p) accounts
+    unfolding objects_in
+    held_is accounts room = record {
+      kept = record {
+        frames = same_frames;
+        rows = by_base_all (λ (o : ℕ × ObjectRow). IsObjectRow o.1) rows.objects.items kept.held.ranges;
+        places = by_base_all (λ (o : ℕ × ObjectRow). o.0 < object_rows) rows.objects.items kept.held.objects.below;
+        apart = apart-rows;
+        used = used-rows;
+        few_objects = (let few = kept.held.objects.few in let same = by-base-length rows.objects.items in omega arith);
+        few_accounts = kept.held.few_accounts;
+        few_threads = few-threads;
+        inside = inside;
+      };
+      room_accounts = room;
+    }
+      where
+        few-threads : length (numbered rows.threads.items) ≤ thread_rows
+        few-threads = (let few = kept.held.threads.few in let same : length (numbered rows.threads.items) ≡ length rows.threads.items = length-numbered rows.threads.items in omega arith)
+
+        inside : list_all (λ page. has_page (holding rows p) page) (bound_pages (pages.table_in p)) ≡ true
+        inside =
+            let objects = all_spelled [] rows.params.frames rows.table.items (by_base rows.objects.items) in
+            all-same (λ page. has_page (holding rows p) page) (λ page. list_any (λ object. is_page_of page object) objects)
+            (λ page. sym (in-object [] rows.params.frames rows.table.items page (by_base rows.objects.items))) (bound_pages (pages.table_in p))
+            ∙ ap (λ t. list_all (λ page. list_any (λ object. is_page_of page object) objects) (bound_pages t)) table
+            ∙ ap (λ l. list_all (λ page. list_any (λ object. is_page_of page object) l) (bound_pages rows.table.items)) (sym (objects-placed [] rows.params.frames rows.table.items rows.objects.items))
+            ∙ (fits []).inside
+
+-- pages of these rows over an open journal
+pub record ArePages (rows : VolumeRows) (store : Store) (p : PagesHeld) : Type 0 where
+  pub store_is : pages.store_of p ≡ store
+  pub total : journal.total_of store ≡ total_blocks rows.params.frames
+  pub frames : pages.frame_count p ≡ length rows.table.items
+  pub table : pages.table_in p ≡ rows.table.items
+  pub coming : (image : Image) → pages.coming p image ≡ pages.replayed (journal.total_of store) image
+  pub spelled : (image : Image) → journal.IsFitting store image → journal.total_of store ≤ length image → pages.HasTable rows.table.items (pages.replayed (journal.total_of store) image) → pages.IsSpelledBy p image
+
+replayed-is : (total : ℕ) (image r : Image) → replay image total ≡ Some r → pages.replayed total image ≡ r
+replayed-is total image r is = ap (λ (o : Option Image). option_map_or (λ (v : Image). v) o image) is
+
+module _ (rows : VolumeRows) (kept : AreKept rows) (store : Store) (p : PagesHeld) (are : ArePages rows store p) where
+  module _ (image now : Image) (read : IsReadAs rows image) (is_there : IsThere rows image now) (fits_now : journal.IsFitting store now) where
+    same_replay : pages.replayed (journal.total_of store) now ≡ is_there.replayed
+    same_replay = ap (λ n. pages.replayed n now) are.total ∙ replayed-is (total_blocks rows.params.frames) now is_there.replayed is_there.replay_is
+
+    coming_is : pages.coming p now ≡ is_there.replayed
+    coming_is = are.coming now ∙ same_replay
+
+    has_table : pages.HasTable rows.table.items (pages.replayed (journal.total_of store) now)
+    has_table =
+        let parts = row_parts is_there.replayed rows.params.frames (rows_in rows) is_there.rows_are in
+        let P : Image → Type 0 = pages.HasTable rows.table.items in
+        subst P (sym same_replay)
+        (record {
+          table = ap (λ n. table_of is_there.replayed n) kept.held.entries ∙ sym parts.table;
+          past = ap (λ n. are_zeros (drop n (whole_table is_there.replayed n))) kept.held.entries ∙ parts.rest;
+        })
+
+    spelled_now : Spelled (holding rows p) now
+    spelled_now =
+        let parts = row_parts is_there.replayed rows.params.frames (rows_in rows) is_there.rows_are in
+        record {
+          fitting = are.spelled now fits_now (let total = are.total in let long = is_there.whole.long in omega arith) has_table;
+          frames = are.frames ∙ kept.held.entries;
+          gated = is_there.whole.gated;
+          super = is_there.whole.super;
+          counters_are = ap (λ (i : Image). globals_read (block_of i globals_block)) coming_is ∙ parts.counters_are;
+          accounts_are = ap (λ (i : Image). live_rows (λ k. account_read (account_row_bytes i k)) 0 account_rows) coming_is ∙ parts.accounts_are;
+          threads = rows.threads.items;
+          threads_are = ap (λ (i : Image). live_rows (λ k. thread_read (thread_row_bytes i k)) 0 thread_rows) coming_is ∙ parts.threads_are;
+          numbered = refl;
+          objects = rows.objects.items;
+          objects_are = ap (λ (i : Image). live_rows (λ k. object_read (object_row_bytes i k)) 0 object_rows) coming_is ∙ parts.objects_are;
+          ordered = refl;
+          kept = state_in rows read.replayed;
+          is = is_there.same ∙ read.is;
+        }
+
+    spells : IsSpelledBy (holding rows p) now
+    unfolding IsSpelledBy
+    spells = spelled_now
+
+    -- the state is the one that was read
+    now_is : now_of (holding rows p) now ≡ state_in rows read.replayed
+    now_is =
+        coming_kept (holding rows p) now spelled_now (state_in rows read.replayed)
+        (ap (replayed_volume rows.params) coming_is ∙ sym (volume_of_replay rows.params now is_there.replayed is_there.whole is_there.replay_is) ∙ is_there.same ∙ read.is)
+
+  module _ {D : Type 0} (facts : Ghosts D) (total : ℕ) (same : total ≡ total_blocks rows.params.frames) (old new : D) (read : ForSome (facts.seen old) (IsReadAs rows)) (standing : journal.Stands facts store new) where
+    there_now : (image now : Image) → IsReadAs rows image → SameContents total image now → IsThere rows image now
+    there_now image now is contents = there rows image now is (let P : ℕ → Type 0 = λ n. SameContents n image now in subst P same contents)
+
+    pub stands_now : ForSome (facts.seen new) (λ now. IsSomeAnd (facts.seen old) (λ image. SameContents total image now)) → StandsOn facts (holding rows p) new
+    unfolding total_of IsSpelledBy
+    stands_now came_from =
+        let paged = laws.stands_spelled facts store p new are.store_is standing
+        (λ now told.
+        let from = some_of (λ image. SameContents total image now) (facts.seen old) (came_from now told) in
+        let is = read from.0 from.1 in
+        (spelled_now from.0 now is (there_now from.0 now is from.2) (standing.fits now told)).fitting) in
+        record {
+          room = paged.room;
+          settled = paged.settled;
+          fits = λ now told.
+              let from = some_of (λ image. SameContents total image now) (facts.seen old) (came_from now told) in
+              let is = read from.0 from.1 in
+              spells from.0 now is (there_now from.0 now is from.2) (standing.fits now told);
+        }
+
+    pub opens_now : ForSome (facts.seen old) (λ image. IsSomeAnd (facts.seen new) (SameContents total image)) → ForSome (facts.seen old) (λ image. Opens (volume image) (holding rows p) (facts.seen new))
+    opens_now contents image told =
+        let now = some_of (SameContents total image) (facts.seen new) (contents image told) in
+        let is = read image told in
+        let at = there_now image now.0 is now.2 in
+        record {
+          state = state_in rows is.replayed;
+          is = is.is;
+          holds = record { image = now.0; is = now.1; kept = at.same ∙ is.is; now = now_is image now.0 is at (standing.fits now.0 now.1) };
+        }
+
+-- what a stop leaves, and where the journal is damaged
+module _ (rows : VolumeRows) {D : Type 0} (facts : Ghosts D) (total : ℕ) (same : total ≡ total_blocks rows.params.frames) (old new : D) (read : ForSome (facts.seen old) (IsReadAs rows)) where
+  pub leaves_still : ForSome (facts.seen old) (λ image. Leaves facts old new (SameContents total image)) → ForSome (facts.seen old) (λ image. Leaves facts old new (Still image))
+  leaves_still each image told =
+      leaves_wider facts old new (SameContents total image) (Still image) (each image told)
+      (λ c contents. (there rows image c (read image told) (let P : ℕ → Type 0 = λ n. SameContents n image c in subst P same contents)).same)
+
+  pub undamaged : ForSome (facts.seen old) (λ image. replay image total ≡ None) → ForSome (facts.seen old) (λ _. ⊥)
+  undamaged missing image told = replays rows image (read image told) (ap (replay image) (sym same) ∙ missing image told)
+
+-- the volume with the lists that were made of the rows
+pub made_is : (rows : VolumeRows) (p : PagesHeld) (objects : List (ℕ × ObjectRow)) (threads : List (ℕ × ThreadRow)) → objects ≡ by_base rows.objects.items → threads ≡ numbered rows.threads.items
+    → ◌≡◌ {A = VolumeHeld} (record { settings = rows.params; counters = rows.globals; objects = objects; accounts = rows.accounts.items; threads = threads; pages = p }) (holding rows p)
+made_is rows p objects threads are_objects are_threads =
+    ap (λ os. record (holding rows p) { objects = os; threads = threads }) are_objects ∙ ap (λ ts. record (holding rows p) { threads = ts }) are_threads
+
+pub staged_none : (rows : VolumeRows) (p : PagesHeld) → pages.staged_of p ≡ 0 → staged_of (holding rows p) ≡ 0
+unfolding staged_of
+staged_none rows p none = none
+
+pub live_is : (rows : VolumeRows) (p : PagesHeld) → pages.is_live p ≡ true → is_live (holding rows p) ≡ true
+unfolding is_live
+live_is rows p live = live

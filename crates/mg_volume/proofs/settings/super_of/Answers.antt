@@ -1,7 +1,0 @@
-use Rattle.std.proofs.Common.{subst}
-use Rattle.mg_layout.specs.SuperBlock.{IsSuper}
-use Rattle.mg_model.specs.Spelling.{super_read}
-use Rattle.mg_volume.proofs.settings.super_of.Goals as goal
-
-pub returns-in-Ok-clause-is : goal.returns-in-Ok-clause-is
-returns-in-Ok-clause-is g c image told = subst (λ block. IsSuper c.read_super.result (super_read block)) (c.in-Ok.ensures.block image told) c.read_super.ensures

@@ -1,0 +1,8 @@
+use Rattle.mg_volume.proofs.ByNumber.{none_held, none_is}
+use Rattle.mg_volume.proofs.threads.Threads.new.Goals as goal
+
+pub invariant_of-result : goal.invariant_of-result
+invariant_of-result c = none_held c.in_ok-rows.rows.items c.in_ok-rows.ensures
+
+pub returns : goal.returns
+returns c = none_is c.in_ok-rows.rows.items c.in_ok-rows.ensures
