@@ -3,8 +3,10 @@ pub mod Counted
 pub mod Covered
 pub mod Entries
 pub mod Gaps
+pub mod LiveRows
 pub mod NoRows
 pub mod ObjectOrder
 pub mod Placed
+pub mod ReadRuns
 pub mod SettledVolume
 pub mod StateFits

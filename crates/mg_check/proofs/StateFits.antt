@@ -9,9 +9,9 @@ use Rattle.std.proofs.lemmas.Simd.{map-map}
 use Rattle.mg_check.specs.declared.volume_rows.VolumeRows.{VolumeRows}
 use Rattle.mg_check.proofs.ObjectOrder.{spelled-apart, spelled-covered, spelled-paid, spelled-used}
 use Rattle.mg_check.specs.RowsRead.{placed_from, rows_in, state_in}
-use Rattle.mg_check.specs.RowsTold.{AreAccounts, AreRows, AreTold, HasNoState, TellsRows}
+use Rattle.mg_check.specs.RowsTold.{AreTold, HasNoState, TellsRows}
 use Rattle.mg_check.specs.TableTold.{IsTable}
-use Rattle.mg_check.specs.Told.{IsTold}
+use Rattle.mg_check.specs.Told.{AreLive}
 use Rattle.mg_check.specs.Rules.{AreSpans, Decides, births_of}
 use Rattle.mg_check.specs.Spans.{apart_from, is_in}
 use Rattle.mg_disk.specs.Disk.{Image}
@@ -23,7 +23,7 @@ use Rattle.mg_model.specs.Settings.{Settings}
 use Rattle.mg_model.specs.Spelling.{account_read, globals_read, object_read, thread_read}
 use Rattle.mg_model.specs.State.{Object, ObjectRow, Thread, ThreadRow}
 use Rattle.mg_model.specs.Tests.{all_distinct}
-use Rattle.mg_model.specs.Volume.{Damaged, Is, account_row_bytes, accounts_fit, accounts_spelled, begins_with_first, bound_pages, fitting, has_no_gap, is_page_of, object_row_bytes, objects_fit, objects_spelled, replayed_volume, rows_of, state_fits, state_spelled, table_fits, table_of, thread_row_bytes, threads_fit, threads_spelled, whole_table}
+use Rattle.mg_model.specs.Volume.{Damaged, Is, account_row_bytes, accounts_fit, accounts_spelled, begins_with_first, bound_pages, fitting, has_no_gap, is_page_of, object_row_bytes, objects_fit, objects_spelled, replayed_volume, rows_of, state_fits, state_spelled, table_fits, thread_row_bytes, threads_fit, threads_spelled, whole_table}
 use Rattle.mg_model.specs.VolumeReads.{rows-read, rows_with}
 
 all_same : {X : Type 0} (p q : X → Bool) → ((x : X) → p x ≡ q x) → (xs : List X) → list_all p xs ≡ list_all q xs
@@ -161,16 +161,13 @@ module _ (rows : VolumeRows) where
 
 -- each table told
 pub tables-told : (rows : VolumeRows) (image : Image) → globals_read (block_of image globals_block) ≡ Some rows.globals
-    → IsTold (λ i. account_read (account_row_bytes image i)) account_rows (AreAccounts rows.accounts.items)
-    → IsTold (λ i. thread_read (thread_row_bytes image i)) thread_rows (AreRows rows.threads.items)
-    → IsTold (λ i. object_read (object_row_bytes image i)) object_rows (AreRows rows.objects.items)
+    → AreLive (λ i. account_read (account_row_bytes image i)) account_rows (placed_from 0 rows.accounts.items)
+    → AreLive (λ i. thread_read (thread_row_bytes image i)) thread_rows rows.threads.items
+    → AreLive (λ i. object_read (object_row_bytes image i)) object_rows rows.objects.items
     → IsTable image rows.params.frames rows.table.items → AreTold rows image
 tables-told rows image counters accounts threads objects table = record {
   are =
-      rows-read image rows.params.frames rows.globals accounts.rows threads.rows objects.rows (whole_table image rows.params.frames)
+      rows-read image rows.params.frames rows.globals (placed_from 0 rows.accounts.items) rows.threads.items rows.objects.items (whole_table image rows.params.frames)
       (record { counters_are = counters; accounts_are = accounts.are; threads_are = threads.are; objects_are = objects.are; whole_is = refl; rest = table.rest })
-      ∙ ap (λ a. Some (rows_with rows.globals a threads.rows objects.rows (table_of image rows.params.frames))) accounts.which
-      ∙ ap (λ t. Some (rows_with rows.globals (placed_from 0 rows.accounts.items) t objects.rows (table_of image rows.params.frames))) threads.which
-      ∙ ap (λ o. Some (rows_with rows.globals (placed_from 0 rows.accounts.items) rows.threads.items o (table_of image rows.params.frames))) objects.which
       ∙ ap (λ t. Some (rows_with rows.globals (placed_from 0 rows.accounts.items) rows.threads.items rows.objects.items t)) table.are;
 }

@@ -1,7 +1,7 @@
 -- Definitions, in the order in which one reads them. First what a layer above learns.
 pub mod Summaries
 pub mod RowsRead
--- What was read, and that a table is told row by row.
+-- What was read, and which rows are live.
 pub mod Reads
 pub mod Told
 -- What each table tells, and the rules between rows.
@@ -10,6 +10,3 @@ pub mod RowsTold
 pub mod Spans
 pub mod Rules
 pub mod Settled
--- Lemmas that crates above cite. None of them is part of a statement.
-pub mod LiveRows
-pub mod ReadRuns

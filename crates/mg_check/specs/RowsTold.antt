@@ -1,21 +1,13 @@
 -- What is told of a volume by the rows that were read.
 use Rattle.std.specs.Prelude.{◌≡◌, ℕ, false, List, None, Some}
 use Rattle.mg_check.specs.declared.volume_rows.VolumeRows.{VolumeRows}
-use Rattle.mg_check.specs.RowsRead.{placed_from, rows_in, state_in}
+use Rattle.mg_check.specs.RowsRead.{rows_in, state_in}
 use Rattle.mg_model.specs.declared.accounts.AccRow.{AccRow}
 use Rattle.mg_model.specs.Layout.{globals_block}
 use Rattle.mg_model.specs.Replay.{block_of}
 use Rattle.mg_model.specs.Settings.{Settings}
 use Rattle.mg_model.specs.Spelling.{Read, globals_read}
 use Rattle.mg_model.specs.Volume.{Damaged, Is, has_no_gap, live_rows, replayed_volume, rows_of}
-
--- these rows are held, each with its place
-abbrev pub AreRows : {R : Type 0} → List (ℕ × R) → List (ℕ × R) → Type 0
-AreRows held rows = rows ≡ held
-
--- these accounts are held, which stand in the first rows
-abbrev pub AreAccounts : List AccRow → List (ℕ × AccRow) → Type 0
-AreAccounts accounts rows = rows ≡ placed_from 0 accounts
 
 -- one of the first n rows spells nothing, or a live row stands behind a free one
 pub record HasGap (read : ℕ → Read AccRow) (n : ℕ) : Type 0 where

@@ -3,11 +3,9 @@ use Rattle.std.specs.Prelude.{◌≡◌, ℕ, List, None, Some}
 use Rattle.mg_model.specs.Spelling.{Read}
 use Rattle.mg_model.specs.Volume.{live_rows}
 
--- each of the first n rows is spelled, and the live ones among them have Q
-pub record IsTold {R : Type 0} (read : ℕ → Read R) (n : ℕ) (Q : List (ℕ × R) → Type 0) : Type 0 where
-  pub rows : List (ℕ × R)
+-- each of the first n rows is spelled, and these are the live ones among them, each with its place
+pub record AreLive {R : Type 0} (read : ℕ → Read R) (n : ℕ) (rows : List (ℕ × R)) : Type 0 where
   pub are : live_rows read 0 n ≡ Some rows
-  pub which : Q rows
 
 -- one of the first n rows spells nothing
 pub record NotSpelled {R : Type 0} (read : ℕ → Read R) (n : ℕ) : Type 0 where

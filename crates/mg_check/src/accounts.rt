@@ -7,8 +7,9 @@ ghost use Rattle.mg_model.specs.Spelling.{Read, account_read};
 ghost use Rattle.mg_model.specs.Volume.{account_row_bytes};
 ghost use Rattle.mg_rows.specs.Blocks.{account_in};
 ghost use Rattle.mg_check.specs.Reads.{CanRead, OnlyRead, contents};
-ghost use Rattle.mg_check.specs.RowsTold.{AreAccounts, HasGap};
-ghost use Rattle.mg_check.specs.Told.{IsTold};
+ghost use Rattle.mg_check.specs.RowsRead.{placed_from};
+ghost use Rattle.mg_check.specs.RowsTold.{HasGap};
+ghost use Rattle.mg_check.specs.Told.{AreLive};
 
 use crate::faults::RowFault;
 use crate::reading::turn_to;
@@ -44,8 +45,8 @@ fn add(accounts: &mut Vec<AccRow>, i: u64, row: AccRow) -> Result<(), RowFault>
 // Takes row `i` of the table out of its block.
 fn take(accounts: &mut Vec<AccRow>, i: u64, block: &Block) -> Result<(), RowFault>
     requires place { i < account_rows }
-    ensures told { OnOk result ((read : ℕ → Read AccRow) → read i ≡ account_in block.now (i % 64) → IsTold read i (AreAccounts accounts.old.items) → IsTold read (i + 1) (AreAccounts accounts.new.items)) }
-    ensures damaged { result ≡ Err RowFault.Damaged → (read : ℕ → Read AccRow) → read i ≡ account_in block.now (i % 64) → IsTold read i (AreAccounts accounts.old.items) → HasGap read account_rows }
+    ensures told { OnOk result ((read : ℕ → Read AccRow) → read i ≡ account_in block.now (i % 64) → AreLive read i (placed_from 0 accounts.old.items) → AreLive read (i + 1) (placed_from 0 accounts.new.items)) }
+    ensures damaged { result ≡ Err RowFault.Damaged → (read : ℕ → Read AccRow) → read i ≡ account_in block.now (i % 64) → AreLive read i (placed_from 0 accounts.old.items) → HasGap read account_rows }
     ensures no_disk { result ≢ Err RowFault.Disk }
     ensures few { OnOk result (length accounts.new.items ≤ length accounts.old.items + 1) }
     ensures room { vec_capacity accounts.old ≤ vec_capacity accounts.new }
@@ -78,7 +79,7 @@ pub(crate) fn read_accounts<D: Disk>(
 ) -> Result<Vec<AccRow>, RowFault>
     requires room { table_block ≤ view.now.total }
     requires can { CanRead D.Disk disk.old view.now }
-    ensures told { IfOk result (λ accounts. ForSome (contents D.Disk disk.old view.now.total) (λ r. IsTold (λ i. account_read (account_row_bytes r i)) account_rows (AreAccounts accounts.items))) }
+    ensures told { IfOk result (λ accounts. ForSome (contents D.Disk disk.old view.now.total) (λ r. AreLive (λ i. account_read (account_row_bytes r i)) account_rows (placed_from 0 accounts.items))) }
     ensures damaged { result ≡ Err RowFault.Damaged → ForSome (contents D.Disk disk.old view.now.total) (λ r. HasGap (λ i. account_read (account_row_bytes r i)) account_rows) }
     ensures few { IfOk result (λ accounts. length accounts.items ≤ account_rows) }
     ensures room { IfOk result (λ accounts. account_rows ≤ vec_capacity accounts) }

@@ -10,8 +10,7 @@ ghost use Rattle.mg_model.specs.Volume.{object_row_bytes};
 ghost use Rattle.mg_rows.specs.Blocks.{object_in};
 ghost use Rattle.mg_check.specs.Reads.{CanRead, OnlyRead, contents};
 ghost use Rattle.mg_check.specs.RowsRead.{AreInRange, ArePlaced};
-ghost use Rattle.mg_check.specs.RowsTold.{AreRows};
-ghost use Rattle.mg_check.specs.Told.{IsTold, NotSpelled};
+ghost use Rattle.mg_check.specs.Told.{AreLive, NotSpelled};
 
 use crate::faults::RowFault;
 use crate::reading::turn_to;
@@ -45,7 +44,7 @@ fn add(objects: &mut Vec<(u64, ObjRow)>, i: u64, row: ObjRow) -> Result<(), RowF
 // Takes row `i` of the table out of its block.
 fn take(objects: &mut Vec<(u64, ObjRow)>, i: u64, block: &Block) -> Result<(), RowFault>
     requires place { i < object_rows }
-    ensures told { OnOk result ((read : ℕ → Read ObjectRow) → read i ≡ object_in block.now (i % 4) → IsTold read i (AreRows objects.old.items) → IsTold read (i + 1) (AreRows objects.new.items)) }
+    ensures told { OnOk result ((read : ℕ → Read ObjectRow) → read i ≡ object_in block.now (i % 4) → AreLive read i objects.old.items → AreLive read (i + 1) objects.new.items) }
     ensures damaged { result ≡ Err RowFault.Damaged → object_in block.now (i % 4) ≡ None }
     ensures no_disk { result ≢ Err RowFault.Disk }
     ensures placed { OnOk result (ArePlaced i objects.old.items → ArePlaced (i + 1) objects.new.items) }
@@ -82,7 +81,7 @@ pub(crate) fn read_objects<D: Disk>(
 ) -> Result<Vec<(u64, ObjRow)>, RowFault>
     requires room { table_block ≤ view.now.total }
     requires can { CanRead D.Disk disk.old view.now }
-    ensures told { IfOk result (λ objects. ForSome (contents D.Disk disk.old view.now.total) (λ r. IsTold (λ i. object_read (object_row_bytes r i)) object_rows (AreRows objects.items))) }
+    ensures told { IfOk result (λ objects. ForSome (contents D.Disk disk.old view.now.total) (λ r. AreLive (λ i. object_read (object_row_bytes r i)) object_rows objects.items)) }
     ensures damaged { result ≡ Err RowFault.Damaged → ForSome (contents D.Disk disk.old view.now.total) (λ r. NotSpelled (λ i. object_read (object_row_bytes r i)) object_rows) }
     ensures placed { IfOk result (λ objects. ArePlaced object_rows objects.items) }
     ensures ranges { IfOk result (λ objects. AreInRange objects.items) }

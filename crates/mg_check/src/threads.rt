@@ -8,8 +8,7 @@ ghost use Rattle.mg_model.specs.State.{ThreadRow};
 ghost use Rattle.mg_model.specs.Volume.{thread_row_bytes};
 ghost use Rattle.mg_check.specs.Reads.{CanRead, OnlyRead, contents};
 ghost use Rattle.mg_check.specs.RowsRead.{ArePlaced};
-ghost use Rattle.mg_check.specs.RowsTold.{AreRows};
-ghost use Rattle.mg_check.specs.Told.{IsTold, NotSpelled};
+ghost use Rattle.mg_check.specs.Told.{AreLive, NotSpelled};
 
 use crate::faults::RowFault;
 use crate::reading::read_block;
@@ -37,7 +36,7 @@ fn add(threads: &mut Vec<(u64, ThrRow)>, i: u64, row: ThrRow) -> Result<(), RowF
 
 // Takes row `i` of the table, which is this block.
 fn take(threads: &mut Vec<(u64, ThrRow)>, i: u64, block: &Block) -> Result<(), RowFault>
-    ensures told { OnOk result ((read : ℕ → Read ThreadRow) → read i ≡ thread_read block.now → IsTold read i (AreRows threads.old.items) → IsTold read (i + 1) (AreRows threads.new.items)) }
+    ensures told { OnOk result ((read : ℕ → Read ThreadRow) → read i ≡ thread_read block.now → AreLive read i threads.old.items → AreLive read (i + 1) threads.new.items) }
     ensures damaged { result ≡ Err RowFault.Damaged → thread_read block.now ≡ None }
     ensures no_disk { result ≢ Err RowFault.Disk }
     ensures placed { OnOk result (ArePlaced i threads.old.items → ArePlaced (i + 1) threads.new.items) }
@@ -73,7 +72,7 @@ pub(crate) fn read_threads<D: Disk>(
 ) -> Result<Vec<(u64, ThrRow)>, RowFault>
     requires room { table_block ≤ view.now.total }
     requires can { CanRead D.Disk disk.old view.now }
-    ensures told { IfOk result (λ threads. ForSome (contents D.Disk disk.old view.now.total) (λ r. IsTold (λ i. thread_read (thread_row_bytes r i)) thread_rows (AreRows threads.items))) }
+    ensures told { IfOk result (λ threads. ForSome (contents D.Disk disk.old view.now.total) (λ r. AreLive (λ i. thread_read (thread_row_bytes r i)) thread_rows threads.items)) }
     ensures damaged { result ≡ Err RowFault.Damaged → ForSome (contents D.Disk disk.old view.now.total) (λ r. NotSpelled (λ i. thread_read (thread_row_bytes r i)) thread_rows) }
     ensures placed { IfOk result (λ threads. ArePlaced thread_rows threads.items) }
     ensures room { IfOk result (λ threads. thread_rows ≤ vec_capacity threads) }

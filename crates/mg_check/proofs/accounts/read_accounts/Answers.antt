@@ -8,12 +8,11 @@ use Rattle.mg_model.specs.Replay.{block_of}
 use Rattle.mg_model.specs.Spelling.{account_read}
 use Rattle.mg_model.specs.Volume.{account_row_bytes}
 use Rattle.mg_rows.specs.Blocks.{account_in}
-use Rattle.mg_check.specs.LiveRows.{told_none}
-use Rattle.mg_check.specs.ReadRuns.{only_none, only_then, same_contents, still_read}
+use Rattle.mg_check.proofs.LiveRows.{live_none}
+use Rattle.mg_check.proofs.ReadRuns.{only_none, only_then, same_contents, still_read}
 use Rattle.mg_check.specs.Reads.{contents}
 use Rattle.mg_check.specs.RowsRead.{placed_from}
-use Rattle.mg_check.specs.RowsTold.{AreAccounts}
-use Rattle.mg_check.specs.Told.{IsTold}
+use Rattle.mg_check.specs.Told.{AreLive}
 use Rattle.mg_check.specs.declared.faults.RowFault.TheVariants as fault
 use Rattle.mg_check.proofs.accounts.read_accounts.Goals as goal
 
@@ -53,7 +52,7 @@ pub loop-i-init : goal.loop-i-init
 loop-i-init g c = record {
   reads = only_none g.D.Disk c.args.disk.now (g.met.D.Disk.now_has_been c.args.disk.now);
   there = λ test. absurd (cc);
-  told = λ r told. told_none (λ i. account_read (account_row_bytes r i)) (AreAccounts c.in_ok-accounts.accounts.items) (ap (placed_from 0) (sym c.in_ok-accounts.ensures.none));
+  told = λ r told. subst (λ (xs : List AccRow). AreLive (λ i. account_read (account_row_bytes r i)) 0 (placed_from 0 xs)) (sym c.in_ok-accounts.ensures.none) (live_none (λ i. account_read (account_row_bytes r i)));
   few = subst (λ (xs : List AccRow). length xs ≤ 0) (sym c.in_ok-accounts.ensures.none) (omega arith);
   room = c.in_ok-accounts.ensures.room;
 }
@@ -61,5 +60,5 @@ loop-i-init g c = record {
 pub returns-clause-told : goal.returns-clause-told
 returns-clause-told g c r told =
     let all : c.loop-i.i ≡ account_rows = let past = c.loop-i-test.false in let end = c.loop-i.auto.i-end in omega arith in
-    let P : ℕ → Type 0 = λ n. IsTold (λ i. account_read (account_row_bytes r i)) n (AreAccounts c.loop-i.accounts.items) in
+    let P : ℕ → Type 0 = λ n. AreLive (λ i. account_read (account_row_bytes r i)) n (placed_from 0 c.loop-i.accounts.items) in
     subst P all (c.loop-i.invariant.told r told)

@@ -2,18 +2,18 @@ use Rattle.std.proofs.Common.{sym, ap, ◌∙◌, Some}
 use Rattle.std.proofs.lemmas.Result.{on_ok_weaker}
 use Rattle.mg_model.specs.Layout.{account_rows}
 use Rattle.mg_rows.specs.Answers.{as_read}
-use Rattle.mg_check.specs.LiveRows.{not_spelled, told_free, told_live}
-use Rattle.mg_check.specs.RowsTold.{AreAccounts}
+use Rattle.mg_check.proofs.LiveRows.{live_free, live_more, not_spelled}
+use Rattle.mg_check.specs.RowsRead.{placed_from}
 use Rattle.mg_check.proofs.Gaps.{accounts_more, gap_at, none_there}
 use Rattle.mg_check.proofs.accounts.take.Goals as goal
 
 pub returns-in-Some-Row-clause-told : goal.returns-in-Some-Row-clause-told
 returns-in-Some-Row-clause-told c =
     on_ok_weaker c.add.result
-    (λ more read here told.
-    told_live read c.args.i c.in-Some-Row.row (AreAccounts c.args.accounts.now.items) (AreAccounts c.add.new.accounts.items) told
+    (λ more read here live.
+    live_more read c.args.i c.in-Some-Row.row (placed_from 0 c.args.accounts.now.items) (placed_from 0 c.add.new.accounts.items) live
     (here ∙ sym c.account_in.ensures ∙ ap as_read c.in-Some-Row.is ∙ ap (λ f. as_read (Some f)) c.in-Some-Row.field-0-is)
-    (λ rows are. accounts_more rows c.args.accounts.now.items c.add.new.accounts.items c.args.i c.in-Some-Row.row are more.0 more.1))
+    (accounts_more c.args.accounts.now.items c.add.new.accounts.items c.args.i c.in-Some-Row.row more.0 more.1))
     c.add.ensures.more
 
 pub returns-in-Some-Row-clause-damaged : goal.returns-in-Some-Row-clause-damaged
@@ -24,7 +24,7 @@ returns-in-Some-Row-clause-damaged c is read here told =
 
 pub returns-in-Some-Free-clause-told : goal.returns-in-Some-Free-clause-told
 returns-in-Some-Free-clause-told c read here told =
-    told_free read c.args.i (AreAccounts c.args.accounts.now.items) told
+    live_free read c.args.i (placed_from 0 c.args.accounts.now.items) told
     (here ∙ sym c.account_in.ensures ∙ ap as_read c.in-Some-Free.is ∙ ap (λ f. as_read (Some f)) c.in-Some-Free.field-0-is)
 
 pub returns-in-None-clause-damaged : goal.returns-in-None-clause-damaged

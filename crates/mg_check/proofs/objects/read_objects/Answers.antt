@@ -10,12 +10,11 @@ use Rattle.mg_model.specs.Spelling.{object_read}
 use Rattle.mg_model.specs.State.{ObjectRow}
 use Rattle.mg_model.specs.Volume.{object_row_bytes}
 use Rattle.mg_rows.specs.Blocks.{object_in}
-use Rattle.mg_check.specs.LiveRows.{not_spelled, told_none}
-use Rattle.mg_check.specs.ReadRuns.{only_none, only_then, same_contents, still_read}
+use Rattle.mg_check.proofs.LiveRows.{live_none, not_spelled}
+use Rattle.mg_check.proofs.ReadRuns.{only_none, only_then, same_contents, still_read}
 use Rattle.mg_check.specs.Reads.{contents}
 use Rattle.mg_check.specs.RowsRead.{AreInRange, ArePlaced}
-use Rattle.mg_check.specs.RowsTold.{AreRows}
-use Rattle.mg_check.specs.Told.{IsTold}
+use Rattle.mg_check.specs.Told.{AreLive}
 use Rattle.mg_check.specs.declared.faults.RowFault.TheVariants as fault
 use Rattle.mg_check.proofs.Placed.{placed_all, placed_none}
 use Rattle.mg_check.proofs.objects.read_objects.Goals as goal
@@ -58,7 +57,7 @@ pub loop-i-init : goal.loop-i-init
 loop-i-init g c = record {
   reads = only_none g.D.Disk c.args.disk.now (g.met.D.Disk.now_has_been c.args.disk.now);
   there = λ test. absurd (cc);
-  told = λ r told. told_none (λ i. object_read (object_row_bytes r i)) (AreRows c.in_ok-objects.objects.items) (sym c.in_ok-objects.ensures.none);
+  told = λ r told. subst (λ (xs : List (ℕ × ObjectRow)). AreLive (λ i. object_read (object_row_bytes r i)) 0 xs) (sym c.in_ok-objects.ensures.none) (live_none (λ i. object_read (object_row_bytes r i)));
   placed = subst (λ (xs : List (ℕ × ObjectRow)). ArePlaced 0 xs) (sym c.in_ok-objects.ensures.none) placed_none;
   ranges = subst AreInRange (sym c.in_ok-objects.ensures.none) (All-nil (λ (o : ℕ × ObjectRow). IsObjectRow o.1));
   room = c.in_ok-objects.ensures.room;
@@ -67,7 +66,7 @@ loop-i-init g c = record {
 pub returns-clause-told : goal.returns-clause-told
 returns-clause-told g c r told =
     let all : c.loop-i.i ≡ object_rows = let past = c.loop-i-test.false in let end = c.loop-i.auto.i-end in omega arith in
-    let P : ℕ → Type 0 = λ n. IsTold (λ i. object_read (object_row_bytes r i)) n (AreRows c.loop-i.objects.items) in
+    let P : ℕ → Type 0 = λ n. AreLive (λ i. object_read (object_row_bytes r i)) n c.loop-i.objects.items in
     subst P all (c.loop-i.invariant.told r told)
 
 pub returns-clause-placed : goal.returns-clause-placed

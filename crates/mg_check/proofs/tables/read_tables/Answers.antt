@@ -1,6 +1,6 @@
 use Rattle.std.proofs.Common.{◌≡◌, Err, subst, ◌∙◌}
 use Rattle.std.proofs.lemmas.Result.{err_from_is_err_and}
-use Rattle.mg_check.specs.ReadRuns.{only_then, same_contents, still_read}
+use Rattle.mg_check.proofs.ReadRuns.{only_then, same_contents, still_read}
 use Rattle.mg_check.specs.TableTold.{HasRest, IsTable}
 use Rattle.mg_check.specs.declared.faults.RowFault.TheVariants as fault
 use Rattle.mg_check.proofs.NoRows.{with-gap, without-counters, without-objects, without-threads, without-zeros}

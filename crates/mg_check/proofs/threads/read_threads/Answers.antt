@@ -5,12 +5,11 @@ use Rattle.mg_model.specs.Layout.{thread_rows}
 use Rattle.mg_model.specs.Spelling.{thread_read}
 use Rattle.mg_model.specs.State.{ThreadRow}
 use Rattle.mg_model.specs.Volume.{thread_row_bytes}
-use Rattle.mg_check.specs.LiveRows.{not_spelled, told_none}
-use Rattle.mg_check.specs.ReadRuns.{only_none, only_then, same_contents, still_read}
+use Rattle.mg_check.proofs.LiveRows.{live_none, not_spelled}
+use Rattle.mg_check.proofs.ReadRuns.{only_none, only_then, same_contents, still_read}
 use Rattle.mg_check.specs.Reads.{contents}
 use Rattle.mg_check.specs.RowsRead.{ArePlaced}
-use Rattle.mg_check.specs.RowsTold.{AreRows}
-use Rattle.mg_check.specs.Told.{IsTold}
+use Rattle.mg_check.specs.Told.{AreLive}
 use Rattle.mg_check.specs.declared.faults.RowFault.TheVariants as fault
 use Rattle.mg_check.proofs.Placed.{placed_all, placed_none}
 use Rattle.mg_check.proofs.threads.read_threads.Goals as goal
@@ -45,7 +44,7 @@ loop-i-preserved g c =
 pub loop-i-init : goal.loop-i-init
 loop-i-init g c = record {
   reads = only_none g.D.Disk c.args.disk.now (g.met.D.Disk.now_has_been c.args.disk.now);
-  told = λ r told. told_none (λ i. thread_read (thread_row_bytes r i)) (AreRows c.in_ok-threads.threads.items) (sym c.in_ok-threads.ensures.none);
+  told = λ r told. subst (λ (xs : List (ℕ × ThreadRow)). AreLive (λ i. thread_read (thread_row_bytes r i)) 0 xs) (sym c.in_ok-threads.ensures.none) (live_none (λ i. thread_read (thread_row_bytes r i)));
   placed = subst (λ (xs : List (ℕ × ThreadRow)). ArePlaced 0 xs) (sym c.in_ok-threads.ensures.none) placed_none;
   room = c.in_ok-threads.ensures.room;
 }
@@ -53,7 +52,7 @@ loop-i-init g c = record {
 pub returns-clause-told : goal.returns-clause-told
 returns-clause-told g c r told =
     let all : c.loop-i.i ≡ thread_rows = let past = c.loop-i-test.false in let end = c.loop-i.auto.i-end in omega arith in
-    let P : ℕ → Type 0 = λ n. IsTold (λ i. thread_read (thread_row_bytes r i)) n (AreRows c.loop-i.threads.items) in
+    let P : ℕ → Type 0 = λ n. AreLive (λ i. thread_read (thread_row_bytes r i)) n c.loop-i.threads.items in
     subst P all (c.loop-i.invariant.told r told)
 
 pub returns-clause-placed : goal.returns-clause-placed

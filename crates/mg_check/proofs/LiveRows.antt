@@ -6,7 +6,7 @@ use Rattle.std.proofs.lemmas.List.{append-nil}
 use Rattle.mg_model.specs.Spelling.{Read}
 use Rattle.mg_model.specs.Volume.{live_rows, with_live}
 use Rattle.mg_model.specs.Words.{and_then}
-use Rattle.mg_check.specs.Told.{IsTold, NotSpelled}
+use Rattle.mg_check.specs.Told.{AreLive, NotSpelled}
 
 pub and_then_some : {X Y : Type 0} (o : Option X) (f : X → Option Y) (y : Y) → and_then o f ≡ Some y → (x : X) × (o ≡ Some x) × (f x ≡ Some y)
 and_then_some None f y is = absurd (cc)
@@ -55,22 +55,17 @@ module _ {R : Type 0} (read : ℕ → Read R) where
   pub not_spelled : (n k : ℕ) → read k ≡ None → k < n → NotSpelled read n
   not_spelled n k missing below = record { none = none_spelled 0 n k missing (omega arith) (omega arith) }
 
-  pub told_none : (Q : List (ℕ × R) → Type 0) → Q [] → IsTold read 0 Q
-  told_none Q start = record { rows = []; are = refl; which = start }
+  pub live_none : AreLive read 0 []
+  live_none = record { are = refl }
 
-  pub told_live : (k : ℕ) (row : R) (P Q : List (ℕ × R) → Type 0) → IsTold read k P → read k ≡ Some (Some row) → ((rows : List (ℕ × R)) → P rows → Q (rows ++ (k, row) ∷ [])) → IsTold read (k + 1) Q
-  told_live k row P Q told here next = record {
-    rows = told.rows ++ (k, row) ∷ [];
-    are = ap (live_rows read 0) (let e : k + 1 ≡ suc k = omega arith in e) ∙ more 0 k k told.rows (Some row) (omega arith) told.are here;
-    which = next told.rows told.which;
+  -- a live row
+  pub live_more : (k : ℕ) (row : R) (old new : List (ℕ × R)) → AreLive read k old → read k ≡ Some (Some row) → new ≡ old ++ (k, row) ∷ [] → AreLive read (k + 1) new
+  live_more k row old new live here added = record {
+    are = ap (live_rows read 0) (let e : k + 1 ≡ suc k = omega arith in e) ∙ more 0 k k old (Some row) (omega arith) live.are here ∙ ap (λ rows. Some rows) (sym added);
   }
 
-  pub told_free : (k : ℕ) (P : List (ℕ × R) → Type 0) → IsTold read k P → read k ≡ Some None → IsTold read (k + 1) P
-  told_free k P told here = record {
-    rows = told.rows;
-    are = ap (live_rows read 0) (let e : k + 1 ≡ suc k = omega arith in e) ∙ more 0 k k told.rows None (omega arith) told.are here ∙ ap (λ ys. Some ys) (append-nil told.rows);
-    which = told.which;
+  -- a free one
+  pub live_free : (k : ℕ) (rows : List (ℕ × R)) → AreLive read k rows → read k ≡ Some None → AreLive read (k + 1) rows
+  live_free k rows live here = record {
+    are = ap (live_rows read 0) (let e : k + 1 ≡ suc k = omega arith in e) ∙ more 0 k k rows None (omega arith) live.are here ∙ ap (λ ys. Some ys) (append-nil rows);
   }
-
-  pub told_weaker : (n m : ℕ) (P Q : List (ℕ × R) → Type 0) → n ≡ m → IsTold read n P → ((rows : List (ℕ × R)) → P rows → Q rows) → IsTold read m Q
-  told_weaker n m P Q same told next = record { rows = told.rows; are = ap (live_rows read 0) (sym same) ∙ told.are; which = next told.rows told.which }
