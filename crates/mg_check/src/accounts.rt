@@ -12,6 +12,7 @@ ghost use Rattle.mg_check.specs.RowsTold.{HasGap};
 ghost use Rattle.mg_check.specs.Told.{AreLive};
 
 use crate::faults::RowFault;
+use crate::lists::{add, with_room};
 use crate::reading::turn_to;
 use mg_disk::{BLOCK_SIZE, Block, Disk};
 use mg_faults::Failed;
@@ -26,7 +27,7 @@ use std::alloc::Global;
 const IN_BLOCK: u64 = 64;
 
 // Adds the account in row `i`, unless there is a free row before it.
-fn add(accounts: &mut Vec<AccRow>, i: u64, row: AccRow) -> Result<(), RowFault>
+fn add_next(accounts: &mut Vec<AccRow>, i: u64, row: AccRow) -> Result<(), RowFault>
     ensures more { OnOk result ((length accounts.old.items ≡ i) × (accounts.new.items ≡ accounts.old.items ++ row ∷ [])) }
     ensures few { OnOk result (length accounts.new.items ≤ length accounts.old.items + 1) }
     ensures room { vec_capacity accounts.old ≤ vec_capacity accounts.new }
@@ -36,10 +37,7 @@ fn add(accounts: &mut Vec<AccRow>, i: u64, row: AccRow) -> Result<(), RowFault>
     if accounts.len() as u64 != i {
         return Err(RowFault::Damaged);
     }
-    match accounts.push(row) {
-        Ok(()) => Ok(()),
-        Err(_) => Err(RowFault::Memory),
-    }
+    add(accounts, row)
 }
 
 // Takes row `i` of the table out of its block.
@@ -52,22 +50,9 @@ fn take(accounts: &mut Vec<AccRow>, i: u64, block: &Block) -> Result<(), RowFaul
     ensures room { vec_capacity accounts.old ≤ vec_capacity accounts.new }
 {
     match account_in(block, i % IN_BLOCK) {
-        Some(Spelled::Row(row)) => add(accounts, i, row),
+        Some(Spelled::Row(row)) => add_next(accounts, i, row),
         Some(Spelled::Free) => Ok(()),
         None => Err(RowFault::Damaged),
-    }
-}
-
-// No accounts, with room for all.
-fn no_accounts(alloc: Global) -> Result<Vec<AccRow>, RowFault>
-    ensures none { IfOk result (λ accounts. accounts.items ≡ []) }
-    ensures room { IfOk result (λ accounts. account_rows ≤ vec_capacity accounts) }
-    ensures memory { result ≢ Err RowFault.Damaged }
-    ensures no_disk { result ≢ Err RowFault.Disk }
-{
-    match Vec::with_capacity(alloc, ACCOUNT_LIMIT) {
-        Ok(accounts) => Ok(accounts),
-        Err(_) => Err(RowFault::Memory),
     }
 }
 
@@ -86,7 +71,7 @@ pub(crate) fn read_accounts<D: Disk>(
     ensures cause { result ≡ Err RowFault.Disk → CountRose D.Disk disk.old disk.new }
     ensures reads { OnlyRead D.Disk disk.old disk.new }
 {
-    let mut accounts = no_accounts(alloc)?;
+    let mut accounts = with_room(alloc, ACCOUNT_LIMIT)?;
     let mut block = [0; BLOCK_SIZE];
     for i in 0..ACCOUNT_LIMIT as u64 {
         match turn_to(

@@ -9,6 +9,7 @@
 mod accounts;
 mod examining;
 mod faults;
+mod lists;
 mod objects;
 mod opening;
 mod reading;

@@ -13,6 +13,7 @@ ghost use Rattle.mg_check.specs.RowsRead.{AreInRange, ArePlaced};
 ghost use Rattle.mg_check.specs.Told.{AreLive, NotSpelled};
 
 use crate::faults::RowFault;
+use crate::lists::{add, with_room};
 use crate::reading::turn_to;
 use mg_disk::{BLOCK_SIZE, Block, Disk};
 use mg_faults::Failed;
@@ -26,21 +27,6 @@ use std::alloc::Global;
 /// How many rows a block has.
 const IN_BLOCK: u64 = 4;
 
-// Adds the object in row `i`.
-fn add(objects: &mut Vec<(u64, ObjRow)>, i: u64, row: ObjRow) -> Result<(), RowFault>
-    ensures more { OnOk result (objects.new.items ≡ objects.old.items ++ (i, row) ∷ []) }
-    ensures range { IsObjectRow row }
-    ensures room { vec_capacity objects.old ≤ vec_capacity objects.new }
-    ensures memory { result ≢ Err RowFault.Damaged }
-    ensures no_disk { result ≢ Err RowFault.Disk }
-{
-    let _kept = row.base();
-    match objects.push((i, row)) {
-        Ok(()) => Ok(()),
-        Err(_) => Err(RowFault::Memory),
-    }
-}
-
 // Takes row `i` of the table out of its block.
 fn take(objects: &mut Vec<(u64, ObjRow)>, i: u64, block: &Block) -> Result<(), RowFault>
     requires place { i < object_rows }
@@ -53,23 +39,13 @@ fn take(objects: &mut Vec<(u64, ObjRow)>, i: u64, block: &Block) -> Result<(), R
 {
     match object_in(block, i % IN_BLOCK) {
         Some(spelled) => match spelled {
-            Spelled::Row(row) => add(objects, i, row),
+            Spelled::Row(row) => {
+                let _kept = row.base();
+                add(objects, (i, row))
+            }
             Spelled::Free => Ok(()),
         },
         None => Err(RowFault::Damaged),
-    }
-}
-
-// No objects, with room for all.
-fn no_objects(alloc: Global) -> Result<Vec<(u64, ObjRow)>, RowFault>
-    ensures none { IfOk result (λ objects. objects.items ≡ []) }
-    ensures room { IfOk result (λ objects. object_rows ≤ vec_capacity objects) }
-    ensures memory { result ≢ Err RowFault.Damaged }
-    ensures no_disk { result ≢ Err RowFault.Disk }
-{
-    match Vec::with_capacity(alloc, OBJECT_LIMIT) {
-        Ok(objects) => Ok(objects),
-        Err(_) => Err(RowFault::Memory),
     }
 }
 
@@ -89,7 +65,7 @@ pub(crate) fn read_objects<D: Disk>(
     ensures cause { result ≡ Err RowFault.Disk → CountRose D.Disk disk.old disk.new }
     ensures reads { OnlyRead D.Disk disk.old disk.new }
 {
-    let mut objects = no_objects(alloc)?;
+    let mut objects = with_room(alloc, OBJECT_LIMIT)?;
     let mut block = [0; BLOCK_SIZE];
     for i in 0..OBJECT_LIMIT as u64 {
         match turn_to(

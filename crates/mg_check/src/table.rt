@@ -8,6 +8,7 @@ ghost use Rattle.mg_check.specs.Reads.{CanRead, OnlyRead, contents};
 ghost use Rattle.mg_check.specs.TableTold.{AreEntries, HasRest, IsTable, entry_in};
 
 use crate::faults::RowFault;
+use crate::lists::{add, with_room};
 use crate::reading::turn_to;
 use mg_disk::{BLOCK_SIZE, Block, Disk};
 use mg_faults::Failed;
@@ -28,19 +29,6 @@ fn number_at(b: &Block, at: usize) -> u64
     u64::from_le_bytes(bytes)
 }
 
-// No entries, with room for one a frame.
-fn no_entries(alloc: Global, frames: u64) -> Result<Vec<u64>, RowFault>
-    requires few { frames ≤ 65536 }
-    ensures none { IfOk result (λ table. table.items ≡ []) }
-    ensures memory { result ≢ Err RowFault.Damaged }
-    ensures no_disk { result ≢ Err RowFault.Disk }
-{
-    match Vec::with_capacity(alloc, frames as usize) {
-        Ok(table) => Ok(table),
-        Err(_) => Err(RowFault::Memory),
-    }
-}
-
 // Takes entry `f` of the table out of its block; there are so many frames.
 fn take(table: &mut Vec<u64>, f: u64, block: &Block, frames: u64) -> Result<(), RowFault>
     ensures told { OnOk result ((entry : ℕ → ℕ) → entry f ≡ entry_in block.now f → AreEntries entry f frames table.old.items → AreEntries entry (f + 1) frames table.new.items) }
@@ -51,10 +39,7 @@ fn take(table: &mut Vec<u64>, f: u64, block: &Block, frames: u64) -> Result<(), 
 {
     let page = number_at(block, 8 * (f % IN_BLOCK) as usize);
     if f < frames {
-        return match table.push(page) {
-            Ok(()) => Ok(()),
-            Err(_) => Err(RowFault::Memory),
-        };
+        return add(table, page);
     }
     if page == 0 {
         Ok(())
@@ -79,7 +64,7 @@ pub(crate) fn read_table<D: Disk>(
     ensures cause { result ≡ Err RowFault.Disk → CountRose D.Disk disk.old disk.new }
     ensures reads { OnlyRead D.Disk disk.old disk.new }
 {
-    let mut table = no_entries(alloc, frames)?;
+    let mut table = with_room(alloc, frames as usize)?;
     let mut block = [0; BLOCK_SIZE];
     let all = IN_BLOCK * ((frames + IN_BLOCK - 1) / IN_BLOCK);
     for f in 0..all {

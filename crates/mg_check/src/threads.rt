@@ -11,6 +11,7 @@ ghost use Rattle.mg_check.specs.RowsRead.{ArePlaced};
 ghost use Rattle.mg_check.specs.Told.{AreLive, NotSpelled};
 
 use crate::faults::RowFault;
+use crate::lists::{add, with_room};
 use crate::reading::read_block;
 use mg_disk::{BLOCK_SIZE, Block, Disk};
 use mg_faults::Failed;
@@ -20,19 +21,6 @@ use mg_model::ThrRow;
 use mg_model::limits::THREAD_LIMIT;
 use mg_rows::{Spelled, read_thread};
 use std::alloc::Global;
-
-// Adds the thread in row `i`.
-fn add(threads: &mut Vec<(u64, ThrRow)>, i: u64, row: ThrRow) -> Result<(), RowFault>
-    ensures more { OnOk result (threads.new.items ≡ threads.old.items ++ (i, row) ∷ []) }
-    ensures room { vec_capacity threads.old ≤ vec_capacity threads.new }
-    ensures memory { result ≢ Err RowFault.Damaged }
-    ensures no_disk { result ≢ Err RowFault.Disk }
-{
-    match threads.push((i, row)) {
-        Ok(()) => Ok(()),
-        Err(_) => Err(RowFault::Memory),
-    }
-}
 
 // Takes row `i` of the table, which is this block.
 fn take(threads: &mut Vec<(u64, ThrRow)>, i: u64, block: &Block) -> Result<(), RowFault>
@@ -44,23 +32,10 @@ fn take(threads: &mut Vec<(u64, ThrRow)>, i: u64, block: &Block) -> Result<(), R
 {
     match read_thread(block) {
         Some(spelled) => match spelled {
-            Spelled::Row(row) => add(threads, i, row),
+            Spelled::Row(row) => add(threads, (i, row)),
             Spelled::Free => Ok(()),
         },
         None => Err(RowFault::Damaged),
-    }
-}
-
-// No threads, with room for all.
-fn no_threads(alloc: Global) -> Result<Vec<(u64, ThrRow)>, RowFault>
-    ensures none { IfOk result (λ threads. threads.items ≡ []) }
-    ensures room { IfOk result (λ threads. thread_rows ≤ vec_capacity threads) }
-    ensures memory { result ≢ Err RowFault.Damaged }
-    ensures no_disk { result ≢ Err RowFault.Disk }
-{
-    match Vec::with_capacity(alloc, THREAD_LIMIT) {
-        Ok(threads) => Ok(threads),
-        Err(_) => Err(RowFault::Memory),
     }
 }
 
@@ -79,7 +54,7 @@ pub(crate) fn read_threads<D: Disk>(
     ensures cause { result ≡ Err RowFault.Disk → CountRose D.Disk disk.old disk.new }
     ensures reads { OnlyRead D.Disk disk.old disk.new }
 {
-    let mut threads = no_threads(alloc)?;
+    let mut threads = with_room(alloc, THREAD_LIMIT)?;
     let mut block = [0; BLOCK_SIZE];
     for i in 0..THREAD_LIMIT as u64 {
         match read_block(view, disk, FIRST_THREAD_BLOCK + i, &mut block) {

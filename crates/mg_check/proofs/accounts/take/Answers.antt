@@ -9,18 +9,18 @@ use Rattle.mg_check.proofs.accounts.take.Goals as goal
 
 pub returns-in-Some-Row-clause-told : goal.returns-in-Some-Row-clause-told
 returns-in-Some-Row-clause-told c =
-    on_ok_weaker c.add.result
+    on_ok_weaker c.add_next.result
     (λ more read here live.
-    live_more read c.args.i c.in-Some-Row.row (placed_from 0 c.args.accounts.now.items) (placed_from 0 c.add.new.accounts.items) live
+    live_more read c.args.i c.in-Some-Row.row (placed_from 0 c.args.accounts.now.items) (placed_from 0 c.add_next.new.accounts.items) live
     (here ∙ sym c.account_in.ensures ∙ ap as_read c.in-Some-Row.is ∙ ap (λ f. as_read (Some f)) c.in-Some-Row.field-0-is)
-    (accounts_more c.args.accounts.now.items c.add.new.accounts.items c.args.i c.in-Some-Row.row more.0 more.1))
-    c.add.ensures.more
+    (accounts_more c.args.accounts.now.items c.add_next.new.accounts.items c.args.i c.in-Some-Row.row more.0 more.1))
+    c.add_next.ensures.more
 
 pub returns-in-Some-Row-clause-damaged : goal.returns-in-Some-Row-clause-damaged
 returns-in-Some-Row-clause-damaged c is read here told =
     gap_at read c.args.accounts.now.items c.args.i account_rows c.in-Some-Row.row told
     (here ∙ sym c.account_in.ensures ∙ ap as_read c.in-Some-Row.is ∙ ap (λ f. as_read (Some f)) c.in-Some-Row.field-0-is)
-    c.requires.place (c.add.ensures.damaged is)
+    c.requires.place (c.add_next.ensures.damaged is)
 
 pub returns-in-Some-Free-clause-told : goal.returns-in-Some-Free-clause-told
 returns-in-Some-Free-clause-told c read here told =

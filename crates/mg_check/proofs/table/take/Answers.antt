@@ -1,12 +1,14 @@
 use Rattle.std.proofs.Common.{◌==◌, ◌++◌, ◌∷◌, [], ap, sym, ◌∙◌}
 use Rattle.std.proofs.lemmas.Bool.{eq-eqb}
+use Rattle.std.proofs.lemmas.Result.{on_ok_weaker}
 use Rattle.mg_check.proofs.Entries.{entry-free, entry-held}
 use Rattle.mg_check.proofs.table.take.Goals as goal
 
-pub returns-in-Ok-clause-told : goal.returns-in-Ok-clause-told
-returns-in-Ok-clause-told c entry is told =
-    entry-held entry c.args.f c.args.frames c.args.table.now.items c.push.new.self.items c.if-f-frames.true told
-    (c.in-Ok.ensures.items ∙ ap (λ n. c.args.table.now.items ++ n ∷ []) (c.number_at-page.ensures ∙ sym is))
+pub returns-then-f-frames-clause-told : goal.returns-then-f-frames-clause-told
+returns-then-f-frames-clause-told c =
+    on_ok_weaker c.add.result
+    (λ more entry is told. entry-held entry c.args.f c.args.frames c.args.table.now.items c.add.new.list.items c.if-f-frames.true told (more ∙ ap (λ n. c.args.table.now.items ++ n ∷ []) (c.number_at-page.ensures ∙ sym is)))
+    c.add.ensures.more
 
 pub returns-then-page-eq0-clause-told : goal.returns-then-page-eq0-clause-told
 returns-then-page-eq0-clause-told c entry is told =

@@ -9,7 +9,7 @@ pub returns-in-Row-clause-told : goal.returns-in-Row-clause-told
 returns-in-Row-clause-told c =
     on_ok_weaker c.add.result
     (λ more read here live.
-    live_more read c.args.i c.in-Row.row c.args.threads.now.items c.add.new.threads.items live (here ∙ sym c.in-Some.ensures ∙ ap (λ f. as_read (Some f)) c.in-Row.is) more)
+    live_more read c.args.i c.in-Row.row c.args.threads.now.items c.add.new.list.items live (here ∙ sym c.in-Some.ensures ∙ ap (λ f. as_read (Some f)) c.in-Row.is) more)
     c.add.ensures.more
 
 pub returns-in-Row-clause-damaged : goal.returns-in-Row-clause-damaged
@@ -25,7 +25,7 @@ pub returns-in-None-clause-damaged : goal.returns-in-None-clause-damaged
 returns-in-None-clause-damaged c is = sym c.in-None.ensures
 
 pub returns-in-Row-clause-placed : goal.returns-in-Row-clause-placed
-returns-in-Row-clause-placed c = on_ok_weaker c.add.result (λ more are. placed_more c.args.i c.in-Row.row c.args.threads.now.items c.add.new.threads.items more are) c.add.ensures.more
+returns-in-Row-clause-placed c = on_ok_weaker c.add.result (λ more are. placed_more c.args.i c.in-Row.row c.args.threads.now.items c.add.new.list.items more are) c.add.ensures.more
 
 pub returns-in-Free-clause-placed : goal.returns-in-Free-clause-placed
 returns-in-Free-clause-placed c are = placed_wider c.args.i (c.args.i + 1) c.args.threads.now.items (omega arith) are
