@@ -8,13 +8,13 @@ use Rattle.mg_model.specs.Bytes.{are_zeros}
 use Rattle.mg_model.specs.Layout.{account_rows, globals_block, object_rows, thread_rows}
 use Rattle.mg_model.specs.Replay.{block_of}
 use Rattle.mg_model.specs.Settings.{Settings}
-use Rattle.mg_model.specs.Spelling.{Read, account_read, globals_read, object_read, thread_read}
+use Rattle.mg_model.specs.Spelling.{account_read, globals_read, object_read, thread_read}
 use Rattle.mg_model.specs.State.{Counters, ObjectRow, ThreadRow}
 use Rattle.mg_model.specs.Volume.{Damaged, Is, Rows, VolumeRead, account_row_bytes, accounts_fit, fitting, has_no_gap, live_rows, object_row_bytes, objects_fit, rows_of, state_spelled, table_fits, thread_row_bytes, threads_fit, whole_table}
 use Rattle.mg_model.specs.VolumeReads.{rows_from, rows_with}
-use Rattle.mg_check.specs.RowsTold.{HasGap, HasNoState, NoCounters}
+use Rattle.mg_check.specs.RowsTold.{HasNoState, NoCounters}
 use Rattle.mg_check.specs.TableTold.{HasRest}
-use Rattle.mg_check.specs.Told.{NotSpelled}
+use Rattle.mg_check.specs.Told.{AreLive, NotSpelled}
 
 -- over what is read, whatever it is
 module _ (frames : ℕ) (whole : List ℕ) where
@@ -100,20 +100,13 @@ module _ (settings : Settings) (image : List (List ℕ)) where
   pub without-zeros : HasRest image settings.frames → HasNoState settings image
   without-zeros missing = no_state (no_table frames whole counters (accounts account_rows) (threads thread_rows) (objects object_rows) missing.rest)
 
-  -- where no account is spelled, or one stands behind a free row
-  pub with-gap : HasGap (λ i. account_read (account_row_bytes image i)) account_rows → HasNoState settings image
-  with-gap gap = at (accounts account_rows) refl
-    where
-      read : ℕ → Read AccRow
-      read i = account_read (account_row_bytes image i)
+  pub without-accounts : NotSpelled (λ i. account_read (account_row_bytes image i)) account_rows → HasNoState settings image
+  without-accounts missing = no_state (ap (λ a. rows_from frames counters a (threads thread_rows) (objects object_rows) whole) missing.none ∙ no_accounts frames whole counters (threads thread_rows) (objects object_rows))
 
-      rows_are : (found : Option (List (ℕ × AccRow))) → accounts account_rows ≡ found → rows_of image settings.frames ≡ rows_from frames counters found (threads thread_rows) (objects object_rows) whole
-      rows_are found is = ap (λ a. rows_from frames counters a (threads thread_rows) (objects object_rows) whole) is
-
-      at : (found : Option (List (ℕ × AccRow))) → accounts account_rows ≡ found → HasNoState settings image
-      at None is = no_state (rows_are None is ∙ no_accounts frames whole counters (threads thread_rows) (objects object_rows))
-      at (Some rows) is = record {
-        none =
-            ap (reading settings image) (rows_are (Some rows) is)
-            ∙ unfit settings image frames counters (threads thread_rows) (objects object_rows) whole rows (gap.each rows is);
-      }
+  -- where an account stands behind a free row
+  pub with-gap : (rows : List (ℕ × AccRow)) → AreLive (λ i. account_read (account_row_bytes image i)) account_rows rows → has_no_gap 0 rows ≡ false → HasNoState settings image
+  with-gap rows live gap = record {
+    none =
+        ap (reading settings image) (ap (λ a. rows_from frames counters a (threads thread_rows) (objects object_rows) whole) live.are)
+        ∙ unfit settings image frames counters (threads thread_rows) (objects object_rows) whole rows gap;
+  }

@@ -4,9 +4,8 @@ use Rattle.std.proofs.Common.{subst, sym, arith, length-append}
 use Rattle.std.proofs.lemmas.List.Elements.{All-append, All-cons, All-head, All-nil, All-tail}
 use Rattle.std.proofs.lemmas.List.Kept.{AllPairs-cons}
 use Rattle.mg_model.specs.KeptLists.{AllPairs-head, AllPairs-nil, AllPairs-tail}
-use Rattle.mg_model.specs.State.{ObjectRow}
-use Rattle.mg_model.specs.Ranges.{IsObjectRow}
-use Rattle.mg_check.specs.RowsRead.{AreInRange, ArePlaced}
+use Rattle.mg_check.specs.RowsRead.{ArePlaced}
+use Rattle.mg_check.specs.Told.{EachKeeps}
 
 module _ {R : Type 0} where
   abbrev Before : ℕ × R → ℕ × R → Type 0
@@ -46,8 +45,13 @@ module _ {R : Type 0} where
   pub placed_all : (n m : ℕ) (rows : List (ℕ × R)) → n ≡ m → ArePlaced n rows → ArePlaced m rows
   placed_all n m rows same are = subst (λ k. ArePlaced k rows) same are
 
-abbrev InRange : ℕ × ObjectRow → Type 0
-InRange o = IsObjectRow o.1
+-- what each row keeps
+module _ {R : Type 0} (P : R → Type 0) where
+  abbrev Keeps : ℕ × R → Type 0
+  Keeps row = P row.1
 
-pub ranges_more : (i : ℕ) (row : ObjectRow) (old new : List (ℕ × ObjectRow)) → new ≡ old ++ (i, row) ∷ [] → IsObjectRow row → AreInRange old → AreInRange new
-ranges_more i row old new more range are = subst AreInRange (sym more) (All-append InRange old ((i, row) ∷ []) are (All-cons InRange (i, row) [] range (All-nil InRange)))
+  pub kept_none : EachKeeps P []
+  kept_none = All-nil Keeps
+
+  pub kept_more : (i : ℕ) (row : R) (old new : List (ℕ × R)) → new ≡ old ++ (i, row) ∷ [] → P row → EachKeeps P old → EachKeeps P new
+  kept_more i row old new more here are = subst (EachKeeps P) (sym more) (All-append Keeps old ((i, row) ∷ []) are (All-cons Keeps (i, row) [] here (All-nil Keeps)))

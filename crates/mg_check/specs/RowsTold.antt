@@ -1,17 +1,12 @@
 -- What is told of a volume by the rows that were read.
-use Rattle.std.specs.Prelude.{◌≡◌, ℕ, false, List, None, Some}
+use Rattle.std.specs.Prelude.{◌≡◌, ℕ, List, None, Some}
 use Rattle.mg_check.specs.declared.volume_rows.VolumeRows.{VolumeRows}
 use Rattle.mg_check.specs.RowsRead.{rows_in, state_in}
-use Rattle.mg_model.specs.declared.accounts.AccRow.{AccRow}
 use Rattle.mg_model.specs.Layout.{globals_block}
 use Rattle.mg_model.specs.Replay.{block_of}
 use Rattle.mg_model.specs.Settings.{Settings}
-use Rattle.mg_model.specs.Spelling.{Read, globals_read}
-use Rattle.mg_model.specs.Volume.{Damaged, Is, has_no_gap, live_rows, replayed_volume, rows_of}
-
--- one of the first n rows spells nothing, or a live row stands behind a free one
-pub record HasGap (read : ℕ → Read AccRow) (n : ℕ) : Type 0 where
-  pub each : (rows : List (ℕ × AccRow)) → live_rows read 0 n ≡ Some rows → has_no_gap 0 rows ≡ false
+use Rattle.mg_model.specs.Spelling.{globals_read}
+use Rattle.mg_model.specs.Volume.{Damaged, Is, replayed_volume, rows_of}
 
 -- the globals are not spelled
 pub record NoCounters (image : List (List ℕ)) : Type 0 where

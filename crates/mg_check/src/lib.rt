@@ -17,6 +17,7 @@ mod settings;
 mod sorted;
 mod soundness;
 mod table;
+mod table_rows;
 mod tables;
 mod threads;
 mod volume_rows;

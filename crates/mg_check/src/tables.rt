@@ -9,18 +9,17 @@ ghost use Rattle.mg_model.specs.Layout.{globals_block, table_block, total_blocks
 ghost use Rattle.mg_model.specs.Replay.{block_of};
 ghost use Rattle.mg_model.specs.Spelling.{globals_read};
 
-use crate::accounts::read_accounts;
+use crate::accounts::without_places;
 use crate::faults::RowFault;
-use crate::objects::read_objects;
 use crate::reading::read_block;
 use crate::table::read_table;
-use crate::threads::read_threads;
+use crate::table_rows::read_all;
 use crate::volume_rows::VolumeRows;
 use mg_disk::{BLOCK_SIZE, Disk};
 use mg_faults::Failed;
 use mg_journal::View;
 use mg_layout::GLOBALS_BLOCK;
-use mg_model::{Globals, Params};
+use mg_model::{AccRow, Globals, Params};
 use mg_rows::read_globals;
 use std::alloc::Global;
 
@@ -61,9 +60,10 @@ fn read_tables<D: Disk>(
 {
     let frames = p.frames();
     let globals = read_counters(view, disk)?;
-    let accounts = read_accounts(alloc, view, disk)?;
-    let threads = read_threads(alloc, view, disk)?;
-    let objects = read_objects(alloc, view, disk)?;
+    let placed: Vec<(u64, AccRow)> = read_all(alloc, view, disk)?;
+    let accounts = without_places(alloc, &placed)?;
+    let threads = read_all(alloc, view, disk)?;
+    let objects = read_all(alloc, view, disk)?;
     let table = read_table(alloc, view, disk, frames)?;
     Ok(VolumeRows {
         params: *p,

@@ -1,0 +1,101 @@
+// Tables of rows.
+ghost use Rattle.std.specs.Prelude.{◌≡◌, ◌≢◌, ◌≤◌, ◌<◌, ◌+◌, ◌-◌, ℕ, List, All, IfOk, OnOk, None, Some, false, vec_capacity};
+ghost use Rattle.std.specs.Option.{ForSome};
+ghost use Rattle.mg_disk.specs.Stops.{CountRose};
+ghost use Rattle.mg_model.specs.Layout.{table_block};
+ghost use Rattle.mg_model.specs.Replay.{block_of};
+ghost use Rattle.mg_model.specs.Spelling.{Read};
+ghost use Rattle.mg_rows.specs.Answers.{as_read};
+ghost use Rattle.mg_check.specs.Reads.{CanRead, OnlyRead, contents};
+ghost use Rattle.mg_check.specs.RowsRead.{ArePlaced};
+ghost use Rattle.mg_check.specs.Told.{AreLive, EachKeeps, NotSpelled};
+
+use crate::faults::RowFault;
+use crate::lists::{add, with_room};
+use crate::reading::turn_to;
+use mg_disk::{BLOCK_SIZE, Block, Disk};
+use mg_faults::Failed;
+use mg_journal::View;
+use mg_rows::Spelled;
+use std::alloc::Global;
+
+/// A row of a table: where the table lies, and what a place of it spells.
+pub(crate) trait TableRow: Copy {
+    ghost ROWS: { ℕ };
+
+    /// How many rows the table has.
+    const ROWS: u64;
+
+    /// The block of the volume that row `i` lies in.
+    ghost block_at: { ℕ → ℕ };
+
+    /// What row `i` spells in its block.
+    ghost spelled: { List ℕ → ℕ → Read Self };
+
+    /// What every row of the table keeps.
+    ghost IsKept: { Self → Type 0 };
+
+    /// The block of the volume that row `i` lies in.
+    fn block_at(i: u64) -> u64
+        requires { i < ROWS }
+        ensures place { result ≡ block_at i }
+        ensures within { result < table_block };
+
+    /// Whether row `i` is the first in its block.
+    fn is_first(i: u64) -> bool
+        ensures first { i ≡ 0 → result ≢ false }
+        ensures other { result ≡ false → block_at (i - 1) ≡ block_at i };
+
+    /// What row `i` spells in its block.
+    fn read(block: &Block, i: u64) -> Option<Spelled<Self>>
+        requires { i < ROWS }
+        ensures spelled { as_read result ≡ spelled block.now i }
+        ensures kept { (row : Self) → as_read result ≡ Some (Some row) → IsKept row };
+}
+
+// Takes row `i` of the table out of its block.
+fn take<R: TableRow>(rows: &mut Vec<(u64, R)>, i: u64, block: &Block) -> Result<(), RowFault>
+    requires place { i < R.ROWS }
+    ensures told { OnOk result ((read : ℕ → Read R) → read i ≡ R.spelled block.now i → AreLive read i rows.old.items → AreLive read (i + 1) rows.new.items) }
+    ensures damaged { result ≡ Err RowFault.Damaged → R.spelled block.now i ≡ None }
+    ensures no_disk { result ≢ Err RowFault.Disk }
+    ensures placed { OnOk result (ArePlaced i rows.old.items → ArePlaced (i + 1) rows.new.items) }
+    ensures kept { OnOk result (EachKeeps R.IsKept rows.old.items → EachKeeps R.IsKept rows.new.items) }
+    ensures room { vec_capacity rows.old ≤ vec_capacity rows.new }
+{
+    match R::read(block, i) {
+        Some(spelled) => match spelled {
+            Spelled::Row(row) => add(rows, (i, row)),
+            Spelled::Free => Ok(()),
+        },
+        None => Err(RowFault::Damaged),
+    }
+}
+
+/// Reads all rows of a table, each with its place, in the order of these places.
+pub(crate) fn read_all<R: TableRow, D: Disk>(
+    alloc: Global,
+    view: &View,
+    disk: &mut D,
+) -> Result<Vec<(u64, R)>, RowFault>
+    requires room { table_block ≤ view.now.total }
+    requires can { CanRead D.Disk disk.old view.now }
+    ensures told { IfOk result (λ rows. ForSome (contents D.Disk disk.old view.now.total) (λ r. AreLive (λ i. R.spelled (block_of r (R.block_at i)) i) R.ROWS rows.items)) }
+    ensures damaged { result ≡ Err RowFault.Damaged → ForSome (contents D.Disk disk.old view.now.total) (λ r. NotSpelled (λ i. R.spelled (block_of r (R.block_at i)) i) R.ROWS) }
+    ensures placed { IfOk result (λ rows. ArePlaced R.ROWS rows.items) }
+    ensures kept { IfOk result (λ rows. EachKeeps R.IsKept rows.items) }
+    ensures room { IfOk result (λ rows. R.ROWS ≤ vec_capacity rows) }
+    ensures cause { result ≡ Err RowFault.Disk → CountRose D.Disk disk.old disk.new }
+    ensures reads { OnlyRead D.Disk disk.old disk.new }
+{
+    let mut rows = with_room(alloc, R::ROWS as usize)?;
+    let mut block = [0; BLOCK_SIZE];
+    for i in 0..R::ROWS {
+        match turn_to(view, disk, R::block_at(i), R::is_first(i), &mut block) {
+            Ok(()) => {}
+            Err(Failed) => return Err(RowFault::Disk),
+        }
+        take(&mut rows, i, &block)?;
+    }
+    Ok(rows)
+}
