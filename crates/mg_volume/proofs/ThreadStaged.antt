@@ -28,9 +28,9 @@ module _ (v : VolumeHeld) (p : PagesHeld) (image : Image) (t place : ℕ) (row :
   placed : (s : Spelled v image) → ArePlaced 0 256 s.threads
   placed s = (told (λ i. thread_read (thread_row_bytes (pages.coming v.pages image) i)) 0 thread_rows s.threads s.threads_are).placed
 
-  pub thread_now : IsSpelledBy v image → pages.table_in p ≡ pages.table_in v.pages → now_of (with_threads v rows p) image ≡ record (now_of v image) { threads = threads_with t row (threads_in v) }
-  unfolding IsSpelledBy now_of threads_in
-  thread_now s table =
+  pub thread_now : pages.table_in p ≡ pages.table_in v.pages → now_of (with_threads v rows p) image ≡ record (now_of v image) { threads = threads_with t row (threads_in v) }
+  unfolding now_of threads_in
+  thread_now table =
       ap (λ objects. record (now_of v image) { objects = objects; threads = map as_thread rows }) (staged_objects v p image (first_thread_block + t - 1) bytes (omega arith) table coming)
       ∙ ap (λ threads. record (now_of v image) { threads = threads }) (ap (map as_thread) put ∙ threads_mapped t row v.threads)
 

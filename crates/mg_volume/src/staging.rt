@@ -4,7 +4,7 @@ ghost use Rattle.std.specs.Option.{option_map_or};
 ghost use Rattle.mg_model.specs.ObjectCalls.{drawn, next_password};
 ghost use Rattle.mg_model.specs.Spelling.{thread_read};
 ghost use Rattle.mg_volume.specs.Calls.{Stages};
-ghost use Rattle.mg_volume.specs.Meaning.{IsSpelledBy, counters_in, now_of, objects_in, staged_of, threads_in};
+ghost use Rattle.mg_volume.specs.Meaning.{counters_in, now_of, objects_in, staged_of, threads_in};
 ghost use Rattle.mg_volume.specs.Staging.{ObjectsStillStaged, are_counters_staged, is_thread_staged, threads_with};
 
 use crate::volume::Volume;
@@ -36,7 +36,7 @@ impl Volume {
         requires some { 1 ≤ t }
         requires few { t ≤ 256 }
         requires room { (is_thread_staged self.old t ≡ true) ⊎ (staged_of self.old < 160) }
-        ensures now { (image : List (List ℕ)) → IsSpelledBy self.old image → now_of self.new image ≡ record (now_of self.old image) { threads = threads_with t row (threads_in self.old) } }
+        ensures now { (image : List (List ℕ)) → now_of self.new image ≡ record (now_of self.old image) { threads = threads_with t row (threads_in self.old) } }
         ensures rows { objects_in self.new ≡ objects_in self.old }
         ensures stages { Stages 1 self.old self.new }
         ensures objects { ObjectsStillStaged self.old self.new }

@@ -17,11 +17,10 @@ invariant_of-self c =
     held_same (record v { threads = c.put.new.self }) c.stage.new.self _ (held_threads v c.put.new.self _ c.self.invariant c.keep_rules.ensures.few) c.stage.ensures.shape.frames c.stage.ensures.table
 
 pub returns-clause-now : goal.returns-clause-now
-returns-clause-now c image is =
-    let was = rw (← c.self.view_is) at is in
+returns-clause-now c image =
     let number : c.args.t - 1 + 1 ≡ c.args.t = omega arith in
     rw (← c.self.view_is)
-    (thread_now (the_view c.self.inside) c.stage.new.self image c.args.t (c.args.t - 1) c.args.row c.put.new.self c.thread_block-block.result number (omega arith) (c.stage.ensures.coming image) c.put.ensures was c.stage.ensures.table)
+    (thread_now (the_view c.self.inside) c.stage.new.self image c.args.t (c.args.t - 1) c.args.row c.put.new.self c.thread_block-block.result number (omega arith) (c.stage.ensures.coming image) c.put.ensures c.stage.ensures.table)
 
 pub returns-clause-rows : goal.returns-clause-rows
 unfolding objects_in
