@@ -1,11 +1,9 @@
 pub mod Awaited
 pub mod Begun
-pub mod Binding
 pub mod Changed
 pub mod Committed
 pub mod Counted
 pub mod Entries
-pub mod Loaded
 pub mod Made
 pub mod Numbers
 pub mod OneBlock

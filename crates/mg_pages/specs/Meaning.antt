@@ -132,11 +132,6 @@ pub record CountsNone (old new : PagesHeld) (before now : ℕ) : Type 0 where
   pub words : words_in new ≡ words_in old
   pub ticks : now ≡ before
 
--- the frame table that a replayed image spells: no page stands there twice, and nothing behind its last entry
-pub record IsTable (frames : ℕ) (r : Image) : Type 0 where
-  pub past : are_zeros (drop frames (whole_table r frames)) ≡ true
-  pub distinct : all_distinct (bound_pages (table_of r frames)) ≡ true
-
 -- these entries, one a frame, are the frame table that a replayed image spells, and nothing stands behind its last entry
 pub record HasTable (entries : List ℕ) (r : Image) : Type 0 where
   pub table : table_of r (length entries) ≡ entries

@@ -1,5 +1,5 @@
 -- What the parts of a change of pages do, over the lists that they are given.
-use Rattle.std.specs.Prelude.{◌≡◌, ◌⊎◌, ◌+◌, ◌/◌, ◌≤◌, ◌<◌, ◌==◌, ◌||◌, ℕ, true, false, List, [], ◌∷◌, if◌then◌else◌, length, replicate, slice_set, Option, Some}
+use Rattle.std.specs.Prelude.{◌≡◌, ◌⊎◌, ◌+◌, ◌/◌, ◌≤◌, ◌<◌, ◌==◌, ℕ, true, false, List, length, replicate, slice_set, Option, Some}
 use Rattle.std.specs.List.{list_any, position}
 use Rattle.std.specs.Option.{ForSome}
 use Rattle.mg_disk.specs.Disk.{Image, block_at}
@@ -49,15 +49,6 @@ pub record BindsWord (page index value : ℕ) (old_frames new_frames : List ℕ)
 abbrev pub Stores : Option Image → Store → ℕ → ℕ → ℕ → List ℕ → List ℕ → List (ℕ × List ℕ) → List (ℕ × List ℕ) → Type 0
 Stores told store page index value old_frames new_frames old new =
     ((new_frames ≡ old_frames) × ChangesWord told store page index value old_frames old new) ⊎ BindsWord page index value old_frames new_frames old new
-
--- the frames once these entries are bound from a frame on: an entry whose page is bound already, or past the last frame, is
--- passed over
-abbrev pub bound_at : List ℕ → ℕ → ℕ → List ℕ
-bound_at frames frame page = if page == 0 || list_any (λ entry. entry == page) frames then frames else slice_set frames frame page
-
-abbrev pub bound_from : List ℕ → ℕ → List ℕ → List ℕ
-bound_from frames frame [] = frames
-bound_from frames frame (page ∷ pages) = bound_from (bound_at frames frame page) (frame + 1) pages
 
 -- the first blocks of a frame table spell other frames: those of them that change are staged
 pub record StagesTable (old_frames new_frames : List ℕ) (n : ℕ) (old new : List (ℕ × List ℕ)) : Type 0 where

@@ -1,5 +1,5 @@
 // What a word will be once what is staged is committed.
-ghost use Rattle.std.specs.Prelude.{◌≡◌, ◌≢◌, ◌≤◌, ◌<◌, ◌*◌, true, IfOk, IsSomeAnd, MatchOption, None, OnErr, length, slice_index};
+ghost use Rattle.std.specs.Prelude.{◌≡◌, ◌≢◌, ◌≤◌, ◌<◌, ◌*◌, true, IfOk, IsSomeAnd, MatchOption, None, length, slice_index};
 ghost use Rattle.std.specs.Option.{ForSome};
 ghost use Rattle.mg_disk.specs.Disk.{block_at};
 ghost use Rattle.mg_disk.specs.Stops.{DiskCalls, WritesNothing};

@@ -9,7 +9,6 @@
 #![tactic(auto)]
 
 mod coming;
-mod loading;
 mod pages;
 mod releasing;
 mod storing;

@@ -1,24 +1,22 @@
 // The pages of a volume, and what is staged.
-ghost use Rattle.std.specs.Prelude.{[], List, ◌≡◌, ◌≢◌, ◌⊎◌, ◌≤◌, ◌<◌, ◌+◌, ◌%◌, ◌^◌, ℕ, true, false, IfOk, IsOk, IsSomeAnd, OnErr, OnOk, length, replicate, slice_index, slice_set};
+ghost use Rattle.std.specs.Prelude.{[], List, ◌≡◌, ◌≢◌, ◌⊎◌, ◌≤◌, ◌<◌, ◌+◌, ◌%◌, ◌^◌, ℕ, true, false, IfOk, IsOk, IsSomeAnd, OnErr, OnOk, length, slice_index, slice_set};
 ghost use Rattle.std.specs.Option.{ForSome};
 ghost use Rattle.mg_disk.specs.Stops.{DiskCalls, Leaves, WritesNothing};
 ghost use Rattle.mg_journal.specs.Contents.{SameContents};
 ghost use Rattle.mg_journal.specs.Standing as journal;
-ghost use Rattle.mg_model.specs.Layout.{first_frame, globals_block, table_block, table_blocks, total_blocks};
+ghost use Rattle.mg_model.specs.Layout.{globals_block, table_block, total_blocks};
 ghost use Rattle.mg_model.specs.Tests.{all_distinct};
-ghost use Rattle.mg_model.specs.Volume.{bound_pages, table_of};
-ghost use Rattle.mg_pages.specs.Meaning.{BindsOnly, CountsNone, CountsOne, HasTable, IsKept, IsTable, Keeps, Releases, SameShape, SetsWord, StagesMore, StandsOn, Unbinds, IsSpelledBy, coming, frame_count, is_bound, is_live, is_staged, page_now, replayed, staged_of, store_of, table_in, total_of, words_in};
+ghost use Rattle.mg_model.specs.Volume.{bound_pages};
+ghost use Rattle.mg_pages.specs.Meaning.{BindsOnly, CountsNone, CountsOne, HasTable, IsKept, Keeps, Releases, SameShape, SetsWord, StagesMore, StandsOn, Unbinds, IsSpelledBy, coming, frame_count, is_bound, is_live, is_staged, page_now, replayed, staged_of, store_of, table_in, total_of, words_in};
 ghost use Rattle.mg_pages.specs.Committing.{HasContents};
 
 use crate::coming::page_word;
-use crate::loading::load_entries;
 use crate::releasing::release_pages;
 use crate::storing::store_word;
 use mg_disk::{Block, Disk};
 use mg_faults::Failed;
 use mg_frames::Frames;
 use mg_journal::{Store, Writes};
-use mg_layout::Geometry;
 use mg_model::Steps;
 use std::alloc::{AllocError, Global};
 use std::marker::Model;
@@ -73,49 +71,6 @@ impl Pages {
             writes,
             count: 0,
         })
-    }
-
-    /// The pages of a volume with this journal and these places, none bound yet. All memory that they will need is taken
-    /// here.
-    pub fn new(alloc: Global, store: Store, g: Geometry) -> Result<Pages, AllocError>
-        requires frames { (frames : ℕ) × (16 ≤ frames) × (frames ≤ 65536) × (g.total ≡ total_blocks frames) × (g.table ≡ table_blocks frames) × (g.first_frame ≡ first_frame frames) }
-        requires total { journal.total_of store ≡ g.total }
-        ensures store { IfOk result (λ p. store_of p ≡ store) }
-        ensures total { IfOk result (λ p. total_of p ≡ g.total) }
-        ensures frames { IfOk result (λ p. first_frame (frame_count p) ≡ g.first_frame) }
-        ensures none { IfOk result (λ p. table_in p ≡ replicate (frame_count p) 0) }
-        ensures live { IfOk result (λ p. is_live p ≡ journal.is_live store) }
-        ensures staged { IfOk result (λ p. staged_of p ≡ 0) }
-        ensures coming { IfOk result (λ p. (image : List (List ℕ)) → coming p image ≡ replayed g.total image) }
-    {
-        let frames = Frames::new(alloc, g.total - g.first_frame)?;
-        let writes = Writes::new(alloc)?;
-        Ok(Pages {
-            store,
-            frames,
-            writes,
-            count: 0,
-        })
-    }
-
-    /// Binds the pages that the frame table of the disk names. Where the disk does not tell its reads, an entry whose page
-    /// is bound already is passed over. After [`Failed`], which comes only where a call of the disk failed, some pages may
-    /// be bound.
-    pub fn load_table<D: Disk>(&mut self, disk: &mut D) -> Result<(), Failed>
-        requires stands { journal.Stands D.Disk (store_of self.old) disk.old }
-        requires none { table_in self.old ≡ replicate (frame_count self.old) 0 }
-        requires unstaged { staged_of self.old ≡ 0 }
-        requires table { ForSome (D.seen disk.old) (λ image. IsTable (frame_count self.old) (coming self.old image)) }
-        ensures table { OnOk result (ForSome (D.seen disk.old) (λ image. table_in self.new ≡ table_of (coming self.old image) (frame_count self.old))) }
-        ensures stands { OnOk result (StandsOn D.Disk self.new disk.new) }
-        ensures coming { (image : List (List ℕ)) → coming self.new image ≡ coming self.old image }
-        ensures shape { SameShape self.old self.new }
-        ensures unstaged { staged_of self.new ≡ 0 }
-        ensures words { words_in self.new ≡ words_in self.old }
-        ensures writes { WritesNothing D.Disk disk.old disk.new }
-        ensures calls { DiskCalls D.Disk disk.old disk.new result }
-    {
-        load_entries(&self.store, &mut self.frames, disk)
     }
 
     /// The page that a frame holds, 0 where it is free.

@@ -1,5 +1,5 @@
 // The frames of released pages, and the blocks of the frame table that change.
-ghost use Rattle.std.specs.Prelude.{◌≡◌, ◌+◌, ◌/◌, ◌≤◌, ◌<◌, ◌^◌, ℕ, false, true, length, map, slice_index, slice_index_or};
+ghost use Rattle.std.specs.Prelude.{◌≡◌, ◌+◌, ◌/◌, ◌≤◌, ◌<◌, ℕ, false, true, length, map, slice_index, slice_index_or};
 ghost use Rattle.mg_frames.specs.Words.{is_within, unless_within};
 ghost use Rattle.mg_model.specs.Layout.{body_limit, table_blocks};
 ghost use Rattle.mg_journal.specs.Staged.{are_once};
