@@ -7,7 +7,7 @@ use Rattle.std.proofs.lemmas.List.{take-append-drop, take_more}
 use Rattle.mg_disk.specs.declared.disk.Disk.{Ghosts}
 use Rattle.mg_kernel.specs.Meaning.{is_live}
 use Rattle.mg_model.specs.declared.calls.Line.{Line}
-use Rattle.mg_session.proofs.Cutting.{lines-ended, lines-last}
+use Rattle.mg_model.specs.Cutting.{lines-ended, lines-last}
 use Rattle.mg_model.specs.Lines.{built_words, line_of, lines}
 use Rattle.mg_model.specs.Words.{is_newline}
 use Rattle.mg_model.specs.Counts.{CountsAlike}
@@ -37,7 +37,7 @@ module _ {D : Type 0} (facts : Ghosts D) where
   Runs-then p xs q ys r g h = λ entry sofar a. subst (λ (v : List Line). Session facts entry v r) (append_assoc sofar xs ys) (h entry (sofar ++ xs) (g entry sofar a))
 
   Runs-halts : (e : Ended) (p : Point D) (xs : List Line) (q : Point D) (ys : List Line) (r : Point D) → Runs facts p xs q → Halts facts e q ys r → Halts facts e p (xs ++ ys) r
-  Runs-halts e p xs q ys r g h = λ entry sofar a. subst (λ (v : List Line). Broken facts e entry v (is_live r.kernel) r.disk r.taken) (append_assoc sofar xs ys) (h entry (sofar ++ xs) (g entry sofar a))
+  Runs-halts e p xs q ys r g h = λ entry sofar a. subst (λ (v : List Line). Broken facts e entry v (is_live r.kernel) r.steps r.disk r.taken) (append_assoc sofar xs ys) (h entry (sofar ++ xs) (g entry sofar a))
 
   pub Goes-none : (p : Point D) (part : List ℕ) → Goes facts p part [] p part
   Goes-none p part = record { ls = []; cuts = λ rest. refl; steps = Runs-none p }
@@ -125,4 +125,4 @@ module _ {D : Type 0} (facts : Ghosts D) where
   pub Halts-note : (e : Ended) (p : Point D) (part : List ℕ) (q : Point D) → list_any is_newline part ≡ false → line_of built_words part ≡ None → FailsToClose facts e p q → Halts facts e p (lines built_words part) q
   Halts-note e p part q whole none h =
       subst (λ (v : List Line). Halts facts e p v q) (sym (lines-last built_words part whole ∙ ap (λ o. option_to_list o) none))
-      (λ entry sofar a. subst (λ (v : List Line). Broken facts e entry v (is_live q.kernel) q.disk q.taken) (sym (append-nil sofar)) (h entry sofar a))
+      (λ entry sofar a. subst (λ (v : List Line). Broken facts e entry v (is_live q.kernel) q.steps q.disk q.taken) (sym (append-nil sofar)) (h entry sofar a))

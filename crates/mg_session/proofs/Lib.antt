@@ -1,5 +1,3 @@
-mod Answered
-mod Cutting
 mod Endings
 mod IncomingSteps
 mod Openings
@@ -10,3 +8,4 @@ mod Results
 mod Seed
 mod SessionSteps
 mod Spelled
+mod Spending

@@ -23,7 +23,7 @@ use Rattle.mg_model.specs.State.{State}
 use Rattle.mg_model.specs.Volume.{Damaged, Is, NotVolume, OldVolume, VolumeRead, volume}
 use Rattle.mg_session.specs.declared.status.Status.{Status}
 use Rattle.mg_session.specs.declared.status.Status.TheVariants as status
-use Rattle.mg_session.specs.Headline.{Answers, AnswersLines, AnswersPrefix, AreAnswered, Holds, HoldsExactly, IfState, IsPrefix, KeepsAnswered, MayTell, OnVolume, TellsOfNone, check_line, replies, summary_line}
+use Rattle.mg_session.specs.Headline.{Answers, AnswersLines, AnswersPrefix, AreAnswered, Holds, HoldsExactly, IfState, IsPrefix, IsWithinCost, KeepsAnswered, MayTell, OnVolume, TellsOfNone, check_line, replies, summary_line}
 use Rattle.mg_session.specs.Unopened.{EndsWith, FaultTells, IsQuiet, fault_line}
 use Rattle.mg_session.proofs.SessionSteps.{left_spells, no_lines}
 
@@ -35,6 +35,11 @@ none_put s (Some input) taken = AppendsPrefix-none taken (replies s input)
 none_lines : (s : State) (left taken : Option (List ℕ)) → AnswersLines s left taken taken
 none_lines s None taken = tt
 none_lines s (Some input) taken = (0, omega arith, Appends-none taken)
+
+-- a command that ended before the first step
+pub none_spent : (s : State) (left : Option (List ℕ)) (steps : ℕ) → IsWithinCost s left left steps steps
+none_spent s None steps = tt
+none_spent s (Some input) steps = omega arith
 
 -- a command that ended before the first call of the source and of the sink
 pub first_answers : (s : State) (result : Status) (left taken : Option (List ℕ)) → result ≢ status.Done → Answers s result left left taken taken

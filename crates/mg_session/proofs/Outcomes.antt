@@ -11,20 +11,23 @@ use Rattle.mg_disk.specs.Stops.{Leaves, NothingPending}
 use Rattle.mg_disk.specs.declared.disk.Disk.{Ghosts}
 use Rattle.mg_kernel.specs.Meaning.{is_live, now_of}
 use Rattle.mg_model.specs.declared.calls.Line.{Line}
-use Rattle.mg_session.proofs.Answered.{text-append}
+use Rattle.mg_model.specs.Answered.{text-append}
 use Rattle.mg_model.specs.Print.{answered, text}
 use Rattle.mg_model.specs.Ended.{ended_lines}
 use Rattle.mg_model.specs.Lines.{built_words, lines}
 use Rattle.mg_model.specs.State.{State}
 use Rattle.mg_model.specs.Step.{after}
 use Rattle.mg_model.specs.Volume.{Is, volume}
+use Rattle.mg_model.specs.Warmth.{cost}
+use Rattle.mg_laws.specs.Costs.{PrefixesCostLess}
 use Rattle.mg_session.specs.declared.batches.Ended.{Ended}
 use Rattle.mg_session.specs.declared.batches.Ended.TheVariants as ended
-use Rattle.mg_session.specs.Headline.{AnswersAll, AnswersLines, AnswersPrefix, AreAnswered, FewUnanswered, IsAnswered, IsPrefix, IsWithin, KeepsAnswered, KeepsExactly, KeepsOne, SpellsAfter, TakesAtMost, TakesMore, replies, taken_of}
+use Rattle.mg_session.specs.Headline.{AnswersAll, AnswersLines, AnswersPrefix, AreAnswered, FewUnanswered, IsAnswered, IsPrefix, IsWithin, IsWithinCost, KeepsAnswered, KeepsExactly, KeepsOne, SpellsAfter, TakesAtMost, TakesMore, replies, taken_of}
 use Rattle.mg_session.specs.Readings.{Finishes, Stops}
 use Rattle.mg_session.specs.Sessions.{Entry, Held, IsBetween, Point, PutsWhole, Remains, Session, Stands}
 use Rattle.mg_session.specs.Waiting.{Waiting}
 use Rattle.mg_session.proofs.SessionSteps.{left_spells, prefix_longer}
+use Rattle.mg_session.proofs.Spending.{spent-same}
 
 -- more than the limit is not within it
 pub not_more : (limit : ℕ) (left left' : Option (List ℕ)) (promise : Type 0) → TakesMore limit left left' → IsWithin limit left promise
@@ -63,28 +66,28 @@ answered_in None taken' put k h few = tt
 answered_in (Some before) None put k h few = absurd h
 answered_in (Some before) (Some now) put k h few = omega (arith, ap answered (put_is before now put h))
 
-is_answered : (input rest bytes : List ℕ) (ls : List Line) (taken taken' : Option (List ℕ)) (put : List ℕ) (k : ℕ) → input ≡ bytes ++ rest → length ls ≤ length (lines built_words bytes)
+is_answered : (input rest bytes : List ℕ) (ls : List Line) (taken taken' : Option (List ℕ)) (put : List ℕ) (k : ℕ) → input ≡ bytes ++ rest → (more : List Line) × (lines built_words bytes ≡ ls ++ more)
     → Appends taken taken' put → answered put ≤ k → k ≤ length ls → IsAnswered input rest taken taken' k
 is_answered input rest bytes ls taken taken' put k read came sink least few = record {
   all_answered = answered_in taken taken' put k sink least;
-  came = omega (arith, ap (λ v. length (lines built_words v)) (came_are bytes rest input read));
+  came = omega (arith, ap (λ v. length (lines built_words v)) (came_are bytes rest input read), ap length came.1, length-append ls came.0);
 }
 
-module _ {D : Type 0} (facts : Ghosts D) (entry : Entry D) (limit batch most : ℕ) (alive : Bool) where
+module _ {D : Type 0} (facts : Ghosts D) (entry : Entry D) (limit batch most : ℕ) (alive : Bool) (steps : ℕ) where
   -- the lines that were stepped are first lines of all
-  cut_of : (e : Ended) (input rest : List ℕ) (new : D) (taken : Option (List ℕ)) (w : Stops facts e entry (Some input) limit batch most alive new taken (Some rest))
+  cut_of : (e : Ended) (input rest : List ℕ) (new : D) (taken : Option (List ℕ)) (w : Stops facts e entry (Some input) limit batch most alive steps new taken (Some rest))
       → (more : List Line) × (lines built_words input ≡ w.ls ++ more)
   cut_of e input rest new taken w = (
     (w.will rest refl).0,
     ap (λ v. lines built_words v) w.read ∙ (w.will rest refl).1,
   )
 
-  pub stops_prefix : (e : Ended) (left left' : Option (List ℕ)) (new : D) (taken : Option (List ℕ)) → Stops facts e entry left limit batch most alive new taken left'
+  pub stops_prefix : (e : Ended) (left left' : Option (List ℕ)) (new : D) (taken : Option (List ℕ)) → Stops facts e entry left limit batch most alive steps new taken left'
       → ForSome (facts.seen entry.disk) (λ image. AnswersPrefix (now_of entry.kernel image) left entry.taken taken)
   stops_prefix e None left' new taken w = λ image is. tt
   stops_prefix e (Some input) None new taken w = absurd w.read
   stops_prefix e (Some input) (Some rest) new taken w = λ image is.
-      let t : Remains facts e entry (now_of entry.kernel image) w.ls w.broken.put alive new = w.broken.told image is in
+      let t : Remains facts e entry (now_of entry.kernel image) w.ls w.broken.put alive steps new = w.broken.told image is in
       let cut : (more : List Line) × (lines built_words input ≡ w.ls ++ more) = cut_of e input rest new taken w in (
         w.broken.put,
         t.more ++ text (after (now_of entry.kernel image) w.ls) cut.0,
@@ -94,17 +97,17 @@ module _ {D : Type 0} (facts : Ghosts D) (entry : Entry D) (limit batch most : �
         w.broken.sink,
       )
 
-  pub stops_moments : (e : Ended) (left left' : Option (List ℕ)) (new : D) (taken : Option (List ℕ)) → Stops facts e entry left limit batch most alive new taken left'
+  pub stops_moments : (e : Ended) (left left' : Option (List ℕ)) (new : D) (taken : Option (List ℕ)) → Stops facts e entry left limit batch most alive steps new taken left'
       → ForSome (facts.seen entry.disk) (λ image. IfSome left (λ input. Leaves facts entry.disk new (IsPrefix (now_of entry.kernel image) (lines built_words input))))
   stops_moments e None left' new taken w = λ image is. tt
   stops_moments e (Some input) None new taken w = absurd w.read
   stops_moments e (Some input) (Some rest) new taken w = λ image is.
-      let t : Remains facts e entry (now_of entry.kernel image) w.ls w.broken.put alive new = w.broken.told image is in
+      let t : Remains facts e entry (now_of entry.kernel image) w.ls w.broken.put alive steps new = w.broken.told image is in
       let cut : (more : List Line) × (lines built_words input ≡ w.ls ++ more) = cut_of e input rest new taken w in
       leaves_wider facts entry.disk new (IsPrefix (now_of entry.kernel image) w.ls) (IsPrefix (now_of entry.kernel image) (lines built_words input)) t.leaves
       (λ c f. subst (λ (v : List Line). IsPrefix (now_of entry.kernel image) v c) (sym cut.1) (prefix_longer (now_of entry.kernel image) w.ls cut.0 c f))
 
-  pub stops_held : (e : Ended) (left left' : Option (List ℕ)) (new : D) (taken : Option (List ℕ)) → Stops facts e entry left limit batch most alive new taken left'
+  pub stops_held : (e : Ended) (left left' : Option (List ℕ)) (new : D) (taken : Option (List ℕ)) → Stops facts e entry left limit batch most alive steps new taken left'
       → ForSome (facts.seen entry.disk) (λ image. KeepsAnswered (facts.left_since new (facts.moment new)) (now_of entry.kernel image) left left' entry.taken taken)
   stops_held e None left' new taken w = λ image is. tt
   stops_held e (Some input) None new taken w = absurd w.read
@@ -117,7 +120,19 @@ module _ {D : Type 0} (facts : Ghosts D) (entry : Entry D) (limit batch most : �
         first_of (now_of entry.kernel image) b.0 w.ls cut.0 (lines built_words input) c cut.1 b.2 b.3,
       )
 
-  exactly : (e : Ended) (left left' : Option (List ℕ)) (new : D) (taken : Option (List ℕ)) (w : Stops facts e entry left limit batch most alive new taken left')
+  -- the counter rose by no more than the lines of the bytes that came may cost
+  pub stops_cost : PrefixesCostLess cost → (e : Ended) (left left' : Option (List ℕ)) (new : D) (taken : Option (List ℕ)) → Stops facts e entry left limit batch most alive steps new taken left'
+      → ForSome (facts.seen entry.disk) (λ image. IsWithinCost (now_of entry.kernel image) left left' entry.steps steps)
+  stops_cost less e None left' new taken w = λ image is. tt
+  stops_cost less e (Some input) None new taken w = absurd w.read
+  stops_cost less e (Some input) (Some rest) new taken w = λ image is.
+      let spent = (w.broken.told image is).spent in
+      let first = less (now_of entry.kernel image) w.ls w.came.0 in
+      let all : cost (now_of entry.kernel image) (lines built_words (taken_of input rest)) ≡ cost (now_of entry.kernel image) (w.ls ++ w.came.0) =
+      ap (λ v. cost (now_of entry.kernel image) (lines built_words v)) (came_are w.bytes rest input w.read) ∙ ap (λ v. cost (now_of entry.kernel image) v) w.came.1 in
+      omega (arith, all, first)
+
+  exactly : (e : Ended) (left left' : Option (List ℕ)) (new : D) (taken : Option (List ℕ)) (w : Stops facts e entry left limit batch most alive steps new taken left')
       → ((s : State) (c : Image) → Held e alive (answered w.broken.put) s w.ls c → volume c ≡ Is (after s (take (answered w.broken.put) w.ls)))
       → ForSome (facts.seen entry.disk) (λ image. KeepsExactly (facts.left_since new (facts.moment new)) (now_of entry.kernel image) left entry.taken taken)
   exactly e None left' new taken w held = λ image is. tt
@@ -134,7 +149,7 @@ module _ {D : Type 0} (facts : Ghosts D) (entry : Entry D) (limit batch most : �
           ∙ ap (λ v. Is (after (now_of entry.kernel image) (take (answered v) (lines built_words input)))) (sym (put_is before now w.broken.put took))
 
   -- whole lines are answered
-  whole_lines : (e : Ended) (left left' : Option (List ℕ)) (new : D) (taken : Option (List ℕ)) (w : Stops facts e entry left limit batch most alive new taken left')
+  whole_lines : (e : Ended) (left left' : Option (List ℕ)) (new : D) (taken : Option (List ℕ)) (w : Stops facts e entry left limit batch most alive steps new taken left')
       → ((s : State) → PutsWhole e s w.ls w.broken.put → w.broken.put ≡ text s (take (answered w.broken.put) w.ls))
       → ForSome (facts.seen entry.disk) (λ image. AnswersLines (now_of entry.kernel image) left entry.taken taken)
   whole_lines e None left' new taken w whole = λ image is. tt
@@ -150,7 +165,7 @@ module _ {D : Type 0} (facts : Ghosts D) (entry : Entry D) (limit batch most : �
         subst (λ (v : List ℕ). Appends entry.taken taken v) put w.broken.sink,
       )
 
-  few_of : (e : Ended) (left left' : Option (List ℕ)) (new : D) (taken : Option (List ℕ)) (w : Stops facts e entry left limit batch most alive new taken left')
+  few_of : (e : Ended) (left left' : Option (List ℕ)) (new : D) (taken : Option (List ℕ)) (w : Stops facts e entry left limit batch most alive steps new taken left')
       → length (ended_lines built_words (take limit w.bytes)) < answered w.broken.put + batch → FewUnanswered batch limit left left' entry.taken taken
   few_of e None left' new taken w few = tt
   few_of e (Some input) None new taken w few = absurd w.read
@@ -162,54 +177,54 @@ module _ {D : Type 0} (facts : Ghosts D) (entry : Entry D) (limit batch most : �
       by_sink (Some before) (Some now) took =
           omega (arith, ap (λ v. length (ended_lines built_words (take limit v))) (came_are w.bytes rest input w.read), ap answered (put_is before now w.broken.put took))
 
-  pub stops_bound : (e : Ended) (left left' : Option (List ℕ)) (new : D) (taken : Option (List ℕ)) → Stops facts e entry left limit batch most alive new taken left' → TakesAtMost most left left'
+  pub stops_bound : (e : Ended) (left left' : Option (List ℕ)) (new : D) (taken : Option (List ℕ)) → Stops facts e entry left limit batch most alive steps new taken left' → TakesAtMost most left left'
   stops_bound e None left' new taken w = tt
   stops_bound e (Some input) None new taken w = absurd w.read
   stops_bound e (Some input) (Some rest) new taken w = let b = w.bound in omega (arith, ap length w.read, length-append w.bytes rest)
 
-  pub source_exactly : (left left' : Option (List ℕ)) (new : D) (taken : Option (List ℕ)) → Stops facts ended.Source entry left limit batch most alive new taken left'
+  pub source_exactly : (left left' : Option (List ℕ)) (new : D) (taken : Option (List ℕ)) → Stops facts ended.Source entry left limit batch most alive steps new taken left'
       → ForSome (facts.seen entry.disk) (λ image. KeepsExactly (facts.left_since new (facts.moment new)) (now_of entry.kernel image) left entry.taken taken)
   source_exactly left left' new taken w = exactly ended.Source left left' new taken w (λ s c h. h)
 
-  pub too_long_exactly : (left left' : Option (List ℕ)) (new : D) (taken : Option (List ℕ)) → Stops facts ended.TooLong entry left limit batch most alive new taken left'
+  pub too_long_exactly : (left left' : Option (List ℕ)) (new : D) (taken : Option (List ℕ)) → Stops facts ended.TooLong entry left limit batch most alive steps new taken left'
       → ForSome (facts.seen entry.disk) (λ image. KeepsExactly (facts.left_since new (facts.moment new)) (now_of entry.kernel image) left entry.taken taken)
   too_long_exactly left left' new taken w = exactly ended.TooLong left left' new taken w (λ s c h. h)
 
   -- the disk failed, and no commit of it
-  pub disk_exactly : (left left' : Option (List ℕ)) (new : D) (taken : Option (List ℕ)) → alive ≡ true → Stops facts ended.Disk entry left limit batch most alive new taken left'
+  pub disk_exactly : (left left' : Option (List ℕ)) (new : D) (taken : Option (List ℕ)) → alive ≡ true → Stops facts ended.Disk entry left limit batch most alive steps new taken left'
       → ForSome (facts.seen entry.disk) (λ image. KeepsExactly (facts.left_since new (facts.moment new)) (now_of entry.kernel image) left entry.taken taken)
   disk_exactly left left' new taken live w = exactly ended.Disk left left' new taken w (λ s c h. subst (λ (v : Bool). Held ended.Disk v (answered w.broken.put) s w.ls c) live h)
 
-  pub disk_lines : (left left' : Option (List ℕ)) (new : D) (taken : Option (List ℕ)) → Stops facts ended.Disk entry left limit batch most alive new taken left'
+  pub disk_lines : (left left' : Option (List ℕ)) (new : D) (taken : Option (List ℕ)) → Stops facts ended.Disk entry left limit batch most alive steps new taken left'
       → ForSome (facts.seen entry.disk) (λ image. AnswersLines (now_of entry.kernel image) left entry.taken taken)
   disk_lines left left' new taken w = whole_lines ended.Disk left left' new taken w (λ s h. h)
 
-  pub source_lines : (left left' : Option (List ℕ)) (new : D) (taken : Option (List ℕ)) → Stops facts ended.Source entry left limit batch most alive new taken left'
+  pub source_lines : (left left' : Option (List ℕ)) (new : D) (taken : Option (List ℕ)) → Stops facts ended.Source entry left limit batch most alive steps new taken left'
       → ForSome (facts.seen entry.disk) (λ image. AnswersLines (now_of entry.kernel image) left entry.taken taken)
   source_lines left left' new taken w = whole_lines ended.Source left left' new taken w (λ s h. h)
 
-  pub too_long_lines : (left left' : Option (List ℕ)) (new : D) (taken : Option (List ℕ)) → Stops facts ended.TooLong entry left limit batch most alive new taken left'
+  pub too_long_lines : (left left' : Option (List ℕ)) (new : D) (taken : Option (List ℕ)) → Stops facts ended.TooLong entry left limit batch most alive steps new taken left'
       → ForSome (facts.seen entry.disk) (λ image. AnswersLines (now_of entry.kernel image) left entry.taken taken)
   too_long_lines left left' new taken w = whole_lines ended.TooLong left left' new taken w (λ s h. h)
 
-  pub source_few : (left left' : Option (List ℕ)) (new : D) (taken : Option (List ℕ)) → Stops facts ended.Source entry left limit batch most alive new taken left' → FewUnanswered batch limit left left' entry.taken taken
+  pub source_few : (left left' : Option (List ℕ)) (new : D) (taken : Option (List ℕ)) → Stops facts ended.Source entry left limit batch most alive steps new taken left' → FewUnanswered batch limit left left' entry.taken taken
   source_few left left' new taken w = few_of ended.Source left left' new taken w w.few
 
-  pub too_long_few : (left left' : Option (List ℕ)) (new : D) (taken : Option (List ℕ)) → Stops facts ended.TooLong entry left limit batch most alive new taken left' → FewUnanswered batch limit left left' entry.taken taken
+  pub too_long_few : (left left' : Option (List ℕ)) (new : D) (taken : Option (List ℕ)) → Stops facts ended.TooLong entry left limit batch most alive steps new taken left' → FewUnanswered batch limit left left' entry.taken taken
   too_long_few left left' new taken w = few_of ended.TooLong left left' new taken w w.few
 
-  pub source_within : (left left' : Option (List ℕ)) (new : D) (taken : Option (List ℕ)) → Stops facts ended.Source entry left limit batch most alive new taken left' → TakesAtMost limit left left'
+  pub source_within : (left left' : Option (List ℕ)) (new : D) (taken : Option (List ℕ)) → Stops facts ended.Source entry left limit batch most alive steps new taken left' → TakesAtMost limit left left'
   source_within None left' new taken w = tt
   source_within (Some input) None new taken w = absurd w.read
   source_within (Some input) (Some rest) new taken w = let b = w.size in omega (arith, ap length w.read, length-append w.bytes rest)
 
-  pub too_long_more : (left left' : Option (List ℕ)) (new : D) (taken : Option (List ℕ)) → Stops facts ended.TooLong entry left limit batch most alive new taken left' → TakesMore limit left left'
+  pub too_long_more : (left left' : Option (List ℕ)) (new : D) (taken : Option (List ℕ)) → Stops facts ended.TooLong entry left limit batch most alive steps new taken left' → TakesMore limit left left'
   too_long_more None left' new taken w = tt
   too_long_more (Some input) None new taken w = absurd w.read
   too_long_more (Some input) (Some rest) new taken w = let b = w.size in omega (arith, ap length w.read, length-append w.bytes rest)
 
   -- after a fault of the sink there is one state
-  pub sink_one : (left left' : Option (List ℕ)) (new : D) (taken : Option (List ℕ)) → Stops facts ended.Sink entry left limit batch most alive new taken left'
+  pub sink_one : (left left' : Option (List ℕ)) (new : D) (taken : Option (List ℕ)) → Stops facts ended.Sink entry left limit batch most alive steps new taken left'
       → ForSome (facts.seen entry.disk) (λ image. KeepsOne (facts.left_since new (facts.moment new)) (now_of entry.kernel image) left left' entry.taken taken)
   sink_one None left' new taken w = λ image is. tt
   sink_one (Some input) None new taken w = absurd w.read
@@ -230,6 +245,7 @@ module _ {D : Type 0} (facts : Ghosts D) (entry : Entry D) (limit batch most : �
   -- what stands after a good end
   stood : (ls : List Line) (p : Point D) (a : Session facts entry ls p) → p.owed.count ≡ 0 → (image : Image) → facts.seen entry.disk ≡ Some image
       → (x : Image) × (facts.seen p.disk ≡ Some x) × (volume x ≡ Is (after (now_of entry.kernel image) ls)) × (a.put ≡ text (now_of entry.kernel image) ls) × Leaves facts entry.disk p.disk (IsPrefix (now_of entry.kernel image) ls)
+      × (p.steps ≤ entry.steps + cost (now_of entry.kernel image) ls)
   stood ls p a none image is =
       let st : Stands facts entry (now_of entry.kernel image) a.done a.waiting a.put p = a.told image is in
       let done_are : a.done ≡ ls = all_done a.done a.waiting ls p.owed.count a.split a.count none in (
@@ -238,6 +254,7 @@ module _ {D : Type 0} (facts : Ghosts D) (entry : Entry D) (limit batch most : �
         st.kept ∙ ap (λ v. Is (after (now_of entry.kernel image) v)) done_are,
         st.replies ∙ ap (λ v. text (now_of entry.kernel image) v) done_are,
         subst (λ (v : List Line). Leaves facts entry.disk p.disk (IsPrefix (now_of entry.kernel image) v)) (sym a.split) st.leaves,
+        spent-same (now_of entry.kernel image) (a.done ++ a.waiting) ls entry.steps p.steps (sym a.split) st.spent,
       )
 
   at_end_nil : (left' : Option (List ℕ)) (rest : List ℕ) → IsAtEnd left' → left' ≡ Some rest → rest ≡ []
@@ -245,7 +262,7 @@ module _ {D : Type 0} (facts : Ghosts D) (entry : Entry D) (limit batch most : �
   at_end_nil (Some xs) rest h e = cc
 
   -- a good end is one at which the sink had nothing more to take
-  pub finishes_stops : (left left' : Option (List ℕ)) (p : Point D) → Finishes facts entry left limit p left' → limit ≤ most → NothingPending facts p.disk → Stops facts ended.Sink entry left limit batch most (is_live p.kernel) p.disk p.taken left'
+  pub finishes_stops : (left left' : Option (List ℕ)) (p : Point D) → Finishes facts entry left limit p left' → limit ≤ most → NothingPending facts p.disk → Stops facts ended.Sink entry left limit batch most (is_live p.kernel) p.steps p.disk p.taken left'
   finishes_stops left left' p f small only =
       let none : p.owed.count ≡ 0 = ap (λ (v : Waiting). v.count) f.empty in
       let a : Session facts entry (lines built_words f.bytes) p = f.session in record {
@@ -254,7 +271,7 @@ module _ {D : Type 0} (facts : Ghosts D) (entry : Entry D) (limit batch most : �
         read = f.read;
         size = tt;
         bound = let w = f.within in omega arith;
-        came = omega arith;
+        came = ([], sym (append-nil (lines built_words f.bytes)));
         will = λ rest here. ([], ap (λ v. lines built_words (f.bytes ++ v)) (at_end_nil left' rest f.at_end here) ∙ ap (λ v. lines built_words v) (append-nil f.bytes) ∙ sym (append-nil (lines built_words f.bytes)));
         broken = record {
           put = a.put;
@@ -267,6 +284,7 @@ module _ {D : Type 0} (facts : Ghosts D) (entry : Entry D) (limit batch most : �
                 whole = tt;
                 leaves = st.4;
                 held = λ c left. left_spells facts p.disk st.0 c (after (now_of entry.kernel image) (lines built_words f.bytes)) only st.1 st.2 left;
+                spent = st.5;
               };
         };
         few = tt;

@@ -12,7 +12,7 @@ use Rattle.mg_io.specs.Known.{Consumes-kept, Consumes-none, Consumes-then}
 use Rattle.mg_kernel.specs.Meaning.{is_live}
 use Rattle.mg_model.specs.declared.calls.Line.{Line}
 use Rattle.mg_model.specs.Print.{answered}
-use Rattle.mg_session.proofs.Cutting.{ended_lines-exact}
+use Rattle.mg_model.specs.Cutting.{ended_lines-exact}
 use Rattle.mg_model.specs.Ended.{ended_lines}
 use Rattle.mg_model.specs.Lines.{built_words, lines}
 use Rattle.mg_model.specs.Words.{is_newline}
@@ -53,8 +53,8 @@ cut_last : (bytes part : List ℕ) (ls : List Line) → ((rest : List ℕ) → l
 cut_last bytes part ls cuts = ap (λ v. lines built_words v) (sym (append-nil bytes)) ∙ cuts [] ∙ ap (λ v. ls ++ lines built_words v) (append-nil part)
 
 -- what was stepped before more bytes came is a part of their lines
-came_first : (bytes : List ℕ) (ls more : List Line) → lines built_words (bytes ++ []) ≡ ls ++ more → length ls ≤ length (lines built_words bytes)
-came_first bytes ls more cut = omega (arith, ap (λ v. length (lines built_words v)) (append-nil bytes), ap length cut, length-append ls more)
+came_first : (bytes : List ℕ) (ls more : List Line) → lines built_words (bytes ++ []) ≡ ls ++ more → (later : List Line) × (lines built_words bytes ≡ ls ++ later)
+came_first bytes ls more cut = (more, ap (λ v. lines built_words v) (sym (append-nil bytes)) ∙ cut)
 
 some_nil : (left : Option (List ℕ)) (rest : List ℕ) → IsAtEnd left → left ≡ Some rest → rest ≡ []
 some_nil None rest h e = cc
@@ -102,7 +102,7 @@ module _ {D : Type 0} (facts : Ghosts D) where
   -- a take failed: the line that is not ended is left as it was
   pub Stops-source : (entry : Entry D) (left left' left'' : Option (List ℕ)) (total limit batch most : ℕ) (p : Point D) (part : List ℕ)
       → Reading facts entry left total p part left' → total ≤ limit → limit ≤ most → Keeps left' left'' → NothingPending facts p.disk → p.owed.count < batch
-      → Stops facts ended.Source entry left limit batch most (is_live p.kernel) p.disk p.taken left''
+      → Stops facts ended.Source entry left limit batch most (is_live p.kernel) p.steps p.disk p.taken left''
   Stops-source entry left left' left'' total limit batch most p part r within small kept only few =
       let short : length r.bytes ≤ limit = let e = r.count in omega arith in
       let open_few : length r.ls < answered r.session.put + batch = session_few entry r.ls p batch r.session few in record {
@@ -121,7 +121,7 @@ module _ {D : Type 0} (facts : Ghosts D) where
   pub Stops-too_long : (entry : Entry D) (left left' left'' : Option (List ℕ)) (total limit batch most n : ℕ) (p q : Point D) (part part' piece : List ℕ)
       → Reading facts entry left total p part left' → total ≤ limit → limit + length piece ≤ most → Consumes left' left'' (take n piece) → n ≤ length piece → limit - total < n
       → Goes facts p part (take (limit - total) piece) q part' → list_any is_newline part' ≡ false → NothingPending facts q.disk → q.owed.count < batch
-      → Stops facts ended.TooLong entry left limit batch most (is_live q.kernel) q.disk q.taken left''
+      → Stops facts ended.TooLong entry left limit batch most (is_live q.kernel) q.steps q.disk q.taken left''
   Stops-too_long entry left left' left'' total limit batch most n p q part part' piece r within small read short more g whole only few =
       let all : length (r.bytes ++ take n piece) ≡ total + n = length-append r.bytes (take n piece) ∙ ap (λ v. v + length (take n piece)) r.count ∙ ap (λ v. total + v) (length-take-le n piece short) in
       let sum : limit ≡ length r.bytes + (limit - total) = let e = r.count in omega arith in
@@ -152,13 +152,13 @@ module _ {D : Type 0} (facts : Ghosts D) where
   -- a line within a piece ended the session
   pub Stops-bytes : (e : Ended) (entry : Entry D) (left left' left'' : Option (List ℕ)) (total limit batch most n w : ℕ) (p q : Point D) (part piece : List ℕ)
       → Reading facts entry left total p part left' → total ≤ limit → limit + length piece ≤ most → Consumes left' left'' (take n piece) → n ≤ length piece → w ≤ n
-      → IsInside e → Breaks facts e p part (take w piece) q → Stops facts e entry left limit batch most (is_live q.kernel) q.disk q.taken left''
+      → IsInside e → Breaks facts e p part (take w piece) q → Stops facts e entry left limit batch most (is_live q.kernel) q.steps q.disk q.taken left''
   Stops-bytes e entry left left' left'' total limit batch most n w p q part piece r within small read short front inside h =
       let all : length (r.bytes ++ take n piece) ≡ total + n = length-append r.bytes (take n piece) ∙ ap (λ v. v + length (take n piece)) r.count ∙ ap (λ v. total + v) (length-take-le n piece short) in
       let b : Breaks facts e p part (take n piece) q =
       subst (λ (v : List ℕ). Breaks facts e p part v q) (front_and_back n w piece front) (Breaks-more facts e p part (take w piece) (drop w (take n piece)) q h) in
       let cut : (rest : List ℕ) → (more : List Line) × (lines built_words ((r.bytes ++ take n piece) ++ rest) ≡ (r.ls ++ b.ls) ++ more) = λ rest. later b rest (b.cuts rest) in
-      let broken : Broken facts e entry (r.ls ++ b.ls) (is_live q.kernel) q.disk q.taken = b.halts entry r.ls r.session in record {
+      let broken : Broken facts e entry (r.ls ++ b.ls) (is_live q.kernel) q.steps q.disk q.taken = b.halts entry r.ls r.session in record {
         bytes = r.bytes ++ take n piece;
         ls = r.ls ++ b.ls;
         read = Consumes-then left left' left'' r.bytes (take n piece) r.read read;
@@ -193,16 +193,16 @@ module _ {D : Type 0} (facts : Ghosts D) where
   -- the input ended, and the last batch ended the session
   pub Stops-last : (e : Ended) (entry : Entry D) (left left' left'' : Option (List ℕ)) (total limit batch most n : ℕ) (p q : Point D) (part piece : List ℕ)
       → Reading facts entry left total p part left' → total ≤ limit → limit ≤ most → Consumes left' left'' (take n piece) → n ≡ 0 → IsAtEnd left''
-      → IsInside e → Halts facts e p (lines built_words part) q → Stops facts e entry left limit batch most (is_live q.kernel) q.disk q.taken left''
+      → IsInside e → Halts facts e p (lines built_words part) q → Stops facts e entry left limit batch most (is_live q.kernel) q.steps q.disk q.taken left''
   Stops-last e entry left left' left'' total limit batch most n p q part piece r within small read zero_is ended_is inside h =
-      let broken : Broken facts e entry (r.ls ++ lines built_words part) (is_live q.kernel) q.disk q.taken = h entry r.ls r.session in
+      let broken : Broken facts e entry (r.ls ++ lines built_words part) (is_live q.kernel) q.steps q.disk q.taken = h entry r.ls r.session in
       let cut : lines built_words r.bytes ≡ r.ls ++ lines built_words part = cut_last r.bytes part r.ls r.cut in record {
         bytes = r.bytes;
         ls = r.ls ++ lines built_words part;
         read = none_more left left' left'' r.bytes piece n r.read read zero_is;
         size = inside_size e limit (length r.bytes) inside;
         bound = let e = r.count in omega arith;
-        came = omega (arith, ap length cut);
+        came = ([], cut ∙ sym (append-nil (r.ls ++ lines built_words part)));
         will = λ rest here. (
           [],
           ap (λ v. lines built_words (r.bytes ++ v)) (some_nil left'' rest ended_is here) ∙ ap (λ v. lines built_words v) (append-nil r.bytes) ∙ cut ∙ sym (append-nil (r.ls ++ lines built_words part)),

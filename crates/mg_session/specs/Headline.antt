@@ -25,6 +25,7 @@ use Rattle.mg_model.specs.Settings.{Settings}
 use Rattle.mg_model.specs.State.{State}
 use Rattle.mg_model.specs.Step.{after, prefix}
 use Rattle.mg_model.specs.Volume.{Damaged, Is, NotVolume, OldVolume, VolumeRead, volume}
+use Rattle.mg_model.specs.Warmth.{cost}
 use Rattle.mg_session.specs.declared.batches.Ended.{Ended}
 use Rattle.mg_session.specs.declared.batches.Ended.TheVariants as ended
 use Rattle.mg_session.specs.declared.status.Status.{Status}
@@ -122,6 +123,13 @@ pub record Answers (s : State) (result : Status) (left left' taken taken' : Opti
 -- reads give an image that spells the state after the whole input
 abbrev pub SpellsAfter : State → List ℕ → Option Image → Type 0
 SpellsAfter s input told = IsSomeAnd told (λ image. volume image ≡ Is (after s (lines built_words input)))
+
+-- A session: what it costs
+
+-- the counter of words rose by no more than the lines of the bytes that were taken may cost
+abbrev pub IsWithinCost : State → Option (List ℕ) → Option (List ℕ) → ℕ → ℕ → Type 0
+IsWithinCost s left left' steps steps' =
+    IfSome left (λ input. IsSomeAnd left' (λ rest. steps' ≤ steps + cost s (lines built_words (taken_of input rest))))
 
 -- A session: what a stop leaves
 
@@ -245,12 +253,14 @@ EndsRun result =
     (result ≡ status.NoVolume) ⊎ ((result ≡ status.Done) ⊎ ((result ≡ status.Memory) ⊎ ((result ≡ status.Disk) ⊎ ((result ≡ status.Source) ⊎ ((result ≡ status.Sink) ⊎ (result ≡ status.TooLong))))))
 
 -- What `run` keeps, in batches of so many replies. `s` is the state of the volume that reads give at entry.
-pub record RunKeeps {D S K : Type 0} (facts : disks.Ghosts D) (from : sources.Ghosts S) (to : sinks.Ghosts K) (batch : ℕ) (result : Status) (disk disk' : D) (source source' : S) (sink sink' : K) : Type 0 where
+pub record RunKeeps {D S K : Type 0} (facts : disks.Ghosts D) (from : sources.Ghosts S) (to : sinks.Ghosts K) (batch : ℕ) (result : Status) (disk disk' : D) (source source' : S) (sink sink' : K) (steps steps' : ℕ) : Type 0 where
   pub answers : OnVolume (facts.seen disk) (λ s. Answers s result (from.left source) (from.left source') (to.taken sink) (to.taken sink'))
   -- At the end reads give the state after all lines.
   pub kept : result ≡ status.Done → OnVolume (facts.seen disk) (λ s. IfSome (from.left source) (λ input. SpellsAfter s input (facts.seen disk')))
   pub holds : NothingPending facts disk → OnVolume (facts.seen disk) (λ s. Holds facts s disk disk' (from.left source) (from.left source') (to.taken sink) (to.taken sink'))
   pub holds_exactly : OnVolume (facts.seen disk) (λ s. HoldsExactly facts s result disk' (from.left source) (from.left source') (to.taken sink) (to.taken sink'))
+  -- At each status the counter rose by no more than the lines that were read may cost.
+  pub cost : OnVolume (facts.seen disk) (λ s. IsWithinCost s (from.left source) (from.left source') steps steps')
   pub ends : Ends from to batch input_limit result source source' sink sink'
   pub which : EndsRun result
   -- The disk failed only where its count rose.
@@ -266,8 +276,10 @@ pub record RunKeeps {D S K : Type 0} (facts : disks.Ghosts D) (from : sources.Gh
 -- `VOLUME dry FRAMES SEED CREDITS`
 
 -- What `dry` keeps, from the fresh state of these settings, in batches of 64 replies.
-pub record DryKeeps {S K : Type 0} (from : sources.Ghosts S) (to : sinks.Ghosts K) (settings : Settings) (result : Status) (source source' : S) (sink sink' : K) : Type 0 where
+pub record DryKeeps {S K : Type 0} (from : sources.Ghosts S) (to : sinks.Ghosts K) (settings : Settings) (result : Status) (source source' : S) (sink sink' : K) (steps steps' : ℕ) : Type 0 where
   pub answers : Answers (fresh settings) result (from.left source) (from.left source') (to.taken sink) (to.taken sink')
+  -- At each status the counter rose by no more than the lines that were read may cost.
+  pub cost : IsWithinCost (fresh settings) (from.left source) (from.left source') steps steps'
   pub ends : Ends from to 64 input_limit result source source' sink sink'
   -- It needs no volume and no disk.
   pub others : (result ≢ status.Usage) × (result ≢ status.NoVolume) × (result ≢ status.Disk) × (result ≢ status.TooSmall)

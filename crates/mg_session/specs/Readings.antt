@@ -47,15 +47,15 @@ Few ended.Disk calls replies batch = Unit {0}
 Few ended.Sink calls replies batch = Unit {0}
 
 -- The session ended before the end of its input.
-pub record Stops {D : Type 0} (facts : Ghosts D) (e : Ended) (entry : Entry D) (left : Option (List ℕ)) (limit batch most : ℕ) (alive : Bool) (disk : D) (taken left' : Option (List ℕ)) : Type 0 where
+pub record Stops {D : Type 0} (facts : Ghosts D) (e : Ended) (entry : Entry D) (left : Option (List ℕ)) (limit batch most : ℕ) (alive : Bool) (steps : ℕ) (disk : D) (taken left' : Option (List ℕ)) : Type 0 where
   pub bytes : List ℕ
   pub ls : List Line
   pub read : Consumes left left' bytes
   pub size : Size e limit (length bytes)
   pub bound : length bytes ≤ most
-  -- the lines that were stepped are lines of the bytes that came
-  pub came : length ls ≤ length (lines built_words bytes)
-  -- and first lines of the whole input
+  -- the lines that were stepped are first lines of the bytes that came
+  pub came : (more : List Line) × (lines built_words bytes ≡ ls ++ more)
+  -- and of the whole input
   pub will : (rest : List ℕ) → left' ≡ Some rest → (more : List Line) × (lines built_words (bytes ++ rest) ≡ ls ++ more)
-  pub broken : Broken facts e entry ls alive disk taken
+  pub broken : Broken facts e entry ls alive steps disk taken
   pub few : Few e (length (ended_lines built_words (take limit bytes))) (answered broken.put) batch

@@ -1,18 +1,20 @@
 -- A session on a volume: which lines are kept and answered, which wait, and what a stop may leave. The lines that are cut
 -- from the input and the lines that are stepped are told apart, so nothing here depends on how the input is cut.
-use Rattle.std.specs.Prelude.{ℕ, ◌≡◌, ◌≤◌, Bool, false, true, List, ◌++◌, length, take, Option, Some}
+use Rattle.std.specs.Prelude.{ℕ, ◌≡◌, ◌≤◌, ◌+◌, Bool, false, true, List, [], ◌++◌, length, take, Option, Some}
 use Rattle.std.specs.Io.KnownBytes.{Appends}
 use Rattle.std.specs.Option.{ForSome}
 use Rattle.mg_disk.specs.Disk.{Image}
 use Rattle.mg_disk.specs.Stops.{Leaves}
 use Rattle.mg_disk.specs.declared.disk.Disk.{Ghosts}
 use Rattle.mg_kernel.specs.declared.kernel.Kernel.{Kernel}
-use Rattle.mg_kernel.specs.Meaning.{is_live, now_of}
+use Rattle.mg_kernel.specs.Meaning.{is_live, keeps_key, now_of}
 use Rattle.mg_model.specs.declared.calls.Line.{Line}
+use Rattle.mg_model.specs.Kept.{KeepsWarm}
 use Rattle.mg_model.specs.Print.{answered, text}
 use Rattle.mg_model.specs.State.{State}
 use Rattle.mg_model.specs.Step.{after}
 use Rattle.mg_model.specs.Volume.{Is, volume}
+use Rattle.mg_model.specs.Warmth.{cost, events}
 use Rattle.mg_session.specs.declared.batches.Ended.{Ended}
 use Rattle.mg_session.specs.declared.batches.Ended.TheVariants as ended
 use Rattle.mg_session.specs.Headline.{IsPrefix}
@@ -27,6 +29,7 @@ pub record Entry (D : Type 0) : Type 0 where
   pub kernel : Kernel
   pub disk : D
   pub taken : Option (List ℕ)
+  pub steps : ℕ
 
 -- where it stands
 pub record Point (D : Type 0) : Type 0 where
@@ -34,6 +37,7 @@ pub record Point (D : Type 0) : Type 0 where
   pub disk : D
   pub owed : Waiting
   pub taken : Option (List ℕ)
+  pub steps : ℕ
 
 -- where reads were told: `done` is kept and answered, `waiting` was stepped since
 pub record Stands {D : Type 0} (facts : Ghosts D) (entry : Entry D) (s : State) (done waiting : List Line) (put : List ℕ) (p : Point D) : Type 0 where
@@ -44,6 +48,9 @@ pub record Stands {D : Type 0} (facts : Ghosts D) (entry : Entry D) (s : State) 
   pub replies : put ≡ text s done
   pub owed : p.owed.text ≡ text (after s done) waiting
   pub leaves : Leaves facts entry.disk p.disk (IsPrefix s (done ++ waiting))
+  -- each key is kept that would be warm, and the counter rose by no more than the lines cost
+  pub warm : KeepsWarm (events [] s (done ++ waiting)) (λ key. keeps_key p.kernel key)
+  pub spent : p.steps ≤ entry.steps + cost s (done ++ waiting)
 
 -- since `entry` these lines were stepped
 pub record Session {D : Type 0} (facts : Ghosts D) (entry : Entry D) (ls : List Line) (p : Point D) : Type 0 where
@@ -81,19 +88,20 @@ PutsWhole ended.TooLong s ls put = put ≡ text s (take (answered put) ls)
 PutsWhole ended.Sink s ls put = Unit {0}
 
 -- where reads were told: what is left of a session that ended so
-pub record Remains {D : Type 0} (facts : Ghosts D) (e : Ended) (entry : Entry D) (s : State) (ls : List Line) (put : List ℕ) (alive : Bool) (disk : D) : Type 0 where
+pub record Remains {D : Type 0} (facts : Ghosts D) (e : Ended) (entry : Entry D) (s : State) (ls : List Line) (put : List ℕ) (alive : Bool) (steps : ℕ) (disk : D) : Type 0 where
   pub more : List ℕ
   pub replies : text s ls ≡ put ++ more
   pub whole : PutsWhole e s ls put
   pub leaves : Leaves facts entry.disk disk (IsPrefix s ls)
   pub held : (c : Image) → facts.left_since disk (facts.moment disk) c → Held e alive (answered put) s ls c
+  pub spent : steps ≤ entry.steps + cost s ls
 
--- the session ended so, with a kernel that is live or not, and had stepped these lines
-pub record Broken {D : Type 0} (facts : Ghosts D) (e : Ended) (entry : Entry D) (ls : List Line) (alive : Bool) (disk : D) (taken : Option (List ℕ)) : Type 0 where
+-- the session ended so, with a kernel that is live or not and with this count, and had stepped these lines
+pub record Broken {D : Type 0} (facts : Ghosts D) (e : Ended) (entry : Entry D) (ls : List Line) (alive : Bool) (steps : ℕ) (disk : D) (taken : Option (List ℕ)) : Type 0 where
   pub put : List ℕ
   pub sink : Appends entry.taken taken put
   pub fewer : answered put ≤ length ls
-  pub told : ForSome (facts.seen entry.disk) (λ image. Remains facts e entry (now_of entry.kernel image) ls put alive disk)
+  pub told : ForSome (facts.seen entry.disk) (λ image. Remains facts e entry (now_of entry.kernel image) ls put alive steps disk)
 
 module _ {D : Type 0} (facts : Ghosts D) where
   -- whatever was stepped before, these lines were stepped from old to new
@@ -102,11 +110,11 @@ module _ {D : Type 0} (facts : Ghosts D) where
 
   -- the session ended between them
   abbrev pub Halts : Ended → Point D → List Line → Point D → Type 0
-  Halts e old ls new = (entry : Entry D) (sofar : List Line) → Session facts entry sofar old → Broken facts e entry (sofar ++ ls) (is_live new.kernel) new.disk new.taken
+  Halts e old ls new = (entry : Entry D) (sofar : List Line) → Session facts entry sofar old → Broken facts e entry (sofar ++ ls) (is_live new.kernel) new.steps new.disk new.taken
 
   -- the same, with no line between them
   abbrev pub Closes : Point D → Point D → Type 0
   Closes old new = (entry : Entry D) (ls : List Line) → Session facts entry ls old → Session facts entry ls new
 
   abbrev pub FailsToClose : Ended → Point D → Point D → Type 0
-  FailsToClose e old new = (entry : Entry D) (ls : List Line) → Session facts entry ls old → Broken facts e entry ls (is_live new.kernel) new.disk new.taken
+  FailsToClose e old new = (entry : Entry D) (ls : List Line) → Session facts entry ls old → Broken facts e entry ls (is_live new.kernel) new.steps new.disk new.taken

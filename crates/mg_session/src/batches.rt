@@ -1,5 +1,5 @@
 // Lines are stepped in batches: a batch is committed, and then its replies are put.
-ghost use Rattle.std.specs.Prelude.{◌≡◌, ◌<◌, ◌≤◌, [], ◌∷◌, Err, IfErr, IsTrue, OnOk};
+ghost use Rattle.std.specs.Prelude.{ℕ, ◌≡◌, ◌<◌, ◌≤◌, [], ◌∷◌, Err, IfErr, IsTrue, OnOk};
 ghost use Rattle.mg_disk.specs.Stops.{CountGoes, CountRose};
 ghost use Rattle.mg_faults.specs.Faults.{CountGoesOn, Rose};
 ghost use Rattle.mg_kernel.specs.Meaning.{StandsOn, is_live, staged_of, words_in};
@@ -14,6 +14,7 @@ use mg_disk::Disk;
 use mg_faults::Failed;
 use mg_io::{Sink, put_all};
 use mg_kernel::Kernel;
+use mg_laws::{costs_add_up, warm_keys_are_kept};
 use mg_model::{Line, Steps};
 use std::sync::ledger::Ledger;
 use thiserror::Error;
@@ -47,12 +48,12 @@ pub fn close<D: Disk, K: Sink>(
 ) -> Result<(), Ended>
     requires live { IsTrue (is_live kernel.old) }
     requires stands { StandsOn D.Disk kernel.old disk.old }
-    ensures closes { OnOk result (Closes D.Disk
-        (record { kernel = kernel.old; disk = disk.old; owed = owed.old; taken = K.taken sink.old })
-        (record { kernel = kernel.new; disk = disk.new; owed = owed.new; taken = K.taken sink.new })) }
-    ensures halts { IfErr result (λ e. FailsToClose D.Disk e
-        (record { kernel = kernel.old; disk = disk.old; owed = owed.old; taken = K.taken sink.old })
-        (record { kernel = kernel.new; disk = disk.new; owed = owed.new; taken = K.taken sink.new })) }
+    ensures closes { OnOk result ((n : ℕ) → Closes D.Disk
+        (record { kernel = kernel.old; disk = disk.old; owed = owed.old; taken = K.taken sink.old; steps = n })
+        (record { kernel = kernel.new; disk = disk.new; owed = owed.new; taken = K.taken sink.new; steps = n })) }
+    ensures halts { IfErr result (λ e. (n : ℕ) → FailsToClose D.Disk e
+        (record { kernel = kernel.old; disk = disk.old; owed = owed.old; taken = K.taken sink.old; steps = n })
+        (record { kernel = kernel.new; disk = disk.new; owed = owed.new; taken = K.taken sink.new; steps = n })) }
     ensures live { UnlessDisk result (IsTrue (is_live kernel.new)) }
     ensures stands { UnlessDisk result (StandsOn D.Disk kernel.new disk.new) }
     ensures staged { OnOk result (staged_of kernel.new ≡ 0) }
@@ -96,11 +97,11 @@ pub fn take_line<D: Disk, K: Sink, L: Ledger>(
     requires small { batch ≤ 64 }
     requires built { IsBuilt line.now }
     ensures steps { OnOk result (Runs D.Disk
-        (record { kernel = kernel.old; disk = disk.old; owed = owed.old; taken = K.taken sink.old }) (line.now ∷ [])
-        (record { kernel = kernel.new; disk = disk.new; owed = owed.new; taken = K.taken sink.new })) }
+        (record { kernel = kernel.old; disk = disk.old; owed = owed.old; taken = K.taken sink.old; steps = steps.old }) (line.now ∷ [])
+        (record { kernel = kernel.new; disk = disk.new; owed = owed.new; taken = K.taken sink.new; steps = steps.new })) }
     ensures halts { IfErr result (λ e. Halts D.Disk e
-        (record { kernel = kernel.old; disk = disk.old; owed = owed.old; taken = K.taken sink.old }) (line.now ∷ [])
-        (record { kernel = kernel.new; disk = disk.new; owed = owed.new; taken = K.taken sink.new })) }
+        (record { kernel = kernel.old; disk = disk.old; owed = owed.old; taken = K.taken sink.old; steps = steps.old }) (line.now ∷ [])
+        (record { kernel = kernel.new; disk = disk.new; owed = owed.new; taken = K.taken sink.new; steps = steps.new })) }
     ensures live { UnlessDisk result (IsTrue (is_live kernel.new)) }
     ensures stands { UnlessDisk result (StandsOn D.Disk kernel.new disk.new) }
     ensures staged { OnOk result (staged_of kernel.new ≤ 28) }
@@ -113,6 +114,8 @@ pub fn take_line<D: Disk, K: Sink, L: Ledger>(
     ensures sink { result ≡ Err Ended.Sink → Rose (K.faults sink.old) (K.faults sink.new) (K.is_spent sink.new) }
     ensures only { IfErr result IsInside }
 {
+    warm_keys_are_kept();
+    costs_add_up();
     let reply = match kernel.step(disk, line, steps) {
         Ok(reply) => reply,
         Err(_) => return Err(Ended::Disk),
@@ -141,11 +144,11 @@ pub fn line_and_close<D: Disk, K: Sink, L: Ledger>(
     requires small { batch ≤ 64 }
     requires built { IsBuilt line.now }
     ensures steps { OnOk result (Runs D.Disk
-        (record { kernel = kernel.old; disk = disk.old; owed = owed.old; taken = K.taken sink.old }) (line.now ∷ [])
-        (record { kernel = kernel.new; disk = disk.new; owed = owed.new; taken = K.taken sink.new })) }
+        (record { kernel = kernel.old; disk = disk.old; owed = owed.old; taken = K.taken sink.old; steps = steps.old }) (line.now ∷ [])
+        (record { kernel = kernel.new; disk = disk.new; owed = owed.new; taken = K.taken sink.new; steps = steps.new })) }
     ensures halts { IfErr result (λ e. Halts D.Disk e
-        (record { kernel = kernel.old; disk = disk.old; owed = owed.old; taken = K.taken sink.old }) (line.now ∷ [])
-        (record { kernel = kernel.new; disk = disk.new; owed = owed.new; taken = K.taken sink.new })) }
+        (record { kernel = kernel.old; disk = disk.old; owed = owed.old; taken = K.taken sink.old; steps = steps.old }) (line.now ∷ [])
+        (record { kernel = kernel.new; disk = disk.new; owed = owed.new; taken = K.taken sink.new; steps = steps.new })) }
     ensures live { UnlessDisk result (IsTrue (is_live kernel.new)) }
     ensures stands { UnlessDisk result (StandsOn D.Disk kernel.new disk.new) }
     ensures staged { OnOk result (staged_of kernel.new ≡ 0) }

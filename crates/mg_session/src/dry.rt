@@ -19,7 +19,7 @@ pub fn dry<S: Source, K: Sink, L: Ledger>(
     sink: &mut K,
     steps: &mut Steps<L>,
 ) -> Status
-    ensures { DryKeeps S.Source K.Sink params.now result source.old source.new sink.old sink.new }
+    ensures { DryKeeps S.Source K.Sink params.now result source.old source.new sink.old sink.new steps.old steps.new }
 {
     let blocks = Geometry::of(params.frames()).total;
     let mut disk = match ScratchDisk::new(alloc, blocks) {

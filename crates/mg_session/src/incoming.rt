@@ -38,11 +38,11 @@ fn take_byte<D: Disk, K: Sink, L: Ledger>(
     requires open_batch { owed.old.count < batch }
     requires small { batch ≤ 64 }
     ensures goes { OnOk result (Goes D.Disk
-        (record { kernel = kernel.old; disk = disk.old; owed = owed.old; taken = K.taken sink.old }) part.old (b ∷ [])
-        (record { kernel = kernel.new; disk = disk.new; owed = owed.new; taken = K.taken sink.new }) part.new) }
+        (record { kernel = kernel.old; disk = disk.old; owed = owed.old; taken = K.taken sink.old; steps = steps.old }) part.old (b ∷ [])
+        (record { kernel = kernel.new; disk = disk.new; owed = owed.new; taken = K.taken sink.new; steps = steps.new }) part.new) }
     ensures breaks { IfErr result (λ e. Breaks D.Disk e
-        (record { kernel = kernel.old; disk = disk.old; owed = owed.old; taken = K.taken sink.old }) part.old (b ∷ [])
-        (record { kernel = kernel.new; disk = disk.new; owed = owed.new; taken = K.taken sink.new })) }
+        (record { kernel = kernel.old; disk = disk.old; owed = owed.old; taken = K.taken sink.old; steps = steps.old }) part.old (b ∷ [])
+        (record { kernel = kernel.new; disk = disk.new; owed = owed.new; taken = K.taken sink.new; steps = steps.new })) }
     ensures whole { list_any is_newline part.new ≡ false }
     ensures live { UnlessDisk result (IsTrue (is_live kernel.new)) }
     ensures stands { UnlessDisk result (StandsOn D.Disk kernel.new disk.new) }
@@ -84,11 +84,11 @@ pub fn take_bytes<D: Disk, K: Sink, L: Ledger>(
     requires small { batch ≤ 64 }
     requires whole { list_any is_newline part.old ≡ false }
     ensures goes { OnOk result (Goes D.Disk
-        (record { kernel = kernel.old; disk = disk.old; owed = owed.old; taken = K.taken sink.old }) part.old bytes.now
-        (record { kernel = kernel.new; disk = disk.new; owed = owed.new; taken = K.taken sink.new }) part.new) }
+        (record { kernel = kernel.old; disk = disk.old; owed = owed.old; taken = K.taken sink.old; steps = steps.old }) part.old bytes.now
+        (record { kernel = kernel.new; disk = disk.new; owed = owed.new; taken = K.taken sink.new; steps = steps.new }) part.new) }
     ensures breaks { IfErr result (λ e. Breaks D.Disk e
-        (record { kernel = kernel.old; disk = disk.old; owed = owed.old; taken = K.taken sink.old }) part.old bytes.now
-        (record { kernel = kernel.new; disk = disk.new; owed = owed.new; taken = K.taken sink.new })) }
+        (record { kernel = kernel.old; disk = disk.old; owed = owed.old; taken = K.taken sink.old; steps = steps.old }) part.old bytes.now
+        (record { kernel = kernel.new; disk = disk.new; owed = owed.new; taken = K.taken sink.new; steps = steps.new })) }
     ensures whole { OnOk result (list_any is_newline part.new ≡ false) }
     ensures live { UnlessDisk result (IsTrue (is_live kernel.new)) }
     ensures stands { UnlessDisk result (StandsOn D.Disk kernel.new disk.new) }
@@ -127,11 +127,11 @@ pub fn finish<D: Disk, K: Sink, L: Ledger>(
     requires open_batch { owed.old.count < batch }
     requires small { batch ≤ 64 }
     ensures steps { OnOk result (Runs D.Disk
-        (record { kernel = kernel.old; disk = disk.old; owed = owed.old; taken = K.taken sink.old }) (lines built_words part.old)
-        (record { kernel = kernel.new; disk = disk.new; owed = owed.new; taken = K.taken sink.new })) }
+        (record { kernel = kernel.old; disk = disk.old; owed = owed.old; taken = K.taken sink.old; steps = steps.old }) (lines built_words part.old)
+        (record { kernel = kernel.new; disk = disk.new; owed = owed.new; taken = K.taken sink.new; steps = steps.new })) }
     ensures halts { IfErr result (λ e. Halts D.Disk e
-        (record { kernel = kernel.old; disk = disk.old; owed = owed.old; taken = K.taken sink.old }) (lines built_words part.old)
-        (record { kernel = kernel.new; disk = disk.new; owed = owed.new; taken = K.taken sink.new })) }
+        (record { kernel = kernel.old; disk = disk.old; owed = owed.old; taken = K.taken sink.old; steps = steps.old }) (lines built_words part.old)
+        (record { kernel = kernel.new; disk = disk.new; owed = owed.new; taken = K.taken sink.new; steps = steps.new })) }
     ensures live { UnlessDisk result (IsTrue (is_live kernel.new)) }
     ensures stands { UnlessDisk result (StandsOn D.Disk kernel.new disk.new) }
     ensures staged { OnOk result (staged_of kernel.new ≡ 0) }

@@ -6,7 +6,7 @@ ghost use Rattle.mg_faults.specs.Faults.{Rose};
 ghost use Rattle.mg_kernel.specs.Meaning.{StandsOn, is_live, now_of, staged_of};
 ghost use Rattle.mg_layout.specs.MayFormat.{IsNoState};
 ghost use Rattle.mg_model.specs.Volume.{volume};
-ghost use Rattle.mg_session.specs.Headline.{Answers, Ends, EndsRun, Holds, HoldsExactly, IsDoneOrMemory, IsWithin, OnVolume, SpellsAfter, TellsOfNone, input_limit};
+ghost use Rattle.mg_session.specs.Headline.{Answers, Ends, EndsRun, Holds, HoldsExactly, IsDoneOrMemory, IsWithin, IsWithinCost, OnVolume, SpellsAfter, TellsOfNone, input_limit};
 ghost use Rattle.mg_session.specs.Unopened.{EndsSession};
 
 use crate::batches::Ended;
@@ -48,6 +48,7 @@ fn run_kernel<D: Disk, S: Source, K: Sink, L: Ledger>(
         (S.left source.old) (S.left source.new) (K.taken sink.old) (K.taken sink.new)) }
     ensures holds_exactly { ForSome (D.seen disk.old) (λ image. HoldsExactly D.Disk (now_of kernel.old image) result disk.new
         (S.left source.old) (S.left source.new) (K.taken sink.old) (K.taken sink.new)) }
+    ensures cost { ForSome (D.seen disk.old) (λ image. IsWithinCost (now_of kernel.old image) (S.left source.old) (S.left source.new) steps.old steps.new) }
     ensures ends { Ends S.Source K.Sink batch input_limit result source.old source.new sink.old sink.new }
     ensures disk { result ≡ Status.Disk → CountRose D.Disk disk.old disk.new }
     ensures complete { (CountRose D.Disk disk.old disk.new → ⊥)
@@ -87,6 +88,7 @@ pub fn run<D: Disk, S: Source, K: Sink, L: Ledger>(
         (S.left source.old) (S.left source.new) (K.taken sink.old) (K.taken sink.new)) }
     ensures holds_exactly { OnVolume (D.seen disk.old) (λ s. HoldsExactly D.Disk s result disk.new
         (S.left source.old) (S.left source.new) (K.taken sink.old) (K.taken sink.new)) }
+    ensures cost { OnVolume (D.seen disk.old) (λ s. IsWithinCost s (S.left source.old) (S.left source.new) steps.old steps.new) }
     ensures ends { Ends S.Source K.Sink batch input_limit result source.old source.new sink.old sink.new }
     ensures which { EndsRun result }
     ensures disk_failed { result ≡ Status.Disk → CountRose D.Disk disk.old disk.new }

@@ -5,7 +5,7 @@ ghost use Rattle.mg_disk.specs.Stops.{CountGoes, CountRose};
 ghost use Rattle.mg_faults.specs.Faults.{CountGoesOn, Rose};
 ghost use Rattle.mg_kernel.specs.Meaning.{StandsOn, is_live, now_of, staged_of, words_in};
 ghost use Rattle.mg_model.specs.Counts.{CountsAlike};
-ghost use Rattle.mg_session.specs.Headline.{Answers, Ends, Holds, HoldsExactly, IsWithin, KeepsExactly, SpellsAfter, UnlessDisk, status_of};
+ghost use Rattle.mg_session.specs.Headline.{Answers, Ends, Holds, HoldsExactly, IsWithin, IsWithinCost, KeepsExactly, SpellsAfter, UnlessDisk, status_of};
 ghost use Rattle.mg_session.specs.Readings.{Finishes, Stops};
 
 use crate::batches::Ended;
@@ -15,6 +15,7 @@ use crate::partial::PartialLine;
 use mg_disk::Disk;
 use mg_io::{Sink, Source};
 use mg_kernel::Kernel;
+use mg_laws::{costs_add_up, warm_keys_are_kept};
 use mg_model::Steps;
 use std::sync::ledger::Ledger;
 
@@ -37,10 +38,10 @@ fn serve_pieces<D: Disk, S: Source, K: Sink, L: Ledger>(
     requires staged { staged_of kernel.old ≡ 0 }
     requires some { 1 ≤ batch }
     requires small { batch ≤ 64 }
-    ensures finishes { OnOk result (Finishes D.Disk (record { kernel = kernel.old; disk = disk.old; taken = K.taken sink.old }) (S.left source.old) limit
-        (record { kernel = kernel.new; disk = disk.new; owed = owed.new; taken = K.taken sink.new }) (S.left source.new)) }
-    ensures stops { IfErr result (λ e. Stops D.Disk e (record { kernel = kernel.old; disk = disk.old; taken = K.taken sink.old }) (S.left source.old)
-        limit batch (limit + 4096) (is_live kernel.new) disk.new (K.taken sink.new) (S.left source.new)) }
+    ensures finishes { OnOk result (Finishes D.Disk (record { kernel = kernel.old; disk = disk.old; taken = K.taken sink.old; steps = steps.old }) (S.left source.old) limit
+        (record { kernel = kernel.new; disk = disk.new; owed = owed.new; taken = K.taken sink.new; steps = steps.new }) (S.left source.new)) }
+    ensures stops { IfErr result (λ e. Stops D.Disk e (record { kernel = kernel.old; disk = disk.old; taken = K.taken sink.old; steps = steps.old }) (S.left source.old)
+        limit batch (limit + 4096) (is_live kernel.new) steps.new disk.new (K.taken sink.new) (S.left source.new)) }
     ensures live { UnlessDisk result (IsTrue (is_live kernel.new)) }
     ensures stands { UnlessDisk result (StandsOn D.Disk kernel.new disk.new) }
     ensures staged { OnOk result (staged_of kernel.new ≡ 0) }
@@ -53,6 +54,7 @@ fn serve_pieces<D: Disk, S: Source, K: Sink, L: Ledger>(
     ensures source { result ≡ Err Ended.Source → Rose (S.faults source.old) (S.faults source.new) (S.is_spent source.new) }
     ensures sink { result ≡ Err Ended.Sink → Rose (K.faults sink.old) (K.faults sink.new) (K.is_spent sink.new) }
 {
+    warm_keys_are_kept();
     owed.clear();
     let mut piece = [0; PIECE];
     let mut part = PartialLine::new();
@@ -142,6 +144,9 @@ pub fn serve<D: Disk, S: Source, K: Sink, L: Ledger>(
     ensures held_disk { result ≡ Err Ended.Disk → IsTrue (is_live kernel.new) → ForSome (D.seen disk.old) (λ image.
         KeepsExactly (D.left_since disk.new (D.moment disk.new)) (now_of kernel.old image) (S.left source.old) (K.taken sink.old) (K.taken sink.new)) }
 
+    // Whatever ends it, the counter rises by no more than the lines that were read may cost.
+    ensures cost { ForSome (D.seen disk.old) (λ image. IsWithinCost (now_of kernel.old image) (S.left source.old) (S.left source.new) steps.old steps.new) }
+
     // The two counts of words rise by as much, and no count falls.
     ensures counted { CountsAlike (words_in kernel.old) (words_in kernel.new) steps.old steps.new }
     ensures blocks { D.block_count disk.new ≡ D.block_count disk.old }
@@ -149,5 +154,6 @@ pub fn serve<D: Disk, S: Source, K: Sink, L: Ledger>(
     ensures source_count { CountGoesOn (S.faults source.old) (S.faults source.new) (S.is_spent source.old) (S.is_spent source.new) }
     ensures sink_count { CountGoesOn (K.faults sink.old) (K.faults sink.new) (K.is_spent sink.old) (K.is_spent sink.new) }
 {
+    costs_add_up();
     serve_pieces(kernel, disk, source, sink, owed, batch, limit, steps)
 }

@@ -52,6 +52,9 @@ fn usage<K: Sink>(sink: &mut K) -> Status
 /// `format` and `check` nothing was put; after that of `format` the disk holds no volume, what its blocks spelled before, or
 /// the fresh one. [`Status::TooSmall`] comes with the line `small NEED HAVE`, in blocks, and without a call of the disk. Where
 /// the sink failed once a volume was made, that volume stands.
+///
+/// `steps` counts the words that are read and written, one each. Whatever the status of `dry` and `run`, it rises by no more
+/// than the lines that were read may cost.
 pub fn top<D: Disk, S: Source, K: Sink, L: Ledger>(
     alloc: Global,
     words: &[String],
@@ -62,9 +65,9 @@ pub fn top<D: Disk, S: Source, K: Sink, L: Ledger>(
 ) -> Status
     // What each command keeps. `dry` makes no call on the disk.
     ensures run { IfSome (run_of (words_of words.now)) (λ batch. RunKeeps D.Disk S.Source K.Sink batch result
-        disk.old disk.new source.old source.new sink.old sink.new) }
+        disk.old disk.new source.old source.new sink.old sink.new steps.old steps.new) }
     ensures dry { IfSome (dry_of (words_of words.now)) (λ settings. DryKeeps S.Source K.Sink settings result
-        source.old source.new sink.old sink.new) }
+        source.old source.new sink.old sink.new steps.old steps.new) }
     ensures disk_alone { IfSome (dry_of (words_of words.now)) (λ _. disk.new ≡ disk.old) }
     ensures check { IfSome (check_of (words_of words.now)) (λ _. CheckKeeps D.Disk K.Sink result disk.old disk.new sink.old sink.new) }
     ensures format { IfSome (format_of (words_of words.now)) (λ settings. FormatKeeps D.Disk K.Sink settings result

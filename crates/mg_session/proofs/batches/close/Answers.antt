@@ -7,16 +7,16 @@ use Rattle.mg_session.proofs.batches.close.Goals as goal
 
 pub returns-in-Err-clause-halts : goal.returns-in-Err-clause-halts
 returns-in-Err-clause-halts g c =
-    λ entry ls a. Broken-commit g.D.Disk entry ls c.args.kernel.now c.args.disk.now c.commit.new.disk c.args.owed.now (g.K.Sink.taken c.args.sink.now) (is_live c.commit.new.self) a c.in-Err.ensures.any_moment c.requires.stands.settled c.in-Err.ensures.dead
+    λ n entry ls a. Broken-commit g.D.Disk entry ls c.args.kernel.now c.args.disk.now c.commit.new.disk c.args.owed.now (g.K.Sink.taken c.args.sink.now) n (is_live c.commit.new.self) a c.in-Err.ensures.any_moment c.requires.stands.settled c.in-Err.ensures.dead
 
 pub returns-in-Ok-put-clause-closes : goal.returns-in-Ok-put-clause-closes
 returns-in-Ok-put-clause-closes g c =
-    λ entry ls a. Session-closes g.D.Disk entry ls c.args.kernel.now c.commit.new.self c.args.disk.now c.commit.new.disk c.args.owed.now c.clear.new.self (g.K.Sink.taken c.args.sink.now) (g.K.Sink.taken c.put_all-put.new.sink) a
-    c.in-Ok.ensures.any_moment c.in-Ok.ensures.done
+    λ n entry ls a. Session-closes g.D.Disk entry ls c.args.kernel.now c.commit.new.self c.args.disk.now c.commit.new.disk c.args.owed.now c.clear.new.self (g.K.Sink.taken c.args.sink.now) (g.K.Sink.taken c.put_all-put.new.sink) n a
+    c.in-Ok.ensures.any_moment c.in-Ok.ensures.done c.in-Ok.ensures.seats
     (subst (λ (v : List ℕ). Appends (g.K.Sink.taken c.args.sink.now) (g.K.Sink.taken c.put_all-put.new.sink) v) c.text.ensures c.in-Ok-put.ensures.ok) c.clear.ensures
 
 pub returns-in-Err-put-clause-halts : goal.returns-in-Err-put-clause-halts
 returns-in-Err-put-clause-halts g c =
-    λ entry ls a. Broken-put g.D.Disk entry ls c.args.kernel.now c.commit.new.self c.args.disk.now c.commit.new.disk c.args.owed.now (g.K.Sink.taken c.args.sink.now) (g.K.Sink.taken c.put_all-put.new.sink) (is_live c.commit.new.self) a
+    λ n entry ls a. Broken-put g.D.Disk entry ls c.args.kernel.now c.commit.new.self c.args.disk.now c.commit.new.disk c.args.owed.now (g.K.Sink.taken c.args.sink.now) (g.K.Sink.taken c.put_all-put.new.sink) n (is_live c.commit.new.self) a
     c.in-Ok.ensures.any_moment c.in-Ok.ensures.done c.in-Ok.ensures.stands.settled
     (subst (λ (v : List ℕ). AppendsPrefix (g.K.Sink.taken c.args.sink.now) (g.K.Sink.taken c.put_all-put.new.sink) v) c.text.ensures c.in-Err-put.ensures.err)

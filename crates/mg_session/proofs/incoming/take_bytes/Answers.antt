@@ -6,7 +6,7 @@ use Rattle.mg_session.proofs.incoming.take_bytes.Goals as goal
 
 pub loop-b-init : goal.loop-b-init
 loop-b-init g c = record {
-  goes = Goes-none g.D.Disk (record { kernel = c.args.kernel.now; disk = c.args.disk.now; owed = c.args.owed.now; taken = g.K.Sink.taken c.args.sink.now }) c.args.part.now;
+  goes = Goes-none g.D.Disk (record { kernel = c.args.kernel.now; disk = c.args.disk.now; owed = c.args.owed.now; taken = g.K.Sink.taken c.args.sink.now; steps = c.args.steps.now }) c.args.part.now;
   whole = c.requires.whole;
   live = c.requires.live;
   stands = c.requires.stands;
@@ -20,7 +20,7 @@ loop-b-init g c = record {
 
 pub loop-b-preserved : goal.loop-b-preserved
 loop-b-preserved g c = record {
-  goes = Goes-next g.D.Disk (record { kernel = c.args.kernel.now; disk = c.args.disk.now; owed = c.args.owed.now; taken = g.K.Sink.taken c.args.sink.now }) c.args.part.now c.args.bytes.now c.loop-b.b-index (record { kernel = c.loop-b.kernel; disk = c.loop-b.disk; owed = c.loop-b.owed; taken = g.K.Sink.taken c.loop-b.sink }) c.loop-b.part (record { kernel = c.take_byte.new.kernel; disk = c.take_byte.new.disk; owed = c.take_byte.new.owed; taken = g.K.Sink.taken c.take_byte.new.sink }) c.take_byte.new.part (omega arith) c.loop-b.invariant.goes c.in-Ok.ensures.goes;
+  goes = Goes-next g.D.Disk (record { kernel = c.args.kernel.now; disk = c.args.disk.now; owed = c.args.owed.now; taken = g.K.Sink.taken c.args.sink.now; steps = c.args.steps.now }) c.args.part.now c.args.bytes.now c.loop-b.b-index (record { kernel = c.loop-b.kernel; disk = c.loop-b.disk; owed = c.loop-b.owed; taken = g.K.Sink.taken c.loop-b.sink; steps = c.loop-b.steps }) c.loop-b.part (record { kernel = c.take_byte.new.kernel; disk = c.take_byte.new.disk; owed = c.take_byte.new.owed; taken = g.K.Sink.taken c.take_byte.new.sink; steps = c.take_byte.new.steps }) c.take_byte.new.part (omega arith) c.loop-b.invariant.goes c.in-Ok.ensures.goes;
   whole = c.in-Ok.ensures.whole;
   live = c.in-Ok.ensures.live;
   stands = c.in-Ok.ensures.stands;
@@ -34,7 +34,7 @@ loop-b-preserved g c = record {
 
 pub returns-in-Err-clause-breaks : goal.returns-in-Err-clause-breaks
 returns-in-Err-clause-breaks g c =
-    Breaks-next g.D.Disk c.in-Err.ended (record { kernel = c.args.kernel.now; disk = c.args.disk.now; owed = c.args.owed.now; taken = g.K.Sink.taken c.args.sink.now }) c.args.part.now c.args.bytes.now c.loop-b.b-index (record { kernel = c.loop-b.kernel; disk = c.loop-b.disk; owed = c.loop-b.owed; taken = g.K.Sink.taken c.loop-b.sink }) c.loop-b.part (record { kernel = c.take_byte.new.kernel; disk = c.take_byte.new.disk; owed = c.take_byte.new.owed; taken = g.K.Sink.taken c.take_byte.new.sink }) (omega arith) c.loop-b.invariant.goes c.in-Err.ensures.breaks
+    Breaks-next g.D.Disk c.in-Err.ended (record { kernel = c.args.kernel.now; disk = c.args.disk.now; owed = c.args.owed.now; taken = g.K.Sink.taken c.args.sink.now; steps = c.args.steps.now }) c.args.part.now c.args.bytes.now c.loop-b.b-index (record { kernel = c.loop-b.kernel; disk = c.loop-b.disk; owed = c.loop-b.owed; taken = g.K.Sink.taken c.loop-b.sink; steps = c.loop-b.steps }) c.loop-b.part (record { kernel = c.take_byte.new.kernel; disk = c.take_byte.new.disk; owed = c.take_byte.new.owed; taken = g.K.Sink.taken c.take_byte.new.sink; steps = c.take_byte.new.steps }) (omega arith) c.loop-b.invariant.goes c.in-Err.ensures.breaks
 
 pub returns-in-Err-clause-counted : goal.returns-in-Err-clause-counted
 returns-in-Err-clause-counted g c =

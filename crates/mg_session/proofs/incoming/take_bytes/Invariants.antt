@@ -11,7 +11,7 @@ use Rattle.mg_session.proofs.incoming.take_bytes.Given as goal
 
 abbrev pub invariant-loop-b : goal.invariant-loop-b
 invariant-loop-b g l = record {
-  goes : Goes g.D.Disk (record { kernel = l.initial.kernel; disk = l.initial.disk; owed = l.initial.owed; taken = g.K.Sink.taken l.initial.sink }) l.initial.part (take l.b-index l.bytes) (record { kernel = l.kernel; disk = l.disk; owed = l.owed; taken = g.K.Sink.taken l.sink }) l.part;
+  goes : Goes g.D.Disk (record { kernel = l.initial.kernel; disk = l.initial.disk; owed = l.initial.owed; taken = g.K.Sink.taken l.initial.sink; steps = l.initial.steps }) l.initial.part (take l.b-index l.bytes) (record { kernel = l.kernel; disk = l.disk; owed = l.owed; taken = g.K.Sink.taken l.sink; steps = l.steps }) l.part;
   whole : list_any is_newline l.part ≡ false;
   live : IsTrue (is_live l.kernel);
   stands : StandsOn g.D.Disk l.kernel l.disk;

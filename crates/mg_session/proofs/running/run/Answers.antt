@@ -1,8 +1,8 @@
 use Rattle.std.proofs.Common.{ap}
 use Rattle.std.specs.Prelude.{IfSome}
 use Rattle.mg_faults.specs.Faults.{then_rose}
-use Rattle.mg_session.specs.Headline.{Answers, HoldsExactly, SpellsAfter}
-use Rattle.mg_session.proofs.Openings.{fault_tells, opened_holds, opened_then, unopened_answers, unopened_exactly, unopened_holds}
+use Rattle.mg_session.specs.Headline.{Answers, HoldsExactly, IsWithinCost, SpellsAfter}
+use Rattle.mg_session.proofs.Openings.{fault_tells, none_spent, opened_holds, opened_then, unopened, unopened_answers, unopened_exactly, unopened_holds}
 use Rattle.mg_session.proofs.running.run.Goals as goal
 
 pub returns-in-Ok-clause-answers : goal.returns-in-Ok-clause-answers
@@ -24,6 +24,11 @@ pub returns-in-Ok-clause-holds_exactly : goal.returns-in-Ok-clause-holds_exactly
 returns-in-Ok-clause-holds_exactly g c =
     opened_then c.in-Ok.kernel (g.D.Disk.seen c.args.disk.now) (g.D.Disk.seen c.open.new.disk) (λ s. HoldsExactly g.D.Disk s c.run_kernel.result c.run_kernel.new.disk (g.S.Source.left c.args.source.now) (g.S.Source.left c.run_kernel.new.source) (g.K.Sink.taken c.args.sink.now) (g.K.Sink.taken c.run_kernel.new.sink))
     c.in-Ok.ensures.opens c.run_kernel.ensures.holds_exactly
+
+pub returns-in-Ok-clause-cost : goal.returns-in-Ok-clause-cost
+returns-in-Ok-clause-cost g c =
+    opened_then c.in-Ok.kernel (g.D.Disk.seen c.args.disk.now) (g.D.Disk.seen c.open.new.disk) (λ s. IsWithinCost s (g.S.Source.left c.args.source.now) (g.S.Source.left c.run_kernel.new.source) c.args.steps.now c.run_kernel.new.steps)
+    c.in-Ok.ensures.opens c.run_kernel.ensures.cost
 
 pub returns-in-Ok-clause-complete : goal.returns-in-Ok-clause-complete
 returns-in-Ok-clause-complete g c =
@@ -47,3 +52,9 @@ returns-in-Err-clause-holds_exactly g c =
     unopened_exactly g.D.Disk c.in-Err.fault (g.D.Disk.seen c.args.disk.now) c.put_fault.result c.open.new.disk (g.S.Source.left c.args.source.now) (g.K.Sink.taken c.args.sink.now) (g.K.Sink.taken c.put_fault.new.sink)
     (fault_tells c.in-Err.fault (g.D.Disk.seen c.args.disk.now) c.in-Err.ensures.not c.in-Err.ensures.old c.in-Err.ensures.damaged)
     c.put_fault.ensures.ends
+
+pub returns-in-Err-clause-cost : goal.returns-in-Err-clause-cost
+returns-in-Err-clause-cost g c =
+    unopened c.in-Err.fault (g.D.Disk.seen c.args.disk.now) (λ s. IsWithinCost s (g.S.Source.left c.args.source.now) (g.S.Source.left c.args.source.now) c.args.steps.now c.args.steps.now)
+    (fault_tells c.in-Err.fault (g.D.Disk.seen c.args.disk.now) c.in-Err.ensures.not c.in-Err.ensures.old c.in-Err.ensures.damaged)
+    (λ quiet image is s spelled. none_spent s (g.S.Source.left c.args.source.now) c.args.steps.now)

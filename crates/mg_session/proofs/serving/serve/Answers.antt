@@ -1,25 +1,28 @@
 use Rattle.mg_disk.specs.Stops.{CountRose}
 use Rattle.mg_faults.specs.Faults.{Rose}
-use Rattle.mg_session.proofs.Endings.{session_answers, session_at_disk, session_complete, session_ends, session_exactly, session_holds, session_kept}
+use Rattle.mg_session.proofs.Endings.{session_answers, session_at_disk, session_complete, session_cost, session_ends, session_exactly, session_holds, session_kept}
 use Rattle.mg_session.proofs.serving.serve.Goals as goal
 
 pub returns-clause-answers : goal.returns-clause-answers
-returns-clause-answers g c = session_answers g.D.Disk (record { kernel = c.args.kernel.now; disk = c.args.disk.now; taken = g.K.Sink.taken c.args.sink.now }) c.args.limit c.args.batch (g.S.Source.left c.args.source.now) (g.S.Source.left c.serve_pieces.new.source) (record { kernel = c.serve_pieces.new.kernel; disk = c.serve_pieces.new.disk; owed = c.serve_pieces.new.owed; taken = g.K.Sink.taken c.serve_pieces.new.sink }) c.serve_pieces.result c.serve_pieces.ensures.finishes c.serve_pieces.ensures.stands c.serve_pieces.ensures.stops
+returns-clause-answers g c = session_answers g.D.Disk (record { kernel = c.args.kernel.now; disk = c.args.disk.now; taken = g.K.Sink.taken c.args.sink.now; steps = c.args.steps.now }) c.args.limit c.args.batch (g.S.Source.left c.args.source.now) (g.S.Source.left c.serve_pieces.new.source) (record { kernel = c.serve_pieces.new.kernel; disk = c.serve_pieces.new.disk; owed = c.serve_pieces.new.owed; taken = g.K.Sink.taken c.serve_pieces.new.sink; steps = c.serve_pieces.new.steps }) c.serve_pieces.result c.serve_pieces.ensures.finishes c.serve_pieces.ensures.stands c.serve_pieces.ensures.stops
 
 pub returns-clause-kept : goal.returns-clause-kept
-returns-clause-kept g c = session_kept g.D.Disk (record { kernel = c.args.kernel.now; disk = c.args.disk.now; taken = g.K.Sink.taken c.args.sink.now }) c.args.limit c.args.batch (g.S.Source.left c.args.source.now) (g.S.Source.left c.serve_pieces.new.source) (record { kernel = c.serve_pieces.new.kernel; disk = c.serve_pieces.new.disk; owed = c.serve_pieces.new.owed; taken = g.K.Sink.taken c.serve_pieces.new.sink }) c.serve_pieces.result c.serve_pieces.ensures.finishes
+returns-clause-kept g c = session_kept g.D.Disk (record { kernel = c.args.kernel.now; disk = c.args.disk.now; taken = g.K.Sink.taken c.args.sink.now; steps = c.args.steps.now }) c.args.limit c.args.batch (g.S.Source.left c.args.source.now) (g.S.Source.left c.serve_pieces.new.source) (record { kernel = c.serve_pieces.new.kernel; disk = c.serve_pieces.new.disk; owed = c.serve_pieces.new.owed; taken = g.K.Sink.taken c.serve_pieces.new.sink; steps = c.serve_pieces.new.steps }) c.serve_pieces.result c.serve_pieces.ensures.finishes
 
 pub returns-clause-holds : goal.returns-clause-holds
-returns-clause-holds g c = session_holds g.D.Disk (record { kernel = c.args.kernel.now; disk = c.args.disk.now; taken = g.K.Sink.taken c.args.sink.now }) c.args.limit c.args.batch (g.S.Source.left c.args.source.now) (g.S.Source.left c.serve_pieces.new.source) (record { kernel = c.serve_pieces.new.kernel; disk = c.serve_pieces.new.disk; owed = c.serve_pieces.new.owed; taken = g.K.Sink.taken c.serve_pieces.new.sink }) c.serve_pieces.result c.serve_pieces.ensures.finishes c.serve_pieces.ensures.stands c.serve_pieces.ensures.stops
+returns-clause-holds g c = session_holds g.D.Disk (record { kernel = c.args.kernel.now; disk = c.args.disk.now; taken = g.K.Sink.taken c.args.sink.now; steps = c.args.steps.now }) c.args.limit c.args.batch (g.S.Source.left c.args.source.now) (g.S.Source.left c.serve_pieces.new.source) (record { kernel = c.serve_pieces.new.kernel; disk = c.serve_pieces.new.disk; owed = c.serve_pieces.new.owed; taken = g.K.Sink.taken c.serve_pieces.new.sink; steps = c.serve_pieces.new.steps }) c.serve_pieces.result c.serve_pieces.ensures.finishes c.serve_pieces.ensures.stands c.serve_pieces.ensures.stops
+
+pub returns-clause-cost : goal.returns-clause-cost
+returns-clause-cost g c = session_cost g.D.Disk (record { kernel = c.args.kernel.now; disk = c.args.disk.now; taken = g.K.Sink.taken c.args.sink.now; steps = c.args.steps.now }) c.args.limit c.args.batch (g.S.Source.left c.args.source.now) (g.S.Source.left c.serve_pieces.new.source) (record { kernel = c.serve_pieces.new.kernel; disk = c.serve_pieces.new.disk; owed = c.serve_pieces.new.owed; taken = g.K.Sink.taken c.serve_pieces.new.sink; steps = c.serve_pieces.new.steps }) c.costs_add_up.ensures.prefix c.serve_pieces.result c.serve_pieces.ensures.finishes c.serve_pieces.ensures.stands c.serve_pieces.ensures.stops
 
 pub returns-clause-holds_exactly : goal.returns-clause-holds_exactly
-returns-clause-holds_exactly g c = session_exactly g.D.Disk (record { kernel = c.args.kernel.now; disk = c.args.disk.now; taken = g.K.Sink.taken c.args.sink.now }) c.args.limit c.args.batch (g.S.Source.left c.args.source.now) (g.S.Source.left c.serve_pieces.new.source) (record { kernel = c.serve_pieces.new.kernel; disk = c.serve_pieces.new.disk; owed = c.serve_pieces.new.owed; taken = g.K.Sink.taken c.serve_pieces.new.sink }) c.serve_pieces.result c.serve_pieces.ensures.stops
+returns-clause-holds_exactly g c = session_exactly g.D.Disk (record { kernel = c.args.kernel.now; disk = c.args.disk.now; taken = g.K.Sink.taken c.args.sink.now; steps = c.args.steps.now }) c.args.limit c.args.batch (g.S.Source.left c.args.source.now) (g.S.Source.left c.serve_pieces.new.source) (record { kernel = c.serve_pieces.new.kernel; disk = c.serve_pieces.new.disk; owed = c.serve_pieces.new.owed; taken = g.K.Sink.taken c.serve_pieces.new.sink; steps = c.serve_pieces.new.steps }) c.serve_pieces.result c.serve_pieces.ensures.stops
 
 pub returns-clause-held_disk : goal.returns-clause-held_disk
-returns-clause-held_disk g c = session_at_disk g.D.Disk (record { kernel = c.args.kernel.now; disk = c.args.disk.now; taken = g.K.Sink.taken c.args.sink.now }) c.args.limit c.args.batch (g.S.Source.left c.args.source.now) (g.S.Source.left c.serve_pieces.new.source) (record { kernel = c.serve_pieces.new.kernel; disk = c.serve_pieces.new.disk; owed = c.serve_pieces.new.owed; taken = g.K.Sink.taken c.serve_pieces.new.sink }) c.serve_pieces.result c.serve_pieces.ensures.stops
+returns-clause-held_disk g c = session_at_disk g.D.Disk (record { kernel = c.args.kernel.now; disk = c.args.disk.now; taken = g.K.Sink.taken c.args.sink.now; steps = c.args.steps.now }) c.args.limit c.args.batch (g.S.Source.left c.args.source.now) (g.S.Source.left c.serve_pieces.new.source) (record { kernel = c.serve_pieces.new.kernel; disk = c.serve_pieces.new.disk; owed = c.serve_pieces.new.owed; taken = g.K.Sink.taken c.serve_pieces.new.sink; steps = c.serve_pieces.new.steps }) c.serve_pieces.result c.serve_pieces.ensures.stops
 
 pub returns-clause-ends : goal.returns-clause-ends
-returns-clause-ends g c = session_ends g.D.Disk g.S.Source g.K.Sink c.args.kernel.now c.serve_pieces.new.kernel c.args.disk.now c.serve_pieces.new.disk c.serve_pieces.new.owed c.args.limit c.args.batch c.args.source.now c.serve_pieces.new.source c.args.sink.now c.serve_pieces.new.sink c.serve_pieces.result c.serve_pieces.ensures.finishes c.serve_pieces.ensures.stops c.serve_pieces.ensures.source c.serve_pieces.ensures.sink
+returns-clause-ends g c = session_ends g.D.Disk g.S.Source g.K.Sink c.args.kernel.now c.serve_pieces.new.kernel c.args.disk.now c.serve_pieces.new.disk c.serve_pieces.new.owed c.args.steps.now c.serve_pieces.new.steps c.args.limit c.args.batch c.args.source.now c.serve_pieces.new.source c.args.sink.now c.serve_pieces.new.sink c.serve_pieces.result c.serve_pieces.ensures.finishes c.serve_pieces.ensures.stops c.serve_pieces.ensures.source c.serve_pieces.ensures.sink
 
 pub returns-clause-complete : goal.returns-clause-complete
 returns-clause-complete g c =
@@ -27,4 +30,4 @@ returns-clause-complete g c =
     (Rose (g.S.Source.faults c.args.source.now) (g.S.Source.faults c.serve_pieces.new.source) (g.S.Source.is_spent c.serve_pieces.new.source))
     (Rose (g.K.Sink.faults c.args.sink.now) (g.K.Sink.faults c.serve_pieces.new.sink) (g.K.Sink.is_spent c.serve_pieces.new.sink))
     c.serve_pieces.ensures.disk c.serve_pieces.ensures.source c.serve_pieces.ensures.sink
-    (session_ends g.D.Disk g.S.Source g.K.Sink c.args.kernel.now c.serve_pieces.new.kernel c.args.disk.now c.serve_pieces.new.disk c.serve_pieces.new.owed c.args.limit c.args.batch c.args.source.now c.serve_pieces.new.source c.args.sink.now c.serve_pieces.new.sink c.serve_pieces.result c.serve_pieces.ensures.finishes c.serve_pieces.ensures.stops c.serve_pieces.ensures.source c.serve_pieces.ensures.sink).too_long
+    (session_ends g.D.Disk g.S.Source g.K.Sink c.args.kernel.now c.serve_pieces.new.kernel c.args.disk.now c.serve_pieces.new.disk c.serve_pieces.new.owed c.args.steps.now c.serve_pieces.new.steps c.args.limit c.args.batch c.args.source.now c.serve_pieces.new.source c.args.sink.now c.serve_pieces.new.sink c.serve_pieces.result c.serve_pieces.ensures.finishes c.serve_pieces.ensures.stops c.serve_pieces.ensures.source c.serve_pieces.ensures.sink).too_long

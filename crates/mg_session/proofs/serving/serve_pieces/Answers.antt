@@ -14,8 +14,8 @@ use Rattle.mg_session.proofs.serving.serve_pieces.Goals as goal
 
 pub pieces-init : goal.pieces-init
 pieces-init g c = record {
-  reading = Reading-none g.D.Disk (record { kernel = c.args.kernel.now; disk = c.args.disk.now; taken = g.K.Sink.taken c.args.sink.now }) (g.S.Source.left c.args.source.now) (record { kernel = c.args.kernel.now; disk = c.args.disk.now; owed = c.clear.new.self; taken = g.K.Sink.taken c.args.sink.now }) c.new-part.result c.new-part.ensures
-      (Session-begins g.D.Disk c.args.kernel.now c.args.disk.now (g.K.Sink.taken c.args.sink.now) c.clear.new.self c.requires.stands c.requires.staged (g.met.D.Disk.now_has_been c.args.disk.now) c.clear.ensures);
+  reading = Reading-none g.D.Disk (record { kernel = c.args.kernel.now; disk = c.args.disk.now; taken = g.K.Sink.taken c.args.sink.now; steps = c.args.steps.now }) (g.S.Source.left c.args.source.now) (record { kernel = c.args.kernel.now; disk = c.args.disk.now; owed = c.clear.new.self; taken = g.K.Sink.taken c.args.sink.now; steps = c.args.steps.now }) c.new-part.result c.new-part.ensures
+      (Session-begins g.D.Disk c.warm_keys_are_kept.ensures.begins c.args.kernel.now c.args.disk.now (g.K.Sink.taken c.args.sink.now) c.args.steps.now c.clear.new.self c.requires.stands c.requires.staged (g.met.D.Disk.now_has_been c.args.disk.now) c.clear.ensures);
   within = omega arith;
   size = omega arith;
   live = c.requires.live;
@@ -31,14 +31,14 @@ pieces-init g c = record {
 
 pub returns-in-Err-clause-stops : goal.returns-in-Err-clause-stops
 returns-in-Err-clause-stops g c =
-    Stops-source g.D.Disk (record { kernel = c.args.kernel.now; disk = c.args.disk.now; taken = g.K.Sink.taken c.args.sink.now }) (g.S.Source.left c.args.source.now) (g.S.Source.left c.pieces.source) (g.S.Source.left c.take.new.self) c.pieces.total c.args.limit c.args.batch (c.args.limit + 4096) (record { kernel = c.pieces.kernel; disk = c.pieces.disk; owed = c.pieces.owed; taken = g.K.Sink.taken c.pieces.sink }) c.pieces.part
+    Stops-source g.D.Disk (record { kernel = c.args.kernel.now; disk = c.args.disk.now; taken = g.K.Sink.taken c.args.sink.now; steps = c.args.steps.now }) (g.S.Source.left c.args.source.now) (g.S.Source.left c.pieces.source) (g.S.Source.left c.take.new.self) c.pieces.total c.args.limit c.args.batch (c.args.limit + 4096) (record { kernel = c.pieces.kernel; disk = c.pieces.disk; owed = c.pieces.owed; taken = g.K.Sink.taken c.pieces.sink; steps = c.pieces.steps }) c.pieces.part
     c.pieces.invariant.reading c.pieces.invariant.within (omega arith) c.in-Err.ensures.bytes c.pieces.invariant.stands.settled c.pieces.invariant.open_batch
 
 pub returns-then-count-eq0-clause-finishes : goal.returns-then-count-eq0-clause-finishes
 returns-then-count-eq0-clause-finishes g c =
     let size = c.pieces.invariant.size in
     on_ok_both c.finish.result
-    (λ steps empty. Finishes-last g.D.Disk (record { kernel = c.args.kernel.now; disk = c.args.disk.now; taken = g.K.Sink.taken c.args.sink.now }) (g.S.Source.left c.args.source.now) (g.S.Source.left c.pieces.source) (g.S.Source.left c.take.new.self) c.pieces.total c.args.limit c.in-Ok.count (record { kernel = c.pieces.kernel; disk = c.pieces.disk; owed = c.pieces.owed; taken = g.K.Sink.taken c.pieces.sink }) (record { kernel = c.finish.new.kernel; disk = c.finish.new.disk; owed = c.finish.new.owed; taken = g.K.Sink.taken c.finish.new.sink }) c.pieces.part c.take.new.into
+    (λ steps empty. Finishes-last g.D.Disk (record { kernel = c.args.kernel.now; disk = c.args.disk.now; taken = g.K.Sink.taken c.args.sink.now; steps = c.args.steps.now }) (g.S.Source.left c.args.source.now) (g.S.Source.left c.pieces.source) (g.S.Source.left c.take.new.self) c.pieces.total c.args.limit c.in-Ok.count (record { kernel = c.pieces.kernel; disk = c.pieces.disk; owed = c.pieces.owed; taken = g.K.Sink.taken c.pieces.sink; steps = c.pieces.steps }) (record { kernel = c.finish.new.kernel; disk = c.finish.new.disk; owed = c.finish.new.owed; taken = g.K.Sink.taken c.finish.new.sink; steps = c.finish.new.steps }) c.pieces.part c.take.new.into
     c.pieces.invariant.reading c.pieces.invariant.within c.in-Ok.ensures.bytes.0 c.if-count-eq0.true (c.in-Ok.ensures.bytes.1 c.if-count-eq0.true (omega arith)) steps empty)
     c.finish.ensures.steps c.finish.ensures.empty
 
@@ -46,34 +46,34 @@ pub returns-then-count-eq0-clause-stops : goal.returns-then-count-eq0-clause-sto
 returns-then-count-eq0-clause-stops g c =
     let size = c.pieces.invariant.size in
     if_err_both c.finish.result IsInside
-    (λ e. Halts g.D.Disk e (record { kernel = c.pieces.kernel; disk = c.pieces.disk; owed = c.pieces.owed; taken = g.K.Sink.taken c.pieces.sink }) (lines built_words c.pieces.part) (record { kernel = c.finish.new.kernel; disk = c.finish.new.disk; owed = c.finish.new.owed; taken = g.K.Sink.taken c.finish.new.sink }))
-    (λ e. Stops g.D.Disk e (record { kernel = c.args.kernel.now; disk = c.args.disk.now; taken = g.K.Sink.taken c.args.sink.now }) (g.S.Source.left c.args.source.now) c.args.limit c.args.batch (c.args.limit + 4096) (is_live c.finish.new.kernel) c.finish.new.disk (g.K.Sink.taken c.finish.new.sink) (g.S.Source.left c.take.new.self))
-    (λ e inside halts. Stops-last g.D.Disk e (record { kernel = c.args.kernel.now; disk = c.args.disk.now; taken = g.K.Sink.taken c.args.sink.now }) (g.S.Source.left c.args.source.now) (g.S.Source.left c.pieces.source) (g.S.Source.left c.take.new.self) c.pieces.total c.args.limit c.args.batch (c.args.limit + 4096) c.in-Ok.count (record { kernel = c.pieces.kernel; disk = c.pieces.disk; owed = c.pieces.owed; taken = g.K.Sink.taken c.pieces.sink }) (record { kernel = c.finish.new.kernel; disk = c.finish.new.disk; owed = c.finish.new.owed; taken = g.K.Sink.taken c.finish.new.sink }) c.pieces.part c.take.new.into
+    (λ e. Halts g.D.Disk e (record { kernel = c.pieces.kernel; disk = c.pieces.disk; owed = c.pieces.owed; taken = g.K.Sink.taken c.pieces.sink; steps = c.pieces.steps }) (lines built_words c.pieces.part) (record { kernel = c.finish.new.kernel; disk = c.finish.new.disk; owed = c.finish.new.owed; taken = g.K.Sink.taken c.finish.new.sink; steps = c.finish.new.steps }))
+    (λ e. Stops g.D.Disk e (record { kernel = c.args.kernel.now; disk = c.args.disk.now; taken = g.K.Sink.taken c.args.sink.now; steps = c.args.steps.now }) (g.S.Source.left c.args.source.now) c.args.limit c.args.batch (c.args.limit + 4096) (is_live c.finish.new.kernel) c.finish.new.steps c.finish.new.disk (g.K.Sink.taken c.finish.new.sink) (g.S.Source.left c.take.new.self))
+    (λ e inside halts. Stops-last g.D.Disk e (record { kernel = c.args.kernel.now; disk = c.args.disk.now; taken = g.K.Sink.taken c.args.sink.now; steps = c.args.steps.now }) (g.S.Source.left c.args.source.now) (g.S.Source.left c.pieces.source) (g.S.Source.left c.take.new.self) c.pieces.total c.args.limit c.args.batch (c.args.limit + 4096) c.in-Ok.count (record { kernel = c.pieces.kernel; disk = c.pieces.disk; owed = c.pieces.owed; taken = g.K.Sink.taken c.pieces.sink; steps = c.pieces.steps }) (record { kernel = c.finish.new.kernel; disk = c.finish.new.disk; owed = c.finish.new.owed; taken = g.K.Sink.taken c.finish.new.sink; steps = c.finish.new.steps }) c.pieces.part c.take.new.into
     c.pieces.invariant.reading c.pieces.invariant.within (omega arith) c.in-Ok.ensures.bytes.0 c.if-count-eq0.true (c.in-Ok.ensures.bytes.1 c.if-count-eq0.true (omega arith)) inside halts)
     c.finish.ensures.only c.finish.ensures.halts
 
 pub returns-in-Err-take_bytes-clause-stops : goal.returns-in-Err-take_bytes-clause-stops
 returns-in-Err-take_bytes-clause-stops g c =
     let size = c.pieces.invariant.size in
-    Stops-bytes g.D.Disk c.in-Err-take_bytes.ended (record { kernel = c.args.kernel.now; disk = c.args.disk.now; taken = g.K.Sink.taken c.args.sink.now }) (g.S.Source.left c.args.source.now) (g.S.Source.left c.pieces.source) (g.S.Source.left c.take.new.self) c.pieces.total c.args.limit c.args.batch (c.args.limit + 4096) c.in-Ok.count c.min-within.result (record { kernel = c.pieces.kernel; disk = c.pieces.disk; owed = c.pieces.owed; taken = g.K.Sink.taken c.pieces.sink }) (record { kernel = c.take_bytes.new.kernel; disk = c.take_bytes.new.disk; owed = c.take_bytes.new.owed; taken = g.K.Sink.taken c.take_bytes.new.sink }) c.pieces.part c.take.new.into
+    Stops-bytes g.D.Disk c.in-Err-take_bytes.ended (record { kernel = c.args.kernel.now; disk = c.args.disk.now; taken = g.K.Sink.taken c.args.sink.now; steps = c.args.steps.now }) (g.S.Source.left c.args.source.now) (g.S.Source.left c.pieces.source) (g.S.Source.left c.take.new.self) c.pieces.total c.args.limit c.args.batch (c.args.limit + 4096) c.in-Ok.count c.min-within.result (record { kernel = c.pieces.kernel; disk = c.pieces.disk; owed = c.pieces.owed; taken = g.K.Sink.taken c.pieces.sink; steps = c.pieces.steps }) (record { kernel = c.take_bytes.new.kernel; disk = c.take_bytes.new.disk; owed = c.take_bytes.new.owed; taken = g.K.Sink.taken c.take_bytes.new.sink; steps = c.take_bytes.new.steps }) c.pieces.part c.take.new.into
     c.pieces.invariant.reading c.pieces.invariant.within (omega arith) c.in-Ok.ensures.bytes.0 c.in-Ok.ensures.bound.0 (omega arith) c.in-Err-take_bytes.ensures.only c.in-Err-take_bytes.ensures.breaks
 
 pub returns-then-count-room-clause-stops : goal.returns-then-count-room-clause-stops
 returns-then-count-room-clause-stops g c =
     let size = c.pieces.invariant.size in
     let at_limit : c.min-within.result ≡ c.args.limit - c.pieces.total = omega arith in
-    Stops-too_long g.D.Disk (record { kernel = c.args.kernel.now; disk = c.args.disk.now; taken = g.K.Sink.taken c.args.sink.now }) (g.S.Source.left c.args.source.now) (g.S.Source.left c.pieces.source) (g.S.Source.left c.take.new.self) c.pieces.total c.args.limit c.args.batch (c.args.limit + 4096) c.in-Ok.count (record { kernel = c.pieces.kernel; disk = c.pieces.disk; owed = c.pieces.owed; taken = g.K.Sink.taken c.pieces.sink }) (record { kernel = c.take_bytes.new.kernel; disk = c.take_bytes.new.disk; owed = c.take_bytes.new.owed; taken = g.K.Sink.taken c.take_bytes.new.sink }) c.pieces.part c.take_bytes.new.part c.take.new.into
+    Stops-too_long g.D.Disk (record { kernel = c.args.kernel.now; disk = c.args.disk.now; taken = g.K.Sink.taken c.args.sink.now; steps = c.args.steps.now }) (g.S.Source.left c.args.source.now) (g.S.Source.left c.pieces.source) (g.S.Source.left c.take.new.self) c.pieces.total c.args.limit c.args.batch (c.args.limit + 4096) c.in-Ok.count (record { kernel = c.pieces.kernel; disk = c.pieces.disk; owed = c.pieces.owed; taken = g.K.Sink.taken c.pieces.sink; steps = c.pieces.steps }) (record { kernel = c.take_bytes.new.kernel; disk = c.take_bytes.new.disk; owed = c.take_bytes.new.owed; taken = g.K.Sink.taken c.take_bytes.new.sink; steps = c.take_bytes.new.steps }) c.pieces.part c.take_bytes.new.part c.take.new.into
     c.pieces.invariant.reading c.pieces.invariant.within (omega arith) c.in-Ok.ensures.bytes.0 c.in-Ok.ensures.bound.0 c.if-count-room.true
-    (subst (λ (v : ℕ). Goes g.D.Disk (record { kernel = c.pieces.kernel; disk = c.pieces.disk; owed = c.pieces.owed; taken = g.K.Sink.taken c.pieces.sink }) c.pieces.part (take v c.take.new.into) (record { kernel = c.take_bytes.new.kernel; disk = c.take_bytes.new.disk; owed = c.take_bytes.new.owed; taken = g.K.Sink.taken c.take_bytes.new.sink }) c.take_bytes.new.part) at_limit c.in-Ok-take_bytes.ensures.goes)
+    (subst (λ (v : ℕ). Goes g.D.Disk (record { kernel = c.pieces.kernel; disk = c.pieces.disk; owed = c.pieces.owed; taken = g.K.Sink.taken c.pieces.sink; steps = c.pieces.steps }) c.pieces.part (take v c.take.new.into) (record { kernel = c.take_bytes.new.kernel; disk = c.take_bytes.new.disk; owed = c.take_bytes.new.owed; taken = g.K.Sink.taken c.take_bytes.new.sink; steps = c.take_bytes.new.steps }) c.take_bytes.new.part) at_limit c.in-Ok-take_bytes.ensures.goes)
     c.in-Ok-take_bytes.ensures.whole c.in-Ok-take_bytes.ensures.stands.settled c.in-Ok-take_bytes.ensures.open_batch
 
 pub pieces-preserved : goal.pieces-preserved
 pieces-preserved g c =
     let all : c.min-within.result ≡ c.in-Ok.count = omega arith in
     record {
-      reading = Reading-more g.D.Disk (record { kernel = c.args.kernel.now; disk = c.args.disk.now; taken = g.K.Sink.taken c.args.sink.now }) (g.S.Source.left c.args.source.now) (g.S.Source.left c.pieces.source) (g.S.Source.left c.take.new.self) c.pieces.total c.in-Ok.count (record { kernel = c.pieces.kernel; disk = c.pieces.disk; owed = c.pieces.owed; taken = g.K.Sink.taken c.pieces.sink }) (record { kernel = c.take_bytes.new.kernel; disk = c.take_bytes.new.disk; owed = c.take_bytes.new.owed; taken = g.K.Sink.taken c.take_bytes.new.sink }) c.pieces.part c.take_bytes.new.part c.take.new.into
+      reading = Reading-more g.D.Disk (record { kernel = c.args.kernel.now; disk = c.args.disk.now; taken = g.K.Sink.taken c.args.sink.now; steps = c.args.steps.now }) (g.S.Source.left c.args.source.now) (g.S.Source.left c.pieces.source) (g.S.Source.left c.take.new.self) c.pieces.total c.in-Ok.count (record { kernel = c.pieces.kernel; disk = c.pieces.disk; owed = c.pieces.owed; taken = g.K.Sink.taken c.pieces.sink; steps = c.pieces.steps }) (record { kernel = c.take_bytes.new.kernel; disk = c.take_bytes.new.disk; owed = c.take_bytes.new.owed; taken = g.K.Sink.taken c.take_bytes.new.sink; steps = c.take_bytes.new.steps }) c.pieces.part c.take_bytes.new.part c.take.new.into
           c.pieces.invariant.reading c.in-Ok.ensures.bytes.0 c.in-Ok.ensures.bound.0
-          (subst (λ (v : ℕ). Goes g.D.Disk (record { kernel = c.pieces.kernel; disk = c.pieces.disk; owed = c.pieces.owed; taken = g.K.Sink.taken c.pieces.sink }) c.pieces.part (take v c.take.new.into) (record { kernel = c.take_bytes.new.kernel; disk = c.take_bytes.new.disk; owed = c.take_bytes.new.owed; taken = g.K.Sink.taken c.take_bytes.new.sink }) c.take_bytes.new.part) all c.in-Ok-take_bytes.ensures.goes)
+          (subst (λ (v : ℕ). Goes g.D.Disk (record { kernel = c.pieces.kernel; disk = c.pieces.disk; owed = c.pieces.owed; taken = g.K.Sink.taken c.pieces.sink; steps = c.pieces.steps }) c.pieces.part (take v c.take.new.into) (record { kernel = c.take_bytes.new.kernel; disk = c.take_bytes.new.disk; owed = c.take_bytes.new.owed; taken = g.K.Sink.taken c.take_bytes.new.sink; steps = c.take_bytes.new.steps }) c.take_bytes.new.part) all c.in-Ok-take_bytes.ensures.goes)
           c.in-Ok-take_bytes.ensures.whole;
       within = omega arith;
       size = omega arith;

@@ -9,7 +9,7 @@ use Rattle.mg_session.proofs.serving.serve_pieces.Given as goal
 
 abbrev pub invariant-pieces : goal.invariant-pieces
 invariant-pieces g l = record {
-  reading : Reading g.D.Disk (record { kernel = l.initial.kernel; disk = l.initial.disk; taken = g.K.Sink.taken l.initial.sink }) (g.S.Source.left l.initial.source) l.total (record { kernel = l.kernel; disk = l.disk; owed = l.owed; taken = g.K.Sink.taken l.sink }) l.part (g.S.Source.left l.source);
+  reading : Reading g.D.Disk (record { kernel = l.initial.kernel; disk = l.initial.disk; taken = g.K.Sink.taken l.initial.sink; steps = l.initial.steps }) (g.S.Source.left l.initial.source) l.total (record { kernel = l.kernel; disk = l.disk; owed = l.owed; taken = g.K.Sink.taken l.sink; steps = l.steps }) l.part (g.S.Source.left l.source);
   within : l.total ≤ l.limit;
   size : length l.piece ≡ 4096;
   live : IsTrue (is_live l.kernel);
