@@ -1,0 +1,1 @@
+-- Its contracts cite the definitions of mg_model alone.
