@@ -7,9 +7,6 @@ use Rattle.mg_disk.specs.Disk.{Image, block_at}
 use Rattle.mg_disk_trial.specs.Copy.{IsCopied}
 use Rattle.mg_disk_trial.specs.Mirror.{told_cut}
 
-pub copied_none : (from to : Option Image) → IsCopied 0 from to
-copied_none from to x is y is' = refl
-
 mapped : (f : Image → Image) (o : Option Image) (y : Image) → option_map f o ≡ Some y → (z : Image) × (o ≡ Some z) × (y ≡ f z)
 mapped f (Some z) y is = (z, refl, cc)
 mapped f None y is = absurd (none_some y is)

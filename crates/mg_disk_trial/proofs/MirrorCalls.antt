@@ -1,11 +1,11 @@
 -- A call of a mirror, from the calls of its sides.
 use Rattle.std.specs.Prelude.{◌≡◌, ◌⊎◌, ◌<◌, ◌&&◌, ℕ, List, Option, Some, None, option_map, slice_set}
 use Rattle.std.proofs.Common.{refl, sym, ap, ◌∙◌, subst, ⊎_elim}
-use Rattle.mg_disk.specs.Disk.{Image, Both, SeenBut, only_place, GoesOn, no_image, Torn}
+use Rattle.mg_disk.specs.Disk.{Image, Both, GoesOn, no_image, Torn}
 use Rattle.mg_disk.specs.Stops.{TimeGoes}
 use Rattle.mg_disk.specs.Runs.{time_none}
 use Rattle.mg_disk.specs.declared.disk.Disk.{Ghosts}
-use Rattle.mg_disk_trial.specs.Mirror.{told_cut, seen_of, SameWhileBoth, moment_of, Been, LeftSince, IsToldAs, told_map, cut_set, cut_but}
+use Rattle.mg_disk_trial.specs.Mirror.{told_cut, seen_of, SameWhileBoth, moment_of, Been, LeftSince, IsToldAs, told_map, cut_set}
 use Rattle.mg_disk_trial.specs.MirrorMoments.{Cuts, goes_then, goes_same, goes_alone, torn_left, torn_right}
 use Rattle.mg_disk_trial.specs.declared.mirror.Side.{Side}
 use Rattle.mg_disk_trial.specs.declared.mirror.Side.TheVariants.{Left, Right}
@@ -111,16 +111,6 @@ module _ (n i : ℕ) (b : List ℕ) (inside : i < n) where
   wrote_right alone l r l' r' none same put like =
       subst (λ now. told_cut n r' l' ≡ option_map (λ image. slice_set image i b) (seen_of n now l r)) (sym none)
       (cut_set n i b r l r' l' inside put like ∙ ap (option_map (λ image. slice_set image i b)) (sym same))
-
--- a write that failed on the sides that it reached
-pub failed_left : (n i : ℕ) (alone : Option Side) (l r l' r' : Option Image) → alone ≡ None → SeenBut (only_place i) l l' → IsToldAs r r' → SeenBut (only_place i) (seen_of n alone l r) (told_cut n l' r')
-failed_left n i alone l r l' r' none same like = subst (λ now. SeenBut (only_place i) (seen_of n now l r) (told_cut n l' r')) (sym none) (cut_but n i l r l' r' same like)
-
-pub failed_only_left : (n i : ℕ) (alone : Option Side) (l r l' : Option Image) → alone ≡ Some Left → SeenBut (only_place i) l l' → IsToldAs r r → SeenBut (only_place i) (seen_of n alone l r) (seen_of n alone l' r)
-failed_only_left n i alone l r l' is same like = subst (λ now. SeenBut (only_place i) (seen_of n now l r) (seen_of n now l' r)) (sym is) (cut_but n i l r l' r same like)
-
-pub failed_only_right : (n i : ℕ) (alone : Option Side) (l r r' : Option Image) → alone ≡ Some Right → SeenBut (only_place i) r r' → IsToldAs l l → SeenBut (only_place i) (seen_of n alone l r) (seen_of n alone l r')
-failed_only_right n i alone l r r' is same like = subst (λ now. SeenBut (only_place i) (seen_of n now l r) (seen_of n now l r')) (sym is) (cut_but n i r l r' l same like)
 
 -- both sides still give the same after a write of both
 pub same_after : (n i : ℕ) (b : List ℕ) (alone : Option Side) (l r l' r' : Option Image) → i < n → SameWhileBoth n alone l r

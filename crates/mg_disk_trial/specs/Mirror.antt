@@ -85,12 +85,6 @@ both_told n None r image is = absurd (none_some image is)
 pub cut_block : (n i : ℕ) (x : Image) → i < n → block_at (take n x) i ≡ block_at x i
 cut_block n i x inside = get_or-take n x i [] inside
 
--- what was read of a side is what the mirror gives
-pub read_first : (n i : ℕ) (l r : Option Image) (out : List ℕ) → i < n → ForSome l (λ image. out ≡ block_at image i) → ForSome (told_cut n l r) (λ image. out ≡ block_at image i)
-read_first n i l r out inside block image is =
-    let b = both_told n l r image is in
-    block b.first b.first_is ∙ sym (cut_block n i b.first inside) ∙ ap (λ x. block_at x i) (sym b.cut)
-
 -- as much is told: what a call leaves of a side, whatever it answers
 abbrev pub IsToldAs : Option Image → Option Image → Type 0
 IsToldAs (Some x) (Some y) = Unit {0}

@@ -1,9 +1,9 @@
 -- What a copy to the front of a buffer, and a put of a part, do to the bytes that are told.
 use Rattle.std.specs.Prelude.{◌≡◌, ℕ, ◌+◌, ◌-◌, ◌<◌, ◌≤◌, min, List, [], ◌++◌, length, take, drop, Option}
 use Rattle.std.specs.Io.KnownBytes.{Appends}
-use Rattle.std.proofs.Common.{refl, sym, ap, subst, ◌∙◌, append_assoc, append-nil, arith, take-append-drop, drop-drop, length-append, length-drop, take_all, drop_of_length-le}
+use Rattle.std.proofs.Common.{sym, ap, subst, ◌∙◌, append_assoc, arith, take-append-drop, drop-drop, length-append, length-drop, take_all, drop_of_length-le}
 use Rattle.std.proofs.Math.Seq.{take-append_seam}
-use Rattle.mg_io.specs.Known.{AppendsPrefix, Appends-then, Appends-none}
+use Rattle.mg_io.specs.Known.{Appends-then}
 
 -- the first bytes that are left, copied to the front of a buffer, are what is given
 pub copied-gives : (at n : ℕ) (items bytes copied after : List ℕ) → drop at items ≡ bytes → copied ≡ take n bytes →
@@ -28,9 +28,6 @@ pub record IsPartly (old new : Option (List ℕ)) (text rest : List ℕ) : Type 
   pub parts : put ++ rest ≡ text
   pub taken : Appends old new put
 
-pub IsPartly-none : (old : Option (List ℕ)) (text : List ℕ) → IsPartly old old text text
-IsPartly-none old text = record { put = []; parts = refl; taken = Appends-none old }
-
 pub IsPartly-more : (old now new : Option (List ℕ)) (text rest : List ℕ) (n : ℕ) → IsPartly old now text rest →
     Appends now new (take n rest) → IsPartly old new text (drop n rest)
 IsPartly-more old now new text rest n before more = record {
@@ -38,15 +35,6 @@ IsPartly-more old now new text rest n before more = record {
   parts = append_assoc before.put (take n rest) (drop n rest) ∙ ap (λ v. before.put ++ v) (take-append-drop n rest) ∙ before.parts;
   taken = Appends-then old now new before.put (take n rest) before.taken more;
 }
-
-pub IsPartly-prefix : (old new : Option (List ℕ)) (text rest : List ℕ) → IsPartly old new text rest → AppendsPrefix old new text
-IsPartly-prefix old new text rest before = (before.put, rest, before.parts, before.taken)
-
-pub IsPartly-all : (old new : Option (List ℕ)) (text rest : List ℕ) → IsPartly old new text rest → rest ≡ [] → Appends old new text
-IsPartly-all old new text rest before is_empty =
-    let P : List ℕ → Type 0 = λ v. Appends old new v in
-    let whole : before.put ≡ text = sym (append-nil before.put) ∙ ap (λ v. before.put ++ v) (sym is_empty) ∙ before.parts in
-    subst P whole before.taken
 
 -- one put more
 pub IsPartly-next : (old now new : Option (List ℕ)) (text rest : List ℕ) (n m : ℕ) → IsPartly old now text rest →

@@ -1,6 +1,6 @@
 -- What takes and puts do to the bytes left and the bytes taken, where those are told, and how this adds up over a run of calls.
 use Rattle.std.specs.Prelude.{◌≡◌, ℕ, ◌<◌, ◌↔◌, List, [], ◌++◌, length, Option, Some, None, Result, IfOk, IfSome}
-use Rattle.std.specs.Io.KnownBytes.{Appends, Keeps, Consumes, IsAtEnd}
+use Rattle.std.specs.Io.KnownBytes.{Appends, Keeps, Consumes}
 use Rattle.std.proofs.Common.{refl, sym, ap, ◌∙◌, append_assoc, append-nil}
 
 -- a take answers 0 exactly where no byte is left
@@ -32,32 +32,9 @@ pub Appends-none : (a : Option (List ℕ)) → Appends a a []
 Appends-none None = tt
 Appends-none (Some x) = sym (append-nil x)
 
--- to take nothing is to stay
-pub Appends-nothing : (a b : Option (List ℕ)) → Appends a b [] → Keeps a b
-Appends-nothing None b h = tt
-Appends-nothing (Some x) None h = absurd h
-Appends-nothing (Some x) (Some y) h = h ∙ append-nil x
-
--- told before, told after
-pub Appends-told : (x : List ℕ) (b : Option (List ℕ)) (p : List ℕ) → Appends (Some x) b p → b ≡ Some (x ++ p)
-Appends-told x None p h = absurd h
-Appends-told x (Some y) p h = ap (λ v. Some v) h
-
 -- nothing is a prefix of each text
 pub AppendsPrefix-none : (a : Option (List ℕ)) (p : List ℕ) → AppendsPrefix a a p
 AppendsPrefix-none a p = ([], p, refl, Appends-none a)
-
-pub AppendsPrefix-kept : (a b c : Option (List ℕ)) (p : List ℕ) → AppendsPrefix a b p → Keeps b c → AppendsPrefix a c p
-AppendsPrefix-kept a b c p (put, more, parts, h) k = (put, more, parts, Appends-kept a b c put h k)
-
--- a whole text is a prefix of each longer one
-pub AppendsPrefix-whole : (a b : Option (List ℕ)) (p more : List ℕ) → Appends a b p → AppendsPrefix a b (p ++ more)
-AppendsPrefix-whole a b p more h = (p, more, refl, h)
-
--- what is taken of the next text counts too
-pub AppendsPrefix-then : (a b c : Option (List ℕ)) (p q : List ℕ) → Appends a b p → AppendsPrefix b c q → AppendsPrefix a c (p ++ q)
-AppendsPrefix-then a b c p q h (put, more, parts, k) =
-    (p ++ put, more, append_assoc p put more ∙ ap (λ v. p ++ v) parts, Appends-then a b c p put h k)
 
 -- a prefix of a text is one of each longer text
 pub AppendsPrefix-longer : (a b : Option (List ℕ)) (p q : List ℕ) → AppendsPrefix a b p → AppendsPrefix a b (p ++ q)
@@ -80,15 +57,3 @@ Consumes-kept (Some x) (Some y) (Some z) p h k = h ∙ ap (λ v. p ++ v) (sym k)
 pub Consumes-none : (a : Option (List ℕ)) → Consumes a a []
 Consumes-none None = tt
 Consumes-none (Some x) = refl
-
--- told before, told after
-pub Consumes-told : (x : List ℕ) (b : Option (List ℕ)) (p : List ℕ) → Consumes (Some x) b p →
-    (y : List ℕ) × (b ≡ Some y) × (x ≡ p ++ y)
-Consumes-told x None p h = absurd h
-Consumes-told x (Some y) p h = (y, refl, h)
-
--- at the end, what was given is all that there was
-pub Consumes-end : (a b : Option (List ℕ)) (p : List ℕ) → Consumes a b p → IsAtEnd b → IfSome a (λ x. x ≡ p)
-Consumes-end None b p h k = tt
-Consumes-end (Some x) None p h k = absurd h
-Consumes-end (Some x) (Some y) p h k = h ∙ ap (λ v. p ++ v) k ∙ append-nil p
