@@ -3,7 +3,7 @@ ghost use Rattle.std.specs.Prelude.{◌≡◌, ◌≤◌, ℕ, IfOk, length, sum
 ghost use Rattle.std.specs.Option.{ForSome};
 ghost use Rattle.mg_check.specs.RowsRead.{AreHeld, AreInRange};
 ghost use Rattle.mg_check.specs.Summaries.{Tells};
-ghost use Rattle.mg_disk.specs.Stops.{CountGoes, CountRose, WritesNothing};
+ghost use Rattle.mg_disk.specs.Stops.{DiskCallsBy, WritesNothing};
 ghost use Rattle.mg_model.specs.Layout.{total_blocks};
 ghost use Rattle.mg_model.specs.State.{ObjectRow};
 ghost use Rattle.mg_model.specs.Volume.{Damaged, NotVolume, OldVolume, volume};
@@ -68,9 +68,7 @@ pub fn examine<D: Disk>(alloc: Global, disk: &mut D) -> Result<Summary, OpenFaul
     ensures few { IfOk result (λ summary. summary.frames ≤ 65536) }
     ensures room { IfOk result (λ summary. total_blocks summary.frames ≤ D.block_count disk.old) }
     ensures writes { WritesNothing D.Disk disk.old disk.new }
-    ensures cause { result ≡ Err OpenFault.Disk → CountRose D.Disk disk.old disk.new }
-    ensures count { CountGoes D.Disk disk.old disk.new }
-    ensures blocks { D.block_count disk.new ≡ D.block_count disk.old }
+    ensures calls { DiskCallsBy D.Disk disk.old disk.new (result ≡ Err OpenFault.Disk) }
 {
     match read_volume(alloc, disk) {
         Ok(rows) => Ok(summary_of(&rows)),

@@ -4,7 +4,7 @@ ghost use Rattle.std.specs.Option.{ForSome};
 ghost use Rattle.mg_check.specs.Reads.{OnlyRead};
 ghost use Rattle.mg_check.specs.RowsRead.{AreKept, IsReadAs};
 ghost use Rattle.mg_check.specs.Settled.{IsSettled};
-ghost use Rattle.mg_disk.specs.Stops.{CountGoes, CountRose, WritesNothing};
+ghost use Rattle.mg_disk.specs.Stops.{CountRose, DiskCallsBy, WritesNothing};
 ghost use Rattle.mg_journal.specs.Places.{Fits};
 ghost use Rattle.mg_model.specs.Layout.{globals_block, total_blocks};
 ghost use Rattle.mg_model.specs.Replay.{replay};
@@ -72,9 +72,7 @@ pub fn read_volume<D: Disk>(alloc: Global, disk: &mut D) -> Result<VolumeRows, O
     ensures old { result ≡ Err OpenFault.Old → ForSome (D.seen disk.old) (λ image. volume image ≡ OldVolume) }
     ensures damaged { result ≡ Err OpenFault.Damaged → ForSome (D.seen disk.old) (λ image. volume image ≡ Damaged) }
     ensures writes { WritesNothing D.Disk disk.old disk.new }
-    ensures cause { result ≡ Err OpenFault.Disk → CountRose D.Disk disk.old disk.new }
-    ensures count { CountGoes D.Disk disk.old disk.new }
-    ensures blocks { D.block_count disk.new ≡ D.block_count disk.old }
+    ensures calls { DiskCallsBy D.Disk disk.old disk.new (result ≡ Err OpenFault.Disk) }
 {
     let p = read_settings(disk)?;
     match settle(alloc, disk, &p) {

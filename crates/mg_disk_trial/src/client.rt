@@ -2,7 +2,7 @@
 ghost use Rattle.std.specs.Prelude.{◌≡◌, ◌≢◌, ◌⊎◌, ◌≤◌, ◌<◌, ◌∷◌, [], OnOk, OnErr, IsSomeAnd, option_map, slice_set};
 ghost use Rattle.std.specs.Option.{ForSome};
 ghost use Rattle.mg_disk.specs.Disk.{SameBut, only_place};
-ghost use Rattle.mg_disk.specs.Stops.{NothingPending, Leaves, CountGoes, CountRose};
+ghost use Rattle.mg_disk.specs.Stops.{DiskCalls, Leaves, NothingPending};
 ghost use Rattle.mg_disk_trial.specs.Gated.{contents, gate_of, is_body};
 
 use mg_disk::{BLOCK_SIZE, Block, Disk, Failed};
@@ -19,9 +19,7 @@ pub fn put<D: Disk>(disk: &mut D, first: &Block, second: &Block) -> Result<(), F
         (λ c. (contents c ≡ contents image) ⊎ (contents c ≡ first.now ∷ second.now ∷ []))) }
     ensures done { OnOk result (ForSome (D.seen disk.old) (λ _. IsSomeAnd (D.seen disk.new) (λ image. contents image ≡ first.now ∷ second.now ∷ []))) }
     ensures settled { OnOk result (NothingPending D.Disk disk.new) }
-    ensures blocks { D.block_count disk.new ≡ D.block_count disk.old }
-    ensures count { CountGoes D.Disk disk.old disk.new }
-    ensures cause { OnErr result (CountRose D.Disk disk.old disk.new) }
+    ensures calls { DiskCalls D.Disk disk.old disk.new result }
 {
     write_bodies(disk, first, second)?;
     write_and_sync(disk, 0, &[OPEN; BLOCK_SIZE])
@@ -34,9 +32,7 @@ fn write_bodies<D: Disk>(disk: &mut D, first: &Block, second: &Block) -> Result<
     ensures any_moment { ForSome (D.seen disk.old) (λ image. Leaves D.Disk disk.old disk.new (SameBut is_body image)) }
     ensures written { OnOk result (D.seen disk.new ≡ option_map (λ image. slice_set (slice_set image 1 first.now) 2 second.now) (D.seen disk.old)) }
     ensures settled { OnOk result (NothingPending D.Disk disk.new) }
-    ensures blocks { D.block_count disk.new ≡ D.block_count disk.old }
-    ensures count { CountGoes D.Disk disk.old disk.new }
-    ensures cause { OnErr result (CountRose D.Disk disk.old disk.new) }
+    ensures calls { DiskCalls D.Disk disk.old disk.new result }
 {
     disk.write(1, first)?;
     disk.write(2, second)?;
@@ -50,9 +46,7 @@ fn write_and_sync<D: Disk>(disk: &mut D, i: u64, from: &Block) -> Result<(), Fai
     ensures any_moment { ForSome (D.seen disk.old) (λ image. Leaves D.Disk disk.old disk.new (SameBut (only_place i) image)) }
     ensures written { OnOk result (D.seen disk.new ≡ option_map (λ image. slice_set image i from.now) (D.seen disk.old)) }
     ensures settled { OnOk result (NothingPending D.Disk disk.new) }
-    ensures blocks { D.block_count disk.new ≡ D.block_count disk.old }
-    ensures count { CountGoes D.Disk disk.old disk.new }
-    ensures cause { OnErr result (CountRose D.Disk disk.old disk.new) }
+    ensures calls { DiskCalls D.Disk disk.old disk.new result }
 {
     disk.write(i, from)?;
     disk.sync()

@@ -1,7 +1,7 @@
 // The kernel.
 ghost use Rattle.std.specs.Prelude.{List, ◌≡◌, ◌≤◌, ◌<◌, ◌+◌, ◌-◌, ◌⊎◌, ℕ, true, false, IfErr, IfOk, IsOk, IsTrue, MatchOption, None, OnErr, OnOk, option_map, replicate, if◌then◌else◌};
 ghost use Rattle.std.specs.Option.{ForSome};
-ghost use Rattle.mg_disk.specs.Stops.{CountGoes, CountRose, Leaves, NothingPending, WritesNothing};
+ghost use Rattle.mg_disk.specs.Stops.{DiskCalls, DiskCallsBy, Leaves, NothingPending, WritesNothing};
 ghost use Rattle.mg_kernel.specs.Meaning.{StandsOn, is_live, keeps_key, knows, now_of, seats_in, staged_of, words_in};
 ghost use Rattle.mg_kernel.specs.Opening.{Holds, Opens};
 ghost use Rattle.mg_model.specs.Access.{allowed, at};
@@ -53,9 +53,7 @@ impl Kernel {
         ensures untouched_not { result ≡ Err OpenFault.Not → WritesNothing D.Disk disk.old disk.new }
         ensures untouched_old { result ≡ Err OpenFault.Old → WritesNothing D.Disk disk.old disk.new }
         ensures untouched_damaged { result ≡ Err OpenFault.Damaged → ForSome (D.seen disk.old) (λ image. WritesNothing D.Disk disk.old disk.new) }
-        ensures cause { result ≡ Err OpenFault.Disk → CountRose D.Disk disk.old disk.new }
-        ensures count { CountGoes D.Disk disk.old disk.new }
-        ensures blocks { D.block_count disk.new ≡ D.block_count disk.old }
+        ensures calls { DiskCallsBy D.Disk disk.old disk.new (result ≡ Err OpenFault.Disk) }
     {
         match Volume::open(alloc, disk) {
             Ok(volume) => {
@@ -96,9 +94,7 @@ impl Kernel {
         ensures counted { CountsAlike (words_in self.old) (words_in self.new) steps.old steps.new }
         ensures keeps { OnOk result (ForSome (D.seen disk.old) (λ image. KeepsLine (now_of self.old image) line.now (λ key. keeps_key self.old key) (λ key. keeps_key self.new key) steps.old steps.new)) }
         ensures limit { ForSome (D.seen disk.old) (λ image. steps.new ≤ steps.old + line_limit (λ key. keeps_key self.old key) (now_of self.old image) line.now) }
-        ensures cause { OnErr result (CountRose D.Disk disk.old disk.new) }
-        ensures count { CountGoes D.Disk disk.old disk.new }
-        ensures blocks { D.block_count disk.new ≡ D.block_count disk.old }
+        ensures calls { DiskCalls D.Disk disk.old disk.new result }
     {
         keeps_ranges(line);
         steps_keep_states_well_formed();
@@ -133,9 +129,7 @@ impl Kernel {
         ensures known { knows self.old t a r ≡ true → (disk.new ≡ disk.old) × (steps.new ≡ steps.old) }
         ensures none { IfOk result (λ base. base ≡ None → seats_in self.new ≡ seats_in self.old) }
         ensures failed { OnErr result (seats_in self.new ≡ seats_in self.old) }
-        ensures cause { OnErr result (CountRose D.Disk disk.old disk.new) }
-        ensures count { CountGoes D.Disk disk.old disk.new }
-        ensures blocks { D.block_count disk.new ≡ D.block_count disk.old }
+        ensures calls { DiskCalls D.Disk disk.old disk.new result }
     {
         validate(&mut self.volume, &mut self.cache, disk, t, a, r, steps)
     }
@@ -153,9 +147,7 @@ impl Kernel {
         ensures dead { OnErr result (is_live self.new ≡ false) }
         ensures words { words_in self.new ≡ words_in self.old }
         ensures seats { seats_in self.new ≡ seats_in self.old }
-        ensures cause { OnErr result (CountRose D.Disk disk.old disk.new) }
-        ensures count { CountGoes D.Disk disk.old disk.new }
-        ensures blocks { D.block_count disk.new ≡ D.block_count disk.old }
+        ensures calls { DiskCalls D.Disk disk.old disk.new result }
         ensures nothing { staged_of self.old ≡ 0 → (disk.new ≡ disk.old) × IsOk result }
     {
         match self.volume.commit(disk) {

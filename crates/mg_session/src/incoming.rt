@@ -1,7 +1,7 @@
 // Bytes come, and the lines that they end are stepped.
 ghost use Rattle.std.specs.Prelude.{◌≡◌, ◌<◌, ◌≤◌, [], ◌∷◌, false, Err, IfErr, IsTrue, OnOk};
 ghost use Rattle.std.specs.List.{list_any};
-ghost use Rattle.mg_disk.specs.Stops.{CountGoes, CountRose};
+ghost use Rattle.mg_disk.specs.Stops.{DiskCallsBy};
 ghost use Rattle.mg_faults.specs.Faults.{CountGoesOn, Rose};
 ghost use Rattle.mg_kernel.specs.Meaning.{StandsOn, is_live, staged_of, words_in};
 ghost use Rattle.mg_model.specs.Lines.{built_words, lines};
@@ -49,10 +49,8 @@ fn take_byte<D: Disk, K: Sink, L: Ledger>(
     ensures staged { OnOk result (staged_of kernel.new ≤ 28) }
     ensures open_batch { OnOk result (owed.new.count < batch) }
     ensures counted { CountsAlike (words_in kernel.old) (words_in kernel.new) steps.old steps.new }
-    ensures blocks { D.block_count disk.new ≡ D.block_count disk.old }
-    ensures disk_count { CountGoes D.Disk disk.old disk.new }
     ensures sink_count { CountGoesOn (K.faults sink.old) (K.faults sink.new) (K.is_spent sink.old) (K.is_spent sink.new) }
-    ensures disk { result ≡ Err Ended.Disk → CountRose D.Disk disk.old disk.new }
+    ensures disk { DiskCallsBy D.Disk disk.old disk.new (result ≡ Err Ended.Disk) }
     ensures sink { result ≡ Err Ended.Sink → Rose (K.faults sink.old) (K.faults sink.new) (K.is_spent sink.new) }
     ensures only { IfErr result IsInside }
 {
@@ -95,10 +93,8 @@ pub fn take_bytes<D: Disk, K: Sink, L: Ledger>(
     ensures staged { OnOk result (staged_of kernel.new ≤ 28) }
     ensures open_batch { OnOk result (owed.new.count < batch) }
     ensures counted { CountsAlike (words_in kernel.old) (words_in kernel.new) steps.old steps.new }
-    ensures blocks { D.block_count disk.new ≡ D.block_count disk.old }
-    ensures disk_count { CountGoes D.Disk disk.old disk.new }
     ensures sink_count { CountGoesOn (K.faults sink.old) (K.faults sink.new) (K.is_spent sink.old) (K.is_spent sink.new) }
-    ensures disk { result ≡ Err Ended.Disk → CountRose D.Disk disk.old disk.new }
+    ensures disk { DiskCallsBy D.Disk disk.old disk.new (result ≡ Err Ended.Disk) }
     ensures sink { result ≡ Err Ended.Sink → Rose (K.faults sink.old) (K.faults sink.new) (K.is_spent sink.new) }
     ensures only { IfErr result IsInside }
 {
@@ -137,10 +133,8 @@ pub fn finish<D: Disk, K: Sink, L: Ledger>(
     ensures staged { OnOk result (staged_of kernel.new ≡ 0) }
     ensures empty { OnOk result (owed.new ≡ no_replies) }
     ensures counted { CountsAlike (words_in kernel.old) (words_in kernel.new) steps.old steps.new }
-    ensures blocks { D.block_count disk.new ≡ D.block_count disk.old }
-    ensures disk_count { CountGoes D.Disk disk.old disk.new }
     ensures sink_count { CountGoesOn (K.faults sink.old) (K.faults sink.new) (K.is_spent sink.old) (K.is_spent sink.new) }
-    ensures disk { result ≡ Err Ended.Disk → CountRose D.Disk disk.old disk.new }
+    ensures disk { DiskCallsBy D.Disk disk.old disk.new (result ≡ Err Ended.Disk) }
     ensures sink { result ≡ Err Ended.Sink → Rose (K.faults sink.old) (K.faults sink.new) (K.is_spent sink.new) }
     ensures only { IfErr result IsInside }
 {

@@ -1,7 +1,7 @@
 // A whole session: the source is read to its end, and its lines are stepped and answered in batches.
 ghost use Rattle.std.specs.Prelude.{◌≡◌, ◌+◌, ◌≤◌, Err, IfErr, IfSome, IsOk, IsTrue, OnOk};
 ghost use Rattle.std.specs.Option.{ForSome};
-ghost use Rattle.mg_disk.specs.Stops.{CountGoes, CountRose};
+ghost use Rattle.mg_disk.specs.Stops.{CountRose, DiskCallsBy};
 ghost use Rattle.mg_faults.specs.Faults.{CountGoesOn, Rose};
 ghost use Rattle.mg_kernel.specs.Meaning.{StandsOn, is_live, now_of, staged_of, words_in};
 ghost use Rattle.mg_model.specs.Counts.{CountsAlike};
@@ -46,11 +46,9 @@ fn serve_pieces<D: Disk, S: Source, K: Sink, L: Ledger>(
     ensures stands { UnlessDisk result (StandsOn D.Disk kernel.new disk.new) }
     ensures staged { OnOk result (staged_of kernel.new ≡ 0) }
     ensures counted { CountsAlike (words_in kernel.old) (words_in kernel.new) steps.old steps.new }
-    ensures blocks { D.block_count disk.new ≡ D.block_count disk.old }
-    ensures disk_count { CountGoes D.Disk disk.old disk.new }
     ensures source_count { CountGoesOn (S.faults source.old) (S.faults source.new) (S.is_spent source.old) (S.is_spent source.new) }
     ensures sink_count { CountGoesOn (K.faults sink.old) (K.faults sink.new) (K.is_spent sink.old) (K.is_spent sink.new) }
-    ensures disk { result ≡ Err Ended.Disk → CountRose D.Disk disk.old disk.new }
+    ensures disk { DiskCallsBy D.Disk disk.old disk.new (result ≡ Err Ended.Disk) }
     ensures source { result ≡ Err Ended.Source → Rose (S.faults source.old) (S.faults source.new) (S.is_spent source.new) }
     ensures sink { result ≡ Err Ended.Sink → Rose (K.faults sink.old) (K.faults sink.new) (K.is_spent sink.new) }
 {
@@ -128,7 +126,7 @@ pub fn serve<D: Disk, S: Source, K: Sink, L: Ledger>(
     ensures holds_exactly { ForSome (D.seen disk.old) (λ image. HoldsExactly D.Disk (now_of kernel.old image) (status_of result) disk.new
         (S.left source.old) (S.left source.new) (K.taken sink.old) (K.taken sink.new)) }
     ensures ends { Ends S.Source K.Sink batch limit (status_of result) source.old source.new sink.old sink.new }
-    ensures disk { result ≡ Err Ended.Disk → CountRose D.Disk disk.old disk.new }
+    ensures disk { DiskCallsBy D.Disk disk.old disk.new (result ≡ Err Ended.Disk) }
 
     // Where no call failed and the input is not too long, all is done.
     ensures complete { (CountRose D.Disk disk.old disk.new → ⊥)
@@ -149,8 +147,6 @@ pub fn serve<D: Disk, S: Source, K: Sink, L: Ledger>(
 
     // The two counts of words rise by as much, and no count falls.
     ensures counted { CountsAlike (words_in kernel.old) (words_in kernel.new) steps.old steps.new }
-    ensures blocks { D.block_count disk.new ≡ D.block_count disk.old }
-    ensures disk_count { CountGoes D.Disk disk.old disk.new }
     ensures source_count { CountGoesOn (S.faults source.old) (S.faults source.new) (S.is_spent source.old) (S.is_spent source.new) }
     ensures sink_count { CountGoesOn (K.faults sink.old) (K.faults sink.new) (K.is_spent sink.old) (K.is_spent sink.new) }
 {

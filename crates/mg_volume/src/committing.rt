@@ -1,7 +1,7 @@
 // Commits of a volume.
 ghost use Rattle.std.specs.Prelude.{◌≡◌, ◌⊎◌, true, false, IsOk, IsSome, IsTrue, OnErr, OnOk};
 ghost use Rattle.std.specs.Option.{ForSome};
-ghost use Rattle.mg_disk.specs.Stops.{CountGoes, CountRose, Leaves};
+ghost use Rattle.mg_disk.specs.Stops.{DiskCalls, Leaves};
 ghost use Rattle.mg_model.specs.Volume.{Is, volume};
 ghost use Rattle.mg_volume.specs.Meaning.{SameParts, StandsOn, is_live, is_sound, now_of, objects_in, staged_of, total_of, words_in};
 ghost use Rattle.mg_volume.specs.Opening.{Holds};
@@ -28,9 +28,7 @@ impl Volume {
         ensures live { OnOk result (IsTrue (is_live self.new)) }
         ensures dead { OnErr result (is_live self.new ≡ false) }
         ensures words { words_in self.new ≡ words_in self.old }
-        ensures cause { OnErr result (CountRose D.Disk disk.old disk.new) }
-        ensures count { CountGoes D.Disk disk.old disk.new }
-        ensures blocks { D.block_count disk.new ≡ D.block_count disk.old }
+        ensures calls { DiskCalls D.Disk disk.old disk.new result }
         ensures parts { SameParts self.old self.new }
         ensures nothing { staged_of self.old ≡ 0 → (disk.new ≡ disk.old) × IsOk result }
     {

@@ -2,7 +2,7 @@
 ghost use Rattle.std.specs.Prelude.{List, ℕ, ◌≡◌, ◌≤◌, true, IfOk, IsTrue};
 ghost use Rattle.std.specs.Option.{ForSome};
 ghost use Rattle.mg_check.specs.RowsRead.{AreKept, IsReadAs};
-ghost use Rattle.mg_disk.specs.Stops.{CountGoes, CountRose, Leaves, NothingPending, WritesNothing};
+ghost use Rattle.mg_disk.specs.Stops.{DiskCallsBy, Leaves, NothingPending, WritesNothing};
 ghost use Rattle.mg_model.specs.Layout.{total_blocks};
 ghost use Rattle.mg_model.specs.Volume.{volume};
 ghost use Rattle.mg_objects.specs.Held.{AreApart, IsPlaced, by_base};
@@ -51,9 +51,7 @@ pub(crate) fn open_rows<D: Disk>(
     ensures any_moment { NothingPending D.Disk disk.old → ForSome (D.seen disk.old) (λ image. Leaves D.Disk disk.old disk.new (λ c. volume c ≡ volume image)) }
     ensures damaged { result ≡ Err ViewFault.Damaged → ForSome (D.seen disk.old) (λ _. ⊥) }
     ensures untouched { result ≡ Err ViewFault.Damaged → WritesNothing D.Disk disk.old disk.new }
-    ensures cause { result ≡ Err ViewFault.Disk → CountRose D.Disk disk.old disk.new }
-    ensures count { CountGoes D.Disk disk.old disk.new }
-    ensures blocks { D.block_count disk.new ≡ D.block_count disk.old }
+    ensures calls { DiskCallsBy D.Disk disk.old disk.new (result ≡ Err ViewFault.Disk) }
 {
     let objects = match objects_of(alloc, &rows.objects) {
         Ok(objects) => objects,

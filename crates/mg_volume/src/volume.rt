@@ -1,7 +1,7 @@
 // A volume that is open.
 ghost use Rattle.std.specs.Prelude.{List, ◌≡◌, ◌≤◌, ◌<◌, ◌+◌, ◌*◌, ◌==◌, ℕ, true, false, IfOk, IfSome, IsTrue, MatchOption, None, OnErr, OnOk, Some, find, option_copied, option_map, ◌⊎◌};
 ghost use Rattle.std.specs.Option.{ForSome};
-ghost use Rattle.mg_disk.specs.Stops.{CountGoes, CountRose, Leaves, NothingPending, WritesNothing};
+ghost use Rattle.mg_disk.specs.Stops.{DiskCallsBy, Leaves, NothingPending, WritesNothing};
 ghost use Rattle.mg_model.specs.Access.{covers, last_slots};
 ghost use Rattle.mg_model.specs.Bank.{account_of};
 ghost use Rattle.mg_model.specs.State.{Thread};
@@ -65,9 +65,7 @@ impl Volume {
         ensures untouched_not { result ≡ Err OpenFault.Not → WritesNothing D.Disk disk.old disk.new }
         ensures untouched_old { result ≡ Err OpenFault.Old → WritesNothing D.Disk disk.old disk.new }
         ensures untouched_damaged { result ≡ Err OpenFault.Damaged → WritesNothing D.Disk disk.old disk.new }
-        ensures cause { result ≡ Err OpenFault.Disk → CountRose D.Disk disk.old disk.new }
-        ensures count { CountGoes D.Disk disk.old disk.new }
-        ensures blocks { D.block_count disk.new ≡ D.block_count disk.old }
+        ensures calls { DiskCallsBy D.Disk disk.old disk.new (result ≡ Err OpenFault.Disk) }
     {
         let rows = match read_volume(alloc, disk) {
             Ok(rows) => rows,

@@ -27,8 +27,8 @@ loop-b-preserved g c = record {
   staged = c.in-Ok.ensures.staged;
   open_batch = c.in-Ok.ensures.open_batch;
   counted = alike_then (words_in c.args.kernel.now) (words_in c.loop-b.kernel) (words_in c.take_byte.new.kernel) c.args.steps.now c.loop-b.steps c.take_byte.new.steps c.loop-b.invariant.counted c.in-Ok.ensures.counted;
-  blocks = c.in-Ok.ensures.blocks ∙ c.loop-b.invariant.blocks;
-  disk_count = count_then _ _ _ _ _ _ c.loop-b.invariant.disk_count c.in-Ok.ensures.disk_count;
+  blocks = c.in-Ok.ensures.disk.blocks ∙ c.loop-b.invariant.blocks;
+  disk_count = count_then _ _ _ _ _ _ c.loop-b.invariant.disk_count c.in-Ok.ensures.disk.count;
   sink_count = count_then _ _ _ _ _ _ c.loop-b.invariant.sink_count c.in-Ok.ensures.sink_count;
 }
 

@@ -29,5 +29,5 @@ returns-clause-complete g c =
     session_complete c.serve_pieces.result c.args.limit (g.S.Source.left c.args.source.now) (g.S.Source.left c.serve_pieces.new.source) (CountRose g.D.Disk c.args.disk.now c.serve_pieces.new.disk)
     (Rose (g.S.Source.faults c.args.source.now) (g.S.Source.faults c.serve_pieces.new.source) (g.S.Source.is_spent c.serve_pieces.new.source))
     (Rose (g.K.Sink.faults c.args.sink.now) (g.K.Sink.faults c.serve_pieces.new.sink) (g.K.Sink.is_spent c.serve_pieces.new.sink))
-    c.serve_pieces.ensures.disk c.serve_pieces.ensures.source c.serve_pieces.ensures.sink
+    c.serve_pieces.ensures.disk.cause c.serve_pieces.ensures.source c.serve_pieces.ensures.sink
     (session_ends g.D.Disk g.S.Source g.K.Sink c.args.kernel.now c.serve_pieces.new.kernel c.args.disk.now c.serve_pieces.new.disk c.serve_pieces.new.owed c.args.steps.now c.serve_pieces.new.steps c.args.limit c.args.batch c.args.source.now c.serve_pieces.new.source c.args.sink.now c.serve_pieces.new.sink c.serve_pieces.result c.serve_pieces.ensures.finishes c.serve_pieces.ensures.stops c.serve_pieces.ensures.source c.serve_pieces.ensures.sink).too_long

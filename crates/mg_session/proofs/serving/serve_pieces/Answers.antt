@@ -83,7 +83,7 @@ pieces-preserved g c =
       open_batch = c.in-Ok-take_bytes.ensures.open_batch;
       counted = alike_then (words_in c.args.kernel.now) (words_in c.pieces.kernel) (words_in c.take_bytes.new.kernel) c.args.steps.now c.pieces.steps c.take_bytes.new.steps c.pieces.invariant.counted c.in-Ok-take_bytes.ensures.counted;
       blocks = omega arith;
-      disk_count = count_then _ _ _ _ _ _ c.pieces.invariant.disk_count c.in-Ok-take_bytes.ensures.disk_count;
+      disk_count = count_then _ _ _ _ _ _ c.pieces.invariant.disk_count c.in-Ok-take_bytes.ensures.disk.count;
       source_count = count_then _ _ _ _ _ _ c.pieces.invariant.source_count c.in-Ok.ensures.cause.goes_on;
       sink_count = count_then _ _ _ _ _ _ c.pieces.invariant.sink_count c.in-Ok-take_bytes.ensures.sink_count;
     }
