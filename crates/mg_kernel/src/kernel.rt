@@ -38,8 +38,9 @@ impl Kernel {
     /// Opens the volume of a disk, whatever a stop left of a commit. All memory that the machine will need is taken here.
     ///
     /// [`OpenFault::Not`], [`OpenFault::Old`] and [`OpenFault::Damaged`] come exactly where the image that reads give is no
-    /// volume, an older one, or a damaged one, and then nothing is written; on a disk that does not tell its reads, what
-    /// does not fit when it is read again is damaged too. [`OpenFault::Disk`] comes only where a call of the disk failed.
+    /// volume, an older one, or a damaged one, and then nothing is written, on every disk; on a disk that does not tell its
+    /// reads, a journal that is another one when it is read again is damaged too. [`OpenFault::Disk`] comes only where a call
+    /// of the disk failed.
     pub fn open<D: Disk>(alloc: Global, disk: &mut D) -> Result<Kernel, OpenFault>
         ensures opens { IfOk result (λ k. ForSome (D.seen disk.old) (λ image. Opens (volume image) k (D.seen disk.new))) }
         ensures stands { IfOk result (λ k. StandsOn D.Disk k disk.new) }
@@ -52,7 +53,7 @@ impl Kernel {
         ensures damaged { result ≡ Err OpenFault.Damaged → ForSome (D.seen disk.old) (λ image. volume image ≡ Damaged) }
         ensures untouched_not { result ≡ Err OpenFault.Not → WritesNothing D.Disk disk.old disk.new }
         ensures untouched_old { result ≡ Err OpenFault.Old → WritesNothing D.Disk disk.old disk.new }
-        ensures untouched_damaged { result ≡ Err OpenFault.Damaged → ForSome (D.seen disk.old) (λ image. WritesNothing D.Disk disk.old disk.new) }
+        ensures untouched_damaged { result ≡ Err OpenFault.Damaged → WritesNothing D.Disk disk.old disk.new }
         ensures calls { DiskCallsBy D.Disk disk.old disk.new (result ≡ Err OpenFault.Disk) }
     {
         match Volume::open(alloc, disk) {
@@ -134,8 +135,9 @@ impl Kernel {
         validate(&mut self.volume, &mut self.cache, disk, t, a, r, steps)
     }
 
-    /// Makes the state durable. What is kept of rights stays. With nothing staged no call of the disk is made. After [`Failed`], which comes only where a
-    /// call of the disk failed, the kernel is not live, and a stop leaves the state of before or the new one.
+    /// Makes the state durable. What is kept of rights stays. With nothing staged no call of the disk is made. After
+    /// [`Failed`], which comes only where a call of the disk failed, the kernel is not live, and a stop leaves the state of
+    /// before or the new one.
     pub fn commit<D: Disk>(&mut self, disk: &mut D) -> Result<(), Failed>
         requires live { IsTrue (is_live self.old) }
         requires stands { StandsOn D.Disk self.old disk.old }

@@ -1,3 +1,5 @@
+mod Answered
+mod Cutting
 mod Endings
 mod IncomingSteps
 mod Openings

@@ -241,8 +241,8 @@ EndsUnopened result = (result ≡ status.NoVolume) ⊎ ((result ≡ status.Memor
 pub record TellsOfNone {D K : Type 0} (facts : disks.Ghosts D) (to : sinks.Ghosts K) (result : Status) (disk disk' : D) (sink sink' : K) : Type 0 where
   -- It ends without a volume only where reads give none, and the line says which kind of none.
   pub none : result ≡ status.NoVolume → TellsNone (facts.seen disk) (to.taken sink) (to.taken sink')
-  -- Nothing is written then.
-  pub none_writes : result ≡ status.NoVolume → ForSome (facts.seen disk) (λ _. WritesNothing facts disk disk')
+  -- Nothing is written then, on every disk.
+  pub none_writes : result ≡ status.NoVolume → WritesNothing facts disk disk'
   -- Where reads give none it ends so, unless a call failed or memory was wanting, and what is put is a prefix of that line.
   pub not_opened : ForSome (facts.seen disk) (λ image. IsNoState (volume image) → EndsUnopened result)
   pub not_opened_prefix : ForSome (facts.seen disk) (λ image. IsNoState (volume image) → AppendsPrefix (to.taken sink) (to.taken sink') (check_line (volume image)))
