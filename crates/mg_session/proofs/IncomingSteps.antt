@@ -7,7 +7,7 @@ use Rattle.std.proofs.lemmas.List.{take-append-drop, take_more}
 use Rattle.mg_disk.specs.declared.disk.Disk.{Ghosts}
 use Rattle.mg_kernel.specs.Meaning.{is_live}
 use Rattle.mg_model.specs.declared.calls.Line.{Line}
-use Rattle.mg_model.specs.Cutting.{lines-ended, lines-last}
+use Rattle.mg_session.proofs.Cutting.{lines-ended, lines-last}
 use Rattle.mg_model.specs.Lines.{built_words, line_of, lines}
 use Rattle.mg_model.specs.Words.{is_newline}
 use Rattle.mg_model.specs.Counts.{CountsAlike}

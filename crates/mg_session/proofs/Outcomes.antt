@@ -11,7 +11,7 @@ use Rattle.mg_disk.specs.Stops.{Leaves, NothingPending}
 use Rattle.mg_disk.specs.declared.disk.Disk.{Ghosts}
 use Rattle.mg_kernel.specs.Meaning.{is_live, now_of}
 use Rattle.mg_model.specs.declared.calls.Line.{Line}
-use Rattle.mg_model.specs.Answered.{text-append}
+use Rattle.mg_session.proofs.Answered.{text-append}
 use Rattle.mg_model.specs.Print.{answered, text}
 use Rattle.mg_model.specs.Ended.{ended_lines}
 use Rattle.mg_model.specs.Lines.{built_words, lines}

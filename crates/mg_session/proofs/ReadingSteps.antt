@@ -12,7 +12,7 @@ use Rattle.mg_io.specs.Known.{Consumes-kept, Consumes-none, Consumes-then}
 use Rattle.mg_kernel.specs.Meaning.{is_live}
 use Rattle.mg_model.specs.declared.calls.Line.{Line}
 use Rattle.mg_model.specs.Print.{answered}
-use Rattle.mg_model.specs.Cutting.{ended_lines-exact}
+use Rattle.mg_session.proofs.Cutting.{ended_lines-exact}
 use Rattle.mg_model.specs.Ended.{ended_lines}
 use Rattle.mg_model.specs.Lines.{built_words, lines}
 use Rattle.mg_model.specs.Words.{is_newline}

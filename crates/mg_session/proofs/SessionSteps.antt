@@ -15,7 +15,7 @@ use Rattle.mg_kernel.specs.Meaning.{StandsOn, keeps_key, now_kept, now_of, seats
 use Rattle.mg_kernel.specs.Opening.{Holds}
 use Rattle.mg_model.specs.declared.calls.Line.{Line}
 use Rattle.mg_model.specs.declared.replies.Reply.{Reply}
-use Rattle.mg_model.specs.Answered.{after-append, answered-append, reply_answers, text-append}
+use Rattle.mg_session.proofs.Answered.{after-append, answered-append, reply_answers, text-append}
 use Rattle.mg_laws.specs.Costs.{BeginsWarm}
 use Rattle.mg_model.specs.Kept.{KeepsLine, KeepsWarm, line_limit}
 use Rattle.mg_model.specs.Print.{answered, reply_line, text}

@@ -33,7 +33,7 @@ returns-in-Ok-clause-cost g c =
 pub returns-in-Ok-clause-complete : goal.returns-in-Ok-clause-complete
 returns-in-Ok-clause-complete g c =
     opened_then c.in-Ok.kernel (g.D.Disk.seen c.args.disk.now) (g.D.Disk.seen c.open.new.disk) _ c.in-Ok.ensures.opens
-    (λ image is. λ disk source sink. c.run_kernel.ensures.complete (λ rose. disk (then_rose _ _ _ _ _ _ c.in-Ok.ensures.count rose)) source sink)
+    (λ image is. λ disk source sink. c.run_kernel.ensures.complete (λ rose. disk (then_rose _ _ _ _ _ _ c.in-Ok.ensures.calls.count rose)) source sink)
 
 pub returns-in-Err-clause-answers : goal.returns-in-Err-clause-answers
 returns-in-Err-clause-answers g c =
