@@ -11,10 +11,10 @@ use std::marker::Brand;
 use std::sync::ledger::{Blank, Ledger};
 use std::test::Fail;
 
-const ROOT: u64 = 0x1_0000_0000;
+pub(crate) const ROOT: u64 = 0x1_0000_0000;
 
 /// A fresh volume of 64 frames.
-fn fresh(alloc: Global) -> Result<MemDisk, Fail> {
+pub(crate) fn fresh(alloc: Global) -> Result<MemDisk, Fail> {
     let mut disk = MemDisk::new(alloc, 2660, 20_000, Vec::new(alloc))?;
     let params = Params::new(64, [0; 32], 1000, Tariff::usual(64)).ok_or("settings")?;
     match format(&mut disk, &params) {
@@ -23,7 +23,7 @@ fn fresh(alloc: Global) -> Result<MemDisk, Fail> {
     }
 }
 
-fn opened<D: Disk>(alloc: Global, disk: &mut D) -> Result<Kernel, Fail>
+pub(crate) fn opened<D: Disk>(alloc: Global, disk: &mut D) -> Result<Kernel, Fail>
     ensures { IfOk result (λ kernel. StandsOn D.Disk kernel disk.new) }
 {
     match Kernel::open(alloc, disk) {

@@ -1,0 +1,96 @@
+// Words that are counted on a volume in memory: a capability list is read once, until a store into it.
+ghost use Rattle.std.specs.Prelude.{◌≡◌, ◌<◌};
+ghost use Rattle.mg_kernel.specs.Meaning.{StandsOn};
+
+use crate::probes::{fresh, opened, ROOT};
+use mg_disk::Disk;
+use mg_kernel::Kernel;
+use mg_model::{Call, Line, Reply, Steps};
+use std::alloc::Global;
+use std::marker::Brand;
+use std::sync::ledger::{Blank, Ledger};
+use std::test::Fail;
+
+/// What thread 1 loads from the root's first word, where there is room for what a line stages.
+fn loaded<D: Disk, L: Ledger>(
+    kernel: &mut Kernel,
+    disk: &mut D,
+    steps: &mut Steps<L>,
+) -> Option<Reply>
+    requires { StandsOn D.Disk kernel.old disk.old }
+    ensures { StandsOn D.Disk kernel.new disk.new }
+{
+    if !kernel.live() || kernel.staged() > 28 {
+        return None;
+    }
+    let call = Call::Load { a: ROOT };
+    kernel.step(disk, &Line { thread: 1, call }, steps).ok()
+}
+
+/// What it is answered to a store into the root's list, behind its entries.
+fn stored<D: Disk, L: Ledger>(
+    kernel: &mut Kernel,
+    disk: &mut D,
+    steps: &mut Steps<L>,
+) -> Option<Reply>
+    requires { StandsOn D.Disk kernel.old disk.old }
+    ensures { StandsOn D.Disk kernel.new disk.new }
+{
+    if !kernel.live() || kernel.staged() > 28 {
+        return None;
+    }
+    let a = ROOT + 2048;
+    let call = Call::Store { a, value: 5 };
+    kernel.step(disk, &Line { thread: 1, call }, steps).ok()
+}
+
+/// How many of so many loads give the root's first word, 1.
+fn all_loaded<D: Disk, L: Ledger>(
+    kernel: &mut Kernel,
+    disk: &mut D,
+    loads: u64,
+    steps: &mut Steps<L>,
+) -> u64
+    requires { StandsOn D.Disk kernel.old disk.old }
+    ensures { StandsOn D.Disk kernel.new disk.new }
+{
+    let mut given = 0_u64;
+    for _ in 0..loads {
+        if loaded(kernel, disk, steps) == Some(Reply::Value(1)) {
+            given = given.wrapping_add(1);
+        }
+    }
+    given
+}
+
+/// How many loads are answered of one, of 999 more, and of one behind a store into the list; and the words that were counted after
+/// each of these, and after the store.
+fn counts<L: Ledger>(alloc: Global, blank: Blank) -> Result<([u64; 3], [u64; 4]), Fail>
+    requires name { blank.name ≡ L.name }
+    requires parts { blank.parts ≡ L.parts }
+    requires some { 0 < blank.parts }
+{
+    let mut steps = Steps::<L>::new(blank);
+    let mut disk = fresh(alloc)?;
+    let mut kernel = opened(alloc, &mut disk)?;
+    let one = all_loaded(&mut kernel, &mut disk, 1, &mut steps);
+    let first = kernel.words();
+    let more = all_loaded(&mut kernel, &mut disk, 999, &mut steps);
+    let all = kernel.words();
+    if stored(&mut kernel, &mut disk, &mut steps) != Some(Reply::Done) {
+        return Err("not stored".into());
+    }
+    let written = kernel.words();
+    let again = all_loaded(&mut kernel, &mut disk, 1, &mut steps);
+    Ok(([one, more, again], [first, all, written, kernel.words()]))
+}
+
+// The root's list has one entry: a search reads the count, the base and the password. Each line has a word of its own; the store
+// wants another right, and so searches too.
+#[test]
+fn a_list_is_read_once_until_a_store_into_it(rt: HostRuntime) -> Result<(), Fail> {
+    let (answered, words) = counts::<Brand>(rt.alloc(), Blank::new(1))?;
+    assert_eq!(rt; answered, [1, 999, 1]);
+    assert_eq!(rt; words, [4, 1003, 1007, 1011]);
+    Ok(())
+}
