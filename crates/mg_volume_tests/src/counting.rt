@@ -11,10 +11,12 @@ use std::marker::Brand;
 use std::sync::ledger::{Blank, Ledger};
 use std::test::Fail;
 
-/// What thread 1 loads from the root's first word, where there is room for what a line stages.
-fn loaded<D: Disk, L: Ledger>(
+/// What a thread is answered to a load, where there is room for what a line stages.
+pub(crate) fn loaded<D: Disk, L: Ledger>(
     kernel: &mut Kernel,
     disk: &mut D,
+    thread: u64,
+    a: u64,
     steps: &mut Steps<L>,
 ) -> Option<Reply>
     requires { StandsOn D.Disk kernel.old disk.old }
@@ -23,14 +25,16 @@ fn loaded<D: Disk, L: Ledger>(
     if !kernel.live() || kernel.staged() > 28 {
         return None;
     }
-    let call = Call::Load { a: ROOT };
-    kernel.step(disk, &Line { thread: 1, call }, steps).ok()
+    let call = Call::Load { a };
+    kernel.step(disk, &Line { thread, call }, steps).ok()
 }
 
-/// What it is answered to a store into the root's list, behind its entries.
-fn stored<D: Disk, L: Ledger>(
+/// What thread 1 is answered to a store.
+pub(crate) fn stored<D: Disk, L: Ledger>(
     kernel: &mut Kernel,
     disk: &mut D,
+    a: u64,
+    value: u64,
     steps: &mut Steps<L>,
 ) -> Option<Reply>
     requires { StandsOn D.Disk kernel.old disk.old }
@@ -39,8 +43,7 @@ fn stored<D: Disk, L: Ledger>(
     if !kernel.live() || kernel.staged() > 28 {
         return None;
     }
-    let a = ROOT + 2048;
-    let call = Call::Store { a, value: 5 };
+    let call = Call::Store { a, value };
     kernel.step(disk, &Line { thread: 1, call }, steps).ok()
 }
 
@@ -56,7 +59,7 @@ fn all_loaded<D: Disk, L: Ledger>(
 {
     let mut given = 0_u64;
     for _ in 0..loads {
-        if loaded(kernel, disk, steps) == Some(Reply::Value(1)) {
+        if loaded(kernel, disk, 1, ROOT, steps) == Some(Reply::Value(1)) {
             given = given.wrapping_add(1);
         }
     }
@@ -77,7 +80,7 @@ fn counts<L: Ledger>(alloc: Global, blank: Blank) -> Result<([u64; 3], [u64; 4])
     let first = kernel.words();
     let more = all_loaded(&mut kernel, &mut disk, 999, &mut steps);
     let all = kernel.words();
-    if stored(&mut kernel, &mut disk, &mut steps) != Some(Reply::Done) {
+    if stored(&mut kernel, &mut disk, ROOT + 2048, 5, &mut steps) != Some(Reply::Done) {
         return Err("not stored".into());
     }
     let written = kernel.words();

@@ -9,4 +9,6 @@ mod counting;
 #[cfg(test)]
 mod probes;
 #[cfg(test)]
+mod sharing;
+#[cfg(test)]
 mod staging;
