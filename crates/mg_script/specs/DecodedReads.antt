@@ -7,7 +7,7 @@ use Rattle.mg_model.specs.Script.{decoded, instruction_of, is_register, where_so
 use Rattle.mg_script.specs.Encoded.{HasRegisters, encoded, word_of}
 
 -- an instruction that has its registers and is spelled by these fields
-pub record IsSpelling (number a b c i : ℕ) (instr : Instr) : Type 0 where
+record IsSpelling (number a b c i : ℕ) (instr : Instr) : Type 0 where
   pub registers : HasRegisters instr
   pub word : encoded instr ≡ word_of number a b c i
 
@@ -21,7 +21,7 @@ here_or : (P : Instr → Type 0) (here fits : Bool) (instr : Instr) (more : Opti
 here_or P true fits instr more h behind = given P fits instr (h refl)
 here_or P false fits instr more h behind = behind
 
-pub instruction_of-spells : (number a b c i : ℕ) → IfSome (instruction_of number a b c i) (IsSpelling number a b c i)
+instruction_of-spells : (number a b c i : ℕ) → IfSome (instruction_of number a b c i) (IsSpelling number a b c i)
 instruction_of-spells number a b c i =
     let P = λ (instr : Instr). IsSpelling number a b c i instr in
     here_or P (number == 0) (a == 0 && b == 0 && c == 0 && i == 0) op.Halt _ (λ n f. record { registers = tt; word = grind (arith, nat_tests) })
@@ -44,9 +44,14 @@ wider : (P Q : Instr → Type 0) → ((instr : Instr) → P instr → Q instr) �
 wider P Q h None some = tt
 wider P Q h (Some instr) some = h instr some
 
-pub instruction_of-registers : (number a b c i : ℕ) → IfSome (instruction_of number a b c i) HasRegisters
-instruction_of-registers number a b c i =
-    wider (IsSpelling number a b c i) HasRegisters (λ instr h. h.registers) (instruction_of number a b c i) (instruction_of-spells number a b c i)
+pub decoded-registers : (w : ℕ) → IfSome (decoded w) HasRegisters
+decoded-registers w =
+    let number = w % 2 ^ 8 in
+    let a = w / 2 ^ 8 % 2 ^ 8 in
+    let b = w / 2 ^ 16 % 2 ^ 8 in
+    let c = w / 2 ^ 24 % 2 ^ 8 in
+    let i = w / 2 ^ 32 in
+    wider (IsSpelling number a b c i) HasRegisters (λ instr h. h.registers) (decoded w) (instruction_of-spells number a b c i)
 
 -- the word of its fields
 parts : (w : ℕ) → word_of (w % 2 ^ 8) (w / 2 ^ 8 % 2 ^ 8) (w / 2 ^ 16 % 2 ^ 8) (w / 2 ^ 24 % 2 ^ 8) (w / 2 ^ 32) ≡ w
