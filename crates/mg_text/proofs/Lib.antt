@@ -1,5 +1,4 @@
 pub mod BuiltLines
 pub mod Letters
-pub mod Pieces
 pub mod Texts
 pub mod Values

@@ -1,0 +1,21 @@
+-- How the items of lines go on by one.
+use Rattle.std.proofs.Common.{◌≡◌, ℕ, ◌+◌, List, [], ◌∷◌, ◌++◌, length, Ok, ap, sym, ◌∙◌, add_assoc, arith}
+use Rattle.mg_asm.specs.declared.items.Item.{Item}
+use Rattle.mg_asm.specs.Assembled.{behind, items_behind, size, with_item, words_in}
+use Rattle.mg_asm.specs.Reading.{line_reading}
+use Rattle.mg_model.specs.Words.{is_newline, split_at}
+
+-- one line more
+lines-at : (before : List Item) (bytes line : List ℕ) (lines : List (List ℕ)) → split_at is_newline bytes ≡ line ∷ lines
+    → items_behind before (split_at is_newline bytes) ≡ with_item (length before + 1) (behind before (line_reading line)) (λ made. items_behind (before ++ made ∷ []) lines)
+lines-at before bytes line lines cut = ap (items_behind before) cut
+
+pub lines-next : (before : List Item) (bytes line more : List ℕ) (it : Item) → split_at is_newline bytes ≡ line ∷ split_at is_newline more
+    → Ok it ≡ behind before (line_reading line) → items_behind before (split_at is_newline bytes) ≡ items_behind (before ++ it ∷ []) (split_at is_newline more)
+lines-next before bytes line more it cut read =
+    lines-at before bytes line (split_at is_newline more) cut
+    ∙ ap (λ r. with_item (length before + 1) r (λ made. items_behind (before ++ made ∷ []) (split_at is_newline more))) (sym read)
+
+pub words_in-more : (items : List Item) (it : Item) → words_in (items ++ it ∷ []) ≡ words_in items + size it
+words_in-more [] it = let e : size it + 0 ≡ 0 + size it = omega arith in e
+words_in-more (first ∷ items) it = ap (λ n. size first + n) (words_in-more items it) ∙ sym (add_assoc (size first) (words_in items) (size it))

@@ -1,0 +1,24 @@
+use Rattle.std.proofs.Common.{◌≡◌, [], ◌∷◌, ◌++◌, length, Ok, ap, sym, ◌∙◌, rules, arith, length-append}
+use Rattle.mg_asm.specs.Assembled.{behind, items_behind, words_in}
+use Rattle.mg_asm.specs.Reading.{line_reading}
+use Rattle.mg_asm.proofs.Loops.{lines-next, words_in-more}
+use Rattle.mg_asm.proofs.assembling.items.Goals as goal
+use Rattle.mg_model.specs.Words.{is_newline, split_at}
+
+pub lines-preserved : goal.lines-preserved
+lines-preserved c =
+    let before = c.lines.items.items in
+    let pushed : c.push.new.self.items ≡ before ++ c.in-Ok.item ∷ [] = search rules in
+    let pieces = rw c.in-Some.is at c.cut.ensures.pieces in
+    let read : Ok c.in-Ok.item ≡ behind before (line_reading c.cut.result.0.now) = cc (c.in-Ok.ensures, c.deref.ensures.value, c.read_line.ensures) in
+    let grown = ap words_in pushed in
+    let more = words_in-more before c.in-Ok.item in
+    let longer = ap length pushed in
+    let one = length-append before (c.in-Ok.item ∷ []) in
+    record {
+      same = ap (λ items. items_behind items (split_at is_newline c.in-Some.more.now)) pushed
+          ∙ sym (lines-next before c.lines.rest.now c.cut.result.0.now c.in-Some.more.now c.in-Ok.item pieces read)
+          ∙ c.lines.invariant.same;
+      counted = omega (arith, c.size-count.ensures.value);
+      few = omega (arith, c.size-count.ensures.one);
+    }

@@ -1,0 +1,15 @@
+use Rattle.std.proofs.Common.{◌≡◌, ◌≤◌, length, []}
+use Rattle.mg_asm.specs.Assembled.{items_behind, words_in}
+use Rattle.mg_model.specs.Words.{is_newline, split_at}
+use Rattle.mg_asm.proofs.assembling.items.Given as goal
+
+-- the items so far, and those of the lines that are left
+abbrev pub invariant-lines : goal.invariant-lines
+invariant-lines l = record {
+  same : items_behind l.items.items (split_at is_newline l.rest) ≡ items_behind [] (split_at is_newline l.fn.text);
+  counted : l.count ≡ words_in l.items.items;
+  few : l.count ≤ length l.items.items;
+}
+
+abbrev pub decreases-lines : goal.decreases-lines
+decreases-lines l = length l.rest
