@@ -7,7 +7,7 @@ use crate::probes::{fresh, opened, ROOT};
 use mg_disk::{Block, Disk, BLOCK_SIZE};
 use mg_kernel::Kernel;
 use mg_layout::{FIRST_OBJECT_BLOCK, FIRST_THREAD_BLOCK, GLOBALS_BLOCK};
-use mg_model::{Frame, ObjRow, Pw, Reply, Rights, Steps, ThrRow};
+use mg_model::{Frame, ObjRow, Pw, Reply, Rights, Slot, Steps, ThrRow};
 use mg_rows::{put_object, read_globals, read_thread, write_globals, write_thread, Spelled};
 use std::alloc::Global;
 use std::marker::Brand;
@@ -35,17 +35,28 @@ fn put<D: Disk>(disk: &mut D, i: u64, block: &Block) -> Result<(), Fail> {
     Ok(())
 }
 
+/// A first frame with this slot.
+fn framed(slot: Option<&Slot>) -> Frame
+    ensures { result.back ≡ 0 }
+{
+    match slot {
+        Some(slot) => {
+            let mut frame = Frame::new(0);
+            frame.add(*slot);
+            frame
+        }
+        None => Frame::new(0),
+    }
+}
+
 /// Puts a thread 38 that has the first slot of thread 1, and counts its birth.
 fn put_thread<D: Disk>(disk: &mut D) -> Result<(), Fail> {
     let Some(Spelled::Row(first)) = read_thread(&block(disk, FIRST_THREAD_BLOCK)?) else {
         return Err("no thread".into());
     };
-    let mut frame = Frame::new(0);
-    if let Some(slot) = first.last().slots().first() {
-        frame.add(*slot);
-    }
+    let row = ThrRow::new(2, 1, 0, framed(first.last().slots().first()));
     let mut spelled = [0; BLOCK_SIZE];
-    write_thread(Some(&ThrRow::new(2, 1, 0, frame)), &mut spelled);
+    write_thread(Some(&row), &mut spelled);
     put(disk, FIRST_THREAD_BLOCK + 37, &spelled)?;
     let mut globals = read_globals(&block(disk, GLOBALS_BLOCK)?).ok_or("no counters")?;
     globals.set_births(2);
