@@ -1,2 +1,5 @@
 pub mod Cuts
 pub mod Loops
+pub mod Numbers
+pub mod Back
+pub mod Grown

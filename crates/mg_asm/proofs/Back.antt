@@ -1,0 +1,291 @@
+-- What is printed assembles to itself.
+use Rattle.std.proofs.Common.{◌≡◌, ℕ, ◌+◌, ◌-◌, ◌*◌, ◌^◌, ◌<◌, ◌≤◌, nat_lt, Bool, true, false, List, [], ◌∷◌, ◌++◌, length, filter, All, Option, Some, None, IfSome, Ok, Err, if◌then◌else◌, codes, refl, ap, ◌∙◌, subst, rules, arith, append_assoc}
+use Rattle.std.specs.Fmt.{decimal}
+use Rattle.std.specs.Option.{option_map_or}
+use Rattle.std.proofs.lemmas.Bool.{lt-ltb}
+use Rattle.std.proofs.lemmas.Bool.Decides.{nat_tests}
+use Rattle.std.proofs.lemmas.Fmt.{decimal_nonempty}
+use Rattle.std.proofs.lemmas.List.{append-nil}
+use Rattle.std.proofs.lemmas.List.Elements.{All-head, All-tail}
+use Rattle.mg_asm.specs.declared.faults.AsmKind.TheVariants.{Register, Number, TooLong}
+use Rattle.mg_asm.specs.declared.items.Item.{Item}
+use Rattle.mg_asm.specs.declared.items.Item.TheVariants as item
+use Rattle.mg_asm.specs.declared.names.Name.{Name}
+use Rattle.mg_asm.specs.Assembled.{assembled, behind, items_behind, with_item, word_limit, words_behind, words_in, words_of}
+use Rattle.mg_asm.specs.Printed.{instruction_words, printed, printed_words, signed_text, word_line}
+use Rattle.mg_asm.specs.Reading.{as_word, from, jump_to, line_reading, on_ok, reading, register_1_and_immediate, registers_2, registers_2_and_immediate, registers_3}
+use Rattle.mg_asm.specs.Tokens.{begins_note, distance_of, first_piece, immediate_of, is_gap, line_tokens, register_of, tokens}
+use Rattle.mg_asm.proofs.Loops.{words_in-more}
+use Rattle.mg_asm.proofs.Numbers.{decimal-digits, distance_of-back, hex-high, hex-some, immediate_of-back, name_of-signed, number_of-hex, register_of-back, signed-high, High, digits-high}
+use Rattle.mg_model.specs.declared.instructions.Instr.{Instr}
+use Rattle.mg_model.specs.declared.instructions.Instr.TheVariants as op
+use Rattle.mg_model.specs.Print.{hex_text, spaced}
+use Rattle.mg_model.specs.Ranges.{IsWord}
+use Rattle.mg_model.specs.Script.{decoded}
+use Rattle.mg_model.specs.Words.{is_newline, is_some_word, split_at}
+use Rattle.mg_script.specs.DecodedReads.{decoded-registers, decoded-word}
+use Rattle.mg_script.specs.Encoded.{HasRegisters, encoded}
+
+-- no byte cuts
+abbrev Misses : (ℕ → Bool) → List ℕ → Type 0
+Misses cuts [] = Unit {0}
+Misses cuts (b ∷ bytes) = (cuts b ≡ false) × Misses cuts bytes
+
+misses-append : (cuts : ℕ → Bool) (xs ys : List ℕ) → Misses cuts xs → Misses cuts ys → Misses cuts (xs ++ ys)
+misses-append cuts [] ys h k = k
+misses-append cuts (x ∷ xs) ys h k = (h.0, misses-append cuts xs ys h.1 k)
+
+high-misses : (cuts : ℕ → Bool) → ((b : ℕ) → 45 ≤ b → cuts b ≡ false) → (xs : List ℕ) → High xs → Misses cuts xs
+high-misses cuts low [] h = tt
+high-misses cuts low (b ∷ xs) h = (low b h.0, high-misses cuts low xs h.1)
+
+split-whole : (cuts : ℕ → Bool) (xs : List ℕ) → Misses cuts xs → split_at cuts xs ≡ xs ∷ []
+split-whole cuts [] h = refl
+split-whole cuts (b ∷ xs) h = rw (h.0, split-whole cuts xs h.1) refl
+
+split-before : (cuts : ℕ → Bool) (xs : List ℕ) (b : ℕ) (ys : List ℕ) → Misses cuts xs → cuts b ≡ true → split_at cuts (xs ++ b ∷ ys) ≡ xs ∷ split_at cuts ys
+split-before cuts [] b ys h e = rw e refl
+split-before cuts (x ∷ xs) b ys h e = rw (h.0, split-before cuts xs b ys h.1 e) refl
+
+gap_low : (b : ℕ) → 45 ≤ b → is_gap b ≡ false
+gap_low b h = grind (arith, nat_tests)
+
+note_low : (b : ℕ) → 45 ≤ b → begins_note b ≡ false
+note_low b h = grind (arith, nat_tests)
+
+newline_low : (b : ℕ) → 45 ≤ b → is_newline b ≡ false
+newline_low b h = grind (arith, nat_tests)
+
+-- words as they are printed
+abbrev AreWords : List (List ℕ) → Type 0
+AreWords [] = Unit {0}
+AreWords (t ∷ ts) = ((is_some_word t ≡ true) × High t) × AreWords ts
+
+split-spaced : (t : List ℕ) (ts : List (List ℕ)) → High t → AreWords ts → split_at is_gap (t ++ spaced ts) ≡ t ∷ ts
+split-spaced t [] h are = ap (split_at is_gap) (append-nil t) ∙ split-whole is_gap t (high-misses is_gap gap_low t h)
+split-spaced t (u ∷ us) h are =
+    split-before is_gap t 32 (u ++ spaced us) (high-misses is_gap gap_low t h) refl ∙ ap (λ (v : List (List ℕ)). t ∷ v) (split-spaced u us are.0.1 are.1)
+
+all-words : (ts : List (List ℕ)) → AreWords ts → filter is_some_word ts ≡ ts
+all-words [] are = refl
+all-words (t ∷ ts) are = rw are.0.0 (ap (λ (v : List (List ℕ)). t ∷ v) (all-words ts are.1))
+
+spaced-misses : (cuts : ℕ → Bool) → ((b : ℕ) → 45 ≤ b → cuts b ≡ false) → cuts 32 ≡ false → (ts : List (List ℕ)) → AreWords ts → Misses cuts (spaced ts)
+spaced-misses cuts low space [] are = tt
+spaced-misses cuts low space (t ∷ ts) are =
+    (space, misses-append cuts t (spaced ts) (high-misses cuts low t are.0.1) (spaced-misses cuts low space ts are.1))
+
+line-misses : (cuts : ℕ → Bool) → ((b : ℕ) → 45 ≤ b → cuts b ≡ false) → cuts 32 ≡ false → (t : List ℕ) (ts : List (List ℕ)) → High t → AreWords ts → Misses cuts (t ++ spaced ts)
+line-misses cuts low space t ts h are = misses-append cuts t (spaced ts) (high-misses cuts low t h) (spaced-misses cuts low space ts are)
+
+line-tokens : (t : List ℕ) (ts : List (List ℕ)) → is_some_word t ≡ true → High t → AreWords ts → line_tokens (t ++ spaced ts) ≡ t ∷ ts
+line-tokens t ts some h are =
+    ap (λ ps. tokens (first_piece ps)) (split-whole begins_note (t ++ spaced ts) (line-misses begins_note note_low refl t ts h are))
+    ∙ ap (filter is_some_word) (split-spaced t ts h are)
+    ∙ all-words (t ∷ ts) ((some, h), are)
+
+-- operands
+some_word : (xs : List ℕ) → 0 < length xs → is_some_word xs ≡ true
+some_word [] h = absurd (omega (arith, h))
+some_word (b ∷ xs) h = refl
+
+number-word : (n : ℕ) → n < 2 ^ 64 → (is_some_word (decimal n) ≡ true) × High (decimal n)
+number-word n fits = (some_word (decimal n) (decimal_nonempty n fits), digits-high (decimal n) (decimal-digits n fits))
+
+register-word : (a : ℕ) → a < 8 → (is_some_word (decimal a) ≡ true) × High (decimal a)
+register-word a h = number-word a (omega arith)
+
+signed-case : (i : ℕ) (v : Bool) → i < 2 ^ 32 → is_some_word (if v then decimal i else 45 ∷ decimal (2 ^ 32 - i)) ≡ true
+signed-case i true fits = some_word (decimal i) (decimal_nonempty i (omega arith))
+signed-case i false fits = refl
+
+signed-word : (i : ℕ) → i < 2 ^ 32 → (is_some_word (signed_text i) ≡ true) × High (signed_text i)
+signed-word i fits = (signed-case i (nat_lt i (2 ^ 31)) fits, signed-high i fits)
+
+registers_2-back : (a b : ℕ) → a < 8 → b < 8 → registers_2 (decimal a ∷ decimal b ∷ []) ≡ Ok (a, b)
+registers_2-back a b ha hb =
+    ap (λ o. from Register o (λ x. from Register (register_of (decimal b)) (λ y. Ok (x, y)))) (register_of-back a ha)
+    ∙ ap (λ o. from Register o (λ y. Ok (a, y))) (register_of-back b hb)
+
+registers_3-back : (a b c : ℕ) → a < 8 → b < 8 → c < 8 → registers_3 (decimal a ∷ decimal b ∷ decimal c ∷ []) ≡ Ok (a, b, c)
+registers_3-back a b c ha hb hc =
+    ap (λ o. from Register o (λ x. from Register (register_of (decimal b)) (λ y. from Register (register_of (decimal c)) (λ z. Ok (x, y, z))))) (register_of-back a ha)
+    ∙ ap (λ o. from Register o (λ y. from Register (register_of (decimal c)) (λ z. Ok (a, y, z)))) (register_of-back b hb)
+    ∙ ap (λ o. from Register o (λ z. Ok (a, b, z))) (register_of-back c hc)
+
+register_1-back : (a i : ℕ) → a < 8 → i < 2 ^ 32 → register_1_and_immediate (decimal a ∷ decimal i ∷ []) ≡ Ok (a, i)
+register_1-back a i ha hi =
+    ap (λ o. from Register o (λ x. from Number (immediate_of (decimal i)) (λ y. Ok (x, y)))) (register_of-back a ha)
+    ∙ ap (λ o. from Number o (λ y. Ok (a, y))) (immediate_of-back i hi)
+
+registers_2_and-back : (a b i : ℕ) → a < 8 → b < 8 → i < 2 ^ 32 → registers_2_and_immediate (decimal a ∷ decimal b ∷ decimal i ∷ []) ≡ Ok (a, b, i)
+registers_2_and-back a b i ha hb hi =
+    ap (λ o. from Register o (λ x. from Register (register_of (decimal b)) (λ y. from Number (immediate_of (decimal i)) (λ z. Ok (x, y, z))))) (register_of-back a ha)
+    ∙ ap (λ o. from Register o (λ y. from Number (immediate_of (decimal i)) (λ z. Ok (a, y, z)))) (register_of-back b hb)
+    ∙ ap (λ o. from Number o (λ z. Ok (a, b, z))) (immediate_of-back i hi)
+
+jump_to-back : (near i : ℕ) → i < 2 ^ 32 → jump_to near (signed_text i) ≡ Ok (item.Word (near + i * 2 ^ 32))
+jump_to-back near i fits =
+    ap (λ o. option_map_or (λ (name : Name). Ok (item.Jump near name)) o (from Number (distance_of (signed_text i)) (λ n. Ok (item.Word (near + n * 2 ^ 32))))) (name_of-signed i fits)
+    ∙ ap (λ o. from Number o (λ n. Ok (item.Word (near + n * 2 ^ 32)))) (distance_of-back i fits)
+
+-- an instruction's words are those of its line, and ask for its word
+record IsReadBack (word : ℕ) (first : List ℕ) (more : List (List ℕ)) : Type 0 where
+  pub some : is_some_word first ≡ true
+  pub high : High first
+  pub are : AreWords more
+  pub read : reading (first ∷ more) ≡ Ok (item.Word word)
+
+-- the immediate of a word of 64 bits
+upper : (rest i : ℕ) → rest + i * 2 ^ 32 < 2 ^ 64 → i < 2 ^ 32
+upper rest i h = omega arith
+
+jumped : (near i word : ℕ) → near + i * 2 ^ 32 ≡ word → i < 2 ^ 32 → jump_to near (signed_text i) ≡ Ok (item.Word word)
+jumped near i word e fits = jump_to-back near i fits ∙ ap (λ w. Ok (item.Word w)) e
+
+high : (xs : List ℕ) (v : High xs) → High xs
+high xs v = v
+
+instruction-back : (instr : Instr) → HasRegisters instr → encoded instr < 2 ^ 64 → IsReadBack (encoded instr) (instruction_words instr).0 (instruction_words instr).1
+instruction-back op.Halt h fits = record { some = refl; high = search rules; are = tt; read = refl }
+instruction-back (op.Set a i) h fits =
+    let small : i < 2 ^ 32 = omega arith in
+    record {
+      some = refl;
+      high = search rules;
+      are = (register-word a h, (number-word i (omega arith), tt));
+      read = ap (λ r. as_word (on_ok (λ (x, y). op.Set x y) r)) (register_1-back a i h small);
+    }
+instruction-back (op.High a i) h fits =
+    let small : i < 2 ^ 32 = omega arith in
+    record {
+      some = refl;
+      high = search rules;
+      are = (register-word a h, (number-word i (omega arith), tt));
+      read = ap (λ r. as_word (on_ok (λ (x, y). op.High x y) r)) (register_1-back a i h small);
+    }
+instruction-back (op.Add a b c) h fits = record {
+  some = refl;
+  high = search rules;
+  are = (register-word a h.0, (register-word b h.1, (register-word c h.2, tt)));
+  read = ap (λ r. as_word (on_ok (λ (x, y, z). op.Add x y z) r)) (registers_3-back a b c h.0 h.1 h.2);
+}
+instruction-back (op.Sub a b c) h fits = record {
+  some = refl;
+  high = search rules;
+  are = (register-word a h.0, (register-word b h.1, (register-word c h.2, tt)));
+  read = ap (λ r. as_word (on_ok (λ (x, y, z). op.Sub x y z) r)) (registers_3-back a b c h.0 h.1 h.2);
+}
+instruction-back (op.Lt a b c) h fits = record {
+  some = refl;
+  high = search rules;
+  are = (register-word a h.0, (register-word b h.1, (register-word c h.2, tt)));
+  read = ap (λ r. as_word (on_ok (λ (x, y, z). op.Lt x y z) r)) (registers_3-back a b c h.0 h.1 h.2);
+}
+instruction-back (op.Load a b i) h fits =
+    let small : i < 2 ^ 32 = omega arith in
+    record {
+      some = refl;
+      high = search rules;
+      are = (register-word a h.0, (register-word b h.1, (number-word i (omega arith), tt)));
+      read = ap (λ r. as_word (on_ok (λ (x, y, z). op.Load x y z) r)) (registers_2_and-back a b i h.0 h.1 small);
+    }
+instruction-back (op.Store a b i) h fits =
+    let small : i < 2 ^ 32 = omega arith in
+    record {
+      some = refl;
+      high = search rules;
+      are = (register-word a h.0, (register-word b h.1, (number-word i (omega arith), tt)));
+      read = ap (λ r. as_word (on_ok (λ (x, y, z). op.Store x y z) r)) (registers_2_and-back a b i h.0 h.1 small);
+    }
+instruction-back (op.Jump i) h fits =
+    let small : i < 2 ^ 32 = omega arith in
+    record {
+      some = refl;
+      high = search rules;
+      are = (signed-word i small, tt);
+      read = jumped (encoded (op.Jump 0)) i (encoded (op.Jump i)) (omega arith) small;
+    }
+instruction-back (op.Jz a i) h fits =
+    let small : i < 2 ^ 32 = omega arith in
+    record {
+      some = refl;
+      high = search rules;
+      are = (register-word a h, (signed-word i small, tt));
+      read = ap (λ o. from Register o (λ x. jump_to (encoded (op.Jz x 0)) (signed_text i))) (register_of-back a h)
+          ∙ jumped (encoded (op.Jz a 0)) i (encoded (op.Jz a i)) (omega arith) small;
+    }
+instruction-back (op.Jnz a i) h fits =
+    let small : i < 2 ^ 32 = omega arith in
+    record {
+      some = refl;
+      high = search rules;
+      are = (register-word a h, (signed-word i small, tt));
+      read = ap (λ o. from Register o (λ x. jump_to (encoded (op.Jnz x 0)) (signed_text i))) (register_of-back a h)
+          ∙ jumped (encoded (op.Jnz a 0)) i (encoded (op.Jnz a i)) (omega arith) small;
+    }
+instruction-back (op.Pdx a b) h fits = record {
+  some = refl;
+  high = search rules;
+  are = (register-word a h.0, (register-word b h.1, tt));
+  read = ap (λ r. as_word (on_ok (λ (x, y). op.Pdx x y) r)) (registers_2-back a b h.0 h.1);
+}
+instruction-back op.Ret h fits = record { some = refl; high = search rules; are = tt; read = refl }
+instruction-back op.Yield h fits = record { some = refl; high = search rules; are = tt; read = refl }
+instruction-back op.Sys h fits = record { some = refl; high = search rules; are = tt; read = refl }
+
+-- a word's line is read as the word
+plain-back : (w : ℕ) → w < 2 ^ 64 → IsReadBack w (codes ".word") (hex_text w ∷ [])
+plain-back w fits = record {
+  some = refl;
+  high = search rules;
+  are = ((hex-some w, hex-high w), tt);
+  read = ap (λ o. from Number o (λ n. Ok (item.Word n))) (number_of-hex w fits);
+}
+
+by-decoded : (w : ℕ) (o : Option Instr) → w < 2 ^ 64 → IfSome o HasRegisters → IfSome o (λ instr. encoded instr ≡ w)
+    → let p = option_map_or instruction_words o (codes ".word", hex_text w ∷ []) in IsReadBack w p.0 p.1
+by-decoded w None fits has is = plain-back w fits
+by-decoded w (Some instr) fits has is =
+    subst (λ (v : ℕ). IsReadBack v (instruction_words instr).0 (instruction_words instr).1) is
+    (instruction-back instr has (omega (arith, is)))
+
+word-back : (w : ℕ) → w < 2 ^ 64 → IsReadBack w (printed_words w).0 (printed_words w).1
+word-back w fits = by-decoded w (decoded w) fits (decoded-registers w) (decoded-word w)
+
+word-reads : (w : ℕ) → w < 2 ^ 64 → line_reading (word_line w) ≡ Ok (item.Word w)
+word-reads w fits =
+    let back = word-back w fits in
+    ap reading (line-tokens (printed_words w).0 (printed_words w).1 back.some back.high back.are) ∙ back.read
+
+-- the items of a printed text: the last line is empty
+items_of : List ℕ → List Item
+items_of [] = item.Blank ∷ []
+items_of (w ∷ ws) = item.Word w ∷ items_of ws
+
+room : (before : List Item) (w : ℕ) → words_in before < word_limit → behind before (Ok (item.Word w)) ≡ Ok (item.Word w)
+room before w h = ap (λ v. if v then Ok (item.Word w) else Err TooLong) (lt-ltb (words_in before) word_limit h)
+
+lines-back : (before : List Item) (ws : List ℕ) → All IsWord ws → words_in before + length ws ≤ word_limit
+    → items_behind before (split_at is_newline (printed ws)) ≡ Ok (before ++ items_of ws)
+unfolding items_of
+lines-back before [] fit few = refl
+lines-back before (w ∷ ws) fit few =
+    let fits = All-head IsWord w ws fit in
+    let back = word-back w fits in
+    let read : behind before (line_reading (word_line w)) ≡ Ok (item.Word w) = ap (behind before) (word-reads w fits) ∙ room before w (omega arith) in
+    let rest = split_at is_newline (printed ws) in
+    let counted = words_in-more before (item.Word w) in
+    ap (items_behind before) (split-before is_newline (word_line w) 10 (printed ws) (line-misses is_newline newline_low refl (printed_words w).0 (printed_words w).1 back.high back.are) refl)
+    ∙ ap (λ r. with_item (length before + 1) r (λ made. items_behind (before ++ made ∷ []) rest)) read
+    ∙ lines-back (before ++ item.Word w ∷ []) ws (All-tail IsWord w ws fit) (omega arith)
+    ∙ ap (λ items. Ok items) (append_assoc before (item.Word w ∷ []) (items_of ws))
+
+words-back : (all : List Item) (before : List ℕ) (n : ℕ) (ws : List ℕ) → words_behind all before n (items_of ws) ≡ Ok (before ++ ws)
+unfolding items_of
+words-back all before n [] = refl
+words-back all before n (w ∷ ws) = words-back all (before ++ w ∷ []) (n + 1) ws ∙ ap (λ v. Ok v) (append_assoc before (w ∷ []) ws)
+
+pub assembled-printed : (ws : List ℕ) → All IsWord ws → length ws ≤ 524288 → assembled (printed ws) ≡ Ok ws
+assembled-printed ws fit few =
+    ap words_of (lines-back [] ws fit (omega arith)) ∙ words-back (items_of ws) [] 1 ws
