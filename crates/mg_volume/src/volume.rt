@@ -1,8 +1,8 @@
 // A volume that is open.
-ghost use Rattle.std.specs.Prelude.{List, ◌≡◌, ◌≤◌, ◌<◌, ◌+◌, ◌*◌, ◌==◌, ℕ, true, false, IfOk, IfSome, IsTrue, MatchOption, None, OnErr, OnOk, Some, find, option_copied, option_map, ◌⊎◌};
+ghost use Rattle.std.specs.Prelude.{List, ◌≡◌, ◌≤◌, ◌<◌, ◌+◌, ◌-◌, ◌*◌, ◌==◌, ℕ, true, false, IfOk, IfSome, IsTrue, MatchOption, None, OnErr, OnOk, Some, find, length, option_copied, option_map, slice_get, ◌⊎◌};
 ghost use Rattle.std.specs.Option.{ForSome};
 ghost use Rattle.mg_disk.specs.Stops.{DiskCallsBy, Leaves, NothingPending, WritesNothing};
-ghost use Rattle.mg_model.specs.Access.{covers, last_slots};
+ghost use Rattle.mg_model.specs.Access.{covers};
 ghost use Rattle.mg_model.specs.Bank.{account_of};
 ghost use Rattle.mg_model.specs.State.{Thread};
 ghost use Rattle.mg_model.specs.Volume.{Damaged, NotVolume, OldVolume, volume};
@@ -161,10 +161,10 @@ impl Volume {
         }
     }
 
-    /// The present frame of the thread with this number, 1 to 256.
+    /// The present frame, the last one, of the thread with this number, 1 to 256: its slots, and where it returns to.
     pub fn frame(&self, t: u64) -> Option<Frame>
         ensures found { MatchOption result (find (λ thread. thread.number == t) (threads_in self.now) ≡ None)
-            (λ frame. (thread : Thread) × (find (λ thread. thread.number == t) (threads_in self.now) ≡ Some thread) × (frame.slots ≡ last_slots thread.row.frames)) }
+            (λ frame. (thread : Thread) × (find (λ thread. thread.number == t) (threads_in self.now) ≡ Some thread) × (slice_get thread.row.frames (length thread.row.frames - 1) ≡ Some frame)) }
         ensures few { IfSome result (λ _. (1 ≤ t) × (t ≤ 256)) }
     {
         match self.found(t) {

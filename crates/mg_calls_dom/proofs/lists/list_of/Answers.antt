@@ -5,7 +5,7 @@ use Rattle.std.specs.Option.{option_map_or}
 use Rattle.std.proofs.lemmas.Result.{IfOk-weaker}
 use Rattle.mg_calls_dom.specs.Searching.{IsOpenedBy, slot_opens}
 use Rattle.mg_model.specs.Access.{domain_of, last_slots}
-use Rattle.mg_model.specs.State.{Thread}
+use Rattle.mg_model.specs.State.{CallFrame, Thread}
 use Rattle.mg_volume.specs.Meaning.{now_of}
 use Rattle.mg_volume.specs.RunLemmas.{told_thread}
 use Rattle.mg_calls_dom.proofs.lists.list_of.Goals as goal
@@ -17,7 +17,7 @@ returns-in-Some-clause-via g c =
     (λ via under image told.
     let state = now_of c.args.v.now image in
     let slots : c.slots.result.now ≡ domain_of state c.args.t =
-    c.slots.ensures ∙ is ∙ ap (λ (o : Option Thread). option_map_or (λ (x : Thread). last_slots x.row.frames) o []) (sym (told_thread c.args.v.now image c.args.t (Some thread) lives)) in
+    c.slots.ensures ∙ sym (ap (λ (o : Option CallFrame). option_map_or (λ (frame : CallFrame). frame.slots) o []) is) ∙ ap (λ (o : Option Thread). option_map_or (λ (x : Thread). last_slots x.row.frames) o []) (sym (told_thread c.args.v.now image c.args.t (Some thread) lives)) in
     subst (λ slots. MatchOption via (list_any (λ slot. slot_opens state c.args.sought.now slot) slots ≡ false) (λ via. IsOpenedBy state c.args.sought.now slots via)) slots (under image told))
     c.list_among.ensures.via
 

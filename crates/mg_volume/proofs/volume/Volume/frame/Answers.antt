@@ -1,7 +1,5 @@
-use Rattle.std.proofs.Common.{◌∙◌, ap, sym, [], Option}
-use Rattle.std.specs.Option.{option_map_or}
-use Rattle.mg_model.specs.Access.{last_slots}
-use Rattle.mg_model.specs.State.{CallFrame, ThreadRow}
+use Rattle.std.proofs.Common.{◌∙◌, ◌-◌, ap, length, slice_get}
+use Rattle.mg_model.specs.State.{ThreadRow}
 use Rattle.mg_volume.proofs.Found.{thread_none, thread_some}
 use Rattle.mg_volume.proofs.volume.Volume.frame.Goals as goal
 
@@ -10,7 +8,7 @@ returns-in-Some-clause-found c =
     let thread = thread_some c.args.self.now c.args.t c.in-Some.row.now c.in-Some.ensures.found in (
       thread.0,
       thread.1,
-      sym (ap (λ (o : Option CallFrame). option_map_or (λ (frame : CallFrame). frame.slots) o []) c.last.ensures) ∙ ap (λ (row : ThreadRow). last_slots row.frames) (sym thread.2),
+      ap (λ (row : ThreadRow). slice_get row.frames (length row.frames - 1)) thread.2 ∙ c.last.ensures,
     )
 
 pub returns-in-None-clause-found : goal.returns-in-None-clause-found
