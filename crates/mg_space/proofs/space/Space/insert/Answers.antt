@@ -1,0 +1,39 @@
+use Rattle.std.proofs.Common.{◌≡◌, ℕ, List, arith, refl, subst, sym}
+use Rattle.mg_model.specs.State.{ObjectRow}
+use Rattle.mg_objects.specs.Held.{into_place}
+use Rattle.mg_space.proofs.Spans.{Between, between-into, can-take, sum-between, sum-fits, taken-now, taken-spans}
+use Rattle.mg_space.proofs.space.Space.insert.Goals as goal
+
+between : (new : ℕ × ObjectRow) (old objects : List (ℕ × ObjectRow)) → objects ≡ into_place new old → Between new old objects
+between new old objects is = subst (λ those. Between new old those) (sym is) (between-into new old)
+
+pub take-requires : goal.take-requires
+take-requires c =
+    let objects = c.insert-place.new.self in
+    let e = c.len-count.ensures.count in
+    let taken = taken-spans objects (omega (arith, c.len-count.ensures.few)) c.len-count.ensures.apart c.len-count.ensures.rows in
+    can-take (c.insert-place.result, c.args.row) c.self.inside.objects objects (between (c.insert-place.result, c.args.row) c.self.inside.objects objects c.insert-place.ensures.objects) c.span_of-first.result c.span_of-first.ensures.span c.self.inside.free c.self.invariant.free taken
+
+pub overflow_add-self : goal.overflow_add-self
+overflow_add-self c =
+    let objects = c.insert-place.new.self in
+    let e = c.len-count.ensures.count in
+    let fits = sum-fits objects (omega (arith, c.len-count.ensures.few)) c.len-count.ensures.rows in
+    let more = sum-between (c.insert-place.result, c.args.row) c.self.inside.objects objects (between (c.insert-place.result, c.args.row) c.self.inside.objects objects c.insert-place.ensures.objects) in
+    let t = c.self.invariant.total in
+    let span = c.span_of-first.ensures.span in
+    let pages : c.span_of-first.result.1 ≡ c.args.row.pages = rw span refl in
+    omega arith
+
+pub invariant_of-self : goal.invariant_of-self
+invariant_of-self c =
+    let objects = c.insert-place.new.self in
+    let e = c.len-count.ensures.count in
+    let taken = taken-spans objects (omega (arith, c.len-count.ensures.few)) c.len-count.ensures.apart c.len-count.ensures.rows in
+    let more = sum-between (c.insert-place.result, c.args.row) c.self.inside.objects objects (between (c.insert-place.result, c.args.row) c.self.inside.objects objects c.insert-place.ensures.objects) in
+    let t = c.self.invariant.total in
+    let pages : c.span_of-first.result.1 ≡ c.args.row.pages = rw c.span_of-first.ensures.span refl in
+    record {
+      free = taken-now (c.insert-place.result, c.args.row) c.self.inside.objects objects (between (c.insert-place.result, c.args.row) c.self.inside.objects objects c.insert-place.ensures.objects) c.span_of-first.result c.span_of-first.ensures.span c.self.inside.free c.take.new.self c.self.invariant.free taken c.take.ensures;
+      total = omega arith;
+    }

@@ -1,0 +1,7 @@
+use Rattle.std.proofs.Common.{ℕ, List, subst}
+use Rattle.mg_model.specs.State.{ObjectRow}
+use Rattle.mg_objects.specs.Held.{AreApart}
+use Rattle.mg_space.proofs.space.Space.len.Goals as goal
+
+pub returns-clause-apart : goal.returns-clause-apart
+returns-clause-apart c = let P : List (ℕ × ObjectRow) → Type 0 = λ objects. AreApart objects in subst P c.self.view_is c.len.ensures.apart

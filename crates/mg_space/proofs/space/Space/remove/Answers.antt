@@ -1,0 +1,33 @@
+use Rattle.std.specs.Prelude.{◌==◌, All, Some, filter, find, not}
+use Rattle.mg_model.specs.Ranges.{IsObjectRow}
+use Rattle.mg_objects.specs.Held.{AreApart}
+use Rattle.std.proofs.Common.{◌≡◌, ℕ, List, arith, refl, subst, sym}
+use Rattle.mg_model.specs.State.{ObjectRow}
+use Rattle.mg_space.proofs.Spans.{Between, between-without, can-give, given-now, sum-between}
+use Rattle.mg_space.proofs.space.Space.remove.Goals as goal
+
+between :
+    (base : ℕ) (gone : ℕ × ObjectRow) (old objects : List (ℕ × ObjectRow)) → AreApart old → All (λ (o : ℕ × ObjectRow). IsObjectRow o.1) old → find (λ (o : ℕ × ObjectRow). o.1.base == base) old ≡ Some gone
+    → objects ≡ filter (λ (o : ℕ × ObjectRow). not (o.1.base == base)) old → Between gone objects old
+between base gone old objects apart rows found is = subst (λ those. Between gone those old) (sym is) (between-without base gone old apart rows found)
+
+pub give-requires : goal.give-requires
+give-requires c =
+    can-give c.remove-gone.result c.remove-gone.new.self c.self.inside.objects (between c.args.base c.remove-gone.result c.self.inside.objects c.remove-gone.new.self c.len-count.ensures.apart c.len-count.ensures.rows c.remove-gone.ensures.gone c.remove-gone.ensures.objects) c.span_of-first.result c.span_of-first.ensures.span c.self.inside.free c.self.invariant.free
+
+pub overflow_sub-self : goal.overflow_sub-self
+overflow_sub-self c =
+    let less = sum-between c.remove-gone.result c.remove-gone.new.self c.self.inside.objects (between c.args.base c.remove-gone.result c.self.inside.objects c.remove-gone.new.self c.len-count.ensures.apart c.len-count.ensures.rows c.remove-gone.ensures.gone c.remove-gone.ensures.objects) in
+    let t = c.self.invariant.total in
+    let pages : c.span_of-first.result.1 ≡ c.remove-gone.result.1.pages = rw c.span_of-first.ensures.span refl in
+    omega arith
+
+pub invariant_of-self : goal.invariant_of-self
+invariant_of-self c =
+    let less = sum-between c.remove-gone.result c.remove-gone.new.self c.self.inside.objects (between c.args.base c.remove-gone.result c.self.inside.objects c.remove-gone.new.self c.len-count.ensures.apart c.len-count.ensures.rows c.remove-gone.ensures.gone c.remove-gone.ensures.objects) in
+    let t = c.self.invariant.total in
+    let pages : c.span_of-first.result.1 ≡ c.remove-gone.result.1.pages = rw c.span_of-first.ensures.span refl in
+    record {
+      free = given-now c.remove-gone.result c.remove-gone.new.self c.self.inside.objects (between c.args.base c.remove-gone.result c.self.inside.objects c.remove-gone.new.self c.len-count.ensures.apart c.len-count.ensures.rows c.remove-gone.ensures.gone c.remove-gone.ensures.objects) c.span_of-first.result c.span_of-first.ensures.span c.self.inside.free c.give.new.self c.self.invariant.free c.give.ensures;
+      total = omega arith;
+    }

@@ -1,0 +1,10 @@
+//! The objects of a volume, with the pages between them.
+//!
+//! A layer above sees a [`Space`] as the list of its objects, in the order of the bases, each with its place in the table: that
+//! of `mg_objects`. Beside them stand the free pages, as `mg_ranges` has them, and the total of the pages in use, so that
+//! neither is searched or added up when an object is made.
+#![tactic(auto)]
+
+mod space;
+
+pub use space::Space;

@@ -1,0 +1,193 @@
+// Objects, the free pages, and how many pages are in use.
+ghost use Rattle.std.specs.Prelude.{◌≡◌, ◌≤◌, ◌<◌, ◌==◌, ◌+◌, ◌⊎◌, ℕ, All, IfOk, List, MatchOption, Some, filter, find, length, not, sum_by, true};
+ghost use Rattle.std.specs.List.{list_any};
+ghost use Rattle.std.specs.Option.{option_copied, option_map};
+ghost use Rattle.mg_model.specs.Access.{covers};
+ghost use Rattle.mg_model.specs.Limits.{first_page, page_end};
+ghost use Rattle.mg_model.specs.Objects.{lowest_free, page_behind, page_of};
+ghost use Rattle.mg_model.specs.Ranges.{IsObjectRow};
+ghost use Rattle.mg_model.specs.State.{Object};
+ghost use Rattle.mg_objects.specs.Held.{AreApart, IsLowestFree, IsPlaced, MeetsNone, by_base, into_place, with_row};
+ghost use Rattle.mg_ranges.specs.Gaps.{AreTaken};
+ghost use Rattle.mg_space.specs.Space.{AreRowsOf, spans_in};
+
+use mg_model::ObjRow;
+use mg_model::limits::PAGE_SIZE;
+use mg_objects::Objects;
+use mg_ranges::Ranges;
+use std::alloc::{AllocError, Global};
+use std::marker::Model;
+
+/// The objects of a volume, no two of which share a page, with the pages between them.
+#[derive(Drop)]
+pub struct Space {
+    objects: Objects,
+    free: Ranges,
+    // How many pages the objects have.
+    used: u64,
+}
+
+impl Model for Space {
+    ghost use Rattle.std.specs.Prelude.{ℕ, List};
+    ghost use Rattle.mg_model.specs.State.{ObjectRow};
+    ghost use Rattle.mg_space.specs.Space.{IsSpace};
+
+    ghost Value = { List (ℕ × ObjectRow) };
+
+    ghost view = { λ space. space.objects };
+
+    ghost invariant = { λ space. IsSpace space.objects space.free space.used };
+}
+
+impl Space {
+    /// The objects of these rows, each with its place, below 4,096; the places rise. There are none where two of the rows
+    /// share a page. All memory that they, and the gaps between them, will need is taken here.
+    pub fn of(alloc: Global, rows: &[(u64, ObjRow)]) -> Result<Option<Space>, AllocError>
+        requires { IsPlaced rows.now }
+        ensures { IfOk result (λ made. MatchOption made (AreApart (by_base rows.now) → ⊥) (λ space. space ≡ by_base rows.now)) }
+    {
+        match Objects::of(alloc, rows)? {
+            Some(objects) => {
+                let spans = spans(alloc, &objects)?;
+                let free = Ranges::of(alloc, &spans)?;
+                let used = pages_of(&objects);
+                Ok(Some(Space {
+                    objects,
+                    free,
+                    used,
+                }))
+            }
+            None => Ok(None),
+        }
+    }
+
+    /// The objects.
+    pub fn objects(&self) -> &Objects
+        ensures { result.now ≡ self.now }
+    {
+        &self.objects
+    }
+
+    /// How many objects there are, 4,096 at most. No two share a page, and each has a place of its own.
+    pub fn len(&self) -> usize
+        ensures count { result ≡ length self.now }
+        ensures few { result ≤ 4096 }
+        ensures apart { AreApart self.now }
+        ensures places { All (λ o. o.0 < 4096) self.now }
+        ensures rows { All (λ o. IsObjectRow o.1) self.now }
+    {
+        self.objects.len()
+    }
+
+    /// The row in a place of the table.
+    pub fn at(&self, place: u64) -> Option<&ObjRow>
+        ensures { option_copied result ≡ option_map (λ o. o.1) (find (λ o. o.0 == place) self.now) }
+    {
+        self.objects.at(place)
+    }
+
+    /// The object with this base.
+    pub fn get(&self, base: u64) -> Option<&ObjRow>
+        ensures { option_copied result ≡ option_map (λ o. o.1) (find (λ o. o.1.base == base) self.now) }
+    {
+        self.objects.get(base)
+    }
+
+    /// The object that has this address.
+    pub fn covering(&self, a: u64) -> Option<&ObjRow>
+        ensures { option_copied result ≡ option_map (λ o. o.1) (find (λ o. covers o.1 a) self.now) }
+    {
+        self.objects.covering(a)
+    }
+
+    /// How many pages all objects have.
+    pub fn used(&self) -> u64
+        ensures { result ≡ sum_by (λ o. o.1.pages) self.now }
+    {
+        self.used
+    }
+
+    /// The lowest page from which on so many pages, 1 to 1024, meet no object. All objects have at most 65,536 pages.
+    pub fn first(&self, pages: u64) -> u64
+        requires some { 1 ≤ pages }
+        requires few { pages ≤ 1024 }
+        requires room { sum_by (λ o. o.1.pages) self.now ≤ 65536 }
+        ensures lowest { (objects : List Object) → AreRowsOf objects self.now → result ≡ lowest_free objects pages }
+        ensures free { All (λ o. (result + pages ≤ page_of o.1) ⊎ (page_behind o.1 ≤ result)) self.now }
+        ensures low { first_page ≤ result }
+        ensures high { result + pages ≤ page_end }
+    {
+        let _objects = &self.objects;
+        self.free.first(pages)
+    }
+
+    /// One object more, in the lowest place that is free, and gives that place. It shares no page with another.
+    pub fn insert(&mut self, row: ObjRow) -> u64
+        requires few { length self.old < 4096 }
+        requires apart { MeetsNone row self.old }
+        ensures objects { self.new ≡ into_place (result, row) self.old }
+        ensures place { IsLowestFree result self.old }
+    {
+        let (first, pages) = span_of(&row);
+        let place = self.objects.insert(row);
+        let _count = self.objects.len();
+        self.free.take(first, pages);
+        self.used += pages;
+        place
+    }
+
+    /// The object with this base goes, and its place and its pages are free. It gives that place, and the row.
+    pub fn remove(&mut self, base: u64) -> (u64, ObjRow)
+        requires { list_any (λ o. o.1.base == base) self.old ≡ true }
+        ensures objects { self.new ≡ filter (λ o. not (o.1.base == base)) self.old }
+        ensures gone { find (λ o. o.1.base == base) self.old ≡ Some result }
+    {
+        let _count = self.objects.len();
+        let gone = self.objects.remove(base);
+        let (first, pages) = span_of(&gone.1);
+        self.free.give(first, pages);
+        self.used -= pages;
+        gone
+    }
+
+    /// Another row for the object with its base, which has as many pages. It stands in the same place, and gives that.
+    pub fn update(&mut self, row: ObjRow) -> u64
+        requires there { list_any (λ o. o.1.base == row.base) self.old ≡ true }
+        requires pages { All (λ o. o.1.base ≡ row.base → o.1.pages ≡ row.pages) self.old }
+        ensures objects { self.new ≡ with_row row self.old }
+        ensures place { Some result ≡ option_map (λ o. o.0) (find (λ o. o.1.base == row.base) self.old) }
+    {
+        self.objects.update(row)
+    }
+}
+
+// The first page of an object, and how many it has.
+fn span_of(row: &ObjRow) -> (u64, u64)
+    ensures span { result ≡ (page_of row.now, row.now.pages) }
+    ensures kept { IsObjectRow row.now }
+{
+    (row.base() / PAGE_SIZE, row.pages())
+}
+
+// The pages of the objects, in their order.
+fn spans(alloc: Global, objects: &Objects) -> Result<Vec<(u64, u64)>, AllocError>
+    ensures spans { IfOk result (λ spans. spans.items ≡ spans_in objects.now) }
+    ensures taken { IfOk result (λ spans. AreTaken spans.items) }
+{
+    let mut spans = Vec::with_capacity(alloc, objects.len())?;
+    for i in 0..objects.len() {
+        spans.push(span_of(objects.nth(i)))?;
+    }
+    Ok(spans)
+}
+
+// How many pages the objects have.
+fn pages_of(objects: &Objects) -> u64
+    ensures { result ≡ sum_by (λ o. o.1.pages) objects.now }
+{
+    let mut used = 0;
+    for i in 0..objects.len() {
+        used += objects.nth(i).pages();
+    }
+    used
+}
