@@ -31,3 +31,4 @@ pub mod StillStaged
 pub mod StillWaiting
 pub mod ThreadLists
 pub mod ThreadStaged
+mod RowTotals

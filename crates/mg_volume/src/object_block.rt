@@ -10,12 +10,12 @@ ghost use Rattle.mg_volume.specs.StagesRows.{StagesRows};
 use mg_disk::{BLOCK_SIZE, Block};
 use mg_layout::FIRST_OBJECT_BLOCK;
 use mg_model::ObjRow;
-use mg_objects::Objects;
 use mg_pages::Pages;
 use mg_rows::put_object;
+use mg_space::Space;
 
 // The row at a place, if an object has it.
-fn row_at(objects: &Objects, place: u64) -> Option<&ObjRow>
+fn row_at(objects: &Space, place: u64) -> Option<&ObjRow>
     ensures { option_map_or (λ row. Some row.now) result None ≡ row_at place objects.now }
 {
     match objects.at(place) {
@@ -26,7 +26,7 @@ fn row_at(objects: &Objects, place: u64) -> Option<&ObjRow>
 
 /// The block of the rows at four places, from `4 * quad` on, for quad below 1024: of a place that no object has the row is
 /// free.
-pub(crate) fn object_block(objects: &Objects, quad: u64) -> Block
+pub(crate) fn object_block(objects: &Space, quad: u64) -> Block
     requires { quad < 1024 }
     ensures { (j : ℕ) → j < 4 → object_in result j ≡ Some (row_at (4 * quad + j) objects.now) }
 {
@@ -38,7 +38,7 @@ pub(crate) fn object_block(objects: &Objects, quad: u64) -> Block
 }
 
 /// Stages the block of the row at a place, as the objects are held.
-pub(crate) fn stage_row(pages: &mut Pages, objects: &Objects, place: u64)
+pub(crate) fn stage_row(pages: &mut Pages, objects: &Space, place: u64)
     requires place { place < 4096 }
     requires room { (is_staged pages.old (first_object_block + place / 4) ≡ true) ⊎ (staged_of pages.old < 160) }
     ensures rows { StagesRows objects.now place pages.old pages.new }

@@ -7,14 +7,14 @@ ghost use Rattle.mg_volume.specs.StagesRows.{StagesRows};
 
 use crate::object_block::stage_row;
 use mg_model::ObjRow;
-use mg_objects::Objects;
 use mg_pages::Pages;
+use mg_space::Space;
 
 /// The bytes of a page.
 const PAGE: u64 = 4096;
 
 /// Takes the object with this base out, and stages that its row is free. It gives that row, with its place.
-pub(crate) fn take_object(objects: &mut Objects, pages: &mut Pages, base: u64) -> (u64, ObjRow)
+pub(crate) fn take_object(objects: &mut Space, pages: &mut Pages, base: u64) -> (u64, ObjRow)
     requires there { list_any (λ o. o.1.base == base) objects.old ≡ true }
     requires few { staged_of pages.old < 160 }
     ensures taken { find (λ o. o.1.base == base) objects.old ≡ Some result }

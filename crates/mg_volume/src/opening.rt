@@ -16,17 +16,17 @@ use mg_disk::Disk;
 use mg_journal::{Store, ViewFault};
 use mg_layout::Geometry;
 use mg_model::ObjRow;
-use mg_objects::Objects;
 use mg_pages::Pages;
+use mg_space::Space;
 use std::alloc::{AllocError, Global};
 
 // The objects of these rows, of which no two share a page.
-fn objects_of(alloc: Global, rows: &[(u64, ObjRow)]) -> Result<Objects, AllocError>
+fn objects_of(alloc: Global, rows: &[(u64, ObjRow)]) -> Result<Space, AllocError>
     requires placed { IsPlaced rows.now }
     requires apart { AreApart (by_base rows.now) }
     ensures { IfOk result (λ objects. objects ≡ by_base rows.now) }
 {
-    match Objects::of(alloc, rows) {
+    match Space::of(alloc, rows) {
         Ok(Some(objects)) => Ok(objects),
         Ok(None) => unreachable!(),
         Err(fault) => Err(fault),

@@ -1,12 +1,15 @@
 // A volume that is open.
-ghost use Rattle.std.specs.Prelude.{List, ◌≡◌, ◌≤◌, ◌<◌, ◌+◌, ◌-◌, ◌*◌, ◌==◌, ℕ, true, false, IfOk, IfSome, IsTrue, MatchOption, None, OnErr, OnOk, Some, find, length, option_copied, option_map, slice_get, ◌⊎◌};
+ghost use Rattle.std.specs.Prelude.{List, ◌≡◌, ◌≤◌, ◌<◌, ◌+◌, ◌-◌, ◌*◌, ◌==◌, ◌||◌, ℕ, true, false, nat_le, IfOk, IfSome, IsTrue, MatchOption, None, OnErr, OnOk, Some, find, length, option_copied, option_map, slice_get, sum_by, ◌⊎◌};
+ghost use Rattle.std.specs.List.{list_all};
 ghost use Rattle.std.specs.Option.{ForSome};
 ghost use Rattle.mg_disk.specs.Stops.{DiskCallsBy, Leaves, NothingPending, WritesNothing};
 ghost use Rattle.mg_model.specs.Access.{covers};
 ghost use Rattle.mg_model.specs.Bank.{account_of};
+ghost use Rattle.mg_model.specs.Objects.{lowest_free, page_behind, page_of};
+ghost use Rattle.mg_model.specs.Ranges.{IsPlace};
 ghost use Rattle.mg_model.specs.State.{Thread};
 ghost use Rattle.mg_model.specs.Volume.{Damaged, NotVolume, OldVolume, volume};
-ghost use Rattle.mg_volume.specs.Meaning.{StandsOn, accounts_in, counters_in, is_live, is_sound, now_of, objects_in, settings_in, staged_of, threads_in, words_in};
+ghost use Rattle.mg_volume.specs.Meaning.{StandsOn, accounts_in, bare_rows, counters_in, is_live, is_sound, now_of, objects_in, settings_in, staged_of, threads_in, words_in};
 ghost use Rattle.mg_volume.specs.Opening.{Opens};
 
 use crate::opening::open_rows;
@@ -17,6 +20,7 @@ use mg_journal::ViewFault;
 use mg_model::{AccRow, Frame, Globals, ObjRow, Params, ThrRow};
 use mg_objects::Objects;
 use mg_pages::Pages;
+use mg_space::Space;
 use std::alloc::Global;
 use std::marker::Model;
 
@@ -25,7 +29,7 @@ use std::marker::Model;
 pub struct Volume {
     pub(crate) params: Params,
     pub(crate) globals: Globals,
-    pub(crate) objects: Objects,
+    pub(crate) objects: Space,
     pub(crate) accounts: Vec<AccRow>,
     pub(crate) threads: Threads,
     pub(crate) pages: Pages,
@@ -129,6 +133,40 @@ impl Volume {
             Some(row) => Some(*row),
             None => None,
         }
+    }
+
+    /// The objects, in the order of their bases.
+    pub fn objects(&self) -> &Objects
+        ensures { bare_rows result.now ≡ objects_in self.now }
+    {
+        self.objects.objects()
+    }
+
+    /// How many objects there are, 4,096 at most.
+    pub fn object_count(&self) -> u64
+        ensures { result ≡ length (objects_in self.now) }
+    {
+        self.objects.len() as u64
+    }
+
+    /// How many pages all objects have, at most as many as there are frames.
+    pub fn used(&self) -> u64
+        ensures used { result ≡ sum_by (λ row. row.pages) (objects_in self.now) }
+        ensures fit { result ≤ (settings_in self.now).frames }
+    {
+        self.objects.used()
+    }
+
+    /// The lowest page from which on so many pages, 1 to 1024, meet no object.
+    pub fn first(&self, pages: u64) -> u64
+        requires some { 1 ≤ pages }
+        requires few { pages ≤ 1024 }
+        ensures lowest { (image : List (List ℕ)) → result ≡ lowest_free (now_of self.now image).objects pages }
+        ensures place { IsPlace (4096 * result) pages }
+        ensures apart { list_all (λ other. nat_le (result + pages) (page_of other) || nat_le (page_behind other) result) (objects_in self.now) ≡ true }
+    {
+        let _frames = self.params.frames();
+        self.objects.first(pages)
     }
 
     /// Account n, 1 to 1,024.
