@@ -1,2 +1,4 @@
 mod Rights
 mod Told
+mod Rows
+mod Doors

@@ -1,0 +1,3 @@
+-- Definitions.
+pub mod Seats
+pub mod Door

@@ -4,6 +4,12 @@
 //! point where the thread is known; what it read and staged is said in the words of `mg_volume`'s `specs/Calls.antt`.
 #![tactic(auto)]
 
+mod door;
+mod making;
+mod passwords;
 mod telling;
 
+pub use door::on_object;
+pub use making::delete;
+pub use passwords::{pwadd, pwdel};
 pub use telling::info;

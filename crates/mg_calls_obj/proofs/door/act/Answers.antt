@@ -1,0 +1,19 @@
+use Rattle.std.proofs.Common.{subst, sym}
+use Rattle.mg_calls_obj.specs.Door.{ActsBy}
+use Rattle.mg_model.specs.declared.calls.Call.{Call}
+use Rattle.mg_calls_obj.proofs.door.act.Goals as goal
+
+pub returns-in-Delete-clause-acts : goal.returns-in-Delete-clause-acts
+returns-in-Delete-clause-acts c =
+    let P : Call → Type 0 = λ made. ActsBy made c.args.object c.args.v.now c.delete.new.v c.delete.result in
+    subst P (sym c.in-Delete.is) (λ image t spelled formed named may. c.delete.ensures.acts image t c.in-Delete.base spelled formed named may)
+
+pub returns-in-Pwadd-clause-acts : goal.returns-in-Pwadd-clause-acts
+returns-in-Pwadd-clause-acts c =
+    let P : Call → Type 0 = λ made. ActsBy made c.args.object c.args.v.now c.pwadd.new.v c.pwadd.result in
+    subst P (sym c.in-Pwadd.is) (λ image t spelled formed named may. c.pwadd.ensures.acts image t c.in-Pwadd.base spelled formed named may)
+
+pub returns-in-Pwdel-clause-acts : goal.returns-in-Pwdel-clause-acts
+returns-in-Pwdel-clause-acts c =
+    let P : Call → Type 0 = λ made. ActsBy made c.args.object c.args.v.now c.pwdel.new.v c.pwdel.result in
+    subst P (sym c.in-Pwdel.is) (λ image t spelled formed named may. c.pwdel.ensures.acts image t c.in-Pwdel.base spelled formed named may)

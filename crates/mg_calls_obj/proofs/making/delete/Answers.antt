@@ -1,0 +1,12 @@
+use Rattle.std.specs.Prelude.{◌==◌}
+use Rattle.std.specs.List.{list_any}
+use Rattle.std.proofs.Common.{ap, ◌∙◌}
+use Rattle.mg_calls_obj.proofs.Rows.{based_there}
+use Rattle.mg_model.specs.State.{ObjectRow}
+use Rattle.mg_volume.specs.Meaning.{objects_in}
+use Rattle.mg_calls_obj.proofs.making.delete.Goals as goal
+
+pub remove-requires-clause-there : goal.remove-requires-clause-there
+remove-requires-clause-there c =
+    let rows = objects_in c.args.v.now in
+    ap (λ b. list_any (λ (r : ObjectRow). r.base == b) rows) c.base-base.ensures.value ∙ based_there rows c.args.object c.requires.held

@@ -1,0 +1,31 @@
+use Rattle.std.specs.Prelude.{◌≡◌, Bool, true, false, if◌then◌else◌, Result, Ok, Err}
+use Rattle.std.specs.List.{list_any}
+use Rattle.std.proofs.Common.{refl, sym, ap, ◌∙◌}
+use Rattle.mg_calls_obj.proofs.Rows.{change_gives, pwdel-is, without_password}
+use Rattle.mg_model.specs.declared.replies.Refusal.{Refusal}
+use Rattle.mg_model.specs.declared.replies.Refusal.TheVariants.{NoPassword}
+use Rattle.mg_model.specs.declared.replies.Reply.TheVariants.{Done}
+use Rattle.mg_model.specs.ObjectCalls.{has_password}
+use Rattle.mg_model.specs.Objects.{with_row}
+use Rattle.mg_model.specs.State.{ObjectRow}
+use Rattle.mg_volume.specs.Meaning.{now_of, objects_in}
+use Rattle.mg_calls_obj.proofs.passwords.pwdel.Goals as goal
+
+-- what was removed was there
+was_there : (has : Bool) (x : Unit {0}) → ◌≡◌ {A = Result (Unit {0}) Refusal} (Ok x) (if has then Ok tt else Err NoPassword) → has ≡ true
+was_there true x is = refl
+was_there false x is = cc
+
+pub returns-in-Ok-clause-acts : goal.returns-in-Ok-clause-acts
+returns-in-Ok-clause-acts c image t a spelled formed named may =
+    let state = now_of c.args.v.now image in
+    let object : ObjectRow = c.args.object in
+    let new : ObjectRow = c.remove.new.r in
+    let password = c.args.password in
+    let has : list_any (λ pw. has_password password pw) object.passwords ≡ true = was_there (list_any (λ pw. has_password password pw) object.passwords) c.in-Ok.field-0 c.in-Ok.ensures.refused in
+    let base : new.base ≡ object.base = ap (λ (r : ObjectRow). r.base) c.remove.ensures.list in
+    let rows = objects_in c.args.v.now in
+    let now = c.change.ensures.now (without_password password) (change_gives rows rows object new refl c.requires.held base (without_password password) (sym c.remove.ensures.list)) image in
+    pwdel-is state t a object named may password true has
+    ∙ ap (λ b. (record state { objects = with_row b (without_password password) state.objects }, Done)) (sym base)
+    ∙ ap (λ s. (s, Done)) (sym now)

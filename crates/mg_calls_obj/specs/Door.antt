@@ -1,0 +1,46 @@
+-- Calls that act on the object which an address names.
+use Rattle.std.specs.Prelude.{◌≡◌, ℕ, Bool, true, false, List, Option}
+use Rattle.mg_disk.specs.Disk.{Image}
+use Rattle.mg_model.specs.declared.calls.Call.{Call}
+use Rattle.mg_model.specs.declared.calls.Call.TheVariants as call
+use Rattle.mg_model.specs.declared.replies.Reply.{Reply}
+use Rattle.mg_model.specs.declared.rights.Right.{Right}
+use Rattle.mg_model.specs.declared.rights.Right.TheVariants.{D, O}
+use Rattle.mg_model.specs.declared.seats.Seat.{Seat}
+use Rattle.mg_model.specs.Access.{allowed}
+use Rattle.mg_model.specs.Backed.{by_via}
+use Rattle.mg_model.specs.ObjectCalls.{row_at}
+use Rattle.mg_model.specs.State.{ObjectRow}
+use Rattle.mg_model.specs.Turn.{thread_call}
+use Rattle.mg_model.specs.WellFormed.{IsWellFormed}
+use Rattle.mg_calls_obj.specs.Seats.{Drops}
+use Rattle.mg_volume.specs.Held.{VolumeHeld}
+use Rattle.mg_volume.specs.Meaning.{IsSpelledBy, now_of}
+
+-- whether a call is one of them, the address that it names, and the right that it wants there
+abbrev pub is_on_object : Call → Bool
+is_on_object (call.Delete b) = true
+is_on_object (call.Pwadd b rights until) = true
+is_on_object (call.Pwdel b password) = true
+is_on_object other = false
+
+abbrev pub named : Call → ℕ
+named (call.Delete b) = b
+named (call.Pwadd b rights until) = b
+named (call.Pwdel b password) = b
+named other = 0
+
+abbrev pub asked : Call → Right
+asked (call.Delete b) = D
+asked other = O
+
+-- its reply and the state after it are those of its row, where the address names the object and the thread has the right
+abbrev pub ActsBy : Call → ObjectRow → VolumeHeld → VolumeHeld → Reply → Type 0
+ActsBy made object old new reply =
+    (image : Image) (t : ℕ) → IsSpelledBy old image → IsWellFormed (now_of old image) → row_at (now_of old image) (named made) ≡ object → allowed (now_of old image) t (named made) (asked made) ≡ true
+    → thread_call (now_of old image) t made ≡ (now_of new image, reply)
+
+-- which seats it ends
+abbrev pub EndsBy : Call → ObjectRow → List (Option Seat) → List (Option Seat) → Reply → Type 0
+EndsBy (call.Pwadd b rights until) object old new reply = new ≡ old
+EndsBy other object old new reply = Drops (by_via object.base) old new reply

@@ -1,0 +1,96 @@
+// Passwords are added to an object, and taken away.
+ghost use Rattle.std.specs.Prelude.{◌≡◌, ◌≤◌, ◌<◌, ◌==◌, ◌||◌, ◌++◌, ◌∷◌, [], nat_le, find, length, Some};
+ghost use Rattle.mg_calls_obj.specs.Seats.{Drops};
+ghost use Rattle.mg_model.specs.Backed.{by_via};
+ghost use Rattle.mg_model.specs.FewSlots.{HasFewSlots};
+ghost use Rattle.mg_model.specs.Limits.{draw_limit, never, password_limit};
+ghost use Rattle.mg_model.specs.ObjectCalls as calls;
+ghost use Rattle.mg_model.specs.Ranges.{IsObjectRow};
+ghost use Rattle.mg_model.specs.Refused.{IsRefusal};
+ghost use Rattle.mg_volume.specs.Calls.{Acts, Stages};
+ghost use Rattle.mg_volume.specs.Meaning.{objects_in, staged_of};
+
+use mg_model::limits::{DRAW_LIMIT, PASSWORD_LIMIT};
+use mg_model::{Globals, ObjRow, Pw, Refusal, Reply, Right, Rights};
+use mg_passwords::remove;
+use mg_vcache::VCache;
+use mg_volume::Volume;
+
+/// One password more for an object, the next that is drawn, with these rights and this until, or none that it ever ends by.
+/// The refusals come in this order: an until that is not above the period, or is `2^24` or above (Past); an object with 32
+/// password rows, or no password left to draw (Limit). No right that was found ends.
+pub fn pwadd(v: &mut Volume, object: ObjRow, rights: Rights, until: Option<u64>) -> Reply
+    requires held { find (λ row. row.base == object.base) (objects_in v.old) ≡ Some object }
+    requires few { staged_of v.old ≤ 158 }
+    ensures acts { Acts (λ state t a. calls.pwadd state t a rights until) Right.O object v.old v.new result }
+    ensures stages { Stages 2 v.old v.new }
+    ensures refused { IsRefusal result → v.new ≡ v.old }
+    ensures slots { HasFewSlots result }
+{
+    let globals = v.globals();
+    if is_past(globals.period(), until) {
+        return Reply::No(Refusal::Past);
+    }
+    if is_full(&object, &globals) {
+        return Reply::No(Refusal::Limit);
+    }
+    let password = v.next_password();
+    let row = with_password(object, password, rights, until.unwrap_or(Pw::NEVER));
+    v.change(row);
+    Reply::Value(password)
+}
+
+/// Every password row of an object with this password goes, be it current or not, and with them all rights that were found
+/// for the object or in it. An object without one is refused (NoPassword).
+pub fn pwdel(v: &mut Volume, c: &mut VCache, object: ObjRow, password: u64) -> Reply
+    requires held { find (λ row. row.base == object.base) (objects_in v.old) ≡ Some object }
+    requires few { staged_of v.old ≤ 159 }
+    ensures acts { Acts (λ state t a. calls.pwdel state t a password) Right.O object v.old v.new result }
+    ensures seats { Drops (by_via object.base) c.old c.new result }
+    ensures stages { Stages 1 v.old v.new }
+    ensures refused { IsRefusal result → v.new ≡ v.old }
+    ensures slots { HasFewSlots result }
+{
+    let mut row = object;
+    match remove(&mut row, password) {
+        Ok(()) => {
+            v.change(row);
+            c.drop_via(object.base());
+            Reply::Done
+        }
+        Err(word) => Reply::No(word),
+    }
+}
+
+// Whether an until is given that is not above the period, or is above the last that may be given.
+fn is_past(period: u64, until: Option<u64>) -> bool
+    ensures { result ≡ calls.is_past period until }
+{
+    match until {
+        Some(until) => until <= period || until >= Pw::NEVER,
+        None => false,
+    }
+}
+
+// Whether an object may have no more passwords, or none is left.
+fn is_full(object: &ObjRow, globals: &Globals) -> bool
+    ensures { result ≡ (nat_le password_limit (length object.now.passwords) || nat_le draw_limit globals.now.draws) }
+{
+    object.passwords().len() >= PASSWORD_LIMIT || globals.draws() >= DRAW_LIMIT
+}
+
+// The object with one password row more.
+fn with_password(object: ObjRow, password: u64, rights: Rights, until: u64) -> ObjRow
+    requires room { length object.passwords < 32 }
+    requires begins { 1 ≤ until }
+    requires ends { until ≤ never }
+    ensures { result ≡ record object { passwords = object.passwords ++ record { password = password; rights = rights; until = until } ∷ [] } }
+{
+    let mut row = object;
+    row.add_password(Pw {
+        password,
+        rights,
+        until,
+    });
+    row
+}
