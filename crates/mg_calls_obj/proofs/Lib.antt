@@ -2,3 +2,4 @@ mod Rights
 mod Told
 mod Rows
 mod Doors
+mod NewObject

@@ -1,3 +1,4 @@
 -- Definitions.
 pub mod Seats
 pub mod Door
+pub mod Creating

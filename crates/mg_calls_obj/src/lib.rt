@@ -4,11 +4,13 @@
 //! point where the thread is known; what it read and staged is said in the words of `mg_volume`'s `specs/Calls.antt`.
 #![tactic(auto)]
 
+mod creating;
 mod door;
 mod making;
 mod passwords;
 mod telling;
 
+pub use creating::create;
 pub use door::on_object;
 pub use making::delete;
 pub use passwords::{pwadd, pwdel};

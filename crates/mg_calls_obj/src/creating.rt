@@ -1,0 +1,116 @@
+// Objects are made.
+ghost use Rattle.std.specs.Prelude.{List, ◌≡◌, ◌≤◌, ◌<◌, ◌+◌, ◌||◌, ℕ, nat_le, nat_lt, true, length, sum_by, MatchOption};
+ghost use Rattle.mg_calls_obj.specs.Creating.{IsRoom, creating_refusal, used_in};
+ghost use Rattle.mg_model.specs.Bank.{opens, owed_by};
+ghost use Rattle.mg_model.specs.FewSlots.{HasFewSlots};
+ghost use Rattle.mg_model.specs.Limits.{draw_limit, object_limit};
+ghost use Rattle.mg_model.specs.ObjectCalls as calls;
+ghost use Rattle.mg_model.specs.Objects.{new_object};
+ghost use Rattle.mg_model.specs.Ranges.{IsPlace};
+ghost use Rattle.mg_model.specs.Refused.{IsRefusal};
+ghost use Rattle.mg_volume.specs.Calls.{Answers, Stages};
+ghost use Rattle.mg_volume.specs.Meaning.{accounts_in, counters_in, objects_in, settings_in, staged_of};
+
+use mg_model::limits::{DRAW_LIMIT, OBJECT_LIMIT, OBJECT_PAGE_LIMIT, PAGE_SIZE};
+use mg_model::{ObjRow, Pw, Refusal, Reply, Rights};
+use mg_volume::Volume;
+
+/// A new object of so many pages, paid by an account that this password opens. It takes the lowest pages that meet no object,
+/// reads as zeros, and holds the next password that is drawn, with all rights and without an end. The refusals come in this
+/// order: no page, or more than 1024 (Size); no such account, or another password than its own (Account); an account that owes
+/// something (Debt); 4,096 objects, or no password left to draw (Limit); more pages in use than there are frames (Full). No
+/// right that was found ends.
+pub fn create(v: &mut Volume, n: u64, account: u64, password: u64) -> Reply
+    requires few { staged_of v.old ≤ 158 }
+    ensures answers { Answers (λ state. calls.create state n account password) v.old v.new result }
+    ensures stages { Stages 2 v.old v.new }
+    ensures refused { IsRefusal result → v.new ≡ v.old }
+    ensures slots { HasFewSlots result }
+{
+    match refusal(v, n, account, password) {
+        Some(word) => Reply::No(word),
+        None => {
+            let base = PAGE_SIZE * v.first(n);
+            let fresh = v.next_password();
+            v.insert(first_row(base, n, account, fresh));
+            Reply::Made(base, fresh)
+        }
+    }
+}
+
+// Why no object of so many pages may be made, or what holds where one may.
+fn refusal(v: &Volume, n: u64, account: u64, password: u64) -> Option<Refusal>
+    ensures word { result ≡ creating_refusal v.now n account password }
+    ensures room { MatchOption result (IsRoom v.now n account) (λ _. Unit {0}) }
+{
+    if n == 0 || n > OBJECT_PAGE_LIMIT {
+        return Some(Refusal::Size);
+    }
+    if !is_opened(v, account, password) {
+        return Some(Refusal::Account);
+    }
+    if owes(v, account) {
+        return Some(Refusal::Debt);
+    }
+    if is_spent(v) {
+        return Some(Refusal::Limit);
+    }
+    if is_over(v, n) {
+        return Some(Refusal::Full);
+    }
+    None
+}
+
+// Whether this password opens the account.
+fn is_opened(v: &Volume, account: u64, password: u64) -> bool
+    ensures opens { result ≡ opens (accounts_in v.now) account password }
+    ensures some { result ≡ true → 1 ≤ account }
+    ensures few { result ≡ true → account ≤ 1024 }
+{
+    match v.account(account) {
+        Some(row) => row.password == password,
+        None => false,
+    }
+}
+
+// Whether an account owes something.
+fn owes(v: &Volume, account: u64) -> bool
+    ensures { result ≡ nat_lt 0 (owed_by (accounts_in v.now) account) }
+{
+    match v.account(account) {
+        Some(row) => row.owed > 0,
+        None => false,
+    }
+}
+
+// Whether there may be no more objects, or no password is left.
+fn is_spent(v: &Volume) -> bool
+    ensures { result ≡ (nat_le object_limit (length (objects_in v.now)) || nat_le draw_limit (counters_in v.now).draws) }
+{
+    v.object_count() >= OBJECT_LIMIT as u64 || v.globals().draws() >= DRAW_LIMIT
+}
+
+// Whether so many pages more would be more than there are frames.
+fn is_over(v: &Volume, n: u64) -> bool
+    requires { n ≤ 1024 }
+    ensures { result ≡ nat_lt (settings_in v.now).frames (used_in v.now + n) }
+{
+    let frames = v.params().frames();
+    frames < v.used() + n
+}
+
+// The row of a new object, with its first password.
+fn first_row(base: u64, n: u64, account: u64, password: u64) -> ObjRow
+    requires place { IsPlace base n }
+    requires some { 1 ≤ account }
+    requires few { account ≤ 1024 }
+    ensures { result ≡ (new_object base n account password).row }
+{
+    let mut row = ObjRow::new(base, n, account);
+    row.add_password(Pw {
+        password,
+        rights: Rights::all(),
+        until: Pw::NEVER,
+    });
+    row
+}
