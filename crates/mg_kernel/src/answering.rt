@@ -1,6 +1,7 @@
 // What a line is answered: the order of the first refusals, and the call that answers else.
 ghost use Rattle.std.specs.Prelude.{List, ◌≡◌, ◌≤◌, ◌+◌, ℕ, true, false, IfOk, OnErr, OnOk};
 ghost use Rattle.std.specs.Option.{ForSome};
+ghost use Rattle.mg_calls_obj.specs.Door.{is_on_object};
 ghost use Rattle.mg_disk.specs.Stops.{CountRose};
 ghost use Rattle.mg_model.specs.Built.{IsBuilt, is_built};
 ghost use Rattle.mg_model.specs.FewSlots.{HasFewSlots};
@@ -15,7 +16,7 @@ ghost use Rattle.mg_volume.specs.Calls.{IsSoundOn, Serves};
 ghost use Rattle.mg_volume.specs.Meaning.{Keeps, now_of, staged_of};
 
 use mg_calls_dom::{load, store};
-use mg_calls_obj::info;
+use mg_calls_obj::{info, on_object};
 use mg_disk::Disk;
 use mg_faults::Failed;
 use mg_model::{Call, Line, Refusal, Reply, Steps};
@@ -109,14 +110,14 @@ fn called<D: Disk, L: Ledger>(
         Call::Load { a } => load(v, c, disk, t, a, steps),
         Call::Store { a, value } => store(v, c, disk, t, a, value, steps),
         Call::Info { base } => info(v, c, disk, t, base, steps),
+        Call::Delete { .. } => acted(v, c, disk, t, call, steps),
+        Call::Pwadd { .. } => acted(v, c, disk, t, call, steps),
+        Call::Pwdel { .. } => acted(v, c, disk, t, call, steps),
         Call::Turn | Call::Next | Call::Rent | Call::Bad | Call::Later => {
             Ok(Reply::No(Refusal::Syntax))
         }
         // Not built yet.
         Call::Create { .. }
-        | Call::Delete { .. }
-        | Call::Pwadd { .. }
-        | Call::Pwdel { .. }
         | Call::Entry { .. }
         | Call::Ext { .. }
         | Call::Recharge { .. }
@@ -132,4 +133,30 @@ fn called<D: Disk, L: Ledger>(
         | Call::Pay { .. }
         | Call::Balance { .. } => unreachable!(),
     }
+}
+
+// A call on an object, of a thread that lives.
+fn acted<D: Disk, L: Ledger>(
+    v: &mut Volume,
+    c: &mut VCache,
+    disk: &mut D,
+    t: u64,
+    call: &Call,
+    steps: &mut Steps<L>,
+) -> Result<Reply, Failed>
+    requires sound { IsSoundOn D.Disk v.old disk.old }
+    requires few { staged_of v.old ≤ 28 }
+    requires backed { ForSome (D.seen disk.old) (λ image. AllBacked (now_of v.old image) c.old) }
+    requires on { is_on_object call.now ≡ true }
+    ensures answers { IfOk result (λ reply. ForSome (D.seen disk.old) (λ image. thread_call (now_of v.old image) t call.now ≡ (now_of v.new image, reply))) }
+    ensures refused { IfOk result (λ reply. IsRefusal reply → staged_of v.new ≡ staged_of v.old) }
+    ensures failed { OnErr result (Keeps v.old v.new) }
+    ensures slots { IfOk result HasFewSlots }
+    ensures backed { ForSome (D.seen disk.old) (λ image. AllBacked (now_of v.new image) c.new) }
+    ensures keeps { OnOk result (ForSome (D.seen disk.old) (λ image. is_thread (now_of v.old image) t ≡ true → KeepsCall (now_of v.old image) t call.now (λ key. is_kept c.old key) (λ key. is_kept c.new key) steps.old steps.new)) }
+    ensures limit { ForSome (D.seen disk.old) (λ image. is_thread (now_of v.old image) t ≡ true → steps.new ≤ steps.old + call_limit (λ key. is_kept c.old key) (now_of v.old image) t call.now) }
+    ensures serves { Serves 132 D.Disk v.old v.new disk.old disk.new steps.old steps.new }
+    ensures cause { OnErr result (CountRose D.Disk disk.old disk.new) }
+{
+    on_object(v, c, disk, t, call, steps)
 }
