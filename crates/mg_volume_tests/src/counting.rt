@@ -2,7 +2,7 @@
 ghost use Rattle.std.specs.Prelude.{◌≡◌, ◌<◌};
 ghost use Rattle.mg_kernel.specs.Meaning.{StandsOn};
 
-use crate::probes::{fresh, opened, ROOT};
+use crate::probes::{ROOT, fresh, opened};
 use mg_disk::Disk;
 use mg_kernel::Kernel;
 use mg_model::{Call, Line, Reply, Steps};

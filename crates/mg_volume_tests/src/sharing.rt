@@ -3,12 +3,12 @@ ghost use Rattle.std.specs.Prelude.{◌≡◌, ◌<◌};
 ghost use Rattle.mg_kernel.specs.Meaning.{StandsOn};
 
 use crate::counting::{loaded, stored};
-use crate::probes::{fresh, opened, ROOT};
-use mg_disk::{Block, Disk, BLOCK_SIZE};
+use crate::probes::{ROOT, fresh, opened};
+use mg_disk::{BLOCK_SIZE, Block, Disk};
 use mg_kernel::Kernel;
 use mg_layout::{FIRST_OBJECT_BLOCK, FIRST_THREAD_BLOCK, GLOBALS_BLOCK};
 use mg_model::{Frame, ObjRow, Pw, Reply, Rights, Slot, Steps, ThrRow};
-use mg_rows::{put_object, read_globals, read_thread, write_globals, write_thread, Spelled};
+use mg_rows::{Spelled, put_object, read_globals, read_thread, write_globals, write_thread};
 use std::alloc::Global;
 use std::marker::Brand;
 use std::sync::ledger::{Blank, Ledger};
