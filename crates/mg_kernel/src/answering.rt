@@ -16,9 +16,10 @@ ghost use Rattle.mg_volume.specs.Calls.{IsSoundOn, Serves};
 ghost use Rattle.mg_volume.specs.Meaning.{Keeps, now_of, staged_of};
 
 use mg_calls_dom::{load, store};
-use mg_calls_obj::{info, on_object};
+use mg_calls_obj::{create, info, on_object};
 use mg_disk::Disk;
 use mg_faults::Failed;
+use mg_laws::steps_keep_backing;
 use mg_model::{Call, Line, Refusal, Reply, Steps};
 use mg_vcache::VCache;
 use mg_volume::Volume;
@@ -106,10 +107,16 @@ fn called<D: Disk, L: Ledger>(
     ensures serves { Serves 132 D.Disk v.old v.new disk.old disk.new steps.old steps.new }
     ensures cause { OnErr result (CountRose D.Disk disk.old disk.new) }
 {
+    steps_keep_backing();
     match *call {
         Call::Load { a } => load(v, c, disk, t, a, steps),
         Call::Store { a, value } => store(v, c, disk, t, a, value, steps),
         Call::Info { base } => info(v, c, disk, t, base, steps),
+        Call::Create {
+            pages,
+            account,
+            password,
+        } => Ok(create(v, pages, account, password)),
         Call::Delete { .. } => acted(v, c, disk, t, call, steps),
         Call::Pwadd { .. } => acted(v, c, disk, t, call, steps),
         Call::Pwdel { .. } => acted(v, c, disk, t, call, steps),
@@ -117,8 +124,7 @@ fn called<D: Disk, L: Ledger>(
             Ok(Reply::No(Refusal::Syntax))
         }
         // Not built yet.
-        Call::Create { .. }
-        | Call::Entry { .. }
+        Call::Entry { .. }
         | Call::Ext { .. }
         | Call::Recharge { .. }
         | Call::Apdadd { .. }
