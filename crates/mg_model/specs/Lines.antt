@@ -100,7 +100,27 @@ lone_words = codes "next" ∷ codes "rent" ∷ []
 
 -- the call words that are built today
 abbrev pub built_words : List (List ℕ)
-built_words = codes "load" ∷ codes "store" ∷ codes "info" ∷ []
+built_words =
+    codes "load"
+    ∷ codes "store"
+    ∷ codes "create"
+    ∷ codes "delete"
+    ∷ codes "info"
+    ∷ codes "pwadd"
+    ∷ codes "pwdel"
+    ∷ codes "entry"
+    ∷ codes "ext"
+    ∷ codes "recharge"
+    ∷ codes "apdadd"
+    ∷ codes "apddel"
+    ∷ codes "apdlist"
+    ∷ codes "pdx"
+    ∷ codes "ret"
+    ∷ codes "account"
+    ∷ codes "pay"
+    ∷ codes "balance"
+    ∷ codes "rent"
+    ∷ []
 
 -- whether a word is one of these
 abbrev pub is_among : List ℕ → List (List ℕ) → Bool

@@ -117,7 +117,25 @@ fn stands_alone(word: &[u8]) -> bool
 fn built(word: &[u8]) -> bool
     ensures { result ≡ is_among word.now built_words }
 {
-    is_word(word, b"load") || is_word(word, b"store") || is_word(word, b"info")
+    is_word(word, b"load")
+        || is_word(word, b"store")
+        || is_word(word, b"create")
+        || is_word(word, b"delete")
+        || is_word(word, b"info")
+        || is_word(word, b"pwadd")
+        || is_word(word, b"pwdel")
+        || is_word(word, b"entry")
+        || is_word(word, b"ext")
+        || is_word(word, b"recharge")
+        || is_word(word, b"apdadd")
+        || is_word(word, b"apddel")
+        || is_word(word, b"apdlist")
+        || is_word(word, b"pdx")
+        || is_word(word, b"ret")
+        || is_word(word, b"account")
+        || is_word(word, b"pay")
+        || is_word(word, b"balance")
+        || is_word(word, b"rent")
 }
 
 #[cfg(test)]
