@@ -3,7 +3,7 @@ use Rattle.std.specs.Prelude.{◌≡◌, ◌≤◌, ◌+◌, ◌-◌, ◌&&◌, 
 use Rattle.std.proofs.Common.{refl, sym, ap, arith, subst, ◌∙◌}
 use Rattle.mg_calls_dom.specs.LineLemmas.{drops_line, keeps_line, limit_line, one_limit, thread_limit, thread_rules}
 use Rattle.mg_calls_obj.specs.Door.{EndsBy, asked, is_on_object, named}
-use Rattle.mg_calls_obj.specs.Seats.{Drops}
+use Rattle.mg_vcache.specs.Drops.{Drops}
 use Rattle.mg_laws.specs.Costs.{SearchesKeepRules}
 use Rattle.mg_model.specs.declared.calls.Call.{Call}
 use Rattle.mg_model.specs.declared.calls.Call.TheVariants as call

@@ -13,7 +13,7 @@ use Rattle.mg_model.specs.ObjectCalls.{row_at}
 use Rattle.mg_model.specs.State.{ObjectRow}
 use Rattle.mg_model.specs.Turn.{thread_call}
 use Rattle.mg_model.specs.WellFormed.{IsWellFormed}
-use Rattle.mg_calls_obj.specs.Seats.{Drops}
+use Rattle.mg_vcache.specs.Drops.{Drops}
 use Rattle.mg_volume.specs.Held.{VolumeHeld}
 use Rattle.mg_volume.specs.Meaning.{IsSpelledBy, now_of}
 

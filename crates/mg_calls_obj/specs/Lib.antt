@@ -1,4 +1,3 @@
 -- Definitions.
-pub mod Seats
 pub mod Door
 pub mod Creating

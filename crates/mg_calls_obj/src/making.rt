@@ -1,6 +1,6 @@
 // Objects are made, and unmade.
 ghost use Rattle.std.specs.Prelude.{◌≡◌, ◌≤◌, ◌==◌, find, Some};
-ghost use Rattle.mg_calls_obj.specs.Seats.{Drops};
+ghost use Rattle.mg_vcache.specs.Drops.{Drops};
 ghost use Rattle.mg_model.specs.Backed.{by_via};
 ghost use Rattle.mg_model.specs.FewSlots.{HasFewSlots};
 ghost use Rattle.mg_model.specs.ObjectCalls as calls;

@@ -1,6 +1,6 @@
 // Passwords are added to an object, and taken away.
 ghost use Rattle.std.specs.Prelude.{◌≡◌, ◌≤◌, ◌<◌, ◌==◌, ◌||◌, ◌++◌, ◌∷◌, [], nat_le, find, length, Some};
-ghost use Rattle.mg_calls_obj.specs.Seats.{Drops};
+ghost use Rattle.mg_vcache.specs.Drops.{Drops};
 ghost use Rattle.mg_model.specs.Backed.{by_via};
 ghost use Rattle.mg_model.specs.FewSlots.{HasFewSlots};
 ghost use Rattle.mg_model.specs.Limits.{draw_limit, never, password_limit};

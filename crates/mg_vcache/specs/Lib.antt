@@ -1,5 +1,6 @@
 -- Definitions.
 pub mod Seats
 pub mod EndedSeats
+pub mod Drops
 -- Lemmas that crates above cite. None of them is part of a statement.
 pub mod SeatLemmas

@@ -8,7 +8,7 @@ use Rattle.mg_model.specs.State.{Object, ObjectRow, Thread, ThreadRow}
 use Rattle.mg_model.specs.Threads.{with_new_thread}
 use Rattle.mg_pages.specs.Meaning as pages
 use Rattle.mg_volume.specs.Held.{VolumeHeld}
-use Rattle.mg_volume.specs.Meaning.{objects_in}
+use Rattle.mg_volume.specs.Meaning.{objects_in, threads_in}
 
 -- the threads with this row for thread t, or without that thread
 abbrev pub threads_with : ℕ → Option ThreadRow → List Thread → List Thread
@@ -17,6 +17,10 @@ threads_with t (Some row) threads =
     if list_any (λ (thread : Thread). thread.number == t) threads
     then map (λ (thread : Thread). if thread.number == t then record thread { row = row } else thread) threads
     else with_new_thread (record { number = t; row = row }) threads
+
+-- whether thread t lives
+abbrev pub lives : VolumeHeld → ℕ → Bool
+lives v t = list_any (λ (thread : Thread). thread.number == t) (threads_in v)
 
 -- whether there is an object with this base
 abbrev pub has_base : ℕ → List ObjectRow → Bool
