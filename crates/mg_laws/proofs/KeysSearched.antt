@@ -4,10 +4,10 @@ use Rattle.std.proofs.lemmas.Bool.{and_from, and_parts, cond_both, false≢true}
 use Rattle.std.proofs.lemmas.Option.{none-some}
 use Rattle.std.specs.Option.{option_map_or, option_to_list}
 use Rattle.mg_laws.proofs.KeysSeats.{has_seat-append, is_key-same, last_is_kept}
-use Rattle.mg_laws.specs.Costs.{SearchesGoOn, SearchesKeepRules}
+use Rattle.mg_laws.specs.Costs.{LimitGoesOn, RulesGoOn, SearchesGoOn, SearchesKeepRules}
 use Rattle.mg_model.specs.Accesses.{Access, is_allowed}
 use Rattle.mg_model.specs.Keys.{Key, first_at, has_seat, is_elsewhere, is_key, key_of, seat_of, taken, taken_by}
-use Rattle.mg_model.specs.Kept.{KeepsKeys, Searches, Validates, is_known, is_served}
+use Rattle.mg_model.specs.Kept.{KeepsKeys, Searches, Validates, is_known, is_served, searches_limit}
 use Rattle.mg_model.specs.Limits.{search_limit}
 use Rattle.mg_model.specs.State.{State}
 use Rattle.mg_model.specs.Warmth.{failing}
@@ -135,3 +135,51 @@ searches-go_on state kept [] middle words access kept' more (same, none) v =
     (kept', more, 0, ap (λ w. w + more) none ∙ omega arith, same_kept state access kept middle kept' more same v, ((λ key. refl), refl))
 searches-go_on state kept (x ∷ made) middle words access kept' more (now, first, rest, sum, w, searches) v =
     (now, first, rest + more, omega arith, w, searches-go_on state now made middle rest access kept' more searches v)
+
+-- An access, and more behind it
+
+-- an access that is served behind others and behind one more was served behind those, by the keys kept behind that one
+served-later : (state : State) (access : Access) (kept middle : Key → Bool) (first : ℕ) → Validates state access kept middle first → (before : List Access) (later : Access) → is_served kept state (access ∷ before) later ≡ true
+    → is_served middle state before later ≡ true
+served-later state access kept middle first v before later served = by_key (key_of state later) served
+  where
+    by_key : (o : Option Key) → option_map_or (λ key. kept key && has_seat (taken_by state (access ∷ before)) key) o false ≡ true → option_map_or (λ key. middle key && has_seat (taken_by state before) key) o false ≡ true
+    by_key None is = is
+    by_key (Some key) is =
+        let both = and_parts (kept key) (has_seat (taken_by state (access ∷ before)) key) is in
+        let seats = has_seat-append key (taken_by state before) (taken state access) both.1 in
+        and_from (middle key) (has_seat (taken_by state before) key) (validates-stays state access kept middle first v key both.0 seats.1) seats.0
+
+-- fewer fail a test that each passes which passes the other
+fewer-fail : (access : Access) (test other : List Access → Access → Bool) → ((before : List Access) (later : Access) → test (access ∷ before) later ≡ true → other before later ≡ true) → (before more : List Access)
+    → failing other before more ≤ failing test (access ∷ before) more
+fewer-fail access test other passes before [] = omega arith
+fewer-fail access test other passes before (later ∷ more) =
+    let rest = fewer-fail access test other passes (before ++ later ∷ []) more in
+    let one = one-fewer (test (access ∷ before) later) (other before later) (passes before later) in
+    omega arith
+  where
+    one-fewer : (v w : Bool) → (v ≡ true → w ≡ true) → cond w 0 1 ≤ cond v 0 1
+    one-fewer true true implies = omega arith
+    one-fewer true false implies = absurd (false≢true (implies refl))
+    one-fewer false true implies = omega arith
+    one-fewer false false implies = omega arith
+
+pub limit-goes_on : LimitGoesOn searches_limit
+limit-goes_on state access more kept middle first rest v few =
+    let one : first ≤ search_limit * cond (is_served kept state [] access) 0 1 =
+    one-few (is_known kept state access) (is_served kept state [] access) first (served-known state kept kept [] access (λ key was _. was)) v.few in
+    let fewer = fewer-fail access (is_served kept state) (is_served middle state) (served-later state access kept middle first v) [] more in
+    omega arith
+
+pub rules-go_on : RulesGoOn
+rules-go_on state access more kept middle kept' first rest v later = record {
+  keys = record {
+    stays = λ key was leaves.
+        let both = has_seat-append key (taken_by state more) (taken state access) leaves in
+        later.keys.stays key (validates-stays state access kept middle first v key was both.1) both.0;
+    comes = λ key is.
+        last_is_kept (taken_by state more) (taken state access) middle kept' later.keys.stays later.keys.comes (λ other there. validates-comes state access kept middle first v other there) key is;
+  };
+  few = limit-goes_on state access more kept middle first rest v later.few;
+}

@@ -4,6 +4,7 @@ mod BacksObjects
 mod BacksSteps
 mod BacksThreads
 mod CostsBound
+mod CursorOver
 mod Finds
 mod FreshFormed
 mod Keeps
@@ -32,4 +33,5 @@ mod NoLater
 mod Passed
 mod RefusedLeaves
 mod ReplyWords
+mod RowsOver
 mod WhateverState

@@ -23,6 +23,21 @@ SearchesGoOn searches =
     (state : State) (kept : Key → Bool) (made : List Access) (middle : Key → Bool) (words : ℕ) (access : Access) (kept' : Key → Bool) (more : ℕ)
     → searches state kept made middle words → Validates state access middle kept' more → searches state kept (made ++ access ∷ []) kept' (words + more)
 
+-- what is searched for accesses, at most, where these keys are kept before them
+abbrev pub Limit : Type 0
+Limit = (Key → Bool) → State → List Access → ℕ
+
+-- an access, and more behind it: what is searched for those is within the limit of all
+abbrev pub LimitGoesOn : Limit → Type 0
+LimitGoesOn limit =
+    (state : State) (access : Access) (more : List Access) (kept middle : Key → Bool) (first rest : ℕ) → Validates state access kept middle first → rest ≤ limit middle state more → first + rest ≤ limit kept state (access ∷ more)
+
+-- and where those keep the rules of a line, all do
+abbrev pub RulesGoOn : Type 0
+RulesGoOn =
+    (state : State) (access : Access) (more : List Access) (kept middle kept' : Key → Bool) (first rest : ℕ)
+    → Validates state access kept middle first → KeepsRules state more middle kept' rest → KeepsRules state (access ∷ more) kept kept' (first + rest)
+
 -- where each line stays within its limit and keeps its keys, the counter rises by no more than this
 abbrev pub BoundedByCost : (State → List Line → ℕ) → Type 0
 BoundedByCost bound = (kept : Key → Bool) (state : State) (lines : List Line) (steps steps' : ℕ) → Follows kept state lines steps steps' → steps' ≤ steps + bound state lines

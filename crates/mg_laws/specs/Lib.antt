@@ -1,3 +1,4 @@
 pub mod Laws
 pub mod Backing
 pub mod Costs
+pub mod Scripts

@@ -1,7 +1,7 @@
 // Laws on the keys that are kept, and on the counter of words.
-ghost use Rattle.mg_model.specs.Kept.{KeepsWarm, Searches, line_limit};
+ghost use Rattle.mg_model.specs.Kept.{KeepsWarm, Searches, line_limit, searches_limit};
 ghost use Rattle.mg_model.specs.Warmth.{TellsTaken, cost, cost_behind, events, is_recent};
-ghost use Rattle.mg_laws.specs.Costs.{BeginsWarm, BoundedByCost, CostsAddUp, CostsGoOn, EventsGoOn, LimitsWithinCost, PrefixesCostLess, SearchesGoOn, SearchesKeepRules, StaysWarm};
+ghost use Rattle.mg_laws.specs.Costs.{BeginsWarm, BoundedByCost, CostsAddUp, CostsGoOn, EventsGoOn, LimitGoesOn, LimitsWithinCost, PrefixesCostLess, RulesGoOn, SearchesGoOn, SearchesKeepRules, StaysWarm};
 
 /// Accesses one after another, each of which keeps its own key and leaves those of other seats, keep the rules of a line:
 /// a key stays kept unless another takes its seat, the last key that took a seat is kept, and no word is searched for an
@@ -9,6 +9,12 @@ ghost use Rattle.mg_laws.specs.Costs.{BeginsWarm, BoundedByCost, CostsAddUp, Cos
 pub fn accesses_keep_the_rules_of_a_line()
     ensures kept { SearchesKeepRules Searches }
     ensures more { SearchesGoOn Searches }
+{}
+
+/// An access, and then more that keep the rules of a line, or their limit alone, keep them together.
+pub fn accesses_go_on()
+    ensures rules { RulesGoOn }
+    ensures limit { LimitGoesOn searches_limit }
 {}
 
 /// A key is recent exactly where an earlier line took it, nothing disturbed since, and no other key took its seat since.

@@ -11,19 +11,20 @@ mod costs;
 ghost use Rattle.mg_model.specs.Access.{allowed};
 ghost use Rattle.mg_model.specs.Fresh.{fresh};
 ghost use Rattle.mg_laws.specs.Laws.{AnswersWhateverState, BeginsWellFormed, FindsLowest, IsLaterWhereUnbuilt, IsNeverLater, ReadsInRange, RefusedLeaves, RestsOnDomain, RunsKeepWellFormed, RunsNextReady, TakesLeastNumber, TakesLowest};
+ghost use Rattle.mg_laws.specs.Scripts.{RestsOnNoCursor, RestsOnNoRegister};
 ghost use Rattle.mg_model.specs.Lines.{lines};
 ghost use Rattle.mg_model.specs.Objects.{lowest_free};
 ghost use Rattle.mg_model.specs.Step.{after, step};
 ghost use Rattle.mg_model.specs.Threads.{free_number};
-ghost use Rattle.mg_model.specs.Turn.{next, thread_call};
+ghost use Rattle.mg_model.specs.Turn.{next, thread_call, turn_state};
 ghost use Rattle.mg_model.specs.WellFormed.{KeepsWellFormed};
 
 pub use backing::{
     backed_seats_are_allowed, backing_rests_on_the_domain, steps_keep_backing, stores_end_one_list,
 };
 pub use costs::{
-    accesses_keep_the_rules_of_a_line, costs_add_up, lines_cost_no_more, recent_keys_were_taken,
-    warm_keys_are_kept,
+    accesses_go_on, accesses_keep_the_rules_of_a_line, costs_add_up, lines_cost_no_more,
+    recent_keys_were_taken, warm_keys_are_kept,
 };
 
 /// The fresh state of any settings is well formed, and each step keeps a state well formed: numbers stay in their ranges,
@@ -73,4 +74,15 @@ pub fn next_runs_the_least_ready_thread()
 pub fn only_unbuilt_calls_are_later()
     ensures lines { IsLaterWhereUnbuilt step }
     ensures calls { IsNeverLater thread_call }
+{}
+
+/// A call that a script makes rests neither on the pc nor on a register of its thread: the row that the thread gets may be put
+/// before the call or, with the frames that the call left, behind it.
+pub fn calls_rest_on_no_register()
+    ensures { RestsOnNoRegister thread_call }
+{}
+
+/// A turn does not rest on the cursor: the cursor may be moved before the turn or behind it.
+pub fn turns_rest_on_no_cursor()
+    ensures { RestsOnNoCursor turn_state }
 {}

@@ -1,0 +1,42 @@
+-- A law on calls that a script makes.
+use Rattle.std.specs.Prelude.{◌≡◌, ℕ, Bool, true, false, Some}
+use Rattle.mg_model.specs.declared.calls.Call.{Call}
+use Rattle.mg_model.specs.declared.calls.Call.TheVariants as call
+use Rattle.mg_model.specs.declared.threads.ThrState.TheVariants.{Ready}
+use Rattle.mg_model.specs.Domains.{row_of, with_thread}
+use Rattle.mg_model.specs.Refused.{Answer}
+use Rattle.mg_model.specs.State.{State, ThreadRow}
+use Rattle.mg_model.specs.Turn.{put_row}
+use Rattle.mg_model.specs.WellFormed.{IsWellFormed}
+
+-- whether a script's registers can spell the call: it enters and leaves objects by instructions of its own
+abbrev pub is_by_script : Call → Bool
+is_by_script (call.Pdx a mask) = false
+is_by_script call.Ret = false
+is_by_script other = true
+
+-- a row of the same thread, which runs: its pc and its registers may be others
+pub record IsRowOf (old row : ThreadRow) : Type 0 where
+  pub birth : row.birth ≡ old.birth
+  pub creator : row.creator ≡ old.creator
+  pub ready : row.state ≡ Ready
+  pub frames : row.frames ≡ old.frames
+
+-- this row, with the frames of another
+abbrev pub with_frames_of : ThreadRow → ThreadRow → ThreadRow
+with_frames_of row other = record row { frames = other.frames }
+
+-- A call rests on no pc and no register: the row that its thread has may be put before it or, with the frames that it left,
+-- behind it.
+abbrev pub RestsOnNoRegister : (State → ℕ → Call → Answer) → Type 0
+RestsOnNoRegister calls =
+    (state : State) (t : ℕ) (old row : ThreadRow) (made : Call) → IsWellFormed state → row_of state t ≡ Some old → IsRowOf old row → is_by_script made ≡ true →
+    calls (put_row state t row) t made ≡ (with_thread (calls state t made).0 t (with_frames_of row), (calls state t made).1)
+
+-- the state with this cursor
+abbrev pub at_cursor : State → ℕ → State
+at_cursor state n = record state { counters = record state.counters { cursor = n } }
+
+-- A turn rests on no cursor: it may be moved before the turn or behind it.
+abbrev pub RestsOnNoCursor : (State → ℕ → State) → Type 0
+RestsOnNoCursor turns = (state : State) (t n : ℕ) → turns (at_cursor state n) t ≡ at_cursor (turns state t) n
