@@ -1,12 +1,13 @@
 -- Among runs that are apart, the last one that begins no higher decides whether a number lies in one.
-use Rattle.std.specs.Prelude.{◌≡◌, ℕ, ◌-◌, ◌<◌, ◌≤◌, nat_le, nat_lt, true, false, List, All, length, slice_index_or}
-use Rattle.std.specs.List.{list_any}
-use Rattle.std.specs.List.Sorted.{IsNonDecreasingBy, IsPartitionPoint}
-use Rattle.std.proofs.Common.{ap, ◌∙◌, arith, ⊎_elim}
+use Rattle.std.specs.Prelude.{◌≡◌, ℕ, ◌-◌, ◌<◌, ◌≤◌, ◌&&◌, ◌||◌, nat_le, nat_lt, not, Bool, true, false, List, [], ◌∷◌, All, length, slice_index_or}
+use Rattle.std.specs.List.{list_all, list_any}
+use Rattle.std.specs.List.Sorted.{IsNonDecreasingBy, IsPartitionPoint, IsPermutation}
+use Rattle.std.proofs.Common.{refl, sym, ap, ◌∙◌, arith, ⊎_elim}
 use Rattle.std.proofs.lemmas.Bool.{cases_eq, cases_lt, leb-true, leb-false, lt-ltb, ltb-true}
 use Rattle.std.proofs.lemmas.List.{get_or_default}
 use Rattle.std.proofs.lemmas.List.Folds.{Any-from_list_any, list_any_at}
-use Rattle.mg_check.specs.Spans.{IsSome, apart_from, is_in}
+use Rattle.std.proofs.lemmas.List.Sorted.{list_any-IsPermutation}
+use Rattle.mg_check.specs.Spans.{IsSome, IsWithin, apart_from, is_in}
 use Rattle.mg_check.proofs.Apart.{apart-pairs, both_ways, in_one, one_in}
 
 module _ (spans : List (ℕ × ℕ)) (some : All IsSome spans) (apart : apart_from 0 spans ≡ true) where
@@ -51,3 +52,23 @@ module _ (spans : List (ℕ × ℕ)) (some : All IsSome spans) (apart : apart_fr
             let low = leb-true (slice_index_or spans (place - 1) e).0 n (point.0 (place - 1) e (omega arith) (omega arith)) in
             omega arith))
             (cases_eq k (place - 1))
+
+-- a run that stands there
+pub within-there : (spans : List (ℕ × ℕ)) (k : ℕ) (d : ℕ × ℕ) → k < length spans → IsWithin (slice_index_or spans k d) spans
+within-there spans k d there n inside = list_any_at (is_in n) spans k d there inside
+
+-- a run without a number
+pub none-within : (spans : List (ℕ × ℕ)) → IsWithin (0, 0) spans
+none-within spans n inside = absurd (let i = in_one n (0, 0) inside in omega arith)
+
+-- all of a list pass where all do in another order
+pub all-permuted : (p : ℕ → Bool) (xs ys : List ℕ) → IsPermutation xs ys → list_all p xs ≡ list_all p ys
+all-permuted p xs ys moved = none_fails xs ∙ ap not (list_any-IsPermutation (λ x. not (p x)) xs ys moved) ∙ sym (none_fails ys)
+  where
+    joined : (b t u : Bool) → t ≡ not u → (b && t) ≡ not (not b || u)
+    joined true t u same = same
+    joined false t u same = refl
+
+    none_fails : (zs : List ℕ) → list_all p zs ≡ not (list_any (λ x. not (p x)) zs)
+    none_fails [] = refl
+    none_fails (z ∷ zs) = joined (p z) (list_all p zs) (list_any (λ x. not (p x)) zs) (none_fails zs)

@@ -1,5 +1,6 @@
 -- Runs of numbers: each a pair of its first number and the one right behind it.
-use Rattle.std.specs.Prelude.{ℕ, ◌+◌, ◌<◌, ◌&&◌, nat_le, nat_lt, Bool, true, List, [], ◌∷◌}
+use Rattle.std.specs.Prelude.{ℕ, ◌≡◌, ◌+◌, ◌<◌, ◌&&◌, nat_le, nat_lt, Bool, true, List, [], ◌∷◌}
+use Rattle.std.specs.List.{list_any}
 
 -- whether each run begins at or behind the end of the one before, and the first at or behind a bound
 abbrev pub apart_from : ℕ → List (ℕ × ℕ) → Bool
@@ -23,3 +24,7 @@ is_in n span = nat_le span.0 n && nat_lt n span.1
 -- a run has a number in it
 abbrev pub IsSome : ℕ × ℕ → Type 0
 IsSome span = span.0 < span.1
+
+-- each number of a run lies in one of these
+abbrev pub IsWithin : ℕ × ℕ → List (ℕ × ℕ) → Type 0
+IsWithin run spans = (n : ℕ) → is_in n run ≡ true → list_any (is_in n) spans ≡ true

@@ -9,7 +9,7 @@ ghost use Rattle.mg_model.specs.State.{ObjectRow, ThreadRow};
 ghost use Rattle.mg_model.specs.Tests.{all_distinct};
 ghost use Rattle.mg_model.specs.Volume.{accounts_fit, begins_with_first, bound_pages, objects_fit, objects_spelled, table_fits, threads_fit, threads_spelled};
 
-use crate::sorted::{all_lie_in, are_apart, are_distinct};
+use crate::sorted::{are_apart, are_distinct, are_distinct_within};
 use mg_model::limits::{DEBT_LIMIT, PAGE_SIZE};
 use mg_model::{AccRow, Globals, ObjRow, ThrRow};
 use std::alloc::{AllocError, Global};
@@ -181,6 +181,5 @@ pub(crate) fn table_fits(
     requires some { All IsSome spans.now }
     ensures { IfOk result (λ fit. fit ≡ (list_all (λ page. list_any (is_in page) spans.now) (bound_pages table.now) && all_distinct (bound_pages table.now))) }
 {
-    let pages = bound_pages(alloc, table)?;
-    Ok(all_lie_in(spans, &pages) && are_distinct(pages))
+    Ok(are_distinct_within(spans, bound_pages(alloc, table)?))
 }

@@ -10,6 +10,13 @@ use Rattle.mg_rows.specs.ObjectParts.{are_entries, are_passwords, entries_in, is
 use Rattle.mg_rows.proofs.ObjectLists.{none_tells, some_tells}
 use Rattle.mg_rows.proofs.Reading.{read-none}
 
+-- a part that passed its test, and one that failed it
+pub passes : {X : Type 0} (t : Bool) (x y : X) → true ≡ t → x ≡ y → Some x ≡ some_if t y
+passes t x y good is = ap Some is ∙ ap (λ b. some_if b y) good
+
+pub fails : {X : Type 0} (t : Bool) (y : X) → false ≡ t → None ≡ some_if t y
+fails t y bad = ap (λ b. some_if b y) bad
+
 module _ (bytes : List ℕ) where
   abbrev fields : ObjectRow
   fields = object_fields bytes

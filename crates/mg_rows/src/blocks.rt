@@ -4,7 +4,7 @@ ghost use Rattle.std.specs.Option.{option_map_or};
 ghost use Rattle.mg_rows.specs.Answers.{as_read};
 ghost use Rattle.mg_rows.specs.Blocks.{account_in, object_in};
 
-use crate::accounts::read_account;
+use crate::accounts::{read_account, write_account};
 use crate::objects::{read_object, write_object};
 use crate::spelled::Spelled;
 use mg_disk::Block;
@@ -42,4 +42,14 @@ pub fn account_in(block: &Block, j: u64) -> Option<Spelled<AccRow>>
 {
     let at = ACCOUNT_SIZE * j as usize;
     read_account(&block[at..at + ACCOUNT_SIZE])
+}
+
+/// Spells an account, or a free row, in row `j` of a block. The rows beside it stay as they are.
+pub fn put_account(row: Option<&AccRow>, j: u64, block: &mut Block)
+    requires { j < 64 }
+    ensures here { account_in block.new j ≡ Some (option_map_or (λ row. Some row.now) row.entry None) }
+    ensures others { (k : ℕ) → k < 64 → k ≢ j → account_in block.new k ≡ account_in block.old k }
+{
+    let at = ACCOUNT_SIZE * j as usize;
+    write_account(row, &mut block[at..at + ACCOUNT_SIZE]);
 }

@@ -4,8 +4,8 @@
 //! in one way alone, so a reader takes it exactly where its fields keep their rules and writing them gives the bytes back,
 //! and what was written is read as it was: [`rows_are_spelled_in_one_way`].
 //!
-//! Objects stand four in a block, and accounts 64: [`object_in`], [`account_in`] and [`put_object`] name a row by its place
-//! there, so that no layer above counts bytes.
+//! Objects stand four in a block, and accounts 64: [`object_in`], [`account_in`], [`put_object`] and [`put_account`] name a row
+//! by its place there, so that no layer above counts bytes.
 //!
 //! How each row is spelled is defined in `mg_model`, in `Spelling`; `specs/Answers.antt` says how a reader's answer stands
 //! for what is read there, and `specs/Blocks.antt` what a place of a block spells.
@@ -23,7 +23,7 @@ mod spelled;
 mod threads;
 
 pub use accounts::{read_account, write_account};
-pub use blocks::{account_in, object_in, put_object};
+pub use blocks::{account_in, object_in, put_account, put_object};
 pub use globals::{read_globals, write_globals};
 pub use laws::rows_are_spelled_in_one_way;
 pub use objects::{read_object, write_object};

@@ -1,5 +1,5 @@
 // The parts of an object's row, read one after the other.
-ghost use Rattle.std.specs.Prelude.{◌≡◌, ◌<◌, ◌&&◌, [], length, not};
+ghost use Rattle.std.specs.Prelude.{◌≡◌, ◌<◌, ◌&&◌, [], length, not, true};
 ghost use Rattle.mg_model.specs.ObjectCalls.{is_entry};
 ghost use Rattle.mg_model.specs.Spelling.{extension_at, object_fields};
 ghost use Rattle.mg_model.specs.Tests.{is_entry_of, is_object_row, is_password, is_place};
@@ -19,10 +19,17 @@ pub(crate) fn fields(b: &[u8]) -> Option<ObjRow>
     requires { length b.now ≡ 1024 }
     ensures { result ≡ some_if (is_object_row (object_fields b.now)) (object_fields b.now) }
 {
-    let placed = placed(b)?;
-    let opened = with_passwords(&placed, b)?;
-    let entered = with_entries(&opened, b)?;
-    with_extension(&entered, b)
+    let mut row = placed(b)?;
+    if !read_passwords(&mut row, b) {
+        return None;
+    }
+    if !read_entries(&mut row, b) {
+        return None;
+    }
+    if !read_extension(&mut row, b) {
+        return None;
+    }
+    Some(row)
 }
 
 // Where it lies and who pays for it.
@@ -50,21 +57,24 @@ fn is_place(base: u64, pages: u64) -> bool
         && base / PAGE_SIZE + pages <= PAGE_END
 }
 
-// With its password rows.
-fn with_passwords(row: &ObjRow, b: &[u8]) -> Option<ObjRow>
+// Its password rows, where these keep their rule.
+fn read_passwords(row: &mut ObjRow, b: &[u8]) -> bool
     requires long { length b.now ≡ 1024 }
-    requires bare { row.now.passwords ≡ [] }
-    ensures { result ≡ some_if (are_passwords (passwords_in b.now)) (record row.now { passwords = passwords_in b.now }) }
+    requires bare { row.old.passwords ≡ [] }
+    ensures kept { result ≡ are_passwords (passwords_in b.now) }
+    ensures row { result ≡ true → row.new ≡ record row.old { passwords = passwords_in b.now } }
 {
     let count = number_at(b, 32);
     if count > PASSWORD_LIMIT {
-        return None;
+        return false;
     }
-    let mut filled = *row;
     for k in 0..count as usize {
-        filled.add_password(password_at(b, k)?);
+        match password_at(b, k) {
+            Some(pw) => row.add_password(pw),
+            None => return false,
+        }
     }
-    Some(filled)
+    true
 }
 
 // The password row at this place.
@@ -87,25 +97,25 @@ fn password_at(b: &[u8], k: usize) -> Option<Pw>
     }
 }
 
-// With its entries.
-fn with_entries(row: &ObjRow, b: &[u8]) -> Option<ObjRow>
+// Its entries, where these keep their rules.
+fn read_entries(row: &mut ObjRow, b: &[u8]) -> bool
     requires long { length b.now ≡ 1024 }
-    requires bare { row.now.entries ≡ [] }
-    ensures { result ≡ some_if (are_entries row.now.base row.now.pages (entries_in b.now)) (record row.now { entries = entries_in b.now }) }
+    requires bare { row.old.entries ≡ [] }
+    ensures kept { result ≡ are_entries row.old.base row.old.pages (entries_in b.now) }
+    ensures row { result ≡ true → row.new ≡ record row.old { entries = entries_in b.now } }
 {
     let count = number_at(b, 40);
     if count > ENTRY_LIMIT {
-        return None;
+        return false;
     }
-    let mut filled = *row;
     for k in 0..count as usize {
         let address = number_at(b, 368 + 8 * k);
-        if !may_be_entry(&filled, address) {
-            return None;
+        if !may_be_entry(row, address) {
+            return false;
         }
-        filled.add_entry(address);
+        row.add_entry(address);
     }
-    Some(filled)
+    true
 }
 
 // Whether this may be one entry more.
@@ -115,18 +125,18 @@ fn may_be_entry(row: &ObjRow, address: u64) -> bool
     address % 8 == 0 && row.covers(address) && !row.is_entry(address)
 }
 
-// With its extension.
-fn with_extension(row: &ObjRow, b: &[u8]) -> Option<ObjRow>
+// Its extension, where that keeps its rule.
+fn read_extension(row: &mut ObjRow, b: &[u8]) -> bool
     requires { length b.now ≡ 1024 }
-    ensures { result ≡ some_if (is_extension (extension_at b.now)) (record row.now { extension = extension_at b.now }) }
+    ensures kept { result ≡ is_extension (extension_at b.now) }
+    ensures row { result ≡ true → row.new ≡ record row.old { extension = extension_at b.now } }
 {
     let ext = extension_at(b);
     if !is_extension(ext) {
-        return None;
+        return false;
     }
-    let mut filled = *row;
-    filled.set_ext(ext);
-    Some(filled)
+    row.set_ext(ext);
+    true
 }
 
 fn extension_at(b: &[u8]) -> Option<Slot>

@@ -2,10 +2,10 @@ use Rattle.std.proofs.Common.{◌≡◌, true}
 use Rattle.std.specs.List.{list_all}
 use Rattle.mg_model.specs.Spelling.{passwords_at}
 use Rattle.mg_model.specs.Tests.{is_password}
-use Rattle.mg_rows.proofs.object_parts.with_passwords.Given as goal
+use Rattle.mg_rows.proofs.object_parts.read_passwords.Given as goal
 
 abbrev pub invariant-loop-k : goal.invariant-loop-k
 invariant-loop-k l = record {
-  value : l.filled ≡ record l.row { passwords = passwords_at l.b 0 l.k };
+  value : l.row ≡ record l.initial.row { passwords = passwords_at l.b 0 l.k };
   rule : list_all is_password (passwords_at l.b 0 l.k) ≡ true;
 }

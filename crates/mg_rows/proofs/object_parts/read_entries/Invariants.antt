@@ -2,11 +2,11 @@ use Rattle.std.proofs.Common.{◌≡◌, true}
 use Rattle.std.specs.List.{list_all}
 use Rattle.mg_model.specs.Bytes.{numbers_at}
 use Rattle.mg_model.specs.Tests.{all_distinct, is_entry_of}
-use Rattle.mg_rows.proofs.object_parts.with_entries.Given as goal
+use Rattle.mg_rows.proofs.object_parts.read_entries.Given as goal
 
 abbrev pub invariant-loop-k : goal.invariant-loop-k
 invariant-loop-k l = record {
-  value : l.filled ≡ record l.row { entries = numbers_at l.b 368 l.k };
-  rule : list_all (is_entry_of l.row.base l.row.pages) (numbers_at l.b 368 l.k) ≡ true;
+  value : l.row ≡ record l.initial.row { entries = numbers_at l.b 368 l.k };
+  rule : list_all (is_entry_of l.initial.row.base l.initial.row.pages) (numbers_at l.b 368 l.k) ≡ true;
   distinct : all_distinct (numbers_at l.b 368 l.k) ≡ true;
 }
