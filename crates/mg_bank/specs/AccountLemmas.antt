@@ -1,0 +1,71 @@
+-- Lemmas on accounts by their numbers, and on their credits.
+use Rattle.std.proofs.Common.{◌≡◌, ℕ, zero, suc, ◌+◌, ◌-◌, ◌≤◌, true, List, length, get_or, Option, Some, None, is_some, refl, ap, ◌∙◌, arith}
+use Rattle.std.proofs.lemmas.List.{length-set}
+use Rattle.std.proofs.lemmas.List.Sums.{sum_by-set}
+use Rattle.std.proofs.lemmas.Option.{get_or_from_slice_get, slice_get-get_or, slice_get_within}
+use Rattle.std.specs.Option.{option_map_or}
+use Rattle.mg_bank.specs.Bank.{credits_of}
+use Rattle.mg_model.specs.declared.accounts.AccRow.{AccRow}
+use Rattle.mg_model.specs.Bank.{account_of, balance_of, given_to, taken_from, with_account}
+
+-- account `number` has this row
+pub record IsRowOf (accounts : List AccRow) (number : ℕ) (row : AccRow) : Type 0 where
+  pub some : 1 ≤ number
+  pub within : number ≤ length accounts
+  pub there : (d : AccRow) → get_or accounts (number - 1) d ≡ row
+
+pub account_of-row : (accounts : List AccRow) (number : ℕ) (row : AccRow) → account_of accounts number ≡ Some row → IsRowOf accounts number row
+account_of-row accounts zero row is = absurd (cc)
+account_of-row accounts (suc place) row is =
+    let within = slice_get_within accounts place row is in
+    let e : suc place - 1 ≡ place = omega arith in
+    record { some = omega arith; within = omega arith; there = λ d. ap (λ k. get_or accounts k d) e ∙ get_or_from_slice_get accounts place row d is }
+
+-- the row of each number up to their count
+pub account_of-at : (accounts : List AccRow) (number : ℕ) (d : AccRow) → 1 ≤ number → number ≤ length accounts → account_of accounts number ≡ Some (get_or accounts (number - 1) d)
+account_of-at accounts zero d some within = absurd (omega arith)
+account_of-at accounts (suc place) d some within =
+    let e : place ≡ suc place - 1 = omega arith in
+    slice_get-get_or accounts place d (omega arith) ∙ ap (λ k. Some (get_or accounts k d)) e
+
+some_value : {X : Type 0} (o : Option X) → is_some o ≡ true → (x : X) × (o ≡ Some x)
+some_value None passes = absurd (cc)
+some_value (Some x) passes = (x, refl)
+
+-- an account that is there, with its row
+pub record HasRow (accounts : List AccRow) (number : ℕ) : Type 0 where
+  pub row : AccRow
+  pub is : account_of accounts number ≡ Some row
+  pub at : IsRowOf accounts number row
+
+pub account_there : (accounts : List AccRow) (number : ℕ) → is_some (account_of accounts number) ≡ true → HasRow accounts number
+account_there accounts number there =
+    let found = some_value (account_of accounts number) there in
+    record { row = found.0; is = found.1; at = account_of-row accounts number found.0 found.1 }
+
+-- where the row of an account is put, the credits change by its balance
+pub with_account-credits : (accounts : List AccRow) (number : ℕ) (row new : AccRow) → IsRowOf accounts number row → credits_of (with_account accounts number new) + row.balance ≡ credits_of accounts + new.balance
+with_account-credits accounts number row new is =
+    let within = is.within in
+    let some = is.some in
+    let there : (get_or accounts (number - 1) row).balance ≡ row.balance = ap (λ (r : AccRow). r.balance) (is.there row) in
+    omega (arith, sum_by-set (λ (r : AccRow). r.balance) accounts (number - 1) new row (omega arith))
+
+-- what an account has and owes
+pub balance_of-row : (accounts : List AccRow) (number : ℕ) (row : AccRow) → account_of accounts number ≡ Some row → balance_of accounts number ≡ row.balance
+balance_of-row accounts number row is = ap (λ (o : Option AccRow). option_map_or (λ (r : AccRow). r.balance) o 0) is
+
+-- what is taken and given leaves as many accounts
+pub length-taken : (accounts : List AccRow) (number amount : ℕ) → length (taken_from accounts number amount) ≡ length accounts
+length-taken accounts number amount = at (account_of accounts number)
+  where
+    at : (o : Option AccRow) → length (option_map_or (λ (r : AccRow). with_account accounts number (record r { balance = r.balance - amount })) o accounts) ≡ length accounts
+    at None = refl
+    at (Some row) = length-set accounts (number - 1) (record row { balance = row.balance - amount })
+
+pub length-given : (accounts : List AccRow) (number amount : ℕ) → length (given_to accounts number amount) ≡ length accounts
+length-given accounts number amount = at (account_of accounts number)
+  where
+    at : (o : Option AccRow) → length (option_map_or (λ (r : AccRow). with_account accounts number (record r { balance = r.balance + amount })) o accounts) ≡ length accounts
+    at None = refl
+    at (Some row) = length-set accounts (number - 1) (record row { balance = row.balance + amount })

@@ -1,0 +1,4 @@
+-- Definitions.
+pub mod Bank
+-- Lemmas on accounts that crates above cite. None of them is part of a statement.
+pub mod AccountLemmas
