@@ -1,1 +1,2 @@
+mod Paid
 mod Spans

@@ -60,7 +60,7 @@ pub record Between (new : ℕ × ObjectRow) (without with_it : List (ℕ × Obje
   pub without_is : without ≡ before ++ behind
   pub with_is : with_it ≡ before ++ new ∷ behind
 
-between-cons : (new o : ℕ × ObjectRow) (without with_it : List (ℕ × ObjectRow)) → Between new without with_it → Between new (o ∷ without) (o ∷ with_it)
+pub between-cons : (new o : ℕ × ObjectRow) (without with_it : List (ℕ × ObjectRow)) → Between new without with_it → Between new (o ∷ without) (o ∷ with_it)
 between-cons new o without with_it b = record { before = o ∷ b.before; behind = b.behind; without_is = ap (λ os. o ∷ os) b.without_is; with_is = ap (λ os. o ∷ os) b.with_is }
 
 pub between-into : (new : ℕ × ObjectRow) (objects : List (ℕ × ObjectRow)) → Between new objects (into_place new objects)
@@ -74,8 +74,16 @@ between-into new (o ∷ objects) = ⊎_elim here (later (between-into new object
     later rest is =
         subst (λ os. Between new (o ∷ objects) os) (sym (cond-false (nat_lt new.1.base o.1.base) (new ∷ o ∷ objects) (o ∷ into_place new objects) is)) (between-cons new o objects (into_place new objects) rest)
 
--- objects behind another have other bases
-none-based : (base : ℕ) (objects : List (ℕ × ObjectRow)) → All (λ (o : ℕ × ObjectRow). base < o.1.base) objects → filter (λ (o : ℕ × ObjectRow). not (o.1.base == base)) objects ≡ objects
+-- objects behind another have larger bases
+pub bases-rise : (o : ℕ × ObjectRow) (objects : List (ℕ × ObjectRow)) → AreApart (o ∷ objects) → All (λ (x : ℕ × ObjectRow). IsObjectRow x.1) (o ∷ objects) → All (λ (x : ℕ × ObjectRow). o.1.base < x.1.base) objects
+bases-rise o objects apart rows =
+    λ k d under.
+    let some = (rows 0 o (omega arith)).place.some in
+    let b = apart 0 (suc k) d (omega arith) (omega arith) in
+    let row = rows (suc k) d (omega arith) in
+    omega (arith, row.place.aligned, (rows 0 o (omega arith)).place.aligned)
+
+pub none-based : (base : ℕ) (objects : List (ℕ × ObjectRow)) → All (λ (o : ℕ × ObjectRow). base < o.1.base) objects → filter (λ (o : ℕ × ObjectRow). not (o.1.base == base)) objects ≡ objects
 none-based base [] above = refl
 none-based base (o ∷ objects) above =
     let P : ℕ × ObjectRow → Type 0 = λ o. base < o.1.base in
@@ -105,9 +113,7 @@ between-without base gone (o ∷ objects) apart rows found = ⊎_elim here (late
     here : (o.1.base == base) ≡ true → Between gone (filter (λ (o : ℕ × ObjectRow). not (o.1.base == base)) (o ∷ objects)) (o ∷ objects)
     here is =
         let same = the_one o gone (sym (cond-true (o.1.base == base) (Some o) (find (λ (o : ℕ × ObjectRow). o.1.base == base) objects) is) ∙ found) in
-        let at = eqb-true o.1.base base is in
-        let some = (rows 0 o (omega arith)).place.some in
-        let above : All (λ (x : ℕ × ObjectRow). base < x.1.base) objects = λ k d under. let b = apart 0 (suc k) d (omega arith) (omega arith) in let row = rows (suc k) d (omega arith) in omega (arith, row.place.aligned, (rows 0 o (omega arith)).place.aligned) in
+        let above : All (λ (x : ℕ × ObjectRow). base < x.1.base) objects = subst (λ (b : ℕ). All (λ (x : ℕ × ObjectRow). b < x.1.base) objects) (eqb-true o.1.base base is) (bases-rise o objects apart rows) in
         record {
           before = [];
           behind = objects;

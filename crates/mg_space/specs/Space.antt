@@ -1,5 +1,6 @@
 -- Objects with the pages between them.
-use Rattle.std.specs.Prelude.{◌≡◌, ℕ, List, map, sum_by}
+use Rattle.std.specs.Prelude.{◌≡◌, ◌==◌, ℕ, List, filter, if◌then◌else◌, map, sum_by}
+use Rattle.std.specs.List.{slice_index_or}
 use Rattle.mg_model.specs.Objects.{page_of}
 use Rattle.mg_model.specs.State.{Object, ObjectRow}
 use Rattle.mg_ranges.specs.Gaps.{AreGapsOf}
@@ -12,7 +13,19 @@ spans_in objects = map (λ (o : ℕ × ObjectRow). (page_of o.1, o.1.pages)) obj
 abbrev pub AreRowsOf : List Object → List (ℕ × ObjectRow) → Type 0
 AreRowsOf objects rows = map (λ (object : Object). object.row) objects ≡ map (λ (o : ℕ × ObjectRow). o.1) rows
 
--- objects, the gaps that they leave, and how many pages they have
-pub record IsSpace (objects : List (ℕ × ObjectRow)) (gaps : List (ℕ × ℕ)) (used : ℕ) : Type 0 where
+-- how many pages the objects have for which an account pays, and how many of them one object has
+abbrev pub paid_by : ℕ → List (ℕ × ObjectRow) → ℕ
+paid_by n objects = sum_by (λ (o : ℕ × ObjectRow). o.1.pages) (filter (λ (o : ℕ × ObjectRow). o.1.account == n) objects)
+
+abbrev pub share : ObjectRow → ℕ → ℕ
+share row n = if row.account == n then row.pages else 0
+
+-- the total of account n, which stands in place n
+abbrev pub total_in : List ℕ → ℕ → ℕ
+total_in totals n = slice_index_or totals n 0
+
+-- objects, the gaps that they leave, how many pages they have, and for how many of them each account pays
+pub record IsSpace (objects : List (ℕ × ObjectRow)) (gaps : List (ℕ × ℕ)) (used : ℕ) (totals : List ℕ) : Type 0 where
   pub free : AreGapsOf (spans_in objects) gaps
   pub total : used ≡ sum_by (λ (o : ℕ × ObjectRow). o.1.pages) objects
+  pub paid : (n : ℕ) → total_in totals n ≡ paid_by n objects

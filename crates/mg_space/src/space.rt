@@ -11,6 +11,7 @@ ghost use Rattle.mg_objects.specs.Held.{AreApart, IsLowestFree, IsPlaced, MeetsN
 ghost use Rattle.mg_ranges.specs.Gaps.{AreTaken};
 ghost use Rattle.mg_space.specs.Space.{AreRowsOf, spans_in};
 
+use crate::totals::Totals;
 use mg_model::ObjRow;
 use mg_model::limits::PAGE_SIZE;
 use mg_objects::Objects;
@@ -25,6 +26,8 @@ pub struct Space {
     free: Ranges,
     // How many pages the objects have.
     used: u64,
+    // For how many of them each account pays.
+    totals: Totals,
 }
 
 impl Model for Space {
@@ -36,7 +39,7 @@ impl Model for Space {
 
     ghost view = { λ space. space.objects };
 
-    ghost invariant = { λ space. IsSpace space.objects space.free space.used };
+    ghost invariant = { λ space. IsSpace space.objects space.free space.used space.totals };
 }
 
 impl Space {
@@ -51,10 +54,12 @@ impl Space {
                 let spans = spans(alloc, &objects)?;
                 let free = Ranges::of(alloc, &spans)?;
                 let used = pages_of(&objects);
+                let totals = Totals::of(alloc, &objects)?;
                 Ok(Some(Space {
                     objects,
                     free,
                     used,
+                    totals,
                 }))
             }
             None => Ok(None),
@@ -107,6 +112,14 @@ impl Space {
         self.used
     }
 
+    /// For how many pages account n pays: 0 where n is not from 1 to 1,024.
+    pub fn paid_by(&self, n: u64) -> u64
+        ensures { result ≡ sum_by (λ o. o.1.pages) (filter (λ o. o.1.account == n) self.now) }
+    {
+        let _objects = &self.objects;
+        self.totals.get(n)
+    }
+
     /// The lowest page from which on so many pages, 1 to 1024, meet no object. All objects have at most 65,536 pages.
     pub fn first(&self, pages: u64) -> u64
         requires some { 1 ≤ pages }
@@ -133,6 +146,7 @@ impl Space {
         let _count = self.objects.len();
         self.free.take(first, pages);
         self.used += pages;
+        self.totals.add(&row);
         place
     }
 
@@ -147,17 +161,37 @@ impl Space {
         let (first, pages) = span_of(&gone.1);
         self.free.give(first, pages);
         self.used -= pages;
+        self.totals.subtract(&gone.1);
         gone
     }
 
-    /// Another row for the object with its base, which has as many pages. It stands in the same place, and gives that.
+    /// Another row for the object with its base, which has as many pages, perhaps of another payer. It stands in the same
+    /// place, and gives that.
     pub fn update(&mut self, row: ObjRow) -> u64
         requires there { list_any (λ o. o.1.base == row.base) self.old ≡ true }
         requires pages { All (λ o. o.1.base ≡ row.base → o.1.pages ≡ row.pages) self.old }
         ensures objects { self.new ≡ with_row row self.old }
         ensures place { Some result ≡ option_map (λ o. o.0) (find (λ o. o.1.base == row.base) self.old) }
     {
-        self.objects.update(row)
+        let _count = self.objects.len();
+        let old = replaced(&self.objects, &row);
+        let place = self.objects.update(row);
+        let _rows = self.objects.len();
+        self.totals.subtract(&old);
+        self.totals.add(&row);
+        place
+    }
+}
+
+// The row that the object with the base of this one has. It is there.
+fn replaced(objects: &Objects, row: &ObjRow) -> ObjRow
+    requires { list_any (λ o. o.1.base == row.now.base) objects.now ≡ true }
+    ensures { option_map (λ o. o.1) (find (λ o. o.1.base == row.now.base) objects.now) ≡ Some result }
+{
+    let base = row.base();
+    match objects.get(base) {
+        Some(old) => *old,
+        None => unreachable!(),
     }
 }
 

@@ -1,6 +1,8 @@
-use Rattle.std.proofs.Common.{◌≡◌, ℕ, List, arith, refl, subst, sym}
+use Rattle.std.proofs.Common.{◌≡◌, ◌+◌, ◌∙◌, ℕ, List, ap, arith, refl, subst, sym}
 use Rattle.mg_model.specs.State.{ObjectRow}
 use Rattle.mg_objects.specs.Held.{into_place}
+use Rattle.mg_space.specs.Space.{share}
+use Rattle.mg_space.proofs.Paid.{paid-between, paid-few, share-own}
 use Rattle.mg_space.proofs.Spans.{Between, between-into, can-take, sum-between, sum-fits, taken-now, taken-spans}
 use Rattle.mg_space.proofs.space.Space.insert.Goals as goal
 
@@ -25,6 +27,18 @@ overflow_add-self c =
     let pages : c.span_of-first.result.1 ≡ c.args.row.pages = rw span refl in
     omega arith
 
+pub add-requires : goal.add-requires
+add-requires c =
+    let objects = c.insert-place.new.self in
+    let e = c.len-count.ensures.count in
+    let fits = sum-fits objects (omega (arith, c.len-count.ensures.few)) c.len-count.ensures.rows in
+    let payer = c.args.row.account in
+    let more = paid-between (c.insert-place.result, c.args.row) c.self.inside.objects objects (between (c.insert-place.result, c.args.row) c.self.inside.objects objects c.insert-place.ensures.objects) payer in
+    let few = paid-few payer objects in
+    let own = share-own c.args.row in
+    let total = c.self.invariant.paid payer in
+    omega arith
+
 pub invariant_of-self : goal.invariant_of-self
 invariant_of-self c =
     let objects = c.insert-place.new.self in
@@ -36,4 +50,6 @@ invariant_of-self c =
     record {
       free = taken-now (c.insert-place.result, c.args.row) c.self.inside.objects objects (between (c.insert-place.result, c.args.row) c.self.inside.objects objects c.insert-place.ensures.objects) c.span_of-first.result c.span_of-first.ensures.span c.self.inside.free c.take.new.self c.self.invariant.free taken c.take.ensures;
       total = omega arith;
+      paid = λ n. c.add.ensures n ∙ ap (λ paid. paid + share c.args.row n) (c.self.invariant.paid n)
+          ∙ sym (paid-between (c.insert-place.result, c.args.row) c.self.inside.objects objects (between (c.insert-place.result, c.args.row) c.self.inside.objects objects c.insert-place.ensures.objects) n);
     }

@@ -3,6 +3,7 @@ use Rattle.mg_model.specs.Ranges.{IsObjectRow}
 use Rattle.mg_objects.specs.Held.{AreApart}
 use Rattle.std.proofs.Common.{◌≡◌, ℕ, List, arith, refl, subst, sym}
 use Rattle.mg_model.specs.State.{ObjectRow}
+use Rattle.mg_space.proofs.Paid.{paid-between, share-own}
 use Rattle.mg_space.proofs.Spans.{Between, between-without, can-give, given-now, sum-between}
 use Rattle.mg_space.proofs.space.Space.remove.Goals as goal
 
@@ -22,6 +23,14 @@ overflow_sub-self c =
     let pages : c.span_of-first.result.1 ≡ c.remove-gone.result.1.pages = rw c.span_of-first.ensures.span refl in
     omega arith
 
+pub subtract-requires : goal.subtract-requires
+subtract-requires c =
+    let payer = c.remove-gone.result.1.account in
+    let less = paid-between c.remove-gone.result c.remove-gone.new.self c.self.inside.objects (between c.args.base c.remove-gone.result c.self.inside.objects c.remove-gone.new.self c.len-count.ensures.apart c.len-count.ensures.rows c.remove-gone.ensures.gone c.remove-gone.ensures.objects) payer in
+    let own = share-own c.remove-gone.result.1 in
+    let total = c.self.invariant.paid payer in
+    omega arith
+
 pub invariant_of-self : goal.invariant_of-self
 invariant_of-self c =
     let less = sum-between c.remove-gone.result c.remove-gone.new.self c.self.inside.objects (between c.args.base c.remove-gone.result c.self.inside.objects c.remove-gone.new.self c.len-count.ensures.apart c.len-count.ensures.rows c.remove-gone.ensures.gone c.remove-gone.ensures.objects) in
@@ -30,4 +39,9 @@ invariant_of-self c =
     record {
       free = given-now c.remove-gone.result c.remove-gone.new.self c.self.inside.objects (between c.args.base c.remove-gone.result c.self.inside.objects c.remove-gone.new.self c.len-count.ensures.apart c.len-count.ensures.rows c.remove-gone.ensures.gone c.remove-gone.ensures.objects) c.span_of-first.result c.span_of-first.ensures.span c.self.inside.free c.give.new.self c.self.invariant.free c.give.ensures;
       total = omega arith;
+      paid = λ n.
+          let more = paid-between c.remove-gone.result c.remove-gone.new.self c.self.inside.objects (between c.args.base c.remove-gone.result c.self.inside.objects c.remove-gone.new.self c.len-count.ensures.apart c.len-count.ensures.rows c.remove-gone.ensures.gone c.remove-gone.ensures.objects) n in
+          let was = c.self.invariant.paid n in
+          let left = c.subtract.ensures n in
+          omega arith;
     }
