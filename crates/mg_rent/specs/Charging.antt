@@ -1,0 +1,17 @@
+-- One account that is charged, and what accounts owe.
+use Rattle.std.specs.Prelude.{◌≤◌, ℕ, All, List}
+use Rattle.std.specs.Option.{option_map_or}
+use Rattle.mg_model.specs.declared.accounts.AccRow.{AccRow}
+use Rattle.mg_model.specs.Bank.{account_of, charged, paid, with_account}
+
+-- the accounts after one of them was charged what is due
+abbrev pub charged_at : List AccRow → ℕ → ℕ → List AccRow
+charged_at accounts number due = option_map_or (λ (row : AccRow). with_account accounts number (charged row due)) (account_of accounts number) accounts
+
+-- what it paid
+abbrev pub paid_at : List AccRow → ℕ → ℕ → ℕ
+paid_at accounts number due = option_map_or (λ (row : AccRow). paid row due) (account_of accounts number) 0
+
+-- none owes more than this
+abbrev pub OweAtMost : ℕ → List AccRow → Type 0
+OweAtMost most accounts = All (λ (row : AccRow). row.owed ≤ most) accounts

@@ -1,0 +1,67 @@
+// What one account pays.
+ghost use Rattle.std.specs.Prelude.{◌≡◌, ◌≤◌, ◌<◌, ◌+◌, ◌^◌, is_some, true};
+ghost use Rattle.mg_bank.specs.Bank.{credits_of};
+ghost use Rattle.mg_model.specs.Bank.{account_of, charged, given_to, owed_by, paid};
+ghost use Rattle.mg_model.specs.Limits.{credit_limit};
+ghost use Rattle.mg_rent.specs.Charging.{charged_at, paid_at};
+
+use mg_bank::Bank;
+use mg_model::AccRow;
+
+// What an account pays of what is due and of what it owes already: all that it has, at most.
+fn paid(row: AccRow, due: u64) -> u64
+    requires { row.owed + due < 2 ^ 64 }
+    ensures { result ≡ paid row due }
+{
+    row.balance.min(row.owed + due)
+}
+
+// The account after that: what it could not pay it owes.
+fn charged(row: AccRow, due: u64) -> AccRow
+    requires { row.owed + due < 2 ^ 64 }
+    ensures { result ≡ charged row due }
+{
+    let pays = paid(row, due);
+    AccRow {
+        password: row.password,
+        balance: row.balance - pays,
+        owed: row.owed + due - pays,
+    }
+}
+
+/// Charges account n what is due, and gives what it pays. An account that is not there pays nothing.
+pub(crate) fn charge(b: &mut Bank, n: u64, due: u64) -> u64
+    requires { owed_by b.old n + due < 2 ^ 64 }
+    ensures accounts { b.new ≡ charged_at b.old n due }
+    ensures paid { result ≡ paid_at b.old n due }
+    ensures sum { credits_of b.new + result ≡ credits_of b.old }
+{
+    let _count = b.len();
+    match b.row(n) {
+        Some(row) => {
+            b.set(n, charged(row, due));
+            paid(row, due)
+        }
+        None => 0,
+    }
+}
+
+/// Gives account n an amount, with which all have at most `2^62` credits.
+pub(crate) fn give(b: &mut Bank, n: u64, amount: u64)
+    requires there { is_some (account_of b.old n) ≡ true }
+    requires fits { credits_of b.old + amount ≤ credit_limit }
+    ensures accounts { b.new ≡ given_to b.old n amount }
+    ensures sum { credits_of b.new ≡ credits_of b.old + amount }
+{
+    match b.row(n) {
+        Some(row) => {
+            let more = AccRow {
+                password: row.password,
+                balance: row.balance + amount,
+                owed: row.owed,
+            };
+            b.set(n, more);
+        }
+        None => {}
+    }
+}
