@@ -5,12 +5,17 @@ use Rattle.std.proofs.Common.{refl, sym, ap, subst, ◌∙◌}
 use Rattle.std.proofs.lemmas.Bool.{and_parts, eqb-true, ltb-false, ltb-true}
 use Rattle.std.proofs.lemmas.List.{get_or_past}
 use Rattle.std.proofs.lemmas.List.Elements.{All-map, All-replicate, All-set, All-weaker}
+use Rattle.mg_model.specs.declared.replies.Reply.{Reply}
+use Rattle.mg_model.specs.declared.replies.Reply.TheVariants.{No}
 use Rattle.mg_model.specs.declared.rights.Right.{Right}
 use Rattle.mg_model.specs.declared.rights.Right.TheVariants as right
 use Rattle.mg_model.specs.declared.seats.Seat.{Seat}
 use Rattle.mg_model.specs.Backed.{IsBacked, KeepsBacked, by_none}
 use Rattle.mg_model.specs.Keys.{Key, is_key, right_number, seat_of}
+use Rattle.mg_model.specs.Refused.{IsRefusal}
 use Rattle.mg_model.specs.State.{State}
+use Rattle.mg_model.specs.Warmth.{is_ok}
+use Rattle.mg_vcache.specs.Drops.{Drops}
 use Rattle.mg_vcache.specs.Seats.{AllBacked, EachKept, is_kept, key_in, unless_ended, without}
 
 -- what a drop leaves of one seat
@@ -93,3 +98,15 @@ kept_backed state seats key all kept = by_seat (slice_index_or seats (seat_of ke
               (subst (λ b. IsBacked state (record { thread = seat.thread; base = b; right = key.right; via = seat.via })) base
               (subst (λ r. IsBacked state (record { thread = seat.thread; base = seat.base; right = r; via = seat.via })) same backed)),
         )
+
+-- A call that drops seats, or none where it is refused: each seat that is left is backed, and one that is refused drops none.
+pub drops_backed : (ended : Seat → Bool) (state new : State) (seats seats' : List (Option Seat)) (reply : Reply) → KeepsBacked ended state new → Drops ended seats seats' reply → (IsRefusal reply → new ≡ state) → AllBacked state seats → AllBacked new seats'
+drops_backed ended state new seats seats' (No word) keeps drops same all = subst (λ s. AllBacked new s) (sym drops) (subst (λ s. AllBacked s seats) (sym (same tt)) all)
+drops_backed ended state new seats seats' other keeps drops same all = subst (λ s. AllBacked new s) (sym drops) (backed_without ended state new seats keeps all)
+
+pub same_backed : (state new : State) (seats seats' : List (Option Seat)) → KeepsBacked by_none state new → seats' ≡ seats → AllBacked state seats → AllBacked new seats'
+same_backed state new seats seats' keeps ends all = subst (λ s. AllBacked new s) (sym ends) (backed_still state new seats keeps all)
+
+pub drops_none : (ended : Seat → Bool) (old new : List (Option Seat)) (reply : Reply) → Drops ended old new reply → is_ok reply ≡ false → new ≡ old
+drops_none ended old new (No word) drops ok = drops
+drops_none ended old new other drops ok = cc
