@@ -12,9 +12,10 @@ use Rattle.mg_model.specs.Ranges.{IsThreadRow}
 use Rattle.mg_model.specs.State.{ThreadRow}
 use Rattle.mg_model.specs.Volume.{with_live}
 use Rattle.mg_objects.specs.Held.{live_from}
+use Rattle.mg_volume.proofs.ObjectLists.{distinct_map, placed_distinct}
 use Rattle.mg_volume.proofs.ThreadLists.{numbered_set}
 use Rattle.mg_volume.specs.Numbered.{AreByNumber, numbered, rows_with}
-use Rattle.mg_volume.specs.RowLists.{ArePlaced, placed_wider, row_at, row_before, row_set}
+use Rattle.mg_volume.specs.RowLists.{ArePlaced, DistinctBy, placed_wider, row_at, row_before, row_set}
 
 -- the rows that are there, in the order of their places
 pub live-placed : {R : Type 0} (i : ℕ) (rows : List (Option R)) → ArePlaced i (i + length rows) (live_from i rows)
@@ -154,6 +155,11 @@ live-ranges i (Some row ∷ rows) all =
 
 pub ranges_are : (rows : List (Option ThreadRow)) → AreByNumber rows → All (λ (t : ℕ × ThreadRow). IsThreadRow t.1) (numbered (live_from 0 rows))
 ranges_are rows held = live-ranges 0 rows held.ranges
+
+-- no two have one number
+pub apart_are : (rows : List (Option ThreadRow)) → DistinctBy (λ (t : ℕ × ThreadRow). t.0) (numbered (live_from 0 rows))
+apart_are rows =
+    distinct_map (λ (t : ℕ × ThreadRow). (t.0 + 1, t.1)) (λ (t : ℕ × ThreadRow). t.0) (λ (t : ℕ × ThreadRow). t.0) (λ x y same. omega arith) (live_from 0 rows) (placed_distinct 0 (0 + length rows) (live_from 0 rows) (live-placed 0 rows))
 
 -- rows that come in the order of their places
 set-behind : {R : Type 0} (p : ℕ) (row : R) (xs : List (ℕ × R)) → All (λ (x : ℕ × R). x.0 < p) xs → row_set p (Some row) xs ≡ xs ++ (p, row) ∷ []

@@ -9,7 +9,7 @@ use Rattle.mg_volume.specs.Meaning.{objects_in, threads_in}
 abbrev pub as_thread : ℕ × ThreadRow → Thread
 as_thread t = record { number = t.0; row = t.1 }
 
-find-mapped : {X Y : Type 0} (f : X → Y) (q : Y → Bool) (xs : List X) → find q (map f xs) ≡ option_map f (find (λ x. q (f x)) xs)
+pub find-mapped : {X Y : Type 0} (f : X → Y) (q : Y → Bool) (xs : List X) → find q (map f xs) ≡ option_map f (find (λ x. q (f x)) xs)
 find-mapped f q [] = refl
 find-mapped f q (x ∷ xs) =
     ⊎_elim

@@ -14,7 +14,7 @@ use Rattle.mg_model.specs.Volume.{bound_pages}
 use Rattle.mg_pages.specs.Meaning as pages
 use Rattle.mg_volume.specs.Sound.{all-same}
 use Rattle.mg_volume.specs.Held.{VolumeHeld}
-use Rattle.mg_volume.specs.Meaning.{IsHeld, has_page, is_page_in, objects_in, rows_apart}
+use Rattle.mg_volume.specs.Meaning.{IsKept, has_page, is_page_in, objects_in, rows_apart}
 
 -- what a search gives stands at an index, and passes
 pub found_index : {X : Type 0} (p : X → Bool) (xs : List X) (x : X) → find p xs ≡ Some x → (i : ℕ) × (i < length xs) × ((d : X) → get_or xs i d ≡ x) × (p x ≡ true)
@@ -56,22 +56,21 @@ apart-set (o ∷ next ∷ os) (suc zero) d new few base same =
 apart-set (o ∷ next ∷ os) (suc (suc i)) d new few base same =
     ap (λ b. nat_le (page_behind o.1) (page_of next.1) && b) (apart-set (next ∷ os) (suc i) d new (omega arith) base same)
 
-pub held_change : (v : VolumeHeld) (i : ℕ) (d : ℕ × ObjectRow) (p : ℕ) (row : ObjectRow) (accounts : ℕ) → IsHeld v accounts → IsObjectRow row → i < length v.objects → p < object_rows → row.base ≡ (get_or v.objects i d).1.base
-    → (get_or v.objects i d).1.pages ≡ row.pages → IsHeld (record v { objects = set v.objects i (p, row) }) accounts
+pub held_change : (v : VolumeHeld) (i : ℕ) (d : ℕ × ObjectRow) (p : ℕ) (row : ObjectRow) → IsKept v → IsObjectRow row → i < length v.objects → p < object_rows → row.base ≡ (get_or v.objects i d).1.base
+    → (get_or v.objects i d).1.pages ≡ row.pages → IsKept (record v { objects = set v.objects i (p, row) })
 unfolding objects_in
-held_change v i d p row accounts held is few low base same = record {
-  kept = record {
-    frames = held.kept.frames;
-    rows = All-set (λ (o : ℕ × ObjectRow). IsObjectRow o.1) v.objects i (p, row) is held.kept.rows;
-    places = All-set (λ (o : ℕ × ObjectRow). o.0 < object_rows) v.objects i (p, row) low held.kept.places;
-    apart = apart-set v.objects i d (p, row) few base (sym same) ∙ held.kept.apart;
-    used = (let sum = sum_by-set (λ (o : ℕ × ObjectRow). o.1.pages) v.objects i (p, row) d few in let used = held.kept.used in omega arith);
-    few_objects = (let long = length-set v.objects i (p, row) in let most = held.kept.few_objects in omega arith);
-    few_accounts = held.kept.few_accounts;
-    few_threads = held.kept.few_threads;
-    inside = all-same (λ page. has_page (record v { objects = set v.objects i (p, row) }) page) (λ page. has_page v page) (λ page. any-set (λ row. is_page_in page row) v.objects i d (p, row) few (covered page)) (bound_pages (pages.table_in v.pages)) ∙ held.kept.inside;
-  };
-  room_accounts = held.room_accounts;
+held_change v i d p row held is few low base same = record {
+  frames = held.frames;
+  rows = All-set (λ (o : ℕ × ObjectRow). IsObjectRow o.1) v.objects i (p, row) is held.rows;
+  places = All-set (λ (o : ℕ × ObjectRow). o.0 < object_rows) v.objects i (p, row) low held.places;
+  apart = apart-set v.objects i d (p, row) few base (sym same) ∙ held.apart;
+  used = (let sum = sum_by-set (λ (o : ℕ × ObjectRow). o.1.pages) v.objects i (p, row) d few in let used = held.used in omega arith);
+  few_objects = (let long = length-set v.objects i (p, row) in let most = held.few_objects in omega arith);
+  some_accounts = held.some_accounts;
+  few_accounts = held.few_accounts;
+  few_threads = held.few_threads;
+  inside = all-same (λ page. has_page (record v { objects = set v.objects i (p, row) }) page) (λ page. has_page v page) (λ page. any-set (λ row. is_page_in page row) v.objects i d (p, row) few (covered page)) (bound_pages (pages.table_in v.pages)) ∙ held.inside;
+  debts = held.debts;
 }
   where
     covered : (page : ℕ) → is_page_in page row ≡ is_page_in page (get_or v.objects i d).1

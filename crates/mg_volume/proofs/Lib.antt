@@ -1,8 +1,11 @@
+pub mod AccountLists
+pub mod AccountsStaged
 mod Again
 pub mod BareRows
 pub mod BlockParts
 pub mod ByNumber
 pub mod ChangedBy
+pub mod Collected
 pub mod CommitChange
 pub mod Drawn
 pub mod Found
@@ -29,6 +32,9 @@ mod Staged
 pub mod Stages
 pub mod StillStaged
 pub mod StillWaiting
+pub mod ThreadChanged
 pub mod ThreadLists
-pub mod ThreadStaged
+pub mod ThreadSearch
+mod ThreadStaged
+mod ThreadsFound
 mod RowTotals

@@ -22,7 +22,7 @@ use Rattle.mg_volume.proofs.ObjectStaged.{bases_distinct, change_now, change_sta
 use Rattle.mg_volume.proofs.PagesChange.{held_same}
 use Rattle.mg_volume.proofs.StillStaged.{base_found, objects_still, place_found, with_base}
 use Rattle.mg_volume.specs.Held.{VolumeHeld}
-use Rattle.mg_volume.specs.Meaning.{IsHeld, IsKept, IsSpelledBy, bare_rows, now_of, objects_in}
+use Rattle.mg_volume.specs.Meaning.{IsKept, IsSpelledBy, bare_rows, now_of, objects_in}
 use Rattle.mg_volume.specs.RowLists.{DistinctBy}
 use Rattle.mg_volume.specs.StagesRows.{StagesRows}
 use Rattle.mg_volume.specs.Staging.{MayChange, ObjectsStillStaged, free_place, has_base, is_object_staged, place_for, with_other_row}
@@ -119,10 +119,10 @@ module _ (v : VolumeHeld) (i : ℕ) (d : ℕ × ObjectRow) (row : ObjectRow) (ke
       (λ base' was is. place-set base' v.objects i d (d.0, row) few (ap (λ (o : ℕ × ObjectRow). o.0) there) at was)
 
   -- the volume with it is held
-  pub changed_held : (p : PagesHeld) (accounts : ℕ) → IsHeld v accounts → IsObjectRow row → pages.frame_count p ≡ pages.frame_count v.pages → pages.table_in p ≡ pages.table_in v.pages
-      → IsHeld (with_objects v (set v.objects i (d.0, row)) p) accounts
-  changed_held p accounts held is frames table =
-      held_same (record v { objects = set v.objects i (d.0, row) }) p accounts (held_change v i d d.0 row accounts held is few changed_low at same) frames table
+  pub changed_held : (p : PagesHeld) → IsObjectRow row → pages.frame_count p ≡ pages.frame_count v.pages → pages.table_in p ≡ pages.table_in v.pages
+      → IsKept (with_objects v (set v.objects i (d.0, row)) p)
+  changed_held p is frames table =
+      held_same (record v { objects = set v.objects i (d.0, row) }) p (held_change v i d d.0 row kept is few changed_low at same) frames table
 
 -- the row is put into a place, where the one with its base stands
 pub record IsPut (v : VolumeHeld) (row : ObjectRow) (place : ℕ) : Type 0 where
@@ -214,10 +214,10 @@ module _ (v : VolumeHeld) (row : ObjectRow) (place : ℕ) (kept : IsKept v) (put
         let P : List (ℕ × ObjectRow) → Type 0 = λ l. ObjectsStillStaged v (with_objects v l p) in
         subst P (sym is) (changed_still v put.index put.old row kept put.stands p most more)
 
-    pub put_held : (accounts : ℕ) → IsHeld v accounts → IsObjectRow row → pages.frame_count p ≡ pages.frame_count v.pages → pages.table_in p ≡ pages.table_in v.pages → IsHeld (with_objects v objects p) accounts
-    put_held accounts held good frames table =
-        let P : List (ℕ × ObjectRow) → Type 0 = λ l. IsHeld (with_objects v l p) accounts in
-        subst P (sym is) (changed_held v put.index put.old row kept put.stands p accounts held good frames table)
+    pub put_held : IsObjectRow row → pages.frame_count p ≡ pages.frame_count v.pages → pages.table_in p ≡ pages.table_in v.pages → IsKept (with_objects v objects p)
+    put_held good frames table =
+        let P : List (ℕ × ObjectRow) → Type 0 = λ l. IsKept (with_objects v l p) in
+        subst P (sym is) (changed_held v put.index put.old row kept put.stands p good frames table)
 
     pub put_spelled : (image : Image) → IsSpelledBy v image → pages.IsSpelledBy p image → pages.frame_count p ≡ pages.frame_count v.pages → StagesRows objects place v.pages p → IsSpelledBy (with_objects v objects p) image
     put_spelled image was fitting frames staged =

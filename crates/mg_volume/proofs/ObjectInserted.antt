@@ -26,7 +26,7 @@ use Rattle.mg_volume.proofs.RowsApart.{apart_with, base_apart, kept_rows, no_bas
 use Rattle.mg_volume.proofs.StillStaged.{objects_still, place_found, place_new, place_same, with_base}
 use Rattle.mg_volume.specs.Held.{VolumeHeld}
 use Rattle.mg_objects.specs.Held.{IsLowestFree, MeetsNone, by_base, into_place}
-use Rattle.mg_volume.specs.Meaning.{IsHeld, IsKept, IsSpelledBy, Spelled, bare_rows, has_page, is_page_in, now_of, objects_in, rows_apart, settings_in, threads_in}
+use Rattle.mg_volume.specs.Meaning.{IsKept, IsSpelledBy, Spelled, bare_rows, has_page, is_page_in, now_of, objects_in, rows_apart, settings_in, threads_in}
 use Rattle.mg_volume.specs.Staging.{MayJoin, ObjectsStillStaged, blank, free_place, has_base, is_apart_from, is_object_staged, place_for, with_new_row}
 use Rattle.mg_volume.specs.RowLists.{row_at, row_set, set_other, set_placed}
 use Rattle.mg_volume.specs.Sound.{all_spelled, object-placed}
@@ -120,30 +120,29 @@ module _ (v : VolumeHeld) (row : ObjectRow) (place : ℕ) (is : IsObjectRow row)
     inserted_rows = ap bare_rows put ∙ into_rows (place, row) v.objects
 
     -- the volume with it is held
-    pub inserted_held : (accounts : ℕ) → IsHeld v accounts → pages.frame_count p ≡ pages.frame_count v.pages → pages.table_in p ≡ pages.table_in v.pages → IsHeld (with_objects v objects p) accounts
+    pub inserted_held : pages.frame_count p ≡ pages.frame_count v.pages → pages.table_in p ≡ pages.table_in v.pages → IsKept (with_objects v objects p)
     unfolding objects_in settings_in
-    inserted_held accounts held frames table = record {
-      kept = record {
-        frames = frames ∙ kept.frames;
-        rows = subst (All (λ (o : ℕ × ObjectRow). IsObjectRow o.1)) (sym put) (into-all (λ (o : ℕ × ObjectRow). IsObjectRow o.1) (place, row) v.objects is kept.rows);
-        places = subst (All (λ (o : ℕ × ObjectRow). o.0 < object_rows)) (sym put) (into-all (λ (o : ℕ × ObjectRow). o.0 < object_rows) (place, row) v.objects inserted_low kept.places);
-        apart = ap (λ l. rows_apart (bare_rows l)) put ∙ ap rows_apart (into_rows (place, row) v.objects) ∙ apart_with row is (objects_in v) (kept_rows v kept) join.apart kept.apart;
-        used =
-            (let s = ap (λ l. sum_by (λ (o : ℕ × ObjectRow). o.1.pages) l) put ∙ into_sum (λ (o : ℕ × ObjectRow). o.1.pages) (place, row) v.objects in
-            let b = sum_bare (λ (row : ObjectRow). row.pages) v.objects in
-            let fit = join.fit in
-            omega arith);
-        few_objects = (let long = ap (λ (l : List (ℕ × ObjectRow)). length l) put ∙ into_length (place, row) v.objects in let f = join_few v row join in omega arith);
-        few_accounts = kept.few_accounts;
-        few_threads = kept.few_threads;
-        inside =
-            ap (λ table. list_all (λ page. list_any (λ row. is_page_in page row) (bare_rows objects)) (bound_pages table)) table
-            ∙ all-bound (λ page. list_any (λ row. is_page_in page row) (bare_rows objects)) (pages.table_in v.pages)
-            (λ page some bound.
-            ap (λ l. list_any (λ row. is_page_in page row) (bare_rows l)) put
-            ∙ into_any (λ row. is_page_in page row) (place, row) v.objects (each-bound (λ page. has_page v page) page (pages.table_in v.pages) kept.inside some bound));
-      };
-      room_accounts = held.room_accounts;
+    inserted_held frames table = record {
+      frames = frames ∙ kept.frames;
+      rows = subst (All (λ (o : ℕ × ObjectRow). IsObjectRow o.1)) (sym put) (into-all (λ (o : ℕ × ObjectRow). IsObjectRow o.1) (place, row) v.objects is kept.rows);
+      places = subst (All (λ (o : ℕ × ObjectRow). o.0 < object_rows)) (sym put) (into-all (λ (o : ℕ × ObjectRow). o.0 < object_rows) (place, row) v.objects inserted_low kept.places);
+      apart = ap (λ l. rows_apart (bare_rows l)) put ∙ ap rows_apart (into_rows (place, row) v.objects) ∙ apart_with row is (objects_in v) (kept_rows v kept) join.apart kept.apart;
+      used =
+          (let s = ap (λ l. sum_by (λ (o : ℕ × ObjectRow). o.1.pages) l) put ∙ into_sum (λ (o : ℕ × ObjectRow). o.1.pages) (place, row) v.objects in
+          let b = sum_bare (λ (row : ObjectRow). row.pages) v.objects in
+          let fit = join.fit in
+          omega arith);
+      few_objects = (let long = ap (λ (l : List (ℕ × ObjectRow)). length l) put ∙ into_length (place, row) v.objects in let f = join_few v row join in omega arith);
+      some_accounts = kept.some_accounts;
+      few_accounts = kept.few_accounts;
+      few_threads = kept.few_threads;
+      inside =
+          ap (λ table. list_all (λ page. list_any (λ row. is_page_in page row) (bare_rows objects)) (bound_pages table)) table
+          ∙ all-bound (λ page. list_any (λ row. is_page_in page row) (bare_rows objects)) (pages.table_in v.pages)
+          (λ page some bound.
+          ap (λ l. list_any (λ row. is_page_in page row) (bare_rows l)) put
+          ∙ into_any (λ row. is_page_in page row) (place, row) v.objects (each-bound (λ page. has_page v page) page (pages.table_in v.pages) kept.inside some bound));
+      debts = kept.debts;
     }
 
     -- and spelled

@@ -2,13 +2,14 @@
 use Rattle.std.specs.Prelude.{◌≡◌, ◌≢◌, ◌+◌, ◌<◌, ◌==◌, nat_lt, ℕ, zero, suc, Bool, All, List, [], ◌∷◌, if◌then◌else◌, length, map, Some, None}
 use Rattle.std.proofs.Common.{refl, sym, ap, subst, get_or, set, ◌∙◌, ⊎_elim, arith}
 use Rattle.std.proofs.lemmas.Bool.{cases_Bool, cases_eq, cases_lt, eq-eqb, le-ltb, ne_eqb}
-use Rattle.std.proofs.lemmas.List.Elements.{All-cons, All-get_or, All-head, All-nil, All-tail, All-weaker}
+use Rattle.std.proofs.lemmas.List.Elements.{All-cons, All-get_or, All-head, All-map, All-nil, All-tail, All-weaker}
 use Rattle.mg_model.specs.State.{ObjectRow}
 use Rattle.mg_model.specs.Volume.{with_live}
 use Rattle.mg_objects.specs.Held.{by_base, into_place}
 use Rattle.mg_volume.specs.RowLists.{ArePlaced, DistinctBy, row_at, row_before, row_set}
 
-change-none : {X : Type 0} (key : X → ℕ) (h : X → X) (k : ℕ) (xs : List X) → All (λ y. key y ≢ k) xs → map (λ y. if key y == k then h y else y) xs ≡ xs
+-- a change of one that is not there
+pub change-none : {X : Type 0} (key : X → ℕ) (h : X → X) (k : ℕ) (xs : List X) → All (λ y. key y ≢ k) xs → map (λ y. if key y == k then h y else y) xs ≡ xs
 change-none key h k [] absent = refl
 change-none key h k (x ∷ xs) absent =
     ap (λ b. (if b then h x else x) ∷ map (λ y. if key y == k then h y else y) xs) (ne_eqb (key x) k (All-head (λ y. key y ≢ k) x xs absent))
@@ -37,6 +38,14 @@ placed-none {R} low high j ((i, r) ∷ rows) placed before =
 pub placed_distinct : {R : Type 0} (low high : ℕ) (rows : List (ℕ × R)) → ArePlaced low high rows → DistinctBy (λ (y : ℕ × R). y.0) rows
 placed_distinct low high [] placed = tt
 placed_distinct low high ((i, r) ∷ rows) placed = (placed-none (i + 1) high i rows placed.2 (omega arith), placed_distinct (i + 1) high rows placed.2)
+
+-- what differs by a key differs by one that tells it
+pub distinct_map : {X Y : Type 0} (f : X → Y) (key : X → ℕ) (key' : Y → ℕ) → ((x y : X) → key' (f y) ≡ key' (f x) → key y ≡ key x) → (xs : List X) → DistinctBy key xs → DistinctBy key' (map f xs)
+distinct_map f key key' tells [] distinct = tt
+distinct_map f key key' tells (x ∷ xs) distinct = (
+  All-map (λ z. key' z ≢ key' (f x)) f xs (All-weaker (λ y. key y ≢ key x) (λ y. key' (f y) ≢ key' (f x)) (λ y differs same. differs (tells x y same)) xs distinct.0),
+  distinct_map f key key' tells xs distinct.1,
+)
 
 -- in the order of the bases
 pub into-all : (P : ℕ × ObjectRow → Type 0) (o : ℕ × ObjectRow) (os : List (ℕ × ObjectRow)) → P o → All P os → All P (into_place o os)

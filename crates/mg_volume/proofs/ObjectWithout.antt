@@ -23,7 +23,7 @@ use Rattle.mg_volume.proofs.RemovedOrder.{filter_order, row_set_none}
 use Rattle.mg_volume.proofs.Again.{spelled_same}
 use Rattle.mg_volume.specs.Held.{VolumeHeld}
 use Rattle.mg_objects.specs.Held.{by_base}
-use Rattle.mg_volume.specs.Meaning.{IsHeld, IsKept, IsSpelledBy, Spelled, has_page, is_page_in, now_of, objects_in, threads_in}
+use Rattle.mg_volume.specs.Meaning.{IsKept, IsSpelledBy, Spelled, has_page, is_page_in, now_of, objects_in, threads_in}
 use Rattle.mg_volume.proofs.StillStaged.{objects_still}
 use Rattle.mg_volume.specs.Staging.{ObjectsStillStaged, free_place, has_base, place_for, without_row}
 use Rattle.mg_volume.specs.PageWords.{pages-same}
@@ -149,29 +149,25 @@ module _ (v : VolumeHeld) (i : ℕ) (gone : ℕ × ObjectRow) (os : List (ℕ ×
   stays o = not (o.1.base == gone.1.base)
 
   -- it is kept as before
-  pub held_without : (middle p : PagesHeld) (accounts : ℕ) → IsHeld v accounts → pages.frame_count p ≡ pages.frame_count v.pages → pages.table_in middle ≡ pages.table_in v.pages
-      → pages.Unbinds (page_of gone.1) gone.1.pages middle p → IsHeld (with_objects v os p) accounts
+  pub held_without : (middle p : PagesHeld) → IsKept v → pages.frame_count p ≡ pages.frame_count v.pages → pages.table_in middle ≡ pages.table_in v.pages
+      → pages.Unbinds (page_of gone.1) gone.1.pages middle p → IsKept (with_objects v os p)
   unfolding objects_in stays
-  held_without middle p accounts held frames table unbinds =
-      subst (λ (l : List (ℕ × ObjectRow)). IsHeld (with_objects v l p) accounts) (sym g.rest)
+  held_without middle p kept frames table unbinds =
+      subst (λ (l : List (ℕ × ObjectRow)). IsKept (with_objects v l p)) (sym g.rest)
       (record {
-        kept = record {
-          frames = frames ∙ kept.frames;
-          rows = All-filter stays (λ (o : ℕ × ObjectRow). IsObjectRow o.1) v.objects kept.rows;
-          places = All-filter stays (λ (o : ℕ × ObjectRow). o.0 < object_rows) v.objects kept.places;
-          apart = pairs_apart (without gone.1.base v.objects) (AllPairs-filter LiesBefore stays v.objects (apart_pairs v.objects kept.apart));
-          used = (let sum = sum_by-filter-le stays (λ (o : ℕ × ObjectRow). o.1.pages) v.objects in let used = kept.used in omega arith);
-          few_objects = (let few = length-filter-le stays v.objects in let most = kept.few_objects in omega arith);
-          few_accounts = kept.few_accounts;
-          few_threads = kept.few_threads;
-          inside = all-bound (λ page. has_page (with_objects v (without gone.1.base v.objects) p) page) (pages.table_in p) has;
-        };
-        room_accounts = held.room_accounts;
+        frames = frames ∙ kept.frames;
+        rows = All-filter stays (λ (o : ℕ × ObjectRow). IsObjectRow o.1) v.objects kept.rows;
+        places = All-filter stays (λ (o : ℕ × ObjectRow). o.0 < object_rows) v.objects kept.places;
+        apart = pairs_apart (without gone.1.base v.objects) (AllPairs-filter LiesBefore stays v.objects (apart_pairs v.objects kept.apart));
+        used = (let sum = sum_by-filter-le stays (λ (o : ℕ × ObjectRow). o.1.pages) v.objects in let used = kept.used in omega arith);
+        few_objects = (let few = length-filter-le stays v.objects in let most = kept.few_objects in omega arith);
+        some_accounts = kept.some_accounts;
+        few_accounts = kept.few_accounts;
+        few_threads = kept.few_threads;
+        inside = all-bound (λ page. has_page (with_objects v (without gone.1.base v.objects) p) page) (pages.table_in p) has;
+        debts = kept.debts;
       })
     where
-      kept : IsKept v
-      kept = held.kept
-
       has : (page : ℕ) → page ≢ 0 → list_any (λ entry. entry == page) (pages.table_in p) ≡ true → has_page (with_objects v (without gone.1.base v.objects) p) page ≡ true
       has page some bound =
           let was : pages.is_bound v.pages page ≡ true = ap (λ t. list_any (λ entry. entry == page) t) (sym table) ∙ unbinds.outside page some bound in

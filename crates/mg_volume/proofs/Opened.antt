@@ -1,9 +1,9 @@
 -- A volume is opened from the rows that were read of it.
-use Rattle.std.specs.Prelude.{◌≡◌, ◌≤◌, ◌<◌, ℕ, ◌&&◌, nat_le, true, List, [], ◌∷◌, length, map, sum_by, drop, IsSomeAnd, Option, Some, None}
+use Rattle.std.specs.Prelude.{◌≡◌, ◌≤◌, ◌<◌, ℕ, ◌&&◌, ◌==◌, nat_le, true, All, List, [], ◌∷◌, length, map, sum_by, drop, IsSomeAnd, Option, Some, None}
 use Rattle.std.specs.List.{list_all, list_any}
 use Rattle.std.specs.Option.{ForSome, option_map_or}
 use Rattle.std.proofs.Common.{refl, sym, ap, subst, ◌∙◌, arith}
-use Rattle.std.proofs.lemmas.Bool.{and_from, and_parts, leb-true}
+use Rattle.std.proofs.lemmas.Bool.{and_from, and_parts, eqb-true, leb-true}
 use Rattle.mg_check.specs.RowsRead.{AreKept, IsReadAs, rows_in, state_in}
 use Rattle.mg_check.specs.declared.volume_rows.VolumeRows.{VolumeRows}
 use Rattle.mg_disk.specs.Disk.{Image}
@@ -17,11 +17,13 @@ use Rattle.mg_journal.specs.declared.store.Store.{Store}
 use Rattle.mg_model.specs.declared.accounts.AccRow.{AccRow}
 use Rattle.mg_model.specs.Bytes.{are_zeros}
 use Rattle.mg_model.specs.Layout.{account_rows, globals_block, object_rows, thread_rows, total_blocks}
+use Rattle.mg_model.specs.Limits.{debt_limit}
 use Rattle.mg_model.specs.Ranges.{IsObjectRow}
 use Rattle.mg_model.specs.Replay.{block_of, replay}
 use Rattle.mg_model.specs.Spelling.{account_read, globals_read, object_read, thread_read}
 use Rattle.mg_model.specs.State.{Object, ObjectRow, State, ThreadRow}
 use Rattle.mg_model.specs.Tests.{all_distinct}
+use Rattle.mg_model.specs.TestsTell.{list_all-tells}
 use Rattle.mg_model.specs.Volume.{Rows, account_row_bytes, accounts_fit, bound_pages, has_no_gap, is_page_of, live_rows, object_row_bytes, objects_fit, replayed_volume, state_fits, table_of, thread_row_bytes, threads_fit, volume, whole_table}
 use Rattle.mg_objects.specs.Held.{AreApart, by_base}
 use Rattle.mg_pages.specs.Held.{PagesHeld}
@@ -35,7 +37,7 @@ use Rattle.mg_volume.proofs.OpenRuns.{Still}
 use Rattle.mg_volume.proofs.Reread.{IsThere, replays, row_parts, there}
 use Rattle.mg_volume.specs.Contents.{volume_of_replay}
 use Rattle.mg_volume.specs.Held.{VolumeHeld}
-use Rattle.mg_volume.specs.Meaning.{IsHeld, IsSpelledBy, Spelled, StandsOn, has_page, is_live, is_sound, now_of, objects_in, rows_apart, staged_of, threads_in, total_of}
+use Rattle.mg_volume.specs.Meaning.{IsKept, IsSpelledBy, Spelled, StandsOn, has_page, is_live, is_sound, now_of, objects_in, rows_apart, staged_of, threads_in, total_of}
 use Rattle.mg_volume.specs.Numbered.{numbered}
 use Rattle.mg_volume.specs.Opening.{Opens}
 use Rattle.mg_volume.specs.Sound.{accounts-placed, all-same, all_spelled, coming_kept, in-object, objects-fit, objects-placed, rows-spelled, rows_fit, threads-numbered}
@@ -73,6 +75,24 @@ are-fit rows state fit =
     let fourth = and_parts g a third.0 in
     let last = and_parts i d first.1 in
     record { accounts = fourth.1; objects = third.1; threads = second.1; inside = last.0; distinct = last.1 }
+
+-- the rules that accounts keep, of each row and of all
+accounts-rules : (credits period : ℕ) (accounts : List AccRow) → accounts_fit credits period accounts ≡ true
+    → (sum_by (λ (row : AccRow). row.balance) accounts ≡ credits) × All (λ (row : AccRow). row.owed ≤ debt_limit period) accounts
+accounts-rules credits period accounts fit =
+    let some = nat_le 1 (length accounts) in
+    let sum = sum_by (λ (row : AccRow). row.balance) accounts == credits in
+    let parts = and_parts (some && sum) (list_all (λ (row : AccRow). nat_le row.owed (debt_limit period)) accounts) fit in (
+      eqb-true (sum_by (λ (row : AccRow). row.balance) accounts) credits (and_parts some sum parts.0).1,
+      list_all-tells (λ (row : AccRow). nat_le row.owed (debt_limit period)) (λ (row : AccRow). row.owed ≤ debt_limit period) (λ row is. leb-true row.owed (debt_limit period) is) accounts parts.1,
+    )
+
+-- there is a treasury
+accounts-some : (credits period : ℕ) (accounts : List AccRow) → accounts_fit credits period accounts ≡ true → 1 ≤ length accounts
+accounts-some credits period accounts fit =
+    let some = nat_le 1 (length accounts) in
+    let sum = sum_by (λ (row : AccRow). row.balance) accounts == credits in
+    leb-true 1 (length accounts) (and_parts some sum (and_parts (some && sum) (list_all (λ (row : AccRow). nat_le row.owed (debt_limit period)) accounts) fit).0).0
 
 by-base-length : (rows : List (ℕ × ObjectRow)) → length (by_base rows) ≡ length rows
 by-base-length [] = refl
@@ -119,6 +139,20 @@ module _ (rows : VolumeRows) (kept : AreKept rows) where
       let most = leb-true (sum_by (λ (row : ObjectRow). row.pages) bare) rows.params.frames (and_parts (rows_apart bare && paid) few fit-rows).1 in
       omega arith
 
+  -- what the accounts have together, and that none owes more than it may
+  accounts-are : (sum_by (λ (row : AccRow). row.balance) rows.accounts.items ≡ rows.params.credits) × All (λ (row : AccRow). row.owed ≤ debt_limit rows.globals.period) rows.accounts.items
+  accounts-are =
+      accounts-rules rows.params.credits rows.globals.period rows.accounts.items
+      (ap (accounts_fit rows.params.credits rows.globals.period) (sym (accounts-placed 0 rows.accounts.items)) ∙ (fits []).accounts)
+
+  accounts-there : 1 ≤ length rows.accounts.items
+  accounts-there =
+      accounts-some rows.params.credits rows.globals.period rows.accounts.items
+      (ap (accounts_fit rows.params.credits rows.globals.period) (sym (accounts-placed 0 rows.accounts.items)) ∙ (fits []).accounts)
+
+  pub credits_is : sum_by (λ (row : AccRow). row.balance) rows.accounts.items ≡ rows.params.credits
+  credits_is = accounts-are.0
+
   pub apart_is : AreApart (by_base rows.objects.items)
   apart_is = apart_pairs (by_base rows.objects.items) apart-rows
 
@@ -150,21 +184,20 @@ module _ (rows : VolumeRows) (kept : AreKept rows) where
         ap is_sound (sym (state_is image)) ∙ and_from (a && o) t (and_from a o fit.accounts fit.objects) fit.threads
 
     -- the value keeps what each value does
-    pub held_is : (accounts : ℕ) → account_rows ≤ accounts → IsHeld (holding rows p) accounts
+    pub held_is : IsKept (holding rows p)
     unfolding objects_in
-    held_is accounts room = record {
-      kept = record {
-        frames = same_frames;
-        rows = by_base_all (λ (o : ℕ × ObjectRow). IsObjectRow o.1) rows.objects.items kept.held.ranges;
-        places = by_base_all (λ (o : ℕ × ObjectRow). o.0 < object_rows) rows.objects.items kept.held.objects.below;
-        apart = apart-rows;
-        used = used-rows;
-        few_objects = (let few = kept.held.objects.few in let same = by-base-length rows.objects.items in omega arith);
-        few_accounts = kept.held.few_accounts;
-        few_threads = few-threads;
-        inside = inside;
-      };
-      room_accounts = room;
+    held_is = record {
+      frames = same_frames;
+      rows = by_base_all (λ (o : ℕ × ObjectRow). IsObjectRow o.1) rows.objects.items kept.held.ranges;
+      places = by_base_all (λ (o : ℕ × ObjectRow). o.0 < object_rows) rows.objects.items kept.held.objects.below;
+      apart = apart-rows;
+      used = used-rows;
+      few_objects = (let few = kept.held.objects.few in let same = by-base-length rows.objects.items in omega arith);
+      some_accounts = accounts-there;
+      few_accounts = kept.held.few_accounts;
+      few_threads = few-threads;
+      inside = inside;
+      debts = accounts-are.1;
     }
       where
         few-threads : length (numbered rows.threads.items) ≤ thread_rows
@@ -282,10 +315,12 @@ module _ (rows : VolumeRows) {D : Type 0} (facts : Ghosts D) (total : ℕ) (same
   undamaged missing image told = replays rows image (read image told) (ap (replay image) (sym same) ∙ missing image told)
 
 -- the volume with the lists that were made of the rows
-pub made_is : (rows : VolumeRows) (p : PagesHeld) (objects : List (ℕ × ObjectRow)) (threads : List (ℕ × ThreadRow)) → objects ≡ by_base rows.objects.items → threads ≡ numbered rows.threads.items
-    → ◌≡◌ {A = VolumeHeld} (record { settings = rows.params; counters = rows.globals; objects = objects; accounts = rows.accounts.items; threads = threads; pages = p }) (holding rows p)
-made_is rows p objects threads are_objects are_threads =
-    ap (λ os. record (holding rows p) { objects = os; threads = threads }) are_objects ∙ ap (λ ts. record (holding rows p) { threads = ts }) are_threads
+pub made_is : (rows : VolumeRows) (p : PagesHeld) (objects : List (ℕ × ObjectRow)) (accounts : List AccRow) (threads : List (ℕ × ThreadRow)) → objects ≡ by_base rows.objects.items → accounts ≡ rows.accounts.items → threads ≡ numbered rows.threads.items
+    → ◌≡◌ {A = VolumeHeld} (record { settings = rows.params; counters = rows.globals; objects = objects; accounts = accounts; threads = threads; pages = p }) (holding rows p)
+made_is rows p objects accounts threads are_objects are_accounts are_threads =
+    ap (λ os. record (holding rows p) { objects = os; accounts = accounts; threads = threads }) are_objects
+    ∙ ap (λ rs. record (holding rows p) { accounts = rs; threads = threads }) are_accounts
+    ∙ ap (λ ts. record (holding rows p) { threads = ts }) are_threads
 
 pub staged_none : (rows : VolumeRows) (p : PagesHeld) → pages.staged_of p ≡ 0 → staged_of (holding rows p) ≡ 0
 unfolding staged_of

@@ -18,7 +18,7 @@ use Rattle.mg_pages.specs.Meaning as pages
 use Rattle.mg_volume.proofs.FreeFrame.{free_frame}
 use Rattle.mg_volume.proofs.Again.{with_pages}
 use Rattle.mg_volume.specs.Held.{VolumeHeld}
-use Rattle.mg_volume.specs.Meaning.{IsHeld, IsKept, Keeps, SameParts, accounts_in, counters_in, has_page, is_live, is_page_in, is_sound, now_of, objects_in, settings_in, staged_of, threads_in, total_of}
+use Rattle.mg_volume.specs.Meaning.{IsKept, Keeps, SameParts, accounts_in, counters_in, has_page, is_live, is_page_in, is_sound, now_of, objects_in, settings_in, staged_of, threads_in, total_of}
 use Rattle.mg_volume.specs.PageWords.{objects-set, word-spelled}
 use Rattle.mg_volume.specs.Sound.{all_spelled, is_sound_held, sound_is}
 
@@ -88,31 +88,27 @@ all-bound q (entry ∷ table) each =
     (cases_Bool (entry == 0))
 
 -- the pages that are bound lie in objects still
-pub held_again : (v : VolumeHeld) (p : PagesHeld) (accounts : ℕ) → IsHeld v accounts → pages.frame_count p ≡ pages.frame_count v.pages
-    → ((x : ℕ) → x ≢ 0 → pages.is_bound p x ≡ true → (has_page v x ≡ true) ⊎ (pages.is_bound v.pages x ≡ true)) → IsHeld (with_pages v p) accounts
+pub held_again : (v : VolumeHeld) (p : PagesHeld) → IsKept v → pages.frame_count p ≡ pages.frame_count v.pages
+    → ((x : ℕ) → x ≢ 0 → pages.is_bound p x ≡ true → (has_page v x ≡ true) ⊎ (pages.is_bound v.pages x ≡ true)) → IsKept (with_pages v p)
 unfolding objects_in
-held_again v p accounts held frames bound = record {
-  kept = record {
-    frames = frames ∙ kept.frames;
-    rows = kept.rows;
-    places = kept.places;
-    apart = kept.apart;
-    used = kept.used;
-    few_objects = kept.few_objects;
-    few_accounts = kept.few_accounts;
-    few_threads = kept.few_threads;
-    inside = all-bound (λ page. has_page v page) (pages.table_in p) (λ x other is. ⊎_elim (λ has. has) (each-bound (λ page. has_page v page) x (pages.table_in v.pages) kept.inside other) (bound x other is));
-  };
-  room_accounts = held.room_accounts;
+held_again v p kept frames bound = record {
+  frames = frames ∙ kept.frames;
+  rows = kept.rows;
+  places = kept.places;
+  apart = kept.apart;
+  used = kept.used;
+  few_objects = kept.few_objects;
+  some_accounts = kept.some_accounts;
+  few_accounts = kept.few_accounts;
+  few_threads = kept.few_threads;
+  inside = all-bound (λ page. has_page v page) (pages.table_in p) (λ x other is. ⊎_elim (λ has. has) (each-bound (λ page. has_page v page) x (pages.table_in v.pages) kept.inside other) (bound x other is));
+  debts = kept.debts;
 }
-  where
-    kept : IsKept v
-    kept = held.kept
 
 -- where the table stays
-pub held_same : (v : VolumeHeld) (p : PagesHeld) (accounts : ℕ) → IsHeld v accounts → pages.frame_count p ≡ pages.frame_count v.pages → pages.table_in p ≡ pages.table_in v.pages → IsHeld (with_pages v p) accounts
-held_same v p accounts held frames table =
-    held_again v p accounts held frames (λ x other is. inr (ap (λ t. list_any (λ entry. entry == x) t) (sym table) ∙ is))
+pub held_same : (v : VolumeHeld) (p : PagesHeld) → IsKept v → pages.frame_count p ≡ pages.frame_count v.pages → pages.table_in p ≡ pages.table_in v.pages → IsKept (with_pages v p)
+held_same v p held frames table =
+    held_again v p held frames (λ x other is. inr (ap (λ t. list_any (λ entry. entry == x) t) (sym table) ∙ is))
 
 -- a frame is free for a page of an object
 pub frame_free : (v : VolumeHeld) (page : ℕ) → IsKept v → pages.IsKept v.pages → has_page v page ≡ true → (pages.is_bound v.pages page ≡ true) ⊎ (pages.is_bound v.pages 0 ≡ true)

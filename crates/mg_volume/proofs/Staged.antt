@@ -65,20 +65,22 @@ counters_staged v p counters bytes image is fitting frames coming read =
     }
 
 -- The words of pages lie behind.
-words_apart : (r : Image) (block : ℕ) (bytes : List ℕ) (frames : ℕ) (table : List ℕ) (page : ℕ) → block < table_block → page_words (slice_set r block bytes) frames table page ≡ page_words r frames table page
-words_apart r block bytes frames table page low = held (position (λ entry. entry == page) table)
+words_behind : (a b : Image) (frames : ℕ) (table : List ℕ) (page : ℕ) → ((k : ℕ) → table_block ≤ k → block_of a k ≡ block_of b k) → page_words a frames table page ≡ page_words b frames table page
+words_behind a b frames table page same = held (position (λ entry. entry == page) table)
   where
-    held : (frame : Option ℕ)
-        → option_map_or (λ frame. block_words (block_of (slice_set r block bytes) (first_frame frames + frame))) frame (replicate 512 0) ≡ option_map_or (λ frame. block_words (block_of r (first_frame frames + frame))) frame (replicate 512 0)
+    held : (frame : Option ℕ) → option_map_or (λ frame. block_words (block_of a (first_frame frames + frame))) frame (replicate 512 0) ≡ option_map_or (λ frame. block_words (block_of b (first_frame frames + frame))) frame (replicate 512 0)
     held None = refl
-    held (Some k) = ap block_words (get_or-set_other r block (first_frame frames + k) bytes [] (λ is. omega arith))
+    held (Some k) = ap block_words (same (first_frame frames + k) (omega arith))
+
+pub objects_behind : (a b : Image) (frames : ℕ) (table : List ℕ) (os : List (ℕ × ObjectRow)) → ((k : ℕ) → table_block ≤ k → block_of a k ≡ block_of b k) → all_spelled a frames table os ≡ all_spelled b frames table os
+objects_behind a b frames table [] same = refl
+objects_behind a b frames table (o ∷ os) same =
+    ap (λ words. record { row = o.1; words = words } ∷ all_spelled a frames table os)
+    (pages-same b a frames frames table table (page_of o.1) o.1.pages (λ k above below. words_behind a b frames table k same))
+    ∙ ap (λ objects. object_spelled b frames table o.1 ∷ objects) (objects_behind a b frames table os same)
 
 pub objects_apart : (r : Image) (block : ℕ) (bytes : List ℕ) (frames : ℕ) (table : List ℕ) (os : List (ℕ × ObjectRow)) → block < table_block → all_spelled (slice_set r block bytes) frames table os ≡ all_spelled r frames table os
-objects_apart r block bytes frames table [] low = refl
-objects_apart r block bytes frames table (o ∷ os) low =
-    ap (λ words. record { row = o.1; words = words } ∷ all_spelled (slice_set r block bytes) frames table os)
-    (pages-same r (slice_set r block bytes) frames frames table table (page_of o.1) o.1.pages (λ k above below. words_apart r block bytes frames table k low))
-    ∙ ap (λ objects. object_spelled r frames table o.1 ∷ objects) (objects_apart r block bytes frames table os low)
+objects_apart r block bytes frames table os low = objects_behind (slice_set r block bytes) r frames table os (λ k above. get_or-set_other r block k bytes [] (λ is. omega arith))
 
 -- after a block was staged the objects are those that they were
 pub staged_objects : (v : VolumeHeld) (p : PagesHeld) (image : Image) (block : ℕ) (bytes : List ℕ) → block < table_block → pages.table_in p ≡ pages.table_in v.pages → pages.coming p image ≡ slice_set (pages.coming v.pages image) block bytes

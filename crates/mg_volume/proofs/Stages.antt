@@ -1,13 +1,16 @@
 -- What staging a block leaves as it was.
 use Rattle.std.specs.Prelude.{◌≡◌, ◌⊎◌, ◌+◌, ◌≤◌, ◌<◌, ℕ, true}
-use Rattle.std.proofs.Common.{inr}
+use Rattle.std.proofs.Common.{arith, inr}
+use Rattle.std.proofs.lemmas.List.Elements.{All-weaker}
 use Rattle.mg_disk.specs.Disk.{Image}
+use Rattle.mg_model.specs.Limits.{debt_limit}
 use Rattle.mg_model.specs.State.{Counters}
+use Rattle.mg_model.specs.declared.accounts.AccRow.{AccRow}
 use Rattle.mg_pages.specs.Meaning as pages
 use Rattle.mg_volume.proofs.StillStaged.{still_staged}
 use Rattle.mg_volume.specs.Calls.{Stages}
 use Rattle.mg_volume.specs.Held.{VolumeHeld}
-use Rattle.mg_volume.specs.Meaning.{IsHeld, IsSpelledBy, SameShape, is_live, objects_in, settings_in, staged_of, total_of, words_in}
+use Rattle.mg_volume.specs.Meaning.{IsKept, IsSpelledBy, SameShape, is_live, objects_in, settings_in, staged_of, total_of, words_in}
 
 pub same_shape : (v w : VolumeHeld) → w.settings ≡ v.settings → pages.SameShape v.pages w.pages → pages.words_in w.pages ≡ pages.words_in v.pages → SameShape v w
 unfolding settings_in is_live total_of words_in
@@ -36,20 +39,19 @@ pub room_for : (v : VolumeHeld) (block : ℕ) → staged_of v < 160 → (pages.i
 unfolding staged_of
 room_for v block few = inr few
 
--- other counters are held as well
-pub held_counters : (v : VolumeHeld) (counters : Counters) (accounts : ℕ) → IsHeld v accounts → IsHeld (record v { counters = counters }) accounts
+-- counters of the same period or a later one are held as well
+pub held_counters : (v : VolumeHeld) (counters : Counters) → v.counters.period ≤ counters.period → IsKept v → IsKept (record v { counters = counters })
 unfolding objects_in
-held_counters v counters accounts held = record {
-  kept = record {
-    frames = held.kept.frames;
-    rows = held.kept.rows;
-    places = held.kept.places;
-    apart = held.kept.apart;
-    used = held.kept.used;
-    few_objects = held.kept.few_objects;
-    few_accounts = held.kept.few_accounts;
-    few_threads = held.kept.few_threads;
-    inside = held.kept.inside;
-  };
-  room_accounts = held.room_accounts;
+held_counters v counters later held = record {
+  frames = held.frames;
+  rows = held.rows;
+  places = held.places;
+  apart = held.apart;
+  used = held.used;
+  few_objects = held.few_objects;
+  some_accounts = held.some_accounts;
+  few_accounts = held.few_accounts;
+  few_threads = held.few_threads;
+  inside = held.inside;
+  debts = All-weaker (λ (row : AccRow). row.owed ≤ debt_limit v.counters.period) (λ (row : AccRow). row.owed ≤ debt_limit counters.period) (λ row is. omega arith) v.accounts held.debts;
 }

@@ -12,7 +12,7 @@ use Rattle.mg_volume.specs.Staging.{threads_with}
 use Rattle.mg_volume.specs.Numbered.{has_number, into_number, numbered, rows_with}
 
 -- as threads of the machine
-any-mapped : (t : ℕ) (rows : List (ℕ × ThreadRow)) → has_number t rows ≡ list_any (λ (thread : Thread). thread.number == t) (map as_thread rows)
+pub any-mapped : (t : ℕ) (rows : List (ℕ × ThreadRow)) → has_number t rows ≡ list_any (λ (thread : Thread). thread.number == t) (map as_thread rows)
 any-mapped t [] = refl
 any-mapped t (x ∷ rows) = ap (λ b. (x.0 == t) || b) (any-mapped t rows)
 

@@ -15,7 +15,7 @@ use Rattle.mg_volume.specs.RowLists.{ArePlaced, row_set, told, told_set}
 use Rattle.mg_volume.proofs.ThreadLists.{numbered_set, threads_mapped}
 use Rattle.mg_volume.specs.Contents.{accounts_within, objects_within}
 use Rattle.mg_volume.specs.Held.{VolumeHeld}
-use Rattle.mg_volume.specs.Meaning.{IsHeld, IsSpelledBy, Spelled, now_of, objects_in, threads_in}
+use Rattle.mg_volume.specs.Meaning.{IsKept, IsSpelledBy, Spelled, now_of, objects_in, threads_in}
 use Rattle.mg_volume.specs.Staging.{threads_with}
 use Rattle.mg_volume.specs.Numbered.{numbered, rows_with}
 use Rattle.mg_volume.proofs.Staged.{agree, set_apart, set_there, staged_objects}
@@ -66,19 +66,18 @@ module _ (v : VolumeHeld) (p : PagesHeld) (image : Image) (t place : ℕ) (row :
       }
 
 -- other threads are held as well
-pub held_threads : (v : VolumeHeld) (rows : List (ℕ × ThreadRow)) (accounts : ℕ) → IsHeld v accounts → length rows ≤ thread_rows → IsHeld (record v { threads = rows }) accounts
+pub held_threads : (v : VolumeHeld) (rows : List (ℕ × ThreadRow)) → IsKept v → length rows ≤ thread_rows → IsKept (record v { threads = rows })
 unfolding objects_in
-held_threads v rows accounts held few = record {
-  kept = record {
-    frames = held.kept.frames;
-    rows = held.kept.rows;
-    places = held.kept.places;
-    apart = held.kept.apart;
-    used = held.kept.used;
-    few_objects = held.kept.few_objects;
-    few_accounts = held.kept.few_accounts;
-    few_threads = few;
-    inside = held.kept.inside;
-  };
-  room_accounts = held.room_accounts;
+held_threads v rows held few = record {
+  frames = held.frames;
+  rows = held.rows;
+  places = held.places;
+  apart = held.apart;
+  used = held.used;
+  few_objects = held.few_objects;
+  some_accounts = held.some_accounts;
+  few_accounts = held.few_accounts;
+  few_threads = few;
+  inside = held.inside;
+  debts = held.debts;
 }

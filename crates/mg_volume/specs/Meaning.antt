@@ -8,6 +8,7 @@ use Rattle.mg_disk.specs.Stops.{NothingPending}
 use Rattle.mg_disk.specs.declared.disk.Disk.{Ghosts}
 use Rattle.mg_model.specs.declared.accounts.AccRow.{AccRow}
 use Rattle.mg_model.specs.Layout.{account_rows, globals_block, object_rows, super_block, thread_rows}
+use Rattle.mg_model.specs.Limits.{debt_limit}
 use Rattle.mg_model.specs.Objects.{page_behind, page_of}
 use Rattle.mg_model.specs.Replay.{block_of}
 use Rattle.mg_model.specs.Settings.{Settings}
@@ -76,7 +77,7 @@ rows_apart (row ∷ []) = true
 rows_apart (row ∷ next ∷ rows) = nat_le (page_behind row) (page_of next) && rows_apart (next ∷ rows)
 
 -- what every value keeps, wherever it stands: rows in their ranges and places, as few as a volume has room for, objects that
--- lie apart, and each bound page in an object
+-- lie apart, each bound page in an object, a treasury, and no account that owes more than it may by the period
 pub record IsKept (v : VolumeHeld) : Type 0 where
   pub frames : pages.frame_count v.pages ≡ v.settings.frames
   pub rows : All (λ (o : ℕ × ObjectRow). IsObjectRow o.1) v.objects
@@ -84,14 +85,11 @@ pub record IsKept (v : VolumeHeld) : Type 0 where
   pub apart : rows_apart (objects_in v) ≡ true
   pub used : sum_by (λ (o : ℕ × ObjectRow). o.1.pages) v.objects ≤ v.settings.frames
   pub few_objects : length v.objects ≤ object_rows
+  pub some_accounts : 1 ≤ length v.accounts
   pub few_accounts : length v.accounts ≤ account_rows
   pub few_threads : length v.threads ≤ thread_rows
   pub inside : list_all (λ page. has_page v page) (bound_pages (pages.table_in v.pages)) ≡ true
-
--- and there is room for as many accounts as a volume may have
-pub record IsHeld (v : VolumeHeld) (accounts : ℕ) : Type 0 where
-  pub kept : IsKept v
-  pub room_accounts : account_rows ≤ accounts
+  pub debts : All (λ (row : AccRow). row.owed ≤ debt_limit v.counters.period) v.accounts
 
 -- the image is a volume; what is coming spells the rows and the frame table that are held, and no other row
 pub record Spelled (v : VolumeHeld) (image : Image) : Type 0 where

@@ -1,9 +1,11 @@
 -- The rows of threads with their numbers, as they are held, and how they change.
-use Rattle.std.specs.Prelude.{◌≡◌, ◌+◌, ◌==◌, nat_lt, ℕ, Bool, not, All, List, [], ◌∷◌, filter, if◌then◌else◌, length, map, Option, Some, None}
+use Rattle.std.specs.Prelude.{◌≡◌, ◌+◌, ◌≤◌, ◌<◌, ◌==◌, MatchOption, nat_lt, ℕ, Bool, false, not, All, List, [], ◌∷◌, filter, if◌then◌else◌, length, map, is_some, Option, Some, None}
 use Rattle.std.specs.List.{list_any}
-use Rattle.std.specs.Option.{ForSome}
+use Rattle.std.specs.Option.{ForSome, option_map_or}
 use Rattle.mg_model.specs.Ranges.{IsThreadRow}
-use Rattle.mg_model.specs.State.{ThreadRow}
+use Rattle.mg_model.specs.State.{Thread, ThreadRow}
+use Rattle.mg_model.specs.Threads.{free_number}
+use Rattle.mg_model.specs.Turn.{is_ready}
 
 -- before the first larger number
 abbrev pub into_number : ℕ × ThreadRow → List (ℕ × ThreadRow) → List (ℕ × ThreadRow)
@@ -22,7 +24,28 @@ rows_with t (Some row) rows = if has_number t rows then map (λ (x : ℕ × Thre
 abbrev pub numbered : List (ℕ × ThreadRow) → List (ℕ × ThreadRow)
 numbered rows = map (λ (t : ℕ × ThreadRow). (t.0 + 1, t.1)) rows
 
+-- the threads that have these numbers and rows
+abbrev pub threads_of : List (ℕ × ThreadRow) → List Thread
+threads_of rows = map (λ (t : ℕ × ThreadRow). record { number = t.0; row = t.1 }) rows
+
+-- whether a place has a thread, and whether it has one that is Ready
+abbrev pub is_taken : Option ThreadRow → Bool
+is_taken row = is_some row
+
+abbrev pub has_turn : Option ThreadRow → Bool
+has_turn row = option_map_or (λ (r : ThreadRow). is_ready r.state) row false
+
 -- a place for each thread that a volume may have, and rows that keep their ranges
 pub record AreByNumber (rows : List (Option ThreadRow)) : Type 0 where
   pub long : length rows ≡ 256
   pub ranges : All (λ (row : Option ThreadRow). ForSome row IsThreadRow) rows
+
+-- and what is said of each place apart
+pub record AreListed (rows : List (Option ThreadRow)) (taken ready : List Bool) : Type 0 where
+  pub by_number : AreByNumber rows
+  pub taken_are : taken ≡ map is_taken rows
+  pub ready_are : ready ≡ map has_turn rows
+
+-- the lowest number, from 1 on, that none of these threads has: there is one where there are fewer than 256
+abbrev pub IsFreeNumber : List (ℕ × ThreadRow) → Option ℕ → Type 0
+IsFreeNumber rows found = MatchOption found (256 ≤ length rows) (λ n. (length rows < 256) × (n ≡ free_number (threads_of rows)) × (has_number n rows ≡ false))

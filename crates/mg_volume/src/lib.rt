@@ -9,6 +9,8 @@
 //! may be known of them.
 #![tactic(auto)]
 
+mod account_block;
+mod accounts;
 mod committing;
 mod forming;
 mod object_block;

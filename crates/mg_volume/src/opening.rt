@@ -11,6 +11,7 @@ ghost use Rattle.mg_volume.specs.Opening.{Opens};
 
 use crate::threads::Threads;
 use crate::volume::Volume;
+use mg_bank::Bank;
 use mg_check::VolumeRows;
 use mg_disk::Disk;
 use mg_journal::{Store, ViewFault};
@@ -65,12 +66,15 @@ pub(crate) fn open_rows<D: Disk>(
         Ok(store) => store,
         Err(fault) => return Err(fault),
     };
+    // It tells that the credits are in their range.
+    let _credits = rows.params.credits();
+    let accounts = Bank::of(rows.accounts);
     match Pages::open(alloc, store, rows.table) {
         Ok(pages) => Ok(Volume {
             params: rows.params,
             globals: rows.globals,
             objects,
-            accounts: rows.accounts,
+            accounts,
             threads,
             pages,
         }),

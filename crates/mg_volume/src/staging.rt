@@ -1,22 +1,27 @@
 // What a volume stages.
-ghost use Rattle.std.specs.Prelude.{List, ◌≡◌, ◌⊎◌, ◌≤◌, ◌<◌, ◌+◌, ◌^◌, ℕ, true, None, Some};
+ghost use Rattle.std.specs.Prelude.{List, ◌≡◌, ◌⊎◌, ◌≤◌, ◌<◌, ◌+◌, ◌^◌, ◌==◌, ℕ, true, find, IfSome, None, Some};
 ghost use Rattle.std.specs.Option.{option_map_or};
+ghost use Rattle.mg_model.specs.Domains.{with_thread};
 ghost use Rattle.mg_model.specs.ObjectCalls.{drawn, next_password};
 ghost use Rattle.mg_model.specs.Spelling.{thread_read};
+ghost use Rattle.mg_model.specs.State.{ThreadRow};
 ghost use Rattle.mg_volume.specs.Calls.{Stages};
 ghost use Rattle.mg_volume.specs.Meaning.{counters_in, now_of, objects_in, staged_of, threads_in};
-ghost use Rattle.mg_volume.specs.Staging.{ObjectsStillStaged, are_counters_staged, is_thread_staged, threads_with};
+ghost use Rattle.mg_volume.specs.RowLists.{DistinctBy};
+ghost use Rattle.mg_volume.specs.Staging.{ObjectsStillStaged, are_counters_staged, is_thread_staged, lives, threads_with};
 
 use crate::volume::Volume;
 use mg_disk::{BLOCK_SIZE, Block};
 use mg_layout::{FIRST_THREAD_BLOCK, GLOBALS_BLOCK};
-use mg_model::{Globals, ThrRow, draw};
+use mg_model::{Globals, ThrRow};
+use mg_passwords::Draws;
 use mg_rows::{write_globals, write_thread};
 
 impl Volume {
-    /// Stages the counters, in place of those that the state has. Their block is staged already, or fewer than 160 blocks
-    /// are; one more is at most.
+    /// Stages the counters, in place of those that the state has, of the same period or a later one. Their block is staged
+    /// already, or fewer than 160 blocks are; one more is at most.
     pub fn stage_globals(&mut self, g: Globals)
+        requires period { (counters_in self.old).period ≤ g.period }
         requires room { (are_counters_staged self.old ≡ true) ⊎ (staged_of self.old < 160) }
         ensures now { (image : List (List ℕ)) → now_of self.new image ≡ record (now_of self.old image) { counters = g } }
         ensures rows { objects_in self.new ≡ objects_in self.old }
@@ -48,6 +53,31 @@ impl Volume {
         self.pages.stage(FIRST_THREAD_BLOCK + t - 1, &block);
     }
 
+    // No two threads have one number, as in each volume.
+    fn numbers_differ(&self)
+        ensures { DistinctBy (λ thread. thread.number) (threads_in self.now) }
+    {
+        self.threads.keep_rules();
+    }
+
+    /// Stages another row of thread t, which lives. Its block is staged already, or fewer than 160 are; one more is at most. The
+    /// state is the one that any change gives which makes this row of the old one.
+    pub fn change_thread(&mut self, t: u64, row: ThrRow)
+        requires lives { lives self.old t ≡ true }
+        requires room { (is_thread_staged self.old t ≡ true) ⊎ (staged_of self.old < 160) }
+        ensures now { (change : ThreadRow → ThreadRow) → IfSome (find (λ thread. thread.number == t) (threads_in self.old)) (λ thread. change thread.row ≡ row)
+            → (image : List (List ℕ)) → now_of self.new image ≡ with_thread (now_of self.old image) t change }
+        ensures rows { objects_in self.new ≡ objects_in self.old }
+        ensures stages { Stages 1 self.old self.new }
+        ensures objects { ObjectsStillStaged self.old self.new }
+        ensures here { is_thread_staged self.new t ≡ true }
+    {
+        self.numbers_differ();
+        // It tells which numbers there are.
+        let _frame = self.frame(t);
+        self.stage_thread(t, Some(row));
+    }
+
     /// The next password that is drawn. The count of draws, below `2^32`, rises by one and is staged: the block of the
     /// counters is staged already, or fewer than 160 blocks are; one more is at most.
     pub fn next_password(&mut self) -> u64
@@ -61,9 +91,9 @@ impl Volume {
         ensures here { are_counters_staged self.new ≡ true }
     {
         let mut globals = self.globals();
-        let draws = globals.draws();
-        let password = draw(&self.params().seed(), draws);
-        globals.set_draws(draws + 1);
+        let mut draws = Draws::new(self.params().seed(), globals.draws());
+        let password = draws.next();
+        globals.set_draws(draws.count());
         self.stage_globals(globals);
         password
     }

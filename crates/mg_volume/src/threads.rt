@@ -1,12 +1,14 @@
 // The threads of a volume, by their numbers.
-ghost use Rattle.std.specs.Prelude.{◌≡◌, ◌≤◌, ◌==◌, [], All, IfOk, IfSome, None, find, length, replicate};
+ghost use Rattle.std.specs.Prelude.{◌≡◌, ◌≤◌, ◌==◌, ◌&&◌, false, nat_lt, not, [], All, IfOk, IfSome, None, find, length, position, replicate};
 ghost use Rattle.std.specs.Option.{ForSome, option_copied, option_map};
 ghost use Rattle.mg_check.specs.RowsRead.{ArePlaced};
 ghost use Rattle.mg_model.specs.Layout.{thread_rows};
 ghost use Rattle.mg_model.specs.Ranges.{IsThreadRow};
-ghost use Rattle.mg_volume.specs.Numbered.{numbered, rows_with};
+ghost use Rattle.mg_model.specs.Turn.{is_ready};
+ghost use Rattle.mg_volume.specs.Numbered.{IsFreeNumber, has_turn, numbered, rows_with};
+ghost use Rattle.mg_volume.specs.RowLists.{DistinctBy};
 
-use mg_model::ThrRow;
+use mg_model::{ThrRow, ThrState};
 use std::alloc::{AllocError, Global};
 use std::marker::Model;
 
@@ -18,19 +20,22 @@ const MOST_THREADS: usize = 256;
 pub(crate) struct Threads {
     // The row of thread t, if it lives, in place t - 1.
     rows: Vec<Option<ThrRow>>,
+    // Whether there is one in each place, and whether it is Ready: a search reads no row.
+    taken: Vec<bool>,
+    ready: Vec<bool>,
 }
 
 impl Model for Threads {
     ghost use Rattle.std.specs.Prelude.{ℕ, List};
     ghost use Rattle.mg_model.specs.State.{ThreadRow};
     ghost use Rattle.mg_objects.specs.Held.{live_from};
-    ghost use Rattle.mg_volume.specs.Numbered.{AreByNumber, numbered};
+    ghost use Rattle.mg_volume.specs.Numbered.{AreListed, numbered};
 
     ghost Value = { List (ℕ × ThreadRow) };
 
     ghost view = { λ threads. numbered (live_from 0 threads.rows.items) };
 
-    ghost invariant = { λ threads. AreByNumber threads.rows.items };
+    ghost invariant = { λ threads. AreListed threads.rows.items threads.taken.items threads.ready.items };
 }
 
 impl Threads {
@@ -39,7 +44,9 @@ impl Threads {
         ensures { IfOk result (λ threads. threads ≡ []) }
     {
         let rows = no_rows(alloc)?;
-        Ok(Threads { rows })
+        let taken = no_marks(alloc)?;
+        let ready = no_marks(alloc)?;
+        Ok(Threads { rows, taken, ready })
     }
 
     /// The threads of these rows, each with the place of its row. All memory that they will need is taken here.
@@ -77,15 +84,67 @@ impl Threads {
         ensures { self.new ≡ rows_with t row self.old }
     {
         keep_range(&row);
-        self.rows[t as usize - 1] = row;
+        let place = t as usize - 1;
+        self.taken[place] = row.is_some();
+        self.ready[place] = has_turn(&row);
+        self.rows[place] = row;
     }
 
-    /// There are 256 at most, and their rows keep their ranges. It does nothing but tell.
+    /// The lowest number that no thread has; none where there are 256.
+    pub(crate) fn free(&self) -> Option<u64>
+        ensures number { IsFreeNumber self.now result }
+        ensures range { IfSome result (λ n. (1 ≤ n) × (n ≤ 256)) }
+    {
+        let _rows = &self.rows;
+        match first_free(&self.taken) {
+            Some(place) => Some(place as u64 + 1),
+            None => None,
+        }
+    }
+
+    /// The lowest number above this one, which is at most 256, of a thread that is Ready.
+    pub(crate) fn ready_above(&self, t: u64) -> Option<u64>
+        requires { t ≤ 256 }
+        ensures { result ≡ option_map (λ thread. thread.0) (find (λ thread. is_ready thread.1.state && nat_lt t thread.0) self.now) }
+    {
+        let _rows = &self.rows;
+        match first_true(&self.ready[t as usize..]) {
+            Some(at) => Some(t + at as u64 + 1),
+            None => None,
+        }
+    }
+
+    /// There are 256 at most, no two have one number, and their rows keep their ranges. It does nothing but tell.
     pub(crate) fn keep_rules(&self)
         ensures few { length self.now ≤ 256 }
+        ensures apart { DistinctBy (λ thread. thread.0) self.now }
         ensures rows { All (λ thread. IsThreadRow thread.1) self.now }
     {
         let _rows = &self.rows;
+    }
+}
+
+// The first place that has no thread.
+fn first_free(taken: &[bool]) -> Option<usize>
+    ensures { result ≡ position (λ is. not is) taken.now }
+{
+    taken.iter().position(|is| !*is)
+}
+
+// The first place of which this is said.
+fn first_true(of: &[bool]) -> Option<usize>
+    ensures { result ≡ position (λ is. is) of.now }
+{
+    of.iter().position(|is| *is)
+}
+
+// Whether a row is that of a thread that is Ready.
+fn has_turn(row: &Option<ThrRow>) -> bool
+    ensures { result ≡ has_turn row.now }
+{
+    match row {
+        Some(row) => row.state() == ThrState::Ready,
+        None => false,
     }
 }
 
@@ -107,4 +166,11 @@ fn no_rows(alloc: Global) -> Result<Vec<Option<ThrRow>>, AllocError>
         rows.push(None)?;
     }
     Ok(rows)
+}
+
+// Nothing is said of any place.
+fn no_marks(alloc: Global) -> Result<Vec<bool>, AllocError>
+    ensures { IfOk result (λ marks. marks.items ≡ replicate 256 false) }
+{
+    Ok(Vec::from_array(alloc, [false; MOST_THREADS])?)
 }

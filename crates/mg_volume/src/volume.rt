@@ -1,19 +1,24 @@
 // A volume that is open.
-ghost use Rattle.std.specs.Prelude.{List, ◌≡◌, ◌≤◌, ◌<◌, ◌+◌, ◌-◌, ◌*◌, ◌==◌, ◌||◌, ℕ, true, false, nat_le, IfOk, IfSome, IsTrue, MatchOption, None, OnErr, OnOk, Some, find, length, option_copied, option_map, slice_get, sum_by, ◌⊎◌};
+ghost use Rattle.std.specs.Prelude.{List, ◌≡◌, ◌≤◌, ◌<◌, ◌+◌, ◌-◌, ◌*◌, ◌==◌, ◌&&◌, ◌||◌, ℕ, true, false, nat_le, nat_lt, IfOk, IfSome, IsTrue, MatchOption, None, OnErr, OnOk, Some, filter, find, length, option_copied, option_map, slice_get, sum_by, ◌⊎◌};
 ghost use Rattle.std.specs.List.{list_all};
 ghost use Rattle.std.specs.Option.{ForSome};
 ghost use Rattle.mg_disk.specs.Stops.{DiskCallsBy, Leaves, NothingPending, WritesNothing};
 ghost use Rattle.mg_model.specs.Access.{covers};
-ghost use Rattle.mg_model.specs.Bank.{account_of};
+ghost use Rattle.mg_model.specs.Bank.{account_of, balance_of, opens, owed_by};
 ghost use Rattle.mg_model.specs.Objects.{lowest_free, page_behind, page_of};
 ghost use Rattle.mg_model.specs.Ranges.{IsPlace};
 ghost use Rattle.mg_model.specs.State.{Thread};
+ghost use Rattle.mg_model.specs.Threads.{free_number};
+ghost use Rattle.mg_model.specs.Turn.{is_ready, picked};
 ghost use Rattle.mg_model.specs.Volume.{Damaged, NotVolume, OldVolume, volume};
 ghost use Rattle.mg_volume.specs.Meaning.{StandsOn, accounts_in, bare_rows, counters_in, is_live, is_sound, now_of, objects_in, settings_in, staged_of, threads_in, words_in};
 ghost use Rattle.mg_volume.specs.Opening.{Opens};
+ghost use Rattle.mg_volume.specs.Numbered.{IsFreeNumber};
+ghost use Rattle.mg_volume.specs.Staging.{lives};
 
 use crate::opening::open_rows;
 use crate::threads::Threads;
+use mg_bank::Bank;
 use mg_check::{OpenFault, read_volume};
 use mg_disk::Disk;
 use mg_journal::ViewFault;
@@ -30,22 +35,21 @@ pub struct Volume {
     pub(crate) params: Params,
     pub(crate) globals: Globals,
     pub(crate) objects: Space,
-    pub(crate) accounts: Vec<AccRow>,
+    pub(crate) accounts: Bank,
     pub(crate) threads: Threads,
     pub(crate) pages: Pages,
 }
 
 impl Model for Volume {
-    ghost use Rattle.std.specs.Prelude.{vec_capacity};
     ghost use Rattle.mg_volume.specs.Held.{VolumeHeld};
 
     ghost Value = { VolumeHeld };
 
-    ghost use Rattle.mg_volume.specs.Meaning.{IsHeld};
+    ghost use Rattle.mg_volume.specs.Meaning.{IsKept};
 
-    ghost view = { λ v. record { settings = v.params; counters = v.globals; objects = v.objects; accounts = v.accounts.items; threads = v.threads; pages = v.pages } };
+    ghost view = { λ v. record { settings = v.params; counters = v.globals; objects = v.objects; accounts = v.accounts; threads = v.threads; pages = v.pages } };
 
-    ghost invariant = { λ v. IsHeld (record { settings = v.params; counters = v.globals; objects = v.objects; accounts = v.accounts.items; threads = v.threads; pages = v.pages }) (vec_capacity v.accounts) };
+    ghost invariant = { λ v. IsKept (record { settings = v.params; counters = v.globals; objects = v.objects; accounts = v.accounts; threads = v.threads; pages = v.pages }) };
 }
 
 impl Volume {
@@ -157,6 +161,13 @@ impl Volume {
         self.objects.used()
     }
 
+    /// For how many pages account n pays: 0 where n is not from 1 to 1,024.
+    pub fn paid_by(&self, n: u64) -> u64
+        ensures { result ≡ sum_by (λ row. row.pages) (filter (λ row. row.account == n) (objects_in self.now)) }
+    {
+        self.objects.paid_by(n)
+    }
+
     /// The lowest page from which on so many pages, 1 to 1024, meet no object.
     pub fn first(&self, pages: u64) -> u64
         requires some { 1 ≤ pages }
@@ -170,14 +181,47 @@ impl Volume {
     }
 
     /// Account n, 1 to 1,024.
+    #[tactic(auto, unfolding(crate::specs::Meaning::accounts_in))]
     pub fn account(&self, n: u64) -> Option<AccRow>
         ensures found { result ≡ account_of (accounts_in self.now) n }
         ensures few { IfSome result (λ _. (1 ≤ n) × (n ≤ 1024)) }
     {
-        if n == 0 {
-            return None;
-        }
-        self.accounts.get(n as usize - 1).copied()
+        self.accounts.row(n)
+    }
+
+    /// How many accounts there are, 1,024 at most.
+    #[tactic(auto, unfolding(crate::specs::Meaning::accounts_in))]
+    pub fn account_count(&self) -> u64
+        ensures count { result ≡ length (accounts_in self.now) }
+        ensures few { result ≤ 1024 }
+    {
+        self.accounts.len()
+    }
+
+    /// Whether this password opens account n. It opens none that is not there.
+    #[tactic(auto, unfolding(crate::specs::Meaning::accounts_in))]
+    pub fn opens(&self, n: u64, password: u64) -> bool
+        ensures opens { result ≡ opens (accounts_in self.now) n password }
+        ensures some { result ≡ true → 1 ≤ n }
+        ensures few { result ≡ true → n ≤ 1024 }
+    {
+        self.accounts.opens(n, password)
+    }
+
+    /// The credits of account n, 0 where it is not there.
+    #[tactic(auto, unfolding(crate::specs::Meaning::accounts_in))]
+    pub fn balance_of(&self, n: u64) -> u64
+        ensures { result ≡ balance_of (accounts_in self.now) n }
+    {
+        self.accounts.balance_of(n)
+    }
+
+    /// What account n owes in rent, 0 where it is not there.
+    #[tactic(auto, unfolding(crate::specs::Meaning::accounts_in))]
+    pub fn owed_by(&self, n: u64) -> u64
+        ensures { result ≡ owed_by (accounts_in self.now) n }
+    {
+        self.accounts.owed_by(n)
     }
 
     // The row of the thread with this number.
@@ -196,6 +240,40 @@ impl Volume {
         match self.found(t) {
             Some(row) => Some(*row),
             None => None,
+        }
+    }
+
+    /// The lowest number that no thread has, 1 to 256; none where there are 256 threads.
+    pub fn free_number(&self) -> Option<u64>
+        ensures number { MatchOption result (256 ≤ length (threads_in self.now)) (λ n. (length (threads_in self.now) < 256) × (n ≡ free_number (threads_in self.now)) × (lives self.now n ≡ false)) }
+        ensures range { IfSome result (λ n. (1 ≤ n) × (n ≤ 256)) }
+    {
+        self.first_free()
+    }
+
+    // The lowest number that no thread has.
+    fn first_free(&self) -> Option<u64>
+        ensures number { IsFreeNumber self.now.threads result }
+        ensures range { IfSome result (λ n. (1 ≤ n) × (n ≤ 256)) }
+    {
+        self.threads.free()
+    }
+
+    // The lowest number above this one of a thread that is Ready.
+    fn ready_above(&self, t: u64) -> Option<u64>
+        requires { t ≤ 256 }
+        ensures { result ≡ option_map (λ thread. thread.0) (find (λ thread. is_ready thread.1.state && nat_lt t thread.0) self.now.threads) }
+    {
+        self.threads.ready_above(t)
+    }
+
+    /// The number of the thread that has the next turn: of those that are Ready the lowest above the cursor, or else the lowest.
+    pub fn next_ready(&self) -> Option<u64>
+        ensures { (image : List (List ℕ)) → result ≡ option_map (λ thread. thread.number) (picked (now_of self.now image)) }
+    {
+        match self.ready_above(self.globals().cursor()) {
+            Some(t) => Some(t),
+            None => self.ready_above(0),
         }
     }
 

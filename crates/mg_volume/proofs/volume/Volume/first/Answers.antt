@@ -10,7 +10,7 @@ use Rattle.mg_volume.proofs.RowTotals.{apart-bare}
 use Rattle.mg_volume.proofs.volume.Volume.first.Goals as goal
 
 pub first-requires-clause-room : goal.first-requires-clause-room
-first-requires-clause-room c = let fit = c.self.invariant.kept.used in omega (arith, c.frames-frames.ensures.value, c.frames-frames.ensures.few)
+first-requires-clause-room c = let fit = c.self.invariant.used in omega (arith, c.frames-frames.ensures.value, c.frames-frames.ensures.few)
 
 pub returns-clause-lowest : goal.returns-clause-lowest
 unfolding objects_in

@@ -24,7 +24,7 @@ take_object-taken-requires-clause-there c = let has = rw (← c.self.view_is) at
 gone_is : (c : goal.After-release_object) → (c.take_object-taken.result.1.base ≡ c.args.base) × (i : ℕ) × Goes (the_view c.self.inside) i c.take_object-taken.result c.take_object-taken.new.objects
 gone_is c =
     let taken = c.take_object-taken.ensures in
-    goes (the_view c.self.inside) c.args.base c.take_object-taken.result c.take_object-taken.new.objects c.self.invariant.kept taken.taken taken.objects
+    goes (the_view c.self.inside) c.args.base c.take_object-taken.result c.take_object-taken.new.objects c.self.invariant taken.taken taken.objects
 
 base_is : (c : goal.After-release_object) → c.take_object-taken.result.1.base ≡ c.args.base
 base_is c = (gone_is c).0
@@ -35,7 +35,7 @@ more c = stages_then 1 128 c.self.inside.pages c.take_object-taken.new.pages c.r
 pub invariant_of-self : goal.invariant_of-self
 invariant_of-self c =
     let taken = c.take_object-taken.ensures in
-    held_without (the_view c.self.inside) (gone_is c).1 c.take_object-taken.result c.take_object-taken.new.objects (gone_is c).2 c.take_object-taken.new.pages c.release_object.new.pages _ c.self.invariant
+    held_without (the_view c.self.inside) (gone_is c).1 c.take_object-taken.result c.take_object-taken.new.objects (gone_is c).2 c.take_object-taken.new.pages c.release_object.new.pages c.self.invariant
     (c.release_object.ensures.shape.frames ∙ taken.shape.frames) taken.table c.release_object.ensures.unbinds
 
 pub returns-clause-now : goal.returns-clause-now
@@ -43,7 +43,7 @@ returns-clause-now c image =
     let v = the_view c.self.inside in
     let taken = c.take_object-taken.ensures in
     rw (← c.self.view_is, ← base_is c)
-    (now_without v (gone_is c).1 c.take_object-taken.result c.take_object-taken.new.objects (gone_is c).2 c.take_object-taken.new.pages c.release_object.new.pages image c.self.invariant.kept taken.shape.frames taken.table taken.rows
+    (now_without v (gone_is c).1 c.take_object-taken.result c.take_object-taken.new.objects (gone_is c).2 c.take_object-taken.new.pages c.release_object.new.pages image c.self.invariant taken.shape.frames taken.table taken.rows
     c.release_object.ensures.shape.frames (c.release_object.ensures.released image))
 
 pub returns-clause-rows : goal.returns-clause-rows

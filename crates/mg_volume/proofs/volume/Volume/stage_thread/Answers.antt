@@ -14,7 +14,7 @@ stage-requires-clause-room c = thread_room (the_view c.self.inside) c.args.t (rw
 pub invariant_of-self : goal.invariant_of-self
 invariant_of-self c =
     let v = the_view c.self.inside in
-    held_same (record v { threads = c.put.new.self }) c.stage.new.self _ (held_threads v c.put.new.self _ c.self.invariant c.keep_rules.ensures.few) c.stage.ensures.shape.frames c.stage.ensures.table
+    held_same (record v { threads = c.put.new.self }) c.stage.new.self (held_threads v c.put.new.self c.self.invariant c.keep_rules.ensures.few) c.stage.ensures.shape.frames c.stage.ensures.table
 
 pub returns-clause-now : goal.returns-clause-now
 returns-clause-now c image =

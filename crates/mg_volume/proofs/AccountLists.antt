@@ -1,0 +1,128 @@
+-- Accounts as a list, and their rows by place.
+use Rattle.std.specs.Prelude.{◌≡◌, ◌≢◌, ◌+◌, ◌-◌, ◌*◌, ◌/◌, ◌≤◌, ◌<◌, ◌==◌, ◌||◌, ◌∷◌, ◌++◌, nat_lt, ℕ, zero, suc, Bool, false, List, [], if◌then◌else◌, length, slice_get, slice_set, Option, Some, None}
+use Rattle.std.specs.Option.{option_map_or}
+use Rattle.std.proofs.Common.{refl, sym, ap, subst, get_or, ◌∙◌, ⊎_elim, arith}
+use Rattle.std.proofs.lemmas.Bool.{both_ways, cases_lt, eq-eqb, lt-ltb, ne_eqb, or_parts}
+use Rattle.std.proofs.lemmas.List.Elements.{All-get_or, All-push, All-set}
+use Rattle.std.proofs.lemmas.Option.{slice_get_past}
+use Rattle.mg_bank.specs.AccountLemmas.{account_of-row, length-taken}
+use Rattle.mg_check.specs.RowsRead.{placed_from}
+use Rattle.mg_model.specs.declared.accounts.AccRow.{AccRow}
+use Rattle.mg_model.specs.Bank.{account_of, given_to, taken_from, with_account}
+use Rattle.mg_rent.specs.Charging.{OweAtMost}
+use Rattle.mg_volume.specs.RowLists.{ArePlaced, row_at}
+use Rattle.mg_volume.specs.StagesAccounts.{DifferWithin}
+
+-- accounts with their places stand there
+account_at : (i j : ℕ) (rows : List AccRow) → row_at (i + j) (placed_from i rows) ≡ slice_get rows j
+account_at i j [] = refl
+account_at i zero (r ∷ rows) = ap (λ b. if b then Some r else row_at (i + zero) (placed_from (i + 1) rows)) (eq-eqb i (i + zero) (omega arith))
+account_at i (suc j) (r ∷ rows) =
+    let next : i + suc j ≡ i + 1 + j = omega arith in
+    ap (λ b. if b then Some r else row_at (i + suc j) (placed_from (i + 1) rows)) (ne_eqb i (i + suc j) (λ is. omega arith))
+    ∙ ap (λ k. row_at k (placed_from (i + 1) rows)) next
+    ∙ account_at (i + 1) j rows
+
+pub account_here : (j : ℕ) (rows : List AccRow) → row_at j (placed_from 0 rows) ≡ slice_get rows j
+account_here j rows = let same : j ≡ 0 + j = omega arith in ap (λ k. row_at k (placed_from 0 rows)) same ∙ account_at 0 j rows
+
+-- one behind another
+pub accounts_rise : (i high : ℕ) (rows : List AccRow) → i + length rows ≤ high → ArePlaced i high (placed_from i rows)
+accounts_rise i high [] few = tt
+accounts_rise i high (r ∷ rows) few = (omega arith, omega arith, accounts_rise (i + 1) high rows (omega arith))
+
+-- the rows beside one that is put, and before one that joins
+set_beside : (rows : List AccRow) (p i : ℕ) (row : AccRow) → i ≢ p → slice_get (slice_set rows p row) i ≡ slice_get rows i
+set_beside [] p i row other = refl
+set_beside (r ∷ rows) zero zero row other = absurd (other refl)
+set_beside (r ∷ rows) zero (suc i) row other = refl
+set_beside (r ∷ rows) (suc p) zero row other = refl
+set_beside (r ∷ rows) (suc p) (suc i) row other = set_beside rows p i row (λ same. other (ap suc same))
+
+joined_beside : (rows : List AccRow) (row : AccRow) (i : ℕ) → i ≢ length rows → slice_get (rows ++ row ∷ []) i ≡ slice_get rows i
+joined_beside [] row zero other = absurd (other refl)
+joined_beside [] row (suc i) other = refl
+joined_beside (r ∷ rows) row zero other = refl
+joined_beside (r ∷ rows) row (suc i) other = joined_beside rows row i (λ same. other (ap suc same))
+
+-- a change of one account
+abbrev changed : (AccRow → AccRow) → List AccRow → ℕ → List AccRow
+changed change rows n = option_map_or (λ (row : AccRow). with_account rows n (change row)) (account_of rows n) rows
+
+changed_beside : (change : AccRow → AccRow) (rows : List AccRow) (n i : ℕ) → i ≢ n - 1 → slice_get (changed change rows n) i ≡ slice_get rows i
+changed_beside change rows n i other = by_row (account_of rows n)
+  where
+    by_row : (o : Option AccRow) → slice_get (option_map_or (λ (row : AccRow). with_account rows n (change row)) o rows) i ≡ slice_get rows i
+    by_row None = refl
+    by_row (Some row) = set_beside rows (n - 1) i (change row) other
+
+taken_beside : (rows : List AccRow) (n amount i : ℕ) → i ≢ n - 1 → slice_get (taken_from rows n amount) i ≡ slice_get rows i
+taken_beside rows n amount i other = changed_beside (λ row. record row { balance = row.balance - amount }) rows n i other
+
+given_beside : (rows : List AccRow) (n amount i : ℕ) → i ≢ n - 1 → slice_get (given_to rows n amount) i ≡ slice_get rows i
+given_beside rows n amount i other = changed_beside (λ row. record row { balance = row.balance + amount }) rows n i other
+
+-- what they owe
+changed_owe : (change : AccRow → AccRow) (most : ℕ) (rows : List AccRow) (n : ℕ) → ((row : AccRow) → (change row).owed ≡ row.owed) → OweAtMost most rows → OweAtMost most (changed change rows n)
+changed_owe change most rows n same owe = by_row (account_of rows n) refl
+  where
+    by_row : (o : Option AccRow) → account_of rows n ≡ o → OweAtMost most (option_map_or (λ (row : AccRow). with_account rows n (change row)) o rows)
+    by_row None is = owe
+    by_row (Some row) is =
+        let at = account_of-row rows n row is in
+        let within = at.within in
+        let some = at.some in
+        let e : (get_or rows (n - 1) row).owed ≡ row.owed = ap (λ (r : AccRow). r.owed) (at.there row) in
+        let was = All-get_or (λ (r : AccRow). r.owed ≤ most) rows (n - 1) row (omega arith) owe in
+        let new = same row in
+        All-set (λ (r : AccRow). r.owed ≤ most) rows (n - 1) (change row) (omega arith) owe
+
+taken_owe : (most : ℕ) (rows : List AccRow) (n amount : ℕ) → OweAtMost most rows → OweAtMost most (taken_from rows n amount)
+taken_owe most rows n amount owe = changed_owe (λ row. record row { balance = row.balance - amount }) most rows n (λ row. refl) owe
+
+pub opened_owe : (most : ℕ) (rows rows' : List AccRow) (payer amount : ℕ) (row : AccRow) → rows' ≡ taken_from rows payer amount ++ row ∷ [] → row.owed ≡ 0 → OweAtMost most rows → OweAtMost most rows'
+opened_owe most rows rows' payer amount row is none owe =
+    subst (OweAtMost most) (sym is)
+    (All-push (λ (r : AccRow). r.owed ≤ most) (taken_from rows payer amount) row (taken_owe most rows payer amount owe) (omega arith))
+
+pub paid_owe : (most : ℕ) (rows rows' : List AccRow) (from to amount : ℕ) → rows' ≡ given_to (taken_from rows from amount) to amount → OweAtMost most rows → OweAtMost most rows'
+paid_owe most rows rows' from to amount is owe =
+    subst (OweAtMost most) (sym is)
+    (changed_owe (λ row. record row { balance = row.balance + amount }) most (taken_from rows from amount) to (λ row. refl) (taken_owe most rows from amount owe))
+
+-- another block, another place
+apart : (i p k : ℕ) → k ≡ p / 64 → (i / 64 == k) ≡ false → i ≢ p
+apart i p k block other is = both_ways (i / 64 == k) other (eq-eqb (i / 64) k (ap (λ n. n / 64) is ∙ sym block))
+
+-- the blocks of two places
+abbrev pub are_both : ℕ → ℕ → ℕ → Bool
+are_both a b k = (k == a) || (k == b)
+
+-- one account more differs in the blocks of the payer and of the last
+pub opened_within : (rows rows' : List AccRow) (payer amount : ℕ) (row : AccRow) (j k : ℕ) → rows' ≡ taken_from rows payer amount ++ row ∷ [] → j ≡ (payer - 1) / 64 → k ≡ length rows / 64 → DifferWithin (are_both j k) rows rows'
+opened_within rows rows' payer amount row j k is first last = record {
+  each = λ i few other.
+      let parts = or_parts (i / 64 == j) (i / 64 == k) other in
+      let long = length-taken rows payer amount in
+      ap (λ (l : List AccRow). slice_get l i) is
+      ∙ joined_beside (taken_from rows payer amount) row i (λ same. apart i (length rows) k last parts.1 (same ∙ long))
+      ∙ taken_beside rows payer amount i (apart i (payer - 1) j first parts.0);
+}
+
+-- a payment in those of both accounts
+pub paid_within : (rows rows' : List AccRow) (from to amount j k : ℕ) → rows' ≡ given_to (taken_from rows from amount) to amount → j ≡ (from - 1) / 64 → k ≡ (to - 1) / 64 → DifferWithin (are_both j k) rows rows'
+paid_within rows rows' from to amount j k is first second = record {
+  each = λ i few other.
+      let parts = or_parts (i / 64 == j) (i / 64 == k) other in
+      ap (λ (l : List AccRow). slice_get l i) is
+      ∙ given_beside (taken_from rows from amount) to amount i (apart i (to - 1) k second parts.1)
+      ∙ taken_beside rows from amount i (apart i (from - 1) j first parts.0);
+}
+
+-- as many rows differ in the blocks that hold one alone
+pub all_within : (blocks : ℕ) (old new : List AccRow) → length new ≡ length old → length old ≤ 64 * blocks → DifferWithin (λ k. nat_lt k blocks) old new
+all_within blocks old new long room = record {
+  each = λ i few other.
+      let behind : length old ≤ i = ⊎_elim (λ (low : i < length old). absurd (both_ways (nat_lt (i / 64) blocks) other (lt-ltb (i / 64) blocks (omega arith)))) (λ high. high) (cases_lt i (length old)) in
+      slice_get_past new i (omega arith) ∙ sym (slice_get_past old i behind);
+}

@@ -1,0 +1,206 @@
+-- Blocks of accounts are staged, and the state has their rows.
+use Rattle.std.specs.Prelude.{◌≡◌, ◌+◌, ◌*◌, ◌/◌, ◌%◌, ◌≤◌, ◌<◌, ◌==◌, ◌||◌, nat_lt, ℕ, Bool, true, false, List, [], length, slice_get, slice_set, Some}
+use Rattle.std.proofs.Common.{refl, sym, ap, ◌∙◌, ⊎_elim, inl, inr, arith}
+use Rattle.std.proofs.lemmas.Bool.{both_ways, cases_Bool, cases_eq, cases_lt, eq-eqb, eqb-false, eqb-true, le-ltb, lt-ltb, ne_eqb, or_cases, or_parts}
+use Rattle.std.proofs.lemmas.List.{get_or-set_other, get_or-set_same}
+use Rattle.mg_check.specs.RowsRead.{placed_from}
+use Rattle.mg_disk.specs.Disk.{Image}
+use Rattle.mg_model.specs.declared.accounts.AccRow.{AccRow}
+use Rattle.mg_model.specs.Layout.{account_rows, first_account_block, first_thread_block, globals_block}
+use Rattle.mg_model.specs.Limits.{debt_limit}
+use Rattle.mg_model.specs.Replay.{block_of}
+use Rattle.mg_model.specs.Spelling.{Read, account_read, globals_read}
+use Rattle.mg_model.specs.Volume.{account_row_bytes, live_rows}
+use Rattle.mg_pages.specs.Coming.{length_coming}
+use Rattle.mg_pages.specs.Held.{PagesHeld}
+use Rattle.mg_pages.specs.Laws as laws
+use Rattle.mg_pages.specs.Meaning as pages
+use Rattle.mg_rent.specs.Charging.{OweAtMost}
+use Rattle.mg_rows.specs.Blocks.{account_in}
+use Rattle.mg_volume.proofs.AccountLists.{account_here, accounts_rise}
+use Rattle.mg_volume.proofs.PagesChange.{held_same}
+use Rattle.mg_volume.proofs.Staged.{objects_behind}
+use Rattle.mg_volume.proofs.Stages.{stages_is}
+use Rattle.mg_volume.specs.Calls.{Stages}
+use Rattle.mg_volume.specs.Contents.{objects_within, threads_within}
+use Rattle.mg_volume.specs.Held.{VolumeHeld}
+use Rattle.mg_volume.specs.Meaning.{IsKept, IsSpelledBy, Spelled, now_of, objects_in, threads_in}
+use Rattle.mg_volume.specs.RowLists.{tell, told}
+use Rattle.mg_volume.specs.Sound.{all_spelled}
+use Rattle.mg_volume.specs.StagesAccounts.{DifferWithin, HasAccounts, StagesAccounts}
+
+-- Rows in blocks are the accounts of a list where each block that a test names has the rows of the list, and the other blocks had
+-- them before.
+pub accounts_told : (f g : ℕ → Read AccRow) (named : ℕ → Bool) (old new : List AccRow) → live_rows f 0 account_rows ≡ Some (placed_from 0 old) → length new ≤ account_rows → DifferWithin named old new
+    → ((i : ℕ) → i < account_rows → named (i / 64) ≡ true → g i ≡ Some (slice_get new i)) → ((i : ℕ) → i < account_rows → named (i / 64) ≡ false → g i ≡ f i)
+    → live_rows g 0 account_rows ≡ Some (placed_from 0 new)
+accounts_told f g named old new are few within here rest =
+    let all = told f 0 account_rows (placed_from 0 old) are in
+    tell g 0 account_rows (placed_from 0 new)
+    (record {
+      placed = accounts_rise 0 account_rows new (omega arith);
+      each = λ i low high.
+          ⊎_elim
+          (λ is. here i high is ∙ ap (λ o. Some o) (sym (account_here i new)))
+          (λ not. rest i high not ∙ all.each i low high ∙ ap (λ o. Some o) (account_here i old ∙ sym (within.each i high not) ∙ sym (account_here i new)))
+          (cases_Bool (named (i / 64)));
+    })
+
+abbrev pub with_accounts : VolumeHeld → List AccRow → PagesHeld → VolumeHeld
+with_accounts v rows p = record v { accounts = rows; pages = p }
+
+module _ (v : VolumeHeld) (p : PagesHeld) (most : ℕ) (named : ℕ → Bool) (rows : List AccRow) (stages : StagesAccounts most named rows v.pages p) (image : Image) where
+  pub accounts_now : (rows' : List AccRow) → rows ≡ rows' → now_of (with_accounts v rows p) image ≡ record (now_of v image) { accounts = rows' }
+  unfolding now_of threads_in
+  accounts_now rows' same =
+      ap (λ table. record (now_of v image) { accounts = rows; objects = all_spelled (pages.coming p image) v.settings.frames table v.objects }) stages.table
+      ∙ ap (λ objects. record (now_of v image) { accounts = rows; objects = objects })
+      (objects_behind (pages.coming p image) (pages.coming v.pages image) v.settings.frames (pages.table_in v.pages) v.objects (λ k above. stages.beside image k (inr (omega arith))))
+      ∙ ap (λ accounts. record (now_of v image) { accounts = accounts }) same
+
+  pub accounts_spelled : DifferWithin named v.accounts rows → length rows ≤ account_rows → IsSpelledBy v image → IsSpelledBy (with_accounts v rows p) image
+  unfolding IsSpelledBy
+  accounts_spelled within few is =
+      let s : Spelled v image = is in
+      let r = pages.coming v.pages image in
+      let r' = pages.coming p image in
+      record {
+        fitting = stages.spelled image s.fitting;
+        frames = stages.shape.frames ∙ s.frames;
+        gated = s.gated;
+        super = s.super;
+        counters_are = ap globals_read (stages.beside image globals_block (inl (omega arith))) ∙ s.counters_are;
+        accounts_are =
+            accounts_told (λ i. account_read (account_row_bytes r i)) (λ i. account_read (account_row_bytes r' i)) named v.accounts rows s.accounts_are few within
+            (λ i below named_it. let whole : 64 * (i / 64) + i % 64 ≡ i = omega arith in stages.here image (i / 64) s.fitting (omega arith) named_it (i % 64) (omega arith) ∙ ap (λ k. Some (slice_get rows k)) whole)
+            (λ i below not_named. ap (λ (b : List ℕ). account_in b (i % 64)) (stages.rest image (i / 64) (omega arith) not_named));
+        threads = s.threads;
+        threads_are = threads_within r' r (record { each = λ k low high. stages.beside image k (inr (omega arith)) }) ∙ s.threads_are;
+        numbered = s.numbered;
+        objects = s.objects;
+        objects_are = objects_within r' r (record { each = λ k low high. stages.beside image k (inr (omega arith)) }) ∙ s.objects_are;
+        ordered = s.ordered;
+        kept = s.kept;
+        is = s.is;
+      }
+
+-- one block is staged
+pub one_staged : (p p' : PagesHeld) (rows : List AccRow) (k : ℕ) (bytes : List ℕ) → k < 16 → HasAccounts rows k bytes → ((image : Image) → pages.coming p' image ≡ slice_set (pages.coming p image) (first_account_block + k) bytes)
+    → pages.table_in p' ≡ pages.table_in p → pages.SameShape p p' → pages.words_in p' ≡ pages.words_in p → pages.StagesMore 1 p p' → ((image : Image) → pages.IsSpelledBy p image → pages.IsSpelledBy p' image)
+    → StagesAccounts 1 (λ i. i == k) rows p p'
+one_staged p p' rows k bytes few has coming table shape words staged spelled = record {
+  table = table;
+  shape = shape;
+  words = words;
+  staged = staged;
+  spelled = spelled;
+  here = λ image i fitting low is j below.
+      let same : i ≡ k = eqb-true i k is in
+      let long = length_coming p image fitting in
+      let whole = laws.long_of p image fitting in
+      let size = laws.size_of p image fitting in
+      ap (λ m. account_in (block_of (pages.coming p' image) (first_account_block + m)) j) same
+      ∙ ap (λ (r : Image). account_in (block_of r (first_account_block + k)) j) (coming image)
+      ∙ ap (λ (b : List ℕ). account_in b j) (get_or-set_same (pages.coming p image) (first_account_block + k) bytes [] (omega arith))
+      ∙ has j below
+      ∙ ap (λ m. Some (slice_get rows (64 * m + j))) (sym same);
+  rest = λ image i low other.
+      let differ = eqb-false i k other in
+      ap (λ (r : Image). block_of r (first_account_block + i)) (coming image) ∙ get_or-set_other (pages.coming p image) (first_account_block + k) (first_account_block + i) bytes [] (λ is. differ (omega arith));
+  beside = λ image block outside.
+      ap (λ (r : Image). block_of r block) (coming image)
+      ∙ get_or-set_other (pages.coming p image) (first_account_block + k) block bytes [] (λ is. ⊎_elim (λ (below : block < first_account_block). omega arith) (λ (above : first_thread_block ≤ block). omega arith) outside);
+}
+
+-- and then others
+pub staged_then : (p q r : PagesHeld) (m n : ℕ) (f g h : ℕ → Bool) (rows : List AccRow) → StagesAccounts m f rows p q → StagesAccounts n g rows q r → ((k : ℕ) → h k ≡ (f k || g k)) → StagesAccounts (m + n) h rows p r
+staged_then p q r m n f g h rows first second joins = record {
+  table = second.table ∙ first.table;
+  shape = record { total = second.shape.total ∙ first.shape.total; frames = second.shape.frames ∙ first.shape.frames; live = second.shape.live ∙ first.shape.live };
+  words = second.words ∙ first.words;
+  staged = record {
+    least = let a = first.staged.least in let b = second.staged.least in omega arith;
+    staged = let a = first.staged.staged in let b = second.staged.staged in omega arith;
+    still = λ block was. second.staged.still block (first.staged.still block was);
+  };
+  spelled = λ image is. second.spelled image (first.spelled image is);
+  here = λ image k fitting low is j below.
+      ⊎_elim
+      (λ late. second.here image k (first.spelled image fitting) low late j below)
+      (λ early.
+      ap (λ (b : List ℕ). account_in b j) (second.rest image k low early)
+      ∙ first.here image k fitting low (⊎_elim (λ t. t) (λ t. absurd (both_ways (g k) early t)) (or_cases (f k) (g k) (sym (joins k) ∙ is))) j below)
+      (cases_Bool (g k));
+  rest = λ image k low other.
+      let parts = or_parts (f k) (g k) (sym (joins k) ∙ other) in
+      second.rest image k low parts.1 ∙ first.rest image k low parts.0;
+  beside = λ image block outside. second.beside image block outside ∙ first.beside image block outside;
+}
+
+-- none
+pub none_staged : (p : PagesHeld) (rows : List AccRow) → StagesAccounts 0 (λ k. nat_lt k 0) rows p p
+none_staged p rows = record {
+  table = refl;
+  shape = record { total = refl; frames = refl; live = refl };
+  words = refl;
+  staged = record { least = omega arith; staged = omega arith; still = λ block was. was };
+  spelled = λ image is. is;
+  here = λ image k fitting low is. absurd (both_ways (nat_lt k 0) (le-ltb k 0 (omega arith)) is);
+  rest = λ image k low other. refl;
+  beside = λ image block outside. refl;
+}
+
+pub staged_wider : (p q : PagesHeld) (m n : ℕ) (f : ℕ → Bool) (rows : List AccRow) → m ≤ n → StagesAccounts m f rows p q → StagesAccounts n f rows p q
+staged_wider p q m n f rows wide stages = record {
+  table = stages.table;
+  shape = stages.shape;
+  words = stages.words;
+  staged = record { least = stages.staged.least; staged = let more = stages.staged.staged in omega arith; still = stages.staged.still };
+  spelled = stages.spelled;
+  here = stages.here;
+  rest = stages.rest;
+  beside = stages.beside;
+}
+
+-- one more than the first ones
+next_named : (k i : ℕ) → nat_lt i (k + 1) ≡ (nat_lt i k || i == k)
+next_named k i =
+    ⊎_elim
+    (λ (low : i < k). lt-ltb i (k + 1) (omega arith) ∙ sym (ap (λ b. b || i == k) (lt-ltb i k low)))
+    (λ (high : k ≤ i).
+    ⊎_elim
+    (λ (same : i ≡ k). lt-ltb i (k + 1) (omega arith) ∙ sym (ap (λ b. b || i == k) (le-ltb i k high) ∙ eq-eqb i k same))
+    (λ other. le-ltb i (k + 1) (omega arith) ∙ sym (ap (λ b. b || i == k) (le-ltb i k high) ∙ ne_eqb i k other))
+    (cases_eq i k))
+    (cases_lt i k)
+
+pub next_staged : (p q r : PagesHeld) (k : ℕ) (rows : List AccRow) → StagesAccounts k (λ i. nat_lt i k) rows p q → StagesAccounts 1 (λ i. i == k) rows q r → StagesAccounts (k + 1) (λ i. nat_lt i (k + 1)) rows p r
+next_staged p q r k rows first second = staged_then p q r k 1 (λ i. nat_lt i k) (λ i. i == k) (λ i. nat_lt i (k + 1)) rows first second (next_named k)
+
+-- what a call that stages accounts does to the volume
+module _ (v : VolumeHeld) (p : PagesHeld) (most : ℕ) (named : ℕ → Bool) (rows : List AccRow) (stages : StagesAccounts most named rows v.pages p) (within : DifferWithin named v.accounts rows) (few : length rows ≤ account_rows) where
+  pub accounts_stages : Stages most v (with_accounts v rows p)
+  accounts_stages = stages_is v (with_accounts v rows p) most refl stages.shape stages.words stages.staged (λ image was. accounts_spelled v p most named rows stages image within few was)
+
+  pub accounts_held : IsKept v → 1 ≤ length rows → OweAtMost (debt_limit v.counters.period) rows → IsKept (with_accounts v rows p)
+  unfolding objects_in
+  accounts_held held some debts =
+      held_same (record v { accounts = rows }) p
+      (record {
+        frames = held.frames;
+        rows = held.rows;
+        places = held.places;
+        apart = held.apart;
+        used = held.used;
+        few_objects = held.few_objects;
+        some_accounts = some;
+        few_accounts = few;
+        few_threads = held.few_threads;
+        inside = held.inside;
+        debts = debts;
+      })
+      stages.shape.frames stages.table
+
+pub accounts_objects : (v : VolumeHeld) (p : PagesHeld) (rows : List AccRow) → objects_in (with_accounts v rows p) ≡ objects_in v
+unfolding objects_in
+accounts_objects v p rows = refl

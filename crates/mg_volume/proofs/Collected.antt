@@ -1,0 +1,70 @@
+-- The rent is collected.
+use Rattle.std.specs.Prelude.{◌≡◌, ◌+◌, ℕ, Bool, List, [], ◌∷◌, map, sum_by}
+use Rattle.std.proofs.Common.{refl, sym, ap, ◌∙◌}
+use Rattle.std.proofs.lemmas.List.Sums.{sum_by-cons}
+use Rattle.mg_disk.specs.Disk.{Image}
+use Rattle.mg_model.specs.declared.accounts.AccRow.{AccRow}
+use Rattle.mg_model.specs.Bank.{all_charged, all_paid, given_to, rate_now, rate_of, rent_accounts, rent_paid, used}
+use Rattle.mg_model.specs.State.{Counters, Object, ObjectRow, State}
+use Rattle.mg_pages.specs.Held.{PagesHeld}
+use Rattle.mg_space.specs.Space.{AreRowsOf}
+use Rattle.mg_volume.proofs.AccountsStaged.{accounts_now, with_accounts}
+use Rattle.mg_volume.specs.Held.{VolumeHeld}
+use Rattle.mg_volume.specs.Laws.{now_accounts, now_counters, now_rows, now_settings}
+use Rattle.mg_volume.specs.Meaning.{accounts_in, counters_in, now_of, objects_in, settings_in}
+use Rattle.mg_volume.specs.StagesAccounts.{StagesAccounts, at_rate}
+
+-- the pages of objects are those of their rows
+used-rows : (objects : List Object) → used objects ≡ sum_by (λ (row : ObjectRow). row.pages) (map (λ (object : Object). object.row) objects)
+used-rows [] = refl
+used-rows (object ∷ objects) =
+    sum_by-cons (λ (object : Object). object.row.pages) object objects
+    ∙ ap (λ n. object.row.pages + n) (used-rows objects)
+    ∙ sym (sum_by-cons (λ (row : ObjectRow). row.pages) object.row (map (λ (object : Object). object.row) objects))
+
+pub rate_is : (v : VolumeHeld) (image : Image) (n : ℕ) → n ≡ sum_by (λ (row : ObjectRow). row.pages) (objects_in v) → rate_of (settings_in v).tariff n ≡ rate_now (now_of v image)
+rate_is v image n is =
+    ap (rate_of (settings_in v).tariff) (is ∙ ap (sum_by (λ (row : ObjectRow). row.pages)) (sym (now_rows v image)) ∙ sym (used-rows (now_of v image).objects))
+    ∙ ap (λ settings. rate_of settings.tariff (used (now_of v image).objects)) (sym (now_settings v image))
+
+-- what is known of the objects of a state, and of its accounts
+pub objects_are : (v : VolumeHeld) (image : Image) → AreRowsOf (now_of v image).objects v.objects
+unfolding objects_in
+objects_are v image = now_rows v image
+
+accounts-are : (v : VolumeHeld) (image : Image) → v.accounts ≡ (now_of v image).accounts
+unfolding accounts_in
+accounts-are v image = sym (now_accounts v image)
+
+-- the accounts that were charged are those of the state after a collection
+pub charged_now : (v : VolumeHeld) (p : PagesHeld) (most : ℕ) (named : ℕ → Bool) (rows : List AccRow) (rate : ℕ) (image : Image) → StagesAccounts most named rows v.pages p
+    → ((objects : List Object) → AreRowsOf objects v.objects → rows ≡ given_to (all_charged objects rate 1 v.accounts) 1 (all_paid objects rate 1 v.accounts)) → now_of (with_accounts v rows p) image ≡ at_rate rate (now_of v image)
+charged_now v p most named rows rate image stages told =
+    let objects = (now_of v image).objects in
+    accounts_now v p most named rows stages image (at_rate rate (now_of v image)).accounts
+    (told objects (objects_are v image) ∙ ap (λ (l : List AccRow). given_to (all_charged objects rate 1 l) 1 (all_paid objects rate 1 l)) (accounts-are v image))
+
+pub charged_paid : (v : VolumeHeld) (rate paid : ℕ) (image : Image) → ((objects : List Object) → AreRowsOf objects v.objects → paid ≡ all_paid objects rate 1 v.accounts) → paid ≡ all_paid (now_of v image).objects rate 1 (now_of v image).accounts
+charged_paid v rate paid image told =
+    let objects = (now_of v image).objects in
+    told objects (objects_are v image) ∙ ap (λ (l : List AccRow). all_paid objects rate 1 l) (accounts-are v image)
+
+-- the counters were staged before
+pub collected_now : (before between after : State) (counters : Counters) (rate : ℕ) → between ≡ record before { counters = counters } → rate ≡ rate_now before → after ≡ at_rate rate between
+    → after ≡ record before { counters = counters; accounts = rent_accounts before }
+collected_now before between after counters rate first rate_same second =
+    second ∙ ap (at_rate rate) first ∙ ap (λ r. at_rate r (record before { counters = counters })) rate_same
+
+pub collected_paid : (before between : State) (counters : Counters) (rate paid : ℕ) → between ≡ record before { counters = counters } → rate ≡ rate_now before → paid ≡ all_paid between.objects rate 1 between.accounts → paid ≡ rent_paid before
+collected_paid before between counters rate paid first rate_same second =
+    second ∙ ap (λ (s : State). all_paid s.objects rate 1 s.accounts) first ∙ ap (λ r. all_paid before.objects r 1 before.accounts) rate_same
+
+-- where the counters alone were staged, the accounts are those that they were
+pub counters_then : (v w : VolumeHeld) (counters : Counters) → ((image : Image) → now_of w image ≡ record (now_of v image) { counters = counters }) → (counters_in w ≡ counters) × (accounts_in w ≡ accounts_in v)
+counters_then v w counters now = (
+  sym (now_counters w []) ∙ ap (λ (s : State). s.counters) (now []),
+  sym (now_accounts w []) ∙ ap (λ (s : State). s.accounts) (now []) ∙ now_accounts v [],
+)
+
+pub next_counters : (g old new : Counters) (n : ℕ) → new ≡ record g { period = n + 1 } → n ≡ g.period → g ≡ old → new ≡ record old { period = old.period + 1 }
+next_counters g old new n set_is period_is same = set_is ∙ ap (λ k. record g { period = k + 1 }) period_is ∙ ap (λ (c : Counters). record c { period = c.period + 1 }) same

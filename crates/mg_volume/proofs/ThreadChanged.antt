@@ -1,0 +1,68 @@
+-- Another row of a thread that lives, by a change of the one that it has.
+use Rattle.std.specs.Prelude.{◌≡◌, ◌≢◌, ◌==◌, ◌||◌, ℕ, Bool, true, false, All, List, [], ◌∷◌, find, if◌then◌else◌, map, IfSome, MatchOption, Option, Some, None}
+use Rattle.std.specs.List.{list_any}
+use Rattle.std.proofs.Common.{refl, sym, ap, subst, ◌∙◌}
+use Rattle.std.proofs.lemmas.Bool.{eqb-true}
+use Rattle.mg_disk.specs.Disk.{Image}
+use Rattle.mg_model.specs.Domains.{with_thread}
+use Rattle.mg_model.specs.State.{State, Thread, ThreadRow}
+use Rattle.mg_model.specs.Threads.{with_new_thread}
+use Rattle.mg_volume.proofs.Found.{as_thread}
+use Rattle.mg_volume.proofs.ObjectLists.{change-none, distinct_map}
+use Rattle.mg_volume.specs.Held.{VolumeHeld}
+use Rattle.mg_volume.specs.Laws.{now_threads}
+use Rattle.mg_volume.specs.Meaning.{now_of, threads_in}
+use Rattle.mg_volume.specs.RowLists.{DistinctBy}
+use Rattle.mg_volume.specs.Staging.{threads_with}
+
+-- no two threads of a volume have one number
+pub numbers_apart : (v : VolumeHeld) → DistinctBy (λ (t : ℕ × ThreadRow). t.0) v.threads → DistinctBy (λ (thread : Thread). thread.number) (threads_in v)
+unfolding threads_in
+numbers_apart v apart = distinct_map as_thread (λ (t : ℕ × ThreadRow). t.0) (λ (thread : Thread). thread.number) (λ x y same. same) v.threads apart
+
+-- the threads with a change of one
+abbrev pub changed : ℕ → (ThreadRow → ThreadRow) → List Thread → List Thread
+changed t change threads = map (λ (thread : Thread). if thread.number == t then record thread { row = change thread.row } else thread) threads
+
+others-stay : (t : ℕ) (change : ThreadRow → ThreadRow) (threads : List Thread) → All (λ (thread : Thread). thread.number ≢ t) threads → changed t change threads ≡ threads
+others-stay t change threads differ = change-none (λ (thread : Thread). thread.number) (λ thread. record thread { row = change thread.row }) t threads differ
+
+-- two changes that make the same row of the thread that is found
+same-change : (t : ℕ) (row : ThreadRow) (change : ThreadRow → ThreadRow) (threads : List Thread) → DistinctBy (λ (x : Thread). x.number) threads
+    → IfSome (find (λ (x : Thread). x.number == t) threads) (λ thread. change thread.row ≡ row) → changed t (λ old. row) threads ≡ changed t change threads
+same-change t row change [] apart gives = refl
+same-change t row change (thread ∷ threads) apart gives = by_test (thread.number == t) refl gives (same-change t row change threads apart.1)
+  where
+    by_test : (v : Bool) → (thread.number == t) ≡ v → IfSome (if v then Some thread else find (λ (x : Thread). x.number == t) threads) (λ x. change x.row ≡ row)
+        → (IfSome (find (λ (x : Thread). x.number == t) threads) (λ x. change x.row ≡ row) → changed t (λ old. row) threads ≡ changed t change threads)
+        → (if v then record thread { row = row } else thread) ∷ changed t (λ old. row) threads ≡ (if v then record thread { row = change thread.row } else thread) ∷ changed t change threads
+    by_test true is gives later =
+        let own : thread.number ≡ t = eqb-true thread.number t is in
+        let differ : All (λ (x : Thread). x.number ≢ t) threads = subst (λ n. All (λ (x : Thread). x.number ≢ n) threads) own apart.0 in
+        ap (λ (r : ThreadRow). record thread { row = r } ∷ changed t (λ old. row) threads) (sym gives)
+        ∙ ap (λ rest. record thread { row = change thread.row } ∷ rest) (others-stay t (λ old. row) threads differ ∙ sym (others-stay t change threads differ))
+    by_test false is gives later = ap (λ rest. thread ∷ rest) (later gives)
+
+-- so the state is the one that the change gives
+pub thread_changed : (v : VolumeHeld) (image : Image) (t : ℕ) (row : ThreadRow) (change : ThreadRow → ThreadRow) → DistinctBy (λ (x : Thread). x.number) (threads_in v) → list_any (λ (x : Thread). x.number == t) (threads_in v) ≡ true
+    → IfSome (find (λ (x : Thread). x.number == t) (threads_in v)) (λ thread. change thread.row ≡ row) → record (now_of v image) { threads = threads_with t (Some row) (threads_in v) } ≡ with_thread (now_of v image) t change
+thread_changed v image t row change apart there gives =
+    let threads = threads_in v in
+    let state = now_of v image in
+    let with : List Thread → State = λ all. record state { threads = all } in
+    ap with (ap (λ b. if b then changed t (λ old. row) threads else with_new_thread (record { number = t; row = row }) threads) there ∙ same-change t row change threads apart gives ∙ ap (changed t change) (sym (now_threads v image)))
+
+-- a thread that lives is found
+living-found : (t : ℕ) (threads : List Thread) → find (λ (x : Thread). x.number == t) threads ≡ None → list_any (λ (x : Thread). x.number == t) threads ≡ true → ⊥
+living-found t [] none there = cc
+living-found t (thread ∷ threads) none there = by_test (thread.number == t) none there (living-found t threads)
+  where
+    by_test : (v : Bool) → (if v then Some thread else find (λ (x : Thread). x.number == t) threads) ≡ None → (v || list_any (λ (x : Thread). x.number == t) threads) ≡ true
+        → (find (λ (x : Thread). x.number == t) threads ≡ None → list_any (λ (x : Thread). x.number == t) threads ≡ true → ⊥) → ⊥
+    by_test true none there later = cc
+    by_test false none there later = later none there
+
+-- what is known of one that is found is known of it
+pub living : {X : Type 0} (F : X → Type 0) (P : Type 0) (o : Option X) (t : ℕ) (threads : List Thread) → MatchOption o (find (λ (x : Thread). x.number == t) threads ≡ None) F → IfSome o (λ x. P) → list_any (λ (x : Thread). x.number == t) threads ≡ true → P
+living F P None t threads found some there = absurd (living-found t threads found there)
+living F P (Some x) t threads found some there = some

@@ -1,0 +1,196 @@
+-- What a search among threads finds, by what is said of each place.
+use Rattle.std.specs.Prelude.{◌≡◌, ◌≢◌, ◌+◌, ◌-◌, ◌≤◌, ◌<◌, ◌==◌, ◌&&◌, nat_lt, ℕ, zero, suc, Bool, true, false, not, List, [], ◌∷◌, drop, find, if◌then◌else◌, is_some, length, map, option_map, replicate, slice_set, Option, Some, None}
+use Rattle.std.specs.List.{position, position_or_len}
+use Rattle.std.specs.Option.{ForSome, option_map_or}
+use Rattle.std.proofs.Common.{refl, sym, ap, cond, subst, ◌∙◌, ⊎_elim, arith}
+use Rattle.std.proofs.lemmas.Bool.{cases_Bool, cond_both, eq-eqb, le-ltb, lt-ltb, ne_eqb}
+use Rattle.std.proofs.lemmas.List.{map-set}
+use Rattle.mg_model.specs.Ranges.{IsThreadRow}
+use Rattle.mg_model.specs.State.{Thread, ThreadRow}
+use Rattle.mg_model.specs.Threads.{free_number_from}
+use Rattle.mg_model.specs.Turn.{is_ready}
+use Rattle.mg_objects.specs.Held.{live_from}
+use Rattle.mg_volume.proofs.ByNumber.{live-placed, none_held, put_held}
+use Rattle.mg_volume.specs.Numbered.{AreListed, IsFreeNumber, has_number, has_turn, is_taken, numbered, threads_of}
+use Rattle.mg_volume.specs.RowLists.{ArePlaced}
+
+-- no number below the first
+free-front : (n low high : ℕ) (xs : List (ℕ × ThreadRow)) → ArePlaced low high xs → n ≤ low → free_number_from n (threads_of (numbered xs)) ≡ n
+free-front n low high [] placed below = refl
+free-front n low high ((i, r) ∷ xs) placed below =
+    let above = placed.0 in
+    let other : i + 1 ≢ n = omega arith in
+    ap (λ b. if b then free_number_from (n + 1) (threads_of (numbered xs)) else n) (ne_eqb (i + 1) n other)
+
+pub free-from : (i : ℕ) (rows : List (Option ThreadRow)) → free_number_from (i + 1) (threads_of (numbered (live_from i rows))) ≡ i + 1 + position_or_len (λ is. not is) (map is_taken rows)
+free-from i [] = omega arith
+free-from i (None ∷ rows) = free-front (i + 1) (i + 1) (i + 1 + length rows) (live_from (i + 1) rows) (live-placed (i + 1) rows) (omega arith) ∙ omega arith
+free-from i (Some r ∷ rows) =
+    ap (λ b. if b then free_number_from (i + 1 + 1) (threads_of (numbered (live_from (i + 1) rows))) else i + 1) (eq-eqb (i + 1) (i + 1) refl)
+    ∙ free-from (i + 1) rows
+    ∙ omega arith
+
+-- how many there are: as many as places where each place has one, and else fewer
+pub taken-few : (i : ℕ) (rows : List (Option ThreadRow)) → length (numbered (live_from i rows)) ≤ length rows
+taken-few i [] = omega arith
+taken-few i (None ∷ rows) = let few = taken-few (i + 1) rows in omega arith
+taken-few i (Some r ∷ rows) = let few = taken-few (i + 1) rows in omega arith
+
+pub taken-all : (i : ℕ) (rows : List (Option ThreadRow)) → position_or_len (λ is. not is) (map is_taken rows) ≡ length rows → length (numbered (live_from i rows)) ≡ length rows
+taken-all i [] all = refl
+taken-all i (None ∷ rows) all = absurd (omega arith)
+taken-all i (Some r ∷ rows) all = let more = taken-all (i + 1) rows (omega arith) in omega arith
+
+pub taken-not_all : (i : ℕ) (rows : List (Option ThreadRow)) → position_or_len (λ is. not is) (map is_taken rows) < length rows → length (numbered (live_from i rows)) < length rows
+taken-not_all i [] some = absurd (omega arith)
+taken-not_all i (None ∷ rows) some = let few = taken-few (i + 1) rows in omega arith
+taken-not_all i (Some r ∷ rows) some = let more = taken-not_all (i + 1) rows (omega arith) in omega arith
+
+-- and the free number is none of theirs
+none-before : (n low high : ℕ) (xs : List (ℕ × ThreadRow)) → ArePlaced low high xs → n ≤ low → has_number n (numbered xs) ≡ false
+none-before n low high [] placed below = refl
+none-before n low high ((i, r) ∷ xs) placed below =
+    let above = placed.0 in
+    let other : i + 1 ≢ n = omega arith in
+    rw (ne_eqb (i + 1) n other) (none-before n (i + 1) high xs placed.2 (omega arith))
+
+pub free-none : (i : ℕ) (rows : List (Option ThreadRow)) → has_number (i + 1 + position_or_len (λ is. not is) (map is_taken rows)) (numbered (live_from i rows)) ≡ false
+free-none i [] = refl
+free-none i (None ∷ rows) = ap (λ n. has_number n (numbered (live_from (i + 1) rows))) (omega arith) ∙ none-before (i + 1) (i + 1) (i + 1 + length rows) (live_from (i + 1) rows) (live-placed (i + 1) rows) (omega arith)
+free-none i (Some r ∷ rows) =
+    let p = position_or_len (λ is. not is) (map is_taken rows) in
+    let other : i + 1 ≢ i + 1 + (1 + p) = omega arith in
+    let same : i + 1 + (1 + p) ≡ i + 1 + 1 + p = omega arith in
+    rw (ne_eqb (i + 1) (i + 1 + (1 + p)) other) (ap (λ n. has_number n (numbered (live_from (i + 1) rows))) same ∙ free-none (i + 1) rows)
+
+-- the place that a search finds
+pub found_at : (test : Bool → Bool) (xs : List Bool) (i : ℕ) → position test xs ≡ Some i → (position_or_len test xs ≡ i) × (i < length xs)
+found_at test xs i is =
+    cond_both (nat_lt (position_or_len test xs) (length xs)) (Some (position_or_len test xs)) None (λ o. o ≡ Some i → (position_or_len test xs ≡ i) × (i < length xs))
+    (λ within there. let same : position_or_len test xs ≡ i = cc in (same, grind arith))
+    (λ _ none. absurd (cc))
+    is
+
+pub found_none : (test : Bool → Bool) (xs : List Bool) → position test xs ≡ None → position_or_len test xs ≡ length xs
+found_none test xs is =
+    cond_both (nat_lt (position_or_len test xs) (length xs)) (Some (position_or_len test xs)) None (λ o. o ≡ None → position_or_len test xs ≡ length xs)
+    (λ _ some. absurd (cc))
+    (λ past _. past-end xs (grind arith))
+    is
+  where
+    few : (ys : List Bool) → position_or_len test ys ≤ length ys
+    few [] = omega arith
+    few (y ∷ ys) =
+        let rest = few ys in
+        cond_both (not (test y)) (1 + position_or_len test ys) 0 (λ n. n ≤ suc (length ys)) (λ _. omega arith) (λ _. omega arith)
+
+    past-end : (ys : List Bool) → length ys ≤ position_or_len test ys → position_or_len test ys ≡ length ys
+    past-end ys past = let f = few ys in omega arith
+
+-- the first that is Ready above a number
+abbrev pub takes_turn : ℕ → ℕ × ThreadRow → Bool
+takes_turn t thread = is_ready thread.1.state && nat_lt t thread.0
+
+number-found : (t : ℕ) (i : ℕ) (r : ThreadRow) (xs : List (ℕ × ThreadRow)) (v : Bool) → takes_turn t (i, r) ≡ v
+    → option_map (λ (x : ℕ × ThreadRow). x.0) (find (takes_turn t) ((i, r) ∷ xs)) ≡ (if v then Some i else option_map (λ (x : ℕ × ThreadRow). x.0) (find (takes_turn t) xs))
+number-found t i r xs true is = ap (λ b. option_map (λ (x : ℕ × ThreadRow). x.0) (if b then Some (i, r) else find (takes_turn t) xs)) is
+number-found t i r xs false is = ap (λ b. option_map (λ (x : ℕ × ThreadRow). x.0) (if b then Some (i, r) else find (takes_turn t) xs)) is
+
+-- from places that are all above the number
+abbrev from_place : ℕ → List Bool → Option ℕ
+from_place i ready = option_map (λ p. i + p + 1) (position (λ is. is) ready)
+
+position-cons : (b : Bool) (bs : List Bool) → position (λ is. is) (b ∷ bs) ≡ (if b then Some 0 else option_map (λ p. suc p) (position (λ is. is) bs))
+position-cons true bs = ap (λ b. if b then Some 0 else None) (lt-ltb 0 (suc (length bs)) (omega arith))
+position-cons false bs =
+    cond_both (nat_lt (position_or_len (λ is. is) bs) (length bs)) (Some (position_or_len (λ is. is) bs)) None
+    (λ o. (if nat_lt (1 + position_or_len (λ is. is) bs) (suc (length bs)) then Some (1 + position_or_len (λ is. is) bs) else None) ≡ option_map (λ p. suc p) o)
+    (λ within. ap (λ b. if b then Some (1 + position_or_len (λ is. is) bs) else None) (lt-ltb (1 + position_or_len (λ is. is) bs) (suc (length bs)) (grind arith)) ∙ ap (λ n. Some n) (omega arith))
+    (λ past. ap (λ b. if b then Some (1 + position_or_len (λ is. is) bs) else None) (le-ltb (1 + position_or_len (λ is. is) bs) (suc (length bs)) (grind arith)))
+
+from-cons : (i : ℕ) (b : Bool) (bs : List Bool) → from_place i (b ∷ bs) ≡ (if b then Some (i + 1) else from_place (i + 1) bs)
+from-cons i b bs = ap (option_map (λ p. i + p + 1)) (position-cons b bs) ∙ by_first b (position (λ is. is) bs)
+  where
+    by_first : (b : Bool) (o : Option ℕ) → option_map (λ p. i + p + 1) (if b then Some 0 else option_map (λ p. suc p) o) ≡ (if b then Some (i + 1) else option_map (λ p. i + 1 + p + 1) o)
+    by_first true o = ap (λ n. Some n) (omega arith)
+    by_first false None = refl
+    by_first false (Some p) = ap (λ n. Some n) (omega arith)
+
+turn-now : (t i : ℕ) (r : ThreadRow) → t ≤ i → takes_turn t (i + 1, r) ≡ is_ready r.state
+turn-now t i r above = by_state (is_ready r.state)
+  where
+    by_state : (v : Bool) → (v && nat_lt t (i + 1)) ≡ v
+    by_state false = refl
+    by_state true = lt-ltb t (i + 1) (omega arith)
+
+turn-past : (t i : ℕ) (r : ThreadRow) → i < t → takes_turn t (i + 1, r) ≡ false
+turn-past t i r past = by_state (is_ready r.state)
+  where
+    by_state : (v : Bool) → (v && nat_lt t (i + 1)) ≡ false
+    by_state false = refl
+    by_state true = le-ltb t (i + 1) (omega arith)
+
+above-all : (t i : ℕ) (rows : List (Option ThreadRow)) → t ≤ i → option_map (λ (x : ℕ × ThreadRow). x.0) (find (takes_turn t) (numbered (live_from i rows))) ≡ from_place i (map has_turn rows)
+above-all t i [] above = refl
+above-all t i (None ∷ rows) above = above-all t (i + 1) rows (omega arith) ∙ sym (from-cons i false (map has_turn rows))
+above-all t i (Some r ∷ rows) above =
+    number-found t (i + 1) r (numbered (live_from (i + 1) rows)) (is_ready r.state) (turn-now t i r above)
+    ∙ ap (λ o. if is_ready r.state then Some (i + 1) else o) (above-all t (i + 1) rows (omega arith))
+    ∙ sym (from-cons i (is_ready r.state) (map has_turn rows))
+
+pub ready-above : (t i k : ℕ) (rows : List (Option ThreadRow)) → t ≡ i + k → option_map (λ (x : ℕ × ThreadRow). x.0) (find (takes_turn t) (numbered (live_from i rows))) ≡ from_place t (drop k (map has_turn rows))
+ready-above t i zero rows is = above-all t i rows (omega arith) ∙ ap (λ n. from_place n (map has_turn rows)) (omega arith)
+ready-above t i (suc k) [] is = refl
+ready-above t i (suc k) (None ∷ rows) is = ready-above t (i + 1) k rows (omega arith)
+ready-above t i (suc k) (Some r ∷ rows) is =
+    number-found t (i + 1) r (numbered (live_from (i + 1) rows)) false (turn-past t i r (omega arith)) ∙ ready-above t (i + 1) k rows (omega arith)
+
+-- what is said of each place stays what it is
+map-none : {Y : Type 0} (f : Option ThreadRow → Y) (n : ℕ) → map f (replicate n None) ≡ replicate n (f None)
+map-none f zero = refl
+map-none f (suc n) = ap (λ ys. f None ∷ ys) (map-none f n)
+
+pub none_listed : (rows : List (Option ThreadRow)) (taken ready : List Bool) → rows ≡ replicate 256 None → taken ≡ replicate 256 false → ready ≡ replicate 256 false → AreListed rows taken ready
+none_listed rows taken ready is is_taken_so is_ready_so = record {
+  by_number = none_held rows is;
+  taken_are = is_taken_so ∙ sym (map-none is_taken 256) ∙ sym (ap (map is_taken) is);
+  ready_are = is_ready_so ∙ sym (map-none has_turn 256) ∙ sym (ap (map has_turn) is);
+}
+
+pub put_listed : (rows : List (Option ThreadRow)) (taken ready : List Bool) (k : ℕ) (new : Option ThreadRow) (some turn : Bool) → ForSome new IsThreadRow → some ≡ is_taken new → turn ≡ has_turn new → AreListed rows taken ready
+    → AreListed (slice_set rows k new) (slice_set taken k some) (slice_set ready k turn)
+put_listed rows taken ready k new some turn good some_is turn_is held = record {
+  by_number = put_held rows k new good held.by_number;
+  taken_are = ap (λ xs. slice_set xs k some) held.taken_are ∙ ap (λ b. slice_set (map is_taken rows) k b) some_is ∙ sym (map-set is_taken rows k new);
+  ready_are = ap (λ xs. slice_set xs k turn) held.ready_are ∙ ap (λ b. slice_set (map has_turn rows) k b) turn_is ∙ sym (map-set has_turn rows k new);
+}
+
+length-said : {Y : Type 0} (f : Option ThreadRow → Y) (rows : List (Option ThreadRow)) → length (map f rows) ≡ length rows
+length-said f [] = refl
+length-said f (row ∷ rows) = ap suc (length-said f rows)
+
+module _ (rows : List (Option ThreadRow)) (taken ready : List Bool) (held : AreListed rows taken ready) where
+  -- the lowest free number
+  pub free_is : (place : ℕ) → position (λ is. not is) taken ≡ Some place → IsFreeNumber (numbered (live_from 0 rows)) (Some (place + 1))
+  free_is place found =
+      let at = found_at (λ is. not is) (map is_taken rows) place (subst (λ xs. position (λ is. not is) xs ≡ Some place) held.taken_are found) in
+      let here = at.0 in
+      let within = at.1 in
+      let long = length-said is_taken rows in
+      let all = held.by_number.long in
+      let number : 0 + 1 + position_or_len (λ is. not is) (map is_taken rows) ≡ place + 1 = omega arith in
+      let fewer = taken-not_all 0 rows (omega arith) in
+      (omega arith, sym (free-from 0 rows ∙ number), subst (λ n. has_number n (numbered (live_from 0 rows)) ≡ false) number (free-none 0 rows))
+
+  pub free_gone : position (λ is. not is) taken ≡ None → IsFreeNumber (numbered (live_from 0 rows)) None
+  free_gone none =
+      let all = found_none (λ is. not is) (map is_taken rows) (subst (λ xs. position (λ is. not is) xs ≡ None) held.taken_are none) in
+      let long = length-said is_taken rows in
+      let full = taken-all 0 rows (omega arith) in
+      let places = held.by_number.long in
+      omega arith
+
+  -- the next that is Ready
+  pub ready_is : (t : ℕ) (found : Option ℕ) → position (λ is. is) (drop t ready) ≡ found → option_map (λ (x : ℕ × ThreadRow). x.0) (find (takes_turn t) (numbered (live_from 0 rows))) ≡ option_map (λ p. t + p + 1) found
+  ready_is t found is =
+      ready-above t 0 t rows (omega arith) ∙ ap (λ xs. from_place t (drop t xs)) (sym held.ready_are) ∙ ap (option_map (λ p. t + p + 1)) is

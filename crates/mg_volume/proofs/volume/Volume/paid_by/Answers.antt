@@ -1,0 +1,8 @@
+use Rattle.std.proofs.Common.{◌∙◌}
+use Rattle.mg_volume.specs.Meaning.{objects_in}
+use Rattle.mg_volume.proofs.BareRows.{paid_bare}
+use Rattle.mg_volume.proofs.volume.Volume.paid_by.Goals as goal
+
+pub returns : goal.returns
+unfolding objects_in
+returns c = rw (← c.self.view_is) (c.paid_by.ensures ∙ paid_bare c.args.n c.self.inside.objects)

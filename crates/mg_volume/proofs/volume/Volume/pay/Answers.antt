@@ -1,0 +1,74 @@
+use Rattle.std.proofs.Common.{◌≤◌, length, refl, subst, arith}
+use Rattle.std.specs.Prelude.{List}
+use Rattle.mg_model.specs.Layout.{account_rows}
+use Rattle.mg_model.specs.declared.accounts.AccRow.{AccRow}
+use Rattle.mg_volume.proofs.AccountLists.{are_both, paid_owe, paid_within}
+use Rattle.mg_volume.proofs.AccountsStaged.{accounts_held, accounts_now, accounts_objects, accounts_stages, with_accounts}
+use Rattle.mg_volume.proofs.StillStaged.{objects_wait}
+use Rattle.mg_volume.specs.Meaning.{accounts_in, staged_of}
+use Rattle.mg_volume.specs.StagesAccounts.{DifferWithin, StagesAccounts}
+use Rattle.mg_volume.specs.contracts.volume.Volume.{the_view}
+use Rattle.mg_volume.proofs.volume.Volume.pay.Goals as goal
+
+pub block_of-first-requires : goal.block_of-first-requires
+unfolding accounts_in
+block_of-first-requires c = record { there = rw (← c.self.view_is) at c.requires.from }
+
+pub block_of-second-requires : goal.block_of-second-requires
+unfolding accounts_in
+block_of-second-requires c = record { there = rw (← c.self.view_is) at c.requires.to }
+
+pub transfer-requires-clause-from : goal.transfer-requires-clause-from
+unfolding accounts_in
+transfer-requires-clause-from c = rw (← c.self.view_is) at c.requires.from
+
+pub transfer-requires-clause-to : goal.transfer-requires-clause-to
+unfolding accounts_in
+transfer-requires-clause-to c = rw (← c.self.view_is) at c.requires.to
+
+pub transfer-requires-clause-enough : goal.transfer-requires-clause-enough
+unfolding accounts_in
+transfer-requires-clause-enough c = rw (← c.self.view_is) at c.requires.enough
+
+pub stage_both-requires-clause-room : goal.stage_both-requires-clause-room
+unfolding staged_of
+stage_both-requires-clause-room c = rw (← c.self.view_is) at c.requires.room
+
+few : (c : goal.After-stage_both) → length c.transfer.new.self ≤ account_rows
+few c =
+    let was = c.self.invariant.few_accounts in
+    let count = c.transfer.ensures.count in
+    omega arith
+
+stages : (c : goal.After-stage_both) → StagesAccounts 2 (are_both c.block_of-first.result c.block_of-second.result) c.transfer.new.self c.self.inside.pages c.stage_both.new.pages
+stages c = subst (λ (l : List AccRow). StagesAccounts 2 (are_both c.block_of-first.result c.block_of-second.result) l c.self.inside.pages c.stage_both.new.pages) c.rows.ensures c.stage_both.ensures
+
+within : (c : goal.After-stage_both) → DifferWithin (are_both c.block_of-first.result c.block_of-second.result) c.self.inside.accounts c.transfer.new.self
+within c =
+    paid_within c.self.inside.accounts c.transfer.new.self c.args.from c.args.to c.args.amount c.block_of-first.result c.block_of-second.result c.transfer.ensures.accounts c.block_of-first.ensures.block
+    c.block_of-second.ensures.block
+
+pub invariant_of-self : goal.invariant_of-self
+invariant_of-self c =
+    let v = the_view c.self.inside in
+    let some = c.self.invariant.some_accounts in
+    let count = c.transfer.ensures.count in
+    accounts_held v c.stage_both.new.pages 2 (are_both c.block_of-first.result c.block_of-second.result) c.transfer.new.self (stages c) (within c) (few c) c.self.invariant (omega arith)
+    (paid_owe _ v.accounts c.transfer.new.self c.args.from c.args.to c.args.amount c.transfer.ensures.accounts c.self.invariant.debts)
+
+pub returns-clause-now : goal.returns-clause-now
+unfolding accounts_in
+returns-clause-now c image =
+    rw (← c.self.view_is) (accounts_now (the_view c.self.inside) c.stage_both.new.pages 2 (are_both c.block_of-first.result c.block_of-second.result) c.transfer.new.self (stages c) image _ c.transfer.ensures.accounts)
+
+pub returns-clause-rows : goal.returns-clause-rows
+returns-clause-rows c = rw (← c.self.view_is) (accounts_objects (the_view c.self.inside) c.stage_both.new.pages c.transfer.new.self)
+
+pub returns-clause-stages : goal.returns-clause-stages
+returns-clause-stages c =
+    rw (← c.self.view_is) (accounts_stages (the_view c.self.inside) c.stage_both.new.pages 2 (are_both c.block_of-first.result c.block_of-second.result) c.transfer.new.self (stages c) (within c) (few c))
+
+pub returns-clause-objects : goal.returns-clause-objects
+returns-clause-objects c =
+    let v = the_view c.self.inside in
+    rw (← c.self.view_is) (objects_wait v (with_accounts v c.transfer.new.self c.stage_both.new.pages) refl c.stage_both.ensures.staged.still)

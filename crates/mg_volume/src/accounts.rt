@@ -1,0 +1,130 @@
+// What a volume stages of its accounts.
+ghost use Rattle.std.specs.Prelude.{List, ◌≡◌, ◌≤◌, ◌<◌, ◌+◌, ◌-◌, ◌*◌, ◌/◌, ◌++◌, ◌∷◌, [], ℕ, is_some, length, true};
+ghost use Rattle.mg_model.specs.Bank.{account_of, all_paid, balance_of, given_to, rate_now, rent_accounts, rent_paid, taken_from};
+ghost use Rattle.mg_model.specs.Limits.{debt_limit, period_limit, step_limit};
+ghost use Rattle.mg_rent.specs.Charging.{OweAtMost};
+ghost use Rattle.mg_volume.specs.Calls.{Stages};
+ghost use Rattle.mg_volume.specs.Meaning.{accounts_in, counters_in, now_of, objects_in, staged_of};
+ghost use Rattle.mg_volume.specs.StagesAccounts.{at_rate};
+ghost use Rattle.mg_volume.specs.Staging.{ObjectsStillStaged};
+
+use crate::account_block::{stage_both, stage_first};
+use crate::volume::Volume;
+use mg_bank::Bank;
+
+// The block of the table that has the row of account n, which is there.
+fn block_of(accounts: &Bank, n: u64) -> u64
+    requires there { is_some (account_of accounts.now n) ≡ true }
+    ensures block { result ≡ (n - 1) / 64 }
+    ensures few { result < 16 }
+{
+    match accounts.row(n) {
+        Some(_) => (n - 1) / 64,
+        None => unreachable!(),
+    }
+}
+
+// How many blocks of the table have rows of so many accounts.
+fn block_count(accounts: u64) -> u64
+    requires { accounts ≤ 1024 }
+    ensures all { accounts ≤ 64 * result }
+    ensures few { result ≤ 16 }
+{
+    (accounts + 63) / 64
+}
+
+impl Volume {
+    /// Stages one account more, the last, with this password and with credits of the payer, which is there and has as many.
+    /// There are fewer than 1,024 accounts. At most 158 blocks are staged, and two more at most then.
+    pub fn open_account(&mut self, payer: u64, amount: u64, password: u64)
+        requires payer { is_some (account_of (accounts_in self.old) payer) ≡ true }
+        requires enough { amount ≤ balance_of (accounts_in self.old) payer }
+        requires few { length (accounts_in self.old) < 1024 }
+        requires room { staged_of self.old ≤ 158 }
+        ensures now { (image : List (List ℕ)) → now_of self.new image ≡ record (now_of self.old image) { accounts = taken_from (accounts_in self.old) payer amount ++ record { password = password; balance = amount; owed = 0 } ∷ [] } }
+        ensures rows { objects_in self.new ≡ objects_in self.old }
+        ensures stages { Stages 2 self.old self.new }
+        ensures objects { ObjectsStillStaged self.old self.new }
+    {
+        let first = block_of(&self.accounts, payer);
+        let count = self.accounts.len();
+        self.accounts.open_account(payer, amount, password);
+        stage_both(&mut self.pages, self.accounts.rows(), first, count / 64);
+    }
+
+    /// Stages that credits of one account go to another, which may be the same. Both are there, and the first has as many. At
+    /// most 158 blocks are staged, and two more at most then.
+    pub fn pay(&mut self, from: u64, to: u64, amount: u64)
+        requires from { is_some (account_of (accounts_in self.old) from) ≡ true }
+        requires to { is_some (account_of (accounts_in self.old) to) ≡ true }
+        requires enough { amount ≤ balance_of (accounts_in self.old) from }
+        requires room { staged_of self.old ≤ 158 }
+        ensures now { (image : List (List ℕ)) → now_of self.new image ≡ record (now_of self.old image) { accounts = given_to (taken_from (accounts_in self.old) from amount) to amount } }
+        ensures rows { objects_in self.new ≡ objects_in self.old }
+        ensures stages { Stages 2 self.old self.new }
+        ensures objects { ObjectsStillStaged self.old self.new }
+    {
+        let first = block_of(&self.accounts, from);
+        let second = block_of(&self.accounts, to);
+        self.accounts.transfer(from, to, amount);
+        stage_both(&mut self.pages, self.accounts.rows(), first, second);
+    }
+
+    /// The rate of the rent now: credits for each page of an account and period, at most `2^20`.
+    pub fn rate(&self) -> u64
+        ensures rate { (image : List (List ℕ)) → result ≡ rate_now (now_of self.now image) }
+        ensures few { result ≤ step_limit }
+    {
+        mg_rent::rate(&self.params().tariff(), self.used())
+    }
+
+    /// Begins the next period and stages its rent: each account pays for its pages what it can, with what it owes already, and
+    /// owes the rest; account 1 receives the sum, which is the answer. The period is below `2^24 - 1`. At most 143 blocks are
+    /// staged, and 17 more at most then.
+    pub fn collect(&mut self) -> u64
+        requires before { (counters_in self.old).period < period_limit }
+        requires room { staged_of self.old ≤ 143 }
+        ensures now { (image : List (List ℕ)) → now_of self.new image ≡ record (now_of self.old image) { counters = record (counters_in self.old) { period = (counters_in self.old).period + 1 }; accounts = rent_accounts (now_of self.old image) } }
+        ensures paid { (image : List (List ℕ)) → result ≡ rent_paid (now_of self.old image) }
+        ensures rows { objects_in self.new ≡ objects_in self.old }
+        ensures stages { Stages 17 self.old self.new }
+        ensures objects { ObjectsStillStaged self.old self.new }
+    {
+        self.debts_are_kept();
+        let rate = self.rate();
+        let mut globals = self.globals();
+        globals.set_period(globals.period() + 1);
+        self.stage_globals(globals);
+        self.charge(rate)
+    }
+
+    // No account owes more than it may by the period.
+    fn debts_are_kept(&self)
+        ensures { OweAtMost (debt_limit (counters_in self.now).period) (accounts_in self.now) }
+    {
+        let _count = self.accounts.len();
+    }
+
+    // Stages the accounts after a collection at this rate, for a period that has begun, and gives the sum that was paid. None owes
+    // more than it might by the period before.
+    fn charge(&mut self, rate: u64) -> u64
+        requires begun { 1 ≤ (counters_in self.old).period }
+        requires debts { OweAtMost (debt_limit ((counters_in self.old).period - 1)) (accounts_in self.old) }
+        requires rate { rate ≤ step_limit }
+        requires room { staged_of self.old ≤ 144 }
+        ensures now { (image : List (List ℕ)) → now_of self.new image ≡ at_rate rate (now_of self.old image) }
+        ensures paid { (image : List (List ℕ)) → result ≡ all_paid (now_of self.old image).objects rate 1 (now_of self.old image).accounts }
+        ensures rows { objects_in self.new ≡ objects_in self.old }
+        ensures stages { Stages 16 self.old self.new }
+        ensures objects { ObjectsStillStaged self.old self.new }
+    {
+        // They tell that the period and the frames are in their ranges.
+        let _draws = self.globals.draws();
+        let _frames = self.params.frames();
+        let count = self.accounts.len();
+        let paid = mg_rent::collect(&mut self.accounts, &self.objects, rate);
+        let blocks = block_count(count);
+        stage_first(&mut self.pages, self.accounts.rows(), blocks);
+        paid
+    }
+}
