@@ -105,6 +105,11 @@ module _ (state : State) (t a : ℕ) (right : Right) where
       by_test true None h = cc
       by_test false o h = cc
 
+-- the call of a thread that lives is answered by its row
+pub lives-ok : (state : State) (v : Bool) (answer : Answer) → v ≡ true → is_ok answer.1 ≡ true → is_ok (if v then answer else (state, No NoThread)).1 ≡ true
+lives-ok state true answer is ok = ok
+lives-ok state false answer is ok = cc
+
 -- a store, and what it leaves of the seats
 module _ (state : State) (t a value : ℕ) (row : ObjectRow) (found : Some row ≡ allowed_row state t a W) where
   abbrev line : Line
@@ -119,14 +124,10 @@ module _ (state : State) (t a value : ℕ) (row : ObjectRow) (found : Some row �
       found-any (λ (o : Object). covers o.row a) (λ (o : Object). nat_le o.row.base a && nat_lt a (o.row.base + page_size)) state.objects object there
       (and_from (nat_le object.row.base a) (nat_lt a (object.row.base + page_size)) above (ap (λ (r : ObjectRow). nat_lt a (r.base + page_size)) same ∙ below))
 
-  disturbs-ok : (v : Bool) (answer : Answer) → v ≡ true → is_ok answer.1 ≡ true → is_ok (if v then answer else (state, No NoThread)).1 ≡ true
-  disturbs-ok true answer is ok = ok
-  disturbs-ok false answer is ok = cc
-
   pub first-disturbs : (new : State) → store state t a value ≡ (new, Done) → nat_lt a (row.base + page_size) ≡ true → is_disturbing state line ≡ true
   first-disturbs new done below =
       and_from (is_ok (step state line).1) (in_first_page state.objects a)
-      (disturbs-ok (is_thread state t) (store state t a value) (reached_lives state t a W row found) (ap (λ (answer : Answer). is_ok answer.1) done)) (first-page below)
+      (lives-ok state (is_thread state t) (store state t a value) (reached_lives state t a W row found) (ap (λ (answer : Answer). is_ok answer.1) done)) (first-page below)
 
   -- a line that does not disturb drops nothing
   pub dropped-keys : (new : State) (made : List Access) (kept : Key → Bool) (seats seats' : List (Option Seat)) → store state t a value ≡ (new, Done) → seats' ≡ (if nat_lt a (row.base + page_size) then without (by_via row.base) seats else seats)

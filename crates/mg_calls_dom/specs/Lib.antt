@@ -1,4 +1,5 @@
 -- Definitions.
+pub mod Entering
 pub mod Searching
 pub mod Known
 -- Lemmas that crates above cite. None of them is part of a statement.

@@ -13,7 +13,8 @@ use Rattle.mg_model.specs.ObjectCalls.{no_row, row_at}
 use Rattle.mg_model.specs.State.{Object, ObjectRow, State, Thread}
 use Rattle.mg_model.specs.Threads.{is_thread}
 use Rattle.mg_volume.specs.Held.{VolumeHeld}
-use Rattle.mg_volume.specs.Meaning.{now_of, threads_in}
+use Rattle.mg_volume.specs.Laws.{now_threads}
+use Rattle.mg_volume.specs.Meaning.{Keeps, now_of, threads_in}
 use Rattle.mg_volume.specs.RunLemmas.{told_thread}
 
 -- where a row is reached the access is allowed, and the row is that of the address
@@ -71,6 +72,10 @@ pub gone_held : (v : VolumeHeld) (image : Image) (t : ℕ) → is_thread (now_of
 gone_held v image t gone =
     let same = told_thread v image t (find (λ (thread : Thread). thread.number == t) (threads_in v)) refl in
     none-of (find (λ (thread : Thread). thread.number == t) (threads_in v)) (sym (ap is_some same) ∙ gone)
+
+-- the threads that are held stay where the state does
+pub same_threads : (a b : VolumeHeld) → Keeps a b → threads_in b ≡ threads_in a
+same_threads a b keeps = sym (now_threads b []) ∙ ap (λ (s : State). s.threads) (keeps.now []) ∙ now_threads a []
 
 -- an element that passes ends a search through a list
 pub any_hit : {X : Type 0} (test : X → Bool) (xs : List X) (i : ℕ) (x : X) → i < length xs → true ≡ test (get_or xs i x) → list_any test xs ≡ list_any test (drop i xs) → true ≡ list_any test xs

@@ -94,9 +94,9 @@ pub fn store<D: Disk, L: Ledger>(
     }
 }
 
-// The object of the word that a thread reads or writes, or why it may not. An address that is no multiple of 8 is refused
-// before any word is read.
-fn word_object<D: Disk, L: Ledger>(
+/// The object of the word that a thread reads, writes or enters by, or why it may not. An address that is no multiple of 8 is
+/// refused before any word is read.
+pub(crate) fn word_object<D: Disk, L: Ledger>(
     v: &mut Volume,
     c: &mut VCache,
     disk: &mut D,

@@ -1,21 +1,27 @@
-//! The calls on a protection domain: what a thread may reach, and the words there that it reads and writes.
+//! The calls on a protection domain: what a thread may reach, the words there that it reads and writes, the slots that make the
+//! domain, and the objects that a thread enters and returns from.
 //!
 //! A layer above learns of each call that its reply and the state after it are those of its row of the definition, from the
 //! point where the thread is known; what it read and staged is said in the words of `mg_volume`'s `specs/Calls.antt`.
 //! `reach` gives the row of the object that an address names where an access to it is allowed, which is what calls on an
 //! object begin with, and `validate` its base. Both ask the validation cache first, and search where it does not keep the right.
 //!
-//! Each call leaves every kept right backed by the state, and says what the accesses of its line keep and count, in the words of
-//! `mg_model`'s `specs/Kept.antt`.
+//! A call that makes accesses leaves every kept right backed by the state, and says what the accesses of its line keep and count,
+//! in the words of `mg_model`'s `specs/Kept.antt`. One that makes none says which seats it drops, where it drops any.
 //!
 //! `specs/Searching.antt` has what a search asks of the words of capability lists, `specs/Known.antt` which rights are kept by
-//! the rows that are held. `specs/ReachedLemmas.antt` says what follows from what was reached, `specs/LineLemmas.antt` what a line
-//! keeps and counts by its accesses.
+//! the rows that are held, `specs/Entering.antt` why a thread may not enter an object. `specs/ReachedLemmas.antt` says what
+//! follows from what was reached, `specs/LineLemmas.antt` what a line keeps and counts by its accesses.
 #![tactic(auto)]
 
 mod access;
+mod frames;
 mod lists;
+mod rows;
+mod slots;
 mod validating;
 
 pub use access::{load, store};
+pub use frames::{pdx, ret};
+pub use slots::{apdadd, apddel, apdlist};
 pub use validating::{reach, validate};

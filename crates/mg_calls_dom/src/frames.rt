@@ -1,0 +1,148 @@
+// The calls that enter an object by one of its entries, and return.
+ghost use Rattle.std.specs.Prelude.{List, ◌≡◌, ◌≤◌, ◌+◌, ◌%◌, ◌==◌, ◌++◌, ◌∷◌, [], ℕ, true, find, length, IfOk, IfSome, MatchResult, None, OnErr, OnOk, Some};
+ghost use Rattle.std.specs.Option.{ForSome};
+ghost use Rattle.mg_apd.specs.Refusals.{entered_slots};
+ghost use Rattle.mg_calls_dom.specs.Entering.{pdx_refusal};
+ghost use Rattle.mg_calls_dom.specs.Searching.{access_refusal};
+ghost use Rattle.mg_disk.specs.Stops.{CountRose};
+ghost use Rattle.mg_model.specs.Backed.{by_thread};
+ghost use Rattle.mg_model.specs.Domains as domains;
+ghost use Rattle.mg_model.specs.FewSlots.{HasFewSlots};
+ghost use Rattle.mg_model.specs.Kept.{KeepsLine, line_limit};
+ghost use Rattle.mg_model.specs.ObjectCalls.{row_at};
+ghost use Rattle.mg_model.specs.Refused.{IsRefusal};
+ghost use Rattle.mg_model.specs.State.{ThreadRow};
+ghost use Rattle.mg_vcache.specs.Drops.{Drops};
+ghost use Rattle.mg_vcache.specs.Seats.{AllBacked, is_kept, without};
+ghost use Rattle.mg_volume.specs.Calls.{Answers, IsSoundOn, Serves, Stages};
+ghost use Rattle.mg_volume.specs.Meaning.{Keeps, now_of, staged_of, threads_in};
+ghost use Rattle.mg_volume.specs.Staging.{lives};
+
+use crate::access::word_object;
+use crate::rows::row_of;
+use mg_apd::{enter, leave};
+use mg_disk::Disk;
+use mg_faults::Failed;
+use mg_laws::steps_keep_backing;
+use mg_model::{Call, Line, ObjRow, Refusal, Reply, Right, Steps, ThrRow};
+use mg_vcache::VCache;
+use mg_volume::Volume;
+use std::sync::ledger::Ledger;
+
+/// A thread goes on at an address, an entry of the object that has it, under a new frame, the last. The frame returns to where
+/// the thread was; its slots are those of the present frame whose bit of the mask is 1, in their order (bit 0, of the least
+/// weight, is that of the first), and behind them the object's extension, if it has one. Gives how many frames there are then.
+/// All that is kept of the thread's rights is dropped.
+///
+/// The refusals come in this order: an address that is no multiple of 8 (Align), before any word is read; no P (Denied); an
+/// address that is no entry of its object (NoEntry); 16 frames (Depth); more than 8 slots (SlotFull). [`Failed`] comes only
+/// where a call of the disk failed, and the state then stays, as where the call is refused.
+pub fn pdx<D: Disk, L: Ledger>(
+    v: &mut Volume,
+    c: &mut VCache,
+    disk: &mut D,
+    t: u64,
+    a: u64,
+    mask: u8,
+    steps: &mut Steps<L>,
+) -> Result<Reply, Failed>
+    requires sound { IsSoundOn D.Disk v.old disk.old }
+    requires lives { lives v.old t ≡ true }
+    requires few { staged_of v.old ≤ 158 }
+    requires backed { ForSome (D.seen disk.old) (λ image. AllBacked (now_of v.old image) c.old) }
+    ensures answers { IfOk result (λ reply. ForSome (D.seen disk.old) (λ image. domains.pdx (now_of v.old image) t a mask ≡ (now_of v.new image, reply))) }
+    ensures refused { IfOk result (λ reply. IsRefusal reply → staged_of v.new ≡ staged_of v.old) }
+    ensures failed { OnErr result (Keeps v.old v.new) }
+    ensures slots { IfOk result HasFewSlots }
+    ensures backed { ForSome (D.seen disk.old) (λ image. AllBacked (now_of v.new image) c.new) }
+    ensures keeps { OnOk result (ForSome (D.seen disk.old) (λ image. KeepsLine (now_of v.old image) (record { thread = t; call = Call.Pdx a mask }) (λ key. is_kept c.old key) (λ key. is_kept c.new key) steps.old steps.new)) }
+    ensures limit { ForSome (D.seen disk.old) (λ image. steps.new ≤ steps.old + line_limit (λ key. is_kept c.old key) (now_of v.old image) (record { thread = t; call = Call.Pdx a mask })) }
+    ensures serves { Serves 1 D.Disk v.old v.new disk.old disk.new steps.old steps.new }
+    ensures cause { OnErr result (CountRose D.Disk disk.old disk.new) }
+{
+    steps_keep_backing();
+    match word_object(v, c, disk, t, a, Right::P, steps)? {
+        Ok(object) => match step_in(v, c, t, a, mask, &object) {
+            Ok(count) => Ok(Reply::Count(count)),
+            Err(word) => Ok(Reply::No(word)),
+        },
+        Err(word) => Ok(Reply::No(word)),
+    }
+}
+
+/// A thread's present frame goes, and the thread goes on at the address that the frame returns to, under the frame below it.
+/// Gives how many frames there are then. All that is kept of the thread's rights is dropped. A thread with one frame is
+/// refused (NoFrame).
+pub fn ret(v: &mut Volume, c: &mut VCache, t: u64) -> Reply
+    requires lives { lives v.old t ≡ true }
+    requires few { staged_of v.old ≤ 159 }
+    ensures answers { Answers (λ state. domains.ret state t) v.old v.new result }
+    ensures seats { Drops (by_thread t) c.old c.new result }
+    ensures stages { Stages 1 v.old v.new }
+    ensures refused { IsRefusal result → v.new ≡ v.old }
+    ensures slots { HasFewSlots result }
+{
+    let mut row = row_of(v, t);
+    match leave(&mut row) {
+        Ok(count) => {
+            change_frames(v, c, t, row);
+            Reply::Count(count)
+        }
+        Err(word) => Reply::No(word),
+    }
+}
+
+// A thread enters the object that has an address, where the access is allowed.
+fn step_in(
+    v: &mut Volume,
+    c: &mut VCache,
+    t: u64,
+    a: u64,
+    mask: u8,
+    object: &ObjRow,
+) -> Result<u64, Refusal>
+    requires lives { lives v.old t ≡ true }
+    requires few { staged_of v.old ≤ 158 }
+    requires aligned { a % 8 ≡ 0 }
+    ensures answers { (image : List (List ℕ)) → access_refusal (now_of v.old image) t a Right.P ≡ None → row_at (now_of v.old image) a ≡ object.now
+        → MatchResult result (λ count. domains.pdx (now_of v.old image) t a mask ≡ (now_of v.new image, Reply.Count count)) (λ word. domains.pdx (now_of v.old image) t a mask ≡ (now_of v.new image, Reply.No word)) }
+    ensures seats { OnOk result (c.new ≡ without (by_thread t) c.old) }
+    ensures kept { OnErr result (c.new ≡ c.old) }
+    ensures stages { Stages 1 v.old v.new }
+    ensures stays { OnErr result (v.new ≡ v.old) }
+{
+    let mut row = row_of(v, t);
+    match enter_object(&mut row, a, mask, object) {
+        Ok(count) => {
+            change_frames(v, c, t, row);
+            Ok(count)
+        }
+        Err(word) => Err(word),
+    }
+}
+
+// A thread's row enters an object by an address of it.
+fn enter_object(row: &mut ThrRow, a: u64, mask: u8, object: &ObjRow) -> Result<u64, Refusal>
+    requires { a % 8 ≡ 0 }
+    ensures refusal { MatchResult result (λ _. pdx_refusal row.old object.now a mask ≡ None) (λ word. pdx_refusal row.old object.now a mask ≡ Some word) }
+    ensures number { IfOk result (λ count. count ≡ length row.old.frames + 1) }
+    ensures entered { OnOk result (row.new ≡ record row.old { pc = a; frames = row.old.frames ++ record { back = row.old.pc; slots = entered_slots row.old mask object.now.extension } ∷ [] }) }
+{
+    if !object.is_entry(a) {
+        return Err(Refusal::NoEntry);
+    }
+    enter(row, a, mask, object.ext())
+}
+
+// Another row for a thread, with other frames: all that is kept of its rights is dropped.
+fn change_frames(v: &mut Volume, c: &mut VCache, t: u64, row: ThrRow)
+    requires lives { lives v.old t ≡ true }
+    requires few { staged_of v.old ≤ 159 }
+    ensures now { (change : ThreadRow → ThreadRow) → IfSome (find (λ thread. thread.number == t) (threads_in v.old)) (λ thread. change thread.row ≡ row)
+        → (image : List (List ℕ)) → now_of v.new image ≡ domains.with_thread (now_of v.old image) t change }
+    ensures seats { c.new ≡ without (by_thread t) c.old }
+    ensures stages { Stages 1 v.old v.new }
+{
+    v.change_thread(t, row);
+    c.drop_thread(t);
+}

@@ -1,0 +1,97 @@
+// The calls on the slots that a thread runs under.
+ghost use Rattle.std.specs.Prelude.{◌≡◌, ◌≤◌, ◌-◌, ◌++◌, true, length, map, replicate};
+ghost use Rattle.mg_model.specs.Backed.{by_thread};
+ghost use Rattle.mg_model.specs.Domains as domains;
+ghost use Rattle.mg_model.specs.FewSlots.{HasFewSlots};
+ghost use Rattle.mg_model.specs.Refused.{IsRefusal};
+ghost use Rattle.mg_vcache.specs.Drops.{Drops};
+ghost use Rattle.mg_volume.specs.Calls.{Answers, Stages};
+ghost use Rattle.mg_volume.specs.Meaning.{staged_of};
+ghost use Rattle.mg_volume.specs.Staging.{lives};
+
+use crate::rows::row_of;
+use mg_apd::{drop_slot, push_slot};
+use mg_model::limits::SLOT_LIMIT;
+use mg_model::{Reply, Slot};
+use mg_vcache::VCache;
+use mg_volume::Volume;
+
+/// One slot more for a thread's present frame, the last: a capability list, by its base, and the password that is to open it,
+/// neither of which is tested. Gives the number of the slot, from 0 on. A frame that has 8 slots is refused (SlotFull). No
+/// right that was found ends.
+pub fn apdadd(v: &mut Volume, t: u64, clist: u64, password: u64) -> Reply
+    requires lives { lives v.old t ≡ true }
+    requires few { staged_of v.old ≤ 159 }
+    ensures answers { Answers (λ state. domains.apdadd state t clist password) v.old v.new result }
+    ensures stages { Stages 1 v.old v.new }
+    ensures refused { IsRefusal result → v.new ≡ v.old }
+    ensures slots { HasFewSlots result }
+{
+    let mut row = row_of(v, t);
+    let slot = Slot {
+        base: clist,
+        password,
+    };
+    match push_slot(&mut row, slot) {
+        Ok(count) => {
+            v.change_thread(t, row);
+            Reply::Count(count)
+        }
+        Err(word) => Reply::No(word),
+    }
+}
+
+/// The slot with this number goes from a thread's present frame, and the later ones close up. All rights that were found for
+/// the thread end. A number that no slot has is refused (NoSlot).
+pub fn apddel(v: &mut Volume, c: &mut VCache, t: u64, index: u64) -> Reply
+    requires lives { lives v.old t ≡ true }
+    requires few { staged_of v.old ≤ 159 }
+    ensures answers { Answers (λ state. domains.apddel state t index) v.old v.new result }
+    ensures seats { Drops (by_thread t) c.old c.new result }
+    ensures stages { Stages 1 v.old v.new }
+    ensures refused { IsRefusal result → v.new ≡ v.old }
+    ensures slots { HasFewSlots result }
+{
+    let mut row = row_of(v, t);
+    match drop_slot(&mut row, index) {
+        Ok(()) => {
+            v.change_thread(t, row);
+            c.drop_thread(t);
+            Reply::Done
+        }
+        Err(word) => Reply::No(word),
+    }
+}
+
+/// How many slots a thread's present frame has, 8 at most, and the bases of their capability lists in order, with 0 past the
+/// count. No password is shown.
+pub fn apdlist(v: &Volume, t: u64) -> Reply
+    requires lives { lives v.now t ≡ true }
+    ensures answers { Answers (λ state. domains.apdlist state t) v.now v.now result }
+    ensures slots { HasFewSlots result }
+{
+    match v.frame(t) {
+        Some(frame) => {
+            // It tells that there are 8 slots at most.
+            let _back = frame.back();
+            listed(frame.slots())
+        }
+        None => unreachable!(),
+    }
+}
+
+// The reply that shows these slots.
+#[tactic(auto, using(crate::proofs::SlotCalls::shown_more))]
+fn listed(slots: &[Slot]) -> Reply
+    requires { length slots.now ≤ 8 }
+    ensures { result ≡ Reply.Slots (length slots.now) (map (λ slot. slot.base) slots.now ++ replicate (8 - length slots.now) 0) }
+{
+    let mut bases = [0; SLOT_LIMIT];
+    for place in 0..slots.len() {
+        bases[place] = slots[place].base;
+    }
+    Reply::Slots {
+        count: slots.len() as u64,
+        bases,
+    }
+}
