@@ -15,7 +15,7 @@ use Rattle.mg_model.specs.declared.rights.Right.{Right}
 use Rattle.mg_model.specs.declared.seats.Seat.{Seat}
 use Rattle.mg_model.specs.Access.{allowed}
 use Rattle.mg_model.specs.Accesses.{Access, accesses, words_of}
-use Rattle.mg_model.specs.Backed.{KeepsBacked, by_via, ended_by_call}
+use Rattle.mg_model.specs.Backed.{KeepsBacked, by_none, by_via, ended_by_call}
 use Rattle.mg_model.specs.Kept.{KeepsKeys, KeepsLine, KeepsRules, Searches, Validates, access_limit, line_limit, searches_limit}
 use Rattle.mg_model.specs.Keys.{Key}
 use Rattle.mg_model.specs.ObjectCalls.{row_at}
@@ -26,7 +26,7 @@ use Rattle.mg_model.specs.Threads.{is_thread}
 use Rattle.mg_model.specs.Turn.{thread_call}
 use Rattle.mg_model.specs.Warmth.{disturbs, is_disturbing, is_ok}
 use Rattle.mg_vcache.specs.Seats.{AllBacked, is_kept}
-use Rattle.mg_vcache.specs.SeatLemmas.{backed_still, backed_without}
+use Rattle.mg_vcache.specs.SeatLemmas.{drops_backed, drops_none, same_backed}
 
 -- the access that such a call makes
 abbrev pub access_of : ℕ → Call → Access
@@ -46,6 +46,9 @@ pub is-line : (made : Call) (state : State) (t : ℕ) → is_on_object made ≡ 
 is-line (call.Delete b) state t on = record { those = refl; words = no_words (is_thread state t); answer = refl; disturbing = refl }
 is-line (call.Pwadd b rights until) state t on = record { those = refl; words = no_words (is_thread state t); answer = refl; disturbing = refl }
 is-line (call.Pwdel b password) state t on = record { those = refl; words = no_words (is_thread state t); answer = refl; disturbing = refl }
+is-line (call.Entry b off) state t on = record { those = refl; words = no_words (is_thread state t); answer = refl; disturbing = refl }
+is-line (call.Ext b clist password) state t on = record { those = refl; words = no_words (is_thread state t); answer = refl; disturbing = refl }
+is-line (call.Recharge b account password) state t on = record { those = refl; words = no_words (is_thread state t); answer = refl; disturbing = refl }
 is-line other state t on = cc
 
 -- without the right it is denied
@@ -53,31 +56,29 @@ pub denied : (made : Call) (state : State) (t : ℕ) → is_on_object made ≡ t
 denied (call.Delete b) state t on barred = rw barred refl
 denied (call.Pwadd b rights until) state t on barred = rw barred refl
 denied (call.Pwdel b password) state t on barred = rw barred refl
+denied (call.Entry b off) state t on barred = rw barred refl
+denied (call.Ext b clist password) state t on barred = rw barred refl
+denied (call.Recharge b account password) state t on barred = rw barred refl
 denied other state t on barred = cc
 
 -- where it is refused it ends no seat
-drops_none : (ended : Seat → Bool) (old new : List (Option Seat)) (reply : Reply) → Drops ended old new reply → is_ok reply ≡ false → new ≡ old
-drops_none ended old new (No word) drops ok = drops
-drops_none ended old new other drops ok = cc
-
 pub ends_none : (made : Call) (object : ObjectRow) (old new : List (Option Seat)) (reply : Reply) → EndsBy made object old new reply → is_ok reply ≡ false → new ≡ old
-ends_none (call.Pwadd b rights until) object old new reply ends ok = ends
-ends_none other object old new reply ends ok = drops_none (by_via object.base) old new reply ends ok
+ends_none (call.Delete b) object old new reply ends ok = drops_none (by_via object.base) old new reply ends ok
+ends_none (call.Pwdel b password) object old new reply ends ok = drops_none (by_via object.base) old new reply ends ok
+ends_none other object old new reply ends ok = ends
 
 -- each seat that is left is backed
-drops_backed :
-    (base : ℕ) (state new : State) (seats seats' : List (Option Seat)) (reply : Reply) → KeepsBacked (by_via base) state new → Drops (by_via base) seats seats' reply → (IsRefusal reply → new ≡ state) → AllBacked state seats → AllBacked new seats'
-drops_backed base state new seats seats' (No word) keeps drops same all = subst (λ s. AllBacked new s) (sym drops) (subst (λ s. AllBacked s seats) (sym (same tt)) all)
-drops_backed base state new seats seats' other keeps drops same all = subst (λ s. AllBacked new s) (sym drops) (backed_without (by_via base) state new seats keeps all)
-
 pub ends_backed :
     (made : Call) (state new : State) (t : ℕ) (object : ObjectRow) (seats seats' : List (Option Seat)) (reply : Reply) → is_on_object made ≡ true → KeepsBacked (ended_by_call state t made) state new → row_at state (named made) ≡ object
     → EndsBy made object seats seats' reply → (IsRefusal reply → new ≡ state) → AllBacked state seats → AllBacked new seats'
 ends_backed (call.Delete b) state new t object seats seats' reply on keeps at ends same all =
-    drops_backed object.base state new seats seats' reply (subst (λ (r : ObjectRow). KeepsBacked (by_via r.base) state new) at keeps) ends same all
+    drops_backed (by_via object.base) state new seats seats' reply (subst (λ (r : ObjectRow). KeepsBacked (by_via r.base) state new) at keeps) ends same all
 ends_backed (call.Pwdel b password) state new t object seats seats' reply on keeps at ends same all =
-    drops_backed object.base state new seats seats' reply (subst (λ (r : ObjectRow). KeepsBacked (by_via r.base) state new) at keeps) ends same all
-ends_backed (call.Pwadd b rights until) state new t object seats seats' reply on keeps at ends same all = subst (λ s. AllBacked new s) (sym ends) (backed_still state new seats keeps all)
+    drops_backed (by_via object.base) state new seats seats' reply (subst (λ (r : ObjectRow). KeepsBacked (by_via r.base) state new) at keeps) ends same all
+ends_backed (call.Pwadd b rights until) state new t object seats seats' reply on keeps at ends same all = same_backed state new seats seats' keeps ends all
+ends_backed (call.Entry b off) state new t object seats seats' reply on keeps at ends same all = same_backed state new seats seats' keeps ends all
+ends_backed (call.Ext b clist password) state new t object seats seats' reply on keeps at ends same all = same_backed state new seats seats' keeps ends all
+ends_backed (call.Recharge b account password) state new t object seats seats' reply on keeps at ends same all = same_backed state new seats seats' keeps ends all
 ends_backed other state new t object seats seats' reply on keeps at ends same all = cc
 
 -- what is said of the address and the right that were told

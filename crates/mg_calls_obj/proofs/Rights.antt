@@ -4,6 +4,7 @@ use Rattle.std.specs.Prelude.{◌==◌, find, map, Option, None}
 use Rattle.std.proofs.Math.Seq.{drop-cons, take-suc}
 use Rattle.std.proofs.lemmas.List.{append-nil, append_assoc, drop_all, map-append}
 use Rattle.mg_calls_dom.specs.LineLemmas.{as_if, failed_access, keeps_line, limit_append}
+use Rattle.mg_calls_dom.specs.ReachedLemmas.{same_threads}
 use Rattle.mg_laws.specs.Costs.{SearchesGoOn, SearchesKeepRules}
 use Rattle.mg_model.specs.declared.calls.Call.TheVariants as call
 use Rattle.mg_model.specs.declared.calls.Line.{Line}
@@ -17,7 +18,6 @@ use Rattle.mg_model.specs.State.{State, Thread}
 use Rattle.mg_model.specs.Threads.{is_thread}
 use Rattle.mg_vcache.specs.Seats.{is_kept}
 use Rattle.mg_volume.specs.Held.{VolumeHeld}
-use Rattle.mg_volume.specs.Laws.{now_threads}
 use Rattle.mg_volume.specs.Meaning.{Keeps, threads_in}
 
 module _ (state : State) (t a : ℕ) where
@@ -92,12 +92,9 @@ valid-since one other access seats seats' kept' words e same valid = subst (λ s
 pub limit-since : (one other : State) (access : Access) (seats seats' : List (Option Seat)) (u w : ℕ) → other ≡ one → seats' ≡ seats → w ≤ u + access_limit (λ key. is_kept seats' key) other access → w ≤ u + access_limit (λ key. is_kept seats key) one access
 limit-since one other access seats seats' u w e same few = subst (λ s. w ≤ u + access_limit (λ key. is_kept seats key) s access) e (subst (λ s. w ≤ u + access_limit (λ key. is_kept s key) other access) same few)
 
--- the threads stay where the state does
-pub same-threads : (a b : VolumeHeld) → Keeps a b → threads_in b ≡ threads_in a
-same-threads a b keeps = sym (now_threads b []) ∙ ap (λ (s : State). s.threads) (keeps.now []) ∙ now_threads a []
-
+-- a thread that is not there is not there where the state stays
 pub gone-since : (a b : VolumeHeld) (t : ℕ) → Keeps a b → find (λ (thread : Thread). thread.number == t) (threads_in a) ≡ None → find (λ (thread : Thread). thread.number == t) (threads_in b) ≡ None
-gone-since a b t keeps gone = ap (λ threads. find (λ (thread : Thread). thread.number == t) threads) (same-threads a b keeps) ∙ gone
+gone-since a b t keeps gone = ap (λ threads. find (λ (thread : Thread). thread.number == t) threads) (same_threads a b keeps) ∙ gone
 
 -- an `info` has no word of its own
 pub no-words : (state : State) (t a : ℕ) → (let line : Line = record { thread = t; call = call.Info a } in words_of state line) ≡ 0

@@ -1,16 +1,22 @@
 -- What a call on an object makes of its row, by its tests.
-use Rattle.std.specs.Prelude.{◌≡◌, ◌==◌, ◌||◌, ◌++◌, ◌∷◌, [], ℕ, nat_le, Bool, true, false, not, List, Option, Some, IfSome, IsSomeAnd, filter, find, length, unwrap_or}
+use Rattle.std.specs.Prelude.{◌≡◌, ◌+◌, ◌==◌, ◌||◌, ◌++◌, ◌∷◌, [], ℕ, nat_le, nat_lt, Bool, true, false, not, if◌then◌else◌, List, Option, Some, IfSome, IsSomeAnd, filter, find, length, unwrap_or}
 use Rattle.std.specs.List.{list_any}
 use Rattle.std.proofs.Common.{refl, sym, ap, subst, ◌∙◌}
-use Rattle.mg_model.specs.declared.replies.Refusal.TheVariants.{Denied, Limit, NoPassword, Past}
+use Rattle.mg_calls_obj.specs.Altering.{is_crowded, is_outside, paying_refusal}
+use Rattle.mg_model.specs.declared.replies.Refusal.{Refusal}
+use Rattle.mg_model.specs.declared.replies.Refusal.TheVariants.{Account, Debt, Denied, Limit, NoPassword, Past, Range}
+use Rattle.mg_model.specs.declared.replies.Reply.{Reply}
 use Rattle.mg_model.specs.declared.replies.Reply.TheVariants.{Done, Value}
 use Rattle.mg_model.specs.declared.rights.Right.TheVariants.{D, O}
 use Rattle.mg_model.specs.Access.{allowed}
+use Rattle.mg_model.specs.Bank.{opens, owed_by}
 use Rattle.mg_model.specs.Limits.{never, password_limit}
-use Rattle.mg_model.specs.ObjectCalls.{all_drawn, delete, drawn, has_password, is_past, next_password, pwadd, pwdel, row_at, with_row_at}
+use Rattle.mg_model.specs.ObjectCalls.{all_drawn, delete, drawn, entry, ext, extension_of, has_password, is_entry, is_past, next_password, pwadd, pwdel, recharge, row_at, with_entry}
 use Rattle.mg_model.specs.Objects.{with_row, without_object}
-use Rattle.mg_model.specs.Refused.{Answer, row}
+use Rattle.mg_model.specs.Refused.{Answer, first_refusal, row, unless_refused}
 use Rattle.mg_model.specs.State.{ObjectRow, State}
+use Rattle.mg_volume.specs.Held.{VolumeHeld}
+use Rattle.mg_volume.specs.Meaning.{accounts_in}
 use Rattle.mg_volume.specs.Staging.{MayChange, has_base}
 
 -- a state with a change of the row of an object
@@ -48,6 +54,19 @@ found_any test (r ∷ rows) object is = by_test (test r) refl (found_any test ro
 pub based_there : (rows : List ObjectRow) (object : ObjectRow) → find (λ (r : ObjectRow). r.base == object.base) rows ≡ Some object → has_base object.base rows ≡ true
 based_there rows object held = found_any (λ (r : ObjectRow). r.base == object.base) rows object held
 
+-- an entry moves no object
+pub entry_moves : (object new : ObjectRow) (address : ℕ) → new ≡ with_entry object address → (new.base ≡ object.base) × (object.pages ≡ new.pages)
+entry_moves object new address is = by_test (is_entry object address) is
+  where
+    by_test : (v : Bool) → new ≡ (if v then object else record object { entries = object.entries ++ address ∷ [] }) → (new.base ≡ object.base) × (object.pages ≡ new.pages)
+    by_test true e = (ap (λ (r : ObjectRow). r.base) e, sym (ap (λ (r : ObjectRow). r.pages) e))
+    by_test false e = (ap (λ (r : ObjectRow). r.base) e, sym (ap (λ (r : ObjectRow). r.pages) e))
+
+-- what is staged is the state with the change
+pub staged-is :
+    (state new : State) (object given : ObjectRow) (change : ObjectRow → ObjectRow) (reply : Reply) → given.base ≡ object.base → new ≡ record state { objects = with_row given.base change state.objects } → ◌≡◌ {A = Answer} (changed state object change, reply) (new, reply)
+staged-is state new object given change reply base is = ap (λ b. (record state { objects = with_row b change state.objects }, reply)) (sym base) ∙ ap (λ s. (s, reply)) (sym is)
+
 module _ (state : State) (t a : ℕ) (object : ObjectRow) (named : row_at state a ≡ object) where
   -- `delete`
   pub delete-is : allowed state t a D ≡ true → delete state t a ≡ (record state { objects = without_object object.base state.objects }, Done)
@@ -55,15 +74,18 @@ module _ (state : State) (t a : ℕ) (object : ObjectRow) (named : row_at state 
       ap (λ m. row state ((not m, Denied) ∷ []) (record state { objects = without_object (row_at state a).base state.objects }, Done)) may
       ∙ ap (λ (r : ObjectRow). (record state { objects = without_object r.base state.objects }, Done)) named
 
-  -- `pwdel`
   module _ (may : allowed state t a O ≡ true) where
+    -- what an owner's call comes to
+    of_owner : (call : Bool → ObjectRow → Answer) → call (allowed state t a O) (row_at state a) ≡ call true object
+    of_owner call = ap (λ m. call m (row_at state a)) may ∙ ap (λ r. call true r) named
+
+    -- `pwdel`
     abbrev by_has : Bool → Bool → Answer → Answer
     by_has m has done = row state ((not m, Denied) ∷ (not has, NoPassword) ∷ []) done
 
     pub pwdel-is : (password : ℕ) (has : Bool) → list_any (λ pw. has_password password pw) object.passwords ≡ has → pwdel state t a password ≡ by_has true has (changed state object (without_password password), Done)
     pwdel-is password has is =
-        ap (λ m. by_has m (list_any (λ pw. has_password password pw) (row_at state a).passwords) (with_row_at state a (without_password password), Done)) may
-        ∙ ap (λ (r : ObjectRow). by_has true (list_any (λ pw. has_password password pw) r.passwords) (changed state r (without_password password), Done)) named
+        of_owner (λ m r. by_has m (list_any (λ pw. has_password password pw) r.passwords) (changed state r (without_password password), Done))
         ∙ ap (λ h. by_has true h (changed state object (without_password password), Done)) is
 
     -- `pwadd`
@@ -74,7 +96,35 @@ module _ (state : State) (t a : ℕ) (object : ObjectRow) (named : row_at state 
         (rights : ℕ) (until : Option ℕ) (past limit : Bool) → is_past state.counters.period until ≡ past → (nat_le password_limit (length object.passwords) || all_drawn state) ≡ limit
         → pwadd state t a rights until ≡ by_past true past limit (changed (drawn state) object (with_password (next_password state) rights (unwrap_or until never)), Value (next_password state))
     pwadd-is rights until past limit is_p is_l =
-        ap (λ m. by_past m (is_past state.counters.period until) (nat_le password_limit (length (row_at state a).passwords) || all_drawn state) (with_row_at (drawn state) a (with_password (next_password state) rights (unwrap_or until never)), Value (next_password state))) may
-        ∙ ap (λ (r : ObjectRow). by_past true (is_past state.counters.period until) (nat_le password_limit (length r.passwords) || all_drawn state) (changed (drawn state) r (with_password (next_password state) rights (unwrap_or until never)), Value (next_password state))) named
-        ∙ ap (λ p. by_past true p (nat_le password_limit (length object.passwords) || all_drawn state) (changed (drawn state) object (with_password (next_password state) rights (unwrap_or until never)), Value (next_password state))) is_p
-        ∙ ap (λ l. by_past true past l (changed (drawn state) object (with_password (next_password state) rights (unwrap_or until never)), Value (next_password state))) is_l
+        let done : ObjectRow → Answer = λ r. (changed (drawn state) r (with_password (next_password state) rights (unwrap_or until never)), Value (next_password state)) in
+        of_owner (λ m r. by_past m (is_past state.counters.period until) (nat_le password_limit (length r.passwords) || all_drawn state) (done r))
+        ∙ ap (λ p. by_past true p (nat_le password_limit (length object.passwords) || all_drawn state) (done object)) is_p
+        ∙ ap (λ l. by_past true past l (done object)) is_l
+
+    -- `entry`
+    abbrev by_place : Bool → Bool → Bool → Answer → Answer
+    by_place m outside crowded done = row state ((not m, Denied) ∷ (outside, Range) ∷ (crowded, Limit) ∷ []) done
+
+    pub entry-is :
+        (off address : ℕ) (outside crowded : Bool) → address ≡ object.base + off → is_outside object off ≡ outside → is_crowded object address ≡ crowded
+        → entry state t a off ≡ by_place true outside crowded (changed state object (λ r. with_entry r address), Value address)
+    entry-is off address outside crowded is_a is_o is_c =
+        let done : ObjectRow → ℕ → Answer = λ r x. (changed state r (λ o. with_entry o x), Value x) in
+        of_owner (λ m r. by_place m (is_outside r off) (is_crowded r (r.base + off)) (done r (r.base + off)))
+        ∙ ap (λ x. by_place true (is_outside object off) (is_crowded object x) (done object x)) (sym is_a)
+        ∙ ap (λ o. by_place true o (is_crowded object address) (done object address)) is_o
+        ∙ ap (λ c. by_place true outside c (done object address)) is_c
+
+    -- `ext`
+    pub ext-is : (clist password : ℕ) → ext state t a clist password ≡ (changed state object (λ r. record r { extension = extension_of clist password }), Done)
+    ext-is clist password = of_owner (λ m r. row state ((not m, Denied) ∷ []) (changed state r (λ o. record o { extension = extension_of clist password }), Done))
+
+    -- `recharge`
+    pub recharge-is :
+        (v : VolumeHeld) (account password : ℕ) (word : Option Refusal) → state.accounts ≡ accounts_in v → word ≡ paying_refusal v account password
+        → recharge state t a account password ≡ unless_refused word state (changed state object (λ r. record r { account = account }), Done)
+    recharge-is v account password word accounts is =
+        let done : ObjectRow → Answer = λ r. (changed state r (λ o. record o { account = account }), Done) in
+        of_owner (λ m r. row state ((not m, Denied) ∷ (not (opens state.accounts account password), Account) ∷ (nat_lt 0 (owed_by state.accounts account), Debt) ∷ []) (done r))
+        ∙ ap (λ l. unless_refused (first_refusal ((not (opens l account password), Account) ∷ (nat_lt 0 (owed_by l account), Debt) ∷ [])) state (done object)) accounts
+        ∙ ap (λ w. unless_refused w state (done object)) (sym is)

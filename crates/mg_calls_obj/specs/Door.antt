@@ -22,12 +22,18 @@ abbrev pub is_on_object : Call → Bool
 is_on_object (call.Delete b) = true
 is_on_object (call.Pwadd b rights until) = true
 is_on_object (call.Pwdel b password) = true
+is_on_object (call.Entry b off) = true
+is_on_object (call.Ext b clist password) = true
+is_on_object (call.Recharge b account password) = true
 is_on_object other = false
 
 abbrev pub named : Call → ℕ
 named (call.Delete b) = b
 named (call.Pwadd b rights until) = b
 named (call.Pwdel b password) = b
+named (call.Entry b off) = b
+named (call.Ext b clist password) = b
+named (call.Recharge b account password) = b
 named other = 0
 
 abbrev pub asked : Call → Right
@@ -42,5 +48,6 @@ ActsBy made object old new reply =
 
 -- which seats it ends
 abbrev pub EndsBy : Call → ObjectRow → List (Option Seat) → List (Option Seat) → Reply → Type 0
-EndsBy (call.Pwadd b rights until) object old new reply = new ≡ old
-EndsBy other object old new reply = Drops (by_via object.base) old new reply
+EndsBy (call.Delete b) object old new reply = Drops (by_via object.base) old new reply
+EndsBy (call.Pwdel b password) object old new reply = Drops (by_via object.base) old new reply
+EndsBy other object old new reply = new ≡ old

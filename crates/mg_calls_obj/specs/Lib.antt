@@ -1,3 +1,4 @@
 -- Definitions.
 pub mod Door
 pub mod Creating
+pub mod Altering

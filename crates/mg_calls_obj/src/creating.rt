@@ -46,10 +46,10 @@ fn refusal(v: &Volume, n: u64, account: u64, password: u64) -> Option<Refusal>
     if n == 0 || n > OBJECT_PAGE_LIMIT {
         return Some(Refusal::Size);
     }
-    if !is_opened(v, account, password) {
+    if !v.opens(account, password) {
         return Some(Refusal::Account);
     }
-    if owes(v, account) {
+    if v.owed_by(account) > 0 {
         return Some(Refusal::Debt);
     }
     if is_spent(v) {
@@ -59,28 +59,6 @@ fn refusal(v: &Volume, n: u64, account: u64, password: u64) -> Option<Refusal>
         return Some(Refusal::Full);
     }
     None
-}
-
-// Whether this password opens the account.
-fn is_opened(v: &Volume, account: u64, password: u64) -> bool
-    ensures opens { result ≡ opens (accounts_in v.now) account password }
-    ensures some { result ≡ true → 1 ≤ account }
-    ensures few { result ≡ true → account ≤ 1024 }
-{
-    match v.account(account) {
-        Some(row) => row.password == password,
-        None => false,
-    }
-}
-
-// Whether an account owes something.
-fn owes(v: &Volume, account: u64) -> bool
-    ensures { result ≡ nat_lt 0 (owed_by (accounts_in v.now) account) }
-{
-    match v.account(account) {
-        Some(row) => row.owed > 0,
-        None => false,
-    }
 }
 
 // Whether there may be no more objects, or no password is left.

@@ -12,6 +12,7 @@ ghost use Rattle.mg_vcache.specs.Seats.{AllBacked, is_kept};
 ghost use Rattle.mg_volume.specs.Calls.{IsSoundOn, Serves, Stages};
 ghost use Rattle.mg_volume.specs.Meaning.{Keeps, now_of, objects_in, staged_of};
 
+use crate::altering::{entry, ext, recharge};
 use crate::making::delete;
 use crate::passwords::{pwadd, pwdel};
 use mg_calls_dom::reach;
@@ -23,9 +24,9 @@ use mg_vcache::VCache;
 use mg_volume::Volume;
 use std::sync::ledger::Ledger;
 
-/// A call on the object that an address names: `delete`, `pwadd` or `pwdel`. A thread that may not reach it with the right that
-/// the call wants is refused (Denied), as where no such thread lives, before all else. [`Failed`] comes only where a call of
-/// the disk failed, and the state then stays, as where the call is refused.
+/// A call on the object that an address names: `delete`, `pwadd`, `pwdel`, `entry`, `ext` or `recharge`. A thread that may not
+/// reach it with the right that the call wants is refused (Denied), as where no such thread lives, before all else. [`Failed`]
+/// comes only where a call of the disk failed, and the state then stays, as where the call is refused.
 pub fn on_object<D: Disk, L: Ledger>(
     v: &mut Volume,
     c: &mut VCache,
@@ -65,6 +66,9 @@ fn named(call: &Call) -> u64
         Call::Delete { base } => base,
         Call::Pwadd { base, .. } => base,
         Call::Pwdel { base, .. } => base,
+        Call::Entry { base, .. } => base,
+        Call::Ext { base, .. } => base,
+        Call::Recharge { base, .. } => base,
         _ => unreachable!(),
     }
 }
@@ -94,6 +98,17 @@ fn act(v: &mut Volume, c: &mut VCache, object: ObjRow, call: &Call) -> Reply
         Call::Delete { .. } => delete(v, c, object),
         Call::Pwadd { rights, until, .. } => pwadd(v, object, rights, until),
         Call::Pwdel { password, .. } => pwdel(v, c, object, password),
+        Call::Entry { off, .. } => entry(v, object, off),
+        Call::Ext {
+            clist,
+            password,
+            ..
+        } => ext(v, object, clist, password),
+        Call::Recharge {
+            account,
+            password,
+            ..
+        } => recharge(v, object, account, password),
         _ => unreachable!(),
     }
 }

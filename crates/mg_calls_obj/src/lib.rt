@@ -4,12 +4,14 @@
 //! point where the thread is known; what it read and staged is said in the words of `mg_volume`'s `specs/Calls.antt`.
 #![tactic(auto)]
 
+mod altering;
 mod creating;
 mod door;
 mod making;
 mod passwords;
 mod telling;
 
+pub use altering::{entry, ext, recharge};
 pub use creating::create;
 pub use door::on_object;
 pub use making::delete;

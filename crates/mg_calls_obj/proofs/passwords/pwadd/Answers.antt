@@ -1,10 +1,9 @@
 use Rattle.std.specs.Prelude.{◌≡◌, ◌||◌, nat_le, true, false, length, unwrap_or}
 use Rattle.std.proofs.Common.{refl, sym, ap, ◌∙◌}
-use Rattle.mg_calls_obj.proofs.Rows.{change_gives, changed, pwadd-is, with_password}
+use Rattle.mg_calls_obj.proofs.Rows.{change_gives, changed, pwadd-is, staged-is, with_password}
 use Rattle.mg_model.specs.declared.replies.Reply.TheVariants.{Value}
 use Rattle.mg_model.specs.Limits.{draw_limit, never, password_limit}
 use Rattle.mg_model.specs.ObjectCalls.{all_drawn, drawn, is_past}
-use Rattle.mg_model.specs.Objects.{with_row}
 use Rattle.mg_model.specs.State.{Counters, ObjectRow}
 use Rattle.mg_volume.specs.Laws.{now_counters}
 use Rattle.mg_volume.specs.Meaning.{now_of, objects_in}
@@ -52,5 +51,4 @@ returns-clause-acts c image t a spelled formed named may =
     ∙ ap (λ p. (changed (drawn state) object (with_password p rights (unwrap_or until never)), Value p)) (sym (c.next_password-password.ensures.drawn image))
     ∙ ap (λ u. (changed (drawn state) object (with_password password rights u), Value password)) (sym c.unwrap_or.ensures)
     ∙ ap (λ s. (changed s object change, Value password)) (sym (c.next_password-password.ensures.now image))
-    ∙ ap (λ b. (record (now_of mid image) { objects = with_row b change (now_of mid image).objects }, Value password)) (sym base)
-    ∙ ap (λ s. (s, Value password)) (sym now)
+    ∙ staged-is (now_of mid image) (now_of c.change.new.self image) object new change (Value password) base now

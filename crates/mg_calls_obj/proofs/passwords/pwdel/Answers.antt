@@ -1,12 +1,11 @@
 use Rattle.std.specs.Prelude.{◌≡◌, Bool, true, false, if◌then◌else◌, Result, Ok, Err}
 use Rattle.std.specs.List.{list_any}
 use Rattle.std.proofs.Common.{refl, sym, ap, ◌∙◌}
-use Rattle.mg_calls_obj.proofs.Rows.{change_gives, pwdel-is, without_password}
+use Rattle.mg_calls_obj.proofs.Rows.{change_gives, pwdel-is, staged-is, without_password}
 use Rattle.mg_model.specs.declared.replies.Refusal.{Refusal}
 use Rattle.mg_model.specs.declared.replies.Refusal.TheVariants.{NoPassword}
 use Rattle.mg_model.specs.declared.replies.Reply.TheVariants.{Done}
 use Rattle.mg_model.specs.ObjectCalls.{has_password}
-use Rattle.mg_model.specs.Objects.{with_row}
 use Rattle.mg_model.specs.State.{ObjectRow}
 use Rattle.mg_volume.specs.Meaning.{now_of, objects_in}
 use Rattle.mg_calls_obj.proofs.passwords.pwdel.Goals as goal
@@ -26,6 +25,4 @@ returns-in-Ok-clause-acts c image t a spelled formed named may =
     let base : new.base ≡ object.base = ap (λ (r : ObjectRow). r.base) c.remove.ensures.list in
     let rows = objects_in c.args.v.now in
     let now = c.change.ensures.now (without_password password) (change_gives rows rows object new refl c.requires.held base (without_password password) (sym c.remove.ensures.list)) image in
-    pwdel-is state t a object named may password true has
-    ∙ ap (λ b. (record state { objects = with_row b (without_password password) state.objects }, Done)) (sym base)
-    ∙ ap (λ s. (s, Done)) (sym now)
+    pwdel-is state t a object named may password true has ∙ staged-is state (now_of c.change.new.self image) object new (without_password password) Done base now
