@@ -1,0 +1,2 @@
+pub mod AccountRows
+pub mod RentRow

@@ -1,0 +1,77 @@
+// Accounts are opened, and asked for, and credits are paid.
+ghost use Rattle.std.specs.Prelude.{◌≡◌, ◌≤◌, ◌==◌, filter, sum_by};
+ghost use Rattle.mg_model.specs.Bank.{balance_of, owed_by};
+ghost use Rattle.mg_model.specs.BankCalls as calls;
+ghost use Rattle.mg_model.specs.FewSlots.{HasFewSlots};
+ghost use Rattle.mg_model.specs.Refused.{IsRefusal};
+ghost use Rattle.mg_volume.specs.Calls.{Answers, Stages};
+ghost use Rattle.mg_volume.specs.Meaning.{accounts_in, objects_in, staged_of};
+
+use crate::refusing::{opening, paying};
+use mg_model::{Refusal, Reply};
+use mg_volume::Volume;
+
+/// A new account, the next in number, with credits of an account that this password opens. Its password is the next that is
+/// drawn, and it owes nothing. The refusals come in this order: no such account, or another password than its own (Account);
+/// fewer credits than these (Credit); 1,024 accounts, or no password left to draw (Limit).
+pub fn account(v: &mut Volume, account: u64, password: u64, amount: u64) -> Reply
+    requires few { staged_of v.old ≤ 157 }
+    ensures answers { Answers (λ state. calls.open_account state account password amount) v.old v.new result }
+    ensures stages { Stages 3 v.old v.new }
+    ensures refused { IsRefusal result → v.new ≡ v.old }
+    ensures slots { HasFewSlots result }
+{
+    match opening(v, account, password, amount) {
+        Some(word) => Reply::No(word),
+        None => {
+            let number = v.account_count() + 1;
+            let fresh = v.next_password();
+            v.open_account(account, amount, fresh);
+            Reply::Opened(number, fresh)
+        }
+    }
+}
+
+/// Credits of an account that this password opens go to another account, or to itself. The refusals come in this order: no
+/// such account, another password than its own, or no account to pay to (Account); fewer credits than these (Credit).
+pub fn pay(v: &mut Volume, account: u64, password: u64, to: u64, amount: u64) -> Reply
+    requires few { staged_of v.old ≤ 158 }
+    ensures answers { Answers (λ state. calls.pay state account password to amount) v.old v.new result }
+    ensures stages { Stages 2 v.old v.new }
+    ensures refused { IsRefusal result → v.new ≡ v.old }
+    ensures slots { HasFewSlots result }
+{
+    match paying(v, account, password, to, amount) {
+        Some(word) => Reply::No(word),
+        None => {
+            v.pay(account, to, amount);
+            Reply::Done
+        }
+    }
+}
+
+/// The credits of an account that this password opens, what it owes, and for how many pages it pays; another account, or
+/// another password, is refused (Account). The state stays.
+pub fn balance(v: &mut Volume, account: u64, password: u64) -> Reply
+    ensures answers { Answers (λ state. calls.balance state account password) v.old v.new result }
+    ensures stages { Stages 0 v.old v.new }
+    ensures refused { IsRefusal result → v.new ≡ v.old }
+    ensures slots { HasFewSlots result }
+{
+    if v.opens(account, password) {
+        funds(v, account)
+    } else {
+        Reply::No(Refusal::Account)
+    }
+}
+
+// What is told of an account.
+fn funds(v: &Volume, account: u64) -> Reply
+    ensures { result ≡ Reply.Funds (balance_of (accounts_in v.now) account) (owed_by (accounts_in v.now) account) (sum_by (λ row. row.pages) (filter (λ row. row.account == account) (objects_in v.now))) }
+{
+    Reply::Funds(
+        v.balance_of(account),
+        v.owed_by(account),
+        v.paid_by(account),
+    )
+}

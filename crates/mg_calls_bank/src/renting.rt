@@ -1,0 +1,53 @@
+// Rent is collected.
+ghost use Rattle.std.specs.Prelude.{◌≡◌, ◌≤◌, ◌==◌};
+ghost use Rattle.mg_model.specs.Backed.{by_each};
+ghost use Rattle.mg_model.specs.BankCalls as calls;
+ghost use Rattle.mg_model.specs.FewSlots.{HasFewSlots};
+ghost use Rattle.mg_model.specs.Limits.{period_limit};
+ghost use Rattle.mg_model.specs.Refused.{IsRefusal};
+ghost use Rattle.mg_vcache.specs.Drops.{Drops};
+ghost use Rattle.mg_volume.specs.Calls.{Answers, Stages};
+ghost use Rattle.mg_volume.specs.Meaning.{counters_in, staged_of};
+
+use mg_model::limits::PERIOD_LIMIT;
+use mg_model::{Refusal, Reply};
+use mg_vcache::VCache;
+use mg_volume::Volume;
+
+/// The rent of a period is collected, and the next period begins: each account pays for its pages at the rate of the tariff,
+/// and the treasury, account 1, gets the sum. In the last period it is refused (Calendar). All rights that were found end,
+/// since passwords may end with the period.
+pub fn rent(v: &mut Volume, c: &mut VCache) -> Reply
+    requires few { staged_of v.old ≤ 143 }
+    ensures answers { Answers (λ state. calls.rent state) v.old v.new result }
+    ensures seats { Drops by_each c.old c.new result }
+    ensures stages { Stages 17 v.old v.new }
+    ensures refused { IsRefusal result → v.new ≡ v.old }
+    ensures slots { HasFewSlots result }
+{
+    let period = period(v);
+    if is_last(period) {
+        return Reply::No(Refusal::Calendar);
+    }
+    let rate = v.rate();
+    let paid = v.collect();
+    c.drop_all();
+    Reply::Collected(period + 1, rate, paid)
+}
+
+// The period, at most `2^24 - 1`.
+fn period(v: &Volume) -> u64
+    ensures period { result ≡ (counters_in v.now).period }
+    ensures few { result ≤ period_limit }
+{
+    let globals = v.globals();
+    let _kept = globals.draws();
+    globals.period()
+}
+
+// Whether a period is the last.
+fn is_last(period: u64) -> bool
+    ensures { result ≡ (period == period_limit) }
+{
+    period == PERIOD_LIMIT
+}
