@@ -22,7 +22,7 @@ use Rattle.mg_volume.specs.Meaning.{now_of, threads_in}
 use Rattle.mg_volume.specs.RunLemmas.{told_thread}
 
 -- no access keeps what is kept
-no-keys : (state : State) (kept kept' : Key → Bool) → ((key : Key) → kept' key ≡ kept key) → KeepsKeys state [] kept kept'
+pub no-keys : (state : State) (kept kept' : Key → Bool) → ((key : Key) → kept' key ≡ kept key) → KeepsKeys state [] kept kept'
 no-keys state kept kept' same = record { stays = λ key was own. same key ∙ was; comes = λ key first. cc }
 
 -- a call that makes no access and has no word

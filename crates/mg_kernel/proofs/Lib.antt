@@ -1,3 +1,4 @@
 mod Counted
 mod Standing
 mod Threads
+mod Quiet

@@ -1,6 +1,8 @@
 -- Which thread makes a call.
-use Rattle.std.specs.Prelude.{◌≡◌, ◌==◌, ℕ, Option, Some, None, find, is_some, if◌then◌else◌}
-use Rattle.std.proofs.Common.{refl, ap}
+use Rattle.std.specs.Prelude.{◌≡◌, ◌==◌, ◌||◌, ℕ, true, List, [], ◌∷◌, Option, Some, None, find, is_some, if◌then◌else◌}
+use Rattle.std.specs.List.{list_any}
+use Rattle.std.proofs.Common.{refl, ap, ◌∙◌}
+use Rattle.std.proofs.lemmas.Bool.{cond_both}
 use Rattle.mg_disk.specs.Disk.{Image}
 use Rattle.mg_model.specs.declared.calls.Call.{Call}
 use Rattle.mg_model.specs.declared.calls.Call.TheVariants as call
@@ -13,6 +15,7 @@ use Rattle.mg_model.specs.Turn.{thread_call}
 use Rattle.mg_volume.specs.Held.{VolumeHeld}
 use Rattle.mg_volume.specs.Meaning.{now_of, threads_in}
 use Rattle.mg_volume.specs.RunLemmas.{told_thread}
+use Rattle.mg_volume.specs.Staging.{lives as lives_held}
 
 module _ (v : VolumeHeld) (image : Image) (t : ℕ) (answer : Answer) where
   by_found : (found : Option Thread) → find (λ (thread : Thread). thread.number == t) (threads_in v) ≡ found
@@ -34,3 +37,15 @@ by-thread call.Turn state t bad later turn next rent = absurd (turn refl)
 by-thread call.Next state t bad later turn next rent = absurd (next refl)
 by-thread call.Rent state t bad later turn next rent = absurd (rent refl)
 by-thread other state t bad later turn next rent = refl
+
+-- a thread that is found is held
+pub found-lives : (v : VolumeHeld) (t : ℕ) (thread : Thread) → find (λ (thread : Thread). thread.number == t) (threads_in v) ≡ Some thread → lives_held v t ≡ true
+found-lives v t thread found = any (threads_in v) found
+  where
+    any : (threads : List Thread) → find (λ (thread : Thread). thread.number == t) threads ≡ Some thread → list_any (λ (thread : Thread). thread.number == t) threads ≡ true
+    any [] none = absurd (cc)
+    any (x ∷ xs) some =
+        cond_both (x.number == t) (Some x) (find (λ (thread : Thread). thread.number == t) xs) (λ o. o ≡ Some thread → ((x.number == t) || list_any (λ (thread : Thread). thread.number == t) xs) ≡ true)
+        (λ here _. ap (λ b. b || list_any (λ (thread : Thread). thread.number == t) xs) here)
+        (λ other later. ap (λ b. b || list_any (λ (thread : Thread). thread.number == t) xs) other ∙ any xs later)
+        some

@@ -1,3 +1,4 @@
 pub mod Meaning
 pub mod Opening
 pub mod Calls
+pub mod Unasked

@@ -11,6 +11,7 @@
 mod answering;
 mod kernel;
 mod ranges;
+mod unasked;
 
 pub use kernel::Kernel;
 pub use mg_volume::OpenFault;

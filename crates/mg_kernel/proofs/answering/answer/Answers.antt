@@ -1,10 +1,24 @@
-use Rattle.std.proofs.Common.{◌∙◌}
+use Rattle.std.proofs.Common.{ap, subst, ◌∙◌}
 use Rattle.std.proofs.lemmas.Result.{IfOk-weaker, on_ok_weaker}
 use Rattle.mg_kernel.proofs.Counted.{of-thread, thread-limit, thread-line}
 use Rattle.mg_kernel.proofs.Threads.{by-thread}
+use Rattle.mg_model.specs.declared.calls.Call.TheVariants as call
+use Rattle.mg_model.specs.Backed.{KeepsBacked, by_each}
+use Rattle.mg_model.specs.Refused.{Answer}
 use Rattle.mg_vcache.specs.Seats.{is_kept}
+use Rattle.mg_vcache.specs.SeatLemmas.{drops_backed}
 use Rattle.mg_volume.specs.Meaning.{now_of}
 use Rattle.mg_kernel.proofs.answering.answer.Goals as goal
+
+pub returns-in-Rent-clause-backed : goal.returns-in-Rent-clause-backed
+returns-in-Rent-clause-backed g c image told =
+    let state = now_of c.args.v.now image in
+    let new = now_of c.rent.new.v image in
+    let formed = c.requires.sound.formed image told in
+    let answer = c.rent.ensures.answers image (c.requires.sound.stands.fits image told) formed in
+    let keeps : KeepsBacked by_each state new =
+    subst (λ s. KeepsBacked by_each state s) (ap (λ (a : Answer). a.0) answer) (c.steps_keep_backing.ensures.steps state (record { thread = 0; call = call.Rent }) formed) in
+    drops_backed by_each state new c.args.c.now c.rent.new.c c.rent.result keeps c.rent.ensures.seats (λ refused. ap (λ v. now_of v image) (c.rent.ensures.refused refused)) (c.requires.backed image told)
 
 pub returns-in_default-clause-answers : goal.returns-in_default-clause-answers
 returns-in_default-clause-answers g c =

@@ -1,11 +1,14 @@
 use Rattle.std.proofs.Common.{◌∙◌}
 use Rattle.std.proofs.lemmas.Result.{IfOk-weaker, on_ok_weaker}
 use Rattle.mg_kernel.proofs.Counted.{gone-thread, held-gone, held-lives, lives-limit, lives-thread}
-use Rattle.mg_kernel.proofs.Threads.{gone, lives}
+use Rattle.mg_kernel.proofs.Threads.{found-lives, gone, lives}
 use Rattle.mg_model.specs.Turn.{thread_call}
 use Rattle.mg_vcache.specs.Seats.{is_kept}
 use Rattle.mg_volume.specs.Meaning.{now_of}
 use Rattle.mg_kernel.proofs.answering.by_thread.Goals as goal
+
+pub called-requires-clause-lives : goal.called-requires-clause-lives
+called-requires-clause-lives g c = found-lives c.args.v.now c.args.t c.in-Some.ensures.found.0 c.in-Some.ensures.found.1
 
 pub returns-in-Some-clause-answers : goal.returns-in-Some-clause-answers
 returns-in-Some-clause-answers g c =

@@ -1,0 +1,80 @@
+-- What a call that asks for no right keeps and costs.
+use Rattle.std.specs.Prelude.{◌≡◌, ◌&&◌, ℕ, Bool, true, false, List, [], Option}
+use Rattle.std.proofs.Common.{refl, sym, ap, arith, subst, ◌∙◌}
+use Rattle.mg_kernel.proofs.Counted.{no-keys}
+use Rattle.mg_kernel.specs.Calls.{KeepsCall}
+use Rattle.mg_kernel.specs.Unasked.{EndsUnasked, asks_nothing}
+use Rattle.mg_model.specs.declared.calls.Call.{Call}
+use Rattle.mg_model.specs.declared.calls.Call.TheVariants as call
+use Rattle.mg_model.specs.declared.replies.Reply.{Reply}
+use Rattle.mg_model.specs.declared.replies.Reply.TheVariants.{No}
+use Rattle.mg_model.specs.declared.seats.Seat.{Seat}
+use Rattle.mg_model.specs.Accesses.{call_accesses, call_words}
+use Rattle.mg_model.specs.Backed.{KeepsBacked, by_thread, ended_by_call}
+use Rattle.mg_model.specs.Kept.{KeepsKeys}
+use Rattle.mg_model.specs.Refused.{Answer, IsRefusal}
+use Rattle.mg_model.specs.State.{State}
+use Rattle.mg_model.specs.Turn.{thread_call}
+use Rattle.mg_model.specs.Warmth.{disturbs, is_ok}
+use Rattle.mg_vcache.specs.Drops.{Drops}
+use Rattle.mg_vcache.specs.Seats.{AllBacked, is_kept}
+use Rattle.mg_vcache.specs.SeatLemmas.{drops_backed, drops_none, same_backed}
+
+-- it makes no access, and has no word
+pub record IsStill (state : State) (t : ℕ) (made : Call) : Type 0 where
+  pub none : call_accesses state t made ≡ []
+  pub own : call_words state t made ≡ 0
+
+pub is-still : (made : Call) (state : State) (t : ℕ) → asks_nothing made ≡ true → IsStill state t made
+is-still (call.Create n account password) state t asks = record { none = refl; own = refl }
+is-still (call.Apdadd clist password) state t asks = record { none = refl; own = refl }
+is-still (call.Apddel index) state t asks = record { none = refl; own = refl }
+is-still call.Apdlist state t asks = record { none = refl; own = refl }
+is-still call.Ret state t asks = record { none = refl; own = refl }
+is-still (call.Account account password amount) state t asks = record { none = refl; own = refl }
+is-still (call.Pay account password to amount) state t asks = record { none = refl; own = refl }
+is-still (call.Balance account password) state t asks = record { none = refl; own = refl }
+is-still other state t asks = cc
+
+-- each seat that is left is backed
+module _ (state new : State) (t : ℕ) (seats seats' : List (Option Seat)) (reply : Reply) where
+  pub unasked-backed : (made : Call) → asks_nothing made ≡ true → KeepsBacked (ended_by_call state t made) state new → EndsUnasked t made seats seats' reply → (IsRefusal reply → new ≡ state) → AllBacked state seats → AllBacked new seats'
+  unasked-backed (call.Create n account password) asks keeps ends same all = same_backed state new seats seats' keeps ends all
+  unasked-backed (call.Apddel index) asks keeps ends same all = drops_backed (by_thread t) state new seats seats' reply keeps ends same all
+  unasked-backed call.Ret asks keeps ends same all = drops_backed (by_thread t) state new seats seats' reply keeps ends same all
+  unasked-backed (call.Apdadd clist password) asks keeps ends same all = same_backed state new seats seats' keeps ends all
+  unasked-backed call.Apdlist asks keeps ends same all = same_backed state new seats seats' keeps ends all
+  unasked-backed (call.Account account password amount) asks keeps ends same all = same_backed state new seats seats' keeps ends all
+  unasked-backed (call.Pay account password to amount) asks keeps ends same all = same_backed state new seats seats' keeps ends all
+  unasked-backed (call.Balance account password) asks keeps ends same all = same_backed state new seats seats' keeps ends all
+  unasked-backed other asks keeps ends same all = cc
+
+-- where it disturbs nothing it ends no seat
+ok-false : (v : Bool) → (v && true) ≡ false → v ≡ false
+ok-false true is = is
+ok-false false is = refl
+
+module _ (state : State) (t : ℕ) (seats seats' : List (Option Seat)) (reply : Reply) where
+  quiet-seats : (made : Call) → asks_nothing made ≡ true → EndsUnasked t made seats seats' reply → (is_ok reply && disturbs state t made) ≡ false → seats' ≡ seats
+  quiet-seats (call.Create n account password) asks ends quiet = ends
+  quiet-seats (call.Apddel index) asks ends quiet = drops_none (by_thread t) seats seats' reply ends (ok-false (is_ok reply) quiet)
+  quiet-seats call.Ret asks ends quiet = drops_none (by_thread t) seats seats' reply ends (ok-false (is_ok reply) quiet)
+  quiet-seats (call.Apdadd clist password) asks ends quiet = ends
+  quiet-seats call.Apdlist asks ends quiet = ends
+  quiet-seats (call.Account account password amount) asks ends quiet = ends
+  quiet-seats (call.Pay account password to amount) asks ends quiet = ends
+  quiet-seats (call.Balance account password) asks ends quiet = ends
+  quiet-seats other asks ends quiet = cc
+
+  pub unasked-keeps : (made : Call) (new : State) (steps : ℕ) → asks_nothing made ≡ true → thread_call state t made ≡ (new, reply) → EndsUnasked t made seats seats' reply → KeepsCall state t made (λ key. is_kept seats key) (λ key. is_kept seats' key) steps steps
+  unasked-keeps made new steps asks answer ends =
+      let still = is-still made state t asks in
+      let none = still.none in
+      let own = still.own in
+      record {
+        keys = λ quiet.
+            let same = quiet-seats made asks ends (sym (ap (λ (a : Answer). is_ok a.1 && disturbs state t made) answer) ∙ quiet) in
+            subst (λ those. KeepsKeys state those (λ key. is_kept seats key) (λ key. is_kept seats' key)) (sym none) (no-keys state (λ key. is_kept seats key) (λ key. is_kept seats' key) (λ key. ap (λ s. is_kept s key) same));
+        least = omega arith;
+        most = omega arith;
+      }
