@@ -1,8 +1,9 @@
 //! Tests of rows, settings and places: bytes and numbers that no contract spells out.
 //!
-//! They stand above `mg_model`, `mg_rows`, `mg_layout`, `mg_index` and `mg_objects`, over their public calls, so that those
-//! are proved once. A contract there says of each call what its definition answers; here are bytes of rows, a superblock and a
-//! fresh volume that were worked out by hand from docs/VOLUME.md, passwords that RFC 8439 prints, and calls that take memory.
+//! They stand above `mg_model`, `mg_rows`, `mg_layout`, `mg_index`, `mg_objects` and `mg_space`, over their public calls, so
+//! that those are proved once. A contract there says of each call what its definition answers; here are bytes of rows, a
+//! superblock and a fresh volume that were worked out by hand from docs/VOLUME.md, passwords that RFC 8439 prints, calls that
+//! take memory, and as many objects as there may be.
 #![tactic(auto)]
 
 #[cfg(test)]
@@ -13,3 +14,5 @@ mod layout;
 mod model;
 #[cfg(test)]
 mod rows;
+#[cfg(test)]
+mod spaces;

@@ -125,6 +125,21 @@ fn a_sink_that_fails(rt: HostRuntime) -> Result<(), Fail> {
     Ok(())
 }
 
+// The same of a rent: the period has passed.
+#[test]
+fn a_rent_that_is_not_put(rt: HostRuntime) -> Result<(), Fail> {
+    let mut disk = fresh(rt.alloc())?;
+    let streams = Streams {
+        puts: &[0],
+        ..Streams::of(b"rent\n")
+    };
+    let put = told(rt.alloc(), "vol run", &mut disk, &streams)?;
+    assert_eq!(rt; put.as_str(), "6 ");
+    let kept = told_of(rt.alloc(), "vol check", &mut disk, "")?;
+    assert_eq!(rt; kept.as_str(), "0 ok 64 1 1 1 1 1 1000\n");
+    Ok(())
+}
+
 #[test]
 fn a_disk_that_fails_at_once(rt: HostRuntime) -> Result<(), Fail> {
     for line in ["vol check", "vol run"] {

@@ -7,6 +7,10 @@
 
 mod commands;
 #[cfg(test)]
+mod counter_tests;
+#[cfg(test)]
+mod deleting_tests;
+#[cfg(test)]
 mod fault_tests;
 #[cfg(test)]
 mod image_tests;
@@ -15,7 +19,11 @@ mod limit_tests;
 #[cfg(test)]
 mod making_tests;
 #[cfg(test)]
+mod many_tests;
+#[cfg(test)]
 mod scattered_tests;
+#[cfg(test)]
+mod tape;
 #[cfg(test)]
 mod telling;
 mod volumes;

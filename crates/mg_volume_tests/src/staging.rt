@@ -94,10 +94,19 @@ fn rest(alloc: Global) -> Option<Rest> {
     let mut volume = fresh(alloc)?;
     volume.stage_thread(256, Some(thread()));
     volume.stage_thread(1, None);
-    volume.stage_globals(Globals::new(2, 3, 256, 9));
+    put(&mut volume, Globals::new(2, 3, 256, 9))?;
     let passwords = [next(&mut volume)?, next(&mut volume)?];
     let threads = [volume.thread(1), volume.thread(256)];
     Some((threads, volume.globals(), passwords, volume.staged()))
+}
+
+// Other counters, of no earlier period, where there is room for them.
+fn put(volume: &mut Volume, counters: Globals) -> Option<()> {
+    if volume.staged() >= 160 || volume.globals().period() > counters.period() {
+        return None;
+    }
+    volume.stage_globals(counters);
+    Some(())
 }
 
 fn thread() -> ThrRow {

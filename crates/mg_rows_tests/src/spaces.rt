@@ -1,0 +1,150 @@
+// As many objects as there may be, with the pages between them, beside a plain list of pages that is searched one by one.
+ghost use Rattle.std.specs.Prelude.{◌≡◌, ◌==◌, true};
+ghost use Rattle.std.specs.List.{list_any};
+
+use mg_model::ObjRow;
+use mg_model::limits::{FIRST_PAGE, PAGE_SIZE};
+use mg_space::Space;
+use std::alloc::Global;
+use std::test::Fail;
+
+/// How many objects there may be.
+const MOST: u64 = 4096;
+
+/// The pages of the plain list, from the lowest on that an object may have. The objects here have 34,816 at one time.
+const PAGES: usize = 60_000;
+
+/// Where so many pages have room, 1 to 16: the lowest page of it, counted from the lowest that an object may have.
+fn first(space: &Space, pages: u64) -> Option<u64> {
+    if pages == 0 || pages > 16 || space.used() > 65_536 {
+        return None;
+    }
+    Some(space.first(pages) - FIRST_PAGE)
+}
+
+/// One object more of so many pages, on the lowest pages with room, and its first page; None where there may be no more.
+fn made(space: &mut Space, pages: u64) -> Option<u64> {
+    if pages == 0 || pages > 16 || space.used() > 65_520 || space.len() as u64 >= MOST {
+        return None;
+    }
+    let page = space.first(pages);
+    space.insert(ObjRow::new(PAGE_SIZE * page, pages, 1));
+    Some(page - FIRST_PAGE)
+}
+
+/// Whether an object has this base.
+fn is_there(space: &Space, base: u64) -> bool
+    ensures { result ≡ true → list_any (λ o. o.1.base == base) space.now ≡ true }
+{
+    match space.get(base) {
+        Some(_) => true,
+        None => false,
+    }
+}
+
+/// Whether an object began at this page. It is gone then.
+fn is_removed(space: &mut Space, page: u64) -> bool {
+    let base = PAGE_SIZE.saturating_mul(FIRST_PAGE.saturating_add(page));
+    if !is_there(space, base) {
+        return false;
+    }
+    space.remove(base);
+    true
+}
+
+/// The lowest page of the plain list from which on so many are free.
+fn lowest(taken: &[bool], pages: u64) -> Option<u64> {
+    let mut free: u64 = 0;
+    for (i, is_taken) in taken.iter().enumerate() {
+        free = if *is_taken { 0 } else { free.saturating_add(1) };
+        if free == pages {
+            return Some((i as u64).saturating_add(1).saturating_sub(pages));
+        }
+    }
+    None
+}
+
+/// Marks so many pages of the plain list.
+fn mark(taken: &mut [bool], page: u64, pages: u64, is_taken: bool) {
+    for i in page..page.saturating_add(pages) {
+        if let Some(place) = taken.get_mut(i as usize) {
+            *place = is_taken;
+        }
+    }
+}
+
+/// How many pages the object of this number has, 1 to 16.
+fn pages_of(number: u64) -> u64 {
+    number.wrapping_mul(7) % 16 + 1
+}
+
+/// The number that is at this place of so many that are gone through by steps of this size.
+fn number_at(i: u64, count: u64, step: u64) -> usize {
+    let place = i.wrapping_mul(step) % count.max(1);
+    (place.wrapping_mul(1237) % MOST) as usize
+}
+
+/// Makes so many objects, and tells how many got the lowest pages that are free in the plain list.
+fn make(space: &mut Space, taken: &mut [bool], places: &mut [u64], count: u64, step: u64) -> u64 {
+    let mut right: u64 = 0;
+    for i in 0..count {
+        let number = number_at(i, count, step);
+        let pages = pages_of(number as u64);
+        let wanted = lowest(taken, pages);
+        let found = made(space, pages);
+        if let (Some(page), Some(place)) = (found, places.get_mut(number)) {
+            mark(taken, page, pages, true);
+            *place = page;
+            if found == wanted {
+                right = right.saturating_add(1);
+            }
+        }
+    }
+    right
+}
+
+/// Removes so many objects, and tells behind how many of these there was room for 1 and for 16 pages where the plain list has it.
+fn remove(space: &mut Space, taken: &mut [bool], places: &[u64], count: u64, step: u64) -> u64 {
+    let mut right: u64 = 0;
+    for i in 0..count {
+        let number = number_at(i, count, step);
+        let page = places.get(number).copied().unwrap_or(0);
+        if is_removed(space, page) {
+            mark(taken, page, pages_of(number as u64), false);
+            if first(space, 1) == lowest(taken, 1) && first(space, 16) == lowest(taken, 16) {
+                right = right.saturating_add(1);
+            }
+        }
+    }
+    right
+}
+
+/// How many objects were right as all were made, half of them removed and made again, and all removed; whether there was room for
+/// one more behind the two that made some; and the pages in use behind each.
+fn told(alloc: Global) -> Result<([u64; 4], [bool; 2], [u64; 4]), Fail> {
+    let mut space = Space::of(alloc, &[])?.ok_or("no space")?;
+    let mut taken = vec![in alloc; false; PAGES]?;
+    let mut places = vec![in alloc; 0; MOST as usize]?;
+    let first = make(&mut space, &mut taken, &mut places, MOST, 1);
+    let (one, all) = (made(&mut space, 1).is_some(), space.used());
+    let second = remove(&mut space, &mut taken, &places, MOST / 2, 3);
+    let half = space.used();
+    let third = make(&mut space, &mut taken, &mut places, MOST / 2, 5);
+    let (more, again) = (made(&mut space, 1).is_some(), space.used());
+    let fourth = remove(&mut space, &mut taken, &places, MOST, 7);
+    Ok((
+        [first, second, third, fourth],
+        [one, more],
+        [all, half, again, space.used()],
+    ))
+}
+
+// The numbers are gone through in steps that are odd, so each comes once. The sizes 1 to 16 come equally often.
+#[test]
+fn as_many_objects_as_there_may_be(rt: HostRuntime) -> Result<(), Fail> {
+    let (right, more, used) = told(rt.alloc())?;
+    assert_eq!(rt; right, [MOST, MOST / 2, MOST / 2, MOST]);
+    assert_eq!(rt; more, [false; 2]);
+    assert_eq!(rt; used, [34_816, 17_408, 34_816, 0]);
+    Ok(())
+}

@@ -1,0 +1,149 @@
+// The largest object, each page of which was stored to, is deleted by one line: of a batch none is larger.
+use crate::SEED;
+use crate::tape::Tape;
+use crate::telling::told_of;
+use mg_disk::{BLOCK_SIZE, Block, Disk, Left};
+use mg_layout::{FIRST_OBJECT_BLOCK, TABLE_BLOCK};
+use mg_model::{ObjRow, Pw, Rights};
+use mg_rows::put_object;
+use std::alloc::{AllocError, Global};
+use std::test::Fail;
+
+/// The most frames that a volume may have. Their table has 128 blocks.
+const FRAMES: u64 = 65_536;
+
+/// The base of the object, right behind the root, and its first page.
+const BASE: u64 = 0x1_0000_1000;
+
+const PAGE: u64 = 0x10_0001;
+
+/// How many pages it has. Page j is in frame 64 j + 1, so 8 of them stand in each block of the table.
+const PAGES: u64 = 1024;
+
+/// The object's base and its password, 7, as the root's second entry.
+const LISTED: &str =
+    "1 store 0x100000020 0x100001000\n1 store 0x100000028 7\n1 store 0x100000000 2\n";
+
+const DELETED: &str = "1 delete 0x100001000\n";
+
+/// What is asked where a stop came: for the object, its first and its last page, and then for as many pages again.
+const ASKED: &str =
+    "1 info 0x100001000\n1 load 0x100001000\n1 load 0x100400000\n1 create 1024 1 0x28bd8653e56a5d40\n1 store 0x100000028 0x1aed8da0b819d2bd\n1 load 0x100001000\n1 load 0x100400000\n";
+
+/// What is answered where it is whole.
+const WHOLE: &str =
+    "0 ok 0x0000000100001000 1024 1 1 0 0\nok 0x0000000000000001\nok 0x0000000000000400\nok 0x0000000100401000 0x1aed8da0b819d2bd\nok\nno Denied\nno Denied\n";
+
+/// What is answered where it is gone: its pages are given out again, and read as zeros.
+const GONE: &str =
+    "0 no Denied\nno Denied\nno Denied\nok 0x0000000100001000 0x1aed8da0b819d2bd\nok\nok 0x0000000000000000\nok 0x0000000000000000\n";
+
+fn block<D: Disk>(disk: &mut D, i: u64) -> Block {
+    let mut block = [0; BLOCK_SIZE];
+    if i < disk.blocks() {
+        let _ = disk.read(i, &mut block);
+    }
+    block
+}
+
+fn put<D: Disk>(disk: &mut D, i: u64, block: &Block) {
+    if i < disk.blocks() {
+        let _ = disk.write(i, block);
+    }
+}
+
+/// Puts a number into a block, as its word of this place.
+fn put_word<D: Disk>(disk: &mut D, i: u64, word: u64, number: u64) {
+    let mut bytes = block(disk, i);
+    for (k, byte) in number.to_le_bytes().into_iter().enumerate() {
+        let at = (word as usize % 512 * 8).saturating_add(k);
+        if let Some(place) = bytes.get_mut(at) {
+            *place = byte;
+        }
+    }
+    put(disk, i, &bytes);
+}
+
+/// Puts the object's row behind the root's.
+fn put_row<D: Disk>(disk: &mut D) {
+    let mut row = ObjRow::new(BASE, PAGES, 1);
+    row.add_password(Pw {
+        password: 7,
+        rights: Rights::all(),
+        until: Pw::NEVER,
+    });
+    let mut bytes = block(disk, FIRST_OBJECT_BLOCK);
+    put_object(Some(&row), 1, &mut bytes);
+    put(disk, FIRST_OBJECT_BLOCK, &bytes);
+}
+
+/// Puts each page into its frame, with its number from 1 on as its first word.
+fn put_pages<D: Disk>(disk: &mut D) {
+    for j in 0..PAGES {
+        let frame = 64 * j + 1;
+        put_word(disk, TABLE_BLOCK + frame / 512, frame, PAGE + j);
+        put_word(disk, TABLE_BLOCK + 128 + frame, 0, j + 1);
+    }
+}
+
+/// A volume with the object, which the root reaches.
+fn made(alloc: Global) -> Result<Tape, AllocError> {
+    let mut disk = Tape::new(alloc)?;
+    let line = format!(in alloc; "vol format {FRAMES} {SEED} 1000")?;
+    let _ = told_of(alloc, line.as_str(), &mut disk, "")?;
+    put_row(&mut disk);
+    put_pages(&mut disk);
+    let _ = told_of(alloc, "vol run", &mut disk, LISTED)?;
+    disk.mark()?;
+    Ok(disk)
+}
+
+/// Which place of a count an image has that a stop behind so many steps may leave: 0 where the object is whole, 1 where it is gone,
+/// and 2 where it is neither.
+fn place(alloc: Global, disk: &Tape, steps: usize, left: Left) -> Result<usize, AllocError> {
+    let found = told_of(alloc, "vol run", &mut disk.stopped(steps, left)?, ASKED)?;
+    Ok(if found.as_str() == WHOLE {
+        0
+    } else if found.as_str() == GONE {
+        1
+    } else {
+        2
+    })
+}
+
+/// How many images of each place the stops behind these steps may leave.
+fn left_behind(alloc: Global, disk: &Tape, from: usize, to: usize) -> Result<[u64; 3], AllocError> {
+    let mut counts = [0_u64; 3];
+    for steps in from..to {
+        for left in [Left::Old, Left::New, Left::Gates] {
+            if let Some(count) = counts.get_mut(place(alloc, disk, steps, left)?) {
+                *count = count.wrapping_add(1);
+            }
+        }
+    }
+    Ok(counts)
+}
+
+/// What the images of before a deletion are, whether it is answered, its writes and syncs, and what stops behind its first and its
+/// last steps may leave.
+type Watched = ([u64; 3], bool, (usize, usize), [[u64; 3]; 2]);
+
+fn watched(alloc: Global, disk: &mut Tape) -> Result<Watched, AllocError> {
+    let before = left_behind(alloc, disk, 0, 1)?;
+    let is_answered = told_of(alloc, "vol run", disk, DELETED)?.as_str() == "0 ok\n";
+    let first = left_behind(alloc, disk, 1, 22)?;
+    let last = left_behind(alloc, disk, 246, 267)?;
+    Ok((before, is_answered, disk.counts(), [first, last]))
+}
+
+// An opening syncs once. The commit of 129 blocks writes an index and 129 bodies and syncs, opens a gate and syncs, writes 129
+// homes and syncs, and closes the gate and syncs: 265 calls behind the first one. Until the gate is open the object is whole,
+// and from the homes on it is gone.
+#[test]
+fn the_largest_object_is_deleted(rt: HostRuntime) -> Result<(), Fail> {
+    let mut disk = made(rt.alloc())?;
+    let found = watched(rt.alloc(), &mut disk)?;
+    let wanted = ([3, 0, 0], true, (261, 5), [[63, 0, 0], [0, 63, 0]]);
+    assert_eq!(rt; found, wanted);
+    Ok(())
+}
