@@ -2,6 +2,9 @@
 use crate::session::Run;
 use std::alloc::{AllocError, Global};
 
+/// The calls that only read.
+const READS: [&[u8]; 4] = [b"load", b"info", b"balance", b"apdlist"];
+
 /// The bytes of these runs, joined.
 pub fn whole_input(alloc: Global, runs: &[Run]) -> Result<Vec<u8>, AllocError> {
     let mut input = Vec::new(alloc);
@@ -47,7 +50,7 @@ pub fn reads(alloc: Global, runs: &[Run]) -> Result<Vec<u8>, AllocError> {
 fn is_read(line: &[u8]) -> bool {
     let mut words = line.split(|b| is_blank(*b)).filter(|word| !word.is_empty());
     match words.nth(1) {
-        Some(word) => word == b"load".as_slice() || word == b"info".as_slice(),
+        Some(word) => READS.iter().any(|read| word == *read),
         None => false,
     }
 }
