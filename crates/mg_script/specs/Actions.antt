@@ -1,17 +1,24 @@
 -- What an instruction asks of the machine, and how the turn goes on with it.
-use Rattle.std.specs.Prelude.{ℕ, ◌<◌, nat_lt, Bool, true, false, [], ◌∷◌, if◌then◌else◌}
+use Rattle.std.specs.Prelude.{ℕ, ◌≡◌, ◌<◌, ◌+◌, ◌-◌, ◌%◌, ◌++◌, nat_le, nat_lt, Bool, true, false, List, [], ◌∷◌, if◌then◌else◌, length, take, Option, Some, None}
+use Rattle.std.specs.Option.{option_map_or}
 use Rattle.mg_model.specs.declared.calls.Call.{Call}
 use Rattle.mg_model.specs.declared.calls.Call.TheVariants as call
+use Rattle.mg_model.specs.declared.instructions.Instr.{Instr}
+use Rattle.mg_model.specs.declared.instructions.Instr.TheVariants as op
+use Rattle.mg_model.specs.declared.replies.Refusal.{Refusal}
 use Rattle.mg_model.specs.declared.replies.Refusal.TheVariants as refusal
 use Rattle.mg_model.specs.declared.replies.Reply.{Reply}
 use Rattle.mg_model.specs.declared.replies.Reply.TheVariants as reply
 use Rattle.mg_model.specs.declared.rights.Right.TheVariants.{R, W}
-use Rattle.mg_model.specs.Access.{allowed}
-use Rattle.mg_model.specs.Domains.{pdx, ret, with_thread}
+use Rattle.mg_model.specs.declared.threads.Fault.{Fault}
+use Rattle.mg_model.specs.declared.threads.Fault.TheVariants as fault
+use Rattle.mg_model.specs.declared.threads.ThrState.TheVariants.{Faulted}
+use Rattle.mg_model.specs.Access.{allowed, last_slots}
+use Rattle.mg_model.specs.Domains.{last_back, pdx, ret}
 use Rattle.mg_model.specs.Objects.{with_word, word_at}
-use Rattle.mg_model.specs.Script.{with_register}
-use Rattle.mg_model.specs.State.{State, ThreadRow}
-use Rattle.mg_model.specs.Turn.{put_row, refusal_number, seen, spelled, thread_call, unless_faulted, values_of, with_registers}
+use Rattle.mg_model.specs.Script.{decoded, operand, register, with_register, word_end}
+use Rattle.mg_model.specs.State.{CallFrame, State, ThreadRow}
+use Rattle.mg_model.specs.Turn.{advanced, put_row, run, refusal_number, seen, spelled, thread_call, unless_faulted, values_of, with_registers}
 use Rattle.mg_script.specs.declared.actions.Action.{Action}
 use Rattle.mg_script.specs.declared.actions.Action.TheVariants as action
 
@@ -51,3 +58,90 @@ is_spelled other = true
 abbrev pub HasPlace : Action → Type 0
 HasPlace (action.Load address to) = to < 8
 HasPlace other = Unit {0}
+
+-- a row after the turn has the frames of the row before it
+abbrev pub HasFrames : ThreadRow → Action → Type 0
+HasFrames thread (action.Next row) = row.frames ≡ thread.frames
+HasFrames thread other = Unit {0}
+
+-- the call of a `pdx` with any mask
+abbrev pub entering_call : ℕ → ℕ → Call
+entering_call address mask = if nat_lt 255 mask then call.Bad else call.Pdx address mask
+
+-- The call that an instruction makes, and the same of an action. The row is the thread's. One that makes none makes Bad, which
+-- changes nothing.
+abbrev pub call_of : ThreadRow → Instr → Call
+call_of thread (op.Load a b i) = call.Load (operand thread b i)
+call_of thread (op.Store a b i) = call.Store (operand thread b i) (register thread a)
+call_of thread (op.Pdx a b) = entering_call (register thread a) (register thread b)
+call_of thread op.Ret = call.Ret
+call_of thread op.Sys = spelled thread
+call_of thread other = call.Bad
+
+abbrev pub made_by : ThreadRow → Action → Call
+made_by thread (action.Next row) = call.Bad
+made_by thread (action.Load address to) = call.Load address
+made_by thread (action.Store address value) = call.Store address value
+made_by thread (action.Pdx address mask) = entering_call address mask
+made_by thread action.Ret = call.Ret
+made_by thread action.Sys = spelled thread
+
+-- the call of a turn, by the word that was fetched; None where it may not be
+abbrev pub begun : ThreadRow → Option ℕ → Call
+begun thread None = call.Bad
+begun thread (Some word) = option_map_or (λ instr. call_of thread instr) (decoded word) call.Bad
+
+-- a call that a script spelled is one that it can make
+abbrev pub IsSpelledBy : Action → Call → Type 0
+IsSpelledBy action.Sys made = is_spelled made ≡ true
+IsSpelledBy other made = Unit {0}
+
+-- a load or a store that is refused faults so
+abbrev pub fault_of : Refusal → Fault
+fault_of refusal.Align = fault.Align
+fault_of other = fault.Denied
+
+abbrev pub faulted_row : Fault → ThreadRow → ThreadRow
+faulted_row kind thread = record thread { state = Faulted kind }
+
+-- the state after the turn of a thread with this row, by the word that was fetched
+abbrev pub turned_on : State → ℕ → ThreadRow → Option ℕ → State
+turned_on state t thread None = put_row state t (faulted_row fault.Denied thread)
+turned_on state t thread (Some word) = option_map_or (λ instr. run state t thread.pc (advanced thread) instr) (decoded word) (put_row state t (faulted_row fault.Opcode thread))
+
+-- the row goes on behind a call that was refused
+abbrev pub refused_row : Refusal → ThreadRow → ThreadRow
+refused_row word thread = with_register (advanced thread) 0 (refusal_number word)
+
+-- frames of which the last returns a word further on; the bottom one returns nowhere
+abbrev pub returning_on : List CallFrame → List CallFrame
+returning_on frames =
+    if nat_le (length frames) 1 then frames
+    else take (length frames - 1) frames ++ record { back = (last_back frames + 8) % word_end; slots = last_slots frames } ∷ []
+
+-- The row of a thread that made the call of an action, from the row that the call left.
+abbrev pub loaded : ℕ → Reply → ThreadRow → ThreadRow
+loaded to (reply.Value word) thread = with_register (advanced thread) to word
+loaded to (reply.No word) thread = faulted_row (fault_of word) thread
+loaded to other thread = thread
+
+abbrev pub stored : Reply → ThreadRow → ThreadRow
+stored reply.Done thread = advanced thread
+stored (reply.No word) thread = faulted_row (fault_of word) thread
+stored other thread = thread
+
+abbrev pub entered : Reply → ThreadRow → ThreadRow
+entered (reply.No word) thread = refused_row word thread
+entered other thread = with_register (record thread { frames = returning_on thread.frames }) 0 0
+
+abbrev pub returned : Reply → ThreadRow → ThreadRow
+returned (reply.No word) thread = refused_row word thread
+returned other thread = thread
+
+abbrev pub resumed : Action → Reply → ThreadRow → ThreadRow
+resumed (action.Next row) said thread = row
+resumed (action.Load address to) said thread = loaded to said thread
+resumed (action.Store address value) said thread = stored said thread
+resumed (action.Pdx address mask) said thread = entered said thread
+resumed action.Ret said thread = returned said thread
+resumed action.Sys said thread = settled said (advanced thread)

@@ -4,7 +4,7 @@ ghost use Rattle.mg_model.specs.Ranges.{IsThreadRow};
 ghost use Rattle.mg_model.specs.Script.{jump_by, jumped, operand, register, with_register, word_end};
 ghost use Rattle.mg_model.specs.State.{State};
 ghost use Rattle.mg_model.specs.Turn.{advanced, run};
-ghost use Rattle.mg_script.specs.Actions.{HasPlace, finished};
+ghost use Rattle.mg_script.specs.Actions.{HasFrames, HasPlace, call_of, finished, made_by};
 ghost use Rattle.mg_script.specs.Encoded.{HasRegisters};
 
 use mg_model::{Instr, ThrRow, ThrState};
@@ -40,6 +40,8 @@ pub fn execute(i: &Instr, r: &ThrRow) -> Action
     requires { HasRegisters i.now }
     ensures turn { (state : State) (t : ℕ) → run state t r.now.pc (advanced r.now) i.now ≡ finished state t (advanced r.now) result }
     ensures place { HasPlace result }
+    ensures frames { HasFrames r.now result }
+    ensures call { made_by r.now result ≡ call_of r.now i.now }
 {
     let _kept = r.birth();
     let here = r.pc();

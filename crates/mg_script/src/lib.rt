@@ -9,10 +9,12 @@
 
 mod actions;
 mod calls;
+mod resuming;
 mod settling;
 mod words;
 
 pub use actions::{Action, advance, execute};
 pub use calls::spell;
+pub use resuming::{begin, call, resume};
 pub use settling::{refuse, settle};
 pub use words::{decode, encode};

@@ -1,4 +1,4 @@
-use Rattle.std.proofs.Common.{◌≡◌, ◌≤◌, drop, length}
+use Rattle.std.proofs.Common.{◌≡◌, drop}
 use Rattle.mg_model.specs.Turn.{with_registers}
 use Rattle.mg_script.proofs.settling.put.Given as goal
 
