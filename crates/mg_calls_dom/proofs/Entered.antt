@@ -5,9 +5,10 @@ use Rattle.std.specs.Option.{option_map_or, option_to_list}
 use Rattle.std.proofs.lemmas.Bool.{and_from}
 use Rattle.mg_apd.specs.Refusals.{leaving_refusal}
 use Rattle.mg_apd.specs.Refusals as apd
-use Rattle.mg_calls_dom.proofs.ThreadRows.{slots-of}
+use Rattle.mg_calls_dom.specs.ThreadLemmas.{slots-of}
 use Rattle.mg_calls_dom.proofs.Words.{lives-ok}
 use Rattle.mg_calls_dom.specs.Entering.{pdx_refusal}
+use Rattle.mg_calls_dom.specs.RefusalLemmas.{access_passed, access_stopped}
 use Rattle.mg_calls_dom.specs.Searching.{access_refusal}
 use Rattle.mg_laws.specs.Backing.{CallsKeepBacked}
 use Rattle.mg_model.specs.declared.calls.Call.TheVariants as call
@@ -38,17 +39,6 @@ use Rattle.mg_vcache.specs.Seats.{AllBacked, without}
 frames-in : (found : Option Thread) (thread : ThreadRow) → option_map (λ (x : Thread). x.row) found ≡ Some thread → option_map_or (λ (x : Thread). x.row.frames) found [] ≡ thread.frames
 frames-in None thread h = cc
 frames-in (Some x) thread h = let same : x.row ≡ thread = cc in ap (λ (r : ThreadRow). r.frames) same
-
--- two tests that pass, or the one that does not
-passed : (v w : Bool) (more : List (Bool × Refusal)) → first_refusal ((v, Align) ∷ (w, Denied) ∷ []) ≡ None → first_refusal ((v, Align) ∷ (w, Denied) ∷ more) ≡ first_refusal more
-passed true w more none = cc
-passed false true more none = cc
-passed false false more none = refl
-
-stopped : (v w : Bool) (word : Refusal) (more : List (Bool × Refusal)) → first_refusal ((v, Align) ∷ (w, Denied) ∷ []) ≡ Some word → first_refusal ((v, Align) ∷ (w, Denied) ∷ more) ≡ Some word
-stopped true w word more some = some
-stopped false true word more some = some
-stopped false false word more some = cc
 
 -- the frame that an entry adds, and the one that a return takes away
 abbrev pub entering : ℕ → List Slot → ThreadRow → ThreadRow
@@ -84,13 +74,13 @@ module _ (state : State) (t : ℕ) (thread : ThreadRow) (there : option_map (λ 
         ∙ ap (λ slots. by_parts object (frames_of state t) (kept_from mask 0 slots ++ option_to_list object.extension)) (slots-of (thread_of state t) thread there)
         ∙ ap (λ frames. by_parts object frames (apd.entered_slots thread mask object.extension)) frames-are
         ∙ ap (λ w. unless_refused w state (with_thread state t (entering a (apd.entered_slots thread mask object.extension)), Count (length thread.frames + 1)))
-        (passed (not (is_aligned a)) (not (allowed state t a P)) (by_tests object thread.frames (apd.entered_slots thread mask object.extension)) may ∙ sym is)
+        (access_passed (not (is_aligned a)) (not (allowed state t a P)) (by_tests object thread.frames (apd.entered_slots thread mask object.extension)) may ∙ sym is)
 
 -- `pdx`, where it is not
 pub pdx-denied : (state : State) (t a mask : ℕ) (word : Refusal) → access_refusal state t a P ≡ Some word → pdx state t a mask ≡ (state, No word)
 pdx-denied state t a mask word some =
     ap (λ w. unless_refused w state (with_thread state t (entering a (entered_slots state t a mask)), Count (length (frames_of state t) + 1)))
-    (stopped (not (is_aligned a)) (not (allowed state t a P)) word
+    (access_stopped (not (is_aligned a)) (not (allowed state t a P)) word
     ((not (is_entry (row_at state a) a), NoEntry) ∷ (nat_le frame_limit (length (frames_of state t)), Depth) ∷ (nat_lt slot_limit (length (entered_slots state t a mask)), SlotFull) ∷ [])
     some)
 

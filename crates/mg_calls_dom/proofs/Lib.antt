@@ -2,10 +2,10 @@ mod Allowed
 mod Apart
 mod Entered
 mod Entries
+mod Fetched
 mod Reached
 mod Refusals
 pub mod SlotCalls
-mod ThreadRows
 mod Told
 mod Tried
 mod Words

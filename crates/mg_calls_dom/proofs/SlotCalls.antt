@@ -13,7 +13,7 @@ use Rattle.mg_model.specs.Domains.{apdadd, apddel, with_last_slots, with_slots}
 use Rattle.mg_model.specs.Limits.{slot_limit}
 use Rattle.mg_model.specs.Refused.{first_refusal, unless_refused}
 use Rattle.mg_model.specs.State.{State, Thread, ThreadRow}
-use Rattle.mg_calls_dom.proofs.ThreadRows.{slots-of}
+use Rattle.mg_calls_dom.specs.ThreadLemmas.{slots-of}
 
 -- other slots in the present frame
 abbrev pub slotted : List Slot → ThreadRow → ThreadRow

@@ -2,7 +2,10 @@
 pub mod Entering
 pub mod Searching
 pub mod Known
+pub mod Fetching
 -- Lemmas that crates above cite. None of them is part of a statement.
 pub mod KnownLemmas
 pub mod LineLemmas
 pub mod ReachedLemmas
+pub mod RefusalLemmas
+pub mod ThreadLemmas

@@ -1,14 +1,16 @@
 // The calls on words.
 ghost use Rattle.std.specs.Prelude.{List, ◌≡◌, ◌≤◌, ◌<◌, ◌+◌, ◌-◌, ◌/◌, ◌%◌, ℕ, true, nat_lt, if◌then◌else◌, IfOk, MatchResult, None, OnErr, OnOk, Some};
 ghost use Rattle.std.specs.Option.{ForSome};
+ghost use Rattle.mg_calls_dom.specs.Fetching.{Fetches, fetch_limit};
 ghost use Rattle.mg_calls_dom.specs.Searching.{access_refusal, allowed_row, word_accesses};
 ghost use Rattle.mg_disk.specs.Stops.{CountRose};
-ghost use Rattle.mg_model.specs.Access.{covers};
+ghost use Rattle.mg_model.specs.Access.{allowed, covers};
 ghost use Rattle.mg_model.specs.Backed.{by_via};
 ghost use Rattle.mg_model.specs.FewSlots.{HasFewSlots};
 ghost use Rattle.mg_model.specs.Kept.{KeepsLine, KeepsRules, line_limit, searches_limit};
 ghost use Rattle.mg_model.specs.Limits.{page_size};
 ghost use Rattle.mg_model.specs.ObjectCalls as calls;
+ghost use Rattle.mg_model.specs.Objects.{word_at};
 ghost use Rattle.mg_model.specs.Refused.{IsRefusal};
 ghost use Rattle.mg_vcache.specs.Seats.{AllBacked, is_kept, without};
 ghost use Rattle.mg_volume.specs.Calls.{IsSoundOn, Reads, Serves};
@@ -94,9 +96,41 @@ pub fn store<D: Disk, L: Ledger>(
     }
 }
 
-/// The object of the word that a thread reads, writes or enters by, or why it may not. An address that is no multiple of 8 is
-/// refused before any word is read.
-pub(crate) fn word_object<D: Disk, L: Ledger>(
+/// The word at an address, a multiple of 8, with X; None where the access is not allowed, as where no such thread lives.
+/// [`Failed`] comes only where a call of the disk failed. The state stays.
+pub fn fetch<D: Disk, L: Ledger>(
+    v: &mut Volume,
+    c: &mut VCache,
+    disk: &mut D,
+    t: u64,
+    a: u64,
+    steps: &mut Steps<L>,
+) -> Result<Option<u64>, Failed>
+    requires sound { IsSoundOn D.Disk v.old disk.old }
+    requires backed { ForSome (D.seen disk.old) (λ image. AllBacked (now_of v.old image) c.old) }
+    requires aligned { a % 8 ≡ 0 }
+    ensures word { IfOk result (λ word. ForSome (D.seen disk.old) (λ image. word ≡ (if allowed (now_of v.old image) t a Right.X then Some (word_at (now_of v.old image).objects a) else None))) }
+    ensures backed { ForSome (D.seen disk.old) (λ image. AllBacked (now_of v.new image) c.new) }
+    ensures keeps { OnOk result (ForSome (D.seen disk.old) (λ image. Fetches (now_of v.old image) (record { thread = t; address = a; right = Right.X }) (λ key. is_kept c.old key) (λ key. is_kept c.new key) steps.old steps.new)) }
+    ensures limit { ForSome (D.seen disk.old) (λ image. steps.new ≤ steps.old + fetch_limit (λ key. is_kept c.old key) (now_of v.old image) (record { thread = t; address = a; right = Right.X })) }
+    ensures reads { Reads D.Disk v.old v.new disk.old disk.new steps.old steps.new }
+    ensures cause { OnErr result (CountRose D.Disk disk.old disk.new) }
+{
+    match reach(v, c, disk, t, a, Right::X, steps)? {
+        Some(object) => {
+            let _kept = object.base();
+            let page = page_of(&object, a);
+            Ok(Some(v.word(disk, page, index_of(a), steps)?))
+        }
+        None => Ok(None),
+    }
+}
+
+/// The object of the word that a thread reads, writes, enters by or begins at, or why it may not: an address that is no
+/// multiple of 8 (Align) is refused before any word is read, and then one that it may not reach with the right (Denied), as
+/// where no such thread lives. What is read and kept is as by `reach`. [`Failed`] comes only where a call of the disk failed.
+/// The state stays.
+pub fn word_object<D: Disk, L: Ledger>(
     v: &mut Volume,
     c: &mut VCache,
     disk: &mut D,

@@ -7,7 +7,7 @@ use mg_model::ThrRow;
 use mg_volume::Volume;
 
 /// The row of a thread that lives.
-pub(crate) fn row_of(v: &Volume, t: u64) -> ThrRow
+pub fn row_of(v: &Volume, t: u64) -> ThrRow
     requires { lives v.now t ≡ true }
     ensures { option_map (λ thread. thread.row) (find (λ thread. thread.number == t) (threads_in v.now)) ≡ Some result }
 {

@@ -47,13 +47,12 @@ pub record IsOfThread (state : State) (t : ℕ) (made : Call) : Type 0 where
   pub accesses : accesses_of state t made ≡ (if is_thread state t then call_accesses state t made else [])
   pub words : words_by state t made ≡ (if is_thread state t then call_words state t made else 0)
 
-pub of-thread : (made : Call) (state : State) (t : ℕ) → (made ≡ call.Bad → ⊥) → (made ≡ call.Later → ⊥) → (made ≡ call.Turn → ⊥) → (made ≡ call.Next → ⊥) → (made ≡ call.Rent → ⊥) → IsOfThread state t made
-of-thread call.Bad state t bad later turn next rent = absurd (bad refl)
-of-thread call.Later state t bad later turn next rent = absurd (later refl)
-of-thread call.Turn state t bad later turn next rent = absurd (turn refl)
-of-thread call.Next state t bad later turn next rent = absurd (next refl)
-of-thread call.Rent state t bad later turn next rent = absurd (rent refl)
-of-thread other state t bad later turn next rent = record { answer = refl; accesses = refl; words = refl }
+pub of-thread : (made : Call) (state : State) (t : ℕ) → (made ≡ call.Bad → ⊥) → (made ≡ call.Turn → ⊥) → (made ≡ call.Next → ⊥) → (made ≡ call.Rent → ⊥) → IsOfThread state t made
+of-thread call.Bad state t bad turn next rent = absurd (bad refl)
+of-thread call.Turn state t bad turn next rent = absurd (turn refl)
+of-thread call.Next state t bad turn next rent = absurd (next refl)
+of-thread call.Rent state t bad turn next rent = absurd (rent refl)
+of-thread other state t bad turn next rent = record { answer = refl; accesses = refl; words = refl }
 
 module _ (state : State) (t : ℕ) (made : Call) (of : IsOfThread state t made) where
   abbrev line : Line

@@ -1,4 +1,7 @@
 mod Counted
+mod TurnCounts
 mod Standing
 mod Threads
 mod Quiet
+mod Turned
+mod NextTurn

@@ -7,7 +7,6 @@ use Rattle.mg_kernel.specs.Unasked.{EndsUnasked, asks_nothing}
 use Rattle.mg_model.specs.declared.calls.Call.{Call}
 use Rattle.mg_model.specs.declared.calls.Call.TheVariants as call
 use Rattle.mg_model.specs.declared.replies.Reply.{Reply}
-use Rattle.mg_model.specs.declared.replies.Reply.TheVariants.{No}
 use Rattle.mg_model.specs.declared.seats.Seat.{Seat}
 use Rattle.mg_model.specs.Accesses.{call_accesses, call_words}
 use Rattle.mg_model.specs.Backed.{KeepsBacked, by_thread, ended_by_call}
@@ -16,7 +15,6 @@ use Rattle.mg_model.specs.Refused.{Answer, IsRefusal}
 use Rattle.mg_model.specs.State.{State}
 use Rattle.mg_model.specs.Turn.{thread_call}
 use Rattle.mg_model.specs.Warmth.{disturbs, is_ok}
-use Rattle.mg_vcache.specs.Drops.{Drops}
 use Rattle.mg_vcache.specs.Seats.{AllBacked, is_kept}
 use Rattle.mg_vcache.specs.SeatLemmas.{drops_backed, drops_none, same_backed}
 
@@ -31,6 +29,8 @@ is-still (call.Apdadd clist password) state t asks = record { none = refl; own =
 is-still (call.Apddel index) state t asks = record { none = refl; own = refl }
 is-still call.Apdlist state t asks = record { none = refl; own = refl }
 is-still call.Ret state t asks = record { none = refl; own = refl }
+is-still (call.End i) state t asks = record { none = refl; own = refl }
+is-still (call.Resume i) state t asks = record { none = refl; own = refl }
 is-still (call.Account account password amount) state t asks = record { none = refl; own = refl }
 is-still (call.Pay account password to amount) state t asks = record { none = refl; own = refl }
 is-still (call.Balance account password) state t asks = record { none = refl; own = refl }
@@ -42,6 +42,8 @@ module _ (state new : State) (t : ℕ) (seats seats' : List (Option Seat)) (repl
   unasked-backed (call.Create n account password) asks keeps ends same all = same_backed state new seats seats' keeps ends all
   unasked-backed (call.Apddel index) asks keeps ends same all = drops_backed (by_thread t) state new seats seats' reply keeps ends same all
   unasked-backed call.Ret asks keeps ends same all = drops_backed (by_thread t) state new seats seats' reply keeps ends same all
+  unasked-backed (call.End i) asks keeps ends same all = drops_backed (by_thread i) state new seats seats' reply keeps ends same all
+  unasked-backed (call.Resume i) asks keeps ends same all = same_backed state new seats seats' keeps ends all
   unasked-backed (call.Apdadd clist password) asks keeps ends same all = same_backed state new seats seats' keeps ends all
   unasked-backed call.Apdlist asks keeps ends same all = same_backed state new seats seats' keeps ends all
   unasked-backed (call.Account account password amount) asks keeps ends same all = same_backed state new seats seats' keeps ends all
@@ -59,6 +61,8 @@ module _ (state : State) (t : ℕ) (seats seats' : List (Option Seat)) (reply : 
   quiet-seats (call.Create n account password) asks ends quiet = ends
   quiet-seats (call.Apddel index) asks ends quiet = drops_none (by_thread t) seats seats' reply ends (ok-false (is_ok reply) quiet)
   quiet-seats call.Ret asks ends quiet = drops_none (by_thread t) seats seats' reply ends (ok-false (is_ok reply) quiet)
+  quiet-seats (call.End i) asks ends quiet = drops_none (by_thread i) seats seats' reply ends (ok-false (is_ok reply) quiet)
+  quiet-seats (call.Resume i) asks ends quiet = ends
   quiet-seats (call.Apdadd clist password) asks ends quiet = ends
   quiet-seats call.Apdlist asks ends quiet = ends
   quiet-seats (call.Account account password amount) asks ends quiet = ends

@@ -29,14 +29,13 @@ module _ (v : VolumeHeld) (image : Image) (t : ℕ) (answer : Answer) where
   gone found = by_found None found
 
 -- a line of none of the calls that the machine answers without a thread
-pub by-thread : (made : Call) (state : State) (t : ℕ) → (made ≡ call.Bad → ⊥) → (made ≡ call.Later → ⊥) → (made ≡ call.Turn → ⊥) → (made ≡ call.Next → ⊥) → (made ≡ call.Rent → ⊥)
+pub by-thread : (made : Call) (state : State) (t : ℕ) → (made ≡ call.Bad → ⊥) → (made ≡ call.Turn → ⊥) → (made ≡ call.Next → ⊥) → (made ≡ call.Rent → ⊥)
     → step_of state t made ≡ of_thread state t (thread_call state t made)
-by-thread call.Bad state t bad later turn next rent = absurd (bad refl)
-by-thread call.Later state t bad later turn next rent = absurd (later refl)
-by-thread call.Turn state t bad later turn next rent = absurd (turn refl)
-by-thread call.Next state t bad later turn next rent = absurd (next refl)
-by-thread call.Rent state t bad later turn next rent = absurd (rent refl)
-by-thread other state t bad later turn next rent = refl
+by-thread call.Bad state t bad turn next rent = absurd (bad refl)
+by-thread call.Turn state t bad turn next rent = absurd (turn refl)
+by-thread call.Next state t bad turn next rent = absurd (next refl)
+by-thread call.Rent state t bad turn next rent = absurd (rent refl)
+by-thread other state t bad turn next rent = refl
 
 -- a thread that is found is held
 pub found-lives : (v : VolumeHeld) (t : ℕ) (thread : Thread) → find (λ (thread : Thread). thread.number == t) (threads_in v) ≡ Some thread → lives_held v t ≡ true

@@ -1,13 +1,13 @@
--- What a call of a thread keeps and costs, be it made by a line or by a script.
-use Rattle.std.specs.Prelude.{ℕ, ◌≡◌, ◌≤◌, ◌+◌, ◌&&◌, Bool, true, false, if◌then◌else◌}
+-- What a call of a thread keeps and costs, be it made by a line or by a script, and what a turn does.
+use Rattle.std.specs.Prelude.{ℕ, ◌≡◌, ◌≤◌, ◌+◌, ◌&&◌, Bool, true, false, if◌then◌else◌, Some}
 use Rattle.mg_model.specs.declared.calls.Call.{Call}
-use Rattle.mg_model.specs.Accesses.{call_accesses, call_words}
+use Rattle.mg_model.specs.Accesses.{call_accesses, call_words, turn_accesses, turn_words}
 use Rattle.mg_model.specs.Kept.{KeepsKeys, searches_limit}
 use Rattle.mg_model.specs.Keys.{Key}
-use Rattle.mg_model.specs.State.{State}
+use Rattle.mg_model.specs.State.{State, Thread}
 use Rattle.mg_model.specs.Threads.{is_thread}
 use Rattle.mg_model.specs.Turn.{thread_call}
-use Rattle.mg_model.specs.Warmth.{disturbs, is_ok}
+use Rattle.mg_model.specs.Warmth.{disturbs, is_calm_turn, is_ok}
 
 -- the most that it adds to the counter of words
 abbrev pub call_limit : (Key → Bool) → State → ℕ → Call → ℕ
@@ -27,3 +27,13 @@ pub record KeepsThread (state : State) (t : ℕ) (made : Call) (kept kept' : Key
   pub lives : is_thread state t ≡ true → KeepsCall state t made kept kept' steps steps'
   pub keys : is_thread state t ≡ false → (key : Key) → kept' key ≡ kept key
   pub none : is_thread state t ≡ false → steps' ≡ steps
+
+-- the most that a turn of a thread adds to the counter of words, be it made or not
+abbrev pub turn_limit : (Key → Bool) → State → Thread → ℕ
+turn_limit kept state thread = turn_words state thread + searches_limit kept state (turn_accesses state thread)
+
+-- A turn was made. Where it is calm, keys are kept by the rules of its accesses.
+pub record KeepsTurn (state : State) (thread : Thread) (kept kept' : Key → Bool) (steps steps' : ℕ) : Type 0 where
+  pub keys : is_calm_turn state (Some thread) ≡ true → KeepsKeys state (turn_accesses state thread) kept kept'
+  pub least : steps + turn_words state thread ≤ steps'
+  pub most : steps' ≤ steps + turn_limit kept state thread

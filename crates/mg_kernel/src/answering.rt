@@ -3,7 +3,6 @@ ghost use Rattle.std.specs.Prelude.{List, ◌≡◌, ◌≤◌, ◌+◌, ℕ, tr
 ghost use Rattle.std.specs.Option.{ForSome};
 ghost use Rattle.mg_calls_obj.specs.Door.{is_on_object};
 ghost use Rattle.mg_disk.specs.Stops.{CountRose};
-ghost use Rattle.mg_model.specs.Built.{IsBuilt, is_built};
 ghost use Rattle.mg_model.specs.FewSlots.{HasFewSlots};
 ghost use Rattle.mg_kernel.specs.Calls.{KeepsCall, KeepsThread, call_limit, thread_limit};
 ghost use Rattle.mg_kernel.specs.Unasked.{asks_nothing};
@@ -17,10 +16,12 @@ ghost use Rattle.mg_volume.specs.Calls.{IsSoundOn, Serves};
 ghost use Rattle.mg_volume.specs.Meaning.{Keeps, now_of, staged_of};
 ghost use Rattle.mg_volume.specs.Staging.{lives};
 
+use crate::turning::{next, turn};
 use crate::unasked::unasked;
 use mg_calls_bank::rent;
 use mg_calls_dom::{load, pdx, store};
 use mg_calls_obj::{info, on_object};
+use mg_calls_thr::make;
 use mg_disk::Disk;
 use mg_faults::Failed;
 use mg_laws::steps_keep_backing;
@@ -40,7 +41,6 @@ pub(crate) fn answer<D: Disk, L: Ledger>(
     requires sound { IsSoundOn D.Disk v.old disk.old }
     requires few { staged_of v.old ≤ 28 }
     requires backed { ForSome (D.seen disk.old) (λ image. AllBacked (now_of v.old image) c.old) }
-    requires built { IsBuilt line.now }
     ensures answers { IfOk result (λ reply. ForSome (D.seen disk.old) (λ image. step (now_of v.old image) line.now ≡ (now_of v.new image, reply))) }
     ensures refused { IfOk result (λ reply. IsRefusal reply → staged_of v.new ≡ staged_of v.old) }
     ensures failed { OnErr result (Keeps v.old v.new) }
@@ -54,8 +54,8 @@ pub(crate) fn answer<D: Disk, L: Ledger>(
     steps_keep_backing();
     match line.call {
         Call::Bad => Ok(Reply::No(Refusal::Syntax)),
-        Call::Later => Ok(Reply::No(Refusal::Later)),
-        Call::Turn | Call::Next => unreachable!(),
+        Call::Turn => turn(v, c, disk, line.thread, steps),
+        Call::Next => next(v, c, disk, steps),
         Call::Rent => Ok(rent(v, c)),
         _ => by_thread(v, c, disk, line.thread, &line.call, steps),
     }
@@ -73,7 +73,6 @@ fn by_thread<D: Disk, L: Ledger>(
     requires sound { IsSoundOn D.Disk v.old disk.old }
     requires few { staged_of v.old ≤ 28 }
     requires backed { ForSome (D.seen disk.old) (λ image. AllBacked (now_of v.old image) c.old) }
-    requires built { is_built call.now ≡ true }
     ensures answers { IfOk result (λ reply. ForSome (D.seen disk.old) (λ image. of_thread (now_of v.old image) t (thread_call (now_of v.old image) t call.now) ≡ (now_of v.new image, reply))) }
     ensures refused { IfOk result (λ reply. IsRefusal reply → staged_of v.new ≡ staged_of v.old) }
     ensures failed { OnErr result (Keeps v.old v.new) }
@@ -90,8 +89,9 @@ fn by_thread<D: Disk, L: Ledger>(
     }
 }
 
-// The call, of a thread that lives.
-fn called<D: Disk, L: Ledger>(
+/// The call, of a thread that lives. One that is no call of a thread, as Bad, is refused (Syntax). [`Failed`] comes only where a
+/// call of the disk failed, and the state then stays.
+pub(crate) fn called<D: Disk, L: Ledger>(
     v: &mut Volume,
     c: &mut VCache,
     disk: &mut D,
@@ -102,7 +102,6 @@ fn called<D: Disk, L: Ledger>(
     requires sound { IsSoundOn D.Disk v.old disk.old }
     requires few { staged_of v.old ≤ 28 }
     requires backed { ForSome (D.seen disk.old) (λ image. AllBacked (now_of v.old image) c.old) }
-    requires built { is_built call.now ≡ true }
     requires lives { lives v.old t ≡ true }
     ensures answers { IfOk result (λ reply. ForSome (D.seen disk.old) (λ image. thread_call (now_of v.old image) t call.now ≡ (now_of v.new image, reply))) }
     ensures refused { IfOk result (λ reply. IsRefusal reply → staged_of v.new ≡ staged_of v.old) }
@@ -111,7 +110,7 @@ fn called<D: Disk, L: Ledger>(
     ensures backed { ForSome (D.seen disk.old) (λ image. AllBacked (now_of v.new image) c.new) }
     ensures keeps { OnOk result (ForSome (D.seen disk.old) (λ image. is_thread (now_of v.old image) t ≡ true → KeepsCall (now_of v.old image) t call.now (λ key. is_kept c.old key) (λ key. is_kept c.new key) steps.old steps.new)) }
     ensures limit { ForSome (D.seen disk.old) (λ image. is_thread (now_of v.old image) t ≡ true → steps.new ≤ steps.old + call_limit (λ key. is_kept c.old key) (now_of v.old image) t call.now) }
-    ensures serves { Serves 132 D.Disk v.old v.new disk.old disk.new steps.old steps.new }
+    ensures serves { Serves 130 D.Disk v.old v.new disk.old disk.new steps.old steps.new }
     ensures cause { OnErr result (CountRose D.Disk disk.old disk.new) }
 {
     match *call {
@@ -119,6 +118,7 @@ fn called<D: Disk, L: Ledger>(
         Call::Store { a, value } => store(v, c, disk, t, a, value, steps),
         Call::Info { base } => info(v, c, disk, t, base, steps),
         Call::Pdx { a, mask } => pdx(v, c, disk, t, a, mask, steps),
+        Call::Thread { pc } => make(v, c, disk, t, pc, steps),
         Call::Delete { .. }
         | Call::Pwadd { .. }
         | Call::Pwdel { .. }
@@ -130,14 +130,12 @@ fn called<D: Disk, L: Ledger>(
         | Call::Apddel { .. }
         | Call::Apdlist
         | Call::Ret
+        | Call::End { .. }
+        | Call::Resume { .. }
         | Call::Account { .. }
         | Call::Pay { .. }
         | Call::Balance { .. } => alone(v, c, disk, t, call, steps),
-        Call::Turn | Call::Next | Call::Rent | Call::Bad | Call::Later => {
-            Ok(Reply::No(Refusal::Syntax))
-        }
-        // Not built yet.
-        Call::Thread { .. } | Call::End { .. } | Call::Resume { .. } => unreachable!(),
+        Call::Turn | Call::Next | Call::Rent | Call::Bad => { Ok(Reply::No(Refusal::Syntax)) }
     }
 }
 
@@ -161,7 +159,7 @@ fn acted<D: Disk, L: Ledger>(
     ensures backed { ForSome (D.seen disk.old) (λ image. AllBacked (now_of v.new image) c.new) }
     ensures keeps { OnOk result (ForSome (D.seen disk.old) (λ image. is_thread (now_of v.old image) t ≡ true → KeepsCall (now_of v.old image) t call.now (λ key. is_kept c.old key) (λ key. is_kept c.new key) steps.old steps.new)) }
     ensures limit { ForSome (D.seen disk.old) (λ image. is_thread (now_of v.old image) t ≡ true → steps.new ≤ steps.old + call_limit (λ key. is_kept c.old key) (now_of v.old image) t call.now) }
-    ensures serves { Serves 132 D.Disk v.old v.new disk.old disk.new steps.old steps.new }
+    ensures serves { Serves 130 D.Disk v.old v.new disk.old disk.new steps.old steps.new }
     ensures cause { OnErr result (CountRose D.Disk disk.old disk.new) }
 {
     on_object(v, c, disk, t, call, steps)
@@ -188,7 +186,7 @@ fn alone<D: Disk, L: Ledger>(
     ensures backed { ForSome (D.seen disk.old) (λ image. AllBacked (now_of v.new image) c.new) }
     ensures keeps { OnOk result (ForSome (D.seen disk.old) (λ image. is_thread (now_of v.old image) t ≡ true → KeepsCall (now_of v.old image) t call.now (λ key. is_kept c.old key) (λ key. is_kept c.new key) steps.old steps.new)) }
     ensures limit { ForSome (D.seen disk.old) (λ image. is_thread (now_of v.old image) t ≡ true → steps.new ≤ steps.old + call_limit (λ key. is_kept c.old key) (now_of v.old image) t call.now) }
-    ensures serves { Serves 132 D.Disk v.old v.new disk.old disk.new steps.old steps.new }
+    ensures serves { Serves 130 D.Disk v.old v.new disk.old disk.new steps.old steps.new }
     ensures cause { OnErr result (CountRose D.Disk disk.old disk.new) }
 {
     let _disk = disk;

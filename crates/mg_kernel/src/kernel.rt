@@ -5,7 +5,6 @@ ghost use Rattle.mg_disk.specs.Stops.{DiskCalls, DiskCallsBy, Leaves, NothingPen
 ghost use Rattle.mg_kernel.specs.Meaning.{StandsOn, is_live, keeps_key, knows, now_of, seats_in, staged_of, words_in};
 ghost use Rattle.mg_kernel.specs.Opening.{Holds, Opens};
 ghost use Rattle.mg_model.specs.Access.{allowed, at};
-ghost use Rattle.mg_model.specs.Built.{IsBuilt};
 ghost use Rattle.mg_model.specs.Kept.{KeepsLine, Validates, access_limit, line_limit};
 ghost use Rattle.mg_model.specs.Limits.{seat_count};
 ghost use Rattle.mg_model.specs.Refused.{IsRefusal};
@@ -81,7 +80,6 @@ impl Kernel {
         requires live { IsTrue (is_live self.old) }
         requires few { staged_of self.old ≤ 28 }
         requires stands { StandsOn D.Disk self.old disk.old }
-        requires built { IsBuilt line.now }
         ensures replies { IfOk result (λ reply. ForSome (D.seen disk.old) (λ image. reply ≡ (step (now_of self.old image) line.now).1)) }
         ensures state { OnOk result (ForSome (D.seen disk.old) (λ image. now_of self.new image ≡ (step (now_of self.old image) line.now).0)) }
         ensures failed { OnErr result (ForSome (D.seen disk.old) (λ image. now_of self.new image ≡ now_of self.old image)) }

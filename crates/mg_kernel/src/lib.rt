@@ -11,6 +11,7 @@
 mod answering;
 mod kernel;
 mod ranges;
+mod turning;
 mod unasked;
 
 pub use kernel::Kernel;

@@ -63,7 +63,6 @@ pub(crate) fn keeps_ranges(line: &Line)
         Call::Balance { account, password } => words(account, password),
         Call::Rent => {}
         Call::Bad => {}
-        Call::Later => {}
     }
 }
 

@@ -11,6 +11,7 @@ ghost use Rattle.mg_volume.specs.Staging.{lives};
 use mg_calls_bank::{account, balance, pay};
 use mg_calls_dom::{apdadd, apddel, apdlist, ret};
 use mg_calls_obj::create;
+use mg_calls_thr::{end, resume};
 use mg_model::{Call, Reply};
 use mg_vcache::VCache;
 use mg_volume::Volume;
@@ -36,6 +37,8 @@ pub(crate) fn unasked(v: &mut Volume, c: &mut VCache, t: u64, call: &Call) -> Re
         Call::Apddel { index } => apddel(v, c, t, index),
         Call::Apdlist => apdlist(v, t),
         Call::Ret => ret(v, c, t),
+        Call::End { thread } => end(v, c, t, thread),
+        Call::Resume { thread } => resume(v, t, thread),
         Call::Account {
             account: payer,
             password,

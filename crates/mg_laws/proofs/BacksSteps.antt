@@ -191,7 +191,6 @@ of_thread-backed ended state t done keeps = cond_both (is_thread state t) _ _ (�
 
 step_of-backed : (state : State) (t : ℕ) (made : Call) → IsWellFormed state → KeepsBacked (ended_of state t made) state (step_of state t made).0
 step_of-backed state t call.Bad formed = same-backed by_none state
-step_of-backed state t call.Later formed = same-backed by_none state
 step_of-backed state t call.Rent formed = rent-backed state
 step_of-backed state t call.Next formed = run_next-backed state (picked state) formed refl
 step_of-backed state t call.Turn formed = of_thread-backed _ state t _ (turn-backed state t formed)

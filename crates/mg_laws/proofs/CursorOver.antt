@@ -74,7 +74,6 @@ module _ (n : ℕ) where
   call-over state t call.Next = refl
   call-over state t call.Rent = refl
   call-over state t call.Bad = refl
-  call-over state t call.Later = refl
 
   seen-over : (t : ℕ) (on_ok : Reply → ThreadRow → ThreadRow) (after : Answer) → seen t on_ok (moved after) ≡ C (seen t on_ok after)
   seen-over t on_ok (state, reply.No word) = refl

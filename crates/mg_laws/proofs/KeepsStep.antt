@@ -20,7 +20,6 @@ of_thread-keeps state t done formed after = cond_both (is_thread state t) done (
 
 step_of-keeps : (state : State) (t : ℕ) (made : Call) → IsWellFormed state → HasRanges made → IsWellFormed (step_of state t made).0
 step_of-keeps state t call.Bad formed ranges = formed
-step_of-keeps state t call.Later formed ranges = formed
 step_of-keeps state t call.Rent formed ranges = rent-keeps state formed
 step_of-keeps state t call.Next formed ranges = next-keeps state formed
 step_of-keeps state t call.Turn formed ranges = of_thread-keeps state t _ formed (turn-keeps state t formed)

@@ -62,7 +62,6 @@ thread_call-keeps state t call.Turn formed ranges = formed
 thread_call-keeps state t call.Next formed ranges = formed
 thread_call-keeps state t call.Rent formed ranges = formed
 thread_call-keeps state t call.Bad formed ranges = formed
-thread_call-keeps state t call.Later formed ranges = formed
 
 -- the call that registers spell has its arguments in range
 spelled_pwadd-ranges : (b rights : ℕ) (until : Option ℕ) → IsWord b → ForSome until IsWord → HasRanges (spelled_pwadd b rights until)

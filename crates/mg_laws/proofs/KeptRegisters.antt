@@ -111,7 +111,7 @@ kept_registers row next k (value ∷ values) kept all =
     kept_registers row (with_register next k value) (k + 1) values (kept_register row next k value kept (All-head IsWord value values all)) (All-tail IsWord value values all)
 
 pub refusal_number-word : (word : Refusal) → IsWord (refusal_number word)
-refusal_number-word refusal.Later = omega arith
+refusal_number-word refusal.Syntax = omega arith
 refusal_number-word _ = omega arith
 
 -- an immediate has 32 bits

@@ -29,7 +29,6 @@ mod LinesInRange
 mod Lowest
 mod LowestPages
 mod NextReady
-mod NoLater
 mod Passed
 mod RefusedLeaves
 mod ReplyWords

@@ -9,7 +9,7 @@ use Rattle.std.specs.Option.{ForSome, option_map_or}
 use Rattle.mg_model.specs.declared.calls.Call.{Call}
 use Rattle.mg_model.specs.declared.calls.Call.TheVariants as call
 use Rattle.mg_model.specs.declared.calls.Line.{Line}
-use Rattle.mg_model.specs.Lines.{Row, bad_line, call_by, call_line, call_table, form0, form1, form2, form3, form4, form_pwadd, four, is_among, is_note, later_line, line_of, line_of_words, line_with, lines, lone_words, one, pdx_of, pwadd_of, spelled_line, thread_line, three, two}
+use Rattle.mg_model.specs.Lines.{Row, bad_line, call_by, call_line, call_table, form0, form1, form2, form3, form4, form_pwadd, four, is_among, is_note, line_of, line_of_words, line_with, lines, lone_words, one, pdx_of, pwadd_of, spelled_line, thread_line, three, two}
 use Rattle.mg_model.specs.Ranges.{IsWord}
 use Rattle.mg_model.specs.Rights.{IsRights}
 use Rattle.mg_model.specs.WellFormed.{HasRanges, IsInRange}
@@ -198,9 +198,6 @@ call_by-ranges ((known, form) ∷ rows) ranged word args =
 bad_line-in_range : IsInRange bad_line
 bad_line-in_range = record { thread = omega arith; call = tt }
 
-later_line-in_range : IsInRange later_line
-later_line-in_range = record { thread = omega arith; call = tt }
-
 line_with-in_range : (t : ℕ) (made : Call) → IsWord t → HasRanges made → IsInRange (line_with t made)
 line_with-in_range t call.Bad word ranges = bad_line-in_range
 line_with-in_range t other word ranges = record { thread = word; call = ranges }
@@ -209,35 +206,35 @@ call_or_bad : (made : Call → Line) (o : Option Call) → ((found : Call) → o
 call_or_bad made None each = bad_line-in_range
 call_or_bad made (Some found) each = each found refl
 
-call_line-in_range : (built : List (List ℕ)) (t : ℕ) (word : List ℕ) (args : List (List ℕ)) → IsWord t → IsInRange (call_line built t word args)
-call_line-in_range built t word args is =
-    call_or_bad (λ made. if is_among word built then line_with t made else later_line) (call_by call_table word args) (λ made found.
-    cond_both (is_among word built) _ _ IsInRange (λ _. line_with-in_range t made is (call_by-ranges call_table table-ranged word args made found)) (λ _. later_line-in_range))
+call_line-in_range : (t : ℕ) (word : List ℕ) (args : List (List ℕ)) → IsWord t → IsInRange (call_line t word args)
+call_line-in_range t word args is =
+    call_or_bad (λ made. line_with t made) (call_by call_table word args) (λ made found.
+    line_with-in_range t made is (call_by-ranges call_table table-ranged word args made found))
 
-thread_line-in_range : (built : List (List ℕ)) (t : ℕ) (more : List (List ℕ)) → IsWord t → IsInRange (thread_line built t more)
-thread_line-in_range built t [] word = bad_line-in_range
-thread_line-in_range built t (first ∷ args) word = cond_both (is_among first lone_words) _ _ IsInRange (λ _. bad_line-in_range) (λ _. call_line-in_range built t first args word)
+thread_line-in_range : (t : ℕ) (more : List (List ℕ)) → IsWord t → IsInRange (thread_line t more)
+thread_line-in_range t [] word = bad_line-in_range
+thread_line-in_range t (first ∷ args) word = cond_both (is_among first lone_words) _ _ IsInRange (λ _. bad_line-in_range) (λ _. call_line-in_range t first args word)
 
 line_or_bad : (made : ℕ → Line) (o : Option ℕ) → ((t : ℕ) → o ≡ Some t → IsInRange (made t)) → IsInRange (option_map_or made o bad_line)
 line_or_bad made None each = bad_line-in_range
 line_or_bad made (Some t) each = each t refl
 
-spelled_line-in_range : (built : List (List ℕ)) (first : List ℕ) (more : List (List ℕ)) → IsInRange (spelled_line built first more)
-spelled_line-in_range built first more =
-    cond_both (is_among first lone_words) _ _ IsInRange (λ _. call_line-in_range built 0 first more (omega arith))
-    (λ _. line_or_bad (λ t. thread_line built t more) (number_of first) (λ t is. thread_line-in_range built t more (number_of-word first t is)))
+spelled_line-in_range : (first : List ℕ) (more : List (List ℕ)) → IsInRange (spelled_line first more)
+spelled_line-in_range first more =
+    cond_both (is_among first lone_words) _ _ IsInRange (λ _. call_line-in_range 0 first more (omega arith))
+    (λ _. line_or_bad (λ t. thread_line t more) (number_of first) (λ t is. thread_line-in_range t more (number_of-word first t is)))
 
 line_some : (line : Line) → IsInRange line → ForSome (Some line) IsInRange
 line_some line is = λ other same. subst IsInRange (same_Some _ _ same) is
 
-line_of_words-in_range : (built : List (List ℕ)) (spelled : List (List ℕ)) → ForSome (line_of_words built spelled) IsInRange
-line_of_words-in_range built [] = λ line none. absurd (cc)
-line_of_words-in_range built (first ∷ more) =
-    cond_both (is_note first) None (Some (spelled_line built first more)) (λ o. ForSome o IsInRange) (λ _ line none. absurd (cc)) (λ _. line_some (spelled_line built first more) (spelled_line-in_range built first more))
+line_of_words-in_range : (spelled : List (List ℕ)) → ForSome (line_of_words spelled) IsInRange
+line_of_words-in_range [] = λ line none. absurd (cc)
+line_of_words-in_range (first ∷ more) =
+    cond_both (is_note first) None (Some (spelled_line first more)) (λ o. ForSome o IsInRange) (λ _ line none. absurd (cc)) (λ _. line_some (spelled_line first more) (spelled_line-in_range first more))
 
-line_of-in_range : (built : List (List ℕ)) (bytes : List ℕ) → ForSome (line_of built bytes) IsInRange
-line_of-in_range built bytes =
-    cond_both (ltb 256 (length bytes)) (Some bad_line) (line_of_words built (words bytes)) (λ o. ForSome o IsInRange) (λ _. line_some bad_line bad_line-in_range) (λ _. line_of_words-in_range built (words bytes))
+line_of-in_range : (bytes : List ℕ) → ForSome (line_of bytes) IsInRange
+line_of-in_range bytes =
+    cond_both (ltb 256 (length bytes)) (Some bad_line) (line_of_words (words bytes)) (λ o. ForSome o IsInRange) (λ _. line_some bad_line bad_line-in_range) (λ _. line_of_words-in_range (words bytes))
 
 All-cons_option : {X : Type 0} (Q : X → Type 0) (o : Option X) (xs : List X) → ForSome o Q → All Q xs → All Q (cons_option o xs)
 All-cons_option Q None xs each all = all
@@ -247,5 +244,5 @@ All-filter_map : {X Y : Type 0} (Q : Y → Type 0) (h : X → Option Y) (xs : Li
 All-filter_map Q h [] each = All-nil Q
 All-filter_map Q h (x ∷ xs) each = All-cons_option Q (h x) (filter_map h xs) (each x) (All-filter_map Q h xs each)
 
-pub lines-in_range : (built : List (List ℕ)) (bytes : List ℕ) → All IsInRange (lines built bytes)
-lines-in_range built bytes = All-filter_map IsInRange (line_of built) (split_at is_newline bytes) (line_of-in_range built)
+pub lines-in_range : (bytes : List ℕ) → All IsInRange (lines bytes)
+lines-in_range bytes = All-filter_map IsInRange line_of (split_at is_newline bytes) line_of-in_range

@@ -99,7 +99,6 @@ run_next-leaves state (Some thread) = record { leaves = λ word no. absurd (cc) 
 
 step_of-leaves : (state : State) (t : ℕ) (made : Call) → Leaves state (step_of state t made).0 (step_of state t made).1
 step_of-leaves state t call.Bad = same-leaves state (reply.No refusal.Syntax)
-step_of-leaves state t call.Later = same-leaves state (reply.No refusal.Later)
 step_of-leaves state t call.Rent = row-leaves _ state _ (collected-ok (state.counters.period + 1) (rate_now state) (rent_paid state))
 step_of-leaves state t call.Next = run_next-leaves state (picked state)
 step_of-leaves state t call.Turn = of_thread-leaves state t (turn state t) (row-leaves _ state _ (turned-ok (after_of (turn_state state t) t)))

@@ -251,4 +251,3 @@ thread_call-words state t call.Turn formed = record { words = none-words }
 thread_call-words state t call.Next formed = record { words = none-words }
 thread_call-words state t call.Rent formed = record { words = none-words }
 thread_call-words state t call.Bad formed = record { words = none-words }
-thread_call-words state t call.Later formed = record { words = none-words }

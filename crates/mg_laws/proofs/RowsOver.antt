@@ -226,7 +226,6 @@ module _ (state : State) (t : ℕ) (old row : ThreadRow) (formed : IsWellFormed 
   call-over call.Next by = refl
   call-over call.Rent by = refl
   call-over call.Bad by = refl
-  call-over call.Later by = refl
 
 -- threads whose numbers are larger stay
 above : (t : ℕ) (f : ThreadRow → ThreadRow) (xs : List Thread) → ((k : ℕ) (d : Thread) → k < length xs → t < (get_or xs k d).number) → map (changed t f) xs ≡ xs

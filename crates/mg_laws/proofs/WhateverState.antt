@@ -117,7 +117,6 @@ module _ (state : State) (t : ℕ) (kind : ThrState) where
   same_call u call.Next = refl
   same_call u call.Rent = refl
   same_call u call.Bad = refl
-  same_call u call.Later = refl
 
   same_rent : (rent (as_state state t kind)).1 ≡ (rent state).1
   same_rent = answer_here _ _ _ (refl {a = reply.Collected (state.counters.period + 1) (rate_now state) (rent_paid state)})
@@ -131,7 +130,6 @@ module _ (state : State) (t : ℕ) (kind : ThrState) where
   same_step u call.Turn no_turn = absurd (cc)
   same_step u call.Next no_turn = absurd (cc)
   same_step u call.Bad no_turn = refl
-  same_step u call.Later no_turn = refl
   same_step u call.Rent no_turn = same_rent
   same_step u other no_turn = same_of_thread u (thread_call (as_state state t kind) u other) (thread_call state u other) (same_call u other)
 

@@ -4,7 +4,7 @@ use Rattle.mg_model.specs.declared.calls.Call.{Call}
 use Rattle.mg_model.specs.declared.calls.Call.TheVariants as call
 use Rattle.mg_model.specs.declared.calls.Line.{Line}
 use Rattle.mg_model.specs.declared.replies.Refusal.{Refusal}
-use Rattle.mg_model.specs.declared.replies.Refusal.TheVariants.{Idle, Later}
+use Rattle.mg_model.specs.declared.replies.Refusal.TheVariants.{Idle}
 use Rattle.mg_model.specs.declared.replies.Reply.{Reply}
 use Rattle.mg_model.specs.declared.replies.Reply.TheVariants.{No, Ran}
 use Rattle.mg_model.specs.declared.rights.Right.{Right}
@@ -23,9 +23,9 @@ use Rattle.mg_model.specs.WellFormed.{AreObjects, IsInRange, IsSettings, IsWellF
 abbrev pub BeginsWellFormed : (Settings → State) → Type 0
 BeginsWellFormed begin = (settings : Settings) → IsSettings settings → IsWellFormed (begin settings)
 
--- whichever call words are built, the lines of any bytes are in range
-abbrev pub ReadsInRange : (List (List ℕ) → List ℕ → List Line) → Type 0
-ReadsInRange read = (built : List (List ℕ)) (bytes : List ℕ) → All IsInRange (read built bytes)
+-- the lines of any bytes are in range
+abbrev pub ReadsInRange : (List ℕ → List Line) → Type 0
+ReadsInRange read = (bytes : List ℕ) → All IsInRange (read bytes)
 
 -- lines in range, one after another, keep a well-formed state
 abbrev pub RunsKeepWellFormed : (State → List Line → State) → Type 0
@@ -109,11 +109,3 @@ RanNext state other = (other ≡ No Idle) × NoneReady state
 
 abbrev pub RunsNextReady : (State → Answer) → Type 0
 RunsNextReady next = (state : State) → IsWellFormed state → RanNext state (next state).1
-
--- no call is refused by Later
-abbrev pub IsNeverLater : (State → ℕ → Call → Answer) → Type 0
-IsNeverLater calls = (state : State) (t : ℕ) (made : Call) → (calls state t made).1 ≢ No Later
-
--- a line is answered Later only where its call is not built
-abbrev pub IsLaterWhereUnbuilt : (State → Line → Answer) → Type 0
-IsLaterWhereUnbuilt steps = (state : State) (line : Line) → (steps state line).1 ≡ No Later → line.call ≡ call.Later

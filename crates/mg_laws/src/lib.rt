@@ -10,7 +10,7 @@ mod costs;
 
 ghost use Rattle.mg_model.specs.Access.{allowed};
 ghost use Rattle.mg_model.specs.Fresh.{fresh};
-ghost use Rattle.mg_laws.specs.Laws.{AnswersWhateverState, BeginsWellFormed, FindsLowest, IsLaterWhereUnbuilt, IsNeverLater, ReadsInRange, RefusedLeaves, RestsOnDomain, RunsKeepWellFormed, RunsNextReady, TakesLeastNumber, TakesLowest};
+ghost use Rattle.mg_laws.specs.Laws.{AnswersWhateverState, BeginsWellFormed, FindsLowest, ReadsInRange, RefusedLeaves, RestsOnDomain, RunsKeepWellFormed, RunsNextReady, TakesLeastNumber, TakesLowest};
 ghost use Rattle.mg_laws.specs.Scripts.{RestsOnNoCursor, RestsOnNoRegister};
 ghost use Rattle.mg_model.specs.Lines.{lines};
 ghost use Rattle.mg_model.specs.Objects.{lowest_free};
@@ -68,12 +68,6 @@ pub fn free_numbers_are_least()
 /// where no thread is Ready.
 pub fn next_runs_the_least_ready_thread()
     ensures { RunsNextReady next }
-{}
-
-/// Later is the answer to a line whose call is not built, and to no other: a script never sees it.
-pub fn only_unbuilt_calls_are_later()
-    ensures lines { IsLaterWhereUnbuilt step }
-    ensures calls { IsNeverLater thread_call }
 {}
 
 /// A call that a script makes rests neither on the pc nor on a register of its thread: the row that the thread gets may be put

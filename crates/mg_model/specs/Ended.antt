@@ -12,5 +12,5 @@ all_but_last (piece ∷ []) = []
 all_but_last (piece ∷ next ∷ pieces) = piece ∷ all_but_last (next ∷ pieces)
 
 -- the lines of the pieces that a newline ends
-abbrev pub ended_lines : List (List ℕ) → List ℕ → List Line
-ended_lines built bytes = filter_map (line_of built) (all_but_last (split_at is_newline bytes))
+abbrev pub ended_lines : List ℕ → List Line
+ended_lines bytes = filter_map line_of (all_but_last (split_at is_newline bytes))

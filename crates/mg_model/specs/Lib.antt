@@ -28,7 +28,6 @@ pub mod Backed
 pub mod Words
 pub mod Lines
 pub mod Ended
-pub mod Built
 pub mod FewSlots
 pub mod Print
 -- Where the machine begins, and what it keeps.

@@ -90,37 +90,9 @@ call_table =
     ∷ (codes "rent", form0 call.Rent)
     ∷ []
 
--- every call word
-abbrev pub all_words : List (List ℕ)
-all_words = map (λ (row : Row). row.0) call_table
-
 -- the call words that stand alone; before every other one stands the number of a thread
 abbrev pub lone_words : List (List ℕ)
 lone_words = codes "next" ∷ codes "rent" ∷ []
-
--- the call words that are built today
-abbrev pub built_words : List (List ℕ)
-built_words =
-    codes "load"
-    ∷ codes "store"
-    ∷ codes "create"
-    ∷ codes "delete"
-    ∷ codes "info"
-    ∷ codes "pwadd"
-    ∷ codes "pwdel"
-    ∷ codes "entry"
-    ∷ codes "ext"
-    ∷ codes "recharge"
-    ∷ codes "apdadd"
-    ∷ codes "apddel"
-    ∷ codes "apdlist"
-    ∷ codes "pdx"
-    ∷ codes "ret"
-    ∷ codes "account"
-    ∷ codes "pay"
-    ∷ codes "balance"
-    ∷ codes "rent"
-    ∷ []
 
 -- whether a word is one of these
 abbrev pub is_among : List ℕ → List (List ℕ) → Bool
@@ -134,28 +106,25 @@ call_by ((known, form) ∷ rows) word args = if same_bytes word known then Some 
 abbrev pub bad_line : Line
 bad_line = record { thread = 0; call = call.Bad }
 
-abbrev pub later_line : Line
-later_line = record { thread = 0; call = call.Later }
-
 -- a line's thread is 0 where its call is Bad
 abbrev pub line_with : ℕ → Call → Line
 line_with t call.Bad = bad_line
 line_with t made = record { thread = t; call = made }
 
--- the line of a call word with these arguments; Later where the call is not built, and Bad where there is no such call
-abbrev pub call_line : List (List ℕ) → ℕ → List ℕ → List (List ℕ) → Line
-call_line built t word args = option_map_or (λ made. if is_among word built then line_with t made else later_line) (call_by call_table word args) bad_line
+-- the line of a call word with these arguments; Bad where there is no such call
+abbrev pub call_line : ℕ → List ℕ → List (List ℕ) → Line
+call_line t word args = option_map_or (λ made. line_with t made) (call_by call_table word args) bad_line
 
 -- behind a thread's number: a call word, and its arguments
-abbrev pub thread_line : List (List ℕ) → ℕ → List (List ℕ) → Line
-thread_line built t [] = bad_line
-thread_line built t (word ∷ args) = if is_among word lone_words then bad_line else call_line built t word args
+abbrev pub thread_line : ℕ → List (List ℕ) → Line
+thread_line t [] = bad_line
+thread_line t (word ∷ args) = if is_among word lone_words then bad_line else call_line t word args
 
 -- the line that its words spell, of which there is at least one
-abbrev pub spelled_line : List (List ℕ) → List ℕ → List (List ℕ) → Line
-spelled_line built first more =
-    if is_among first lone_words then call_line built 0 first more
-    else option_map_or (λ t. thread_line built t more) (number_of first) bad_line
+abbrev pub spelled_line : List ℕ → List (List ℕ) → Line
+spelled_line first more =
+    if is_among first lone_words then call_line 0 first more
+    else option_map_or (λ t. thread_line t more) (number_of first) bad_line
 
 -- a note begins with #
 abbrev pub is_note : List ℕ → Bool
@@ -163,19 +132,19 @@ is_note [] = false
 is_note (b ∷ bytes) = b == 35
 
 -- the line that these words spell; no words and a note spell none
-abbrev pub line_of_words : List (List ℕ) → List (List ℕ) → Option Line
-line_of_words built [] = None
-line_of_words built (first ∷ more) = if is_note first then None else Some (spelled_line built first more)
+abbrev pub line_of_words : List (List ℕ) → Option Line
+line_of_words [] = None
+line_of_words (first ∷ more) = if is_note first then None else Some (spelled_line first more)
 
 -- a longer line is Bad, whatever it holds
 abbrev pub line_limit : ℕ
 line_limit = 256
 
 -- the line that a piece of the input spells
-abbrev pub line_of : List (List ℕ) → List ℕ → Option Line
-line_of built bytes = if nat_lt line_limit (length bytes) then Some bad_line else line_of_words built (words bytes)
+abbrev pub line_of : List ℕ → Option Line
+line_of bytes = if nat_lt line_limit (length bytes) then Some bad_line else line_of_words (words bytes)
 
--- The lines of an input, where these call words are built. The last line may lack its newline: the piece behind the last
--- newline is one more, and an empty piece spells no line.
-abbrev pub lines : List (List ℕ) → List ℕ → List Line
-lines built bytes = filter_map (line_of built) (split_at is_newline bytes)
+-- The lines of an input. The last line may lack its newline: the piece behind the last newline is one more, and an empty
+-- piece spells no line.
+abbrev pub lines : List ℕ → List Line
+lines bytes = filter_map line_of (split_at is_newline bytes)

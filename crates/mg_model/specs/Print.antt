@@ -50,7 +50,6 @@ refusal_text refusal.Idle = codes "Idle"
 refusal_text refusal.Credit = codes "Credit"
 refusal_text refusal.Calendar = codes "Calendar"
 refusal_text refusal.Past = codes "Past"
-refusal_text refusal.Later = codes "Later"
 
 abbrev pub fault_text : Fault → List ℕ
 fault_text fault.Align = codes "Align"

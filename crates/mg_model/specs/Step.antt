@@ -18,7 +18,6 @@ of_thread state t done = if is_thread state t then done else (state, No refusal.
 -- the state and the reply after a call; only the calls of a thread look at the number
 abbrev pub step_of : State → ℕ → Call → Answer
 step_of state t call.Bad = (state, No refusal.Syntax)
-step_of state t call.Later = (state, No refusal.Later)
 step_of state t call.Rent = rent state
 step_of state t call.Next = next state
 step_of state t call.Turn = of_thread state t (turn state t)

@@ -53,7 +53,7 @@ thread_call state t (call.Pay account password to amount) = pay state account pa
 thread_call state t (call.Balance account password) = balance state account password
 thread_call state t other = (state, reply.No refusal.Syntax)
 
--- The number of a refusal, as a script sees it. No call of a thread is refused by Later, so no script sees its number.
+-- the number of a refusal, as a script sees it
 abbrev pub refusal_number : Refusal → ℕ
 refusal_number refusal.Syntax = 1
 refusal_number refusal.NoThread = 2
@@ -77,7 +77,6 @@ refusal_number refusal.Idle = 19
 refusal_number refusal.Credit = 20
 refusal_number refusal.Calendar = 21
 refusal_number refusal.Past = 22
-refusal_number refusal.Later = 23
 
 -- the rights of a `pwadd` by a script are given as their bits
 abbrev pub spelled_pwadd : ℕ → ℕ → Option ℕ → Call

@@ -103,7 +103,6 @@ HasRanges (call.Pay account password to amount) = IsWord account × IsWord passw
 HasRanges (call.Balance account password) = IsWord account × IsWord password
 HasRanges call.Rent = Unit {0}
 HasRanges call.Bad = Unit {0}
-HasRanges call.Later = Unit {0}
 
 pub record IsInRange (line : Line) : Type 0 where
   pub thread : IsWord line.thread

@@ -87,14 +87,12 @@ pub enum Call {
     Rent,
     /// A line of no form.
     Bad,
-    /// A call that is not built yet.
-    Later,
 }
 
 /// One line of a call file: a call, and the thread that makes it.
 #[derive(Clone, Copy, Debug, PartialEq, Eq)]
 pub struct Line {
-    /// The thread's number; 0 for `Next`, `Rent`, `Bad` and `Later`, which name none.
+    /// The thread's number; 0 for `Next`, `Rent` and `Bad`, which name none.
     pub thread: u64,
     pub call: Call,
 }

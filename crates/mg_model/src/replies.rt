@@ -26,8 +26,6 @@ pub enum Refusal {
     Credit,
     Calendar,
     Past,
-    /// The call is not built yet.
-    Later,
 }
 
 /// What a thread is after its turn.

@@ -51,7 +51,6 @@ is_spelled call.Ret = false
 is_spelled call.Turn = false
 is_spelled call.Next = false
 is_spelled call.Rent = false
-is_spelled call.Later = false
 is_spelled other = true
 
 -- a load puts its word into one of the eight registers

@@ -4,17 +4,23 @@
 //! the turn, or says what is still asked of the machine, as an [`Action`]. A call that a script makes is spelled from its
 //! registers, and its reply settled in them. The layer above learns an equation for each: `decode` is `decoded` of the
 //! definition, `spell` is `spelled`, and what `execute` and `settle` leave to be done is the turn of the definition
-//! (`specs/Actions.antt`).
+//! (`specs/Actions.antt`). A law says that a thread's turn is a call of the machine, and behind it another row for the thread
+//! (`specs/Turns.antt`); another, that the turn asks for and costs what this call does, behind the fetch
+//! (`specs/TurnCosts.antt`).
 #![tactic(auto)]
 
 mod actions;
 mod calls;
+mod costs;
 mod resuming;
 mod settling;
+mod turns;
 mod words;
 
 pub use actions::{Action, advance, execute};
 pub use calls::spell;
+pub use costs::turns_search_as_calls;
 pub use resuming::{begin, call, resume};
 pub use settling::{refuse, settle};
+pub use turns::turns_are_calls;
 pub use words::{decode, encode};

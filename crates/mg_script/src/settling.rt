@@ -75,6 +75,5 @@ fn number(word: Refusal) -> u64
         Refusal::Credit => 20,
         Refusal::Calendar => 21,
         Refusal::Past => 22,
-        Refusal::Later => 23,
     }
 }

@@ -119,7 +119,6 @@ refusal_quiet refusal.Idle = refl
 refusal_quiet refusal.Credit = refl
 refusal_quiet refusal.Calendar = refl
 refusal_quiet refusal.Past = refl
-refusal_quiet refusal.Later = refl
 
 pub reply_no_newline : (answer : Reply) → answered (reply_text answer) ≡ 0
 reply_no_newline (reply.No word) = refusal_quiet word

@@ -88,43 +88,43 @@ split_at-more cuts (b ∷ bytes) rest none =
     by_cut false h some = ap (onto_first b) h ∙ onto_last-first b rest (split_at cuts bytes)
 
 -- a line that is ended
-pub lines-ended : (built : List (List ℕ)) (bytes rest : List ℕ) → list_any is_newline bytes ≡ false → lines built (bytes ++ 10 ∷ rest) ≡ option_to_list (line_of built bytes) ++ lines built rest
-lines-ended built bytes rest none =
-    ap (filter_map (line_of built)) (split_at-append is_newline bytes (10 ∷ rest) none ∙ ap (λ v. v ∷ split_at is_newline rest) (append-nil bytes))
-    ∙ one (line_of built bytes)
+pub lines-ended : (bytes rest : List ℕ) → list_any is_newline bytes ≡ false → lines (bytes ++ 10 ∷ rest) ≡ option_to_list (line_of bytes) ++ lines rest
+lines-ended bytes rest none =
+    ap (filter_map line_of) (split_at-append is_newline bytes (10 ∷ rest) none ∙ ap (λ v. v ∷ split_at is_newline rest) (append-nil bytes))
+    ∙ one (line_of bytes)
   where
-    one : (o : Option Line) → cons_option o (lines built rest) ≡ option_to_list o ++ lines built rest
+    one : (o : Option Line) → cons_option o (lines rest) ≡ option_to_list o ++ lines rest
     one None = refl
     one (Some x) = refl
 
 -- a line that is not ended
-pub lines-last : (built : List (List ℕ)) (bytes : List ℕ) → list_any is_newline bytes ≡ false → lines built bytes ≡ option_to_list (line_of built bytes)
-lines-last built bytes none = ap (filter_map (line_of built)) (split_at-whole is_newline bytes none) ∙ one (line_of built bytes)
+pub lines-last : (bytes : List ℕ) → list_any is_newline bytes ≡ false → lines bytes ≡ option_to_list (line_of bytes)
+lines-last bytes none = ap (filter_map line_of) (split_at-whole is_newline bytes none) ∙ one (line_of bytes)
   where
     one : (o : Option Line) → cons_option o [] ≡ option_to_list o
     one None = refl
     one (Some x) = refl
 
 -- a line that is too long is bad, whatever it holds
-pub line_of-long : (built : List (List ℕ)) (bytes : List ℕ) → line_limit < length bytes → line_of built bytes ≡ Some bad_line
-line_of-long built bytes long =
+pub line_of-long : (bytes : List ℕ) → line_limit < length bytes → line_of bytes ≡ Some bad_line
+line_of-long bytes long =
     let yes : nat_lt line_limit (length bytes) ≡ true = search rules in
-    ap (λ v. if v then Some bad_line else line_of_words built (words bytes)) yes
+    ap (λ v. if v then Some bad_line else line_of_words (words bytes)) yes
 
 -- so its further bytes change nothing
-pub lines-long : (built : List (List ℕ)) (bytes : List ℕ) (b : ℕ) (rest : List ℕ) → list_any is_newline bytes ≡ false → is_newline b ≡ false → line_limit < length bytes
-    → lines built (bytes ++ b ∷ rest) ≡ lines built (bytes ++ rest)
-lines-long built bytes b rest none off long =
-    ap (filter_map (line_of built)) (split_at-append is_newline bytes (b ∷ rest) none ∙ ap (λ v. all_onto_first bytes (if v then [] ∷ split_at is_newline rest else onto_first b (split_at is_newline rest))) off)
+pub lines-long : (bytes : List ℕ) (b : ℕ) (rest : List ℕ) → list_any is_newline bytes ≡ false → is_newline b ≡ false → line_limit < length bytes
+    → lines (bytes ++ b ∷ rest) ≡ lines (bytes ++ rest)
+lines-long bytes b rest none off long =
+    ap (filter_map line_of) (split_at-append is_newline bytes (b ∷ rest) none ∙ ap (λ v. all_onto_first bytes (if v then [] ∷ split_at is_newline rest else onto_first b (split_at is_newline rest))) off)
     ∙ dropped (split_at is_newline rest)
-    ∙ sym (ap (filter_map (line_of built)) (split_at-append is_newline bytes rest none))
+    ∙ sym (ap (filter_map line_of) (split_at-append is_newline bytes rest none))
   where
     longer : (more : List ℕ) → line_limit < length (bytes ++ more)
     longer more = omega (arith, length-append bytes more)
 
-    dropped : (pieces : List (List ℕ)) → filter_map (line_of built) (all_onto_first bytes (onto_first b pieces)) ≡ filter_map (line_of built) (all_onto_first bytes pieces)
-    dropped [] = ap (λ o. cons_option o []) (line_of-long built (bytes ++ b ∷ []) (longer (b ∷ [])) ∙ sym (line_of-long built bytes long))
-    dropped (piece ∷ pieces) = ap (λ o. cons_option o (filter_map (line_of built) pieces)) (line_of-long built (bytes ++ b ∷ piece) (longer (b ∷ piece)) ∙ sym (line_of-long built (bytes ++ piece) (longer piece)))
+    dropped : (pieces : List (List ℕ)) → filter_map line_of (all_onto_first bytes (onto_first b pieces)) ≡ filter_map line_of (all_onto_first bytes pieces)
+    dropped [] = ap (λ o. cons_option o []) (line_of-long (bytes ++ b ∷ []) (longer (b ∷ [])) ∙ sym (line_of-long bytes long))
+    dropped (piece ∷ pieces) = ap (λ o. cons_option o (filter_map line_of pieces)) (line_of-long (bytes ++ b ∷ piece) (longer (b ∷ piece)) ∙ sym (line_of-long (bytes ++ piece) (longer piece)))
 
 -- a row of bytes that is no line of any call: too long, and with no newline
 abbrev long_row : List ℕ
@@ -134,27 +134,27 @@ row_whole : (n : ℕ) → list_any is_newline (replicate n 120) ≡ false
 row_whole zero = refl
 row_whole (suc n) = row_whole n
 
-behind_row : (built : List (List ℕ)) (bytes : List ℕ) → line_of built (bytes ++ long_row) ≡ Some bad_line
-behind_row built bytes = line_of-long built (bytes ++ long_row) (omega (arith, length-append bytes long_row, length-replicate {A = ℕ} 257 120))
+behind_row : (bytes : List ℕ) → line_of (bytes ++ long_row) ≡ Some bad_line
+behind_row bytes = line_of-long (bytes ++ long_row) (omega (arith, length-append bytes long_row, length-replicate {A = ℕ} 257 120))
 
 -- of the pieces with a row behind them, the last is bad and the others are as they were
-rows : (built : List (List ℕ)) (pieces : List (List ℕ)) → length (filter_map (line_of built) (onto_last pieces long_row)) ≡ length (filter_map (line_of built) (all_but_last pieces)) + 1
-rows built [] = ap (λ o. length (cons_option o [])) (behind_row built [])
-rows built (piece ∷ []) = ap (λ o. length (cons_option o [])) (behind_row built piece)
-rows built (piece ∷ next ∷ pieces) = by_option (line_of built piece) (rows built (next ∷ pieces))
+rows : (pieces : List (List ℕ)) → length (filter_map line_of (onto_last pieces long_row)) ≡ length (filter_map line_of (all_but_last pieces)) + 1
+rows [] = ap (λ o. length (cons_option o [])) (behind_row [])
+rows (piece ∷ []) = ap (λ o. length (cons_option o [])) (behind_row piece)
+rows (piece ∷ next ∷ pieces) = by_option (line_of piece) (rows (next ∷ pieces))
   where
-    by_option : (o : Option Line) → length (filter_map (line_of built) (onto_last (next ∷ pieces) long_row)) ≡ length (filter_map (line_of built) (all_but_last (next ∷ pieces))) + 1
-        → length (cons_option o (filter_map (line_of built) (onto_last (next ∷ pieces) long_row))) ≡ length (cons_option o (filter_map (line_of built) (all_but_last (next ∷ pieces)))) + 1
+    by_option : (o : Option Line) → length (filter_map line_of (onto_last (next ∷ pieces) long_row)) ≡ length (filter_map line_of (all_but_last (next ∷ pieces))) + 1
+        → length (cons_option o (filter_map line_of (onto_last (next ∷ pieces) long_row))) ≡ length (cons_option o (filter_map line_of (all_but_last (next ∷ pieces)))) + 1
     by_option None h = h
     by_option (Some x) h = omega arith
 
 -- what stands before a part without a newline are the calls of the ended lines
-pub ended_lines-exact : (built : List (List ℕ)) (bytes part : List ℕ) (ls : List Line) → ((rest : List ℕ) → lines built (bytes ++ rest) ≡ ls ++ lines built (part ++ rest)) → list_any is_newline part ≡ false
-    → length (ended_lines built bytes) ≡ length ls
-ended_lines-exact built bytes part ls cuts none =
-    let all : length (lines built (bytes ++ long_row)) ≡ length (ended_lines built bytes) + 1 =
-    ap (λ v. length (filter_map (line_of built) v)) (split_at-more is_newline bytes long_row (row_whole 257)) ∙ rows built (split_at is_newline bytes) in
+pub ended_lines-exact : (bytes part : List ℕ) (ls : List Line) → ((rest : List ℕ) → lines (bytes ++ rest) ≡ ls ++ lines (part ++ rest)) → list_any is_newline part ≡ false
+    → length (ended_lines bytes) ≡ length ls
+ended_lines-exact bytes part ls cuts none =
+    let all : length (lines (bytes ++ long_row)) ≡ length (ended_lines bytes) + 1 =
+    ap (λ v. length (filter_map line_of v)) (split_at-more is_newline bytes long_row (row_whole 257)) ∙ rows (split_at is_newline bytes) in
     let whole : list_any is_newline (part ++ long_row) ≡ false = list_any-append is_newline part long_row ∙ ap (λ v. v || list_any is_newline long_row) none ∙ row_whole 257 in
-    let last : length (lines built (part ++ long_row)) ≡ 1 = ap length (lines-last built (part ++ long_row) whole ∙ ap (λ o. option_to_list o) (behind_row built part)) in
-    let both : length (lines built (bytes ++ long_row)) ≡ length ls + length (lines built (part ++ long_row)) = ap length (cuts long_row) ∙ length-append ls (lines built (part ++ long_row)) in
+    let last : length (lines (part ++ long_row)) ≡ 1 = ap length (lines-last (part ++ long_row) whole ∙ ap (λ o. option_to_list o) (behind_row part)) in
+    let both : length (lines (bytes ++ long_row)) ≡ length ls + length (lines (part ++ long_row)) = ap length (cuts long_row) ∙ length-append ls (lines (part ++ long_row)) in
     omega arith

@@ -8,7 +8,7 @@ use Rattle.mg_disk.specs.declared.disk.Disk.{Ghosts}
 use Rattle.mg_kernel.specs.Meaning.{is_live}
 use Rattle.mg_model.specs.declared.calls.Line.{Line}
 use Rattle.mg_session.proofs.Cutting.{lines-ended, lines-last}
-use Rattle.mg_model.specs.Lines.{built_words, line_of, lines}
+use Rattle.mg_model.specs.Lines.{line_of, lines}
 use Rattle.mg_model.specs.Words.{is_newline}
 use Rattle.mg_model.specs.Counts.{CountsAlike}
 use Rattle.mg_session.specs.declared.batches.Ended.{Ended}
@@ -23,11 +23,11 @@ pub alike_then : (a b c x y z : ℕ) → CountsAlike a b x y → CountsAlike b c
 alike_then a b c x y z (n, first, words) (m, second, more) = (n + m, omega arith, omega arith)
 
 -- how a newline cuts behind a part that spells a line
-line_cut : (part : List ℕ) (b : ℕ) (part' : List ℕ) (line : Line) → b ≡ 10 → part' ≡ [] → list_any is_newline part ≡ false → line_of built_words part ≡ Some line
-    → (rest : List ℕ) → lines built_words (part ++ b ∷ rest) ≡ line ∷ lines built_words (part' ++ rest)
+line_cut : (part : List ℕ) (b : ℕ) (part' : List ℕ) (line : Line) → b ≡ 10 → part' ≡ [] → list_any is_newline part ≡ false → line_of part ≡ Some line
+    → (rest : List ℕ) → lines (part ++ b ∷ rest) ≡ line ∷ lines (part' ++ rest)
 line_cut part b part' line newline empty whole some rest =
-    ap (λ v. lines built_words (part ++ v ∷ rest)) newline ∙ lines-ended built_words part rest whole
-    ∙ ap (λ o. option_to_list o ++ lines built_words rest) some ∙ ap (λ v. line ∷ lines built_words (v ++ rest)) (sym empty)
+    ap (λ v. lines (part ++ v ∷ rest)) newline ∙ lines-ended part rest whole
+    ∙ ap (λ o. option_to_list o ++ lines rest) some ∙ ap (λ v. line ∷ lines (v ++ rest)) (sym empty)
 
 module _ {D : Type 0} (facts : Ghosts D) where
   Runs-none : (p : Point D) → Runs facts p [] p
@@ -43,33 +43,33 @@ module _ {D : Type 0} (facts : Ghosts D) where
   Goes-none p part = record { ls = []; cuts = λ rest. refl; steps = Runs-none p }
 
   -- a byte that ends no line
-  pub Goes-byte : (p : Point D) (part : List ℕ) (b : ℕ) (part' : List ℕ) → ((rest : List ℕ) → lines built_words (part ++ b ∷ rest) ≡ lines built_words (part' ++ rest)) → Goes facts p part (b ∷ []) p part'
+  pub Goes-byte : (p : Point D) (part : List ℕ) (b : ℕ) (part' : List ℕ) → ((rest : List ℕ) → lines (part ++ b ∷ rest) ≡ lines (part' ++ rest)) → Goes facts p part (b ∷ []) p part'
   Goes-byte p part b part' same = record { ls = []; cuts = same; steps = Runs-none p }
 
   -- a newline behind a part that spells no line
-  pub Goes-note : (p : Point D) (part : List ℕ) (b : ℕ) (part' : List ℕ) → b ≡ 10 → part' ≡ [] → list_any is_newline part ≡ false → line_of built_words part ≡ None → Goes facts p part (b ∷ []) p part'
+  pub Goes-note : (p : Point D) (part : List ℕ) (b : ℕ) (part' : List ℕ) → b ≡ 10 → part' ≡ [] → list_any is_newline part ≡ false → line_of part ≡ None → Goes facts p part (b ∷ []) p part'
   Goes-note p part b part' newline empty whole none =
-      Goes-byte p part b part' (λ rest. ap (λ v. lines built_words (part ++ v ∷ rest)) newline ∙ lines-ended built_words part rest whole
-      ∙ ap (λ o. option_to_list o ++ lines built_words rest) none ∙ ap (λ v. lines built_words (v ++ rest)) (sym empty))
+      Goes-byte p part b part' (λ rest. ap (λ v. lines (part ++ v ∷ rest)) newline ∙ lines-ended part rest whole
+      ∙ ap (λ o. option_to_list o ++ lines rest) none ∙ ap (λ v. lines (v ++ rest)) (sym empty))
 
   -- a newline behind a part that spells a line
-  pub Goes-line : (p : Point D) (part : List ℕ) (b : ℕ) (q : Point D) (part' : List ℕ) (line : Line) → b ≡ 10 → part' ≡ [] → list_any is_newline part ≡ false → line_of built_words part ≡ Some line
+  pub Goes-line : (p : Point D) (part : List ℕ) (b : ℕ) (q : Point D) (part' : List ℕ) (line : Line) → b ≡ 10 → part' ≡ [] → list_any is_newline part ≡ false → line_of part ≡ Some line
       → Runs facts p (line ∷ []) q → Goes facts p part (b ∷ []) q part'
   Goes-line p part b q part' line newline empty whole some g = record { ls = line ∷ []; cuts = line_cut part b part' line newline empty whole some; steps = g }
 
-  pub Breaks-line : (e : Ended) (p : Point D) (part : List ℕ) (b : ℕ) (part' : List ℕ) (line : Line) (q : Point D) → b ≡ 10 → part' ≡ [] → list_any is_newline part ≡ false → line_of built_words part ≡ Some line
+  pub Breaks-line : (e : Ended) (p : Point D) (part : List ℕ) (b : ℕ) (part' : List ℕ) (line : Line) (q : Point D) → b ≡ 10 → part' ≡ [] → list_any is_newline part ≡ false → line_of part ≡ Some line
       → Halts facts e p (line ∷ []) q → Breaks facts e p part (b ∷ []) q
   Breaks-line e p part b part' line q newline empty whole some h = record {
     ls = line ∷ [];
-    cuts = λ rest. (lines built_words (part' ++ rest), line_cut part b part' line newline empty whole some rest);
+    cuts = λ rest. (lines (part' ++ rest), line_cut part b part' line newline empty whole some rest);
     halts = h;
   }
 
   pub Goes-then : (p : Point D) (part xs : List ℕ) (q : Point D) (part' ys : List ℕ) (r : Point D) (part'' : List ℕ) → Goes facts p part xs q part' → Goes facts q part' ys r part'' → Goes facts p part (xs ++ ys) r part''
   Goes-then p part xs q part' ys r part'' g h = record {
     ls = g.ls ++ h.ls;
-    cuts = λ rest. ap (λ v. lines built_words (part ++ v)) (append_assoc xs ys rest) ∙ g.cuts (ys ++ rest) ∙ ap (λ v. g.ls ++ v) (h.cuts rest)
-        ∙ sym (append_assoc g.ls h.ls (lines built_words (part'' ++ rest)));
+    cuts = λ rest. ap (λ v. lines (part ++ v)) (append_assoc xs ys rest) ∙ g.cuts (ys ++ rest) ∙ ap (λ v. g.ls ++ v) (h.cuts rest)
+        ∙ sym (append_assoc g.ls h.ls (lines (part'' ++ rest)));
     steps = Runs-then p g.ls q h.ls r g.steps h.steps;
   }
 
@@ -80,17 +80,17 @@ module _ {D : Type 0} (facts : Ghosts D) where
     halts = Runs-halts e p g.ls q h.ls r g.steps h.halts;
   }
     where
-      later : (rest : List ℕ) → (more : List Line) × (lines built_words (part' ++ (ys ++ rest)) ≡ h.ls ++ more) → (more : List Line) × (lines built_words (part ++ ((xs ++ ys) ++ rest)) ≡ (g.ls ++ h.ls) ++ more)
+      later : (rest : List ℕ) → (more : List Line) × (lines (part' ++ (ys ++ rest)) ≡ h.ls ++ more) → (more : List Line) × (lines (part ++ ((xs ++ ys) ++ rest)) ≡ (g.ls ++ h.ls) ++ more)
       later rest (more, is) = (
         more,
-        ap (λ v. lines built_words (part ++ v)) (append_assoc xs ys rest) ∙ g.cuts (ys ++ rest) ∙ ap (λ v. g.ls ++ v) is ∙ sym (append_assoc g.ls h.ls more),
+        ap (λ v. lines (part ++ v)) (append_assoc xs ys rest) ∙ g.cuts (ys ++ rest) ∙ ap (λ v. g.ls ++ v) is ∙ sym (append_assoc g.ls h.ls more),
       )
 
   -- more may come behind what broke
   pub Breaks-more : (e : Ended) (p : Point D) (part xs ys : List ℕ) (q : Point D) → Breaks facts e p part xs q → Breaks facts e p part (xs ++ ys) q
   Breaks-more e p part xs ys q h = record {
     ls = h.ls;
-    cuts = λ rest. subst (λ (v : List ℕ). (more : List Line) × (lines built_words (part ++ v) ≡ h.ls ++ more)) (sym (append_assoc xs ys rest)) (h.cuts (ys ++ rest));
+    cuts = λ rest. subst (λ (v : List ℕ). (more : List Line) × (lines (part ++ v) ≡ h.ls ++ more)) (sym (append_assoc xs ys rest)) (h.cuts (ys ++ rest));
     halts = h.halts;
   }
 
@@ -108,21 +108,21 @@ module _ {D : Type 0} (facts : Ghosts D) where
       subst (λ (v : List ℕ). Breaks facts e p part v r) (take-append-drop (i + 1) bytes) (Breaks-more e p part (take (i + 1) bytes) (drop (i + 1) bytes) r front)
 
   -- the last part, which no newline ends
-  pub Runs-last : (p : Point D) (part : List ℕ) (q : Point D) (line : Line) → list_any is_newline part ≡ false → line_of built_words part ≡ Some line → Runs facts p (line ∷ []) q → Runs facts p (lines built_words part) q
+  pub Runs-last : (p : Point D) (part : List ℕ) (q : Point D) (line : Line) → list_any is_newline part ≡ false → line_of part ≡ Some line → Runs facts p (line ∷ []) q → Runs facts p (lines part) q
   Runs-last p part q line whole some g =
-      subst (λ (v : List Line). Runs facts p v q) (sym (lines-last built_words part whole ∙ ap (λ o. option_to_list o) some)) g
+      subst (λ (v : List Line). Runs facts p v q) (sym (lines-last part whole ∙ ap (λ o. option_to_list o) some)) g
 
-  pub Runs-note : (p : Point D) (part : List ℕ) (q : Point D) → list_any is_newline part ≡ false → line_of built_words part ≡ None → Closes facts p q → Runs facts p (lines built_words part) q
+  pub Runs-note : (p : Point D) (part : List ℕ) (q : Point D) → list_any is_newline part ≡ false → line_of part ≡ None → Closes facts p q → Runs facts p (lines part) q
   Runs-note p part q whole none g =
-      subst (λ (v : List Line). Runs facts p v q) (sym (lines-last built_words part whole ∙ ap (λ o. option_to_list o) none))
+      subst (λ (v : List Line). Runs facts p v q) (sym (lines-last part whole ∙ ap (λ o. option_to_list o) none))
       (λ entry sofar a. subst (λ (v : List Line). Session facts entry v q) (sym (append-nil sofar)) (g entry sofar a))
 
-  pub Halts-last : (e : Ended) (p : Point D) (part : List ℕ) (q : Point D) (line : Line) → list_any is_newline part ≡ false → line_of built_words part ≡ Some line → Halts facts e p (line ∷ []) q
-      → Halts facts e p (lines built_words part) q
+  pub Halts-last : (e : Ended) (p : Point D) (part : List ℕ) (q : Point D) (line : Line) → list_any is_newline part ≡ false → line_of part ≡ Some line → Halts facts e p (line ∷ []) q
+      → Halts facts e p (lines part) q
   Halts-last e p part q line whole some h =
-      subst (λ (v : List Line). Halts facts e p v q) (sym (lines-last built_words part whole ∙ ap (λ o. option_to_list o) some)) h
+      subst (λ (v : List Line). Halts facts e p v q) (sym (lines-last part whole ∙ ap (λ o. option_to_list o) some)) h
 
-  pub Halts-note : (e : Ended) (p : Point D) (part : List ℕ) (q : Point D) → list_any is_newline part ≡ false → line_of built_words part ≡ None → FailsToClose facts e p q → Halts facts e p (lines built_words part) q
+  pub Halts-note : (e : Ended) (p : Point D) (part : List ℕ) (q : Point D) → list_any is_newline part ≡ false → line_of part ≡ None → FailsToClose facts e p q → Halts facts e p (lines part) q
   Halts-note e p part q whole none h =
-      subst (λ (v : List Line). Halts facts e p v q) (sym (lines-last built_words part whole ∙ ap (λ o. option_to_list o) none))
+      subst (λ (v : List Line). Halts facts e p v q) (sym (lines-last part whole ∙ ap (λ o. option_to_list o) none))
       (λ entry sofar a. subst (λ (v : List Line). Broken facts e entry v (is_live q.kernel) q.steps q.disk q.taken) (sym (append-nil sofar)) (h entry sofar a))

@@ -18,7 +18,7 @@ use Rattle.mg_kernel.specs.Meaning.{StandsOn, now_kept, now_of, staged_of}
 use Rattle.mg_kernel.specs.Opening.{Opens}
 use Rattle.mg_layout.specs.MayFormat.{IsNoState}
 use Rattle.mg_model.specs.Print.{answered}
-use Rattle.mg_model.specs.Lines.{built_words, lines}
+use Rattle.mg_model.specs.Lines.{lines}
 use Rattle.mg_model.specs.State.{State}
 use Rattle.mg_model.specs.Volume.{Damaged, Is, NotVolume, OldVolume, VolumeRead, volume}
 use Rattle.mg_session.specs.declared.status.Status.{Status}
@@ -156,10 +156,10 @@ module _ {D : Type 0} (facts : Ghosts D) (k : Kernel) (d : D) where
   yet_spelled stands none image is c left = left_spells facts d image c (now_of k image) stands.settled is (now_kept k image (stands.fits image is) none) left
 
   yet_moments : (left : Option (List ℕ)) → StandsOn facts k d → staged_of k ≡ 0 → facts.has_been d (facts.moment d) → (image : Image) → facts.seen d ≡ Some image
-      → IfSome left (λ input. Leaves facts d d (IsPrefix (now_of k image) (lines built_words input)))
+      → IfSome left (λ input. Leaves facts d d (IsPrefix (now_of k image) (lines input)))
   yet_moments None stands clean been image is = tt
   yet_moments (Some input) stands clean been image is =
-      leaves_yet facts d (IsPrefix (now_of k image) (lines built_words input)) been (λ c left. no_lines (now_of k image) (lines built_words input) c (yet_spelled stands clean image is c left))
+      leaves_yet facts d (IsPrefix (now_of k image) (lines input)) been (λ c left. no_lines (now_of k image) (lines input) c (yet_spelled stands clean image is c left))
 
   pub yet_holds : (left taken : Option (List ℕ)) → StandsOn facts k d → staged_of k ≡ 0 → facts.has_been d (facts.moment d)
       → ForSome (facts.seen d) (λ image. Holds facts (now_of k image) d d left left taken taken)
@@ -171,15 +171,15 @@ module _ {D : Type 0} (facts : Ghosts D) (k : Kernel) (d : D) where
 -- what an opening may leave, where the session then leaves this
 module _ {D : Type 0} (facts : Ghosts D) (d mid : D) where
   prefix_yet : (left : Option (List ℕ)) (image : Image) (s : State) → volume image ≡ Is s → Leaves facts d mid (λ c. volume c ≡ volume image)
-      → IfSome left (λ input. Leaves facts d mid (IsPrefix s (lines built_words input)))
+      → IfSome left (λ input. Leaves facts d mid (IsPrefix s (lines input)))
   prefix_yet None image s spelled first = tt
   prefix_yet (Some input) image s spelled first =
-      leaves_wider facts d mid (λ c. volume c ≡ volume image) (IsPrefix s (lines built_words input)) first (λ c same. no_lines s (lines built_words input) c (same ∙ spelled))
+      leaves_wider facts d mid (λ c. volume c ≡ volume image) (IsPrefix s (lines input)) first (λ c same. no_lines s (lines input) c (same ∙ spelled))
 
-  prefix_then : (d' : D) (left : Option (List ℕ)) (s : State) → IfSome left (λ input. Leaves facts d mid (IsPrefix s (lines built_words input)))
-      → IfSome left (λ input. Leaves facts mid d' (IsPrefix s (lines built_words input))) → IfSome left (λ input. Leaves facts d d' (IsPrefix s (lines built_words input)))
+  prefix_then : (d' : D) (left : Option (List ℕ)) (s : State) → IfSome left (λ input. Leaves facts d mid (IsPrefix s (lines input)))
+      → IfSome left (λ input. Leaves facts mid d' (IsPrefix s (lines input))) → IfSome left (λ input. Leaves facts d d' (IsPrefix s (lines input)))
   prefix_then d' None s first second = tt
-  prefix_then d' (Some input) s first second = leaves_then facts d mid d' (IsPrefix s (lines built_words input)) (IsPrefix s (lines built_words input)) first second (λ c f. f)
+  prefix_then d' (Some input) s first second = leaves_then facts d mid d' (IsPrefix s (lines input)) (IsPrefix s (lines input)) first second (λ c f. f)
 
   -- an opening, and then a session
   pub opened_holds : (k : Kernel) (d' : D) (left left' taken taken' : Option (List ℕ)) → ForSome (facts.seen d) (λ image. Opens (volume image) k (facts.seen mid))

@@ -14,7 +14,7 @@ use Rattle.mg_model.specs.declared.calls.Line.{Line}
 use Rattle.mg_session.proofs.Answered.{text-append}
 use Rattle.mg_model.specs.Print.{answered, text}
 use Rattle.mg_model.specs.Ended.{ended_lines}
-use Rattle.mg_model.specs.Lines.{built_words, lines}
+use Rattle.mg_model.specs.Lines.{lines}
 use Rattle.mg_model.specs.State.{State}
 use Rattle.mg_model.specs.Step.{after}
 use Rattle.mg_model.specs.Volume.{Is, volume}
@@ -66,20 +66,20 @@ answered_in None taken' put k h few = tt
 answered_in (Some before) None put k h few = absurd h
 answered_in (Some before) (Some now) put k h few = omega (arith, ap answered (put_is before now put h))
 
-is_answered : (input rest bytes : List ℕ) (ls : List Line) (taken taken' : Option (List ℕ)) (put : List ℕ) (k : ℕ) → input ≡ bytes ++ rest → (more : List Line) × (lines built_words bytes ≡ ls ++ more)
+is_answered : (input rest bytes : List ℕ) (ls : List Line) (taken taken' : Option (List ℕ)) (put : List ℕ) (k : ℕ) → input ≡ bytes ++ rest → (more : List Line) × (lines bytes ≡ ls ++ more)
     → Appends taken taken' put → answered put ≤ k → k ≤ length ls → IsAnswered input rest taken taken' k
 is_answered input rest bytes ls taken taken' put k read came sink least few = record {
   all_answered = answered_in taken taken' put k sink least;
-  came = omega (arith, ap (λ v. length (lines built_words v)) (came_are bytes rest input read), ap length came.1, length-append ls came.0);
+  came = omega (arith, ap (λ v. length (lines v)) (came_are bytes rest input read), ap length came.1, length-append ls came.0);
 }
 
 module _ {D : Type 0} (facts : Ghosts D) (entry : Entry D) (limit batch most : ℕ) (alive : Bool) (steps : ℕ) where
   -- the lines that were stepped are first lines of all
   cut_of : (e : Ended) (input rest : List ℕ) (new : D) (taken : Option (List ℕ)) (w : Stops facts e entry (Some input) limit batch most alive steps new taken (Some rest))
-      → (more : List Line) × (lines built_words input ≡ w.ls ++ more)
+      → (more : List Line) × (lines input ≡ w.ls ++ more)
   cut_of e input rest new taken w = (
     (w.will rest refl).0,
-    ap (λ v. lines built_words v) w.read ∙ (w.will rest refl).1,
+    ap (λ v. lines v) w.read ∙ (w.will rest refl).1,
   )
 
   pub stops_prefix : (e : Ended) (left left' : Option (List ℕ)) (new : D) (taken : Option (List ℕ)) → Stops facts e entry left limit batch most alive steps new taken left'
@@ -88,7 +88,7 @@ module _ {D : Type 0} (facts : Ghosts D) (entry : Entry D) (limit batch most : �
   stops_prefix e (Some input) None new taken w = absurd w.read
   stops_prefix e (Some input) (Some rest) new taken w = λ image is.
       let t : Remains facts e entry (now_of entry.kernel image) w.ls w.broken.put alive steps new = w.broken.told image is in
-      let cut : (more : List Line) × (lines built_words input ≡ w.ls ++ more) = cut_of e input rest new taken w in (
+      let cut : (more : List Line) × (lines input ≡ w.ls ++ more) = cut_of e input rest new taken w in (
         w.broken.put,
         t.more ++ text (after (now_of entry.kernel image) w.ls) cut.0,
         sym (append_assoc w.broken.put t.more (text (after (now_of entry.kernel image) w.ls) cut.0))
@@ -98,13 +98,13 @@ module _ {D : Type 0} (facts : Ghosts D) (entry : Entry D) (limit batch most : �
       )
 
   pub stops_moments : (e : Ended) (left left' : Option (List ℕ)) (new : D) (taken : Option (List ℕ)) → Stops facts e entry left limit batch most alive steps new taken left'
-      → ForSome (facts.seen entry.disk) (λ image. IfSome left (λ input. Leaves facts entry.disk new (IsPrefix (now_of entry.kernel image) (lines built_words input))))
+      → ForSome (facts.seen entry.disk) (λ image. IfSome left (λ input. Leaves facts entry.disk new (IsPrefix (now_of entry.kernel image) (lines input))))
   stops_moments e None left' new taken w = λ image is. tt
   stops_moments e (Some input) None new taken w = absurd w.read
   stops_moments e (Some input) (Some rest) new taken w = λ image is.
       let t : Remains facts e entry (now_of entry.kernel image) w.ls w.broken.put alive steps new = w.broken.told image is in
-      let cut : (more : List Line) × (lines built_words input ≡ w.ls ++ more) = cut_of e input rest new taken w in
-      leaves_wider facts entry.disk new (IsPrefix (now_of entry.kernel image) w.ls) (IsPrefix (now_of entry.kernel image) (lines built_words input)) t.leaves
+      let cut : (more : List Line) × (lines input ≡ w.ls ++ more) = cut_of e input rest new taken w in
+      leaves_wider facts entry.disk new (IsPrefix (now_of entry.kernel image) w.ls) (IsPrefix (now_of entry.kernel image) (lines input)) t.leaves
       (λ c f. subst (λ (v : List Line). IsPrefix (now_of entry.kernel image) v c) (sym cut.1) (prefix_longer (now_of entry.kernel image) w.ls cut.0 c f))
 
   pub stops_held : (e : Ended) (left left' : Option (List ℕ)) (new : D) (taken : Option (List ℕ)) → Stops facts e entry left limit batch most alive steps new taken left'
@@ -112,12 +112,12 @@ module _ {D : Type 0} (facts : Ghosts D) (entry : Entry D) (limit batch most : �
   stops_held e None left' new taken w = λ image is. tt
   stops_held e (Some input) None new taken w = absurd w.read
   stops_held e (Some input) (Some rest) new taken w = λ image is. λ c left.
-      let cut : (more : List Line) × (lines built_words input ≡ w.ls ++ more) = cut_of e input rest new taken w in
+      let cut : (more : List Line) × (lines input ≡ w.ls ++ more) = cut_of e input rest new taken w in
       let b : IsBetween (answered w.broken.put) (now_of entry.kernel image) w.ls c =
       held_between e alive (answered w.broken.put) (now_of entry.kernel image) w.ls c w.broken.fewer ((w.broken.told image is).held c left) in (
         b.0,
         is_answered input rest w.bytes w.ls entry.taken taken w.broken.put b.0 w.read w.came w.broken.sink b.1 b.2,
-        first_of (now_of entry.kernel image) b.0 w.ls cut.0 (lines built_words input) c cut.1 b.2 b.3,
+        first_of (now_of entry.kernel image) b.0 w.ls cut.0 (lines input) c cut.1 b.2 b.3,
       )
 
   -- the counter rose by no more than the lines of the bytes that came may cost
@@ -128,8 +128,8 @@ module _ {D : Type 0} (facts : Ghosts D) (entry : Entry D) (limit batch most : �
   stops_cost less e (Some input) (Some rest) new taken w = λ image is.
       let spent = (w.broken.told image is).spent in
       let first = less (now_of entry.kernel image) w.ls w.came.0 in
-      let all : cost (now_of entry.kernel image) (lines built_words (taken_of input rest)) ≡ cost (now_of entry.kernel image) (w.ls ++ w.came.0) =
-      ap (λ v. cost (now_of entry.kernel image) (lines built_words v)) (came_are w.bytes rest input w.read) ∙ ap (λ v. cost (now_of entry.kernel image) v) w.came.1 in
+      let all : cost (now_of entry.kernel image) (lines (taken_of input rest)) ≡ cost (now_of entry.kernel image) (w.ls ++ w.came.0) =
+      ap (λ v. cost (now_of entry.kernel image) (lines v)) (came_are w.bytes rest input w.read) ∙ ap (λ v. cost (now_of entry.kernel image) v) w.came.1 in
       omega (arith, all, first)
 
   exactly : (e : Ended) (left left' : Option (List ℕ)) (new : D) (taken : Option (List ℕ)) (w : Stops facts e entry left limit batch most alive steps new taken left')
@@ -144,9 +144,9 @@ module _ {D : Type 0} (facts : Ghosts D) (entry : Entry D) (limit batch most : �
       by_sink None now took = λ image is. tt
       by_sink (Some before) None took = absurd took
       by_sink (Some before) (Some now) took = λ image is. λ c left.
-          let cut : (more : List Line) × (lines built_words input ≡ w.ls ++ more) = cut_of e input rest new taken w in
-          first_of (now_of entry.kernel image) (answered w.broken.put) w.ls cut.0 (lines built_words input) c cut.1 w.broken.fewer (held (now_of entry.kernel image) c ((w.broken.told image is).held c left))
-          ∙ ap (λ v. Is (after (now_of entry.kernel image) (take (answered v) (lines built_words input)))) (sym (put_is before now w.broken.put took))
+          let cut : (more : List Line) × (lines input ≡ w.ls ++ more) = cut_of e input rest new taken w in
+          first_of (now_of entry.kernel image) (answered w.broken.put) w.ls cut.0 (lines input) c cut.1 w.broken.fewer (held (now_of entry.kernel image) c ((w.broken.told image is).held c left))
+          ∙ ap (λ v. Is (after (now_of entry.kernel image) (take (answered v) (lines input)))) (sym (put_is before now w.broken.put took))
 
   -- whole lines are answered
   whole_lines : (e : Ended) (left left' : Option (List ℕ)) (new : D) (taken : Option (List ℕ)) (w : Stops facts e entry left limit batch most alive steps new taken left')
@@ -155,9 +155,9 @@ module _ {D : Type 0} (facts : Ghosts D) (entry : Entry D) (limit batch most : �
   whole_lines e None left' new taken w whole = λ image is. tt
   whole_lines e (Some input) None new taken w whole = absurd w.read
   whole_lines e (Some input) (Some rest) new taken w whole = λ image is.
-      let cut : (more : List Line) × (lines built_words input ≡ w.ls ++ more) = cut_of e input rest new taken w in
-      let few : answered w.broken.put ≤ length (lines built_words input) = let f = w.broken.fewer in omega (arith, ap length cut.1, length-append w.ls cut.0) in
-      let put : w.broken.put ≡ text (now_of entry.kernel image) (take (answered w.broken.put) (lines built_words input)) =
+      let cut : (more : List Line) × (lines input ≡ w.ls ++ more) = cut_of e input rest new taken w in
+      let few : answered w.broken.put ≤ length (lines input) = let f = w.broken.fewer in omega (arith, ap length cut.1, length-append w.ls cut.0) in
+      let put : w.broken.put ≡ text (now_of entry.kernel image) (take (answered w.broken.put) (lines input)) =
       whole (now_of entry.kernel image) (w.broken.told image is).whole
       ∙ ap (λ v. text (now_of entry.kernel image) v) (sym (ap (λ v. take (answered w.broken.put) v) cut.1 ∙ take-append-le (answered w.broken.put) w.ls cut.0 w.broken.fewer)) in (
         answered w.broken.put,
@@ -166,7 +166,7 @@ module _ {D : Type 0} (facts : Ghosts D) (entry : Entry D) (limit batch most : �
       )
 
   few_of : (e : Ended) (left left' : Option (List ℕ)) (new : D) (taken : Option (List ℕ)) (w : Stops facts e entry left limit batch most alive steps new taken left')
-      → length (ended_lines built_words (take limit w.bytes)) < answered w.broken.put + batch → FewUnanswered batch limit left left' entry.taken taken
+      → length (ended_lines (take limit w.bytes)) < answered w.broken.put + batch → FewUnanswered batch limit left left' entry.taken taken
   few_of e None left' new taken w few = tt
   few_of e (Some input) None new taken w few = absurd w.read
   few_of e (Some input) (Some rest) new taken w few = by_sink entry.taken taken w.broken.sink
@@ -175,7 +175,7 @@ module _ {D : Type 0} (facts : Ghosts D) (entry : Entry D) (limit batch most : �
       by_sink None now took = tt
       by_sink (Some before) None took = absurd took
       by_sink (Some before) (Some now) took =
-          omega (arith, ap (λ v. length (ended_lines built_words (take limit v))) (came_are w.bytes rest input w.read), ap answered (put_is before now w.broken.put took))
+          omega (arith, ap (λ v. length (ended_lines (take limit v))) (came_are w.bytes rest input w.read), ap answered (put_is before now w.broken.put took))
 
   pub stops_bound : (e : Ended) (left left' : Option (List ℕ)) (new : D) (taken : Option (List ℕ)) → Stops facts e entry left limit batch most alive steps new taken left' → TakesAtMost most left left'
   stops_bound e None left' new taken w = tt
@@ -229,10 +229,10 @@ module _ {D : Type 0} (facts : Ghosts D) (entry : Entry D) (limit batch most : �
   sink_one None left' new taken w = λ image is. tt
   sink_one (Some input) None new taken w = absurd w.read
   sink_one (Some input) (Some rest) new taken w = λ image is.
-      let cut : (more : List Line) × (lines built_words input ≡ w.ls ++ more) = cut_of ended.Sink input rest new taken w in (
+      let cut : (more : List Line) × (lines input ≡ w.ls ++ more) = cut_of ended.Sink input rest new taken w in (
         length w.ls,
         is_answered input rest w.bytes w.ls entry.taken taken w.broken.put (length w.ls) w.read w.came w.broken.sink w.broken.fewer (omega arith),
-        λ c left. first_of (now_of entry.kernel image) (length w.ls) w.ls cut.0 (lines built_words input) c cut.1 (omega arith)
+        λ c left. first_of (now_of entry.kernel image) (length w.ls) w.ls cut.0 (lines input) c cut.1 (omega arith)
             ((w.broken.told image is).held c left ∙ ap (λ v. Is (after (now_of entry.kernel image) v)) (sym (take_all (length w.ls) w.ls (omega arith)))),
       )
 
@@ -265,25 +265,25 @@ module _ {D : Type 0} (facts : Ghosts D) (entry : Entry D) (limit batch most : �
   pub finishes_stops : (left left' : Option (List ℕ)) (p : Point D) → Finishes facts entry left limit p left' → limit ≤ most → NothingPending facts p.disk → Stops facts ended.Sink entry left limit batch most (is_live p.kernel) p.steps p.disk p.taken left'
   finishes_stops left left' p f small only =
       let none : p.owed.count ≡ 0 = ap (λ (v : Waiting). v.count) f.empty in
-      let a : Session facts entry (lines built_words f.bytes) p = f.session in record {
+      let a : Session facts entry (lines f.bytes) p = f.session in record {
         bytes = f.bytes;
-        ls = lines built_words f.bytes;
+        ls = lines f.bytes;
         read = f.read;
         size = tt;
         bound = let w = f.within in omega arith;
-        came = ([], sym (append-nil (lines built_words f.bytes)));
-        will = λ rest here. ([], ap (λ v. lines built_words (f.bytes ++ v)) (at_end_nil left' rest f.at_end here) ∙ ap (λ v. lines built_words v) (append-nil f.bytes) ∙ sym (append-nil (lines built_words f.bytes)));
+        came = ([], sym (append-nil (lines f.bytes)));
+        will = λ rest here. ([], ap (λ v. lines (f.bytes ++ v)) (at_end_nil left' rest f.at_end here) ∙ ap (λ v. lines v) (append-nil f.bytes) ∙ sym (append-nil (lines f.bytes)));
         broken = record {
           put = a.put;
           sink = a.sink;
           fewer = let count = a.answers in omega (arith, ap length a.split, length-append a.done a.waiting);
           told = λ image is.
-              let st = stood (lines built_words f.bytes) p a none image is in record {
+              let st = stood (lines f.bytes) p a none image is in record {
                 more = [];
                 replies = sym (append-nil a.put ∙ st.3);
                 whole = tt;
                 leaves = st.4;
-                held = λ c left. left_spells facts p.disk st.0 c (after (now_of entry.kernel image) (lines built_words f.bytes)) only st.1 st.2 left;
+                held = λ c left. left_spells facts p.disk st.0 c (after (now_of entry.kernel image) (lines f.bytes)) only st.1 st.2 left;
                 spent = st.5;
               };
         };
@@ -295,7 +295,7 @@ module _ {D : Type 0} (facts : Ghosts D) (entry : Entry D) (limit batch most : �
   finishes_all None left' p f = λ image is. tt
   finishes_all (Some input) None p f = absurd f.read
   finishes_all (Some input) (Some rest) p f = λ image is.
-      let st = stood (lines built_words f.bytes) p f.session (ap (λ (v : Waiting). v.count) f.empty) image is in
+      let st = stood (lines f.bytes) p f.session (ap (λ (v : Waiting). v.count) f.empty) image is in
       let whole : f.bytes ≡ input = sym (f.read ∙ ap (λ v. f.bytes ++ v) f.at_end ∙ append-nil f.bytes) in (
         ap (λ v. Some v) f.at_end,
         subst (λ (v : List ℕ). Appends entry.taken p.taken v) (st.3 ∙ ap (λ v. replies (now_of entry.kernel image) v) whole) f.session.sink,
@@ -306,11 +306,11 @@ module _ {D : Type 0} (facts : Ghosts D) (entry : Entry D) (limit batch most : �
   finishes_kept None left' p f = λ image is. tt
   finishes_kept (Some input) None p f = absurd f.read
   finishes_kept (Some input) (Some rest) p f = λ image is.
-      let st = stood (lines built_words f.bytes) p f.session (ap (λ (v : Waiting). v.count) f.empty) image is in
+      let st = stood (lines f.bytes) p f.session (ap (λ (v : Waiting). v.count) f.empty) image is in
       let whole : f.bytes ≡ input = sym (f.read ∙ ap (λ v. f.bytes ++ v) f.at_end ∙ append-nil f.bytes) in
-      told_spells (facts.seen p.disk) st.0 (now_of entry.kernel image) input st.1 (st.2 ∙ ap (λ v. Is (after (now_of entry.kernel image) (lines built_words v))) whole)
+      told_spells (facts.seen p.disk) st.0 (now_of entry.kernel image) input st.1 (st.2 ∙ ap (λ v. Is (after (now_of entry.kernel image) (lines v))) whole)
     where
-      told_spells : (told : Option Image) (x : Image) (s : State) (input : List ℕ) → told ≡ Some x → volume x ≡ Is (after s (lines built_words input)) → SpellsAfter s input told
+      told_spells : (told : Option Image) (x : Image) (s : State) (input : List ℕ) → told ≡ Some x → volume x ≡ Is (after s (lines input)) → SpellsAfter s input told
       told_spells None x s input same kept = cc
       told_spells (Some y) x s input same kept = let one : y ≡ x = cc in ap volume one ∙ kept
 

@@ -3,13 +3,13 @@ use Rattle.std.specs.Prelude.{ℕ, ◌≡◌, false, List, [], ◌∷◌, ◌++�
 use Rattle.std.specs.List.{list_any}
 use Rattle.std.proofs.Common.{sym, ap, ◌∙◌, append_assoc, arith}
 use Rattle.mg_session.proofs.Cutting.{lines-long}
-use Rattle.mg_model.specs.Lines.{built_words, lines}
+use Rattle.mg_model.specs.Lines.{lines}
 use Rattle.mg_model.specs.Words.{is_newline}
 
 -- it is kept, or the line is too long already
 pub added : {E : Type 0} (result : Result (Unit {0}) E) (old new : List ℕ) (b : ℕ) → OnOk result (new ≡ old ++ b ∷ []) → OnErr result (new ≡ old) → OnErr result (length old ≡ 257)
-    → list_any is_newline old ≡ false → is_newline b ≡ false → (rest : List ℕ) → lines built_words (old ++ b ∷ rest) ≡ lines built_words (new ++ rest)
+    → list_any is_newline old ≡ false → is_newline b ≡ false → (rest : List ℕ) → lines (old ++ b ∷ rest) ≡ lines (new ++ rest)
 added (Ok u) old new b ok err full none off rest =
-    sym (ap (λ v. lines built_words (v ++ rest)) ok ∙ ap (λ v. lines built_words v) (append_assoc old (b ∷ []) rest))
+    sym (ap (λ v. lines (v ++ rest)) ok ∙ ap (λ v. lines v) (append_assoc old (b ∷ []) rest))
 added (Err e) old new b ok err full none off rest =
-    lines-long built_words old b rest none off (omega arith) ∙ sym (ap (λ v. lines built_words (v ++ rest)) err)
+    lines-long old b rest none off (omega arith) ∙ sym (ap (λ v. lines (v ++ rest)) err)

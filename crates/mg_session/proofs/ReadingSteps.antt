@@ -14,7 +14,7 @@ use Rattle.mg_model.specs.declared.calls.Line.{Line}
 use Rattle.mg_model.specs.Print.{answered}
 use Rattle.mg_session.proofs.Cutting.{ended_lines-exact}
 use Rattle.mg_model.specs.Ended.{ended_lines}
-use Rattle.mg_model.specs.Lines.{built_words, lines}
+use Rattle.mg_model.specs.Lines.{lines}
 use Rattle.mg_model.specs.Words.{is_newline}
 use Rattle.mg_session.specs.declared.batches.Ended.{Ended}
 use Rattle.mg_session.specs.declared.batches.Ended.TheVariants as ended
@@ -49,12 +49,12 @@ none_more left left' left'' bytes piece n h k zero_is =
     subst (λ (v : List ℕ). Consumes left left'' v) (append-nil bytes) (Consumes-then left left' left'' bytes [] h (subst (λ (v : ℕ). Consumes left' left'' (take v piece)) zero_is k))
 
 -- the last line is one of the whole input
-cut_last : (bytes part : List ℕ) (ls : List Line) → ((rest : List ℕ) → lines built_words (bytes ++ rest) ≡ ls ++ lines built_words (part ++ rest)) → lines built_words bytes ≡ ls ++ lines built_words part
-cut_last bytes part ls cuts = ap (λ v. lines built_words v) (sym (append-nil bytes)) ∙ cuts [] ∙ ap (λ v. ls ++ lines built_words v) (append-nil part)
+cut_last : (bytes part : List ℕ) (ls : List Line) → ((rest : List ℕ) → lines (bytes ++ rest) ≡ ls ++ lines (part ++ rest)) → lines bytes ≡ ls ++ lines part
+cut_last bytes part ls cuts = ap (λ v. lines v) (sym (append-nil bytes)) ∙ cuts [] ∙ ap (λ v. ls ++ lines v) (append-nil part)
 
 -- what was stepped before more bytes came is a part of their lines
-came_first : (bytes : List ℕ) (ls more : List Line) → lines built_words (bytes ++ []) ≡ ls ++ more → (later : List Line) × (lines built_words bytes ≡ ls ++ later)
-came_first bytes ls more cut = (more, ap (λ v. lines built_words v) (sym (append-nil bytes)) ∙ cut)
+came_first : (bytes : List ℕ) (ls more : List Line) → lines (bytes ++ []) ≡ ls ++ more → (later : List Line) × (lines bytes ≡ ls ++ later)
+came_first bytes ls more cut = (more, ap (λ v. lines v) (sym (append-nil bytes)) ∙ cut)
 
 some_nil : (left : Option (List ℕ)) (rest : List ℕ) → IsAtEnd left → left ≡ Some rest → rest ≡ []
 some_nil None rest h e = cc
@@ -67,16 +67,16 @@ module _ {D : Type 0} (facts : Ghosts D) where
     read = Consumes-none left;
     count = refl;
     ls = [];
-    cut = λ rest. ap (λ v. lines built_words (v ++ rest)) (sym empty);
+    cut = λ rest. ap (λ v. lines (v ++ rest)) (sym empty);
     whole = ap (λ v. list_any is_newline v) empty;
     session = a;
   }
 
   -- how a piece more is cut
-  cut_more : (bytes part piece : List ℕ) (ls : List Line) (p q : Point D) (part' : List ℕ) → ((rest : List ℕ) → lines built_words (bytes ++ rest) ≡ ls ++ lines built_words (part ++ rest)) → (g : Goes facts p part piece q part')
-      → (rest : List ℕ) → lines built_words ((bytes ++ piece) ++ rest) ≡ (ls ++ g.ls) ++ lines built_words (part' ++ rest)
+  cut_more : (bytes part piece : List ℕ) (ls : List Line) (p q : Point D) (part' : List ℕ) → ((rest : List ℕ) → lines (bytes ++ rest) ≡ ls ++ lines (part ++ rest)) → (g : Goes facts p part piece q part')
+      → (rest : List ℕ) → lines ((bytes ++ piece) ++ rest) ≡ (ls ++ g.ls) ++ lines (part' ++ rest)
   cut_more bytes part piece ls p q part' cut g rest =
-      ap (λ v. lines built_words v) (append_assoc bytes piece rest) ∙ cut (piece ++ rest) ∙ ap (λ v. ls ++ v) (g.cuts rest) ∙ sym (append_assoc ls g.ls (lines built_words (part' ++ rest)))
+      ap (λ v. lines v) (append_assoc bytes piece rest) ∙ cut (piece ++ rest) ∙ ap (λ v. ls ++ v) (g.cuts rest) ∙ sym (append_assoc ls g.ls (lines (part' ++ rest)))
 
   -- a piece more
   pub Reading-more : (entry : Entry D) (left left' left'' : Option (List ℕ)) (total n : ℕ) (p q : Point D) (part part' piece : List ℕ)
@@ -111,10 +111,10 @@ module _ {D : Type 0} (facts : Ghosts D) where
         read = Consumes-kept left left' left'' r.bytes r.read kept;
         size = short;
         bound = omega arith;
-        came = came_first r.bytes r.ls (lines built_words (part ++ [])) (r.cut []);
-        will = λ rest here. (lines built_words (part ++ rest), r.cut rest);
+        came = came_first r.bytes r.ls (lines (part ++ [])) (r.cut []);
+        will = λ rest here. (lines (part ++ rest), r.cut rest);
         broken = Broken-open facts ended.Source (is_live p.kernel) (λ n s ls c h. h) (λ s ls put h. h) entry r.ls p r.session only;
-        few = omega (arith, ap (λ v. length (ended_lines built_words v)) (take_all limit r.bytes short), ended_lines-exact built_words r.bytes part r.ls r.cut r.whole);
+        few = omega (arith, ap (λ v. length (ended_lines v)) (take_all limit r.bytes short), ended_lines-exact r.bytes part r.ls r.cut r.whole);
       }
 
   -- a byte too many came: the lines up to the limit are stepped
@@ -127,14 +127,14 @@ module _ {D : Type 0} (facts : Ghosts D) where
       let sum : limit ≡ length r.bytes + (limit - total) = let e = r.count in omega arith in
       let front : take limit (r.bytes ++ take n piece) ≡ r.bytes ++ take (limit - total) piece =
       ap (λ v. take v (r.bytes ++ take n piece)) sum ∙ take-append-add r.bytes (take n piece) (limit - total) ∙ ap (λ v. r.bytes ++ v) (front_of n (limit - total) piece (omega arith)) in
-      let cut : (rest : List ℕ) → lines built_words ((r.bytes ++ take (limit - total) piece) ++ rest) ≡ (r.ls ++ g.ls) ++ lines built_words (part' ++ rest) =
+      let cut : (rest : List ℕ) → lines ((r.bytes ++ take (limit - total) piece) ++ rest) ≡ (r.ls ++ g.ls) ++ lines (part' ++ rest) =
       cut_more r.bytes part (take (limit - total) piece) r.ls p q part' r.cut g in
       let parts : r.bytes ++ take n piece ≡ (r.bytes ++ take (limit - total) piece) ++ drop (limit - total) (take n piece) =
       ap (λ v. r.bytes ++ v) (sym (front_and_back n (limit - total) piece (omega arith)))
       ∙ sym (append_assoc r.bytes (take (limit - total) piece) (drop (limit - total) (take n piece))) in
-      let later : (rest : List ℕ) → lines built_words ((r.bytes ++ take n piece) ++ rest) ≡ (r.ls ++ g.ls) ++ lines built_words (part' ++ (drop (limit - total) (take n piece) ++ rest)) =
-      λ rest. ap (λ v. lines built_words (v ++ rest)) parts
-      ∙ ap (λ v. lines built_words v) (append_assoc (r.bytes ++ take (limit - total) piece) (drop (limit - total) (take n piece)) rest)
+      let later : (rest : List ℕ) → lines ((r.bytes ++ take n piece) ++ rest) ≡ (r.ls ++ g.ls) ++ lines (part' ++ (drop (limit - total) (take n piece) ++ rest)) =
+      λ rest. ap (λ v. lines (v ++ rest)) parts
+      ∙ ap (λ v. lines v) (append_assoc (r.bytes ++ take (limit - total) piece) (drop (limit - total) (take n piece)) rest)
       ∙ cut (drop (limit - total) (take n piece) ++ rest) in
       let a : Session facts entry (r.ls ++ g.ls) q = g.steps entry r.ls r.session in
       let open_few : length (r.ls ++ g.ls) < answered a.put + batch = session_few entry (r.ls ++ g.ls) q batch a few in record {
@@ -143,10 +143,10 @@ module _ {D : Type 0} (facts : Ghosts D) where
         read = Consumes-then left left' left'' r.bytes (take n piece) r.read read;
         size = omega arith;
         bound = omega arith;
-        came = came_first (r.bytes ++ take n piece) (r.ls ++ g.ls) (lines built_words (part' ++ (drop (limit - total) (take n piece) ++ []))) (later []);
-        will = λ rest here. (lines built_words (part' ++ (drop (limit - total) (take n piece) ++ rest)), later rest);
+        came = came_first (r.bytes ++ take n piece) (r.ls ++ g.ls) (lines (part' ++ (drop (limit - total) (take n piece) ++ []))) (later []);
+        will = λ rest here. (lines (part' ++ (drop (limit - total) (take n piece) ++ rest)), later rest);
         broken = Broken-open facts ended.TooLong (is_live q.kernel) (λ n s ls c h. h) (λ s ls put h. h) entry (r.ls ++ g.ls) q a only;
-        few = omega (arith, ap (λ v. length (ended_lines built_words v)) front, ended_lines-exact built_words (r.bytes ++ take (limit - total) piece) part' (r.ls ++ g.ls) cut whole);
+        few = omega (arith, ap (λ v. length (ended_lines v)) front, ended_lines-exact (r.bytes ++ take (limit - total) piece) part' (r.ls ++ g.ls) cut whole);
       }
 
   -- a line within a piece ended the session
@@ -157,7 +157,7 @@ module _ {D : Type 0} (facts : Ghosts D) where
       let all : length (r.bytes ++ take n piece) ≡ total + n = length-append r.bytes (take n piece) ∙ ap (λ v. v + length (take n piece)) r.count ∙ ap (λ v. total + v) (length-take-le n piece short) in
       let b : Breaks facts e p part (take n piece) q =
       subst (λ (v : List ℕ). Breaks facts e p part v q) (front_and_back n w piece front) (Breaks-more facts e p part (take w piece) (drop w (take n piece)) q h) in
-      let cut : (rest : List ℕ) → (more : List Line) × (lines built_words ((r.bytes ++ take n piece) ++ rest) ≡ (r.ls ++ b.ls) ++ more) = λ rest. later b rest (b.cuts rest) in
+      let cut : (rest : List ℕ) → (more : List Line) × (lines ((r.bytes ++ take n piece) ++ rest) ≡ (r.ls ++ b.ls) ++ more) = λ rest. later b rest (b.cuts rest) in
       let broken : Broken facts e entry (r.ls ++ b.ls) (is_live q.kernel) q.steps q.disk q.taken = b.halts entry r.ls r.session in record {
         bytes = r.bytes ++ take n piece;
         ls = r.ls ++ b.ls;
@@ -167,20 +167,20 @@ module _ {D : Type 0} (facts : Ghosts D) where
         came = came_first (r.bytes ++ take n piece) (r.ls ++ b.ls) (cut []).0 (cut []).1;
         will = λ rest here. cut rest;
         broken = broken;
-        few = inside_few e (length (ended_lines built_words (take limit (r.bytes ++ take n piece)))) (answered broken.put) batch inside;
+        few = inside_few e (length (ended_lines (take limit (r.bytes ++ take n piece)))) (answered broken.put) batch inside;
       }
     where
-      later : (b : Breaks facts e p part (take n piece) q) (rest : List ℕ) → (more : List Line) × (lines built_words (part ++ (take n piece ++ rest)) ≡ b.ls ++ more)
-          → (more : List Line) × (lines built_words ((r.bytes ++ take n piece) ++ rest) ≡ (r.ls ++ b.ls) ++ more)
+      later : (b : Breaks facts e p part (take n piece) q) (rest : List ℕ) → (more : List Line) × (lines (part ++ (take n piece ++ rest)) ≡ b.ls ++ more)
+          → (more : List Line) × (lines ((r.bytes ++ take n piece) ++ rest) ≡ (r.ls ++ b.ls) ++ more)
       later b rest (more, is) = (
         more,
-        ap (λ v. lines built_words v) (append_assoc r.bytes (take n piece) rest) ∙ r.cut (take n piece ++ rest) ∙ ap (λ v. r.ls ++ v) is ∙ sym (append_assoc r.ls b.ls more),
+        ap (λ v. lines v) (append_assoc r.bytes (take n piece) rest) ∙ r.cut (take n piece ++ rest) ∙ ap (λ v. r.ls ++ v) is ∙ sym (append_assoc r.ls b.ls more),
       )
 
   -- the input ended, and the last line is answered
   pub Finishes-last : (entry : Entry D) (left left' left'' : Option (List ℕ)) (total limit n : ℕ) (p q : Point D) (part piece : List ℕ)
       → Reading facts entry left total p part left' → total ≤ limit → Consumes left' left'' (take n piece) → n ≡ 0 → IsAtEnd left''
-      → Runs facts p (lines built_words part) q → q.owed ≡ no_replies → Finishes facts entry left limit q left''
+      → Runs facts p (lines part) q → q.owed ≡ no_replies → Finishes facts entry left limit q left''
   Finishes-last entry left left' left'' total limit n p q part piece r within read zero_is ended_is g none = record {
     bytes = r.bytes;
     read = none_more left left' left'' r.bytes piece n r.read read zero_is;
@@ -193,20 +193,20 @@ module _ {D : Type 0} (facts : Ghosts D) where
   -- the input ended, and the last batch ended the session
   pub Stops-last : (e : Ended) (entry : Entry D) (left left' left'' : Option (List ℕ)) (total limit batch most n : ℕ) (p q : Point D) (part piece : List ℕ)
       → Reading facts entry left total p part left' → total ≤ limit → limit ≤ most → Consumes left' left'' (take n piece) → n ≡ 0 → IsAtEnd left''
-      → IsInside e → Halts facts e p (lines built_words part) q → Stops facts e entry left limit batch most (is_live q.kernel) q.steps q.disk q.taken left''
+      → IsInside e → Halts facts e p (lines part) q → Stops facts e entry left limit batch most (is_live q.kernel) q.steps q.disk q.taken left''
   Stops-last e entry left left' left'' total limit batch most n p q part piece r within small read zero_is ended_is inside h =
-      let broken : Broken facts e entry (r.ls ++ lines built_words part) (is_live q.kernel) q.steps q.disk q.taken = h entry r.ls r.session in
-      let cut : lines built_words r.bytes ≡ r.ls ++ lines built_words part = cut_last r.bytes part r.ls r.cut in record {
+      let broken : Broken facts e entry (r.ls ++ lines part) (is_live q.kernel) q.steps q.disk q.taken = h entry r.ls r.session in
+      let cut : lines r.bytes ≡ r.ls ++ lines part = cut_last r.bytes part r.ls r.cut in record {
         bytes = r.bytes;
-        ls = r.ls ++ lines built_words part;
+        ls = r.ls ++ lines part;
         read = none_more left left' left'' r.bytes piece n r.read read zero_is;
         size = inside_size e limit (length r.bytes) inside;
         bound = let e = r.count in omega arith;
-        came = ([], cut ∙ sym (append-nil (r.ls ++ lines built_words part)));
+        came = ([], cut ∙ sym (append-nil (r.ls ++ lines part)));
         will = λ rest here. (
           [],
-          ap (λ v. lines built_words (r.bytes ++ v)) (some_nil left'' rest ended_is here) ∙ ap (λ v. lines built_words v) (append-nil r.bytes) ∙ cut ∙ sym (append-nil (r.ls ++ lines built_words part)),
+          ap (λ v. lines (r.bytes ++ v)) (some_nil left'' rest ended_is here) ∙ ap (λ v. lines v) (append-nil r.bytes) ∙ cut ∙ sym (append-nil (r.ls ++ lines part)),
         );
         broken = broken;
-        few = inside_few e (length (ended_lines built_words (take limit r.bytes))) (answered broken.put) batch inside;
+        few = inside_few e (length (ended_lines (take limit r.bytes))) (answered broken.put) batch inside;
       }

@@ -19,7 +19,7 @@ use Rattle.mg_model.specs.Draw.{password_drawn}
 use Rattle.mg_model.specs.Ended.{ended_lines}
 use Rattle.mg_model.specs.Fresh.{fresh, root_base}
 use Rattle.mg_model.specs.Layout.{total_blocks}
-use Rattle.mg_model.specs.Lines.{built_words, lines}
+use Rattle.mg_model.specs.Lines.{lines}
 use Rattle.mg_model.specs.Print.{answered, hex_text, ok_text, spaced, text}
 use Rattle.mg_model.specs.Settings.{Settings}
 use Rattle.mg_model.specs.State.{State}
@@ -95,7 +95,7 @@ taken_of input rest = take (length input - length rest) input
 
 -- the replies to an input
 abbrev pub replies : State → List ℕ → List ℕ
-replies s input = text s (lines built_words input)
+replies s input = text s (lines input)
 
 -- what the sink took is a prefix of the replies to the whole input
 abbrev pub AnswersPrefix : State → Option (List ℕ) → Option (List ℕ) → Option (List ℕ) → Type 0
@@ -107,7 +107,7 @@ AnswersAll s left left' taken taken' = IfSome left (λ input. (left' ≡ Some []
 
 -- what the sink took is the replies to some first lines of the input, and no part of another
 abbrev pub AnswersLines : State → Option (List ℕ) → Option (List ℕ) → Option (List ℕ) → Type 0
-AnswersLines s left taken taken' = IfSome left (λ input. (k : ℕ) × (k ≤ length (lines built_words input)) × Appends taken taken' (text s (take k (lines built_words input))))
+AnswersLines s left taken taken' = IfSome left (λ input. (k : ℕ) × (k ≤ length (lines input)) × Appends taken taken' (text s (take k (lines input))))
 
 -- What the sink took of a session from the state `s` that ended with this status.
 pub record Answers (s : State) (result : Status) (left left' taken taken' : Option (List ℕ)) : Type 0 where
@@ -122,14 +122,14 @@ pub record Answers (s : State) (result : Status) (left left' taken taken' : Opti
 
 -- reads give an image that spells the state after the whole input
 abbrev pub SpellsAfter : State → List ℕ → Option Image → Type 0
-SpellsAfter s input told = IsSomeAnd told (λ image. volume image ≡ Is (after s (lines built_words input)))
+SpellsAfter s input told = IsSomeAnd told (λ image. volume image ≡ Is (after s (lines input)))
 
 -- A session: what it costs
 
 -- the counter of words rose by no more than the lines of the bytes that were taken may cost
 abbrev pub IsWithinCost : State → Option (List ℕ) → Option (List ℕ) → ℕ → ℕ → Type 0
 IsWithinCost s left left' steps steps' =
-    IfSome left (λ input. IsSomeAnd left' (λ rest. steps' ≤ steps + cost s (lines built_words (taken_of input rest))))
+    IfSome left (λ input. IsSomeAnd left' (λ rest. steps' ≤ steps + cost s (lines (taken_of input rest))))
 
 -- A session: what a stop leaves
 
@@ -144,27 +144,27 @@ AreAnswered taken taken' k = IfSome taken (λ before. IsSomeAnd taken' (λ now. 
 -- among so many first lines of an input are all that are answered, and none that did not come
 pub record IsAnswered (input rest : List ℕ) (taken taken' : Option (List ℕ)) (k : ℕ) : Type 0 where
   pub all_answered : AreAnswered taken taken' k
-  pub came : k ≤ length (lines built_words (taken_of input rest))
+  pub came : k ≤ length (lines (taken_of input rest))
 
 -- At a stop now the volume has the state after some first lines: among them are all that are answered, and all came.
 abbrev pub KeepsAnswered : (Image → Type 0) → State → Option (List ℕ) → Option (List ℕ) → Option (List ℕ) → Option (List ℕ) → Type 0
 KeepsAnswered left_now s left left' taken taken' = IfSome left (λ input. IsSomeAnd left' (λ rest. (c : Image) → left_now c →
-    (k : ℕ) × IsAnswered input rest taken taken' k × (volume c ≡ Is (prefix s (lines built_words input) k))))
+    (k : ℕ) × IsAnswered input rest taken taken' k × (volume c ≡ Is (prefix s (lines input) k))))
 
 -- At a stop now the volume has the state after the answered lines and no others.
 abbrev pub KeepsExactly : (Image → Type 0) → State → Option (List ℕ) → Option (List ℕ) → Option (List ℕ) → Type 0
 KeepsExactly left_now s left taken taken' = IfSome left (λ input. IfSome taken (λ before. IsSomeAnd taken' (λ now. (c : Image) → left_now c →
-    volume c ≡ Is (prefix s (lines built_words input) (answered (drop (length before) now))))))
+    volume c ≡ Is (prefix s (lines input) (answered (drop (length before) now))))))
 
 -- Whatever a stop leaves now, it is one and the same state: that after some first lines, as above.
 abbrev pub KeepsOne : (Image → Type 0) → State → Option (List ℕ) → Option (List ℕ) → Option (List ℕ) → Option (List ℕ) → Type 0
 KeepsOne left_now s left left' taken taken' = IfSome left (λ input. IsSomeAnd left' (λ rest.
-    (k : ℕ) × IsAnswered input rest taken taken' k × ((c : Image) → left_now c → volume c ≡ Is (prefix s (lines built_words input) k))))
+    (k : ℕ) × IsAnswered input rest taken taken' k × ((c : Image) → left_now c → volume c ≡ Is (prefix s (lines input) k))))
 
 -- What a stop leaves of a session from the state `s`.
 pub record Holds {D : Type 0} (facts : disks.Ghosts D) (s : State) (disk disk' : D) (left left' taken taken' : Option (List ℕ)) : Type 0 where
   -- At each moment it leaves the state after some first lines.
-  pub moments : IfSome left (λ input. Leaves facts disk disk' (IsPrefix s (lines built_words input)))
+  pub moments : IfSome left (λ input. Leaves facts disk disk' (IsPrefix s (lines input)))
   -- At the end, whatever the status, these are at least the answered lines, and all of them came.
   pub held : KeepsAnswered (facts.left_since disk' (facts.moment disk')) s left left' taken taken'
 
@@ -182,7 +182,7 @@ pub record HoldsExactly {D : Type 0} (facts : disks.Ghosts D) (s : State) (resul
 abbrev pub FewUnanswered : ℕ → ℕ → Option (List ℕ) → Option (List ℕ) → Option (List ℕ) → Option (List ℕ) → Type 0
 FewUnanswered most limit left left' taken taken' =
     IfSome left (λ input. IsSomeAnd left' (λ rest. IfSome taken (λ before. IsSomeAnd taken' (λ now.
-    length (ended_lines built_words (take limit (taken_of input rest))) < answered (drop (length before) now) + most))))
+    length (ended_lines (take limit (taken_of input rest))) < answered (drop (length before) now) + most))))
 
 -- How a session in batches of so many replies ends, and how much of the input it takes, whatever reads tell.
 pub record Ends {S K : Type 0} (from : sources.Ghosts S) (to : sinks.Ghosts K) (batch limit : ℕ) (result : Status) (source source' : S) (sink sink' : K) : Type 0 where

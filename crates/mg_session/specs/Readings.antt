@@ -6,7 +6,7 @@ use Rattle.mg_disk.specs.declared.disk.Disk.{Ghosts}
 use Rattle.mg_model.specs.declared.calls.Line.{Line}
 use Rattle.mg_model.specs.Print.{answered}
 use Rattle.mg_model.specs.Ended.{ended_lines}
-use Rattle.mg_model.specs.Lines.{built_words, lines}
+use Rattle.mg_model.specs.Lines.{lines}
 use Rattle.mg_model.specs.Words.{is_newline}
 use Rattle.mg_session.specs.declared.batches.Ended.{Ended}
 use Rattle.mg_session.specs.declared.batches.Ended.TheVariants as ended
@@ -19,7 +19,7 @@ pub record Reading {D : Type 0} (facts : Ghosts D) (entry : Entry D) (left : Opt
   pub read : Consumes left left' bytes
   pub count : length bytes ≡ total
   pub ls : List Line
-  pub cut : (rest : List ℕ) → lines built_words (bytes ++ rest) ≡ ls ++ lines built_words (part ++ rest)
+  pub cut : (rest : List ℕ) → lines (bytes ++ rest) ≡ ls ++ lines (part ++ rest)
   pub whole : list_any is_newline part ≡ false
   pub session : Session facts entry ls p
 
@@ -29,7 +29,7 @@ pub record Finishes {D : Type 0} (facts : Ghosts D) (entry : Entry D) (left : Op
   pub read : Consumes left left' bytes
   pub at_end : IsAtEnd left'
   pub within : length bytes ≤ limit
-  pub session : Session facts entry (lines built_words bytes) p
+  pub session : Session facts entry (lines bytes) p
   pub empty : p.owed ≡ no_replies
 
 -- how many bytes were taken
@@ -54,8 +54,8 @@ pub record Stops {D : Type 0} (facts : Ghosts D) (e : Ended) (entry : Entry D) (
   pub size : Size e limit (length bytes)
   pub bound : length bytes ≤ most
   -- the lines that were stepped are first lines of the bytes that came
-  pub came : (more : List Line) × (lines built_words bytes ≡ ls ++ more)
+  pub came : (more : List Line) × (lines bytes ≡ ls ++ more)
   -- and of the whole input
-  pub will : (rest : List ℕ) → left' ≡ Some rest → (more : List Line) × (lines built_words (bytes ++ rest) ≡ ls ++ more)
+  pub will : (rest : List ℕ) → left' ≡ Some rest → (more : List Line) × (lines (bytes ++ rest) ≡ ls ++ more)
   pub broken : Broken facts e entry ls alive steps disk taken
-  pub few : Few e (length (ended_lines built_words (take limit bytes))) (answered broken.put) batch
+  pub few : Few e (length (ended_lines (take limit bytes))) (answered broken.put) batch

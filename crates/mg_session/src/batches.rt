@@ -3,7 +3,6 @@ ghost use Rattle.std.specs.Prelude.{ℕ, ◌≡◌, ◌<◌, ◌≤◌, [], ◌�
 ghost use Rattle.mg_disk.specs.Stops.{DiskCallsBy};
 ghost use Rattle.mg_faults.specs.Faults.{CountGoesOn, Rose};
 ghost use Rattle.mg_kernel.specs.Meaning.{StandsOn, is_live, staged_of, words_in};
-ghost use Rattle.mg_model.specs.Built.{IsBuilt};
 ghost use Rattle.mg_model.specs.Counts.{CountsAlike};
 ghost use Rattle.mg_session.specs.Headline.{UnlessDisk};
 ghost use Rattle.mg_session.specs.Sessions.{Closes, FailsToClose, Halts, IsInside, Runs};
@@ -93,7 +92,6 @@ pub fn take_line<D: Disk, K: Sink, L: Ledger>(
     requires staged { staged_of kernel.old ≤ 28 }
     requires open_batch { owed.old.count < batch }
     requires small { batch ≤ 64 }
-    requires built { IsBuilt line.now }
     ensures steps { OnOk result (Runs D.Disk
         (record { kernel = kernel.old; disk = disk.old; owed = owed.old; taken = K.taken sink.old; steps = steps.old }) (line.now ∷ [])
         (record { kernel = kernel.new; disk = disk.new; owed = owed.new; taken = K.taken sink.new; steps = steps.new })) }
@@ -138,7 +136,6 @@ pub fn line_and_close<D: Disk, K: Sink, L: Ledger>(
     requires staged { staged_of kernel.old ≤ 28 }
     requires open_batch { owed.old.count < batch }
     requires small { batch ≤ 64 }
-    requires built { IsBuilt line.now }
     ensures steps { OnOk result (Runs D.Disk
         (record { kernel = kernel.old; disk = disk.old; owed = owed.old; taken = K.taken sink.old; steps = steps.old }) (line.now ∷ [])
         (record { kernel = kernel.new; disk = disk.new; owed = owed.new; taken = K.taken sink.new; steps = steps.new })) }

@@ -4,7 +4,7 @@ ghost use Rattle.std.specs.List.{list_any};
 ghost use Rattle.mg_disk.specs.Stops.{DiskCallsBy};
 ghost use Rattle.mg_faults.specs.Faults.{CountGoesOn, Rose};
 ghost use Rattle.mg_kernel.specs.Meaning.{StandsOn, is_live, staged_of, words_in};
-ghost use Rattle.mg_model.specs.Lines.{built_words, lines};
+ghost use Rattle.mg_model.specs.Lines.{lines};
 ghost use Rattle.mg_model.specs.Words.{is_newline};
 ghost use Rattle.mg_model.specs.Counts.{CountsAlike};
 ghost use Rattle.mg_session.specs.Headline.{UnlessDisk};
@@ -123,10 +123,10 @@ pub fn finish<D: Disk, K: Sink, L: Ledger>(
     requires open_batch { owed.old.count < batch }
     requires small { batch ≤ 64 }
     ensures steps { OnOk result (Runs D.Disk
-        (record { kernel = kernel.old; disk = disk.old; owed = owed.old; taken = K.taken sink.old; steps = steps.old }) (lines built_words part.old)
+        (record { kernel = kernel.old; disk = disk.old; owed = owed.old; taken = K.taken sink.old; steps = steps.old }) (lines part.old)
         (record { kernel = kernel.new; disk = disk.new; owed = owed.new; taken = K.taken sink.new; steps = steps.new })) }
     ensures halts { IfErr result (λ e. Halts D.Disk e
-        (record { kernel = kernel.old; disk = disk.old; owed = owed.old; taken = K.taken sink.old; steps = steps.old }) (lines built_words part.old)
+        (record { kernel = kernel.old; disk = disk.old; owed = owed.old; taken = K.taken sink.old; steps = steps.old }) (lines part.old)
         (record { kernel = kernel.new; disk = disk.new; owed = owed.new; taken = K.taken sink.new; steps = steps.new })) }
     ensures live { UnlessDisk result (IsTrue (is_live kernel.new)) }
     ensures stands { UnlessDisk result (StandsOn D.Disk kernel.new disk.new) }

@@ -1,8 +1,7 @@
 // The line that is not ended yet.
 ghost use Rattle.std.specs.Prelude.{◌≡◌, ℕ, List, [], ◌∷◌, ◌++◌, false, IfSome};
 ghost use Rattle.std.specs.List.{list_any};
-ghost use Rattle.mg_model.specs.Built.{IsBuilt};
-ghost use Rattle.mg_model.specs.Lines.{built_words, line_of, lines};
+ghost use Rattle.mg_model.specs.Lines.{line_of, lines};
 ghost use Rattle.mg_model.specs.Words.{is_newline};
 
 use arrayvec::ArrayVec;
@@ -42,7 +41,7 @@ impl PartialLine {
     /// A byte of the line, which is no newline, came. Whatever comes behind it, the lines are the same.
     pub fn add(&mut self, b: u8)
         requires { is_newline b ≡ false }
-        ensures same { (rest : List ℕ) → lines built_words (self.old ++ b ∷ rest) ≡ lines built_words (self.new ++ rest) }
+        ensures same { (rest : List ℕ) → lines (self.old ++ b ∷ rest) ≡ lines (self.new ++ rest) }
         ensures whole { list_any is_newline self.new ≡ false }
     {
         let _ = self.bytes.try_push(b);
@@ -50,10 +49,9 @@ impl PartialLine {
 
     /// The line's newline came, or the end of the input: what the line spells. The next line begins with nothing.
     pub fn finish(&mut self) -> Option<Line>
-        ensures line { result ≡ line_of built_words self.old }
+        ensures line { result ≡ line_of self.old }
         ensures empty { self.new ≡ [] }
         ensures whole { list_any is_newline self.old ≡ false }
-        ensures built { IfSome result IsBuilt }
     {
         let line = read_line(self.bytes.as_slice());
         self.bytes.clear();

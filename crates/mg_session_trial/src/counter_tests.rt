@@ -9,8 +9,8 @@ type Row = (&'static str, &'static [Byte], Lines);
 
 type Lines = &'static [(&'static str, &'static str)];
 
-/// The words of the counters: the passwords drawn stand first, the period behind them.
-const ROWS: [Row; 3] = [
+/// The words of the counters: the passwords drawn, the period, the cursor and the births.
+const ROWS: [Row; 4] = [
     (
         "the last password but one is drawn",
         &[
@@ -52,6 +52,24 @@ const ROWS: [Row; 3] = [
             ("1 pwadd 0x100000000 R 16777215", "no Past"),
             ("rent", "no Calendar"),
             ("1 balance 1 0x28bd8653e56a5d40", "ok 1000 0 1"),
+        ],
+    ),
+    (
+        "the last birth but one",
+        &[
+            (1298, 24, 0xfe),
+            (1298, 25, 0xff),
+            (1298, 26, 0xff),
+            (1298, 27, 0xff),
+        ],
+        &[
+            ("1 thread 0x100000000", "ok 2"),
+            ("1 thread 0x100000000", "no Limit"),
+            ("1 thread 0x100000004", "no Align"),
+            ("1 thread 0x100001000", "no Denied"),
+            ("1 end 2", "ok"),
+            ("1 thread 0x100000000", "no Limit"),
+            ("2 apdlist", "no NoThread"),
         ],
     ),
 ];

@@ -1,4 +1,3 @@
-pub mod BuiltLines
 pub mod Letters
 pub mod Texts
 pub mod Values

@@ -9,8 +9,7 @@ use crate::rights::read_rights;
 use crate::words::{is_word, next_word};
 use mg_model::{Call, Rights};
 
-/// The call of a call word, and of the arguments in the bytes behind it; None where no call has the word. All calls are
-/// read, also those that are not built yet.
+/// The call of a call word, and of the arguments in the bytes behind it; None where no call has the word.
 pub fn read_call(word: &[u8], args: &[u8]) -> Option<Call>
     ensures { result ≡ call_by call_table word.now (words args.now) }
 {

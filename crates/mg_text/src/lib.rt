@@ -2,8 +2,7 @@
 //!
 //! A line of the input is read in one pass, with its words as slices of it, and a reply is written into a buffer of 256
 //! bytes; neither allocates. What the layer above learns is an equation for each call: what was read or written is what
-//! the definitions in `mg_model` say (`Words`, `Lines`, `Print`), and that a line asks for no call that is not built
-//! (`Built`). The whole table of calls is read; to build a call, its word joins the words that are built.
+//! the definitions in `mg_model` say (`Words`, `Lines`, `Print`).
 #![tactic(auto)]
 
 mod args;
@@ -18,5 +17,5 @@ mod words;
 pub use lines::read_line;
 pub use numbers::{digit, read_number};
 pub use outcomes::{print_numbers, print_small, print_words};
-pub use replies::print_reply;
+pub use replies::{print_reply, push_number, push_text, push_word, refusal_word};
 pub use rights::read_rights;

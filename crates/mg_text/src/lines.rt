@@ -1,7 +1,6 @@
 // From the bytes of a line to its call.
-ghost use Rattle.std.specs.Prelude.{◌≡◌, IfSome};
-ghost use Rattle.mg_model.specs.Built.{IsBuilt};
-ghost use Rattle.mg_model.specs.Lines.{built_words, call_line, is_among, is_note, line_of, line_with, lone_words, spelled_line, thread_line};
+ghost use Rattle.std.specs.Prelude.{◌≡◌};
+ghost use Rattle.mg_model.specs.Lines.{call_line, is_among, is_note, line_of, line_with, lone_words, spelled_line, thread_line};
 ghost use Rattle.mg_model.specs.Words.{words};
 
 use crate::calls::read_call;
@@ -18,17 +17,10 @@ const BAD: Line = Line {
     call: Call::Bad,
 };
 
-/// A line whose call is not built yet.
-const LATER: Line = Line {
-    thread: 0,
-    call: Call::Later,
-};
-
 /// The call that a line spells, given without its newline; None where the line has no words or is a note. A line of more
-/// than 256 bytes is `Bad`, whatever it holds, and so is one of no form; one of a call that is not built yet is `Later`.
+/// than 256 bytes is `Bad`, whatever it holds, and so is one of no form.
 pub fn read_line(bytes: &[u8]) -> Option<Line>
-    ensures line { result ≡ line_of built_words bytes.now }
-    ensures built { IfSome result IsBuilt }
+    ensures { result ≡ line_of bytes.now }
 {
     if bytes.len() > LINE_LIMIT {
         return Some(BAD);
@@ -53,7 +45,7 @@ fn note(word: &[u8]) -> bool
 
 /// The line of a first word, and of the words in the bytes behind it.
 fn spelled(first: &[u8], more: &[u8]) -> Line
-    ensures { result ≡ spelled_line built_words first.now (words more.now) }
+    ensures { result ≡ spelled_line first.now (words more.now) }
 {
     if stands_alone(first) {
         return call_by(0, first, more);
@@ -66,7 +58,7 @@ fn spelled(first: &[u8], more: &[u8]) -> Line
 
 /// The line of a thread, and of the words in the bytes behind its number.
 fn thread_call(thread: u64, more: &[u8]) -> Line
-    ensures { result ≡ thread_line built_words thread (words more.now) }
+    ensures { result ≡ thread_line thread (words more.now) }
 {
     match next_word(more) {
         None => BAD,
@@ -82,17 +74,11 @@ fn thread_call(thread: u64, more: &[u8]) -> Line
 
 /// The line of a call word, and of the words in the bytes behind it.
 fn call_by(thread: u64, word: &[u8], args: &[u8]) -> Line
-    ensures { result ≡ call_line built_words thread word.now (words args.now) }
+    ensures { result ≡ call_line thread word.now (words args.now) }
 {
     match read_call(word, args) {
         None => BAD,
-        Some(call) => {
-            if built(word) {
-                line_with(thread, call)
-            } else {
-                LATER
-            }
-        }
+        Some(call) => line_with(thread, call),
     }
 }
 
@@ -111,31 +97,6 @@ fn stands_alone(word: &[u8]) -> bool
     ensures { result ≡ is_among word.now lone_words }
 {
     is_word(word, b"next") || is_word(word, b"rent")
-}
-
-/// Whether a word is the word of a call that is built.
-fn built(word: &[u8]) -> bool
-    ensures { result ≡ is_among word.now built_words }
-{
-    is_word(word, b"load")
-        || is_word(word, b"store")
-        || is_word(word, b"create")
-        || is_word(word, b"delete")
-        || is_word(word, b"info")
-        || is_word(word, b"pwadd")
-        || is_word(word, b"pwdel")
-        || is_word(word, b"entry")
-        || is_word(word, b"ext")
-        || is_word(word, b"recharge")
-        || is_word(word, b"apdadd")
-        || is_word(word, b"apddel")
-        || is_word(word, b"apdlist")
-        || is_word(word, b"pdx")
-        || is_word(word, b"ret")
-        || is_word(word, b"account")
-        || is_word(word, b"pay")
-        || is_word(word, b"balance")
-        || is_word(word, b"rent")
 }
 
 #[cfg(test)]

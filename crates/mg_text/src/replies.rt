@@ -79,7 +79,8 @@ fn push_reply(r: &Reply, out: &mut Buffer)
     }
 }
 
-fn refusal_word(refusal: Refusal) -> &'static [u8]
+/// The word of a refusal, at most 10 bytes.
+pub fn refusal_word(refusal: Refusal) -> &'static [u8]
     ensures text { result.now ≡ refusal_text refusal }
     ensures short { length result.now ≤ 10 }
 {
@@ -106,7 +107,6 @@ fn refusal_word(refusal: Refusal) -> &'static [u8]
         Refusal::Credit => b"Credit",
         Refusal::Calendar => b"Calendar",
         Refusal::Past => b"Past",
-        Refusal::Later => b"Later",
     }
 }
 
@@ -124,7 +124,8 @@ fn after_words(state: After) -> &'static [u8]
     }
 }
 
-pub(crate) fn push_text(out: &mut Buffer, text: &[u8])
+/// Writes a text behind what the buffer holds.
+pub fn push_text(out: &mut ArrayVec<u8, 256>, text: &[u8])
     requires { array_vec_len out.old + length text.now ≤ 256 }
     ensures text { out.new.items ≡ out.old.items ++ text.now }
     ensures len { array_vec_len out.new ≡ array_vec_len out.old + length text.now }
@@ -141,8 +142,8 @@ fn push_after(out: &mut Buffer, state: After)
     push_text(out, after_words(state));
 }
 
-/// A space and a word in hexadecimal.
-pub(crate) fn push_word(out: &mut Buffer, w: u64)
+/// Writes a space and a word in hexadecimal behind what the buffer holds: `0x` and 16 digits.
+pub fn push_word(out: &mut ArrayVec<u8, 256>, w: u64)
     requires { array_vec_len out.old ≤ 200 }
     ensures text { out.new.items ≡ out.old.items ++ spaced (hex_text w ∷ []) }
     ensures short { array_vec_len out.new ≤ array_vec_len out.old + 19 }
@@ -181,8 +182,8 @@ fn push_words(out: &mut Buffer, ws: &[u64])
     }
 }
 
-/// A space and a number in decimal.
-pub(crate) fn push_number(out: &mut Buffer, n: u64)
+/// Writes a space and a number in decimal behind what the buffer holds.
+pub fn push_number(out: &mut ArrayVec<u8, 256>, n: u64)
     requires { array_vec_len out.old ≤ 200 }
     ensures text { out.new.items ≡ out.old.items ++ spaced (decimal n ∷ []) }
     ensures short { array_vec_len out.new ≤ array_vec_len out.old + 21 }

@@ -3,7 +3,7 @@
 use Rattle.std.specs.Prelude.{◌≡◌, ℕ, zero, suc, ◌+◌, List, [], ◌∷◌, ◌++◌, codes, replicate}
 use Rattle.std.specs.Fmt.{decimal}
 use Rattle.mg_model.specs.Fresh.{fresh}
-use Rattle.mg_model.specs.Lines.{all_words, lines}
+use Rattle.mg_model.specs.Lines.{lines}
 use Rattle.mg_model.specs.State.{State}
 use Rattle.mg_model.specs.Step.{after}
 use Rattle.mg_model.specs.Tariff.{usual_tariff}
@@ -14,11 +14,11 @@ use Rattle.mg_worked.specs.Sessions.{IsAnswered, Session, input, linked, small, 
 -- from this state the lines get these replies, and so many words are the most that they may cost
 pub record IsPaid (state : State) (session : Session) (words : ℕ) : Type 0 where
   pub answered : IsAnswered state session
-  pub paid : cost state (lines all_words (input session)) ≡ words
+  pub paid : cost state (lines (input session)) ≡ words
 
 -- a fresh state behind an earlier session
 abbrev pub behind : Session → State
-behind session = after (fresh small) (lines all_words (input session))
+behind session = after (fresh small) (lines (input session))
 
 -- thread 1 makes threads with these numbers
 abbrev pub made_threads : ℕ → ℕ → Session
@@ -310,7 +310,7 @@ sixth_right_is_kept =
 
 -- 128 frames, an object behind the first 65 pages, and a script that stores into its second page
 abbrev pub far_object : State
-far_object = after (fresh record { frames = 128; seed = zero_seed; credits = 1000; tariff = usual_tariff 128 }) (lines all_words (input far_lines))
+far_object = after (fresh record { frames = 128; seed = zero_seed; credits = 1000; tariff = usual_tariff 128 }) (lines (input far_lines))
   where
     far_lines : Session
     far_lines =

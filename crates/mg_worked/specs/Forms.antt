@@ -77,28 +77,3 @@ notes = codes "# a note" ++ 10 ∷ 10 ∷ 32 ∷ 9 ∷ 13 ∷ 10 ∷ codes "1 re
 
 abbrev pub notes_replies : List ℕ
 notes_replies = codes "no NoFrame" ++ 10 ∷ codes "no Syntax" ++ 10 ∷ []
-
--- Where `load` alone is built, every other call word is Later, whatever stands behind it, and what is no call word is Syntax.
-abbrev pub early : List ℕ
-early =
-    input (
-    (codes "1 load 0x100000000", codes "")
-    ∷ (codes "1 ret", codes "")
-    ∷ (codes "7 store x", codes "")
-    ∷ (codes "next 5", codes "")
-    ∷ (codes "1 next", codes "")
-    ∷ (codes "x ret", codes "")
-    ∷ (codes "1 loads 8", codes "")
-    ∷ [])
-
-abbrev pub early_replies : List ℕ
-early_replies =
-    output (
-    (codes "", codes "ok 0x0000000000000001")
-    ∷ (codes "", codes "no Later")
-    ∷ (codes "", codes "no Later")
-    ∷ (codes "", codes "no Later")
-    ∷ (codes "", codes "no Syntax")
-    ∷ (codes "", codes "no Syntax")
-    ∷ (codes "", codes "no Syntax")
-    ∷ [])

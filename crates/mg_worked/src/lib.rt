@@ -7,7 +7,7 @@
 ghost use Rattle.std.specs.Prelude.{◌≡◌, [], ◌∷◌, codes};
 ghost use Rattle.mg_model.specs.Draw.{password_drawn};
 ghost use Rattle.mg_model.specs.Fresh.{fresh};
-ghost use Rattle.mg_model.specs.Lines.{all_words, lines};
+ghost use Rattle.mg_model.specs.Lines.{lines};
 ghost use Rattle.mg_model.specs.Print.{text};
 ghost use Rattle.mg_worked.specs.Access.{alignment_first, creator_has_no_capability, domain_locks_itself_out, first_line, large_count_is_cut, lowest_pages_are_taken, new_object_reads_zeros, revocation_acts_at_once, slot_needs_its_right, stored_capability_reads};
 ghost use Rattle.mg_worked.specs.Rights.{all_frames_are_taken, each_right_alone, each_right_is_needed, edges_of_an_object, rights_by_their_bits};
@@ -20,7 +20,7 @@ ghost use Rattle.mg_worked.specs.Refusals.{counted, full_root, last_password, la
 ghost use Rattle.mg_worked.specs.Edges.{ended_in_its_turn, last_until, no_more_births, no_more_objects, no_more_passwords, sixteen_entries, slots_in_order, steps_of_the_tariff, too_many_pages, what_is_denied, who_pays, with_births, with_objects, without_until};
 ghost use Rattle.mg_worked.specs.Users.{documents_and_mailbox};
 ghost use Rattle.mg_worked.specs.Costs.{IsPaid, behind, calling_script, calls_on_an_object, calls_that_only_tell, delete_then, denied_twice, domain_and_back, entering_script, ext_then, far_object, faulting_scripts, info_twice, linked_threads, loading_script, making_script, one_key_twice, one_seat, one_seat_in_a_turn, owner_alone, pwadd_then, refused_between_loads, refused_calls, script_of_calls, short_script, six_rights_in_turn, sixth_right_is_kept, store_between_loads, stores_into_both_pages, storing_script, thread_then, turns_of_a_script, turns_that_call, turns_that_disturb, turns_that_enter, turns_that_fault, turns_that_load, turns_that_store, two_seats, words_of_one_object};
-ghost use Rattle.mg_worked.specs.Forms.{blanks, early, early_replies, forms, notes, notes_replies, numbers};
+ghost use Rattle.mg_worked.specs.Forms.{blanks, forms, notes, notes_replies, numbers};
 ghost use Rattle.mg_worked.specs.Drawn.{DrawsFirst};
 ghost use Rattle.mg_worked.specs.Sessions.{IsAnswered, linked, small};
 
@@ -126,8 +126,7 @@ pub fn sessions_of_forms()
     ensures numbers { IsAnswered (fresh small) numbers }
     ensures forms { IsAnswered (fresh small) forms }
     ensures blanks { IsAnswered (fresh small) blanks }
-    ensures passed_over { text (fresh small) (lines all_words notes) ≡ notes_replies }
-    ensures not_built { text (fresh small) (lines (codes "load" ∷ []) early) ≡ early_replies }
+    ensures passed_over { text (fresh small) (lines notes) ≡ notes_replies }
 {}
 
 /// What sessions may cost, in words: one for each that a line loads, stores or fetches, and 4,088 for each search.

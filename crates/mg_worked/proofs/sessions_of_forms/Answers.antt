@@ -20,7 +20,3 @@ returns-clause-blanks c = refl
 pub returns-clause-passed_over : goal.returns-clause-passed_over
 unfolding block_word double_rounds quarter_round column_round diagonal_round u32_at hex_text digits
 returns-clause-passed_over c = refl
-
-pub returns-clause-not_built : goal.returns-clause-not_built
-unfolding block_word double_rounds quarter_round column_round diagonal_round u32_at hex_text digits
-returns-clause-not_built c = refl

@@ -1,5 +1,5 @@
 use Rattle.std.proofs.Common.{◌∙◌}
-use Rattle.mg_calls_dom.proofs.ThreadRows.{lives-row}
+use Rattle.mg_calls_dom.specs.ThreadLemmas.{lives-row}
 use Rattle.mg_volume.specs.Meaning.{threads_in}
 use Rattle.mg_calls_dom.proofs.rows.row_of.Goals as goal
 

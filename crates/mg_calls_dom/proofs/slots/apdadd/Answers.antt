@@ -1,7 +1,7 @@
 use Rattle.std.specs.Prelude.{◌++◌, ◌∷◌, ◌==◌, [], find, length, None, Some}
 use Rattle.std.proofs.Common.{sym, ap, ◌∙◌}
 use Rattle.mg_calls_dom.proofs.SlotCalls.{apdadd-is, slotted}
-use Rattle.mg_calls_dom.proofs.ThreadRows.{change-gives, told-row}
+use Rattle.mg_calls_dom.specs.ThreadLemmas.{change-gives, told-row}
 use Rattle.mg_model.specs.declared.replies.Reply.TheVariants.{Count}
 use Rattle.mg_model.specs.Access.{last_slots}
 use Rattle.mg_model.specs.State.{Thread}

@@ -12,7 +12,7 @@ use Rattle.mg_volume.specs.RunLemmas.{serves_wider}
 use Rattle.mg_kernel.proofs.answering.acted.Goals as goal
 
 on-thread : (made : Call) (state : State) (t : ℕ) → is_on_object made ≡ true → IsOfThread state t made
-on-thread made state t on = of-thread made state t (λ is. none call.Bad is refl) (λ is. none call.Later is refl) (λ is. none call.Turn is refl) (λ is. none call.Next is refl) (λ is. none call.Rent is refl)
+on-thread made state t on = of-thread made state t (λ is. none call.Bad is refl) (λ is. none call.Turn is refl) (λ is. none call.Next is refl) (λ is. none call.Rent is refl)
   where
     none : (other : Call) → made ≡ other → is_on_object other ≡ false → ⊥
     none other is off = let bad : true ≡ false = sym on ∙ ap is_on_object is ∙ off in cc
@@ -32,4 +32,4 @@ returns-clause-limit g c image told lives =
 
 pub returns-clause-serves : goal.returns-clause-serves
 returns-clause-serves g c =
-    serves_wider g.D.Disk 129 132 c.args.v.now c.on_object.new.v c.args.disk.now c.on_object.new.disk c.args.steps.now c.on_object.new.steps (omega arith) c.on_object.ensures.serves
+    serves_wider g.D.Disk 129 130 c.args.v.now c.on_object.new.v c.args.disk.now c.on_object.new.disk c.args.steps.now c.on_object.new.steps (omega arith) c.on_object.ensures.serves

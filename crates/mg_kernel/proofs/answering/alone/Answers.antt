@@ -29,5 +29,5 @@ returns-clause-keeps g c image told lives =
 pub returns-clause-serves : goal.returns-clause-serves
 returns-clause-serves g c =
     let disk = c.args.disk.now in
-    serves_wider g.D.Disk 3 132 c.args.v.now c.unasked.new.v disk disk c.args.steps.now c.args.steps.now (omega arith)
+    serves_wider g.D.Disk 3 130 c.args.v.now c.unasked.new.v disk disk c.args.steps.now c.args.steps.now (omega arith)
     (stages_serve g.D.Disk 3 c.args.v.now c.unasked.new.v disk c.args.steps.now (g.met.D.Disk.now_has_been disk) c.requires.sound.stands c.unasked.ensures.stages)

@@ -1,10 +1,11 @@
-use Rattle.std.proofs.Common.{◌∙◌}
+use Rattle.std.proofs.Common.{arith, ◌∙◌}
 use Rattle.std.proofs.lemmas.Result.{IfOk-weaker, on_ok_weaker}
 use Rattle.mg_kernel.proofs.Counted.{gone-thread, held-gone, held-lives, lives-limit, lives-thread}
 use Rattle.mg_kernel.proofs.Threads.{found-lives, gone, lives}
 use Rattle.mg_model.specs.Turn.{thread_call}
 use Rattle.mg_vcache.specs.Seats.{is_kept}
 use Rattle.mg_volume.specs.Meaning.{now_of}
+use Rattle.mg_volume.specs.RunLemmas.{serves_wider}
 use Rattle.mg_kernel.proofs.answering.by_thread.Goals as goal
 
 pub called-requires-clause-lives : goal.called-requires-clause-lives
@@ -33,3 +34,7 @@ returns-in-Some-clause-limit g c image told =
 pub returns-in-None-clause-keeps : goal.returns-in-None-clause-keeps
 returns-in-None-clause-keeps g c image told =
     gone-thread (now_of c.args.v.now image) c.args.t c.args.call.now (λ key. is_kept c.args.c.now key) c.args.steps.now (held-gone c.args.v.now image c.args.t c.in-None.ensures.found)
+
+pub returns-in-Some-clause-serves : goal.returns-in-Some-clause-serves
+returns-in-Some-clause-serves g c =
+    serves_wider g.D.Disk 130 132 c.args.v.now c.called.new.v c.args.disk.now c.called.new.disk c.args.steps.now c.called.new.steps (omega arith) c.called.ensures.serves

@@ -27,4 +27,16 @@ returns-in-Pdx-clause-keeps g c =
     c.pdx.ensures.keeps
 
 pub returns-in-Pdx-clause-serves : goal.returns-in-Pdx-clause-serves
-returns-in-Pdx-clause-serves g c = serves_wider g.D.Disk 1 132 c.args.v.now c.pdx.new.v c.args.disk.now c.pdx.new.disk c.args.steps.now c.pdx.new.steps (omega arith) c.pdx.ensures.serves
+returns-in-Pdx-clause-serves g c = serves_wider g.D.Disk 1 130 c.args.v.now c.pdx.new.v c.args.disk.now c.pdx.new.disk c.args.steps.now c.pdx.new.steps (omega arith) c.pdx.ensures.serves
+
+pub returns-in-Thread-clause-keeps : goal.returns-in-Thread-clause-keeps
+returns-in-Thread-clause-keeps g c =
+    on_ok_weaker c.make.result
+    (λ keeps image told lives.
+    let state = now_of c.args.v.now image in
+    subst (λ made. KeepsCall state c.args.t made (λ key. is_kept c.args.c.now key) (λ key. is_kept c.make.new.c key) c.args.steps.now c.make.new.steps) (sym c.in-Thread.is)
+    (line-call state c.args.t (call.Thread c.in-Thread.pc) (record { answer = refl; accesses = refl; words = refl }) (λ key. is_kept c.args.c.now key) (λ key. is_kept c.make.new.c key) c.args.steps.now c.make.new.steps lives (keeps image told)))
+    c.make.ensures.keeps
+
+pub returns-in-Thread-clause-serves : goal.returns-in-Thread-clause-serves
+returns-in-Thread-clause-serves g c = serves_wider g.D.Disk 2 130 c.args.v.now c.make.new.v c.args.disk.now c.make.new.disk c.args.steps.now c.make.new.steps (omega arith) c.make.ensures.serves

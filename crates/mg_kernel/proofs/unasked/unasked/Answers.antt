@@ -65,3 +65,19 @@ returns-in-Balance-clause-answers c =
 
 pub returns-in-Balance-clause-stages : goal.returns-in-Balance-clause-stages
 returns-in-Balance-clause-stages c = stages_wider 0 3 c.args.v.now c.balance.new.v (omega arith) c.balance.ensures.stages
+
+pub returns-in-End-clause-answers : goal.returns-in-End-clause-answers
+returns-in-End-clause-answers c =
+    let P : Call → Type 0 = λ made. Answers (λ state. thread_call state c.args.t made) c.args.v.now c.end.new.v c.end.result in
+    subst P (sym c.in-End.is) c.end.ensures.answers
+
+pub returns-in-End-clause-stages : goal.returns-in-End-clause-stages
+returns-in-End-clause-stages c = stages_wider 1 3 c.args.v.now c.end.new.v (omega arith) c.end.ensures.stages
+
+pub returns-in-Resume-clause-answers : goal.returns-in-Resume-clause-answers
+returns-in-Resume-clause-answers c =
+    let P : Call → Type 0 = λ made. Answers (λ state. thread_call state c.args.t made) c.args.v.now c.resume.new.v c.resume.result in
+    subst P (sym c.in-Resume.is) c.resume.ensures.answers
+
+pub returns-in-Resume-clause-stages : goal.returns-in-Resume-clause-stages
+returns-in-Resume-clause-stages c = stages_wider 1 3 c.args.v.now c.resume.new.v (omega arith) c.resume.ensures.stages

@@ -1,6 +1,6 @@
 use Rattle.std.proofs.Common.{ℕ, [], ◌∷◌, sym}
 use Rattle.std.proofs.lemmas.Result.{IfErr-weaker, on_ok_weaker}
-use Rattle.mg_model.specs.Lines.{built_words, lines}
+use Rattle.mg_model.specs.Lines.{lines}
 use Rattle.mg_session.specs.Sessions.{FailsToClose, Halts}
 use Rattle.mg_session.proofs.IncomingSteps.{Halts-last, Halts-note, Runs-last, Runs-note}
 use Rattle.mg_session.proofs.incoming.finish.Goals as goal
@@ -15,7 +15,7 @@ pub returns-in-None-clause-halts : goal.returns-in-None-clause-halts
 returns-in-None-clause-halts g c =
     IfErr-weaker c.close.result
     (λ e. (n : ℕ) → FailsToClose g.D.Disk e (record { kernel = c.args.kernel.now; disk = c.args.disk.now; owed = c.args.owed.now; taken = g.K.Sink.taken c.args.sink.now; steps = n }) (record { kernel = c.close.new.kernel; disk = c.close.new.disk; owed = c.close.new.owed; taken = g.K.Sink.taken c.close.new.sink; steps = n }))
-    (λ e. Halts g.D.Disk e (record { kernel = c.args.kernel.now; disk = c.args.disk.now; owed = c.args.owed.now; taken = g.K.Sink.taken c.args.sink.now; steps = c.args.steps.now }) (lines built_words c.args.part.now) (record { kernel = c.close.new.kernel; disk = c.close.new.disk; owed = c.close.new.owed; taken = g.K.Sink.taken c.close.new.sink; steps = c.args.steps.now }))
+    (λ e. Halts g.D.Disk e (record { kernel = c.args.kernel.now; disk = c.args.disk.now; owed = c.args.owed.now; taken = g.K.Sink.taken c.args.sink.now; steps = c.args.steps.now }) (lines c.args.part.now) (record { kernel = c.close.new.kernel; disk = c.close.new.disk; owed = c.close.new.owed; taken = g.K.Sink.taken c.close.new.sink; steps = c.args.steps.now }))
     (λ e h. Halts-note g.D.Disk e (record { kernel = c.args.kernel.now; disk = c.args.disk.now; owed = c.args.owed.now; taken = g.K.Sink.taken c.args.sink.now; steps = c.args.steps.now }) c.args.part.now (record { kernel = c.close.new.kernel; disk = c.close.new.disk; owed = c.close.new.owed; taken = g.K.Sink.taken c.close.new.sink; steps = c.args.steps.now }) c.in-None.ensures.whole (sym c.in-None.ensures.line) (h c.args.steps.now))
     c.close.ensures.halts
 
@@ -29,6 +29,6 @@ pub returns-in-Some-clause-halts : goal.returns-in-Some-clause-halts
 returns-in-Some-clause-halts g c =
     IfErr-weaker c.line_and_close.result
     (λ e. Halts g.D.Disk e (record { kernel = c.args.kernel.now; disk = c.args.disk.now; owed = c.args.owed.now; taken = g.K.Sink.taken c.args.sink.now; steps = c.args.steps.now }) (c.in-Some.line ∷ []) (record { kernel = c.line_and_close.new.kernel; disk = c.line_and_close.new.disk; owed = c.line_and_close.new.owed; taken = g.K.Sink.taken c.line_and_close.new.sink; steps = c.line_and_close.new.steps }))
-    (λ e. Halts g.D.Disk e (record { kernel = c.args.kernel.now; disk = c.args.disk.now; owed = c.args.owed.now; taken = g.K.Sink.taken c.args.sink.now; steps = c.args.steps.now }) (lines built_words c.args.part.now) (record { kernel = c.line_and_close.new.kernel; disk = c.line_and_close.new.disk; owed = c.line_and_close.new.owed; taken = g.K.Sink.taken c.line_and_close.new.sink; steps = c.line_and_close.new.steps }))
+    (λ e. Halts g.D.Disk e (record { kernel = c.args.kernel.now; disk = c.args.disk.now; owed = c.args.owed.now; taken = g.K.Sink.taken c.args.sink.now; steps = c.args.steps.now }) (lines c.args.part.now) (record { kernel = c.line_and_close.new.kernel; disk = c.line_and_close.new.disk; owed = c.line_and_close.new.owed; taken = g.K.Sink.taken c.line_and_close.new.sink; steps = c.line_and_close.new.steps }))
     (λ e h. Halts-last g.D.Disk e (record { kernel = c.args.kernel.now; disk = c.args.disk.now; owed = c.args.owed.now; taken = g.K.Sink.taken c.args.sink.now; steps = c.args.steps.now }) c.args.part.now (record { kernel = c.line_and_close.new.kernel; disk = c.line_and_close.new.disk; owed = c.line_and_close.new.owed; taken = g.K.Sink.taken c.line_and_close.new.sink; steps = c.line_and_close.new.steps }) c.in-Some.line c.in-Some.ensures.whole (sym c.in-Some.ensures.line) h)
     c.line_and_close.ensures.halts

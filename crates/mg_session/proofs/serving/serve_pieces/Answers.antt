@@ -1,7 +1,7 @@
 use Rattle.std.proofs.Common.{◌≡◌, ◌+◌, ◌-◌, ap, arith, refl, subst, take, ℕ}
 use Rattle.mg_faults.specs.Faults.{count_none, count_then}
 use Rattle.mg_kernel.specs.Meaning.{is_live, words_in}
-use Rattle.mg_model.specs.Lines.{built_words, lines}
+use Rattle.mg_model.specs.Lines.{lines}
 use Rattle.mg_session.specs.Incoming.{Goes}
 use Rattle.mg_session.specs.Readings.{Stops}
 use Rattle.mg_session.specs.Sessions.{Halts, IsInside}
@@ -46,7 +46,7 @@ pub returns-then-count-eq0-clause-stops : goal.returns-then-count-eq0-clause-sto
 returns-then-count-eq0-clause-stops g c =
     let size = c.pieces.invariant.size in
     if_err_both c.finish.result IsInside
-    (λ e. Halts g.D.Disk e (record { kernel = c.pieces.kernel; disk = c.pieces.disk; owed = c.pieces.owed; taken = g.K.Sink.taken c.pieces.sink; steps = c.pieces.steps }) (lines built_words c.pieces.part) (record { kernel = c.finish.new.kernel; disk = c.finish.new.disk; owed = c.finish.new.owed; taken = g.K.Sink.taken c.finish.new.sink; steps = c.finish.new.steps }))
+    (λ e. Halts g.D.Disk e (record { kernel = c.pieces.kernel; disk = c.pieces.disk; owed = c.pieces.owed; taken = g.K.Sink.taken c.pieces.sink; steps = c.pieces.steps }) (lines c.pieces.part) (record { kernel = c.finish.new.kernel; disk = c.finish.new.disk; owed = c.finish.new.owed; taken = g.K.Sink.taken c.finish.new.sink; steps = c.finish.new.steps }))
     (λ e. Stops g.D.Disk e (record { kernel = c.args.kernel.now; disk = c.args.disk.now; taken = g.K.Sink.taken c.args.sink.now; steps = c.args.steps.now }) (g.S.Source.left c.args.source.now) c.args.limit c.args.batch (c.args.limit + 4096) (is_live c.finish.new.kernel) c.finish.new.steps c.finish.new.disk (g.K.Sink.taken c.finish.new.sink) (g.S.Source.left c.take.new.self))
     (λ e inside halts. Stops-last g.D.Disk e (record { kernel = c.args.kernel.now; disk = c.args.disk.now; taken = g.K.Sink.taken c.args.sink.now; steps = c.args.steps.now }) (g.S.Source.left c.args.source.now) (g.S.Source.left c.pieces.source) (g.S.Source.left c.take.new.self) c.pieces.total c.args.limit c.args.batch (c.args.limit + 4096) c.in-Ok.count (record { kernel = c.pieces.kernel; disk = c.pieces.disk; owed = c.pieces.owed; taken = g.K.Sink.taken c.pieces.sink; steps = c.pieces.steps }) (record { kernel = c.finish.new.kernel; disk = c.finish.new.disk; owed = c.finish.new.owed; taken = g.K.Sink.taken c.finish.new.sink; steps = c.finish.new.steps }) c.pieces.part c.take.new.into
     c.pieces.invariant.reading c.pieces.invariant.within (omega arith) c.in-Ok.ensures.bytes.0 c.if-count-eq0.true (c.in-Ok.ensures.bytes.1 c.if-count-eq0.true (omega arith)) inside halts)

@@ -1,0 +1,3 @@
+mod Ended
+mod Made
+pub mod Owned

@@ -1,0 +1,34 @@
+use Rattle.std.specs.Prelude.{◌≤◌}
+use Rattle.std.proofs.Common.{ap, subst, ◌∙◌}
+use Rattle.mg_calls_dom.specs.ThreadLemmas.{told-row}
+use Rattle.mg_calls_thr.proofs.Made.{born-by, counted-threads, joined, made, make-done, make-full}
+use Rattle.mg_calls_thr.specs.Making.{first_row}
+use Rattle.mg_model.specs.State.{Counters}
+use Rattle.mg_volume.specs.Laws.{now_counters, now_threads}
+use Rattle.mg_volume.specs.Meaning.{counters_in, now_of, threads_in}
+use Rattle.mg_calls_thr.proofs.making.begin.Goals as goal
+
+pub returns-in-Some-clause-answers : goal.returns-in-Some-clause-answers
+returns-in-Some-clause-answers c image formed may =
+    let v = c.args.v.now in
+    let state = now_of v image in
+    let t = c.args.t in
+    let pc = c.args.pc in
+    let counters = counters_in v in
+    let maker = c.row_of.result in
+    let mid = c.stage_globals.new.self in
+    let new = c.stage_thread.new.self in
+    let (room, number, absent) = c.in-Some.ensures.number in
+    let there = told-row v image t maker c.row_of.ensures in
+    let early = subst (λ (k : Counters). maker.birth ≤ k.births) (now_counters v image) (born-by state.counters.births t state.threads maker formed.threads.each there) in
+    let row = c.first_row-row.ensures ∙ ap (λ births. first_row maker births pc) (c.births.ensures ∙ ap (λ (k : Counters). k.births) c.globals.ensures) in
+    let staged = c.stage_globals.ensures.now image ∙ ap (λ (k : Counters). record state { counters = k }) c.counted-counted.ensures in
+    let same = counted-threads v mid c.counted-counted.result c.stage_globals.ensures.now in
+    let joins = c.stage_thread.ensures.now image ∙ joined (now_of mid image) (threads_in mid) (threads_in v) c.in-Some.number c.first_row-row.result (first_row maker counters.births pc) same absent row in
+    make-done state t pc (threads_in v) counters (now_threads v image) (now_counters v image) may room
+    ∙ made state t pc (threads_in v) counters (now_threads v image) (now_counters v image) (now_of mid image) (now_of new image) maker c.in-Some.number there early number staged joins
+
+pub returns-in-None-clause-answers : goal.returns-in-None-clause-answers
+returns-in-None-clause-answers c image formed may =
+    let v = c.args.v.now in
+    make-full (now_of v image) c.args.t c.args.pc (threads_in v) (counters_in v) (now_threads v image) (now_counters v image) may c.in-None.ensures.number

@@ -1,0 +1,8 @@
+use Rattle.std.proofs.Common.{sym, ◌∙◌}
+use Rattle.mg_calls_thr.proofs.Owned.{birth-of}
+use Rattle.mg_calls_thr.specs.Owning.{thread_among}
+use Rattle.mg_volume.specs.Meaning.{threads_in}
+use Rattle.mg_calls_thr.proofs.owning.birth_of.Goals as goal
+
+pub returns : goal.returns
+returns c = c.birth.ensures.value ∙ sym (birth-of (thread_among (threads_in c.args.v.now) c.args.t) c.row_of.result c.row_of.ensures)

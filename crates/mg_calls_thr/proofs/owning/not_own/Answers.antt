@@ -1,0 +1,27 @@
+use Rattle.std.specs.Prelude.{◌==◌, None, Some, not, if◌then◌else◌}
+use Rattle.std.proofs.Common.{sym, ap, ◌∙◌}
+use Rattle.mg_calls_thr.proofs.Owned.{lives-held, none-there, one-there}
+use Rattle.mg_calls_thr.specs.Owning.{birth_among, is_own_among, thread_among}
+use Rattle.mg_model.specs.declared.replies.Refusal.TheVariants.{NotYours}
+use Rattle.mg_volume.specs.Meaning.{threads_in}
+use Rattle.mg_calls_thr.proofs.owning.not_own.Goals as goal
+
+pub returns-in_default-clause-word : goal.returns-in_default-clause-word
+returns-in_default-clause-word c = let threads = threads_in c.args.v.now in sym (none-there (thread_among threads c.args.i) (is_own_among threads c.args.t c.args.i) c.in_default.ensures.found)
+
+pub returns-then-not-is_own-clause-word : goal.returns-then-not-is_own-clause-word
+returns-then-not-is_own-clause-word c =
+    let threads = threads_in c.args.v.now in
+    sym (one-there (thread_among threads c.args.i) c.in-Some.row (c.args.i == c.args.t) (birth_among threads c.args.t) c.in-Some.ensures.found
+    ∙ ap (λ v. if not v then Some NotYours else None) (sym c.is_own.ensures ∙ c.if-not-is_own.true))
+
+pub returns-clause-word : goal.returns-clause-word
+returns-clause-word c =
+    let threads = threads_in c.args.v.now in
+    sym (one-there (thread_among threads c.args.i) c.in-Some.row (c.args.i == c.args.t) (birth_among threads c.args.t) c.in-Some.ensures.found
+    ∙ ap (λ v. if not v then Some NotYours else None) (sym c.is_own.ensures ∙ c.if-not-is_own.false))
+
+pub returns-clause-may : goal.returns-clause-may
+returns-clause-may c =
+    let (some, few) = c.in-Some.ensures.few in
+    (some, few, lives-held c.args.i (threads_in c.args.v.now) c.in-Some.row c.in-Some.ensures.found)

@@ -1,0 +1,3 @@
+-- Definitions.
+pub mod Making
+pub mod Owning

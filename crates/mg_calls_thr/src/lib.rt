@@ -1,0 +1,16 @@
+//! The calls that make, end and resume threads.
+//!
+//! A layer above learns of each call that its reply and the state after it are those of its row of the definition, from the
+//! point where the calling thread is known to live; what it read and staged is said in the words of `mg_volume`'s
+//! `specs/Calls.antt`. Whose a thread is, is told by births, which are never given twice, and not by numbers, which are.
+//!
+//! `make` alone makes an access: it says what that access keeps and counts, and ends no right that was found. `end` drops those
+//! of the thread that it ends, and `resume` none.
+#![tactic(auto)]
+
+mod ending;
+mod making;
+mod owning;
+
+pub use ending::{end, resume};
+pub use making::make;

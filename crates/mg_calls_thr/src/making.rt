@@ -1,0 +1,132 @@
+// Threads are made.
+ghost use Rattle.std.specs.Prelude.{List, ◌≡◌, ◌≤◌, ◌<◌, ◌+◌, ◌%◌, ◌||◌, ℕ, true, false, nat_le, length, IfOk, IfSome, MatchOption, None, OnErr, OnOk};
+ghost use Rattle.std.specs.Option.{ForSome};
+ghost use Rattle.mg_calls_dom.specs.Searching.{access_refusal};
+ghost use Rattle.mg_calls_thr.specs.Making.{first_frame, first_row};
+ghost use Rattle.mg_disk.specs.Stops.{CountRose};
+ghost use Rattle.mg_model.specs.FewSlots.{HasFewSlots};
+ghost use Rattle.mg_model.specs.Kept.{KeepsLine, line_limit};
+ghost use Rattle.mg_model.specs.Limits.{birth_limit, thread_limit};
+ghost use Rattle.mg_model.specs.Refused.{IsRefusal};
+ghost use Rattle.mg_model.specs.Threads as threads;
+ghost use Rattle.mg_model.specs.WellFormed.{IsWellFormed};
+ghost use Rattle.mg_vcache.specs.Seats.{AllBacked, is_kept};
+ghost use Rattle.mg_volume.specs.Calls.{IsSoundOn, Serves, Stages};
+ghost use Rattle.mg_volume.specs.Meaning.{Keeps, counters_in, now_of, staged_of, threads_in};
+ghost use Rattle.mg_volume.specs.Staging.{lives};
+
+use mg_calls_dom::{row_of, word_object};
+use mg_disk::Disk;
+use mg_faults::Failed;
+use mg_laws::steps_keep_backing;
+use mg_model::limits::BIRTH_LIMIT;
+use mg_model::{Call, Frame, Globals, Line, Refusal, Reply, Right, Steps, ThrRow};
+use mg_vcache::VCache;
+use mg_volume::Volume;
+use std::sync::ledger::Ledger;
+
+/// A new thread, Ready at an address where thread t may execute, with registers 0 and one frame: the slots of t's present
+/// frame, and 0 to return to. Its number is the lowest that no thread has, 1 to 256; its birth is the next one, and its
+/// creator's is that of t. Gives the number. No right that was found ends.
+///
+/// The refusals come in this order: an address that is no multiple of 8 (Align), before any word is read; no X (Denied); 256
+/// threads, or no birth left below `2^32` (Limit). [`Failed`] comes only where a call of the disk failed, and the state then
+/// stays, as where the call is refused.
+pub fn make<D: Disk, L: Ledger>(
+    v: &mut Volume,
+    c: &mut VCache,
+    disk: &mut D,
+    t: u64,
+    pc: u64,
+    steps: &mut Steps<L>,
+) -> Result<Reply, Failed>
+    requires sound { IsSoundOn D.Disk v.old disk.old }
+    requires lives { lives v.old t ≡ true }
+    requires few { staged_of v.old ≤ 158 }
+    requires backed { ForSome (D.seen disk.old) (λ image. AllBacked (now_of v.old image) c.old) }
+    ensures answers { IfOk result (λ reply. ForSome (D.seen disk.old) (λ image. threads.make_thread (now_of v.old image) t pc ≡ (now_of v.new image, reply))) }
+    ensures refused { IfOk result (λ reply. IsRefusal reply → staged_of v.new ≡ staged_of v.old) }
+    ensures failed { OnErr result (Keeps v.old v.new) }
+    ensures slots { IfOk result HasFewSlots }
+    ensures backed { ForSome (D.seen disk.old) (λ image. AllBacked (now_of v.new image) c.new) }
+    ensures keeps { OnOk result (ForSome (D.seen disk.old) (λ image. KeepsLine (now_of v.old image) (record { thread = t; call = Call.Thread pc }) (λ key. is_kept c.old key) (λ key. is_kept c.new key) steps.old steps.new)) }
+    ensures limit { ForSome (D.seen disk.old) (λ image. steps.new ≤ steps.old + line_limit (λ key. is_kept c.old key) (now_of v.old image) (record { thread = t; call = Call.Thread pc })) }
+    ensures serves { Serves 2 D.Disk v.old v.new disk.old disk.new steps.old steps.new }
+    ensures cause { OnErr result (CountRose D.Disk disk.old disk.new) }
+{
+    steps_keep_backing();
+    match word_object(v, c, disk, t, pc, Right::X, steps)? {
+        Ok(_) => match begin(v, t, pc) {
+            Some(number) => Ok(Reply::Count(number)),
+            None => Ok(Reply::No(Refusal::Limit)),
+        },
+        Err(word) => Ok(Reply::No(word)),
+    }
+}
+
+// A thread begins at this address, made by thread t, where that one may execute there: its number; none where there may be no
+// more threads.
+fn begin(v: &mut Volume, t: u64, pc: u64) -> Option<u64>
+    requires lives { lives v.old t ≡ true }
+    requires few { staged_of v.old ≤ 158 }
+    requires aligned { pc % 8 ≡ 0 }
+    ensures answers { (image : List (List ℕ)) → IsWellFormed (now_of v.old image) → access_refusal (now_of v.old image) t pc Right.X ≡ None
+        → MatchOption result (threads.make_thread (now_of v.old image) t pc ≡ (now_of v.new image, Reply.No Refusal.Limit)) (λ number. threads.make_thread (now_of v.old image) t pc ≡ (now_of v.new image, Reply.Count number)) }
+    ensures stages { Stages 2 v.old v.new }
+    ensures stays { result ≡ None → v.new ≡ v.old }
+{
+    match next_number(v) {
+        Some(number) => {
+            let counted = counted(v);
+            let row = first_row(&row_of(v, t), v.globals().births(), pc);
+            v.stage_globals(counted);
+            v.stage_thread(number, Some(row));
+            Some(number)
+        }
+        None => None,
+    }
+}
+
+// The number that a new thread gets; none where there are 256 threads, or no birth is left.
+fn next_number(v: &Volume) -> Option<u64>
+    ensures number { MatchOption result ((nat_le thread_limit (length (threads_in v.now)) || nat_le birth_limit (counters_in v.now).births) ≡ true)
+        (λ n. ((nat_le thread_limit (length (threads_in v.now)) || nat_le birth_limit (counters_in v.now).births) ≡ false) × (n ≡ threads.free_number (threads_in v.now)) × (lives v.now n ≡ false)) }
+    ensures range { IfSome result (λ n. (1 ≤ n) × (n ≤ 256)) }
+    ensures births { IfSome result (λ _. (counters_in v.now).births < birth_limit) }
+{
+    if v.globals().births() >= BIRTH_LIMIT {
+        return None;
+    }
+    v.free_number()
+}
+
+// The counters, with one birth more.
+fn counted(v: &Volume) -> Globals
+    requires { (counters_in v.now).births < birth_limit }
+    ensures { result ≡ record (counters_in v.now) { births = (counters_in v.now).births + 1 } }
+{
+    let mut globals = v.globals();
+    let births = globals.births();
+    globals.set_births(births + 1);
+    globals
+}
+
+// The row of a new thread, made by the one with this row, behind so many births. No thread was born later than the last, so
+// its creator is the one with this row.
+fn first_row(maker: &ThrRow, births: u64, pc: u64) -> ThrRow
+    requires few { births < birth_limit }
+    requires aligned { pc % 8 ≡ 0 }
+    ensures { result ≡ first_row maker.now births pc }
+{
+    let creator = maker.birth().min(births);
+    ThrRow::new(births + 1, creator, pc, first_frame(maker))
+}
+
+// The one frame of a new thread: the slots of its maker's present frame.
+fn first_frame(maker: &ThrRow) -> Frame
+    ensures { result ≡ first_frame maker.now }
+{
+    let mut frame = maker.last();
+    frame.set_back(0);
+    frame
+}

@@ -1,0 +1,10 @@
+use Rattle.std.proofs.Common.{ap, sym, ◌∙◌}
+use Rattle.mg_model.specs.State.{Counters}
+use Rattle.mg_volume.specs.Laws.{now_counters}
+use Rattle.mg_volume.specs.Meaning.{now_of}
+use Rattle.mg_kernel.proofs.turning.move_cursor.Goals as goal
+
+pub returns-clause-now : goal.returns-clause-now
+returns-clause-now c image =
+    let state = now_of c.args.v.now image in
+    c.stage_globals.ensures.now image ∙ ap (λ (k : Counters). record state { counters = k }) (c.set_cursor.ensures ∙ ap (λ (k : Counters). record k { cursor = c.args.t }) (c.globals-globals.ensures ∙ sym (now_counters c.args.v.now image)))

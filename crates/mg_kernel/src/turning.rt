@@ -1,0 +1,196 @@
+// Turns: a thread fetches a word of its script, makes the call that the word asks for, and goes on behind it.
+ghost use Rattle.std.specs.Prelude.{List, ◌≡◌, ◌≤◌, ◌<◌, ◌+◌, ◌==◌, ℕ, true, find, IfOk, IfSome, MatchOption, None, OnErr, OnOk, option_map, Some};
+ghost use Rattle.std.specs.Option.{ForSome};
+ghost use Rattle.mg_disk.specs.Stops.{CountRose};
+ghost use Rattle.mg_kernel.specs.Calls.{KeepsTurn, turn_limit};
+ghost use Rattle.mg_laws.specs.Scripts.{at_cursor};
+ghost use Rattle.mg_model.specs.Domains.{with_thread};
+ghost use Rattle.mg_model.specs.FewSlots.{HasFewSlots};
+ghost use Rattle.mg_model.specs.Kept.{KeepsLine, line_limit};
+ghost use Rattle.mg_model.specs.Refused.{IsRefusal};
+ghost use Rattle.mg_model.specs.Step.{of_thread, step};
+ghost use Rattle.mg_model.specs.Turn.{after_of, as_after, is_ready, thread_is_ready, turn_state};
+ghost use Rattle.mg_model.specs.Turn as turns;
+ghost use Rattle.mg_script.specs.Actions.{HasPlace, resumed};
+ghost use Rattle.mg_vcache.specs.Seats.{AllBacked, is_kept};
+ghost use Rattle.mg_volume.specs.Calls.{IsSoundOn, Serves, Stages};
+ghost use Rattle.mg_volume.specs.Meaning.{Keeps, now_of, staged_of, threads_in};
+
+use crate::answering::called;
+use mg_calls_dom::fetch;
+use mg_disk::Disk;
+use mg_faults::Failed;
+use mg_laws::{
+    accesses_go_on, backing_rests_on_the_domain, next_runs_the_least_ready_thread,
+    turns_rest_on_no_cursor,
+};
+use mg_model::{After, Call, Line, Refusal, Reply, Steps, ThrRow, ThrState};
+use mg_script::{Action, begin, call, resume, turns_are_calls, turns_search_as_calls};
+use mg_vcache::VCache;
+use mg_volume::Volume;
+use std::sync::ledger::Ledger;
+
+/// `turn`: thread t has a turn. The refusals come in this order: no such thread (NoThread), one that is not Ready (NotReady).
+/// [`Failed`] comes only where a call of the disk failed, and the state then stays.
+pub(crate) fn turn<D: Disk, L: Ledger>(
+    v: &mut Volume,
+    c: &mut VCache,
+    disk: &mut D,
+    t: u64,
+    steps: &mut Steps<L>,
+) -> Result<Reply, Failed>
+    requires sound { IsSoundOn D.Disk v.old disk.old }
+    requires few { staged_of v.old ≤ 28 }
+    requires backed { ForSome (D.seen disk.old) (λ image. AllBacked (now_of v.old image) c.old) }
+    ensures answers { IfOk result (λ reply. ForSome (D.seen disk.old) (λ image. of_thread (now_of v.old image) t (turns.turn (now_of v.old image) t) ≡ (now_of v.new image, reply))) }
+    ensures refused { IfOk result (λ reply. IsRefusal reply → staged_of v.new ≡ staged_of v.old) }
+    ensures failed { OnErr result (Keeps v.old v.new) }
+    ensures slots { IfOk result HasFewSlots }
+    ensures backed { ForSome (D.seen disk.old) (λ image. AllBacked (now_of v.new image) c.new) }
+    ensures keeps { OnOk result (ForSome (D.seen disk.old) (λ image. KeepsLine (now_of v.old image) (record { thread = t; call = Call.Turn }) (λ key. is_kept c.old key) (λ key. is_kept c.new key) steps.old steps.new)) }
+    ensures limit { ForSome (D.seen disk.old) (λ image. steps.new ≤ steps.old + line_limit (λ key. is_kept c.old key) (now_of v.old image) (record { thread = t; call = Call.Turn })) }
+    ensures serves { Serves 131 D.Disk v.old v.new disk.old disk.new steps.old steps.new }
+    ensures cause { OnErr result (CountRose D.Disk disk.old disk.new) }
+{
+    match v.thread(t) {
+        Some(row) => {
+            if !takes_turns(&row) {
+                return Ok(Reply::No(Refusal::NotReady));
+            }
+            match run(v, c, disk, t, &row, steps) {
+                Ok(left) => Ok(Reply::Turned(left)),
+                Err(Failed) => Err(Failed),
+            }
+        }
+        None => Ok(Reply::No(Refusal::NoThread)),
+    }
+}
+
+/// `next`: the least Ready thread above the cursor, or the least of all where none is above it, has a turn, and the cursor
+/// becomes its number. Refused (Idle) where no thread is Ready. [`Failed`] comes only where a call of the disk failed, and the
+/// state then stays.
+pub(crate) fn next<D: Disk, L: Ledger>(
+    v: &mut Volume,
+    c: &mut VCache,
+    disk: &mut D,
+    steps: &mut Steps<L>,
+) -> Result<Reply, Failed>
+    requires sound { IsSoundOn D.Disk v.old disk.old }
+    requires few { staged_of v.old ≤ 28 }
+    requires backed { ForSome (D.seen disk.old) (λ image. AllBacked (now_of v.old image) c.old) }
+    ensures answers { IfOk result (λ reply. ForSome (D.seen disk.old) (λ image. turns.next (now_of v.old image) ≡ (now_of v.new image, reply))) }
+    ensures refused { IfOk result (λ reply. IsRefusal reply → staged_of v.new ≡ staged_of v.old) }
+    ensures failed { OnErr result (Keeps v.old v.new) }
+    ensures slots { IfOk result HasFewSlots }
+    ensures backed { ForSome (D.seen disk.old) (λ image. AllBacked (now_of v.new image) c.new) }
+    ensures keeps { OnOk result (ForSome (D.seen disk.old) (λ image. (t : ℕ) → KeepsLine (now_of v.old image) (record { thread = t; call = Call.Next }) (λ key. is_kept c.old key) (λ key. is_kept c.new key) steps.old steps.new)) }
+    ensures limit { ForSome (D.seen disk.old) (λ image. (t : ℕ) → steps.new ≤ steps.old + line_limit (λ key. is_kept c.old key) (now_of v.old image) (record { thread = t; call = Call.Next })) }
+    ensures serves { Serves 132 D.Disk v.old v.new disk.old disk.new steps.old steps.new }
+    ensures cause { OnErr result (CountRose D.Disk disk.old disk.new) }
+{
+    backing_rests_on_the_domain();
+    next_runs_the_least_ready_thread();
+    turns_rest_on_no_cursor();
+    let Some(n) = v.next_ready() else {
+        return Ok(Reply::No(Refusal::Idle));
+    };
+    match v.thread(n) {
+        Some(row) => match run(v, c, disk, n, &row, steps) {
+            Ok(left) => {
+                move_cursor(v, n);
+                Ok(Reply::Ran(n, left))
+            }
+            Err(Failed) => Err(Failed),
+        },
+        None => unreachable!(),
+    }
+}
+
+// Whether a thread with this row is Ready.
+fn takes_turns(row: &ThrRow) -> bool
+    ensures { result ≡ is_ready row.now.state }
+{
+    row.state() == ThrState::Ready
+}
+
+// The turn of a Ready thread with this row, and what it is after it. Nothing is staged before the last read that may fail:
+// where a call of the disk failed, the state stays.
+fn run<D: Disk, L: Ledger>(
+    v: &mut Volume,
+    c: &mut VCache,
+    disk: &mut D,
+    t: u64,
+    row: &ThrRow,
+    steps: &mut Steps<L>,
+) -> Result<After, Failed>
+    requires sound { IsSoundOn D.Disk v.old disk.old }
+    requires few { staged_of v.old ≤ 28 }
+    requires backed { ForSome (D.seen disk.old) (λ image. AllBacked (now_of v.old image) c.old) }
+    requires row { option_map (λ thread. thread.row) (find (λ thread. thread.number == t) (threads_in v.old)) ≡ Some row.now }
+    requires ready { ForSome (D.seen disk.old) (λ image. thread_is_ready (now_of v.old image) t ≡ true) }
+    ensures state { OnOk result (ForSome (D.seen disk.old) (λ image. turn_state (now_of v.old image) t ≡ now_of v.new image)) }
+    ensures left { IfOk result (λ left. ForSome (D.seen disk.old) (λ image. left ≡ after_of (now_of v.new image) t)) }
+    ensures failed { OnErr result (Keeps v.old v.new) }
+    ensures backed { ForSome (D.seen disk.old) (λ image. AllBacked (now_of v.new image) c.new) }
+    ensures keeps { OnOk result (ForSome (D.seen disk.old) (λ image. KeepsTurn (now_of v.old image) (record { number = t; row = row.now }) (λ key. is_kept c.old key) (λ key. is_kept c.new key) steps.old steps.new)) }
+    ensures limit { ForSome (D.seen disk.old) (λ image. steps.new ≤ steps.old + turn_limit (λ key. is_kept c.old key) (now_of v.old image) (record { number = t; row = row.now })) }
+    ensures serves { Serves 131 D.Disk v.old v.new disk.old disk.new steps.old steps.new }
+    ensures cause { OnErr result (CountRose D.Disk disk.old disk.new) }
+{
+    accesses_go_on();
+    turns_are_calls();
+    turns_search_as_calls();
+    let _kept = row.birth();
+    let fetched = match fetch(v, c, disk, t, row.pc(), steps) {
+        Ok(fetched) => fetched,
+        Err(Failed) => return Err(Failed),
+    };
+    let action = begin(row, fetched);
+    let made = call(row, &action);
+    match called(v, c, disk, t, &made, steps) {
+        Ok(reply) => Ok(go_on(v, t, &action, &reply)),
+        Err(Failed) => Err(Failed),
+    }
+}
+
+// A thread goes on behind the call of its turn, with the row that its action makes of the one that the call left. It has none
+// where it ended itself.
+fn go_on(v: &mut Volume, t: u64, action: &Action, reply: &Reply) -> After
+    requires place { HasPlace action.now }
+    requires room { staged_of v.old < 160 }
+    ensures now { (image : List (List ℕ)) → now_of v.new image ≡ with_thread (now_of v.old image) t (λ row. resumed action.now reply.now row) }
+    ensures left { (image : List (List ℕ)) → result ≡ after_of (now_of v.new image) t }
+    ensures stages { Stages 1 v.old v.new }
+{
+    match v.thread(t) {
+        Some(row) => {
+            let row = resume(row, action, reply);
+            v.change_thread(t, row);
+            after(row.state())
+        }
+        None => After::Ended,
+    }
+}
+
+// What a thread in this state is after a turn.
+fn after(state: ThrState) -> After
+    ensures { result ≡ as_after state }
+{
+    match state {
+        ThrState::Ready => After::Ready,
+        ThrState::Stopped => After::Stopped,
+        ThrState::Faulted(kind) => After::Faulted(kind),
+    }
+}
+
+// The cursor becomes the number of the thread that had the turn, at most 256.
+fn move_cursor(v: &mut Volume, t: u64)
+    requires few { t ≤ 256 }
+    requires room { staged_of v.old < 160 }
+    ensures now { (image : List (List ℕ)) → now_of v.new image ≡ at_cursor (now_of v.old image) t }
+    ensures stages { Stages 1 v.old v.new }
+{
+    let mut globals = v.globals();
+    globals.set_cursor(t);
+    v.stage_globals(globals);
+}

@@ -1,0 +1,241 @@
+-- A turn is a call, and behind it another row for the thread.
+use Rattle.std.proofs.Common.{ℕ, ◌+◌, ◌-◌, ◌≤◌, ◌≡◌, ◌++◌, Bool, true, false, cond, eqb, ltb, not, List, [], ◌∷◌, length, take, Option, Some, None, refl, sym, ap, ◌∙◌, subst, All}
+use Rattle.std.proofs.lemmas.Bool.{cond_both}
+use Rattle.std.proofs.lemmas.List.Elements.{All-head, All-tail}
+use Rattle.std.proofs.lemmas.Option.{same_Some}
+use Rattle.std.specs.Prelude.{Contains, find}
+use Rattle.std.specs.Option.{option_map_or}
+use Rattle.mg_laws.specs.Backing.{BackingRestsOnDomain, FramesKeepBacked}
+use Rattle.mg_laws.specs.Scripts.{RestsOnNoRegister, is_by_script, with_frames_of}
+use Rattle.mg_model.specs.declared.calls.Call.{Call}
+use Rattle.mg_model.specs.declared.calls.Call.TheVariants as call
+use Rattle.mg_model.specs.declared.instructions.Instr.{Instr}
+use Rattle.mg_model.specs.declared.replies.Refusal.{Refusal}
+use Rattle.mg_model.specs.declared.replies.Refusal.TheVariants as refusal
+use Rattle.mg_model.specs.declared.replies.Reply.{Reply}
+use Rattle.mg_model.specs.declared.replies.Reply.TheVariants as reply
+use Rattle.mg_model.specs.declared.rights.Right.TheVariants.{R, W, X}
+use Rattle.mg_model.specs.declared.slots.Slot.{Slot}
+use Rattle.mg_model.specs.declared.threads.Fault.TheVariants as fault
+use Rattle.mg_model.specs.declared.threads.ThrState.TheVariants.{Ready}
+use Rattle.mg_model.specs.Access.{allowed, domain_of, last_slots, thread_of}
+use Rattle.mg_model.specs.Backed.{KeepsBacked, by_none}
+use Rattle.mg_model.specs.Domains.{entered_slots, frames_of, last_back, pdx, ret, row_of, with_thread}
+use Rattle.mg_model.specs.ObjectCalls.{is_aligned}
+use Rattle.mg_model.specs.Objects.{with_word, word_at}
+use Rattle.mg_model.specs.Ranges.{IsThreadRow}
+use Rattle.mg_model.specs.Refused.{Answer, row, unless_refused}
+use Rattle.mg_model.specs.Script.{decoded, with_register}
+use Rattle.mg_model.specs.State.{State, Thread, ThreadRow}
+use Rattle.mg_model.specs.Turn.{advanced, faulted, put_row, refusal_number, run, run_word, seen, spelled, thread_call, turned, values_of, with_registers}
+use Rattle.mg_model.specs.WellFormed.{IsThread, IsWellFormed}
+use Rattle.mg_script.specs.declared.actions.Action.{Action}
+use Rattle.mg_script.specs.declared.actions.Action.TheVariants as action
+use Rattle.mg_script.specs.Actions.{HasFrames, IsSpelledBy, entered, entering_call, faulted_row, finished, is_spelled, loaded, made_by, resumed, returned, settled, stored, turned_on}
+use Rattle.mg_script.specs.Turns.{TurnsAreCalls, TurnsRowsKeepBacked, fetched_word}
+use Rattle.mg_script.proofs.FramesBehind.{returning_on-put, returning_on-slots}
+use Rattle.mg_script.proofs.RowChanges.{domain-changed, frames-changed, with_thread-like, with_thread-same, with_thread-then}
+
+-- the state with the row behind a call
+abbrev behind : ℕ → Action → Answer → State
+behind t asked called = with_thread called.0 t (λ row. resumed asked called.1 row)
+
+-- how a thread enters and leaves an object
+abbrev entering : ℕ → List Slot → ThreadRow → ThreadRow
+entering a slots thread = record thread { pc = a; frames = thread.frames ++ record { back = thread.pc; slots = slots } ∷ [] }
+
+abbrev leaving : ThreadRow → ThreadRow
+leaving thread = record thread { pc = last_back thread.frames; frames = take (length thread.frames - 1) thread.frames }
+
+abbrev in_frame : ThreadRow → ThreadRow
+in_frame thread = with_register thread 0 0
+
+-- what is found is an element
+among : (Is : Thread → Type 0) (test : Thread → Bool) (xs : List Thread) (x : Thread) → All Is xs → find test xs ≡ Some x → Is x
+among Is test [] x all is = absurd (cc)
+among Is test (y ∷ xs) x all is =
+    cond_both (test y) (Some y) (find test xs) (λ o. o ≡ Some x → Is x)
+    (λ _ here. subst Is (same_Some y x here) (All-head Is y xs all))
+    (λ _ later. among Is test xs x (All-tail Is y xs all) later)
+    is
+
+-- a call that a script spells is made by it
+spelled-by_script : (made : Call) → is_spelled made ≡ true → is_by_script made ≡ true
+spelled-by_script (call.Pdx a mask) is = absurd (cc)
+spelled-by_script call.Ret is = absurd (cc)
+spelled-by_script call.Apdlist is = refl
+spelled-by_script call.Turn is = refl
+spelled-by_script call.Next is = refl
+spelled-by_script call.Rent is = refl
+spelled-by_script other is = refl
+
+-- a thread that is found has a row in its ranges
+row-formed : (state : State) (t : ℕ) (thread : ThreadRow) → IsWellFormed state → row_of state t ≡ Some thread → IsThreadRow thread
+row-formed state t thread formed there = by_found (thread_of state t) refl there
+  where
+    by_found : (o : Option Thread) → thread_of state t ≡ o → option_map_or (λ (x : Thread). Some x.row) o None ≡ Some thread → IsThreadRow thread
+    by_found None is was = absurd (cc)
+    by_found (Some x) is was = subst IsThreadRow (same_Some x.row thread was) (among (IsThread state.counters.births) (λ (y : Thread). eqb y.number t) state.threads x formed.threads.each is).row
+
+-- what a script sees of a reply is settled in its row
+seen-settled : (t : ℕ) (state : State) (said : Reply) → seen t (λ what caller. settled what caller) (state, said) ≡ with_thread state t (settled said)
+seen-settled t state (reply.No word) = refl
+seen-settled t state other = refl
+
+module _ (state : State) (t : ℕ) (thread : ThreadRow) (formed : IsWellFormed state) (there : row_of state t ≡ Some thread) where
+  like : (f g : ThreadRow → ThreadRow) → f thread ≡ g thread → with_thread state t f ≡ with_thread state t g
+  like f g same = with_thread-like state t f g thread formed.threads.ordered there same
+
+  -- the state with the pc advanced
+  abbrev before : State
+  before = with_thread state t advanced
+
+  put-is : put_row state t (advanced thread) ≡ before
+  put-is = like (λ _. advanced thread) advanced refl
+
+  -- the turn by the word that was fetched
+  turned-on : turned state t thread ≡ turned_on state t thread (fetched_word state t thread)
+  turned-on = by_fetch (allowed state t thread.pc X)
+    where
+      by_decoded : (d : Option Instr) → run_word state t thread d ≡ option_map_or (λ instr. run state t thread.pc (advanced thread) instr) d (put_row state t (faulted_row fault.Opcode thread))
+      by_decoded None = like (faulted_row fault.Opcode) (λ _. faulted_row fault.Opcode thread) refl
+      by_decoded (Some instr) = refl
+
+      by_fetch : (v : Bool) → cond v (run_word state t thread (decoded (word_at state.objects thread.pc))) (faulted state t fault.Denied) ≡ turned_on state t thread (cond v (Some (word_at state.objects thread.pc)) None)
+      by_fetch true = by_decoded (decoded (word_at state.objects thread.pc))
+      by_fetch false = like (faulted_row fault.Denied) (λ _. faulted_row fault.Denied thread) refl
+
+  behind-load : (a to word : ℕ) (aligned may : Bool)
+      → cond (not aligned) (faulted state t fault.Align) (cond (not may) (faulted state t fault.Denied) (put_row state t (with_register (advanced thread) to word)))
+      ≡ behind t (action.Load a to) (row state ((not aligned, refusal.Align) ∷ (not may, refusal.Denied) ∷ []) (state, reply.Value word))
+  behind-load a to word true true = like (λ _. with_register (advanced thread) to word) (λ r. with_register (advanced r) to word) refl
+  behind-load a to word true false = refl
+  behind-load a to word false may = refl
+
+  behind-store : (a value : ℕ) (aligned may : Bool)
+      → cond (not aligned) (faulted state t fault.Align) (cond (not may) (faulted state t fault.Denied) (put_row (record state { objects = with_word state.objects a value }) t (advanced thread)))
+      ≡ behind t (action.Store a value) (row state ((not aligned, refusal.Align) ∷ (not may, refusal.Denied) ∷ []) (record state { objects = with_word state.objects a value }, reply.Done))
+  behind-store a value true true = ap (λ (s : State). record s { objects = with_word state.objects a value }) put-is
+  behind-store a value true false = refl
+  behind-store a value false may = refl
+
+  same_domain : (u : ℕ) → domain_of before u ≡ domain_of state u
+  same_domain u = domain-changed state t u advanced (λ r. refl)
+
+  same_frames : (u : ℕ) → frames_of before u ≡ frames_of state u
+  same_frames u = frames-changed state t u advanced (λ r. refl)
+
+  some_frame : 1 ≤ length thread.frames
+  some_frame = (row-formed state t thread formed there).some_frame
+
+  -- the row of one that entered
+  entered-like : (a : ℕ) (slots : List Slot) → in_frame (entering a slots (advanced thread)) ≡ entered (reply.Count 0) (entering a slots thread)
+  entered-like a slots = ap (λ frames. in_frame (record thread { pc = a; frames = frames })) (sym (returning_on-put thread.frames (record { back = thread.pc; slots = slots }) some_frame))
+
+  behind-pdx : (a mask n : ℕ) (slots : List Slot) (refused : Option Refusal)
+      → seen t (λ _ in_it. in_frame in_it) (unless_refused refused before (with_thread before t (entering a slots), reply.Count n)) ≡ behind t (action.Pdx a mask) (unless_refused refused state (with_thread state t (entering a slots), reply.Count n))
+  behind-pdx a mask n slots (Some word) = with_thread-then state t advanced (λ r. with_register r 0 (refusal_number word))
+  behind-pdx a mask n slots None =
+      with_thread-then before t (entering a slots) in_frame
+      ∙ with_thread-then state t advanced (λ r. in_frame (entering a slots r))
+      ∙ like (λ r. in_frame (entering a slots (advanced r))) (λ r. entered (reply.Count n) (entering a slots r)) (entered-like a slots)
+      ∙ sym (with_thread-then state t (entering a slots) (entered (reply.Count n)))
+
+  pdx-over : (a mask : ℕ) → seen t (λ _ in_it. in_frame in_it) (pdx before t a mask) ≡ behind t (action.Pdx a mask) (pdx state t a mask)
+  pdx-over a mask = rw (same_domain t, same_frames t) (behind-pdx a mask (length (frames_of state t) + 1) (entered_slots state t a mask) _)
+
+  by_mask : (a mask : ℕ) (v : Bool) → seen t (λ _ in_it. in_frame in_it) (cond v (before, reply.No refusal.Syntax) (pdx before t a mask)) ≡ behind t (action.Pdx a mask) (thread_call state t (cond v call.Bad (call.Pdx a mask)))
+  by_mask a mask true = with_thread-then state t advanced (λ r. with_register r 0 (refusal_number refusal.Syntax))
+  by_mask a mask false = pdx-over a mask
+
+  behind-ret : (n : ℕ) (refused : Option Refusal) → seen t (λ _ out. out) (unless_refused refused before (with_thread before t leaving, reply.Count n)) ≡ behind t action.Ret (unless_refused refused state (with_thread state t leaving, reply.Count n))
+  behind-ret n (Some word) = with_thread-then state t advanced (λ r. with_register r 0 (refusal_number word))
+  behind-ret n None = ap (λ (s : State). with_thread s t (λ r. r)) (with_thread-then state t advanced leaving)
+
+  ret-over : seen t (λ _ out. out) (ret before t) ≡ behind t action.Ret (ret state t)
+  ret-over = rw (same_frames t) (behind-ret (length (frames_of state t) - 1) _)
+
+  module _ (calls : RestsOnNoRegister thread_call) (ready : thread.state ≡ Ready) where
+    sys-over : (made : Call) → is_by_script made ≡ true → seen t (λ said caller. settled said caller) (thread_call (put_row state t (advanced thread)) t made) ≡ behind t action.Sys (thread_call state t made)
+    sys-over made by =
+        let called = thread_call state t made in
+        let said = called.1 in
+        let over = calls state t thread (advanced thread) made formed there (record { birth = refl; creator = refl; ready = ready; frames = refl }) by in
+        let itself = calls state t thread thread made formed there (record { birth = refl; creator = refl; ready = ready; frames = refl }) by in
+        let unchanged : put_row state t thread ≡ state = like (λ _. thread) (λ r. r) refl ∙ with_thread-same state t in
+        let own : called.0 ≡ with_thread called.0 t (with_frames_of thread) = ap (λ (s : State). (thread_call s t made).0) (sym unchanged) ∙ ap (λ (a : Answer). a.0) itself in
+        ap (seen t (λ what caller. settled what caller)) over
+        ∙ seen-settled t (with_thread called.0 t (with_frames_of (advanced thread))) said
+        ∙ with_thread-then called.0 t (with_frames_of (advanced thread)) (settled said)
+        ∙ sym (with_thread-then called.0 t (with_frames_of thread) (λ r. settled said (advanced r)))
+        ∙ ap (λ (s : State). with_thread s t (λ r. settled said (advanced r))) (sym own)
+
+    finished-behind : (asked : Action) → IsSpelledBy asked (made_by thread asked) → finished state t (advanced thread) asked ≡ behind t asked (thread_call state t (made_by thread asked))
+    finished-behind (action.Next next) by = refl
+    finished-behind (action.Load a to) by = behind-load a to (word_at state.objects a) (is_aligned a) (allowed state t a R)
+    finished-behind (action.Store a value) by = behind-store a value (is_aligned a) (allowed state t a W)
+    finished-behind (action.Pdx a mask) by =
+        ap (λ (s : State). seen t (λ _ in_it. in_frame in_it) (cond (ltb 255 mask) (s, reply.No refusal.Syntax) (pdx s t a mask))) put-is
+        ∙ by_mask a mask (ltb 255 mask)
+    finished-behind action.Ret by = ap (λ (s : State). seen t (λ _ out. out) (ret s t)) put-is ∙ ret-over
+    finished-behind action.Sys by = sys-over (spelled thread) (spelled-by_script (spelled thread) by)
+
+pub turns_behind : RestsOnNoRegister thread_call → TurnsAreCalls
+turns_behind calls state t thread asked formed there ready is =
+    ap (λ o. option_map_or (λ r. turned state t r) o state) there
+    ∙ turned-on state t thread formed there
+    ∙ is.turn
+    ∙ finished-behind state t thread formed there calls ready asked (subst (IsSpelledBy asked) (sym is.call) is.spelled)
+    ∙ ap (λ made. behind t asked (thread_call state t made)) is.call
+
+-- Rows behind a call that leave the frames that the call left.
+loaded-frames : (to : ℕ) (said : Reply) (thread : ThreadRow) → (loaded to said thread).frames ≡ thread.frames
+loaded-frames to (reply.Value word) thread = refl
+loaded-frames to (reply.No word) thread = refl
+loaded-frames to other thread = refl
+
+stored-frames : (said : Reply) (thread : ThreadRow) → (stored said thread).frames ≡ thread.frames
+stored-frames reply.Done thread = refl
+stored-frames (reply.No word) thread = refl
+stored-frames other thread = refl
+
+returned-frames : (said : Reply) (thread : ThreadRow) → (returned said thread).frames ≡ thread.frames
+returned-frames (reply.No word) thread = refl
+returned-frames other thread = refl
+
+registers-frames : (thread : ThreadRow) (k : ℕ) (values : List ℕ) → (with_registers thread k values).frames ≡ thread.frames
+registers-frames thread k [] = refl
+registers-frames thread k (value ∷ values) = registers-frames (with_register thread k value) (k + 1) values
+
+settled-frames : (said : Reply) (thread : ThreadRow) → (settled said thread).frames ≡ thread.frames
+settled-frames (reply.No word) thread = refl
+settled-frames other thread = registers-frames thread 0 (0 ∷ values_of other)
+
+entered-slots : (said : Reply) (thread : ThreadRow) → last_slots (entered said thread).frames ≡ last_slots thread.frames
+entered-slots (reply.No word) thread = refl
+entered-slots other thread = returning_on-slots thread.frames
+
+behind-backed : BackingRestsOnDomain → FramesKeepBacked → (state : State) (t : ℕ) (thread : ThreadRow) (asked : Action) → row_of state t ≡ Some thread → HasFrames thread asked
+    → let called = thread_call state t (made_by thread asked) in KeepsBacked by_none called.0 (behind t asked called)
+behind-backed rests frames state t thread (action.Next next) there has = frames state t (λ _. next) (λ r is. has ∙ ap (λ (x : ThreadRow). x.frames) (same_Some thread r (sym there ∙ is)))
+behind-backed rests frames state t thread (action.Load a to) there has =
+    let called = thread_call state t (call.Load a) in
+    frames called.0 t (loaded to called.1) (λ r _. loaded-frames to called.1 r)
+behind-backed rests frames state t thread (action.Store a value) there has =
+    let called = thread_call state t (call.Store a value) in
+    frames called.0 t (stored called.1) (λ r _. stored-frames called.1 r)
+behind-backed rests frames state t thread (action.Pdx a mask) there has =
+    let called = thread_call state t (entering_call a mask) in
+    λ seat _. rests called.0 (with_thread called.0 t (entered called.1)) seat refl refl
+    (λ slot among. subst (λ (slots : List Slot). Contains slots slot) (sym (domain-changed called.0 t seat.thread (entered called.1) (entered-slots called.1))) among)
+behind-backed rests frames state t thread action.Ret there has =
+    let called = thread_call state t call.Ret in
+    frames called.0 t (returned called.1) (λ r _. returned-frames called.1 r)
+behind-backed rests frames state t thread action.Sys there has =
+    let called = thread_call state t (spelled thread) in
+    frames called.0 t (λ r. settled called.1 (advanced r)) (λ r _. settled-frames called.1 (advanced r))
+
+pub rows_backed : BackingRestsOnDomain → FramesKeepBacked → TurnsRowsKeepBacked
+rows_backed rests frames state t thread asked formed there ready is =
+    subst (λ (made : Call). KeepsBacked by_none (thread_call state t made).0 (behind t asked (thread_call state t made))) is.call
+    (behind-backed rests frames state t thread asked there is.frames)
