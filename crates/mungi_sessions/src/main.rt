@@ -28,9 +28,6 @@ use std::process::ExitCode;
 use std::rt::{Env, Files};
 use std::{env, fs, io};
 
-/// How the name of a file begins whose calls are not built yet.
-const LATER: &str = "later-";
-
 fn main(rt: HostRuntime) -> ExitCode {
     match check_files(&rt) {
         Ok(true) => ExitCode::SUCCESS,
@@ -49,7 +46,7 @@ fn check_files<R: Files + Env + Print + AllocGlobal + Clone + Drop>(rt: &R) -> i
             is_good = false;
             continue;
         };
-        match told(rt.alloc(), name, &bytes) {
+        match told(rt.alloc(), &bytes) {
             Ok(line) => println!(rt; "{name}: {line}")?,
             Err(Trouble::Memory) => return Err(AllocError.into()),
             Err(Trouble::Told(line)) => {
@@ -85,12 +82,9 @@ fn name_of(path: &str) -> &str {
 }
 
 /// What is told of a file that is as it should be.
-fn told(alloc: Global, name: &str, bytes: &[u8]) -> Result<String, Trouble> {
+fn told(alloc: Global, bytes: &[u8]) -> Result<String, Trouble> {
     let session = read_session(alloc, bytes)?;
     let answers = count_answers(&session.runs);
-    if name.starts_with(LATER) {
-        return Ok(format!(in alloc; "waits with {answers} answers")?);
-    }
     run_all(alloc, &session)?;
     let stops = stop_all(alloc, &session)?;
     Ok(format!(in alloc; "{answers} answers, {stops} stops")?)

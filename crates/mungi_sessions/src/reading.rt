@@ -46,6 +46,7 @@ fn empty_session(alloc: Global) -> Result<Session, AllocError> {
         tariff: None,
         check: None,
         stops: None,
+        saves: false,
         runs: Vec::new(alloc),
     })
 }
@@ -120,6 +121,7 @@ fn set(alloc: Global, session: &mut Session, number: usize, text: &[u8]) -> Resu
         "check" => session.check = Some(ended(alloc, value.as_bytes())?),
         "stops" if value.is_empty() => session.stops = Some(String::from_str(alloc, BATCH)?),
         "stops" => session.stops = Some(value),
+        "saves" => session.saves = true,
         _ => return Err(trouble(alloc, number, "no such setting")?),
     }
     Ok(())

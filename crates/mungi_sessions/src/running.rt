@@ -1,5 +1,5 @@
 // A session under `dry`, and under `run` with three batches.
-use crate::parts::{answers_from, whole_input};
+use crate::parts::whole_input;
 use crate::session::{Run, Session};
 use crate::trouble::Trouble;
 use mg_disk::{Left, MemDisk, ScratchDisk};
@@ -32,20 +32,28 @@ pub fn run_all(alloc: Global, session: &Session) -> Result<(), Trouble> {
         run_dry(alloc, session, &mut told)?;
     }
     let fresh = volume(alloc, session.format_line(alloc)?.as_str())?;
+    let mut alone = None;
     for (batch, piece) in BATCHES {
         let mut disk = fresh.stopped(alloc, Left::New)?;
-        run_batch(alloc, session, batch, piece, &mut disk, &mut told)?;
+        let syncs = run_batch(alloc, session, batch, piece, &mut disk, &mut told)?;
+        match alone {
+            None => alone = Some(syncs),
+            Some(most) => {
+                if syncs > most || session.saves && syncs == most {
+                    return Err(tell(alloc, batch, "no syncs are saved")?);
+                }
+            }
+        }
     }
     Ok(())
 }
 
-/// The lines of the file under `dry`, and those lines twice. A fresh volume with the usual tariff is what `dry` runs on.
+/// The lines of the file under `dry`, twice in one run: they are answered as the file tells, and what they are answered the second
+/// time is kept. A fresh volume with the usual tariff is what `dry` runs on.
 fn run_dry(alloc: Global, session: &Session, told: &mut Told) -> Result<(), Trouble> {
     let line = session.dry_line(alloc)?;
     let mut disk = ScratchDisk::new(alloc, 0)?;
     let mut input = whole_input(alloc, &session.runs)?;
-    let outcome = command(alloc, line.as_str(), &mut disk, &Streams::of(&input))?;
-    compare(alloc, "dry", &session.runs, &outcome)?;
     input.push(b'\n')?;
     input.extend_from_slice(&whole_input(alloc, &session.runs)?)?;
     let streams = Streams {
@@ -53,15 +61,13 @@ fn run_dry(alloc: Global, session: &Session, told: &mut Told) -> Result<(), Trou
         ..Streams::of(&input)
     };
     let outcome = command(alloc, line.as_str(), &mut disk, &streams)?;
-    let answers = answers_from(alloc, &session.runs, 0)?;
-    let Some(again) = outcome.put.strip_prefix(answers.as_slice()) else {
-        return Err(tell(alloc, "dry", "the lines twice begin with other answers")?);
-    };
+    let again = behind(alloc, "dry", &session.runs, &outcome.put)?;
     told.again = Some(again.to_vec(alloc)?);
-    Ok(())
+    is_done(alloc, "dry", outcome.status)
 }
 
-/// The runs one after the other on a volume, a stop between two of them; then `check`, and the same lines once more.
+/// The runs one after the other on a volume, a stop between two of them; then `check`, and the same lines once more. Gives how
+/// many syncs the runs made.
 fn run_batch(
     alloc: Global,
     session: &Session,
@@ -69,9 +75,10 @@ fn run_batch(
     piece: usize,
     disk: &mut MemDisk,
     told: &mut Told,
-) -> Result<(), Trouble> {
+) -> Result<u64, Trouble> {
     let line = format!(in alloc; "vol run {batch}")?;
     let how = format!(in alloc; "run {batch}")?;
+    let mut syncs: u64 = 0;
     for run in &session.runs {
         let streams = Streams {
             piece,
@@ -79,6 +86,7 @@ fn run_batch(
         };
         let outcome = command(alloc, line.as_str(), disk, &streams)?;
         compare(alloc, how.as_str(), std::slice::from_ref(run), &outcome)?;
+        syncs = syncs.saturating_add(disk.counts().syncs);
         *disk = disk.stopped(alloc, Left::Old)?;
     }
     let check = command(alloc, "vol check", disk, &Streams::of(b""))?;
@@ -101,7 +109,8 @@ fn run_batch(
         "then the lines once more",
         &mut told.again,
         again.put,
-    )
+    )?;
+    Ok(syncs)
 }
 
 /// Whether these bytes are those that were told first, if any were.
@@ -126,9 +135,17 @@ fn same(
     Ok(())
 }
 
-/// Whether a command answered these runs, and ended well.
+/// Whether a command answered these runs and nothing else, and ended well.
 fn compare(alloc: Global, how: &str, runs: &[Run], outcome: &Outcome) -> Result<(), Trouble> {
-    let mut put = outcome.put.as_slice();
+    if !behind(alloc, how, runs, &outcome.put)?.is_empty() {
+        return Err(tell(alloc, how, "more answers than lines")?);
+    }
+    is_done(alloc, how, outcome.status)
+}
+
+/// What was put behind the answers of these runs, where these are what was put first.
+fn behind<'a>(alloc: Global, how: &str, runs: &[Run], put: &'a [u8]) -> Result<&'a [u8], Trouble> {
+    let mut put = put;
     for run in runs {
         for (call, answer) in run.calls.iter().zip(run.answers.iter()) {
             match put.strip_prefix(answer.as_slice()) {
@@ -145,11 +162,13 @@ fn compare(alloc: Global, how: &str, runs: &[Run], outcome: &Outcome) -> Result<
             }
         }
     }
-    if !put.is_empty() {
-        return Err(tell(alloc, how, "more answers than lines")?);
-    }
-    if outcome.status != Status::Done {
-        let code = outcome.status.code();
+    Ok(put)
+}
+
+/// Whether a command ended well.
+fn is_done(alloc: Global, how: &str, status: Status) -> Result<(), Trouble> {
+    if status != Status::Done {
+        let code = status.code();
         let text = format!(in alloc; "status {code}")?;
         return Err(tell(alloc, how, text.as_str())?);
     }
