@@ -27,7 +27,7 @@ use Rattle.mg_script.specs.DecodedReads.{decoded-registers, decoded-word}
 use Rattle.mg_script.specs.Encoded.{HasRegisters, encoded}
 
 -- no byte cuts
-abbrev Misses : (ℕ → Bool) → List ℕ → Type 0
+abbrev pub Misses : (ℕ → Bool) → List ℕ → Type 0
 Misses cuts [] = Unit {0}
 Misses cuts (b ∷ bytes) = (cuts b ≡ false) × Misses cuts bytes
 
@@ -43,7 +43,7 @@ split-whole : (cuts : ℕ → Bool) (xs : List ℕ) → Misses cuts xs → split
 split-whole cuts [] h = refl
 split-whole cuts (b ∷ xs) h = rw (h.0, split-whole cuts xs h.1) refl
 
-split-before : (cuts : ℕ → Bool) (xs : List ℕ) (b : ℕ) (ys : List ℕ) → Misses cuts xs → cuts b ≡ true → split_at cuts (xs ++ b ∷ ys) ≡ xs ∷ split_at cuts ys
+pub split-before : (cuts : ℕ → Bool) (xs : List ℕ) (b : ℕ) (ys : List ℕ) → Misses cuts xs → cuts b ≡ true → split_at cuts (xs ++ b ∷ ys) ≡ xs ∷ split_at cuts ys
 split-before cuts [] b ys h e = rw e refl
 split-before cuts (x ∷ xs) b ys h e = rw (h.0, split-before cuts xs b ys h.1 e) refl
 
@@ -53,20 +53,21 @@ gap_low b h = grind (arith, nat_tests)
 note_low : (b : ℕ) → 45 ≤ b → begins_note b ≡ false
 note_low b h = grind (arith, nat_tests)
 
-newline_low : (b : ℕ) → 45 ≤ b → is_newline b ≡ false
+pub newline_low : (b : ℕ) → 45 ≤ b → is_newline b ≡ false
 newline_low b h = grind (arith, nat_tests)
 
 -- words as they are printed
-abbrev AreWords : List (List ℕ) → Type 0
+abbrev pub AreWords : List (List ℕ) → Type 0
 AreWords [] = Unit {0}
 AreWords (t ∷ ts) = ((is_some_word t ≡ true) × High t) × AreWords ts
 
-split-spaced : (t : List ℕ) (ts : List (List ℕ)) → High t → AreWords ts → split_at is_gap (t ++ spaced ts) ≡ t ∷ ts
-split-spaced t [] h are = ap (split_at is_gap) (append-nil t) ∙ split-whole is_gap t (high-misses is_gap gap_low t h)
-split-spaced t (u ∷ us) h are =
-    split-before is_gap t 32 (u ++ spaced us) (high-misses is_gap gap_low t h) refl ∙ ap (λ (v : List (List ℕ)). t ∷ v) (split-spaced u us are.0.1 are.1)
+pub split-spaced : (cuts : ℕ → Bool) → ((b : ℕ) → 45 ≤ b → cuts b ≡ false) → cuts 32 ≡ true → (t : List ℕ) (ts : List (List ℕ)) → High t → AreWords ts
+    → split_at cuts (t ++ spaced ts) ≡ t ∷ ts
+split-spaced cuts low space t [] h are = ap (split_at cuts) (append-nil t) ∙ split-whole cuts t (high-misses cuts low t h)
+split-spaced cuts low space t (u ∷ us) h are =
+    split-before cuts t 32 (u ++ spaced us) (high-misses cuts low t h) space ∙ ap (λ (v : List (List ℕ)). t ∷ v) (split-spaced cuts low space u us are.0.1 are.1)
 
-all-words : (ts : List (List ℕ)) → AreWords ts → filter is_some_word ts ≡ ts
+pub all-words : (ts : List (List ℕ)) → AreWords ts → filter is_some_word ts ≡ ts
 all-words [] are = refl
 all-words (t ∷ ts) are = rw are.0.0 (ap (λ (v : List (List ℕ)). t ∷ v) (all-words ts are.1))
 
@@ -75,13 +76,13 @@ spaced-misses cuts low space [] are = tt
 spaced-misses cuts low space (t ∷ ts) are =
     (space, misses-append cuts t (spaced ts) (high-misses cuts low t are.0.1) (spaced-misses cuts low space ts are.1))
 
-line-misses : (cuts : ℕ → Bool) → ((b : ℕ) → 45 ≤ b → cuts b ≡ false) → cuts 32 ≡ false → (t : List ℕ) (ts : List (List ℕ)) → High t → AreWords ts → Misses cuts (t ++ spaced ts)
+pub line-misses : (cuts : ℕ → Bool) → ((b : ℕ) → 45 ≤ b → cuts b ≡ false) → cuts 32 ≡ false → (t : List ℕ) (ts : List (List ℕ)) → High t → AreWords ts → Misses cuts (t ++ spaced ts)
 line-misses cuts low space t ts h are = misses-append cuts t (spaced ts) (high-misses cuts low t h) (spaced-misses cuts low space ts are)
 
 line-tokens : (t : List ℕ) (ts : List (List ℕ)) → is_some_word t ≡ true → High t → AreWords ts → line_tokens (t ++ spaced ts) ≡ t ∷ ts
 line-tokens t ts some h are =
     ap (λ ps. tokens (first_piece ps)) (split-whole begins_note (t ++ spaced ts) (line-misses begins_note note_low refl t ts h are))
-    ∙ ap (filter is_some_word) (split-spaced t ts h are)
+    ∙ ap (filter is_some_word) (split-spaced is_gap gap_low refl t ts h are)
     ∙ all-words (t ∷ ts) ((some, h), are)
 
 -- operands
@@ -89,7 +90,7 @@ some_word : (xs : List ℕ) → 0 < length xs → is_some_word xs ≡ true
 some_word [] h = absurd (omega (arith, h))
 some_word (b ∷ xs) h = refl
 
-number-word : (n : ℕ) → n < 2 ^ 64 → (is_some_word (decimal n) ≡ true) × High (decimal n)
+pub number-word : (n : ℕ) → n < 2 ^ 64 → (is_some_word (decimal n) ≡ true) × High (decimal n)
 number-word n fits = (some_word (decimal n) (decimal_nonempty n fits), digits-high (decimal n) (decimal-digits n fits))
 
 register-word : (a : ℕ) → a < 8 → (is_some_word (decimal a) ≡ true) × High (decimal a)

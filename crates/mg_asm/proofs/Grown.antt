@@ -1,8 +1,9 @@
 -- How printed texts grow at their end.
-use Rattle.std.proofs.Common.{◌≡◌, ℕ, zero, suc, ◌+◌, ◌-◌, ◌/◌, ◌%◌, ◌<◌, List, [], ◌∷◌, ◌++◌, length, get_or, map, take, refl, ap, sym, ◌∙◌, append_assoc, arith}
+use Rattle.std.proofs.Common.{◌≡◌, ℕ, zero, suc, ◌+◌, ◌-◌, ◌*◌, ◌/◌, ◌%◌, ◌<◌, List, [], ◌∷◌, ◌++◌, length, get_or, map, take, refl, ap, sym, ◌∙◌, append_assoc, arith, length-take}
 use Rattle.std.proofs.lemmas.List.{append-nil, map_more, take_more}
 use Rattle.mg_asm.specs.declared.printing.Operand.{Operand}
 use Rattle.mg_asm.specs.Printed.{operand_text, printed, word_line}
+use Rattle.mg_asm.specs.Stored.{store_line, store_lines}
 use Rattle.mg_model.specs.Print.{hex_digit, hex_digits, hex_text, spaced}
 
 printed_append : (ws : List ℕ) (w : ℕ) → printed (ws ++ w ∷ []) ≡ printed ws ++ (word_line w ++ 10 ∷ [])
@@ -33,3 +34,20 @@ hex_more front (suc n) w some = let e : suc n - 1 ≡ n = omega arith in rw e (a
 pub hex_after : (front : List ℕ) (w : ℕ) → (front ++ 32 ∷ 48 ∷ 120 ∷ []) ++ hex_digits 16 w ≡ front ++ 32 ∷ hex_text w
 unfolding hex_text
 hex_after front w = append_assoc front (32 ∷ 48 ∷ 120 ∷ []) (hex_digits 16 w)
+
+stored_append : (thread address : ℕ) (ws : List ℕ) (w : ℕ)
+    → store_lines thread address (ws ++ w ∷ []) ≡ store_lines thread address ws ++ store_line thread (address + 8 * length ws) w
+stored_append thread address [] w = let e : address + 8 * 0 ≡ address = omega arith in rw e (append-nil (store_line thread address w))
+stored_append thread address (x ∷ ws) w =
+    let e : address + 8 * length (x ∷ ws) ≡ (address + 8) + 8 * length ws = omega arith in
+    rw e (ap (λ v. store_line thread address x ++ v) (stored_append thread (address + 8) ws w)
+    ∙ sym (append_assoc (store_line thread address x) (store_lines thread (address + 8) ws) (store_line thread ((address + 8) + 8 * length ws) w)))
+
+-- one line of a call more
+pub stored_more : (thread address : ℕ) (ws : List ℕ) (i : ℕ) → i < length ws
+    → store_lines thread address (take i ws) ++ store_line thread (address + 8 * i) (get_or ws i 0) ≡ store_lines thread address (take (i + 1) ws)
+stored_more thread address ws i h =
+    let n : length (take i ws) ≡ i = omega (arith, length-take i ws) in
+    sym (ap (store_lines thread address) (take_more ws i 0 h)
+    ∙ stored_append thread address (take i ws) (get_or ws i 0)
+    ∙ ap (λ k. store_lines thread address (take i ws) ++ store_line thread (address + 8 * k) (get_or ws i 0)) n)

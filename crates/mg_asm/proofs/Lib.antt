@@ -3,3 +3,5 @@ pub mod Loops
 pub mod Numbers
 pub mod Back
 pub mod Grown
+pub mod Called
+pub mod Placed

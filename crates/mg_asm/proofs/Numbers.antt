@@ -115,7 +115,7 @@ value-hex (suc k) w h =
     ∙ ap (λ o. and_then o (λ v. Some (w / 16 * 16 + v))) (sixteen_digit (w % 16) (omega arith))
     ∙ ap (λ n. Some n) (omega arith)
 
-length-hex : (k w : ℕ) → length (hex_digits k w) ≡ k
+pub length-hex : (k w : ℕ) → length (hex_digits k w) ≡ k
 length-hex zero w = refl
 length-hex (suc k) w = length-append (hex_digits k (w / 16)) (hex_digit (w % 16) ∷ []) ∙ (let e = length-hex k (w / 16) in omega arith)
 

@@ -1,6 +1,11 @@
--- Definitions, in the order in which one reads them: the words of a line, what a line asks for, what a text assembles to,
--- and how words are printed.
+-- Definitions, in the order in which one reads them: the words of a line, what a line asks for, what a text assembles to, and
+-- how words are printed; then how a fault is told, what a list of words is read as, words as lines of calls, and what a map of
+-- labels holds.
 pub mod Tokens
 pub mod Reading
 pub mod Assembled
 pub mod Printed
+pub mod Told
+pub mod Listed
+pub mod Stored
+pub mod Labels

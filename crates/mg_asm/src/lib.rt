@@ -2,19 +2,25 @@
 //!
 //! A text is lines of instructions, labels and plain words. What the layer above learns: `assemble` gives `assembled` of the
 //! definition, which is the words of the text or its first fault; `print` gives `printed`, a text that assembles to the words that
-//! were printed. The definitions stand in `specs/`: `Tokens` and `Reading` for a line, `Assembled` for a text, `Printed` for the
-//! way back. No layer stands on this crate.
+//! were printed. Words also come from a list of numbers (`read_list`), and become lines of calls (`store_lines`). The definitions
+//! stand in `specs/`: `Tokens` and `Reading` for a line, `Assembled` for a text, `Printed` for the way back, `Told` for faults,
+//! `Listed` for lists and `Stored` for lines of calls.
 #![tactic(auto)]
 
 mod assembling;
 mod faults;
 mod items;
+mod labels;
 mod lines;
+mod listing;
 mod names;
 mod operands;
 mod printing;
+mod storing;
 mod tokens;
 
 pub use assembling::assemble;
 pub use faults::{AsmFault, AsmKind};
+pub use listing::read_list;
 pub use printing::print;
+pub use storing::store_lines;

@@ -3,7 +3,6 @@ ghost use Rattle.std.specs.Prelude.{◌≡◌, ◌&&◌, nat_le, length};
 ghost use Rattle.std.specs.List.{list_all};
 ghost use Rattle.mg_asm.specs.Tokens.{is_letter, is_name, is_name_byte, label_of, name_of};
 ghost use Rattle.mg_model.specs.Bytes.{padded_to};
-ghost use Rattle.mg_model.specs.Words.{same_bytes};
 
 /// A name: a letter and up to 15 letters, digits or `_`, with zeros behind it.
 #[derive(Clone, Copy, Debug, PartialEq, Eq)]
@@ -12,11 +11,11 @@ pub struct Name {
 }
 
 impl Name {
-    /// Whether two names are the same.
-    pub fn is(&self, other: &Name) -> bool
-        ensures { result ≡ same_bytes self.now.bytes other.now.bytes }
+    /// The letters, with zeros behind them.
+    pub fn bytes(&self) -> &[u8; 16]
+        ensures { result.now ≡ self.now.bytes }
     {
-        self.bytes == other.bytes
+        &self.bytes
     }
 }
 

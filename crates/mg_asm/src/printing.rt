@@ -117,7 +117,7 @@ fn put_operand(out: &mut Vec<u8>, operand: Operand) -> Result<(), AllocError>
 }
 
 /// A text and a number in decimal.
-fn put_number(out: &mut Vec<u8>, front: &[u8], n: u64) -> Result<(), AllocError>
+pub fn put_number(out: &mut Vec<u8>, front: &[u8], n: u64) -> Result<(), AllocError>
     ensures { OnOk result (out.new.items ≡ out.old.items ++ (front.now ++ decimal n)) }
 {
     let mut digits = itoa::Buffer::new();
@@ -128,7 +128,7 @@ fn put_number(out: &mut Vec<u8>, front: &[u8], n: u64) -> Result<(), AllocError>
 
 /// A space and a word in hexadecimal.
 #[tactic(auto, using(crate::proofs::Grown::hex_after))]
-fn put_hex(out: &mut Vec<u8>, word: u64) -> Result<(), AllocError>
+pub fn put_hex(out: &mut Vec<u8>, word: u64) -> Result<(), AllocError>
     ensures { OnOk result (out.new.items ≡ out.old.items ++ 32 ∷ hex_text word) }
 {
     out.extend_from_slice(b" 0x")?;

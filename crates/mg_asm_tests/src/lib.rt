@@ -1,12 +1,15 @@
 //! Tests of the assembler: scripts whose words were worked out by hand from the table of instructions, and each fault that a short
-//! text can have, with its line.
+//! text can have, with its line; and of its program's call, how each status comes.
 //!
-//! They stand above `mg_asm`, over its two calls, so that it is proved once.
+//! They stand above `mg_asm` and `mg_asm_session`, over their calls, so that these are proved once.
 #![tactic(auto)]
 
 #[cfg(test)]
+mod session_tests;
+
+#[cfg(test)]
 mod tests {
-    use mg_asm::{AsmFault, AsmKind, assemble, print};
+    use mg_asm::{AsmFault, AsmKind, assemble, print, read_list, store_lines};
     use std::alloc::Global;
     use std::test::Fail;
 
@@ -90,5 +93,44 @@ mod tests {
             at(2, AsmKind::NoLabel),
         ];
         assert_eq!(rt; told, known);
+    }
+
+    // Both spellings, a note, an empty line and a tab.
+    #[test]
+    fn a_list_is_read(rt: HostRuntime) -> Result<(), Fail> {
+        let words = read_list(rt.alloc(), b"0x101 # set 1 0\n\n\t18446744073709551615\n0")?;
+        let known = [0x101, 0xffff_ffff_ffff_ffff, 0];
+        assert_eq!(rt; words.as_slice(), known.as_slice());
+        Ok(())
+    }
+
+    #[test]
+    fn faults_of_lists_name_their_lines(rt: HostRuntime) {
+        let alloc = rt.alloc();
+        let told = [
+            read_list(alloc, b"1\nx 2").err(),
+            read_list(alloc, b"1\n\n0x").err(),
+            read_list(alloc, b"1\r\n").err(),
+        ];
+        let known = [
+            at(2, AsmKind::Operands),
+            at(3, AsmKind::Number),
+            at(1, AsmKind::Number),
+        ];
+        assert_eq!(rt; told, known);
+    }
+
+    #[test]
+    fn words_are_stored_by_lines(rt: HostRuntime) -> Result<(), Fail> {
+        let text = store_lines(
+            rt.alloc(),
+            256,
+            0xf_ffff_ffff_fff8,
+            &[0xc, 0xff00_0000_0000_0000],
+        )?;
+        let known =
+            b"256 store 0x000ffffffffffff8 0x000000000000000c\n256 store 0x0010000000000000 0xff00000000000000\n";
+        assert_eq!(rt; text.as_slice(), known.as_slice());
+        Ok(())
     }
 }

@@ -1,5 +1,6 @@
-use Rattle.std.proofs.Common.{◌≡◌, [], ◌∷◌, ◌++◌, length, Ok, ap, sym, ◌∙◌, rules, arith, length-append}
+use Rattle.std.proofs.Common.{◌≡◌, [], ◌∷◌, ◌++◌, length, Ok, ap, sym, subst, ◌∙◌, rules, arith, length-append}
 use Rattle.mg_asm.specs.Assembled.{behind, items_behind, words_in}
+use Rattle.mg_asm.specs.Labels.{AreLabels, KeepsLabel}
 use Rattle.mg_asm.specs.Reading.{line_reading}
 use Rattle.mg_asm.proofs.Loops.{lines-next, words_in-more}
 use Rattle.mg_asm.proofs.assembling.items.Goals as goal
@@ -10,12 +11,14 @@ lines-preserved c =
     let before = c.lines.items.items in
     let pushed : c.push.new.self.items ≡ before ++ c.in-Ok.item ∷ [] = search rules in
     let pieces = rw c.in-Some.is at c.cut.ensures.pieces in
-    let read : Ok c.in-Ok.item ≡ behind before (line_reading c.cut.result.0.now) = cc (c.in-Ok.ensures, c.deref.ensures.value, c.read_line.ensures) in
+    let read : Ok c.in-Ok.item ≡ behind before (line_reading c.cut.result.0.now) = c.in-Ok.ensures before c.lines.invariant.labels c.lines.invariant.counted ∙ ap (behind before) c.read_line.ensures in
     let grown = ap words_in pushed in
     let more = words_in-more before c.in-Ok.item in
     let longer = ap length pushed in
     let one = length-append before (c.in-Ok.item ∷ []) in
+    let keeps : KeepsLabel c.lines.labels c.keep.new.labels c.in-Ok.item c.lines.count = search rules in
     record {
+      labels = subst (λ items. AreLabels c.keep.new.labels items) (sym pushed) (keeps before (line_reading c.cut.result.0.now) c.lines.invariant.labels c.lines.invariant.counted read);
       same = ap (λ items. items_behind items (split_at is_newline c.in-Some.more.now)) pushed
           ∙ sym (lines-next before c.lines.rest.now c.cut.result.0.now c.in-Some.more.now c.in-Ok.item pieces read)
           ∙ c.lines.invariant.same;

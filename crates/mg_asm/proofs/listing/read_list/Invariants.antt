@@ -1,0 +1,15 @@
+use Rattle.std.proofs.Common.{◌≡◌, ◌+◌, ◌≤◌, length}
+use Rattle.mg_asm.specs.Listed.{listed, listed_behind}
+use Rattle.mg_model.specs.Words.{is_newline, split_at}
+use Rattle.mg_asm.proofs.listing.read_list.Given as goal
+
+-- the words so far, and those of the lines that are left
+abbrev pub invariant-lines : goal.invariant-lines
+invariant-lines l = record {
+  same : listed_behind l.words.items l.number (split_at is_newline l.rest) ≡ listed l.fn.text;
+  few : length l.words.items ≤ 524288;
+  counted : l.number + length l.rest ≤ 1 + length l.fn.text;
+}
+
+abbrev pub decreases-lines : goal.decreases-lines
+decreases-lines l = length l.rest

@@ -1,0 +1,21 @@
+-- How a fault is told.
+use Rattle.std.specs.Prelude.{ℕ, List, [], ◌∷◌, ◌++◌, codes}
+use Rattle.std.specs.Fmt.{decimal}
+use Rattle.mg_asm.specs.declared.faults.AsmFault.{AsmFault}
+use Rattle.mg_asm.specs.declared.faults.AsmFault.TheVariants.{Memory, At}
+use Rattle.mg_asm.specs.declared.faults.AsmKind.{AsmKind}
+use Rattle.mg_asm.specs.declared.faults.AsmKind.TheVariants.{Unknown, Operands, Register, Number, Twice, TooLong, NoLabel}
+
+abbrev pub kind_name : AsmKind → List ℕ
+kind_name Unknown = codes "Unknown"
+kind_name Operands = codes "Operands"
+kind_name Register = codes "Register"
+kind_name Number = codes "Number"
+kind_name Twice = codes "Twice"
+kind_name TooLong = codes "TooLong"
+kind_name NoLabel = codes "NoLabel"
+
+-- the line of a fault; want of memory has none
+abbrev pub fault_line : AsmFault → List ℕ
+fault_line Memory = []
+fault_line (At line kind) = codes "line " ++ decimal line ++ codes ": " ++ kind_name kind ++ 10 ∷ []

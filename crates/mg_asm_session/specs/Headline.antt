@@ -1,0 +1,99 @@
+-- What the program promises. An object that does not tell its content has None for it; a promise on content is then empty.
+use Rattle.std.specs.Prelude.{ℕ, ◌+◌, ◌^◌, ◌<◌, ◌≤◌, ◌≡◌, ◌≢◌, ◌⊎◌, List, [], ◌∷◌, ◌++◌, length, codes, Option, Some, IfSome, IsSomeAnd, Result, Ok, Err}
+use Rattle.std.specs.Io.KnownBytes.{Appends}
+use Rattle.mg_asm.specs.Assembled.{assembled}
+use Rattle.mg_asm.specs.Listed.{listed}
+use Rattle.mg_asm.specs.Printed.{printed}
+use Rattle.mg_asm.specs.Stored.{store_lines}
+use Rattle.mg_asm.specs.Told.{fault_line}
+use Rattle.mg_asm.specs.declared.faults.AsmFault.{AsmFault}
+use Rattle.mg_asm_session.specs.declared.status.Status.{Status}
+use Rattle.mg_asm_session.specs.declared.status.Status.TheVariants as status
+use Rattle.mg_asm_session.specs.declared.words.Command.{Command}
+use Rattle.mg_asm_session.specs.declared.words.Command.TheVariants.{Print, Store}
+use Rattle.mg_faults.specs.Faults.{Rose}
+use Rattle.mg_io.specs.Known.{AppendsPrefix}
+use Rattle.mg_io.specs.declared.traits.Sink as sinks
+use Rattle.mg_io.specs.declared.traits.Source as sources
+
+-- the exit status
+abbrev pub code_of : Status → ℕ
+code_of status.Done = 0
+code_of status.Fault = 1
+code_of status.Usage = 1
+code_of status.Memory = 3
+code_of status.Source = 5
+code_of status.Sink = 6
+code_of status.TooLong = 7
+
+-- the most bytes that a text may have
+abbrev pub text_limit : ℕ
+text_limit = 2 ^ 24
+
+-- what becomes of words, if there are some
+abbrev pub from_words : (List ℕ → List ℕ) → Result (List ℕ) AsmFault → Result (List ℕ) AsmFault
+from_words f (Ok words) = Ok (f words)
+from_words f (Err fault) = Err fault
+
+-- What a text becomes: the lines that store the words that it assembles to, or the text of the words that it lists; or its first fault.
+abbrev pub became : Command → List ℕ → Result (List ℕ) AsmFault
+became (Store thread address) text = from_words (store_lines thread address) (assembled text)
+became Print text = from_words printed (listed text)
+
+-- a text became lines, and the sink took them
+abbrev pub PutsLines : Result (List ℕ) AsmFault → Option (List ℕ) → Option (List ℕ) → Type 0
+PutsLines (Ok lines) taken taken' = Appends taken taken' lines
+PutsLines (Err fault) taken taken' = ⊥
+
+-- a text has a fault, and the sink took its line
+abbrev pub PutsFault : Result (List ℕ) AsmFault → Option (List ℕ) → Option (List ℕ) → Type 0
+PutsFault (Ok lines) taken taken' = ⊥
+PutsFault (Err fault) taken taken' = Appends taken taken' (fault_line fault)
+
+-- the sink took some first bytes of the lines, or the sink aside of the line of the fault
+abbrev pub PutsPart : Result (List ℕ) AsmFault → Option (List ℕ) → Option (List ℕ) → Option (List ℕ) → Option (List ℕ) → Type 0
+PutsPart (Ok lines) taken taken' aside aside' = AppendsPrefix taken taken' lines × (aside' ≡ aside)
+PutsPart (Err fault) taken taken' aside aside' = (taken' ≡ taken) × AppendsPrefix aside aside' (fault_line fault)
+
+-- the source was read to its end, and this holds of what it had
+abbrev pub OfWhole : Option (List ℕ) → Option (List ℕ) → (List ℕ → Type 0) → Type 0
+OfWhole left left' P = IfSome left (λ text. (left' ≡ Some []) × P text)
+
+-- at most so many bytes were taken, or more
+abbrev pub TakesAtMost : ℕ → Option (List ℕ) → Option (List ℕ) → Type 0
+TakesAtMost limit left left' = IfSome left (λ text. IsSomeAnd left' (λ rest. length text ≤ limit + length rest))
+
+abbrev pub TakesMore : ℕ → Option (List ℕ) → Option (List ℕ) → Type 0
+TakesMore limit left left' = IfSome left (λ text. IsSomeAnd left' (λ rest. limit + length rest < length text))
+
+-- What a command keeps: `out` takes what the text became, and `err` its fault.
+pub record Keeps {S O E : Type 0} (from : sources.Ghosts S) (to : sinks.Ghosts O) (aside : sinks.Ghosts E) (command : Command) (result : Status) (source source' : S) (out out' : O) (err err' : E) : Type 0 where
+  -- At the end `out` took what the text became, and nothing else was put.
+  pub done : result ≡ status.Done → OfWhole (from.left source) (from.left source') (λ text. PutsLines (became command text) (to.taken out) (to.taken out')) × (err' ≡ err)
+  -- At a fault `err` took its line, and nothing else was put.
+  pub fault : result ≡ status.Fault → OfWhole (from.left source) (from.left source') (λ text. PutsFault (became command text) (aside.taken err) (aside.taken err')) × (out' ≡ out)
+  -- Where a sink failed it took a first part of what was to be put. That is only where its count rose.
+  pub sink : result ≡ status.Sink → OfWhole (from.left source) (from.left source') (λ text. PutsPart (became command text) (to.taken out) (to.taken out') (aside.taken err) (aside.taken err'))
+  pub sink_failed : result ≡ status.Sink → Rose (to.faults out) (to.faults out') (to.is_spent out') ⊎ Rose (aside.faults err) (aside.faults err') (aside.is_spent err')
+  -- Where memory was wanting, the source failed or the text is too long, nothing was put.
+  pub nothing : (result ≡ status.Memory) ⊎ ((result ≡ status.Source) ⊎ (result ≡ status.TooLong)) → (out' ≡ out) × (err' ≡ err)
+  -- The source failed only where its count rose.
+  pub source_failed : result ≡ status.Source → Rose (from.faults source) (from.faults source') (from.is_spent source')
+  -- The text is too long exactly where more was taken than it may have.
+  pub too_long : result ≡ status.TooLong → TakesMore text_limit (from.left source) (from.left source')
+  pub within : result ≢ status.TooLong → TakesAtMost text_limit (from.left source) (from.left source')
+  -- Words that spell a command are no `usage`.
+  pub spelled : result ≢ status.Usage
+
+-- the line for words that spell no command
+abbrev pub usage_line : List ℕ
+usage_line = codes "usage" ++ 10 ∷ []
+
+-- What is kept where the words spell no command: `err` takes the line, and the others are left alone.
+pub record UsageKeeps {S O E : Type 0} (aside : sinks.Ghosts E) (result : Status) (source source' : S) (out out' : O) (err err' : E) : Type 0 where
+  pub which : (result ≡ status.Usage) ⊎ (result ≡ status.Sink)
+  pub line : result ≡ status.Usage → Appends (aside.taken err) (aside.taken err') usage_line
+  pub prefix : AppendsPrefix (aside.taken err) (aside.taken err') usage_line
+  pub sink_failed : result ≡ status.Sink → Rose (aside.faults err) (aside.faults err') (aside.is_spent err')
+  pub source_alone : source' ≡ source
+  pub out_alone : out' ≡ out

@@ -1,0 +1,20 @@
+//! The session of the assembler: from the words of the command line to the exit status.
+//!
+//! [`top`] is all that the program `mungi_asm` does: it reads the command's words, reads the source whole, and puts what the text
+//! became, or tells the first fault aside. What the layer above learns stands on [`top`], for every source and every two sinks,
+//! those that fail at any call among them.
+//!
+//! The definitions stand in `specs/`: `Commands` (what the words spell) and `Headline` (what a text becomes, and what is kept).
+//! What a text assembles to is defined in `mg_asm`.
+#![tactic(auto)]
+
+mod reading;
+mod status;
+mod telling;
+mod top_call;
+mod words;
+
+pub use reading::TEXT_LIMIT;
+pub use status::Status;
+pub use top_call::top;
+pub use words::{Command, read_words};

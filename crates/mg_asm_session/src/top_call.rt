@@ -1,0 +1,103 @@
+// All that the program does.
+ghost use Rattle.std.specs.Prelude.{◌≡◌, ◌≢◌, ◌⊎◌, IfErr, IfOk, IfSome, None, Ok, Err};
+ghost use Rattle.std.specs.Io.KnownBytes.{Appends};
+ghost use Rattle.mg_asm.specs.declared.faults.AsmFault.TheVariants as fault;
+ghost use Rattle.mg_asm_session.specs.Commands.{IsStored, command_of, words_of};
+ghost use Rattle.mg_asm_session.specs.Headline.{Keeps, OfWhole, PutsFault, PutsLines, PutsPart, TakesAtMost, TakesMore, UsageKeeps, became, text_limit};
+ghost use Rattle.mg_faults.specs.Faults.{Rose};
+
+use crate::reading::{Unread, read_text};
+use crate::status::Status;
+use crate::telling::put_fault;
+use crate::words::{Command, read_words};
+use mg_asm::{AsmFault, assemble, print, read_list, store_lines};
+use mg_io::{Sink, Source, put_all};
+use std::alloc::Global;
+
+/// All that the program does. The words are those behind its name.
+///
+/// - `THREAD ADDRESS` reads a script's text from the source, and puts a line `THREAD store ADDR WORD` into `out` for each of its
+///   words, from ADDRESS on.
+/// - `print` reads words, a number a line, and puts their text into `out`.
+///
+/// Other words get the line `usage` in `err` and [`Status::Usage`]; source and `out` are then left alone.
+///
+/// A text is read whole, up to 2^24 bytes, before anything is put. After [`Status::Fault`] `err` took the line of its first fault,
+/// `line N: KIND`, and nothing else was put. After [`Status::Memory`], [`Status::Source`] and [`Status::TooLong`] nothing was
+/// put. [`Status::Sink`] comes where `out` or `err` failed; it took a first part of what was to be put.
+pub fn top<S: Source, O: Sink, E: Sink>(
+    alloc: Global,
+    words: &[String],
+    source: &mut S,
+    out: &mut O,
+    err: &mut E,
+) -> Status
+    ensures command { IfSome (command_of (words_of words.now)) (λ command. Keeps S.Source O.Sink E.Sink command result
+        source.old source.new out.old out.new err.old err.new) }
+    ensures usage { command_of (words_of words.now) ≡ None → UsageKeeps E.Sink result source.old source.new out.old out.new err.old err.new }
+    ensures not_spelled { result ≡ Status.Usage → command_of (words_of words.now) ≡ None }
+{
+    match read_words(words) {
+        Some(command) => carry_out(alloc, command, source, out, err),
+        None => match put_all(err, b"usage\n") {
+            Ok(()) => Status::Usage,
+            Err(_) => Status::Sink,
+        },
+    }
+}
+
+/// Reads the text, and puts what it becomes, or its fault.
+fn carry_out<S: Source, O: Sink, E: Sink>(
+    alloc: Global,
+    command: Command,
+    source: &mut S,
+    out: &mut O,
+    err: &mut E,
+) -> Status
+    requires { IsStored command }
+    ensures done { result ≡ Status.Done → OfWhole (S.left source.old) (S.left source.new) (λ text. PutsLines (became command text) (O.taken out.old) (O.taken out.new)) × (err.new ≡ err.old) }
+    ensures fault { result ≡ Status.Fault → OfWhole (S.left source.old) (S.left source.new) (λ text. PutsFault (became command text) (E.taken err.old) (E.taken err.new)) × (out.new ≡ out.old) }
+    ensures sink { result ≡ Status.Sink → OfWhole (S.left source.old) (S.left source.new) (λ text. PutsPart (became command text) (O.taken out.old) (O.taken out.new) (E.taken err.old) (E.taken err.new)) }
+    ensures sink_failed { result ≡ Status.Sink → Rose (O.faults out.old) (O.faults out.new) (O.is_spent out.new) ⊎ Rose (E.faults err.old) (E.faults err.new) (E.is_spent err.new) }
+    ensures nothing { (result ≡ Status.Memory) ⊎ ((result ≡ Status.Source) ⊎ (result ≡ Status.TooLong)) → (out.new ≡ out.old) × (err.new ≡ err.old) }
+    ensures source_failed { result ≡ Status.Source → Rose (S.faults source.old) (S.faults source.new) (S.is_spent source.new) }
+    ensures too_long { result ≡ Status.TooLong → TakesMore text_limit (S.left source.old) (S.left source.new) }
+    ensures within { result ≢ Status.TooLong → TakesAtMost text_limit (S.left source.old) (S.left source.new) }
+    ensures spelled { result ≢ Status.Usage }
+{
+    let text = match read_text(alloc, source) {
+        Ok(text) => text,
+        Err(Unread::Memory) => return Status::Memory,
+        Err(Unread::Source) => return Status::Source,
+        Err(Unread::TooLong) => return Status::TooLong,
+    };
+    match turn(alloc, command, &text) {
+        Ok(lines) => match put_all(out, &lines) {
+            Ok(()) => Status::Done,
+            Err(_) => Status::Sink,
+        },
+        Err(AsmFault::Memory) => Status::Memory,
+        Err(AsmFault::At { line, kind }) => match put_fault(line, kind, err) {
+            Ok(()) => Status::Fault,
+            Err(_) => Status::Sink,
+        },
+    }
+}
+
+/// What a text becomes, or its first fault. Memory comes only where an allocation failed.
+fn turn(alloc: Global, command: Command, text: &[u8]) -> Result<Vec<u8>, AsmFault>
+    requires { IsStored command }
+    ensures lines { IfOk result (λ lines. became command text.now ≡ Ok lines.items) }
+    ensures fault { IfErr result (λ fault. fault ≢ AsmFault.Memory → became command text.now ≡ Err fault) }
+{
+    match command {
+        Command::Store(thread, address) => {
+            let words = assemble(alloc, text)?;
+            store_lines(alloc, thread, address, &words).map_err(|_| AsmFault::Memory)
+        }
+        Command::Print => {
+            let words = read_list(alloc, text)?;
+            print(alloc, &words).map_err(|_| AsmFault::Memory)
+        }
+    }
+}

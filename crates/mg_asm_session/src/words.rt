@@ -1,0 +1,69 @@
+// The words of the command line.
+ghost use Rattle.std.specs.Prelude.{◌≡◌, IfSome};
+ghost use Rattle.mg_asm_session.specs.Commands.{IsStored, command_of, is_place, print_of, store_of, words_of};
+ghost use Rattle.mg_model.specs.Words.{same_bytes};
+
+use mg_model::limits::{PAGE_END, PAGE_SIZE};
+use mg_text::read_number;
+
+/// What the program is asked to do.
+#[derive(Clone, Copy, Debug, PartialEq, Eq)]
+pub enum Command {
+    /// Put the calls by which this thread stores the words of a script's text, from this address on.
+    Store(u64, u64),
+    /// Put the text of words.
+    Print,
+}
+
+/// The command that these words spell, which are those behind the program's name; None exactly where they spell none.
+///
+/// They are `THREAD ADDRESS`, two numbers as in lines of calls, of which ADDRESS is a multiple of 8 below `2^52`, where objects
+/// end; or `print`.
+pub fn read_words(words: &[String]) -> Option<Command>
+    ensures command { result ≡ command_of (words_of words.now) }
+    ensures place { IfSome result IsStored }
+{
+    match words {
+        [word] => print(word.as_bytes()),
+        [thread, address] => store(thread.as_bytes(), address.as_bytes()),
+        _ => None,
+    }
+}
+
+fn print(word: &[u8]) -> Option<Command>
+    ensures command { result ≡ print_of word.now }
+    ensures place { IfSome result IsStored }
+{
+    if is_word(word, b"print") {
+        Some(Command::Print)
+    } else {
+        None
+    }
+}
+
+fn store(thread: &[u8], address: &[u8]) -> Option<Command>
+    ensures command { result ≡ store_of thread.now address.now }
+    ensures place { IfSome result IsStored }
+{
+    let thread = read_number(thread)?;
+    let address = read_number(address)?;
+    if is_place(address) {
+        Some(Command::Store(thread, address))
+    } else {
+        None
+    }
+}
+
+/// Whether a word may be stored here: at a multiple of 8, and where objects may lie.
+fn is_place(address: u64) -> bool
+    ensures { result ≡ is_place address }
+{
+    address % 8 == 0 && address < PAGE_END * PAGE_SIZE
+}
+
+/// Whether a word is this one.
+fn is_word(word: &[u8], known: &[u8]) -> bool
+    ensures { result ≡ same_bytes word.now known.now }
+{
+    word == known
+}
