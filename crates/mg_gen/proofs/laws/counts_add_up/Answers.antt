@@ -1,0 +1,8 @@
+use Rattle.mg_gen.proofs.Counted.{counts-add-up, words-in-rows}
+use Rattle.mg_gen.proofs.laws.counts_add_up.Goals as goal
+
+pub returns-clause-sum : goal.returns-clause-sum
+returns-clause-sum c = counts-add-up
+
+pub returns-clause-words : goal.returns-clause-words
+returns-clause-words c = words-in-rows

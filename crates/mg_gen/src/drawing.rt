@@ -1,0 +1,98 @@
+// From a run's number to the words that its lines are drawn from.
+ghost use Rattle.std.specs.Prelude.{◌≡◌, ◌^◌, ◌<◌, ◌≤◌};
+ghost use Rattle.mg_gen.specs.Generated.{address_of, drawn_word, generator_state, kind_of, object_base, shifted_in, thread_of, value_of};
+
+/// The first address of the root object.
+pub const ROOT: u64 = 0x0000_0001_0000_0000;
+
+/// The bytes of a page.
+const PAGE: u64 = 4096;
+
+/// The word of line k in the run of a number: that of SplitMix64.
+#[tactic(auto, unfolding(crate::specs::Generated::drawn_word))]
+pub fn draw(number: u64, k: u64) -> u64
+    ensures { result ≡ drawn_word number k }
+{
+    let y = state(number, k);
+    let z = shifted(30, y).wrapping_mul(0xbf58_476d_1ce4_e5b9);
+    let u = shifted(27, z).wrapping_mul(0x94d0_49bb_1331_11eb);
+    shifted(31, u)
+}
+
+/// The generator's state for line k.
+fn state(number: u64, k: u64) -> u64
+    ensures { result ≡ generator_state number k }
+{
+    number.wrapping_add(k.wrapping_add(1).wrapping_mul(0x9e37_79b9_7f4a_7c15))
+}
+
+/// The exclusive or of a word and of the same word shifted to the right.
+fn shifted(shift: u32, a: u64) -> u64
+    requires { shift < 64 }
+    ensures { result ≡ shifted_in shift a }
+{
+    a ^ (a >> shift)
+}
+
+/// The kind of the line that is drawn from a word, below 16.
+pub fn kind(x: u64) -> u64
+    ensures { result ≡ kind_of x }
+{
+    (x >> 5) % 16
+}
+
+/// Its thread, from 1 to 32.
+pub fn thread(x: u64) -> u64
+    ensures { result ≡ thread_of x }
+{
+    1 + x % 32
+}
+
+/// Its address: that of a word in one of the four objects.
+pub fn address(x: u64) -> u64
+    ensures { result ≡ address_of x }
+{
+    object_base(1 + (x >> 9) % 4) + 8 * ((x >> 11) % 8192)
+}
+
+/// Its value, below 65,536.
+pub fn value(x: u64) -> u64
+    ensures { result ≡ value_of x }
+{
+    (x >> 24) % 65536
+}
+
+/// The first address of object j.
+pub fn object_base(j: u64) -> u64
+    requires from { 1 ≤ j }
+    requires to { j ≤ 4 }
+    ensures value { result ≡ object_base j }
+    ensures low { result < 2 ^ 33 }
+{
+    ROOT + PAGE + (j - 1) * (16 * PAGE)
+}
+
+#[cfg(test)]
+mod tests {
+    use super::*;
+
+    /// The numbers that other implementations of SplitMix64 give from this one on.
+    #[test]
+    fn known_numbers(rt: HostRuntime) {
+        let drawn = [
+            draw(1_234_567, 0),
+            draw(1_234_567, 1),
+            draw(1_234_567, 2),
+            draw(1_234_567, 3),
+            draw(1_234_567, 4),
+        ];
+        let known = [
+            6_457_827_717_110_365_317u64,
+            3_203_168_211_198_807_973,
+            9_817_491_932_198_370_423,
+            4_593_380_528_125_082_431,
+            16_408_922_859_458_223_821,
+        ];
+        assert_eq!(&rt; drawn, known);
+    }
+}

@@ -1,0 +1,198 @@
+// The line of a place in a run.
+ghost use Rattle.std.specs.Prelude.{◌≡◌, ◌++◌, ◌∷◌, ◌<◌, ◌≤◌, []};
+ghost use Rattle.mg_gen.specs.Generated.{drawn_text, entry_text, kind_text, line_text, object_password, prepared_text, stored};
+ghost use Rattle.arrayvec.specs.ArrayVec.{array_vec_len};
+
+use crate::drawing::{ROOT, address, draw, kind, object_base, thread, value};
+use crate::writing::push_call;
+use arrayvec::ArrayVec;
+use mg_text::{push_number, push_text, push_word};
+
+/// From which place on the lines are drawn.
+const DRAWN_FROM: u64 = 44;
+
+/// The password of the treasury.
+const TREASURY: u64 = 0x28bd_8653_e56a_5d40;
+
+/// Writes line `k` of the run of a number, with its newline, into an empty buffer. The longest lines, the stores among the
+/// first 44, have 46 bytes.
+pub fn line(number: u64, k: u64, out: &mut ArrayVec<u8, 256>)
+    requires empty { out.old.items ≡ [] }
+    ensures { out.new.items ≡ line_text number k ++ 10 ∷ [] }
+{
+    if k < DRAWN_FROM {
+        push_prepared(k, out);
+    } else {
+        push_drawn(draw(number, k), out);
+    }
+    push_text(out, b"\n");
+}
+
+/// One of the first 44 lines.
+fn push_prepared(k: u64, out: &mut ArrayVec<u8, 256>)
+    requires empty { out.old.items ≡ [] }
+    requires early { k < 44 }
+    ensures text { out.new.items ≡ prepared_text k }
+    ensures short { array_vec_len out.new ≤ 200 }
+{
+    if k < 31 {
+        push_call(1, b"thread", out);
+        push_word(out, ROOT);
+    } else if k < 35 {
+        push_call(1, b"create", out);
+        push_number(out, 16);
+        push_number(out, 1);
+        push_word(out, TREASURY);
+    } else if k < 43 {
+        push_entry(k - 35, out);
+    } else {
+        push_store(ROOT, 5, out);
+    }
+}
+
+/// The store of a base, for an even `m`, or of a password, for an odd one.
+fn push_entry(m: u64, out: &mut ArrayVec<u8, 256>)
+    requires empty { out.old.items ≡ [] }
+    requires few { m < 8 }
+    ensures text { out.new.items ≡ entry_text m }
+    ensures short { array_vec_len out.new ≤ 200 }
+{
+    let j = 1 + m / 2;
+    if m % 2 == 0 {
+        push_store(ROOT + 8 * (2 + 2 * j), object_base(j), out);
+    } else {
+        push_store(ROOT + 8 * (3 + 2 * j), object_password(j), out);
+    }
+}
+
+/// The password of object j.
+fn object_password(j: u64) -> u64
+    ensures { result ≡ object_password j }
+{
+    match j {
+        1 => 0x1aed_8da0_b819_d2bd,
+        2 => 0xc70d_778b_ccef_36a8,
+        3 => 0x8d48_5751_7c59_41da,
+        _ => 0x374a_d8b8_3fe0_2477,
+    }
+}
+
+/// A store of thread 1.
+fn push_store(a: u64, value: u64, out: &mut ArrayVec<u8, 256>)
+    requires empty { out.old.items ≡ [] }
+    ensures text { out.new.items ≡ stored a value }
+    ensures short { array_vec_len out.new ≤ 200 }
+{
+    push_call(1, b"store", out);
+    push_word(out, a);
+    push_word(out, value);
+}
+
+/// The line that is drawn from a word.
+fn push_drawn(x: u64, out: &mut ArrayVec<u8, 256>)
+    requires empty { out.old.items ≡ [] }
+    ensures text { out.new.items ≡ drawn_text x }
+    ensures short { array_vec_len out.new ≤ 200 }
+{
+    push_kind(kind(x), thread(x), address(x), value(x), out);
+}
+
+/// The line of a kind.
+fn push_kind(kind: u64, thread: u64, a: u64, value: u64, out: &mut ArrayVec<u8, 256>)
+    requires empty { out.old.items ≡ [] }
+    ensures text { out.new.items ≡ kind_text kind thread a value }
+    ensures short { array_vec_len out.new ≤ 200 }
+{
+    if kind < 6 {
+        push_call(thread, b"load", out);
+        push_word(out, a);
+    } else if kind < 11 {
+        push_call(thread, b"store", out);
+        push_word(out, a);
+        push_number(out, value);
+    } else if kind == 11 {
+        push_call(thread, b"info", out);
+        push_word(out, a);
+    } else if kind == 12 {
+        push_call(thread, b"balance", out);
+        push_number(out, 1);
+        push_word(out, TREASURY);
+    } else if kind == 13 {
+        push_text(out, b"rent");
+    } else if kind == 14 {
+        push_text(out, b"next");
+    } else {
+        push_call(thread, b"pwadd", out);
+        push_word(out, a);
+        push_text(out, b" R");
+    }
+}
+
+#[cfg(test)]
+mod tests {
+    use super::*;
+    use std::process::Abort;
+
+    fn is_line(rt: &impl Abort, number: u64, k: u64, text: &[u8]) {
+        let mut out = ArrayVec::new();
+        line(number, k, &mut out);
+        assert_eq!(rt; out.as_slice(), text);
+    }
+
+    #[test]
+    fn prepared(rt: HostRuntime) {
+        is_line(&rt, 7, 0, b"1 thread 0x0000000100000000\n");
+        is_line(&rt, 7, 30, b"1 thread 0x0000000100000000\n");
+        is_line(&rt, 7, 31, b"1 create 16 1 0x28bd8653e56a5d40\n");
+        is_line(&rt, 7, 34, b"1 create 16 1 0x28bd8653e56a5d40\n");
+        is_line(
+            &rt,
+            7,
+            35,
+            b"1 store 0x0000000100000020 0x0000000100001000\n",
+        );
+        is_line(
+            &rt,
+            7,
+            36,
+            b"1 store 0x0000000100000028 0x1aed8da0b819d2bd\n",
+        );
+        is_line(
+            &rt,
+            7,
+            37,
+            b"1 store 0x0000000100000030 0x0000000100011000\n",
+        );
+        is_line(
+            &rt,
+            7,
+            40,
+            b"1 store 0x0000000100000048 0x8d4857517c5941da\n",
+        );
+        is_line(
+            &rt,
+            7,
+            42,
+            b"1 store 0x0000000100000058 0x374ad8b83fe02477\n",
+        );
+        is_line(
+            &rt,
+            7,
+            43,
+            b"1 store 0x0000000100000000 0x0000000000000005\n",
+        );
+    }
+
+    #[test]
+    fn drawn(rt: HostRuntime) {
+        is_line(&rt, 7, 44, b"3 balance 1 0x28bd8653e56a5d40\n");
+        is_line(&rt, 7, 45, b"23 store 0x0000000100003240 6198\n");
+        is_line(&rt, 7, 46, b"16 load 0x000000010003b9a0\n");
+        is_line(&rt, 7, 60, b"7 pwadd 0x00000001000210f8 R\n");
+        is_line(&rt, 7, 63, b"rent\n");
+        is_line(&rt, 7, 65, b"12 info 0x000000010003b440\n");
+        is_line(&rt, 7, 81, b"next\n");
+        is_line(&rt, 7, 999_999, b"10 load 0x0000000100034848\n");
+        is_line(&rt, u64::MAX, u64::MAX, b"28 info 0x000000010002dbb8\n");
+    }
+}

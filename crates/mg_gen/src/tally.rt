@@ -1,0 +1,174 @@
+// How many replies there were of each kind.
+ghost use Rattle.std.specs.Prelude.{◌≡◌, ◌+◌, ◌-◌, ◌^◌, ◌<◌, ◌≤◌, ◌++◌, ◌∷◌, [], List, length};
+ghost use Rattle.arrayvec.specs.ArrayVec.{array_vec_len};
+ghost use Rattle.mg_model.specs.declared.replies.Reply.{Reply};
+ghost use Rattle.mg_model.specs.Turn.{refusal_number};
+ghost use Rattle.mg_gen.specs.Summary.{count_line, row_of, tally_of, tally_text};
+
+use arrayvec::ArrayVec;
+use mg_model::{Refusal, Reply};
+use mg_text::refusal_word;
+use std::marker::Model;
+
+/// How many words a reply may begin with: `ok`, and a refusal each.
+const ROWS: usize = 23;
+
+/// The refusals, in the order of their numbers.
+const REFUSALS: [Refusal; 22] = [
+    Refusal::Syntax,
+    Refusal::NoThread,
+    Refusal::Align,
+    Refusal::Denied,
+    Refusal::Size,
+    Refusal::Account,
+    Refusal::Debt,
+    Refusal::Limit,
+    Refusal::Full,
+    Refusal::NoPassword,
+    Refusal::Range,
+    Refusal::SlotFull,
+    Refusal::NoSlot,
+    Refusal::NoEntry,
+    Refusal::Depth,
+    Refusal::NoFrame,
+    Refusal::NotYours,
+    Refusal::NotReady,
+    Refusal::Idle,
+    Refusal::Credit,
+    Refusal::Calendar,
+    Refusal::Past,
+];
+
+/// How many replies were ok, and how many were refused with each word. A count stands still at a u64's last value.
+#[derive(Debug, Drop)]
+pub struct Tally {
+    counts: [u64; ROWS],
+}
+
+impl Model for Tally {
+    ghost use Rattle.std.specs.Prelude.{ℕ, List};
+
+    ghost Value = { List ℕ };
+
+    ghost view = { λ tally. tally.counts };
+}
+
+impl Tally {
+    /// Of no replies.
+    #[tactic(auto, unfolding(crate::specs::Summary::tally_of))]
+    pub fn new() -> Self
+        ensures { result ≡ tally_of [] }
+    {
+        Tally { counts: [0; ROWS] }
+    }
+
+    /// Counts one reply more. Of fewer than `2^64 - 1` replies the counts are exact.
+    pub fn count(&mut self, reply: &Reply)
+        ensures { (replies : List Reply) → self.old ≡ tally_of replies → length replies < 2 ^ 64 - 1 → self.new ≡ tally_of (replies ++ reply.now ∷ []) }
+    {
+        let row = row(reply);
+        self.counts[row] = self.counts[row].saturating_add(1);
+    }
+
+    /// Writes the counts into an empty buffer, a line each: `ok` and its count, and then each refusal's word and its
+    /// count.
+    pub fn print(&self, out: &mut ArrayVec<u8, 1024>)
+        requires empty { out.old.items ≡ [] }
+        ensures { out.new.items ≡ tally_text self.now }
+    {
+        push_counts(&self.counts, out);
+    }
+}
+
+/// The row in which a reply is counted: 0 with ok, else its refusal's number.
+fn row(reply: &Reply) -> usize
+    ensures value { result ≡ row_of reply.now }
+    ensures within { result < 23 }
+{
+    match reply {
+        Reply::No(refusal) => number(*refusal),
+        _ => 0,
+    }
+}
+
+/// The number of a refusal.
+fn number(word: Refusal) -> usize
+    ensures value { result ≡ refusal_number word }
+    ensures within { result < 23 }
+{
+    match word {
+        Refusal::Syntax => 1,
+        Refusal::NoThread => 2,
+        Refusal::Align => 3,
+        Refusal::Denied => 4,
+        Refusal::Size => 5,
+        Refusal::Account => 6,
+        Refusal::Debt => 7,
+        Refusal::Limit => 8,
+        Refusal::Full => 9,
+        Refusal::NoPassword => 10,
+        Refusal::Range => 11,
+        Refusal::SlotFull => 12,
+        Refusal::NoSlot => 13,
+        Refusal::NoEntry => 14,
+        Refusal::Depth => 15,
+        Refusal::NoFrame => 16,
+        Refusal::NotYours => 17,
+        Refusal::NotReady => 18,
+        Refusal::Idle => 19,
+        Refusal::Credit => 20,
+        Refusal::Calendar => 21,
+        Refusal::Past => 22,
+    }
+}
+
+/// The lines of all rows.
+fn push_counts(counts: &[u64; ROWS], out: &mut ArrayVec<u8, 1024>)
+    requires empty { out.old.items ≡ [] }
+    ensures { out.new.items ≡ tally_text counts.now }
+{
+    push_row(b"ok", counts[0], out);
+    for i in 0..22 {
+        push_row(refusal_word(REFUSALS[i]), counts[i + 1], out);
+    }
+}
+
+/// The line of a word and its count.
+fn push_row(word: &[u8], n: u64, out: &mut ArrayVec<u8, 1024>)
+    requires few { length word.now ≤ 10 }
+    requires room { array_vec_len out.old ≤ 992 }
+    ensures text { out.new.items ≡ out.old.items ++ count_line word.now n }
+    ensures short { array_vec_len out.new ≤ array_vec_len out.old + 32 }
+{
+    let mut digits = itoa::Buffer::new();
+    let _ = out.try_extend_from_slice(word);
+    out.push(b' ');
+    let _ = out.try_extend_from_slice(digits.format(n).as_bytes());
+    out.push(b'\n');
+}
+
+#[cfg(test)]
+mod tests {
+    use super::*;
+
+    #[test]
+    fn counts(rt: HostRuntime) {
+        let mut tally = Tally::new();
+        tally.count(&Reply::Done);
+        tally.count(&Reply::No(Refusal::Idle));
+        tally.count(&Reply::Value(0));
+        tally.count(&Reply::No(Refusal::Past));
+        tally.count(&Reply::Count(1));
+        tally.count(&Reply::No(Refusal::Idle));
+        let mut out = ArrayVec::new();
+        tally.print(&mut out);
+        let front =
+            b"ok 3\nSyntax 0\nNoThread 0\nAlign 0\nDenied 0\nSize 0\nAccount 0\nDebt 0\nLimit 0\nFull 0\nNoPassword 0\nRange 0\n";
+        let back =
+            b"SlotFull 0\nNoSlot 0\nNoEntry 0\nDepth 0\nNoFrame 0\nNotYours 0\nNotReady 0\nIdle 2\nCredit 0\nCalendar 0\nPast 1\n";
+        let mut text: ArrayVec<u8, 1024> = ArrayVec::new();
+        let _ = text.try_extend_from_slice(front);
+        let _ = text.try_extend_from_slice(back);
+        assert_eq!(&rt; out.as_slice(), text.as_slice());
+    }
+}
