@@ -1,6 +1,7 @@
 // A mirror of two disks that goes on with one of them.
 use mg_disk::{BLOCK_SIZE, Block, Disk, Fuse, MemDisk};
-use mg_disk_trial::{Mirror, Side, write_pair};
+use mg_disk_trial::write_pair;
+use mg_mirror::{Mirror, Side};
 use std::alloc::AllocError;
 use std::marker::Brand;
 

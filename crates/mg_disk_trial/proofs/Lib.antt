@@ -1,3 +1,1 @@
-pub mod Copied
 pub mod Images
-pub mod MirrorCalls

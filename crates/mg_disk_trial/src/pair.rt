@@ -1,10 +1,10 @@
 // A block written on two disks through a mirror. It is for this run that the mirror says whose counts rose.
 ghost use Rattle.std.specs.Prelude.{◌≡◌, true, IfOk, IfErr};
 ghost use Rattle.mg_disk.specs.Stops.{CountRose};
-ghost use Rattle.mg_disk_trial.specs.Opened.{BothRose};
+ghost use Rattle.mg_mirror.specs.Opened.{BothRose};
 
-use crate::mirror::{Mirror, MirrorFailed, Opened, Side};
 use mg_disk::{Block, Disk};
+use mg_mirror::{Mirror, MirrorFailed, Opened, Side};
 use std::marker::Brand;
 
 /// Two disks after a run, and whether the run failed.

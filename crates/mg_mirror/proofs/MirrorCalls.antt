@@ -5,10 +5,10 @@ use Rattle.mg_disk.specs.Disk.{Image, Both, GoesOn, no_image, Torn}
 use Rattle.mg_disk.specs.Stops.{TimeGoes}
 use Rattle.mg_disk.specs.Runs.{time_none}
 use Rattle.mg_disk.specs.declared.disk.Disk.{Ghosts}
-use Rattle.mg_disk_trial.specs.Mirror.{told_cut, seen_of, SameWhileBoth, moment_of, Been, LeftSince, IsToldAs, told_map, cut_set}
-use Rattle.mg_disk_trial.specs.MirrorMoments.{Cuts, goes_then, goes_same, goes_alone, torn_left, torn_right}
-use Rattle.mg_disk_trial.specs.declared.mirror.Side.{Side}
-use Rattle.mg_disk_trial.specs.declared.mirror.Side.TheVariants.{Left, Right}
+use Rattle.mg_mirror.specs.Mirror.{told_cut, seen_of, SameWhileBoth, moment_of, Been, LeftSince, IsToldAs, told_map, cut_set}
+use Rattle.mg_mirror.specs.MirrorMoments.{Cuts, goes_then, goes_same, goes_alone, torn_left, torn_right}
+use Rattle.mg_mirror.specs.declared.mirror.Side.{Side}
+use Rattle.mg_mirror.specs.declared.mirror.Side.TheVariants.{Left, Right}
 
 pub told_same : (o : Option Image) → IsToldAs o o
 told_same (Some x) = tt

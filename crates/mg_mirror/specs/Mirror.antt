@@ -8,8 +8,8 @@ use Rattle.std.proofs.lemmas.Bool.Decides.{leb_tells}
 use Rattle.std.proofs.lemmas.List.{length-take, get_or-take, get_or_past}
 use Rattle.std.proofs.lemmas.List.Elements.{All-take}
 use Rattle.mg_disk.specs.Disk.{Image, IsBytes, AreBytes, Moment, At, Both, Alone, block_at, SameBut, SeenBut, only_place, OnlySeen}
-use Rattle.mg_disk_trial.specs.declared.mirror.Side.{Side}
-use Rattle.mg_disk_trial.specs.declared.mirror.Side.TheVariants.{Left, Right}
+use Rattle.mg_mirror.specs.declared.mirror.Side.{Side}
+use Rattle.mg_mirror.specs.declared.mirror.Side.TheVariants.{Left, Right}
 
 -- what the first tells, where the second tells too, cut to n blocks
 abbrev pub told_cut : ℕ → Option Image → Option Image → Option Image

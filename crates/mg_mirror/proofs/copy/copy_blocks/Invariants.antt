@@ -1,7 +1,7 @@
 use Rattle.std.proofs.Common.{◌≡◌}
 use Rattle.mg_disk.specs.Stops.{WritesNothing, CountGoes}
-use Rattle.mg_disk_trial.specs.Copy.{IsCopied}
-use Rattle.mg_disk_trial.proofs.copy.copy_blocks.Given as goal
+use Rattle.mg_mirror.specs.Copy.{IsCopied}
+use Rattle.mg_mirror.proofs.copy.copy_blocks.Given as goal
 
 -- the blocks so far are copied, and nothing was written on the disk that is read
 abbrev pub invariant-loop-i : goal.invariant-loop-i
@@ -10,6 +10,8 @@ invariant-loop-i g l = record {
   reads : WritesNothing g.D.Disk l.initial.from l.from;
   from_blocks : g.D.Disk.block_count l.from ≡ g.D.Disk.block_count l.initial.from;
   to_blocks : g.E.Disk.block_count l.to ≡ g.E.Disk.block_count l.initial.to;
+  from_tells : g.D.Disk.tells_stops l.from ≡ g.D.Disk.tells_stops l.initial.from;
+  to_tells : g.E.Disk.tells_stops l.to ≡ g.E.Disk.tells_stops l.initial.to;
   from_count : CountGoes g.D.Disk l.initial.from l.from;
   to_count : CountGoes g.E.Disk l.initial.to l.to;
 }

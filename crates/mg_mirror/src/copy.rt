@@ -1,7 +1,7 @@
 // A copy of one disk's first blocks on another.
 ghost use Rattle.std.specs.Prelude.{◌≡◌, ◌≤◌, false, IfOk, IsTrue, OnErr};
 ghost use Rattle.mg_disk.specs.Stops.{NothingPending, WritesNothing, CountGoes, CountRose};
-ghost use Rattle.mg_disk_trial.specs.Copy.{IsCopied};
+ghost use Rattle.mg_mirror.specs.Copy.{IsCopied};
 
 use mg_disk::{BLOCK_SIZE, Block, Disk, Failed};
 
@@ -18,6 +18,8 @@ pub(crate) fn copy_blocks<D: Disk, E: Disk>(
     ensures reads { WritesNothing D.Disk from.old from.new }
     ensures from_blocks { D.block_count from.new ≡ D.block_count from.old }
     ensures to_blocks { E.block_count to.new ≡ E.block_count to.old }
+    ensures from_tells { D.tells_stops from.new ≡ D.tells_stops from.old }
+    ensures to_tells { E.tells_stops to.new ≡ E.tells_stops to.old }
     ensures from_count { CountGoes D.Disk from.old from.new }
     ensures to_count { CountGoes E.Disk to.old to.new }
     ensures to_cause { IfOk result (λ good. good ≡ false → CountRose E.Disk to.old to.new) }

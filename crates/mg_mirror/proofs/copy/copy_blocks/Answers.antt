@@ -1,8 +1,8 @@
 use Rattle.std.proofs.Common.{◌≡◌, ◌∙◌, rules, slice_set, arith}
 use Rattle.std.specs.Prelude.{option_map}
 use Rattle.mg_disk.specs.Runs.{nothing_then}
-use Rattle.mg_disk_trial.proofs.Copied.{copied_more}
-use Rattle.mg_disk_trial.proofs.copy.copy_blocks.Goals as goal
+use Rattle.mg_mirror.proofs.Copied.{copied_more}
+use Rattle.mg_mirror.proofs.copy.copy_blocks.Goals as goal
 
 pub loop-i-preserved : goal.loop-i-preserved
 loop-i-preserved g c =
@@ -18,6 +18,8 @@ loop-i-preserved g c =
       reads = nothing_then g.D.Disk was c.loop-i.from c.read.new.self inv.reads (record { same = c.read.ensures.seen; stops = c.read.ensures.stops });
       from_blocks = c.read.ensures.blocks ∙ inv.from_blocks;
       to_blocks = c.write.ensures.blocks ∙ inv.to_blocks;
+      from_tells = c.read.ensures.tells ∙ inv.from_tells;
+      to_tells = c.write.ensures.tells ∙ inv.to_tells;
       from_count = search rules;
       to_count = search rules;
     }

@@ -1,7 +1,7 @@
 use Rattle.std.proofs.Common.{◌≡◌, None, rules}
-use Rattle.mg_disk_trial.proofs.Copied.{copied_still}
-use Rattle.mg_disk_trial.specs.Copy.{IsCopied}
-use Rattle.mg_disk_trial.proofs.mirror.Mirror.open_left.Goals as goal
+use Rattle.mg_mirror.proofs.Copied.{copied_still}
+use Rattle.mg_mirror.specs.Copy.{IsCopied}
+use Rattle.mg_mirror.proofs.mirror.Mirror.open_left.Goals as goal
 
 pub invariant_of-result-clause-same : goal.invariant_of-result-clause-same
 invariant_of-result-clause-same g c none =

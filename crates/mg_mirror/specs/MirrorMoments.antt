@@ -2,9 +2,9 @@
 use Rattle.std.specs.Prelude.{◌≡◌, ◌⊎◌, ℕ, Bool, IsTrue, take, Option, Some, None, IsSomeAnd}
 use Rattle.std.proofs.Common.{refl, sym, ◌∙◌, subst, inl, inr, ⊎_elim}
 use Rattle.mg_disk.specs.Disk.{Image, Moment, At, Both, Alone, only_place, GoesOn, no_image, Torn, OnlySeen}
-use Rattle.mg_disk_trial.specs.Mirror.{told_cut, seen_of, moment_of, Been, CutOf, LeftSince, same_cut, only_cut}
-use Rattle.mg_disk_trial.specs.declared.mirror.Side.{Side}
-use Rattle.mg_disk_trial.specs.declared.mirror.Side.TheVariants.{Left, Right}
+use Rattle.mg_mirror.specs.Mirror.{told_cut, seen_of, moment_of, Been, CutOf, LeftSince, same_cut, only_cut}
+use Rattle.mg_mirror.specs.declared.mirror.Side.{Side}
+use Rattle.mg_mirror.specs.declared.mirror.Side.TheVariants.{Left, Right}
 
 -- fresh images of a side are fresh ones of the mirror, once cut
 abbrev pub Cuts : ℕ → Bool → (Image → Type 0) → (Image → Type 0) → Type 0

@@ -1,8 +1,8 @@
 use Rattle.std.proofs.Common.{refl}
 use Rattle.mg_disk.specs.Disk.{no_image}
 use Rattle.mg_disk.specs.Runs.{time_none}
-use Rattle.mg_disk_trial.proofs.MirrorCalls.{quiet_along}
-use Rattle.mg_disk_trial.proofs.mirror.MirrorDisk.read.Goals as goal
+use Rattle.mg_mirror.proofs.MirrorCalls.{quiet_along}
+use Rattle.mg_mirror.proofs.mirror.MirrorDisk.read.Goals as goal
 
 pub returns-in-Ok-clause-stops : goal.returns-in-Ok-clause-stops
 returns-in-Ok-clause-stops g c =

@@ -4,8 +4,8 @@ use Rattle.std.specs.Option.{ForSome}
 use Rattle.std.proofs.Common.{refl, sym, ap, ◌∙◌}
 use Rattle.std.proofs.lemmas.List.{take_more, take_more_set}
 use Rattle.mg_disk.specs.Disk.{Image, block_at}
-use Rattle.mg_disk_trial.specs.Copy.{IsCopied}
-use Rattle.mg_disk_trial.specs.Mirror.{told_cut}
+use Rattle.mg_mirror.specs.Copy.{IsCopied}
+use Rattle.mg_mirror.specs.Mirror.{told_cut}
 
 mapped : (f : Image → Image) (o : Option Image) (y : Image) → option_map f o ≡ Some y → (z : Image) × (o ≡ Some z) × (y ≡ f z)
 mapped f (Some z) y is = (z, refl, cc)

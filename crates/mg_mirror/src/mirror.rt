@@ -1,15 +1,15 @@
 // One disk of two.
-ghost use Rattle.std.specs.Prelude.{◌≡◌, ◌<◌, ◌≤◌, ℕ, Some, ◌&&◌, None, take, option_map, slice_set, IfOk, IfErr, OnOk, OnErr};
+ghost use Rattle.std.specs.Prelude.{◌≡◌, ◌≢◌, ◌<◌, ◌≤◌, ℕ, min, Some, ◌&&◌, None, take, option_map, slice_set, IfOk, IfErr, OnOk, OnErr};
 ghost use Rattle.std.specs.Option.{ForSome};
-ghost use Rattle.mg_disk.specs.Stops.{NothingPending, TimeGoes, CountGoes, CountRose};
+ghost use Rattle.mg_disk.specs.Stops.{NothingPending, WritesNothing, TimeGoes, CountGoes, CountRose};
 ghost use Rattle.mg_disk.specs.Disk.{SeenBut, Torn, block_at, no_image, only_place};
-ghost use Rattle.mg_disk.specs.Calls.{IsSync};
-ghost use Rattle.mg_disk_trial.specs.Sides.{FailsWithSides};
-ghost use Rattle.mg_disk_trial.specs.declared.mirror.Side.{Side};
-ghost use Rattle.mg_disk_trial.specs.Opened.{RoseFrom, BothRose};
+ghost use Rattle.mg_disk.specs.Calls.{IsWrite, IsSync};
+ghost use Rattle.mg_mirror.specs.Sides.{FailsWithSides, ReadsSides, DropsSides};
+ghost use Rattle.mg_mirror.specs.declared.mirror.Side.{Side};
+ghost use Rattle.mg_mirror.specs.Opened.{RoseFrom, BothRose};
 ghost use Rattle.mg_faults.specs.Faults.{is_last};
-ghost use Rattle.mg_disk_trial.specs.Mirror.{seen_of, SameWhileBoth, moment_of, Been, LeftSince, seen_long, seen_bytes, and_left, and_right};
-ghost use Rattle.mg_disk_trial.specs.MirrorMoments.{been_now, counted_now, seen_stays};
+ghost use Rattle.mg_mirror.specs.Mirror.{seen_of, SameWhileBoth, moment_of, Been, LeftSince, seen_long, seen_bytes, and_left, and_right};
+ghost use Rattle.mg_mirror.specs.MirrorMoments.{been_now, counted_now, seen_stays};
 
 use crate::copy::copy_blocks;
 use mg_disk::{Block, Disk, Failed};
@@ -78,6 +78,14 @@ impl<D: Disk, E: Disk, K: Opened> Mirror<D, E, K> {
         ensures left_settled { from ≡ Side.Left → IfOk result (λ m. NothingPending D.Disk left → NothingPending ⟦<Mirror<D, E, K> as Disk>⟧ m) }
         ensures right_settled { from ≡ Side.Right → IfOk result (λ m. NothingPending E.Disk right → NothingPending ⟦<Mirror<D, E, K> as Disk>⟧ m) }
         ensures no_faults { IfOk result (λ m. ⟦<Mirror<D, E, K> as Disk>⟧.faults m ≡ 0) }
+        ensures blocks { IfOk result (λ m. ⟦<Mirror<D, E, K> as Disk>⟧.block_count m ≡ min (D.block_count left) (E.block_count right)) }
+        ensures tells { IfOk result (λ m. ⟦<Mirror<D, E, K> as Disk>⟧.tells_stops m ≡ (D.tells_stops left && E.tells_stops right)) }
+        ensures left_serves { from ≡ Side.Left → IfOk result (λ m. m.alone ≢ Some Side.Right) }
+        ensures right_serves { from ≡ Side.Right → IfOk result (λ m. m.alone ≢ Some Side.Left) }
+        ensures left_kept { from ≡ Side.Left → IfOk result (λ m. WritesNothing D.Disk left m.left) }
+        ensures right_kept { from ≡ Side.Right → IfOk result (λ m. WritesNothing E.Disk right m.right) }
+        ensures left_back { from ≡ Side.Left → IfErr result (λ e. WritesNothing D.Disk left e.left) }
+        ensures right_back { from ≡ Side.Right → IfErr result (λ e. WritesNothing E.Disk right e.right) }
         ensures left_cause { from ≡ Side.Left → IfErr result (λ e. CountRose D.Disk left e.left) }
         ensures right_cause { from ≡ Side.Right → IfErr result (λ e. CountRose E.Disk right e.right) }
     {
@@ -93,6 +101,11 @@ impl<D: Disk, E: Disk, K: Opened> Mirror<D, E, K> {
         ensures reads { IfOk result (λ m. ForSome (⟦<Mirror<D, E, K> as Disk>⟧.seen m) (λ image. ForSome (D.seen left) (λ x. image ≡ take (⟦<Mirror<D, E, K> as Disk>⟧.block_count m) x))) }
         ensures settled { IfOk result (λ m. NothingPending D.Disk left → NothingPending ⟦<Mirror<D, E, K> as Disk>⟧ m) }
         ensures no_faults { IfOk result (λ m. ⟦<Mirror<D, E, K> as Disk>⟧.faults m ≡ 0) }
+        ensures blocks { IfOk result (λ m. ⟦<Mirror<D, E, K> as Disk>⟧.block_count m ≡ min (D.block_count left) (E.block_count right)) }
+        ensures tells { IfOk result (λ m. ⟦<Mirror<D, E, K> as Disk>⟧.tells_stops m ≡ (D.tells_stops left && E.tells_stops right)) }
+        ensures serves { IfOk result (λ m. m.alone ≢ Some Side.Right) }
+        ensures kept { IfOk result (λ m. WritesNothing D.Disk left m.left) }
+        ensures back { IfErr result (λ e. WritesNothing D.Disk left e.left) }
         ensures cause { IfErr result (λ e. CountRose D.Disk left e.left) }
     {
         let (mut left, mut right) = (left, right);
@@ -118,6 +131,11 @@ impl<D: Disk, E: Disk, K: Opened> Mirror<D, E, K> {
         ensures reads { IfOk result (λ m. ForSome (⟦<Mirror<D, E, K> as Disk>⟧.seen m) (λ image. ForSome (E.seen right) (λ x. image ≡ take (⟦<Mirror<D, E, K> as Disk>⟧.block_count m) x))) }
         ensures settled { IfOk result (λ m. NothingPending E.Disk right → NothingPending ⟦<Mirror<D, E, K> as Disk>⟧ m) }
         ensures no_faults { IfOk result (λ m. ⟦<Mirror<D, E, K> as Disk>⟧.faults m ≡ 0) }
+        ensures blocks { IfOk result (λ m. ⟦<Mirror<D, E, K> as Disk>⟧.block_count m ≡ min (D.block_count left) (E.block_count right)) }
+        ensures tells { IfOk result (λ m. ⟦<Mirror<D, E, K> as Disk>⟧.tells_stops m ≡ (D.tells_stops left && E.tells_stops right)) }
+        ensures serves { IfOk result (λ m. m.alone ≢ Some Side.Left) }
+        ensures kept { IfOk result (λ m. WritesNothing E.Disk right m.right) }
+        ensures back { IfErr result (λ e. WritesNothing E.Disk right e.right) }
         ensures cause { IfErr result (λ e. CountRose E.Disk right e.right) }
     {
         let (mut left, mut right) = (left, right);
@@ -205,6 +223,7 @@ impl<D: Disk, E: Disk, K: Opened> Disk for Mirror<D, E, K> {
         ensures count { CountGoes ⟦<Mirror<D, E, K> as Disk>⟧ self.old self.new }
         ensures cause { OnErr result (CountRose ⟦<Mirror<D, E, K> as Disk>⟧ self.old self.new) }
         ensures fails { FailsWithSides D.Disk E.Disk self.old.alone self.old.left self.new.left self.old.right self.new.right result }
+        ensures sides { ReadsSides D.Disk self.old.alone self.new.alone self.old.left self.new.left self.old.right self.new.right }
     {
         match self.alone {
             None => match self.left.read(i, out) {
@@ -244,11 +263,11 @@ impl<D: Disk, E: Disk, K: Opened> Disk for Mirror<D, E, K> {
         ensures count { CountGoes ⟦<Mirror<D, E, K> as Disk>⟧ self.old self.new }
         ensures cause { OnErr result (CountRose ⟦<Mirror<D, E, K> as Disk>⟧ self.old self.new) }
         ensures fails { FailsWithSides D.Disk E.Disk self.old.alone self.old.left self.new.left self.old.right self.new.right result }
+        ensures sides { DropsSides D.Disk E.Disk self.old.alone self.new.alone self.old.left self.new.left self.old.right self.new.right result }
     {
         match self.alone {
             None => {
-                let left = self.left.write(i, from);
-                let right = self.right.write(i, from);
+                let (left, right) = write_both(&mut self.left, &mut self.right, i, from);
                 match (left, right) {
                     (Ok(()), Ok(())) => Ok(()),
                     (Ok(()), Err(_)) => {
@@ -286,6 +305,7 @@ impl<D: Disk, E: Disk, K: Opened> Disk for Mirror<D, E, K> {
     fn sync(&mut self) -> Result<(), Failed>
         ensures meets { IsSync ⟦<Mirror<D, E, K> as Disk>⟧ self.old self.new result }
         ensures fails { FailsWithSides D.Disk E.Disk self.old.alone self.old.left self.new.left self.old.right self.new.right result }
+        ensures sides { DropsSides D.Disk E.Disk self.old.alone self.new.alone self.old.left self.new.left self.old.right self.new.right result }
     {
         match self.alone {
             None => {
@@ -324,4 +344,21 @@ impl<D: Disk, E: Disk, K: Opened> Disk for Mirror<D, E, K> {
             },
         }
     }
+}
+
+/// Writes a block on both disks, whatever the first one answers.
+fn write_both<D: Disk, E: Disk>(
+    left: &mut D,
+    right: &mut E,
+    i: u64,
+    from: &Block,
+) -> (Result<(), Failed>, Result<(), Failed>)
+    requires left_range { i < D.block_count left.old }
+    requires right_range { i < E.block_count right.old }
+    ensures on_left { IsWrite D.Disk left.old left.new i from.now result.0 }
+    ensures on_right { IsWrite E.Disk right.old right.new i from.now result.1 }
+{
+    let on_left = left.write(i, from);
+    let on_right = right.write(i, from);
+    (on_left, on_right)
 }

@@ -1,0 +1,7 @@
+-- Definitions, in the order in which one reads them: what a mirror gives, its sides in each call, and its counts.
+pub mod Mirror
+pub mod Sides
+pub mod Opened
+pub mod Copy
+-- Lemmas that the disk of a mirror has to show.
+pub mod MirrorMoments
