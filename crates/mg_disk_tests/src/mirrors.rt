@@ -1,5 +1,5 @@
 // A mirror of two disks that goes on with one of them.
-use mg_disk::{BLOCK_SIZE, Block, Disk, Fuse, MemDisk};
+use mg_disk::{BLOCK_SIZE, Block, Counts, Disk, Fuse, MemDisk};
 use mg_disk_trial::write_pair;
 use mg_mirror::{Mirror, Side};
 use std::alloc::AllocError;
@@ -47,5 +47,31 @@ fn goes_on_where_one_does(rt: HostRuntime) -> Result<(), AllocError> {
     };
     assert!(rt; !pair.failed);
     assert_eq!(rt; pair.left.counts().writes, 1);
+    Ok(())
+}
+
+#[test]
+fn stands_alone_on_the_right(rt: HostRuntime) -> Result<(), AllocError> {
+    let left = MemDisk::new(rt.alloc(), 2, 9, Vec::new(rt.alloc()))?;
+    let right = MemDisk::new(rt.alloc(), 2, 9, Vec::new(rt.alloc()))?;
+    // The left side dies once both of its blocks are copied.
+    let Ok(mut mirror) = Mirror::<_, _, Brand>::open(Fuse::new(left, 2), right, Side::Left) else {
+        panic!(rt; "the left side gives its blocks")
+    };
+    assert_eq!(rt; mirror.blocks(), 2);
+    assert_eq!(rt; mirror.alone(), None);
+    assert!(rt; mirror.write(1, &[7; BLOCK_SIZE]).is_ok());
+    assert_eq!(rt; mirror.alone(), Some(Side::Right));
+    assert!(rt; mirror.sync().is_ok());
+    let (_left, right) = mirror.sides();
+    // The copy, and the block that was written after it.
+    assert_eq!(rt;
+        right.counts(),
+        Counts {
+            reads: 0,
+            writes: 3,
+            syncs: 2
+        }
+    );
     Ok(())
 }
