@@ -7,7 +7,7 @@ ghost use Rattle.mg_disk.specs.Disk.{At};
 use crate::counted::counted;
 use crate::{BLOCK_SIZE, Block, Disk, Failed};
 use mg_faults::FaultCount;
-use std::fs::{OpenFile, OpenOptions};
+use std::fs::{File, OpenFile, OpenOptions};
 use std::io;
 use std::os::unix::fs::FileExt;
 use std::rt::Files;
@@ -15,8 +15,25 @@ use std::rt::Files;
 /// How many blocks a [`FileDisk`] has.
 const BLOCKS: u64 = 70_000;
 
+/// A file that one run at a time may hold for itself.
+pub trait OneHolder {
+    /// Takes the file for this run, until it is closed. An error comes where another run has it (`WouldBlock`), and where the
+    /// system keeps no locks on it; neither waits.
+    fn hold(&self) -> io::Result<()>;
+}
+
+impl OneHolder for File {
+    /// The lock is the advisory one on the whole file, `flock` of the system, exclusive: it keeps out those that ask for it.
+    fn hold(&self) -> io::Result<()> {
+        Ok(self.try_lock()?)
+    }
+}
+
 /// A disk of 70,000 blocks in a file, which is opened at the first read, write or sync and made empty where there is
 /// none. Past the end of the file it reads zeros.
+///
+/// A file that is opened is held for this run alone ([`OneHolder`]): one that another run holds counts as one that cannot be
+/// opened.
 ///
 /// A call fails where the file cannot be opened, where the system answers an error, and where it takes less than the
 /// whole of a block that is written; the next call tries again. A sync is `sync_data` of the file: one that answers Ok
@@ -25,7 +42,7 @@ const BLOCKS: u64 = 70_000;
 #[derive(Drop)]
 pub struct FileDisk<'a, R: Files>
 where
-    R::File: FileExt,
+    R::File: FileExt + OneHolder,
 {
     rt: &'a R,
     path: &'a str,
@@ -35,7 +52,7 @@ where
 
 impl<'a, R: Files> FileDisk<'a, R>
 where
-    R::File: FileExt,
+    R::File: FileExt + OneHolder,
 {
     /// The disk in the file at `path`. The file is not touched yet, and no memory is taken.
     pub fn new(rt: &'a R, path: &'a str) -> FileDisk<'a, R>
@@ -49,17 +66,21 @@ where
         }
     }
 
-    /// The file, opened where it is not yet. The caller puts it back.
+    /// The file, opened and held where it is not yet. The caller puts it back.
     fn take_file(&mut self) -> io::Result<R::File>
         ensures { self.new.count ≡ self.old.count }
     {
         match self.file.take() {
             Some(file) => Ok(file),
-            None => OpenOptions::new()
-                .read(true)
-                .write(true)
-                .create(true)
-                .open(self.rt, self.path),
+            None => {
+                let file = OpenOptions::new()
+                    .read(true)
+                    .write(true)
+                    .create(true)
+                    .open(self.rt, self.path)?;
+                file.hold()?;
+                Ok(file)
+            }
         }
     }
 }
@@ -96,7 +117,7 @@ fn fault(outcome: io::Result<()>) -> Result<(), Failed> {
 
 impl<'a, R: Files> Disk for FileDisk<'a, R>
 where
-    R::File: FileExt,
+    R::File: FileExt + OneHolder,
 {
     ghost block_count = { λ _. 70000 };
 

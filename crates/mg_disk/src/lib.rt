@@ -18,7 +18,7 @@ mod memory;
 mod scratch;
 
 pub use disk::{BLOCK_SIZE, Block, Disk};
-pub use file::FileDisk;
+pub use file::{FileDisk, OneHolder};
 pub use fuse::Fuse;
 pub use memory::{Counts, Left, MemDisk};
 pub use mg_faults::Failed;

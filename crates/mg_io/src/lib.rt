@@ -13,6 +13,7 @@
 
 mod mem_sink;
 mod mem_source;
+mod numbers;
 mod plan;
 mod putting;
 mod streams;
@@ -21,6 +22,7 @@ mod traits;
 pub use mem_sink::MemSink;
 pub use mem_source::MemSource;
 pub use mg_faults::Failed;
+pub use numbers::standard_numbers;
 pub use putting::put_all;
 pub use streams::{ReaderSource, WriterSink};
 pub use traits::{Sink, Source};
