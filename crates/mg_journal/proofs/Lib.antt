@@ -5,9 +5,11 @@ mod CommitRuns
 mod CommitSteps
 mod Homes
 mod Lookups
+mod NewestSteps
 mod Once
 mod OpenSteps
 mod PhaseSteps
 mod RecoverSteps
 mod Spliced
+mod Tables
 mod Waits

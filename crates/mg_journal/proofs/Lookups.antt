@@ -11,19 +11,20 @@ use Rattle.mg_model.specs.Layout.{segment_body, segment_count}
 use Rattle.mg_model.specs.Replay.{body_count, home_of, is_open, replay, writes_from, writes_of, writes_since, written}
 use Rattle.mg_journal.specs.Facts.{replayed-is}
 use Rattle.mg_journal.specs.Looked.{held_at}
+use Rattle.mg_journal.specs.Newest.{is_for}
 use Rattle.mg_journal.specs.Places.{Fits, IsPlace, Placed, places_from, places_of, places_since}
 
 -- what stands in block i after these writes, where x stood there
-abbrev value_at : List (ℕ × List ℕ) → ℕ → List ℕ → List ℕ
+abbrev pub value_at : List (ℕ × List ℕ) → ℕ → List ℕ → List ℕ
 value_at [] i x = x
 value_at ((home, bytes) ∷ writes) i x = value_at writes i (if home == i then bytes else x)
 
 -- the block that holds block i, where the other one held it before
-abbrev held_from : List (ℕ × ℕ) → ℕ → ℕ → ℕ
+abbrev pub held_from : List (ℕ × ℕ) → ℕ → ℕ → ℕ
 held_from [] i other = other
 held_from ((home, body) ∷ places) i other = held_from places i (if home == i then body else other)
 
-written_at : (writes : List (ℕ × List ℕ)) (a : Image) (i : ℕ) → i < length a → block_at (written a writes) i ≡ value_at writes i (block_at a i)
+pub written_at : (writes : List (ℕ × List ℕ)) (a : Image) (i : ℕ) → i < length a → block_at (written a writes) i ≡ value_at writes i (block_at a i)
 written_at [] a i inside = refl
 written_at ((home, bytes) ∷ writes) a i inside =
     written_at writes (slice_set a home bytes) i (omega (arith, length-set a home bytes))
@@ -41,14 +42,14 @@ written_at ((home, bytes) ∷ writes) a i inside =
         ∙ ap (λ t. if t then bytes else block_at a i) (sym not)
 
 -- a place as a write
-abbrev with_bytes : Image → ℕ × ℕ → ℕ × List ℕ
+abbrev pub with_bytes : Image → ℕ × ℕ → ℕ × List ℕ
 with_bytes a place = (place.0, block_at a place.1)
 
 either : (a : Image) (test : Bool) (body other : ℕ) → (if test then block_at a body else block_at a other) ≡ block_at a (if test then body else other)
 either a true body other = refl
 either a false body other = refl
 
-value_held : (a : Image) (places : List (ℕ × ℕ)) (i other : ℕ) → value_at (map (with_bytes a) places) i (block_at a other) ≡ block_at a (held_from places i other)
+pub value_held : (a : Image) (places : List (ℕ × ℕ)) (i other : ℕ) → value_at (map (with_bytes a) places) i (block_at a other) ≡ block_at a (held_from places i other)
 value_held a [] i other = refl
 value_held a ((home, body) ∷ places) i other =
     ap (value_at (map (with_bytes a) places) i) (either a (home == i) body other) ∙ value_held a places i (if home == i then body else other)
@@ -71,10 +72,7 @@ all_writes_are a from (suc n) =
     ∙ ap (λ w. map (with_bytes a) (places_of a from) ++ w) (all_writes_are a (from + 1) n)
     ∙ sym (map-append (with_bytes a) (places_of a from) (places_since a (from + 1) n))
 
-abbrev pub is_for : ℕ → ℕ × ℕ → Bool
-is_for i place = place.0 == i
-
-abbrev found : Option (ℕ × ℕ) → ℕ → ℕ
+abbrev pub found : Option (ℕ × ℕ) → ℕ → ℕ
 found place other = option_map_or (λ (p : ℕ × ℕ). p.1) place other
 
 later_first : (later : Option (ℕ × ℕ)) (home body i other : ℕ) → found later (if home == i then body else other) ≡ found (option_or later (find (is_for i) ((home, body) ∷ []))) other
@@ -85,7 +83,7 @@ later_first None home body i other = by_test (home == i)
     by_test true = refl
     by_test false = refl
 
-held_is : (places : List (ℕ × ℕ)) (i other : ℕ) → held_from places i other ≡ found (find (is_for i) (reverse places)) other
+pub held_is : (places : List (ℕ × ℕ)) (i other : ℕ) → held_from places i other ≡ found (find (is_for i) (reverse places)) other
 held_is [] i other = refl
 held_is ((home, body) ∷ places) i other =
     held_is places i (if home == i then body else other)

@@ -1,27 +1,14 @@
 -- Lemmas on the phases of a commit: one write more, and what stands in a segment once all are made.
-use Rattle.std.specs.Prelude.{◌≡◌, ◌⊎◌, ◌+◌, ◌*◌, ◌≤◌, ◌<◌, ◌==◌, ℕ, zero, suc, true, List, [], ◌∷◌, ◌++◌, length, option_map, slice_index_or, slice_set, take, Option, Some, None}
+use Rattle.std.specs.Prelude.{◌≡◌, ◌⊎◌, ◌+◌, ◌*◌, ◌≤◌, ◌<◌, ℕ, zero, suc, List, [], ◌∷◌, ◌++◌, length, option_map, slice_index_or, slice_set, take, Option, Some, None}
 use Rattle.std.proofs.Common.{refl, sym, ap, ◌∙◌, inl, inr, ⊎_elim, arith}
-use Rattle.std.proofs.lemmas.Bool.{cases_lt, eq-eqb, or_left, or_right}
+use Rattle.std.proofs.lemmas.Bool.{cases_lt}
 use Rattle.std.proofs.lemmas.List.{get_or-set_other, get_or-set_same, length-set, length-take-le, take_more}
 use Rattle.mg_disk.specs.Disk.{Image, block_at}
 use Rattle.mg_model.specs.Bytes.{number_at}
 use Rattle.mg_model.specs.Layout.{body_limit, globals_block, segment_body, segment_count, segment_gate, segment_index}
-use Rattle.mg_model.specs.Replay.{body_count, home_of, writes_from, written}
-use Rattle.mg_journal.specs.Contents.{names}
+use Rattle.mg_model.specs.Replay.{body_count, home_of, writes_from}
 use Rattle.mg_journal.specs.Phases.{HoldsWrites, IsBehind, with_bodies}
 use Rattle.mg_journal.specs.Staged.{bytes_of, home_at}
-use Rattle.mg_journal.specs.WrittenOver.{written-append}
-
-pub named_item : (writes : List (ℕ × List ℕ)) (k : ℕ) → k < length writes → names writes (home_at writes k) ≡ true
-named_item [] k below = absurd (omega arith)
-named_item ((i, x) ∷ writes) zero below = or_left (i == i) (names writes i) (eq-eqb i i refl)
-named_item ((i, x) ∷ writes) (suc k) below = or_right (i == home_at writes k) (names writes (home_at writes k)) (named_item writes k (omega arith))
-
-pub homes_more : (writes : List (ℕ × List ℕ)) (k : ℕ) (told : Option Image) → k < length writes
-    → option_map (λ image. slice_set image (home_at writes k) (bytes_of writes k)) (option_map (λ image. written image (take k writes)) told) ≡ option_map (λ image. written image (take (k + 1) writes)) told
-homes_more writes k None below = refl
-homes_more writes k (Some a) below =
-    ap (λ i. Some i) (sym (ap (written a) (take_more writes k (0, []) below) ∙ written-append (take k writes) (slice_index_or writes k (0, []) ∷ []) a))
 
 with_bodies-last : (image : Image) (s j : ℕ) (writes : List (ℕ × List ℕ)) (last : ℕ × List ℕ) → with_bodies image s j (writes ++ last ∷ []) ≡ slice_set (with_bodies image s j writes) (segment_body s (j + length writes)) last.1
 with_bodies-last image s j [] last = let place : segment_body s j ≡ segment_body s (j + 0) = omega arith in ap (λ i. slice_set image i last.1) place

@@ -11,7 +11,7 @@ use Rattle.mg_journal.specs.Contents.{InJournal, SameContents, names}
 use Rattle.mg_journal.specs.Facts.{open_writes, replay-some, same_wider, seen_both}
 use Rattle.mg_journal.proofs.Homes.{homes_torn, homes_written}
 use Rattle.mg_journal.specs.Places.{Fits, Placed}
-use Rattle.mg_journal.specs.Recovery.{IsClosedUpTo, IsRecovered, IsStill}
+use Rattle.mg_journal.specs.Recovery.{IsClosedUpTo, IsRecovered, IsStill, Settles}
 use Rattle.mg_journal.proofs.ApplySteps.{filled_since}
 
 pub told_map : (change : Image → Image) (told : Option Image) → is_some (option_map change told) ≡ is_some told
@@ -28,32 +28,39 @@ pub some_weaker : {T : Type 0} (P Q : T → Type 0) (told : Option T) → ((x : 
 some_weaker P Q None sub is = is
 some_weaker P Q (Some x) sub is = sub x is
 
-module _ (view : Placed) (places : List (ℕ × ℕ)) (held : places ≡ view.places) (a : Image) (fits : Fits view a) where
+-- the places that a view holds
+pub view_settles : (view : Placed) (a : Image) → Fits view a → Settles view.total view.places a
+view_settles view a fits = record {
+  fit = fits.fit;
+  whole = ap (written a) writes;
+  named = λ k named. ap (λ w. names w k) (sym writes) ∙ named;
+}
+  where
+    writes : filled a view.places ≡ open_writes a
+    writes = ap (filled a) fits.places ∙ filled_since a 0 segment_count
+
+module _ (total : ℕ) (places : List (ℕ × ℕ)) (a : Image) (settles : Settles total places a) where
   abbrev pub homed : Image
   homed = written a (filled a places)
 
-  writes : filled a places ≡ open_writes a
-  writes = ap (filled a) (held ∙ fits.places) ∙ filled_since a 0 segment_count
-
-  replayed : replay a view.total ≡ Some homed
-  replayed = replay-some view.total a fits.fit ∙ ap (λ w. Some (written a w)) (sym writes)
+  replayed : replay a total ≡ Some homed
+  replayed = replay-some total a settles.fit ∙ ap (λ r. Some r) (sym settles.whole)
 
   -- once the homes are written
-  pub own : replay homed view.total ≡ Some homed
-  own = homes_written view.total a homed replayed
+  pub own : replay homed total ≡ Some homed
+  own = homes_written total a homed replayed
 
   -- while they are written
-  pub while_applied : (c : Image) → SameBut (λ k. names (filled a places) k ≡ true) a c → SameContents view.total a c
+  pub while_applied : (c : Image) → SameBut (λ k. names (filled a places) k ≡ true) a c → SameContents total a c
   while_applied c same =
-      seen_both InJournal (replay a view.total) (replay c view.total) homed homed replayed
-      (homes_torn view.total a c homed replayed
-      (same_wider (λ k. names (filled a places) k ≡ true) (λ k. names (open_writes a) k ≡ true) a c (λ k named. ap (λ w. names w k) (sym writes) ∙ named) same))
+      seen_both InJournal (replay a total) (replay c total) homed homed replayed
+      (homes_torn total a c homed replayed (same_wider (λ k. names (filled a places) k ≡ true) (λ k. names (open_writes a) k ≡ true) a c settles.named same))
       (same_as InJournal homed homed refl)
 
   -- while the gates are closed
-  pub while_closed : (c : Image) → IsStill view.total homed c → SameContents view.total a c
-  while_closed c still = seen_both InJournal (replay a view.total) (replay c view.total) homed c replayed still.own still.same
+  pub while_closed : (c : Image) → IsStill total homed c → SameContents total a c
+  while_closed c still = seen_both InJournal (replay a total) (replay c total) homed c replayed still.own still.same
 
   -- once they are
-  pub recovered_to : (c : Image) → IsClosedUpTo segment_count view.total homed c → IsRecovered view.total a c
+  pub recovered_to : (c : Image) → IsClosedUpTo segment_count total homed c → IsRecovered total a c
   recovered_to c up_to = record { contents = while_closed c up_to.still; closed = up_to.shut }

@@ -1,10 +1,12 @@
 -- Definitions, in the order in which one reads them: the contents, what the journal stands by, and what waits.
 pub mod Contents
+pub mod Places
+pub mod Newest
+pub mod Held
 pub mod Standing
 pub mod Staged
 -- What the parts of a commit and of an opening do.
 pub mod Phases
-pub mod Places
 pub mod Looked
 pub mod Applied
 pub mod Recovery

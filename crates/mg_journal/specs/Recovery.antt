@@ -1,10 +1,19 @@
 -- What recovery does to an image: homes are written, and then the gates are closed first to last.
-use Rattle.std.specs.Prelude.{◌≡◌, ◌⊎◌, ◌<◌, ℕ, true, false, Some}
+use Rattle.std.specs.Prelude.{◌≡◌, ◌⊎◌, ◌<◌, ℕ, true, false, List, Some}
 use Rattle.mg_disk.specs.Disk.{Image, SameBut, only_place}
-use Rattle.mg_model.specs.Layout.{segment_gate}
-use Rattle.mg_model.specs.Replay.{is_open, replay}
-use Rattle.mg_journal.specs.Contents.{InJournal, SameContents}
+use Rattle.mg_model.specs.Layout.{segment_count, segment_gate}
+use Rattle.mg_model.specs.Replay.{is_open, replay, segments_fit, written}
+use Rattle.mg_journal.specs.Applied.{filled}
+use Rattle.mg_journal.specs.Contents.{InJournal, SameContents, names}
+use Rattle.mg_journal.specs.Facts.{open_writes}
 use Rattle.mg_journal.specs.Standing.{AllClosed}
+
+-- the journal can be replayed, and the bodies at these places, written to their homes in order, make the homes that open
+-- segments name what a replay makes them, and no other block
+pub record Settles (total : ℕ) (places : List (ℕ × ℕ)) (image : Image) : Type 0 where
+  pub fit : segments_fit total image 0 segment_count ≡ true
+  pub whole : written image (filled image places) ≡ written image (open_writes image)
+  pub named : (k : ℕ) → names (filled image places) k ≡ true → names (open_writes image) k ≡ true
 
 -- while a gate is closed: nothing has changed, or any bytes stand in that gate, which was open
 abbrev pub MayCloseOne : ℕ → Image → Image → Type 0

@@ -1,16 +1,16 @@
 -- When a store stands on a disk, and what a commit may leave.
-use Rattle.std.specs.Prelude.{◌≡◌, ◌⊎◌, ◌≤◌, ◌<◌, ℕ, Bool, false, List, Some}
+use Rattle.std.specs.Prelude.{◌≡◌, ◌⊎◌, ◌+◌, ◌≤◌, ◌<◌, if◌then◌else◌, nat_lt, ℕ, zero, suc, Bool, true, false, List, Some}
 use Rattle.std.specs.Option.{ForSome}
-use Rattle.std.proofs.Common.{ap, ◌∙◌, arith}
-use Rattle.mg_disk.specs.Disk.{Image}
+use Rattle.mg_disk.specs.Disk.{Image, SameBut}
 use Rattle.mg_disk.specs.Stops.{NothingPending}
 use Rattle.mg_disk.specs.declared.disk.Disk.{Ghosts}
 use Rattle.mg_model.specs.Layout.{globals_block, segment_count}
-use Rattle.mg_model.specs.Replay.{is_open, replay, written}
-use Rattle.mg_journal.specs.Contents.{NewContents, SameContents}
-use Rattle.mg_journal.specs.Facts.{replay-some}
-use Rattle.mg_journal.specs.Segments.{fits-closed, fits-each, writes_since-none}
-use Rattle.mg_journal.specs.declared.store.Store.{Store}
+use Rattle.mg_model.specs.Replay.{is_open, replay, segments_fit, written}
+use Rattle.mg_journal.specs.Contents.{InJournal, NewContents, SameContents}
+use Rattle.mg_journal.specs.Facts.{open_writes, replay-some}
+use Rattle.mg_journal.specs.Held.{Store}
+use Rattle.mg_journal.specs.Newest.{HasLast}
+use Rattle.mg_journal.specs.Places.{places_since}
 
 -- how many blocks the volume has
 abbrev pub total_of : Store → ℕ
@@ -24,27 +24,29 @@ is_live store = store.live
 abbrev pub AllClosed : Image → Type 0
 AllClosed image = (s : ℕ) → s < segment_count → is_open image s ≡ false
 
--- an image with no open segment is its own replay
-pub own_replay : (total : ℕ) (a : Image) → AllClosed a → replay a total ≡ Some a
-own_replay total a closed =
-    replay-some total a (fits-each total a 0 segment_count (λ s low high. fits-closed total a s (closed s (omega arith))))
-    ∙ ap (λ w. Some (written a w)) (writes_since-none a 0 segment_count (λ s low high. closed s (omega arith)))
+-- the first segments are open, so many of them and no other, the journal can be replayed, and the table has the newest body of
+-- each block that they name
+pub record HoldsOpen (total opened : ℕ) (table : List (ℕ × ℕ)) (image : Image) : Type 0 where
+  pub gates : (s : ℕ) → s < segment_count → is_open image s ≡ nat_lt s opened
+  pub fit : segments_fit total image 0 segment_count ≡ true
+  pub newest : HasLast (places_since image 0 segment_count) table
 
--- a store fits an image where the open segments are the ones that it holds: it holds none
+-- a store fits an image where the open segments are the ones that it holds
 unfoldable pub IsFitting : Store → Image → Type 0
-IsFitting store image = AllClosed image
-
-pub closed_fits : (store : Store) (image : Image) → AllClosed image → IsFitting store image
-unfolding IsFitting
-closed_fits store image closed = closed
-
-pub fits_closed : (store : Store) (image : Image) → IsFitting store image → AllClosed image
-unfolding IsFitting
-fits_closed store image fits = fits
+IsFitting store image = HoldsOpen store.total store.opened store.table image
 
 -- where a store fits, the journal can be replayed
 pub fitting_replays : (store : Store) (image : Image) → IsFitting store image → (r : Image) × (replay image (total_of store) ≡ Some r)
-fitting_replays store image fits = (image, own_replay (total_of store) image (fits_closed store image fits))
+unfolding IsFitting
+fitting_replays store image fits = (written image (open_writes image), replay-some store.total image fits.fit)
+
+pub fits_held : (store : Store) (image : Image) → HoldsOpen store.total store.opened store.table image → IsFitting store image
+unfolding IsFitting
+fits_held store image held = held
+
+pub held_fits : (store : Store) (image : Image) → IsFitting store image → HoldsOpen store.total store.opened store.table image
+unfolding IsFitting
+held_fits store image fits = fits
 
 -- the volume is on the disk, nothing is pending, and the store fits what reads give
 pub record Stands {D : Type 0} (facts : Ghosts D) (store : Store) (disk : D) : Type 0 where
@@ -56,3 +58,17 @@ pub record Stands {D : Type 0} (facts : Ghosts D) (store : Store) (disk : D) : T
 -- the contents of c are those of a, or those with these writes over them
 abbrev pub OldOrNew : ℕ → List (ℕ × List ℕ) → Image → Image → Type 0
 OldOrNew total writes a c = SameContents total a c ⊎ NewContents total a writes c
+
+-- how many segments are open, from segment s on, and in all
+abbrev pub open_since : Image → ℕ → ℕ → ℕ
+open_since image s zero = 0
+open_since image s (suc n) = (if is_open image s then 1 else 0) + open_since image (s + 1) n
+
+abbrev pub open_count : Image → ℕ
+open_count image = open_since image 0 segment_count
+
+-- what a commit of some writes does: where a segment was closed, one more is open and no block behind the journal has changed;
+-- where all were open, one is
+pub record IsLate (a b : Image) : Type 0 where
+  pub more : open_count a < segment_count → (open_count b ≡ open_count a + 1) × SameBut InJournal a b
+  pub again : open_count a ≡ segment_count → open_count b ≡ 1

@@ -21,17 +21,3 @@ pub(crate) fn write_firmly<D: Disk>(disk: &mut D, i: u64, from: &Block) -> Resul
     disk.write(i, from)?;
     disk.sync()
 }
-
-/// Writes the homes of these writes, in order, and makes sure of them.
-pub(crate) fn write_homes<D: Disk>(disk: &mut D, writes: &[(u64, Block)]) -> Result<(), Failed>
-    requires room { All (λ write. write.0 < D.block_count disk.old) writes.now }
-    ensures any_moment { NothingPending D.Disk disk.old → ForSome (D.seen disk.old) (λ image. Leaves D.Disk disk.old disk.new (SameBut (λ k. names writes.now k ≡ true) image)) }
-    ensures written { OnOk result (D.seen disk.new ≡ option_map (λ image. written image writes.now) (D.seen disk.old)) }
-    ensures settled { OnOk result (NothingPending D.Disk disk.new) }
-    ensures calls { DiskCalls D.Disk disk.old disk.new result }
-{
-    for write in writes {
-        disk.write(write.0, &write.1)?;
-    }
-    disk.sync()
-}

@@ -5,6 +5,9 @@
 //! `mg_model`), the segments' own blocks left aside. [`Store::open`] recovers what a stop left of a commit: the contents
 //! stay at each moment of it, and after Ok no segment is open.
 //!
+//! A commit fills the next of eight segments, and homes wait: the store's table says where the newest body of each block
+//! lies. A commit that finds all eight open makes a checkpoint first, which writes the homes and closes the gates.
+//!
 //! `specs/Contents.antt` and `specs/Standing.antt` have the words of the contracts. What changes inside the journal do to
 //! the contents is told by `specs/Facts.antt` (closed segments, and the gate of a written one) and `proofs/Homes.antt`
 //! (homes of open segments, and the closing of gates), for any segment and with no disk in them.
@@ -19,6 +22,7 @@ mod reading;
 mod recovering;
 mod segment;
 mod store;
+mod table;
 mod view;
 mod writes;
 

@@ -1,5 +1,5 @@
 // Opening: what open segments hold is written to its homes, and then the gates are closed.
-ghost use Rattle.std.specs.Prelude.{◌≡◌, ◌≤◌, All, IsSomeAnd, OnErr, OnOk, is_some, option_map, true};
+ghost use Rattle.std.specs.Prelude.{◌≡◌, ◌≤◌, ℕ, All, IsSomeAnd, OnErr, OnOk, is_some, option_map, true};
 ghost use Rattle.std.specs.Option.{ForSome};
 ghost use Rattle.mg_disk.specs.Disk.{SameBut};
 ghost use Rattle.mg_disk.specs.Stops.{DiskCalls, Leaves, NothingPending};
@@ -8,7 +8,7 @@ ghost use Rattle.mg_model.specs.Replay.{written};
 ghost use Rattle.mg_journal.specs.Applied.{filled};
 ghost use Rattle.mg_journal.specs.Contents.{SameContents, names};
 ghost use Rattle.mg_journal.specs.Places.{Fits, IsPlace};
-ghost use Rattle.mg_journal.specs.Recovery.{IsRecovered};
+ghost use Rattle.mg_journal.specs.Recovery.{IsRecovered, Settles};
 
 use crate::recovering::close_gates;
 use crate::view::View;
@@ -34,6 +34,21 @@ pub(crate) fn apply<D: Disk>(disk: &mut D, places: &[(u64, u64)]) -> Result<(), 
     disk.sync()
 }
 
+/// Writes the bodies at these places to their homes, and then closes the gates.
+pub(crate) fn settle<D: Disk>(disk: &mut D, places: &[(u64, u64)]) -> Result<(), Failed>
+    requires journal { globals_block ≤ D.block_count disk.old }
+    requires room { All (IsPlace (D.block_count disk.old)) places.now }
+    ensures any_moment { NothingPending D.Disk disk.old → ForSome (D.seen disk.old) (λ image. (total : ℕ) → Settles total places.now image → Leaves D.Disk disk.old disk.new (SameContents total image)) }
+    ensures contents { ForSome (D.seen disk.old) (λ image. (total : ℕ) → Settles total places.now image → IsSomeAnd (D.seen disk.new) (SameContents total image)) }
+    ensures recovered { OnOk result (ForSome (D.seen disk.old) (λ image. (total : ℕ) → Settles total places.now image → IsSomeAnd (D.seen disk.new) (IsRecovered total image))) }
+    ensures tells { is_some (D.seen disk.new) ≡ is_some (D.seen disk.old) }
+    ensures settled { OnOk result (NothingPending D.Disk disk.new) }
+    ensures calls { DiskCalls D.Disk disk.old disk.new result }
+{
+    apply(disk, places)?;
+    close_gates(disk)
+}
+
 /// Recovers a disk that this view fits: what open segments hold goes to its homes, and then the gates are closed.
 pub(crate) fn recover<D: Disk>(disk: &mut D, view: &View) -> Result<(), Failed>
     requires journal { globals_block ≤ view.now.total }
@@ -47,6 +62,5 @@ pub(crate) fn recover<D: Disk>(disk: &mut D, view: &View) -> Result<(), Failed>
     ensures settled { OnOk result (NothingPending D.Disk disk.new) }
     ensures calls { DiskCalls D.Disk disk.old disk.new result }
 {
-    apply(disk, view.places())?;
-    close_gates(disk)
+    settle(disk, view.places())
 }

@@ -7,9 +7,6 @@ use mg_disk::{BLOCK_SIZE, Block};
 /// How many segments there are.
 pub(crate) const SEGMENTS: u64 = 8;
 
-/// The gate of segment 0.
-pub(crate) const FIRST_GATE: u64 = 2;
-
 /// The byte that a gate begins with where it is open.
 const OPEN: u8 = 0xA5;
 

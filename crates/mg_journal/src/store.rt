@@ -1,29 +1,47 @@
 // The journal of a volume: commits that a stop leaves whole or absent.
-ghost use Rattle.std.specs.Prelude.{◌≡◌, ◌≤◌, ◌<◌, [], IfOk, IsOk, IsSome, IsSomeAnd, None, OnErr, OnOk, is_ok, length, true};
+ghost use Rattle.std.specs.Prelude.{◌≡◌, ◌≢◌, ◌≤◌, ◌<◌, ◌+◌, [], IfOk, IsOk, IsSome, IsSomeAnd, None, OnErr, OnOk, is_ok, is_some, length, true};
 ghost use Rattle.std.specs.Option.{ForSome};
 ghost use Rattle.mg_disk.specs.Disk.{block_at};
 ghost use Rattle.mg_disk.specs.Stops.{DiskCalls, DiskCallsBy, Leaves, NothingPending, WritesNothing};
-ghost use Rattle.mg_model.specs.Layout.{body_limit, globals_block};
+ghost use Rattle.mg_model.specs.Layout.{body_limit, globals_block, segment_body, segment_count};
 ghost use Rattle.mg_model.specs.Replay.{homes_fit, replay};
 ghost use Rattle.mg_journal.specs.Contents.{NewContents, SameContents};
-ghost use Rattle.mg_journal.specs.Standing.{OldOrNew, Stands, is_live, total_of};
+ghost use Rattle.mg_journal.specs.Newest.{Adds, newest_at};
+ghost use Rattle.mg_journal.specs.Phases.{IsNext};
+ghost use Rattle.mg_journal.specs.Standing.{IsLate, OldOrNew, Stands, is_live, total_of};
 
-use crate::committing::{write_firmly, write_homes};
+use crate::committing::write_firmly;
 use crate::faults::ViewFault;
-use crate::opening::recover;
-use crate::places::{FIRST_GATE, closed_gate, opened_gate};
+use crate::opening::{recover, settle};
+use crate::places::{SEGMENTS, gate_of, index_of, opened_gate};
 use crate::segment::write_segment;
+use crate::table::Table;
 use crate::view::View;
 use crate::writes::Writes;
 use mg_disk::{Block, Disk};
 use mg_faults::Failed;
 use std::alloc::Global;
+use std::marker::Model;
 
 /// The journal of a volume on a disk.
 #[derive(Drop)]
 pub struct Store {
     total: u64,
     live: bool,
+    // How many segments are open: the first ones.
+    opened: u64,
+    // Where the newest body of each block lies that they hold.
+    table: Table,
+}
+
+impl Model for Store {
+    ghost use Rattle.mg_journal.specs.Held.{IsKept, Store};
+
+    ghost Value = { Store };
+
+    ghost view = { λ s. record { total = s.total; live = s.live; opened = s.opened; table = s.table } };
+
+    ghost invariant = { λ s. IsKept (record { total = s.total; live = s.live; opened = s.opened; table = s.table }) };
 }
 
 impl Store {
@@ -49,12 +67,21 @@ impl Store {
         ensures untouched { result ≡ Err ViewFault.Damaged → WritesNothing D.Disk disk.old disk.new }
         ensures calls { DiskCallsBy D.Disk disk.old disk.new (result ≡ Err ViewFault.Disk) }
     {
+        let table = match Table::new(alloc) {
+            Ok(table) => table,
+            Err(_) => return Err(ViewFault::Memory),
+        };
         let view = match View::look(alloc, disk, total) {
             Ok(view) => view,
             Err(fault) => return Err(fault),
         };
         match recover(disk, &view) {
-            Ok(()) => Ok(Store { total, live: true }),
+            Ok(()) => Ok(Store {
+                total,
+                live: true,
+                opened: 0,
+                table,
+            }),
             Err(Failed) => Err(ViewFault::Disk),
         }
     }
@@ -66,8 +93,9 @@ impl Store {
         self.live
     }
 
-    /// Writes these blocks, so that a stop at any moment leaves the old contents or the new. With nothing in `w` no call
-    /// is made. After [`Failed`], which comes only where a call of the disk failed, it is not live: the disk has the old
+    /// Writes these blocks, so that a stop at any moment leaves the old contents or the new: into the next of the journal's
+    /// eight segments, with two syncs, while homes wait. Where all eight are open it makes a checkpoint first, which writes
+    /// the homes and closes the gates. With nothing in `w` no call is made. After [`Failed`], which comes only where a call of the disk failed, it is not live: the disk has the old
     /// contents or the new.
     pub fn commit<D: Disk>(&mut self, disk: &mut D, w: &Writes) -> Result<(), Failed>
         requires live { is_live self.old ≡ true }
@@ -79,6 +107,7 @@ impl Store {
         ensures stands { OnOk result (Stands D.Disk self.new disk.new) }
         ensures live { is_live self.new ≡ is_ok result }
         ensures total { total_of self.new ≡ total_of self.old }
+        ensures late { w.now ≢ [] → OnOk result (ForSome (D.seen disk.old) (λ image. IsSomeAnd (D.seen disk.new) (IsLate image))) }
         ensures no_call { w.now ≡ [] → (disk.new ≡ disk.old) × IsOk result }
         ensures calls { DiskCalls D.Disk disk.old disk.new result }
     {
@@ -104,23 +133,110 @@ impl Store {
         ensures writes { WritesNothing D.Disk disk.old disk.new }
         ensures calls { DiskCalls D.Disk disk.old disk.new result }
     {
-        disk.read(i, out)
+        disk.read(self.place_of(i), out)
     }
 
-    // Writes the index and the bodies, opens the gate, writes the homes, and closes the gate, with a sync after each.
-    fn make<D: Disk>(&self, disk: &mut D, writes: &[(u64, Block)]) -> Result<(), Failed>
+    // The block that holds block `i` of the contents.
+    fn place_of(&self, i: u64) -> u64
+        requires place { i < total_of self.now }
+        requires journal { globals_block ≤ total_of self.now }
+        ensures newest { result ≡ newest_at self.now.table i }
+        ensures below { result < total_of self.now }
+    {
+        match self.table.body_of(i) {
+            Some(body) => body,
+            None => i,
+        }
+    }
+
+    // Writes these blocks into the next segment, after a checkpoint where none is left.
+    fn make<D: Disk>(&mut self, disk: &mut D, writes: &[(u64, Block)]) -> Result<(), Failed>
+        requires stands { Stands D.Disk self.old disk.old }
+        requires homes { homes_fit (total_of self.old) writes.now ≡ true }
+        requires few { length writes.now ≤ body_limit }
+        ensures any_moment { ForSome (D.seen disk.old) (λ image. Leaves D.Disk disk.old disk.new (OldOrNew (total_of self.old) writes.now image)) }
+        ensures done { OnOk result (ForSome (D.seen disk.old) (λ image. IsSomeAnd (D.seen disk.new) (NewContents (total_of self.old) image writes.now))) }
+        ensures tells { OnOk result (is_some (D.seen disk.new) ≡ is_some (D.seen disk.old)) }
+        ensures late { OnOk result (ForSome (D.seen disk.old) (λ image. IsSomeAnd (D.seen disk.new) (IsLate image))) }
+        ensures stands { OnOk result (Stands D.Disk self.new disk.new) }
+        ensures live { is_live self.new ≡ is_live self.old }
+        ensures total { total_of self.new ≡ total_of self.old }
+        ensures calls { DiskCalls D.Disk disk.old disk.new result }
+    {
+        self.make_room(disk)?;
+        self.write_next(disk, writes)?;
+        self.note(writes);
+        Ok(())
+    }
+
+    // Makes a checkpoint where all segments are open.
+    fn make_room<D: Disk>(&mut self, disk: &mut D) -> Result<(), Failed>
+        requires stands { Stands D.Disk self.old disk.old }
+        ensures any_moment { ForSome (D.seen disk.old) (λ image. Leaves D.Disk disk.old disk.new (SameContents (total_of self.old) image)) }
+        ensures contents { OnOk result (ForSome (D.seen disk.old) (λ image. IsSomeAnd (D.seen disk.new) (SameContents (total_of self.old) image))) }
+        ensures tells { OnOk result (is_some (D.seen disk.new) ≡ is_some (D.seen disk.old)) }
+        ensures stands { OnOk result (Stands D.Disk self.new disk.new) }
+        ensures room { OnOk result (self.new.opened < segment_count) }
+        ensures few { self.old.opened ≤ segment_count }
+        ensures kept { self.old.opened < segment_count → (D.seen disk.new ≡ D.seen disk.old) × (self.new.opened ≡ self.old.opened) }
+        ensures first { OnOk result (self.old.opened ≡ segment_count → self.new.opened ≡ 0) }
+        ensures live { is_live self.new ≡ is_live self.old }
+        ensures total { total_of self.new ≡ total_of self.old }
+        ensures calls { DiskCalls D.Disk disk.old disk.new result }
+    {
+        if self.opened < SEGMENTS {
+            Ok(())
+        } else {
+            self.checkpoint(disk)
+        }
+    }
+
+    // Writes each home once, from its newest body, in the order of blocks, and then closes the gates first to last, with a
+    // sync after each. The contents stay. The bodies are read from the journal.
+    fn checkpoint<D: Disk>(&mut self, disk: &mut D) -> Result<(), Failed>
+        requires stands { Stands D.Disk self.old disk.old }
+        ensures any_moment { ForSome (D.seen disk.old) (λ image. Leaves D.Disk disk.old disk.new (SameContents (total_of self.old) image)) }
+        ensures contents { ForSome (D.seen disk.old) (λ image. IsSomeAnd (D.seen disk.new) (SameContents (total_of self.old) image)) }
+        ensures tells { is_some (D.seen disk.new) ≡ is_some (D.seen disk.old) }
+        ensures stands { OnOk result (Stands D.Disk self.new disk.new) }
+        ensures none { OnOk result (self.new.opened ≡ 0) }
+        ensures live { is_live self.new ≡ is_live self.old }
+        ensures total { total_of self.new ≡ total_of self.old }
+        ensures calls { DiskCalls D.Disk disk.old disk.new result }
+    {
+        settle(disk, self.table.as_slice())?;
+        self.table.clear();
+        self.opened = 0;
+        Ok(())
+    }
+
+    // Writes the index and the bodies of the next segment, and then opens its gate, with a sync after each.
+    fn write_next<D: Disk>(&self, disk: &mut D, writes: &[(u64, Block)]) -> Result<(), Failed>
         requires stands { Stands D.Disk self.now disk.old }
+        requires room { self.now.opened < segment_count }
         requires homes { homes_fit (total_of self.now) writes.now ≡ true }
         requires few { length writes.now ≤ body_limit }
         ensures any_moment { ForSome (D.seen disk.old) (λ image. Leaves D.Disk disk.old disk.new (OldOrNew (total_of self.now) writes.now image)) }
-        ensures done { OnOk result (ForSome (D.seen disk.old) (λ image. IsSomeAnd (D.seen disk.new) (NewContents (total_of self.now) image writes.now))) }
-        ensures came_from { OnOk result (ForSome (D.seen disk.new) (λ now. IsSomeAnd (D.seen disk.old) (λ image. NewContents (total_of self.now) image writes.now now))) }
-        ensures stands { OnOk result (Stands D.Disk self.now disk.new) }
+        ensures next { OnOk result (ForSome (D.seen disk.old) (λ image. IsSomeAnd (D.seen disk.new) (IsNext (total_of self.now) self.now.opened writes.now image))) }
+        ensures tells { OnOk result (is_some (D.seen disk.new) ≡ is_some (D.seen disk.old)) }
+        ensures settled { OnOk result (NothingPending D.Disk disk.new) }
         ensures calls { DiskCalls D.Disk disk.old disk.new result }
     {
-        write_segment(disk, 0, writes)?;
-        write_firmly(disk, FIRST_GATE, &opened_gate())?;
-        write_homes(disk, writes)?;
-        write_firmly(disk, FIRST_GATE, &closed_gate())
+        write_segment(disk, self.opened, writes)?;
+        write_firmly(disk, gate_of(self.opened), &opened_gate())
+    }
+
+    // Holds that the next segment is open with these bodies.
+    fn note(&mut self, writes: &[(u64, Block)])
+        requires room { self.old.opened < segment_count }
+        requires homes { homes_fit (total_of self.old) writes.now ≡ true }
+        requires few { length writes.now ≤ body_limit }
+        ensures opened { self.new.opened ≡ self.old.opened + 1 }
+        ensures added { Adds (segment_body self.old.opened 0) writes.now self.old.table self.new.table }
+        ensures live { is_live self.new ≡ is_live self.old }
+        ensures total { total_of self.new ≡ total_of self.old }
+    {
+        self.table.add(index_of(self.opened) + 1, writes);
+        self.opened += 1;
     }
 }

@@ -17,7 +17,7 @@ use std::alloc::Global;
 use std::marker::Model;
 
 /// How many bodies all segments have at most.
-const MOST_PLACES: usize = 1280;
+pub(crate) const MOST_PLACES: usize = 1280;
 
 /// The contents of a disk, seen through its journal: where a block was written to an open segment it is read there.
 #[derive(Drop)]

@@ -62,7 +62,7 @@ impl Writes {
     }
 
     /// The writes, in the order in which their blocks were first staged.
-    pub(crate) fn as_slice(&self) -> &[(u64, Block)]
+    pub fn as_slice(&self) -> &[(u64, Block)]
         ensures same { result.now ≡ self.now }
         ensures few { length result.now ≤ body_limit }
     {

@@ -15,7 +15,7 @@ const OPENING: u64 = 17;
 const RECOVERY: u64 = 24;
 
 /// The calls of a commit of two blocks.
-const COMMIT: u64 = 11;
+const COMMIT: u64 = 6;
 
 const LEFTS: [Left; 3] = [Left::Old, Left::New, Left::Gates];
 
@@ -25,7 +25,7 @@ fn zeros(alloc: Global, failing: u64) -> Result<MemDisk, AllocError>
 {
     let mut fails = Vec::new(alloc);
     fails.push(failing)?;
-    MemDisk::new(alloc, BLOCKS, OPENING + COMMIT, fails)
+    MemDisk::new(alloc, BLOCKS, RECOVERY + COMMIT, fails)
 }
 
 /// Opens the journal and commits two blocks, and says whether that was done.
@@ -45,7 +45,7 @@ fn commits<D: Disk>(alloc: Global, disk: &mut D) -> Result<bool, AllocError>
 
 /// The same on a disk that dies after so many calls of the commit.
 fn stopped_commit(alloc: Global, calls: u64) -> Result<(bool, MemDisk), AllocError>
-    requires few { calls ≤ 11 }
+    requires few { calls ≤ 6 }
     ensures blocks { IfOk result (λ r. ⟦<MemDisk as Disk>⟧.block_count r.1 ≡ 1300) }
 {
     let mut fuse = Fuse::new(zeros(alloc, u64::MAX)?, OPENING + calls);
@@ -99,8 +99,8 @@ fn calls(alloc: Global) -> Result<Option<Counts>, AllocError> {
 fn calls_of_a_commit(rt: HostRuntime) -> Result<(), AllocError> {
     let both = Counts {
         reads: 16,
-        writes: 7,
-        syncs: 5,
+        writes: 4,
+        syncs: 3,
     };
     assert_eq!(rt; calls(rt.alloc())?, Some(both));
     Ok(())
@@ -110,7 +110,7 @@ fn calls_of_a_commit(rt: HostRuntime) -> Result<(), AllocError> {
 type Stops = (Option<[bool; 3]>, Option<[bool; 3]>);
 
 fn stops_at(alloc: Global, call: u64) -> Result<Stops, AllocError>
-    requires few { call ≤ 11 }
+    requires few { call ≤ 6 }
 {
     let (_, died) = stopped_commit(alloc, call)?;
     let mut failed = zeros(alloc, OPENING + call)?;
@@ -137,14 +137,14 @@ fn a_commit_is_whole_or_absent(rt: HostRuntime) -> Result<(), AllocError> {
     Ok(())
 }
 
-// Where a commit stopped while the gate was opened or the homes were written, and the opening then dies after so many calls:
+// Where a commit stopped while the gate was opened, or was made, and the opening then dies after so many calls:
 // whether it was done, and what is new when it is made again.
 fn opened_again(
     alloc: Global,
     commit: u64,
     opening: u64,
 ) -> Result<(bool, Option<[bool; 3]>), AllocError>
-    requires few { commit ≤ 11 }
+    requires few { commit ≤ 6 }
 {
     let (_, stopped) = stopped_commit(alloc, commit)?;
     let mut fuse = Fuse::new(stopped.stopped(alloc, Left::Gates)?, opening);
@@ -154,7 +154,7 @@ fn opened_again(
 
 #[test]
 fn a_stopped_opening_is_made_again(rt: HostRuntime) -> Result<(), AllocError> {
-    for commit in [5, 8] {
+    for commit in [5, 6] {
         for opening in 0..=RECOVERY {
             let wanted = (opening == RECOVERY, Some([true; 3]));
             assert_eq!(rt;

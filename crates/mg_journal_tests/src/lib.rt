@@ -9,4 +9,8 @@ mod checks;
 #[cfg(test)]
 mod commits;
 #[cfg(test)]
+mod full;
+#[cfg(test)]
+mod late;
+#[cfg(test)]
 mod views;

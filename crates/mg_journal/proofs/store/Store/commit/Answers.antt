@@ -1,6 +1,7 @@
 use Rattle.std.proofs.Common.{◌≡◌, ◌∙◌, [], sym, subst}
 use Rattle.std.specs.Prelude.{IsSomeAnd}
 use Rattle.mg_journal.proofs.CommitRuns.{empty_from, new_itself, yet}
+use Rattle.mg_journal.proofs.RecoverSteps.{came_back}
 use Rattle.mg_journal.specs.Contents.{NewContents}
 use Rattle.mg_journal.proofs.store.Store.commit.Goals as goal
 
@@ -23,4 +24,11 @@ returns-then-is_empty-clause-came_from g c now told =
 
 pub returns-in-Ok-clause-came_from : goal.returns-in-Ok-clause-came_from
 returns-in-Ok-clause-came_from g c now told =
-    subst (λ w. IsSomeAnd (g.D.Disk.seen c.args.disk.now) (λ image. NewContents c.args.self.now.total image w now)) c.as_slice-writes.ensures.same (c.in-Ok.ensures.came_from now told)
+    let total = c.args.self.now.total in
+    let writes = c.as_slice-writes.result.now in
+    subst (λ w. IsSomeAnd (g.D.Disk.seen c.args.disk.now) (λ image. NewContents total image w now)) c.as_slice-writes.ensures.same
+    (came_back (λ image z. NewContents total image writes z) (g.D.Disk.seen c.args.disk.now) (g.D.Disk.seen c.make.new.disk) c.in-Ok.ensures.tells c.in-Ok.ensures.done now told)
+
+pub returns-then-is_empty-clause-late : goal.returns-then-is_empty-clause-late
+returns-then-is_empty-clause-late g c some =
+    absurd (some (sym c.as_slice-writes.ensures.same ∙ empty_from c.as_slice-writes.result.now c.is_empty.result c.is_empty.ensures c.if-is_empty.true))

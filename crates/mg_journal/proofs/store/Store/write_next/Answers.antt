@@ -1,0 +1,57 @@
+use Rattle.std.proofs.Common.{◌≡◌, ◌≤◌, ◌∙◌, ap, arith, length, option_map, slice_set, subst, sym, Some}
+use Rattle.std.specs.Prelude.{IsSomeAnd}
+use Rattle.std.proofs.lemmas.Result.{on_ok_weaker}
+use Rattle.mg_disk.specs.Disk.{SameBut}
+use Rattle.mg_disk.specs.Stops.{Leaves}
+use Rattle.mg_model.specs.Layout.{globals_block, segment_gate}
+use Rattle.mg_journal.proofs.CommitRuns.{after_bodies, after_gate}
+use Rattle.mg_journal.proofs.CommitSteps.{next}
+use Rattle.mg_journal.proofs.NewestSteps.{shut_from}
+use Rattle.mg_journal.specs.Held.{Store}
+use Rattle.mg_journal.specs.Phases.{HoldsWrites, IsBehind, IsNext}
+use Rattle.mg_journal.specs.ResultLemmas.{some_of}
+use Rattle.mg_journal.specs.Standing.{held_fits}
+use Rattle.mg_journal.proofs.store.Store.write_next.Goals as goal
+
+pub returns-in_err-write_segment-clause-any_moment : goal.returns-in_err-write_segment-clause-any_moment
+returns-in_err-write_segment-clause-any_moment g c image told =
+    let store = c.args.self.now in
+    let stands = c.requires.stands in
+    let shut = shut_from store.total store.opened store.table image (held_fits store image (stands.fits image told)) in
+    after_bodies g.D.Disk store.total store.opened c.args.writes.now image c.requires.room shut c.args.disk.now c.write_segment.new.disk
+    (subst (λ n. Leaves g.D.Disk c.args.disk.now c.write_segment.new.disk (SameBut (IsBehind n) image)) (ap (λ (s : Store). s.opened) c.self.view_is) (c.write_segment.ensures.any_moment stands.settled image told))
+
+pub returns-clause-any_moment : goal.returns-clause-any_moment
+returns-clause-any_moment g c image told =
+    let store = c.args.self.now in
+    let stands = c.requires.stands in
+    let writes = c.args.writes.now in
+    let is = ap (λ (s : Store). s.opened) c.self.view_is in
+    let shut = shut_from store.total store.opened store.table image (held_fits store image (stands.fits image told)) in
+    let b = some_of (HoldsWrites c.self.inside.opened writes image) (g.D.Disk.seen c.write_segment.new.disk) (c.in_ok-write_segment.ensures.written image told) in
+    after_gate g.D.Disk store.total store.opened writes image c.requires.room shut c.requires.homes c.requires.few b.0 (subst (λ n. HoldsWrites n writes image b.0) is b.2)
+    c.gate_of.result (c.gate_of.ensures ∙ ap segment_gate is) c.args.disk.now c.write_segment.new.disk c.write_firmly.new.disk
+    (subst (λ n. Leaves g.D.Disk c.args.disk.now c.write_segment.new.disk (SameBut (IsBehind n) image)) is (c.write_segment.ensures.any_moment stands.settled image told))
+    (c.write_firmly.ensures.any_moment c.in_ok-write_segment.ensures.settled b.0 b.1)
+
+pub returns-clause-next : goal.returns-clause-next
+returns-clause-next g c =
+    on_ok_weaker c.write_firmly.result
+    (λ wrote image told.
+    let store = c.args.self.now in
+    let stands = c.requires.stands in
+    let writes = c.args.writes.now in
+    let gate = c.opened_gate.result in
+    let at = c.gate_of.result in
+    let is = ap (λ (s : Store). s.opened) c.self.view_is in
+    let shut = shut_from store.total store.opened store.table image (held_fits store image (stands.fits image told)) in
+    let b = some_of (HoldsWrites c.self.inside.opened writes image) (g.D.Disk.seen c.write_segment.new.disk) (c.in_ok-write_segment.ensures.written image told) in
+    let counted = g.met.D.Disk.seen_count c.args.disk.now image told in
+    let low = stands.journal in
+    let high = stands.room in
+    let room : globals_block ≤ length image = omega arith in
+    let now : g.D.Disk.seen c.write_firmly.new.disk ≡ Some (slice_set b.0 (segment_gate store.opened) gate) =
+    wrote ∙ ap (option_map (λ i. slice_set i at gate)) b.1 ∙ ap (λ k. Some (slice_set b.0 k gate)) (c.gate_of.ensures ∙ ap segment_gate is) in
+    subst (λ o. IsSomeAnd o (IsNext store.total store.opened writes image)) (sym now)
+    (next store.total store.opened writes image c.requires.room shut c.requires.homes c.requires.few b.0 (subst (λ n. HoldsWrites n writes image b.0) is b.2) gate c.opened_gate.ensures room))
+    c.write_firmly.ensures.written
