@@ -7,7 +7,7 @@ use Rattle.mg_journal.specs.Facts.{open_writes, replayed-is}
 use Rattle.mg_journal.specs.Staged.{are_once, waiting}
 use Rattle.mg_journal.specs.Standing.{IsFitting, fitting_replays, total_of}
 use Rattle.mg_journal.specs.WrittenOver.{written_elsewhere}
-use Rattle.mg_journal.specs.declared.store.Store.{Store}
+use Rattle.mg_journal.specs.Held.{Store}
 use Rattle.mg_model.specs.Replay.{replay}
 use Rattle.mg_pages.proofs.Staging.{written-none, written-waiting}
 use Rattle.mg_pages.specs.Meaning.{replayed}

@@ -8,7 +8,7 @@ use Rattle.mg_disk.specs.Disk.{Image, block_at}
 use Rattle.mg_frames.specs.Distinct.{distinct-put}
 use Rattle.mg_frames.specs.Places.{nowhere}
 use Rattle.mg_journal.specs.Staged.{staged}
-use Rattle.mg_journal.specs.declared.store.Store.{Store}
+use Rattle.mg_journal.specs.Held.{Store}
 use Rattle.mg_model.specs.Bytes.{block_words}
 use Rattle.mg_model.specs.Layout.{body_limit, first_frame, table_block, table_blocks}
 use Rattle.mg_model.specs.Volume.{page_words}
@@ -22,11 +22,12 @@ use Rattle.mg_pages.proofs.Sound.{sound-frames, sound-staged}
 use Rattle.mg_pages.proofs.Staging.{length-kept, length-staged, once-staged, written-staged}
 use Rattle.mg_pages.proofs.Tables.{held, holds-bound, spelled-is, spelled-new}
 use Rattle.mg_pages.specs.Entries.{HoldsEntries}
+use Rattle.mg_pages.specs.Kept.{AreKept}
 use Rattle.mg_pages.specs.Held.{IsSound, PagesHeld}
 use Rattle.mg_pages.specs.Meaning.{BindsOnly, IsSpelledBy, SetsWord, StagesMore, page_now, replayed}
 use Rattle.mg_pages.specs.Parts.{coming_of}
 
-module _ (store : Store) (frames : List ℕ) (writes : List (ℕ × List ℕ)) (count count' : ℕ) (p : PagesHeld) (view : held store frames writes count ≡ p) (sound : IsSound (held store frames writes count))
+module _ (store : Store) (frames : List ℕ) (writes : List (ℕ × List ℕ)) (count : ℕ) (kept : List (ℕ × List ℕ)) (count' : ℕ) (kept' : List (ℕ × List ℕ)) (p : PagesHeld) (view : held store frames writes count kept ≡ p) (sound : IsSound (held store frames writes count kept))
     (page f : ℕ) (bytes entries : List ℕ) (free : position (λ entry. entry == 0) frames ≡ Some f) (some : page ≢ 0) (unbound : list_any (λ entry. entry == page) frames ≡ false)
     (hold : HoldsEntries (slice_set frames f page) (f / 512) entries) (room : length writes + 2 ≤ body_limit) where
   abbrev block : ℕ
@@ -42,7 +43,7 @@ module _ (store : Store) (frames : List ℕ) (writes : List (ℕ × List ℕ)) (
   both = staged (staged writes block bytes) table entries
 
   abbrev begun : PagesHeld
-  begun = held store (slice_set frames f page) (staged (staged writes block bytes) table entries) count'
+  begun = held store (slice_set frames f page) (staged (staged writes block bytes) table entries) count' kept'
 
   inside : f < length frames
   inside = (place-of frames 0 f free).0
@@ -62,8 +63,8 @@ module _ (store : Store) (frames : List ℕ) (writes : List (ℕ × List ℕ)) (
   pub sound-begun : IsSound begun
   sound-begun =
       let e = length-staged writes block bytes in
-      sound-frames store frames (slice_set frames f page) both count count' as-many (distinct-put frames f page some unbound sound.distinct)
-      (sound-staged store frames first count table entries (omega arith) table-high (inr (omega arith)) (sound-staged store frames writes count block bytes (omega arith) high (inr (omega arith)) sound))
+      sound-frames store frames (slice_set frames f page) both count kept count' kept' as-many (distinct-put frames f page some unbound sound.distinct)
+      (sound-staged store frames first count kept table entries (omega arith) table-high (inr (omega arith)) (sound-staged store frames writes count kept block bytes (omega arith) high (inr (omega arith)) sound))
 
   pub staged-begun : StagesMore 2 p begun
   staged-begun =
@@ -71,7 +72,7 @@ module _ (store : Store) (frames : List ℕ) (writes : List (ℕ × List ℕ)) (
       let f' = length-staged first table entries in
       let g = length-kept writes block bytes in
       let h = length-kept first table entries in
-      stages-more 2 store frames (slice_set frames f page) writes both count count' p view (omega arith) (omega arith) (λ b is. still-named first table entries b (still-named writes block bytes b is))
+      stages-more 2 store frames (slice_set frames f page) writes both count kept count' kept' p view (omega arith) (omega arith) (λ b is. still-named first table entries b (still-named writes block bytes b is))
 
   written-begun : (image : Image) → coming_of store both image ≡ slice_set (slice_set (coming_of store writes image) block bytes) table entries
   written-begun image =
@@ -86,32 +87,33 @@ module _ (store : Store) (frames : List ℕ) (writes : List (ℕ × List ℕ)) (
 
   there : (image : Image) → IsSpelledBy p image → block_at (coming_of store both image) table ≡ entries
   there image is =
-      let long = long-coming store frames writes count image (spelled-is (held store frames writes count) image (held-spelled store frames writes count p view image is)) in
+      let long = long-coming store frames writes count kept image (spelled-is (held store frames writes count kept) image (held-spelled store frames writes count kept p view image is)) in
       let below = table-high in
       let e = length-set (coming_of store writes image) block bytes in
       ap (λ i. block_at i table) (written-begun image) ∙ get_or-set_same (slice_set (coming_of store writes image) block bytes) table entries [] (omega arith)
 
   here : (image : Image) → IsSpelledBy p image → block_at (coming_of store both image) block ≡ bytes
   here image is =
-      let long = long-coming store frames writes count image (spelled-is (held store frames writes count) image (held-spelled store frames writes count p view image is)) in
+      let long = long-coming store frames writes count kept image (spelled-is (held store frames writes count kept) image (held-spelled store frames writes count kept p view image is)) in
       let below = high in
       let apart = in-table in
       ap (λ i. block_at i block) (written-begun image)
       ∙ get_or-set_other (slice_set (coming_of store writes image) block bytes) table block entries [] (λ same. omega arith)
       ∙ get_or-set_same (coming_of store writes image) block bytes [] (omega arith)
 
-  pub spelled-begun : (image : Image) → IsSpelledBy p image → IsSpelledBy begun image
-  spelled-begun image is =
-      spelled-new store frames (slice_set frames f page) writes both count count' image as-many sound-begun.homes sound-begun.distinct
+  pub spelled-begun : (image : Image) → (AreKept (first_frame (length frames)) (replayed store.total image) kept → AreKept (first_frame (length frames)) (replayed store.total image) kept') → IsSpelledBy p image → IsSpelledBy begun image
+  spelled-begun image keeps is =
+      spelled-new store frames (slice_set frames f page) writes both count kept count' kept' image as-many sound-begun.homes sound-begun.distinct
       (holds-bound frames entries (table_blocks (length frames)) (coming_of store writes image) (coming_of store both image) f page hold (there image is)
       (λ k few other. others-stay image (table_block + k) (λ same. omega arith) (λ same. other (omega arith))))
-      (held-spelled store frames writes count p view image is)
+      keeps
+      (held-spelled store frames writes count kept p view image is)
 
   pub binds-begun : BindsOnly page p begun
   binds-begun other bound =
       ⊎_elim (λ new. inl (sym (eqb-true page other new)))
-      (λ old. inr (ap (list_any (λ entry. entry == other)) (table-is store frames writes count p view) ∙ old))
-      (any-set (λ entry. entry == other) frames f page (sym (ap (list_any (λ entry. entry == other)) (table-is store (slice_set frames f page) both count' begun refl)) ∙ bound))
+      (λ old. inr (ap (list_any (λ entry. entry == other)) (table-is store frames writes count kept p view) ∙ old))
+      (any-set (λ entry. entry == other) frames f page (sym (ap (list_any (λ entry. entry == other)) (table-is store (slice_set frames f page) both count' kept' begun refl)) ∙ bound))
 
   pub sets-begun : (image : Image) (index value : ℕ) → IsSpelledBy p image → block_words bytes ≡ slice_set (replicate 512 0) index value → SetsWord p begun image page index value
   sets-begun image index value is are =
@@ -122,8 +124,8 @@ module _ (store : Store) (frames : List ℕ) (writes : List (ℕ × List ℕ)) (
       let apart = in-table in
       let at : position (λ entry. entry == page) frames' ≡ Some f = position-bound frames f page inside unbound in
       let rest : (k : ℕ) → k ≢ f → block_at r' (first_frame n + k) ≡ block_at r (first_frame n + k) = λ k other. others-stay image (first_frame n + k) (λ same. other (omega arith)) (λ same. omega arith) in
-      let now : (other : ℕ) → page_now begun image other ≡ page_words r' n frames' other = λ other. page-is store frames' both count' begun refl image other ∙ ap (λ m. page_words r' m frames' other) as-many in
-      let was : (other : ℕ) → page_now p image other ≡ page_words r n frames other = page-is store frames writes count p view image in
+      let now : (other : ℕ) → page_now begun image other ≡ page_words r' n frames' other = λ other. page-is store frames' both count' kept' begun refl image other ∙ ap (λ m. page_words r' m frames' other) as-many in
+      let was : (other : ℕ) → page_now p image other ≡ page_words r n frames other = page-is store frames writes count kept p view image in
       record {
         this =
             now page
@@ -136,9 +138,9 @@ module _ (store : Store) (frames : List ℕ) (writes : List (ℕ × List ℕ)) (
             (λ k found same. not_zero (sym (place-of frames other k found).1 ∙ ap (λ i. get_or frames i 0) same ∙ (place-of frames 0 f free).1))
             ∙ sym (was other);
         rows = λ k few.
-            ap (λ i. block_at i k) (coming-is store frames' both count' begun refl image)
+            ap (λ i. block_at i k) (coming-is store frames' both count' kept' begun refl image)
             ∙ others-stay image k (λ same. omega arith) (λ same. omega arith)
-            ∙ ap (λ i. block_at i k) (sym (coming-is store frames writes count p view image));
+            ∙ ap (λ i. block_at i k) (sym (coming-is store frames writes count kept p view image));
       }
     where
       moved : (other : ℕ) → other ≢ 0 → other ≢ page → position (λ entry. entry == other) (slice_set frames f page) ≡ position (λ entry. entry == other) frames

@@ -1,9 +1,12 @@
 pub mod Awaited
 pub mod Begun
+pub mod BlocksKept
 pub mod Changed
 pub mod Committed
 pub mod Counted
 pub mod Entries
+pub mod KeptWrites
+pub mod Looked
 pub mod Made
 pub mod Numbers
 pub mod OneBlock

@@ -6,13 +6,15 @@ use Rattle.mg_disk.specs.Stops.{NothingPending}
 use Rattle.mg_disk.specs.declared.disk.Disk.{Ghosts}
 use Rattle.mg_journal.specs.Contents.{names}
 use Rattle.mg_journal.specs.Standing as journal
-use Rattle.mg_journal.specs.declared.store.Store.{Store}
+use Rattle.mg_journal.specs.Held.{Store}
+use Rattle.mg_model.specs.Layout.{first_frame}
 use Rattle.mg_pages.proofs.Tables.{held, spelled-is}
+use Rattle.mg_pages.specs.Kept.{AreKept}
 use Rattle.mg_pages.specs.Held.{IsSound, PagesHeld}
-use Rattle.mg_pages.specs.Meaning.{IsSpelledBy, StandsOn, coming, frame_count, is_live, is_staged, staged_of, store_of, table_in, total_of, words_in}
+use Rattle.mg_pages.specs.Meaning.{IsSpelledBy, StandsOn, coming, frame_count, is_live, is_staged, kept_in, replayed, staged_of, store_of, table_in, total_of, words_in}
 use Rattle.mg_pages.specs.Parts.{coming_of}
 
-module _ (store : Store) (frames : List ℕ) (writes : List (ℕ × List ℕ)) (count : ℕ) (p : PagesHeld) (view : held store frames writes count ≡ p) where
+module _ (store : Store) (frames : List ℕ) (writes : List (ℕ × List ℕ)) (count : ℕ) (kept : List (ℕ × List ℕ)) (p : PagesHeld) (view : held store frames writes count kept ≡ p) where
   pub store-is : store_of p ≡ store
   unfolding store_of
   store-is = ap store_of (sym view)
@@ -49,11 +51,16 @@ module _ (store : Store) (frames : List ℕ) (writes : List (ℕ × List ℕ)) (
   unfolding words_in
   words-is = ap words_in (sym view)
 
-  pub held-spelled : (image : Image) → IsSpelledBy p image → IsSpelledBy (held store frames writes count) image
+  pub held-spelled : (image : Image) → IsSpelledBy p image → IsSpelledBy (held store frames writes count kept) image
   held-spelled image is = subst (λ q. IsSpelledBy q image) (sym view) is
 
+  -- what is kept are blocks of the contents
+  pub held-kept : (image : Image) → IsSpelledBy p image → AreKept (first_frame (length frames)) (replayed store.total image) kept
+  unfolding total_of frame_count kept_in
+  held-kept image is = (spelled-is (held store frames writes count kept) image (held-spelled image is)).kept
+
   -- the journal stands where the pages do
-  pub stands-store : {D : Type 0} (facts : Ghosts D) (disk : D) → IsSound (held store frames writes count) → StandsOn facts p disk → journal.Stands facts store disk
+  pub stands-store : {D : Type 0} (facts : Ghosts D) (disk : D) → IsSound (held store frames writes count kept) → StandsOn facts p disk → journal.Stands facts store disk
   unfolding total_of
   stands-store facts disk sound stands =
       let room = stands.room in
@@ -63,7 +70,7 @@ module _ (store : Store) (frames : List ℕ) (writes : List (ℕ × List ℕ)) (
         journal = omega arith;
         room = omega arith;
         settled = stands.settled;
-        fits = λ image told. (spelled-is (held store frames writes count) image (held-spelled image (stands.fits image told))).fitting;
+        fits = λ image told. (spelled-is (held store frames writes count kept) image (held-spelled image (stands.fits image told))).fitting;
       }
 
 -- the pages stand after calls that write nothing

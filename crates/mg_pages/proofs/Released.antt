@@ -9,7 +9,7 @@ use Rattle.mg_frames.specs.Distinct.{distinct-released}
 use Rattle.mg_frames.specs.Places.{nowhere, position-here, position-there}
 use Rattle.mg_frames.specs.Words.{is_within, unless_within}
 use Rattle.mg_journal.specs.WrittenOver.{written_elsewhere}
-use Rattle.mg_journal.specs.declared.store.Store.{Store}
+use Rattle.mg_journal.specs.Held.{Store}
 use Rattle.mg_model.specs.Layout.{body_limit, first_frame, table_block, table_blocks, total_blocks}
 use Rattle.mg_model.specs.Volume.{page_words}
 use Rattle.mg_pages.proofs.Changed.{long-coming}
@@ -88,10 +88,10 @@ none-new first pages page (x ∷ frames) some is =
         (λ within. absurd (some (sym (eqb-true 0 page (sym (ap (λ t. (if t then 0 else x) == page) within) ∙ here)))))
         (λ out. sym (ap (λ t. (if t then 0 else x) == page) out) ∙ here) (cases_Bool (is_within first pages x))
 
-module _ (store : Store) (frames : List ℕ) (writes writes' : List (ℕ × List ℕ)) (count first pages : ℕ) (p : PagesHeld) (view : held store frames writes count ≡ p) (sound : IsSound (held store frames writes count))
+module _ (store : Store) (frames : List ℕ) (writes writes' : List (ℕ × List ℕ)) (count : ℕ) (kept : List (ℕ × List ℕ)) (first pages : ℕ) (p : PagesHeld) (view : held store frames writes count kept ≡ p) (sound : IsSound (held store frames writes count kept))
     (stages : StagesTable frames (map (unless_within first pages) frames) (table_blocks (length frames)) writes writes') (room : length writes + 128 ≤ body_limit) where
   abbrev left : PagesHeld
-  left = held store (map (unless_within first pages) frames) writes' count
+  left = held store (map (unless_within first pages) frames) writes' count kept
 
   pub as-many : length (map (unless_within first pages) frames) ≡ length frames
   as-many = length-map frames (unless_within first pages)
@@ -117,28 +117,29 @@ module _ (store : Store) (frames : List ℕ) (writes writes' : List (ℕ × List
   staged-released =
       let few = sound.few in
       let more = stages.few in
-      stages-more 128 store frames (map (unless_within first pages) frames) writes writes' count count p view stages.least (omega arith) stages.still
+      stages-more 128 store frames (map (unless_within first pages) frames) writes writes' count kept count kept p view stages.least (omega arith) stages.still
 
   long-replayed : (image : Image) → IsSpelledBy p image → table_block + table_blocks (length frames) ≤ length (replayed store.total image)
   long-replayed image is =
-      let long = long-coming store frames writes count image (spelled-is (held store frames writes count) image (held-spelled store frames writes count p view image is)) in
+      let long = long-coming store frames writes count kept image (spelled-is (held store frames writes count kept) image (held-spelled store frames writes count kept p view image is)) in
       let size = sound.size in
       let e = (written_elsewhere writes (replayed store.total image)).count in
       omega arith
 
   pub spelled-released : (image : Image) → IsSpelledBy p image → IsSpelledBy left image
   spelled-released image is =
-      spelled-new store frames (map (unless_within first pages) frames) writes writes' count count image as-many sound-released.homes sound-released.distinct
+      spelled-new store frames (map (unless_within first pages) frames) writes writes' count kept count kept image as-many sound-released.homes sound-released.distinct
       (λ holds k few. stages.holds (replayed store.total image) k few (long-replayed image is) (holds k few))
-      (held-spelled store frames writes count p view image is)
+      (λ kept. kept)
+      (held-spelled store frames writes count kept p view image is)
 
   pub unbinds-released : Unbinds first pages p left
   unbinds-released = record {
     inside = λ page some low high.
-        ap (list_any (λ entry. entry == page)) (table-is store (map (unless_within first pages) frames) writes' count left refl) ∙ none-within first pages page frames some low high;
+        ap (list_any (λ entry. entry == page)) (table-is store (map (unless_within first pages) frames) writes' count kept left refl) ∙ none-within first pages page frames some low high;
     outside = λ page some bound.
-        ap (list_any (λ entry. entry == page)) (table-is store frames writes count p view)
-        ∙ none-new first pages page frames some (sym (ap (list_any (λ entry. entry == page)) (table-is store (map (unless_within first pages) frames) writes' count left refl)) ∙ bound);
+        ap (list_any (λ entry. entry == page)) (table-is store frames writes count kept p view)
+        ∙ none-new first pages page frames some (sym (ap (list_any (λ entry. entry == page)) (table-is store (map (unless_within first pages) frames) writes' count kept left refl)) ∙ bound);
   }
 
   pub releases : (image : Image) → Releases p left image first pages
@@ -147,8 +148,8 @@ module _ (store : Store) (frames : List ℕ) (writes writes' : List (ℕ × List
       let r' = coming_of store writes' image in
       let n = length frames in
       let frames' = map (unless_within first pages) frames in
-      let now : (page : ℕ) → page_now left image page ≡ page_words r' n frames' page = λ page. page-is store frames' writes' count left refl image page ∙ ap (λ m. page_words r' m frames' page) as-many in
-      let was : (page : ℕ) → page_now p image page ≡ page_words r n frames page = page-is store frames writes count p view image in
+      let now : (page : ℕ) → page_now left image page ≡ page_words r' n frames' page = λ page. page-is store frames' writes' count kept left refl image page ∙ ap (λ m. page_words r' m frames' page) as-many in
+      let was : (page : ℕ) → page_now p image page ≡ page_words r n frames page = page-is store frames writes count kept p view image in
       record {
         inside = λ page some low high. now page ∙ page-none r' n frames' page (nowhere (λ entry. entry == page) frames' (none-within first pages page frames some low high));
         outside = λ page some out.
@@ -156,10 +157,10 @@ module _ (store : Store) (frames : List ℕ) (writes writes' : List (ℕ × List
             ∙ page-same r r' n frames frames' page (same-place first pages page frames some out) (λ k there. stages.apart (replayed store.total image) (first_frame n + k) (inr (omega arith)))
             ∙ sym (was page);
         rows = λ k few.
-            ap (λ i. block_at i k) (coming-is store frames' writes' count left refl image)
+            ap (λ i. block_at i k) (coming-is store frames' writes' count kept left refl image)
             ∙ stages.apart (replayed store.total image) k (inl few)
-            ∙ ap (λ i. block_at i k) (sym (coming-is store frames writes count p view image));
+            ∙ ap (λ i. block_at i k) (sym (coming-is store frames writes count kept p view image));
       }
 
-pub room-many : (store : Store) (frames : List ℕ) (writes : List (ℕ × List ℕ)) (count : ℕ) (p : PagesHeld) → held store frames writes count ≡ p → staged_of p ≤ 32 → length writes + 128 ≤ body_limit
-room-many store frames writes count p view few = let e = staged-is store frames writes count p view in omega arith
+pub room-many : (store : Store) (frames : List ℕ) (writes : List (ℕ × List ℕ)) (count : ℕ) (kept : List (ℕ × List ℕ)) (p : PagesHeld) → held store frames writes count kept ≡ p → staged_of p ≤ 32 → length writes + 128 ≤ body_limit
+room-many store frames writes count kept p view few = let e = staged-is store frames writes count kept p view in omega arith

@@ -162,10 +162,10 @@ some_list x y is = cc
 none_list : (x : List ℕ) → Some x ≡ None → ⊥
 none_list x is = cc
 
-waiting-here : (i k : ℕ) (x : List ℕ) (ws : List (ℕ × List ℕ)) → (i == k) ≡ true → waiting ((i, x) ∷ ws) k ≡ Some x
+pub waiting-here : (i k : ℕ) (x : List ℕ) (ws : List (ℕ × List ℕ)) → (i == k) ≡ true → waiting ((i, x) ∷ ws) k ≡ Some x
 waiting-here i k x ws is = rw is refl
 
-waiting-there : (i k : ℕ) (x : List ℕ) (ws : List (ℕ × List ℕ)) → (i == k) ≡ false → waiting ((i, x) ∷ ws) k ≡ waiting ws k
+pub waiting-there : (i k : ℕ) (x : List ℕ) (ws : List (ℕ × List ℕ)) → (i == k) ≡ false → waiting ((i, x) ∷ ws) k ≡ waiting ws k
 waiting-there i k x ws is = rw is refl
 
 pub waiting-none : (ws : List (ℕ × List ℕ)) (k : ℕ) → waiting ws k ≡ None → names ws k ≡ false

@@ -64,15 +64,15 @@ pub length_coming : (p : PagesHeld) (image : Image) → IsSpelledBy p image → 
 unfolding coming total_of
 length_coming p image is =
     let r = replays p image is in
-    length-written (replayed (journal.total_of p.store) image) p.writes
-    ∙ ap (λ (i : Image). length i) (replayed_is (journal.total_of p.store) image r.0 r.1)
-    ∙ length_replay (journal.total_of p.store) image r.0 r.1
+    length-written (replayed (journal.total_of p.blocks.store) image) p.blocks.writes
+    ∙ ap (λ (i : Image). length i) (replayed_is (journal.total_of p.blocks.store) image r.0 r.1)
+    ∙ length_replay (journal.total_of p.blocks.store) image r.0 r.1
 
 pub low_coming : (p : PagesHeld) (image : Image) (k : ℕ) → IsSpelledBy p image → k < globals_block → block_of (coming p image) k ≡ block_of image k
 unfolding coming total_of IsSpelledBy
 low_coming p image k is low =
     let r = replays p image is in
-    let fit : homes_fit (total_of p) p.writes ≡ true = is.homes in
-    written_low (total_of p) (replayed (journal.total_of p.store) image) p.writes k fit low
-    ∙ ap (λ i. block_of i k) (replayed_is (journal.total_of p.store) image r.0 r.1)
-    ∙ replay_low (journal.total_of p.store) image r.0 k r.1 low
+    let fit : homes_fit (total_of p) p.blocks.writes ≡ true = is.homes in
+    written_low (total_of p) (replayed (journal.total_of p.blocks.store) image) p.blocks.writes k fit low
+    ∙ ap (λ i. block_of i k) (replayed_is (journal.total_of p.blocks.store) image r.0 r.1)
+    ∙ replay_low (journal.total_of p.blocks.store) image r.0 k r.1 low

@@ -5,7 +5,7 @@ use Rattle.std.proofs.Common.{refl, sym, ap, ◌∙◌, arith}
 use Rattle.mg_disk.specs.Disk.{Image}
 use Rattle.mg_disk.specs.declared.disk.Disk.{Ghosts}
 use Rattle.mg_journal.specs.Standing as journal
-use Rattle.mg_journal.specs.declared.store.Store.{Store}
+use Rattle.mg_journal.specs.Held.{Store}
 use Rattle.mg_model.specs.Bytes.{are_zeros}
 use Rattle.mg_model.specs.Layout.{total_blocks}
 use Rattle.mg_model.specs.Replay.{replay, written}
@@ -58,7 +58,7 @@ replayed_is total image r is = ap (λ (o : Option Image). option_map_or (λ (v :
 
 pub replays : (p : PagesHeld) (image : Image) → IsSpelledBy p image → (r : Image) × (replay image (total_of p) ≡ Some r)
 unfolding total_of
-replays p image is = journal.fitting_replays p.store image (spelled p image is).fitting
+replays p image is = journal.fitting_replays p.blocks.store image (spelled p image is).fitting
 
 -- with nothing staged, what is coming is the replay
 none_written : (writes : List (ℕ × List ℕ)) (image : Image) → length writes ≡ 0 → written image writes ≡ image
@@ -69,4 +69,4 @@ pub coming_still : (p : PagesHeld) (image : Image) → IsSpelledBy p image → s
 unfolding total_of coming staged_of
 coming_still p image is none =
     let r = replays p image is in
-    r.1 ∙ ap (λ (v : Image). Some v) (sym (none_written p.writes (replayed (journal.total_of p.store) image) none ∙ replayed_is (journal.total_of p.store) image r.0 r.1))
+    r.1 ∙ ap (λ (v : Image). Some v) (sym (none_written p.blocks.writes (replayed (journal.total_of p.blocks.store) image) none ∙ replayed_is (journal.total_of p.blocks.store) image r.0 r.1))

@@ -1,4 +1,5 @@
 -- Definitions, in the order in which one reads them. First what a layer above sees.
+pub mod Kept
 pub mod Held
 pub mod Meaning
 -- What the parts of this crate do.

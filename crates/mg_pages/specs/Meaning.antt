@@ -7,13 +7,14 @@ use Rattle.mg_disk.specs.Stops.{NothingPending}
 use Rattle.mg_disk.specs.declared.disk.Disk.{Ghosts}
 use Rattle.mg_journal.specs.Contents.{names}
 use Rattle.mg_journal.specs.Standing as journal
-use Rattle.mg_journal.specs.declared.store.Store.{Store}
+use Rattle.mg_journal.specs.Held.{Store}
 use Rattle.mg_model.specs.Bytes.{are_zeros}
-use Rattle.mg_model.specs.Layout.{table_block, total_blocks}
+use Rattle.mg_model.specs.Layout.{first_frame, table_block, total_blocks}
 use Rattle.mg_model.specs.Replay.{homes_fit, replay, written}
 use Rattle.mg_model.specs.Tests.{all_distinct}
 use Rattle.mg_model.specs.Volume.{bound_pages, page_words, table_of, whole_table}
 use Rattle.mg_pages.specs.Held.{PagesHeld}
+use Rattle.mg_pages.specs.Kept.{AreKept}
 use Rattle.std.specs.Prelude.{drop}
 
 -- the blocks of an image after replay
@@ -22,11 +23,11 @@ replayed total image = option_map_or (λ (r : Image). r) (replay image total) im
 
 -- how many blocks the volume has
 unfoldable pub total_of : PagesHeld → ℕ
-total_of p = journal.total_of p.store
+total_of p = journal.total_of p.blocks.store
 
 -- its journal
 unfoldable pub store_of : PagesHeld → Store
-store_of p = p.store
+store_of p = p.blocks.store
 
 -- how many frames it has
 unfoldable pub frame_count : PagesHeld → ℕ
@@ -38,18 +39,22 @@ table_in p = p.frames
 
 -- the blocks that an image will have once what is staged is committed: those after replay, with the staged ones over them
 unfoldable pub coming : PagesHeld → Image → Image
-coming p image = written (replayed (journal.total_of p.store) image) p.writes
+coming p image = written (replayed (journal.total_of p.blocks.store) image) p.blocks.writes
 
 -- how many blocks are staged, and whether this one is
 unfoldable pub staged_of : PagesHeld → ℕ
-staged_of p = length p.writes
+staged_of p = length p.blocks.writes
 
 unfoldable pub is_staged : PagesHeld → ℕ → Bool
-is_staged p block = names p.writes block
+is_staged p block = names p.blocks.writes block
+
+-- the frame blocks that are kept
+unfoldable pub kept_in : PagesHeld → List (ℕ × List ℕ)
+kept_in p = p.blocks.kept
 
 -- no commit has failed
 unfoldable pub is_live : PagesHeld → Bool
-is_live p = journal.is_live p.store
+is_live p = journal.is_live p.blocks.store
 
 -- how many words were read and written, modulo 2^64
 unfoldable pub words_in : PagesHeld → ℕ
@@ -63,17 +68,18 @@ is_bound p page = list_any (λ entry. entry == page) (table_in p)
 abbrev pub page_now : PagesHeld → Image → ℕ → List ℕ
 page_now p image page = page_words (coming p image) (frame_count p) (table_in p) page
 
--- the journal fits the image, and what is coming spells the frame table that is held
+-- the journal fits the image, what is coming spells the frame table that is held, and what is kept are blocks of the contents
 pub record Spelled (p : PagesHeld) (image : Image) : Type 0 where
-  pub fitting : journal.IsFitting p.store image
+  pub fitting : journal.IsFitting p.blocks.store image
   pub long : total_of p ≤ length image
   pub some : 16 ≤ frame_count p
   pub few : frame_count p ≤ 65536
   pub size : total_of p ≡ total_blocks (frame_count p)
-  pub homes : homes_fit (total_of p) p.writes ≡ true
+  pub homes : homes_fit (total_of p) p.blocks.writes ≡ true
   pub table : table_of (coming p image) (frame_count p) ≡ table_in p
   pub past : are_zeros (drop (frame_count p) (whole_table (coming p image) (frame_count p))) ≡ true
   pub distinct : all_distinct (bound_pages (table_in p)) ≡ true
+  pub kept : AreKept (first_frame (frame_count p)) (replayed (total_of p) image) (kept_in p)
 
 unfoldable pub IsSpelledBy : PagesHeld → Image → Type 0
 IsSpelledBy p image = Spelled p image

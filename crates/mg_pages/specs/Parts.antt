@@ -5,16 +5,23 @@ use Rattle.std.specs.Option.{ForSome}
 use Rattle.mg_disk.specs.Disk.{Image, block_at}
 use Rattle.mg_journal.specs.Contents.{names}
 use Rattle.mg_journal.specs.Staged.{are_once, staged}
-use Rattle.mg_journal.specs.declared.store.Store.{Store}
+use Rattle.mg_journal.specs.Held.{Store}
 use Rattle.mg_model.specs.Bytes.{block_words}
 use Rattle.mg_model.specs.Layout.{first_frame, table_block}
 use Rattle.mg_model.specs.Replay.{homes_fit, written}
 use Rattle.mg_pages.specs.Entries.{HoldsEntries}
+use Rattle.mg_pages.specs.Held.{BlocksHeld}
+use Rattle.mg_pages.specs.Kept.{AreKept}
 use Rattle.mg_pages.specs.Meaning.{replayed}
 
 -- the blocks that an image will have once these writes are committed
 abbrev pub coming_of : Store → List (ℕ × List ℕ) → Image → Image
 coming_of store writes image = written (replayed store.total image) writes
+
+-- the journal is as it was, and what is kept are blocks of the contents where they were
+pub record KeepsMore (told : Option Image) (first : ℕ) (old new : BlocksHeld) : Type 0 where
+  pub store : new.store ≡ old.store
+  pub kept : ForSome told (λ image. AreKept first (replayed old.store.total image) old.kept → AreKept first (replayed old.store.total image) new.kept)
 
 -- one block more is staged
 pub record StagesBlock (old new : List (ℕ × List ℕ)) (block : ℕ) (is : List ℕ → Type 0) : Type 0 where
@@ -34,21 +41,21 @@ pub record Begins (page : ℕ) (old_frames new_frames : List ℕ) (old_writes ne
   pub more : new_writes ≡ staged (staged old_writes (first_frame (length old_frames) + frame) block) (table_block + frame / 512) entries
 
 -- a word is put into the block of a page that has a frame, where the disk tells the block
-pub record ChangesWord (told : Option Image) (store : Store) (page index value : ℕ) (frames : List ℕ) (old new : List (ℕ × List ℕ)) : Type 0 where
+pub record ChangesWord (told : Option Image) (store : Store) (kept : List (ℕ × List ℕ)) (page index value : ℕ) (frames : List ℕ) (old new : List (ℕ × List ℕ)) : Type 0 where
   pub frame : ℕ
   pub holds : position (λ entry. entry == page) frames ≡ Some frame
   pub bytes : List ℕ
   pub more : new ≡ staged old (first_frame (length frames) + frame) bytes
-  pub are : ForSome told (λ image. block_words bytes ≡ slice_set (block_words (block_at (coming_of store old image) (first_frame (length frames) + frame))) index value)
+  pub are : ForSome told (λ image. AreKept (first_frame (length frames)) (replayed store.total image) kept → block_words bytes ≡ slice_set (block_words (block_at (coming_of store old image) (first_frame (length frames) + frame))) index value)
 
 -- or the page is bound first
 pub record BindsWord (page index value : ℕ) (old_frames new_frames : List ℕ) (old new : List (ℕ × List ℕ)) : Type 0 where
   pub unbound : list_any (λ entry. entry == page) old_frames ≡ false
   pub begins : Begins page old_frames new_frames old new (λ bytes. block_words bytes ≡ slice_set (replicate 512 0) index value)
 
-abbrev pub Stores : Option Image → Store → ℕ → ℕ → ℕ → List ℕ → List ℕ → List (ℕ × List ℕ) → List (ℕ × List ℕ) → Type 0
-Stores told store page index value old_frames new_frames old new =
-    ((new_frames ≡ old_frames) × ChangesWord told store page index value old_frames old new) ⊎ BindsWord page index value old_frames new_frames old new
+abbrev pub Stores : Option Image → Store → List (ℕ × List ℕ) → ℕ → ℕ → ℕ → List ℕ → List ℕ → List (ℕ × List ℕ) → List (ℕ × List ℕ) → Type 0
+Stores told store kept page index value old_frames new_frames old new =
+    ((new_frames ≡ old_frames) × ChangesWord told store kept page index value old_frames old new) ⊎ BindsWord page index value old_frames new_frames old new
 
 -- the first blocks of a frame table spell other frames: those of them that change are staged
 pub record StagesTable (old_frames new_frames : List ℕ) (n : ℕ) (old new : List (ℕ × List ℕ)) : Type 0 where

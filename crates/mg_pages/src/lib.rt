@@ -2,13 +2,15 @@
 //!
 //! A layer above reads and writes words of pages by the page's number, stages whole blocks before the frame table, and
 //! commits what is staged: at each moment of a commit a stop leaves the old contents or the new. Which frame holds a page
-//! shows in no contract.
+//! shows in no contract, nor which frames' blocks are kept in memory.
 //!
 //! `specs/Meaning.antt` has the words of the contracts: what is `coming` of an image, the words of a page now, and when the
 //! pages stand on a disk.
 #![tactic(auto)]
 
+mod blocks;
 mod coming;
+mod kept;
 mod pages;
 mod releasing;
 mod storing;

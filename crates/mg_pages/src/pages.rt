@@ -10,13 +10,15 @@ ghost use Rattle.mg_model.specs.Volume.{bound_pages};
 ghost use Rattle.mg_pages.specs.Meaning.{BindsOnly, CountsNone, CountsOne, HasTable, IsKept, Keeps, Releases, SameShape, SetsWord, StagesMore, StandsOn, Unbinds, IsSpelledBy, coming, frame_count, is_bound, is_live, is_staged, page_now, replayed, staged_of, store_of, table_in, total_of, words_in};
 ghost use Rattle.mg_pages.specs.Committing.{HasContents};
 
+use crate::blocks::Blocks;
 use crate::coming::page_word;
 use crate::releasing::release_pages;
 use crate::storing::store_word;
+use crate::table::first_block;
 use mg_disk::{Block, Disk};
 use mg_faults::Failed;
 use mg_frames::Frames;
-use mg_journal::{Store, Writes};
+use mg_journal::Store;
 use mg_model::Steps;
 use std::alloc::{AllocError, Global};
 use std::marker::Model;
@@ -25,9 +27,8 @@ use std::sync::ledger::Ledger;
 /// The pages of a volume, with what is staged.
 #[derive(Drop)]
 pub struct Pages {
-    store: Store,
+    blocks: Blocks,
     frames: Frames,
-    writes: Writes,
     count: u64,
 }
 
@@ -36,9 +37,9 @@ impl Model for Pages {
 
     ghost Value = { PagesHeld };
 
-    ghost view = { λ p. record { store = p.store; frames = p.frames; writes = p.writes; count = p.count } };
+    ghost view = { λ p. record { blocks = p.blocks; frames = p.frames; count = p.count } };
 
-    ghost invariant = { λ p. IsSound (record { store = p.store; frames = p.frames; writes = p.writes; count = p.count }) };
+    ghost invariant = { λ p. IsSound (record { blocks = p.blocks; frames = p.frames; count = p.count }) };
 }
 
 impl Pages {
@@ -64,11 +65,10 @@ impl Pages {
             Some(frames) => frames,
             None => unreachable!(),
         };
-        let writes = Writes::new(alloc)?;
+        let blocks = Blocks::open(alloc, store)?;
         Ok(Pages {
-            store,
+            blocks,
             frames,
-            writes,
             count: 0,
         })
     }
@@ -91,7 +91,7 @@ impl Pages {
         ensures staged { StagesMore 128 self.old self.new }
         ensures words { words_in self.new ≡ words_in self.old }
     {
-        release_pages(&mut self.frames, &mut self.writes, first, pages);
+        release_pages(&mut self.blocks, &mut self.frames, first, pages);
     }
 
     /// The word at an index of a page, below 512: the staged one, else that of the volume, else 0. [`Failed`] comes only
@@ -114,7 +114,7 @@ impl Pages {
         ensures counts_failed { OnErr result (CountsNone self.old self.new steps.old steps.new) }
         ensures calls { DiskCalls D.Disk disk.old disk.new result }
     {
-        match page_word(&self.store, &self.frames, &self.writes, disk, page, index) {
+        match page_word(&mut self.blocks, &self.frames, disk, page, index) {
             Ok(word) => {
                 count_word(&mut self.count, steps);
                 Ok(word)
@@ -150,15 +150,7 @@ impl Pages {
         ensures counts_failed { OnErr result (CountsNone self.old self.new steps.old steps.new) }
         ensures calls { DiskCalls D.Disk disk.old disk.new result }
     {
-        match store_word(
-            &self.store,
-            &mut self.frames,
-            &mut self.writes,
-            disk,
-            page,
-            index,
-            value,
-        ) {
+        match store_word(&mut self.blocks, &mut self.frames, disk, page, index, value) {
             Ok(()) => {
                 count_word(&mut self.count, steps);
                 Ok(())
@@ -180,7 +172,7 @@ impl Pages {
         ensures words { words_in self.new ≡ words_in self.old }
         ensures spelled { (image : List (List ℕ)) → IsSpelledBy self.old image → IsSpelledBy self.new image }
     {
-        self.writes.stage(block, from);
+        self.blocks.stage(block, from);
     }
 
     /// Makes what is staged durable. With nothing staged no call is made, and the answer is Ok. After [`Failed`], which comes
@@ -203,13 +195,7 @@ impl Pages {
         ensures nothing { staged_of self.old ≡ 0 → (disk.new ≡ disk.old) × IsOk result }
         ensures calls { DiskCalls D.Disk disk.old disk.new result }
     {
-        match self.store.commit(disk, &self.writes) {
-            Ok(()) => {
-                forget(&mut self.writes);
-                Ok(())
-            }
-            Err(Failed) => Err(Failed),
-        }
+        self.blocks.commit(disk, first_block(self.frames.len()))
     }
 
     /// How many blocks are staged, 0 to 160.
@@ -218,14 +204,14 @@ impl Pages {
         ensures few { result ≤ 160 }
         ensures kept { IsKept self.now }
     {
-        self.writes.len()
+        self.blocks.staged()
     }
 
     /// Whether no commit has failed.
     pub fn live(&self) -> bool
         ensures { result ≡ is_live self.now }
     {
-        self.store.live()
+        self.blocks.live()
     }
 
     /// How many words were read and written, modulo `2^64`.
@@ -243,11 +229,4 @@ fn count_word<L: Ledger>(count: &mut u64, steps: &mut Steps<L>)
 {
     *count = count.wrapping_add(1);
     steps.tick();
-}
-
-// Nothing waits once it is durable.
-fn forget(writes: &mut Writes)
-    ensures { writes.new ≡ [] }
-{
-    writes.clear();
 }

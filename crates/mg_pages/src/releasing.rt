@@ -3,31 +3,32 @@ ghost use Rattle.std.specs.Prelude.{◌≡◌, ◌+◌, ◌/◌, ◌≤◌, ◌<
 ghost use Rattle.mg_frames.specs.Words.{is_within, unless_within};
 ghost use Rattle.mg_model.specs.Layout.{body_limit, table_blocks};
 ghost use Rattle.mg_journal.specs.Staged.{are_once};
+ghost use Rattle.mg_pages.specs.Held.{with_writes};
 ghost use Rattle.mg_pages.specs.Parts.{StagesTable};
 
+use crate::blocks::Blocks;
 use crate::table::entries_block;
 use mg_frames::Frames;
-use mg_journal::Writes;
 use mg_layout::{Geometry, TABLE_BLOCK};
 
 /// The most blocks that a frame table has.
 const MOST_BLOCKS: usize = 128;
 
 /// Frees the frames of all pages in a range, and stages each block of the frame table that changes.
-pub(crate) fn release_pages(frames: &mut Frames, writes: &mut Writes, first: u64, pages: u64)
+pub(crate) fn release_pages(blocks: &mut Blocks, frames: &mut Frames, first: u64, pages: u64)
     requires some { 16 ≤ length frames.old }
     requires few { length frames.old ≤ 65536 }
-    requires once { are_once writes.old ≡ true }
-    requires room { length writes.old + 128 ≤ body_limit }
+    requires once { are_once blocks.old.writes ≡ true }
+    requires room { length blocks.old.writes + 128 ≤ body_limit }
     ensures frames { frames.new ≡ map (unless_within first pages) frames.old }
-    ensures staged { StagesTable frames.old frames.new (table_blocks (length frames.old)) writes.old writes.new }
+    ensures staged { StagesTable frames.old frames.new (table_blocks (length frames.old)) blocks.old.writes blocks.new.writes }
+    ensures keeps { blocks.new ≡ with_writes blocks.old blocks.new.writes }
 {
     let changed = blocks_with(frames.as_slice(), first, pages);
     frames.release_range(first, pages);
-    let blocks = Geometry::of(frames.len()).table;
-    for k in 0..blocks {
+    for k in 0..Geometry::of(frames.len()).table {
         if changed[k as usize] {
-            writes.stage(TABLE_BLOCK + k, &entries_block(frames.as_slice(), k));
+            blocks.stage(TABLE_BLOCK + k, &entries_block(frames.as_slice(), k));
         }
     }
 }

@@ -20,6 +20,15 @@ pub(crate) fn frame_block(frames: u64, frame: u64) -> u64
     Geometry::of(frames).first_frame + frame
 }
 
+/// The block of the first frame, on a volume of so many frames.
+pub(crate) fn first_block(frames: u64) -> u64
+    requires some { 16 ≤ frames }
+    requires few { frames ≤ 65536 }
+    ensures { result ≡ first_frame frames }
+{
+    Geometry::of(frames).first_frame
+}
+
 /// Block `k` of the frame table.
 pub(crate) fn entries_block(frames: &[u64], k: u64) -> Block
     requires { k < 128 }

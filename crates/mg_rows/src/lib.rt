@@ -28,4 +28,4 @@ pub use globals::{read_globals, write_globals};
 pub use laws::rows_are_spelled_in_one_way;
 pub use objects::{read_object, write_object};
 pub use spelled::Spelled;
-pub use threads::{read_thread, write_thread};
+pub use threads::{read_thread, thread_block, write_thread};

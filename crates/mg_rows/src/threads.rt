@@ -49,9 +49,17 @@ pub fn write_thread(r: Option<&ThrRow>, out: &mut Block)
     ensures spelled { out.new ≡ option_map_or (λ row. thread_bytes row.now) r.entry (replicate 4096 0) }
     ensures read_back { thread_read out.new ≡ Some (option_map_or (λ row. Some row.now) r.entry None) }
 {
+    *out = thread_block(r);
+}
+
+/// The block that spells a thread, or a free row. It is read back.
+pub fn thread_block(r: Option<&ThrRow>) -> Block
+    ensures spelled { result ≡ option_map_or (λ row. thread_bytes row.now) r.entry (replicate 4096 0) }
+    ensures read_back { thread_read result ≡ Some (option_map_or (λ row. Some row.now) r.entry None) }
+{
     match r {
-        Some(row) => *out = spelling(row),
-        None => *out = [0; BLOCK_SIZE],
+        Some(row) => spelling(row),
+        None => [0; BLOCK_SIZE],
     }
 }
 

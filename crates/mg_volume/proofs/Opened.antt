@@ -13,7 +13,7 @@ use Rattle.mg_disk.specs.declared.disk.Disk.{Ghosts}
 use Rattle.mg_journal.specs.Contents.{SameContents}
 use Rattle.mg_journal.specs.ResultLemmas.{some_of}
 use Rattle.mg_journal.specs.Standing as journal
-use Rattle.mg_journal.specs.declared.store.Store.{Store}
+use Rattle.mg_journal.specs.Held.{Store}
 use Rattle.mg_model.specs.declared.accounts.AccRow.{AccRow}
 use Rattle.mg_model.specs.Bytes.{are_zeros}
 use Rattle.mg_model.specs.Layout.{account_rows, globals_block, object_rows, thread_rows, total_blocks}

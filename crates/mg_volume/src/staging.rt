@@ -15,7 +15,7 @@ use mg_disk::{BLOCK_SIZE, Block};
 use mg_layout::{FIRST_THREAD_BLOCK, GLOBALS_BLOCK};
 use mg_model::{Globals, ThrRow};
 use mg_passwords::Draws;
-use mg_rows::{write_globals, write_thread};
+use mg_rows::{thread_block, write_globals};
 
 impl Volume {
     /// Stages the counters, in place of those that the state has, of the same period or a later one. Their block is staged
@@ -47,7 +47,7 @@ impl Volume {
         ensures objects { ObjectsStillStaged self.old self.new }
         ensures here { is_thread_staged self.new t ≡ true }
     {
-        let block = thread_block(&row);
+        let block = block_of(&row);
         self.threads.put(t, row);
         self.threads.keep_rules();
         self.pages.stage(FIRST_THREAD_BLOCK + t - 1, &block);
@@ -100,19 +100,11 @@ impl Volume {
 }
 
 // The block of a thread's row.
-fn thread_block(row: &Option<ThrRow>) -> Block
+fn block_of(row: &Option<ThrRow>) -> Block
     ensures { thread_read result ≡ Some row.now }
 {
     match row {
-        Some(row) => thread_written(Some(row)),
-        None => thread_written(None),
+        Some(row) => thread_block(Some(row)),
+        None => thread_block(None),
     }
-}
-
-fn thread_written(row: Option<&ThrRow>) -> Block
-    ensures { thread_read result ≡ Some (option_map_or (λ row. Some row.now) row.entry None) }
-{
-    let mut block = [0; BLOCK_SIZE];
-    write_thread(row, &mut block);
-    block
 }

@@ -1,9 +1,10 @@
-use Rattle.std.proofs.Common.{◌==◌, ◌+◌, ◌∙◌, ⊎_elim, ap, inl, inr, refl, sym}
+use Rattle.std.proofs.Common.{◌≡◌, ◌==◌, ◌+◌, ◌∙◌, arith, length, ⊎_elim, ap, inl, inr, refl, sym}
 use Rattle.std.proofs.lemmas.Bool.{both_ways}
 use Rattle.std.proofs.lemmas.Result.{on_ok_weaker}
 use Rattle.std.specs.List.{list_any}
 use Rattle.mg_frames.specs.Places.{nowhere_any}
 use Rattle.mg_model.specs.Layout.{first_frame}
+use Rattle.mg_pages.proofs.BlocksKept.{keeps-writes}
 use Rattle.mg_pages.proofs.Stored.{changes-word}
 use Rattle.mg_pages.proofs.storing.store_word.Goals as goal
 
@@ -17,15 +18,30 @@ begin-requires-clause-free g c =
 
 pub returns-in-Some-clause-stored : goal.returns-in-Some-clause-stored
 returns-in-Some-clause-stored g c =
-    on_ok_weaker c.change.result
+    let b = c.args.blocks.now in
+    let frames = c.args.frames.now in
+    let told = g.D.Disk.seen c.args.disk.now in
+    let first = first_frame (length frames) in
+    let block = c.frame_block.result in
+    on_ok_weaker c.set_word.result
     (λ stages.
     inl (
       refl,
-      changes-word (g.D.Disk.seen c.args.disk.now) c.args.store.now c.args.page c.args.index c.args.value c.args.frames.now c.args.writes.now c.change.new.writes c.in-Some.frame c.frame_block.result
-          (sym c.frame_of.ensures ∙ c.in-Some.is) (c.frame_block.ensures ∙ ap (λ n. first_frame n + c.in-Some.frame) c.len.ensures.count) stages,
+      changes-word told b.store b.kept c.args.page c.args.index c.args.value frames b.writes c.set_word.new.self.writes c.in-Some.frame block
+          (sym c.frame_of.ensures ∙ c.in-Some.is) (c.frame_block.ensures ∙ ap (λ n. first_frame n + c.in-Some.frame) c.len.ensures.count)
+          (record { bytes = stages.bytes; more = stages.more; are = λ image seen are. stages.are image seen first are }),
     ))
-    c.change.ensures.staged
+    c.set_word.ensures.staged
+
+pub returns-in-Some-clause-keeps : goal.returns-in-Some-clause-keeps
+returns-in-Some-clause-keeps g c =
+    let at : c.frame_block.result ≡ first_frame (length c.args.frames.now) + c.in-Some.frame = c.frame_block.ensures ∙ ap (λ n. first_frame n + c.in-Some.frame) c.len.ensures.count in
+    c.set_word.ensures.keeps (first_frame (length c.args.frames.now)) (omega arith)
 
 pub returns-in-None-clause-stored : goal.returns-in-None-clause-stored
 returns-in-None-clause-stored g c =
-    inr (record { unbound = nowhere_any (λ entry. entry == c.args.page) c.args.frames.now (sym c.frame_of.ensures ∙ c.in-None.is); begins = c.begin.ensures })
+    inr (record { unbound = nowhere_any (λ entry. entry == c.args.page) c.args.frames.now (sym c.frame_of.ensures ∙ c.in-None.is); begins = c.begin.ensures.begins })
+
+pub returns-in-None-clause-keeps : goal.returns-in-None-clause-keeps
+returns-in-None-clause-keeps g c =
+    keeps-writes (g.D.Disk.seen c.args.disk.now) (first_frame (length c.args.frames.now)) c.args.blocks.now c.begin.new.blocks c.begin.ensures.keeps

@@ -5,4 +5,4 @@ use Rattle.mg_pages.proofs.pages.Pages.live.Goals as goal
 pub returns : goal.returns
 returns c =
     let i = c.self.inside in
-    c.live.ensures ∙ sym (live-is i.store i.frames i.writes i.count c.args.self.now c.self.view_is)
+    c.live.ensures ∙ sym (live-is i.blocks.store i.frames i.blocks.writes i.count i.blocks.kept c.args.self.now c.self.view_is)

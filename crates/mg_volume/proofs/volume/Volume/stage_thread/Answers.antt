@@ -20,7 +20,7 @@ pub returns-clause-now : goal.returns-clause-now
 returns-clause-now c image =
     let number : c.args.t - 1 + 1 ≡ c.args.t = omega arith in
     rw (← c.self.view_is)
-    (thread_now (the_view c.self.inside) c.stage.new.self image c.args.t (c.args.t - 1) c.args.row c.put.new.self c.thread_block-block.result number (omega arith) (c.stage.ensures.coming image) c.put.ensures c.stage.ensures.table)
+    (thread_now (the_view c.self.inside) c.stage.new.self image c.args.t (c.args.t - 1) c.args.row c.put.new.self c.block_of-block.result number (omega arith) (c.stage.ensures.coming image) c.put.ensures c.stage.ensures.table)
 
 pub returns-clause-rows : goal.returns-clause-rows
 unfolding objects_in
@@ -33,7 +33,7 @@ returns-clause-stages c =
     rw (← c.self.view_is)
     (stages_is v (with_threads v c.put.new.self c.stage.new.self) 1 refl c.stage.ensures.shape c.stage.ensures.words c.stage.ensures.staged
     (λ image was.
-    thread_spelled v c.stage.new.self image c.args.t (c.args.t - 1) c.args.row c.put.new.self c.thread_block-block.result number (omega arith) (c.stage.ensures.coming image) c.put.ensures was (c.stage.ensures.spelled image) c.stage.ensures.shape.frames c.thread_block-block.ensures))
+    thread_spelled v c.stage.new.self image c.args.t (c.args.t - 1) c.args.row c.put.new.self c.block_of-block.result number (omega arith) (c.stage.ensures.coming image) c.put.ensures was (c.stage.ensures.spelled image) c.stage.ensures.shape.frames c.block_of-block.ensures))
 
 pub returns-clause-objects : goal.returns-clause-objects
 returns-clause-objects c =

@@ -4,7 +4,7 @@ use Rattle.mg_journal.specs.Staged.{staged, waiting}
 use Rattle.mg_model.specs.Bytes.{block_words}
 use Rattle.mg_pages.specs.Parts.{StagesBlock}
 use Rattle.mg_pages.proofs.Spliced.{words-spliced}
-use Rattle.mg_pages.proofs.storing.put_staged.Goals as goal
+use Rattle.mg_pages.proofs.blocks.put_staged.Goals as goal
 
 stages : (old new : List (ℕ × List ℕ)) (block : ℕ) (f : List ℕ → List ℕ) (is : List ℕ → List ℕ → Type 0) (o : Option (List ℕ)) → MatchOption o (new ≡ old) (λ bytes. new ≡ staged old block (f bytes))
     → IfSome o (λ bytes. length bytes ≡ 4096) → ((bytes : List ℕ) → length bytes ≡ 4096 → is bytes (f bytes)) → MatchOption o (new ≡ old) (λ bytes. StagesBlock old new block (is bytes))

@@ -1,0 +1,65 @@
+use Rattle.std.proofs.Common.{◌≡◌, ◌<◌, ◌*◌, ◌∙◌, ap, arith, length, sym}
+use Rattle.std.proofs.lemmas.Result.{IfOk-weaker}
+use Rattle.std.specs.Option.{ForSome}
+use Rattle.mg_disk.specs.Disk.{block_at}
+use Rattle.mg_journal.specs.ResultLemmas.{some_of}
+use Rattle.mg_journal.specs.Staged.{waiting}
+use Rattle.mg_journal.specs.Standing.{total_of}
+use Rattle.mg_model.specs.Bytes.{number_at}
+use Rattle.mg_pages.proofs.Awaited.{coming-none, coming-waiting, replayed-some}
+use Rattle.mg_pages.proofs.BlocksKept.{blocks_held, keeps-same, keeps-then}
+use Rattle.mg_pages.proofs.Staging.{written-none}
+use Rattle.mg_pages.specs.Held.{BlocksHeld}
+use Rattle.mg_pages.specs.Kept.{AreKept, kept_at}
+use Rattle.mg_pages.specs.Meaning.{replayed}
+use Rattle.mg_pages.specs.Parts.{coming_of}
+use Rattle.mg_pages.proofs.blocks.Blocks.word.Goals as goal
+
+pub returns-in-Some-clause-word : goal.returns-in-Some-clause-word
+returns-in-Some-clause-word g c image told first are =
+    let now = c.args.self.now in
+    let stands = c.requires.stands in
+    let counted = g.met.D.Disk.seen_count c.args.disk.now image told in
+    let high = stands.room in
+    let place = c.requires.place in
+    let below : c.args.block < length image = omega arith in
+    let staged = some_of (λ bytes. c.in-Some.word ≡ number_at bytes (8 * c.args.index)) (waiting c.self.inside.writes c.args.block) c.in-Some.ensures in
+    staged.2
+    ∙ ap (λ bytes. number_at bytes (8 * c.args.index))
+    (sym (coming-waiting now.store now.writes image c.args.block staged.0 (stands.fits image told) c.requires.once below (sym (ap (λ (b : BlocksHeld). waiting b.writes c.args.block) c.self.view_is) ∙ staged.1)))
+
+pub returns-in-Some-word-clause-word : goal.returns-in-Some-word-clause-word
+returns-in-Some-word-clause-word g c image told first are =
+    let now = c.args.self.now in
+    let kept = some_of (λ bytes. c.in-Some-word.word ≡ number_at bytes (8 * c.args.index)) (kept_at c.self.inside.kept c.args.block) c.in-Some-word.ensures.word in
+    let read = (are c.args.block kept.0 (sym (ap (λ (b : BlocksHeld). kept_at b.kept c.args.block) c.self.view_is) ∙ kept.1)).1 in
+    kept.2
+    ∙ ap (λ bytes. number_at bytes (8 * c.args.index))
+    (coming-none now.store now.writes image c.args.block kept.0 (c.requires.stands.fits image told) (sym (ap (λ (b : BlocksHeld). waiting b.writes c.args.block) c.self.view_is) ∙ c.in-None.ensures)
+    (λ r is. read ∙ ap (λ i. block_at i c.args.block) (replayed-some (total_of now.store) image r is)))
+
+pub returns-in-Some-word-clause-keeps : goal.returns-in-Some-word-clause-keeps
+returns-in-Some-word-clause-keeps g c first low =
+    let i = c.self.inside in
+    keeps-same (g.D.Disk.seen c.args.disk.now) first i.store i.writes i.writes i.kept c.word.new.self c.args.self.now c.self.view_is c.word.ensures.same
+
+pub returns-in-None-word-clause-word : goal.returns-in-None-word-clause-word
+returns-in-None-word-clause-word g c =
+    let now = c.args.self.now in
+    let i = c.self.inside in
+    let block = c.args.block in
+    IfOk-weaker c.read_word.result (λ word. ForSome (g.D.Disk.seen c.args.disk.now) (λ image. word ≡ number_at (block_at (replayed (total_of i.store) image) block) (8 * c.args.index)))
+    (λ word. ForSome (g.D.Disk.seen c.args.disk.now) (λ image. (first : _) → AreKept first (replayed (total_of now.store) image) now.kept → word ≡ number_at (block_at (coming_of now.store now.writes image) block) (8 * c.args.index)))
+    (λ word is image told first are.
+    is image told
+    ∙ ap (λ (b : BlocksHeld). number_at (block_at (replayed (total_of b.store) image) block) (8 * c.args.index)) c.self.view_is
+    ∙ ap (λ bytes. number_at bytes (8 * c.args.index))
+    (sym (written-none now.writes (replayed (total_of now.store) image) block (sym (ap (λ (b : BlocksHeld). waiting b.writes block) c.self.view_is) ∙ c.in-None.ensures))))
+    c.read_word.ensures.word
+
+pub returns-in-None-word-clause-keeps : goal.returns-in-None-word-clause-keeps
+returns-in-None-word-clause-keeps g c first low =
+    let i = c.self.inside in
+    let told = g.D.Disk.seen c.args.disk.now in
+    keeps-then told first c.args.self.now (blocks_held i.store i.writes c.word.new.self) c.read_word.new.self
+    (keeps-same told first i.store i.writes i.writes i.kept c.word.new.self c.args.self.now c.self.view_is c.word.ensures.same) (c.read_word.ensures.keeps first low)

@@ -1,0 +1,20 @@
+-- The frame blocks that are kept in memory: pairs of a block's number and its bytes.
+use Rattle.std.specs.Prelude.{◌≡◌, ◌≢◌, ◌⊎◌, ◌≤◌, ℕ, List, nat_eq, Option, Some}
+use Rattle.std.specs.Map.{lookup}
+use Rattle.mg_disk.specs.Disk.{Image, block_at}
+
+-- what is kept of a block
+abbrev pub kept_at : List (ℕ × List ℕ) → ℕ → Option (List ℕ)
+kept_at kept i = lookup (nat_eq i) kept
+
+-- each is a block from this number on, as the contents have it
+abbrev pub AreKept : ℕ → Image → List (ℕ × List ℕ) → Type 0
+AreKept first r kept = (i : ℕ) (bytes : List ℕ) → kept_at kept i ≡ Some bytes → (first ≤ i) × (bytes ≡ block_at r i)
+
+-- the same blocks are kept, in whatever order
+abbrev pub KeepsSame : List (ℕ × List ℕ) → List (ℕ × List ℕ) → Type 0
+KeepsSame old new = (i : ℕ) → kept_at new i ≡ kept_at old i
+
+-- what is kept now is this block, or was kept before of another
+abbrev pub KeepsThis : ℕ → List ℕ → List (ℕ × List ℕ) → List (ℕ × List ℕ) → Type 0
+KeepsThis block is old new = (i : ℕ) (bytes : List ℕ) → kept_at new i ≡ Some bytes → ((i ≡ block) × (bytes ≡ is)) ⊎ ((i ≢ block) × (kept_at old i ≡ Some bytes))

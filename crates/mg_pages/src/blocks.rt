@@ -1,0 +1,270 @@
+// The blocks of a volume: those of its journal's contents, those that wait for a commit over them, and frame blocks that are
+// kept in memory.
+ghost use Rattle.std.specs.Prelude.{[], ◌≡◌, ◌⊎◌, ◌≤◌, ◌<◌, ◌*◌, ℕ, List, IfOk, IsOk, IsSome, IsSomeAnd, MatchOption, None, OnErr, OnOk, is_ok, is_some, length, slice_set, true};
+ghost use Rattle.std.specs.List.{position};
+ghost use Rattle.std.specs.Option.{ForSome};
+ghost use Rattle.mg_disk.specs.Disk.{Image, block_at};
+ghost use Rattle.mg_disk.specs.Stops.{DiskCalls, Leaves, WritesNothing};
+ghost use Rattle.mg_journal.specs.Contents.{NewContents};
+ghost use Rattle.mg_journal.specs.Staged.{are_once, goes_to, staged, waiting};
+ghost use Rattle.mg_journal.specs.Standing.{OldOrNew, Stands, is_live, total_of};
+ghost use Rattle.mg_model.specs.Bytes.{block_words, number_at};
+ghost use Rattle.mg_model.specs.Layout.{body_limit};
+ghost use Rattle.mg_model.specs.Replay.{homes_fit, written};
+ghost use Rattle.mg_pages.specs.Held.{with_writes};
+ghost use Rattle.mg_pages.specs.Kept.{AreKept};
+ghost use Rattle.mg_pages.specs.Meaning.{replayed};
+ghost use Rattle.mg_pages.specs.Parts.{KeepsMore, StagesBlock, coming_of};
+
+use crate::kept::Kept;
+use crate::words::word_at;
+use mg_disk::{BLOCK_SIZE, Block, Disk};
+use mg_faults::Failed;
+use mg_journal::{Store, Writes};
+use std::alloc::{AllocError, Global};
+use std::marker::Model;
+
+/// The blocks of a volume, with what is staged.
+#[derive(Drop)]
+pub(crate) struct Blocks {
+    store: Store,
+    writes: Writes,
+    kept: Kept,
+}
+
+impl Model for Blocks {
+    ghost use Rattle.mg_pages.specs.Held.{BlocksHeld};
+
+    ghost Value = { BlocksHeld };
+
+    ghost view = { λ b. record { store = b.store; writes = b.writes; kept = b.kept } };
+}
+
+impl Blocks {
+    /// The blocks of this journal's volume, with nothing staged.
+    pub(crate) fn open(alloc: Global, store: Store) -> Result<Blocks, AllocError>
+        ensures { IfOk result (λ b. b ≡ record { store = store; writes = []; kept = [] }) }
+    {
+        let writes = Writes::new(alloc)?;
+        let kept = Kept::new(alloc)?;
+        Ok(Blocks {
+            store,
+            writes,
+            kept,
+        })
+    }
+
+    /// How many blocks are staged.
+    pub(crate) fn staged(&self) -> usize
+        ensures count { result ≡ length self.now.writes }
+        ensures few { result ≤ body_limit }
+    {
+        self.writes.len()
+    }
+
+    /// Whether no commit has failed.
+    pub(crate) fn live(&self) -> bool
+        ensures { result ≡ is_live self.now.store }
+    {
+        self.store.live()
+    }
+
+    /// Stages a block, in place of what was staged of it.
+    pub(crate) fn stage(&mut self, block: u64, from: &Block)
+        requires room { IsSome (position (goes_to block) self.old.writes) ⊎ (length self.old.writes < body_limit) }
+        ensures { self.new ≡ with_writes self.old (staged self.old.writes block from.now) }
+    {
+        self.writes.stage(block, from);
+    }
+
+    /// The word at an index of a frame's block as it will be. A block that is staged or kept is not copied.
+    pub(crate) fn word<D: Disk>(
+        &mut self,
+        disk: &mut D,
+        block: u64,
+        index: u64,
+    ) -> Result<u64, Failed>
+        requires stands { Stands D.Disk self.old.store disk.old }
+        requires place { block < total_of self.old.store }
+        requires index { index < 512 }
+        requires once { are_once self.old.writes ≡ true }
+        ensures word { IfOk result (λ word. ForSome (D.seen disk.old) (λ image. (first : ℕ) → AreKept first (replayed (total_of self.old.store) image) self.old.kept
+            → word ≡ number_at (block_at (coming_of self.old.store self.old.writes image) block) (8 * index))) }
+        ensures staged { self.new.writes ≡ self.old.writes }
+        ensures keeps { (first : ℕ) → first ≤ block → KeepsMore (D.seen disk.old) first self.old self.new }
+        ensures stands { Stands D.Disk self.new.store disk.new }
+        ensures writes { WritesNothing D.Disk disk.old disk.new }
+        ensures calls { DiskCalls D.Disk disk.old disk.new result }
+    {
+        match staged_word(&self.writes, block, index) {
+            Some(word) => Ok(word),
+            None => match self.kept.word(block, index) {
+                Some(word) => Ok(word),
+                None => self.read_word(disk, block, index),
+            },
+        }
+    }
+
+    // The word at an index of a block of the contents, which is kept then.
+    fn read_word<D: Disk>(&mut self, disk: &mut D, block: u64, index: u64) -> Result<u64, Failed>
+        requires stands { Stands D.Disk self.old.store disk.old }
+        requires place { block < total_of self.old.store }
+        requires index { index < 512 }
+        ensures word { IfOk result (λ word. ForSome (D.seen disk.old) (λ image. word ≡ number_at (block_at (replayed (total_of self.old.store) image) block) (8 * index))) }
+        ensures staged { self.new.writes ≡ self.old.writes }
+        ensures keeps { (first : ℕ) → first ≤ block → KeepsMore (D.seen disk.old) first self.old self.new }
+        ensures stands { Stands D.Disk self.new.store disk.new }
+        ensures writes { WritesNothing D.Disk disk.old disk.new }
+        ensures calls { DiskCalls D.Disk disk.old disk.new result }
+    {
+        let mut bytes = [0; BLOCK_SIZE];
+        match self.read(disk, block, &mut bytes) {
+            Ok(()) => Ok(word_at(&bytes, index)),
+            Err(Failed) => Err(Failed),
+        }
+    }
+
+    // Gives a block of the contents, and keeps it. A read that fails changes nothing.
+    fn read<D: Disk>(&mut self, disk: &mut D, block: u64, bytes: &mut Block) -> Result<(), Failed>
+        requires stands { Stands D.Disk self.old.store disk.old }
+        requires place { block < total_of self.old.store }
+        ensures block { OnOk result (ForSome (D.seen disk.old) (λ image. bytes.new ≡ block_at (replayed (total_of self.old.store) image) block)) }
+        ensures staged { self.new.writes ≡ self.old.writes }
+        ensures keeps { (first : ℕ) → first ≤ block → KeepsMore (D.seen disk.old) first self.old self.new }
+        ensures stands { Stands D.Disk self.new.store disk.new }
+        ensures writes { WritesNothing D.Disk disk.old disk.new }
+        ensures calls { DiskCalls D.Disk disk.old disk.new result }
+    {
+        match self.store.read(disk, block, bytes) {
+            Ok(()) => {
+                self.kept.put(block, bytes);
+                Ok(())
+            }
+            Err(fault) => Err(fault),
+        }
+    }
+
+    /// Stages a frame's block with one word changed. [`Failed`] comes from a read, before anything is staged.
+    pub(crate) fn set_word<D: Disk>(
+        &mut self,
+        disk: &mut D,
+        block: u64,
+        index: u64,
+        value: u64,
+    ) -> Result<(), Failed>
+        requires stands { Stands D.Disk self.old.store disk.old }
+        requires place { block < total_of self.old.store }
+        requires index { index < 512 }
+        requires once { are_once self.old.writes ≡ true }
+        requires room { length self.old.writes < body_limit }
+        ensures staged { OnOk result (StagesBlock self.old.writes self.new.writes block (λ bytes. ForSome (D.seen disk.old) (λ image. (first : ℕ) → AreKept first (replayed (total_of self.old.store) image) self.old.kept
+            → block_words bytes ≡ slice_set (block_words (block_at (coming_of self.old.store self.old.writes image) block)) index value))) }
+        ensures failed { OnErr result (self.new.writes ≡ self.old.writes) }
+        ensures keeps { (first : ℕ) → first ≤ block → KeepsMore (D.seen disk.old) first self.old self.new }
+        ensures stands { Stands D.Disk self.new.store disk.new }
+        ensures writes { WritesNothing D.Disk disk.old disk.new }
+        ensures calls { DiskCalls D.Disk disk.old disk.new result }
+    {
+        if put_staged(&mut self.writes, block, index, value) {
+            return Ok(());
+        }
+        match self.stage_whole(disk, block) {
+            Ok(()) => {
+                let _there = put_staged(&mut self.writes, block, index, value);
+                Ok(())
+            }
+            Err(Failed) => Err(Failed),
+        }
+    }
+
+    // Stages a block of the contents as it is.
+    fn stage_whole<D: Disk>(&mut self, disk: &mut D, block: u64) -> Result<(), Failed>
+        requires stands { Stands D.Disk self.old.store disk.old }
+        requires place { block < total_of self.old.store }
+        requires room { length self.old.writes < body_limit }
+        ensures staged { OnOk result (StagesBlock self.old.writes self.new.writes block (λ bytes. ForSome (D.seen disk.old) (λ image. (first : ℕ) → AreKept first (replayed (total_of self.old.store) image) self.old.kept
+            → bytes ≡ block_at (replayed (total_of self.old.store) image) block))) }
+        ensures failed { OnErr result (self.new.writes ≡ self.old.writes) }
+        ensures keeps { (first : ℕ) → first ≤ block → KeepsMore (D.seen disk.old) first self.old self.new }
+        ensures stands { Stands D.Disk self.new.store disk.new }
+        ensures writes { WritesNothing D.Disk disk.old disk.new }
+        ensures calls { DiskCalls D.Disk disk.old disk.new result }
+    {
+        if self.kept.stage(block, &mut self.writes) {
+            Ok(())
+        } else {
+            self.stage_read(disk, block)
+        }
+    }
+
+    // Reads a block of the contents and stages it.
+    fn stage_read<D: Disk>(&mut self, disk: &mut D, block: u64) -> Result<(), Failed>
+        requires stands { Stands D.Disk self.old.store disk.old }
+        requires place { block < total_of self.old.store }
+        requires room { length self.old.writes < body_limit }
+        ensures staged { OnOk result (StagesBlock self.old.writes self.new.writes block (λ bytes. ForSome (D.seen disk.old) (λ image. bytes ≡ block_at (replayed (total_of self.old.store) image) block))) }
+        ensures failed { OnErr result (self.new.writes ≡ self.old.writes) }
+        ensures keeps { (first : ℕ) → first ≤ block → KeepsMore (D.seen disk.old) first self.old self.new }
+        ensures stands { Stands D.Disk self.new.store disk.new }
+        ensures writes { WritesNothing D.Disk disk.old disk.new }
+        ensures calls { DiskCalls D.Disk disk.old disk.new result }
+    {
+        let mut bytes = [0; BLOCK_SIZE];
+        match self.read(disk, block, &mut bytes) {
+            Ok(()) => {
+                self.writes.stage(block, &bytes);
+                Ok(())
+            }
+            Err(Failed) => Err(Failed),
+        }
+    }
+
+    /// Makes what is staged durable. Then nothing is staged, and each block from `first` on that was is kept in place of the
+    /// one that was.
+    pub(crate) fn commit<D: Disk>(&mut self, disk: &mut D, first: u64) -> Result<(), Failed>
+        requires live { is_live self.old.store ≡ true }
+        requires stands { Stands D.Disk self.old.store disk.old }
+        requires homes { homes_fit (total_of self.old.store) self.old.writes ≡ true }
+        ensures any_moment { ForSome (D.seen disk.old) (λ image. Leaves D.Disk disk.old disk.new (OldOrNew (total_of self.old.store) self.old.writes image)) }
+        ensures done { OnOk result (ForSome (D.seen disk.old) (λ image. IsSomeAnd (D.seen disk.new) (NewContents (total_of self.old.store) image self.old.writes))) }
+        ensures came_from { OnOk result (ForSome (D.seen disk.new) (λ now. IsSomeAnd (D.seen disk.old) (λ image. NewContents (total_of self.old.store) image self.old.writes now))) }
+        ensures stands { OnOk result (Stands D.Disk self.new.store disk.new) }
+        ensures live { is_live self.new.store ≡ is_ok result }
+        ensures total { total_of self.new.store ≡ total_of self.old.store }
+        ensures staged { OnOk result (self.new.writes ≡ []) }
+        ensures failed { OnErr result (self.new.writes ≡ self.old.writes) }
+        ensures kept { OnOk result ((r : Image) → total_of self.old.store ≤ length r → AreKept first r self.old.kept → AreKept first (written r self.old.writes) self.new.kept) }
+        ensures no_call { self.old.writes ≡ [] → (disk.new ≡ disk.old) × IsOk result }
+        ensures calls { DiskCalls D.Disk disk.old disk.new result }
+    {
+        match self.store.commit(disk, &self.writes) {
+            Ok(()) => {
+                self.kept.refresh(self.writes.as_slice(), first);
+                self.writes.clear();
+                Ok(())
+            }
+            Err(Failed) => Err(Failed),
+        }
+    }
+}
+
+// The word at an index of a staged block.
+fn staged_word(writes: &Writes, block: u64, index: u64) -> Option<u64>
+    requires { index < 512 }
+    ensures { MatchOption result (waiting writes.now block ≡ None) (λ word. IsSomeAnd (waiting writes.now block) (λ bytes. word ≡ number_at bytes (8 * index))) }
+{
+    match writes.get(block) {
+        Some(bytes) => Some(word_at(bytes, index)),
+        None => None,
+    }
+}
+
+// Puts a word into a block in place, if it is staged, and says whether it is.
+fn put_staged(writes: &mut Writes, block: u64, index: u64, value: u64) -> bool
+    requires { index < 512 }
+    ensures waits { result ≡ is_some (waiting writes.old block) }
+    ensures put { MatchOption (waiting writes.old block) (writes.new ≡ writes.old) (λ old. StagesBlock writes.old writes.new block (λ bytes.
+        block_words bytes ≡ slice_set (block_words old) index value)) }
+{
+    writes.put(block, 8 * index as usize, &value.to_le_bytes())
+}

@@ -1,0 +1,119 @@
+// The frame blocks that were read or written last.
+ghost use Rattle.std.specs.Prelude.{[], ◌≡◌, ◌≤◌, ◌<◌, ◌*◌, ℕ, IfOk, IfSome, IsSomeAnd, MatchOption, false, is_some, length, true};
+ghost use Rattle.mg_disk.specs.Disk.{Image};
+ghost use Rattle.mg_journal.specs.Staged.{staged};
+ghost use Rattle.mg_model.specs.Bytes.{number_at};
+ghost use Rattle.mg_model.specs.Layout.{body_limit};
+ghost use Rattle.mg_model.specs.Replay.{homes_fit, written};
+ghost use Rattle.mg_pages.specs.Kept.{AreKept, KeepsSame, KeepsThis, kept_at};
+
+use crate::words::word_at;
+use lru::LruCache;
+use mg_disk::Block;
+use mg_journal::Writes;
+use std::alloc::{AllocError, Global};
+use std::marker::Model;
+use std::num::NonZeroUsize;
+
+/// How many blocks are kept at most.
+const MOST_KEPT: usize = 256;
+
+/// Up to 256 blocks of the contents, those that were used last.
+#[derive(Drop)]
+pub(crate) struct Kept {
+    blocks: LruCache<u64, Block>,
+}
+
+impl Model for Kept {
+    ghost use Rattle.std.specs.Prelude.{ℕ, List};
+
+    ghost Value = { List (ℕ × List ℕ) };
+
+    ghost view = { λ k. k.blocks.entries };
+}
+
+impl Kept {
+    /// None yet.
+    pub(crate) fn new(alloc: Global) -> Result<Kept, AllocError>
+        ensures { IfOk result (λ kept. kept ≡ []) }
+    {
+        let most = match NonZeroUsize::new(MOST_KEPT) {
+            Some(most) => most,
+            None => unreachable!(),
+        };
+        Ok(Kept {
+            blocks: LruCache::new(alloc, most)?,
+        })
+    }
+
+    /// The word at an index of a block that is kept.
+    pub(crate) fn word(&mut self, block: u64, index: u64) -> Option<u64>
+        requires { index < 512 }
+        ensures word { IfSome result (λ word. IsSomeAnd (kept_at self.old block) (λ bytes. word ≡ number_at bytes (8 * index))) }
+        ensures same { KeepsSame self.old self.new }
+    {
+        match self.blocks.get(&block) {
+            Some(bytes) => Some(word_at(bytes, index)),
+            None => None,
+        }
+    }
+
+    /// Stages a copy of a block that is kept, and says whether it is.
+    pub(crate) fn stage(&self, block: u64, writes: &mut Writes) -> bool
+        requires room { length writes.old < body_limit }
+        ensures kept { result ≡ is_some (kept_at self.now block) }
+        ensures staged { MatchOption (kept_at self.now block) (writes.new ≡ writes.old) (λ bytes. writes.new ≡ staged writes.old block bytes) }
+    {
+        match self.blocks.peek(&block) {
+            Some(bytes) => {
+                writes.stage(block, bytes);
+                true
+            }
+            None => false,
+        }
+    }
+
+    /// Keeps a block in place of what was kept of it. Where memory is refused, nothing is kept of it.
+    pub(crate) fn put(&mut self, block: u64, bytes: &Block)
+        ensures { KeepsThis block bytes.now self.old self.new }
+    {
+        if !self.replace(block, bytes) {
+            self.add(block, bytes);
+        }
+    }
+
+    // Puts bytes in place of what is kept of a block, and says whether anything is.
+    fn replace(&mut self, block: u64, bytes: &Block) -> bool
+        ensures put { result ≡ true → KeepsThis block bytes.now self.old self.new }
+        ensures same { result ≡ false → self.new ≡ self.old }
+    {
+        match self.blocks.get_mut(&block) {
+            Some(kept) => {
+                *kept = *bytes;
+                true
+            }
+            None => false,
+        }
+    }
+
+    // Keeps a block. Where memory is refused, nothing is kept of it.
+    fn add(&mut self, block: u64, bytes: &Block)
+        ensures { KeepsThis block bytes.now self.old self.new }
+    {
+        match self.blocks.put(block, *bytes) {
+            Ok(_) => {}
+            Err(_) => {}
+        }
+    }
+
+    /// Keeps blocks that were written, those from `first` on, in place of what was kept of them.
+    pub(crate) fn refresh(&mut self, writes: &[(u64, Block)], first: u64)
+        ensures { (total : ℕ) (r : Image) → homes_fit total writes.now ≡ true → total ≤ length r → AreKept first r self.old → AreKept first (written r writes.now) self.new }
+    {
+        for write in writes {
+            if first <= write.0 {
+                self.put(write.0, &write.1);
+            }
+        }
+    }
+}
