@@ -1,0 +1,3 @@
+-- What a device answers, and the devices that are attached.
+pub mod Devices
+pub mod Attached
