@@ -1,6 +1,7 @@
 mod Answered
 mod Cutting
 mod Endings
+mod GeneratedSteps
 mod IncomingSteps
 mod Openings
 mod Outcomes

@@ -1,5 +1,6 @@
 -- What an opening tells, and what a command may say of it.
 use Rattle.std.specs.Prelude.{ℕ, ◌≡◌, ◌≢◌, ◌⊎◌, List, [], length, Option, Some, None, IfSome, Result, Err}
+use Rattle.std.specs.Io.KnownBytes.{Appends}
 use Rattle.std.specs.Option.{ForSome}
 use Rattle.std.proofs.Common.{refl, sym, ap, ◌∙◌, arith, inl, inr, subst, ⊎_elim}
 use Rattle.std.proofs.lemmas.List.{drop_all}
@@ -9,7 +10,7 @@ use Rattle.mg_check.specs.declared.examining.Summary.{Summary}
 use Rattle.mg_check.specs.Summaries.{Tells}
 use Rattle.mg_disk.specs.Disk.{Image}
 use Rattle.mg_disk.specs.Runs.{leaves_then, leaves_wider, leaves_yet}
-use Rattle.mg_disk.specs.Stops.{Leaves, NothingPending}
+use Rattle.mg_disk.specs.Stops.{Leaves, NothingPending, WritesNothing}
 use Rattle.mg_disk.specs.declared.disk.Disk.{Ghosts}
 use Rattle.mg_io.specs.Known.{Appends-none, AppendsPrefix, AppendsPrefix-longer, AppendsPrefix-none}
 use Rattle.mg_io.specs.declared.traits.Sink as sinks
@@ -23,8 +24,8 @@ use Rattle.mg_model.specs.State.{State}
 use Rattle.mg_model.specs.Volume.{Damaged, Is, NotVolume, OldVolume, VolumeRead, volume}
 use Rattle.mg_session.specs.declared.status.Status.{Status}
 use Rattle.mg_session.specs.declared.status.Status.TheVariants as status
-use Rattle.mg_session.specs.Headline.{Answers, AnswersLines, AnswersPrefix, AreAnswered, Holds, HoldsExactly, IfState, IsPrefix, IsWithinCost, KeepsAnswered, MayTell, OnVolume, TellsOfNone, check_line, replies, summary_line}
-use Rattle.mg_session.specs.Unopened.{EndsWith, FaultTells, IsQuiet, fault_line}
+use Rattle.mg_session.specs.Headline.{Answers, AnswersLines, AnswersPrefix, AreAnswered, Holds, HoldsExactly, IfState, IsPrefix, IsWithinCost, KeepsAnswered, MayTell, OnVolume, TellsNone, TellsOfNone, EndsUnopened, check_line, replies, summary_line}
+use Rattle.mg_session.specs.Unopened.{EndsSession, EndsWith, FaultTells, IsQuiet, fault_line}
 use Rattle.mg_session.proofs.SessionSteps.{left_spells, no_lines}
 
 -- before the first call
@@ -140,6 +141,80 @@ told_without facts to summary result d d' k k' tells ends = record {
   where
     found : result ≡ status.NoVolume → ⊥
     found h = ⊎_elim (λ (e : result ≡ status.Done). cc) (λ (e : result ≡ status.Sink). cc) ends
+
+-- an opening that found no volume wrote nothing
+pub untouched : {T : Type 0} (f : OpenFault) (W : Type 0) → (◌≡◌ {A = Result T OpenFault} (Err f) (Err fault.Not) → W) → (◌≡◌ {A = Result T OpenFault} (Err f) (Err fault.Old) → W)
+    → (◌≡◌ {A = Result T OpenFault} (Err f) (Err fault.Damaged) → W) → (IsQuiet f → ⊥) → W
+untouched fault.Not W n o d loud = n refl
+untouched fault.Old W n o d loud = o refl
+untouched fault.Damaged W n o d loud = d refl
+untouched fault.Disk W n o d loud = absurd (loud tt)
+untouched fault.Memory W n o d loud = absurd (loud tt)
+
+-- what a session on a volume that was opened tells of none
+pub opened_without : {D K : Type 0} (facts : Ghosts D) (to : sinks.Ghosts K) (kernel : Kernel) (result : Status) (d mid d' : D) (k k' : K)
+    → ForSome (facts.seen d) (λ image. Opens (volume image) kernel (facts.seen mid)) → EndsSession result → TellsOfNone facts to result d d' k k'
+opened_without facts to kernel result d mid d' k k' opens ends = record {
+  none = λ h. absurd (never h);
+  none_writes = λ h. absurd (never h);
+  not_opened = λ image is no_state. absurd (gone image is no_state);
+  not_opened_prefix = λ image is no_state. absurd (gone image is no_state);
+}
+  where
+    gone : (image : Image) → facts.seen d ≡ Some image → IsNoState (volume image) → ⊥
+    gone image is no_state = let o = opens image is in subst IsNoState o.is no_state
+
+    never : result ≡ status.NoVolume → ⊥
+    never h =
+        ⊎_elim (λ (e : result ≡ status.Done). cc)
+        (⊎_elim (λ (e : result ≡ status.Memory). cc) (⊎_elim (λ (e : result ≡ status.Disk). cc) (⊎_elim (λ (e : result ≡ status.Source). cc) (⊎_elim (λ (e : result ≡ status.Sink). cc) (λ (e : result ≡ status.TooLong). cc)))))
+        ends
+
+-- a command that found no volume
+pub unopened_without : {D K : Type 0} (facts : Ghosts D) (to : sinks.Ghosts K) (f : OpenFault) (result : Status) (d d' : D) (k k' : K) → FaultTells f (facts.seen d) → EndsWith f result
+    → ((IsQuiet f → ⊥) → WritesNothing facts d d') → (result ≡ status.NoVolume → Appends (to.taken k) (to.taken k') (fault_line f)) → AppendsPrefix (to.taken k) (to.taken k') (fault_line f)
+    → TellsOfNone facts to result d d' k k'
+unopened_without facts to f result d d' k k' tells ends writes put prefix = record {
+  none = λ h. none f tells ends put h;
+  none_writes = λ h. loud f ends writes h;
+  not_opened = λ image is no_state. may_end f ends;
+  not_opened_prefix = λ image is no_state. line f tells prefix image is;
+}
+  where
+    none : (f : OpenFault) → FaultTells f (facts.seen d) → EndsWith f result → (result ≡ status.NoVolume → Appends (to.taken k) (to.taken k') (fault_line f)) → result ≡ status.NoVolume → TellsNone (facts.seen d) (to.taken k) (to.taken k')
+    none fault.Not tells ends put h = record { read = NotVolume; none = tt; is = tells; put = put h }
+    none fault.Old tells ends put h = record { read = OldVolume; none = tt; is = tells; put = put h }
+    none fault.Damaged tells ends put h = record { read = Damaged; none = tt; is = tells; put = put h }
+    none fault.Disk tells ends put h = let e : result ≡ status.Disk = ends in absurd (cc)
+    none fault.Memory tells ends put h = let e : result ≡ status.Memory = ends in absurd (cc)
+
+    loud : (f : OpenFault) → EndsWith f result → ((IsQuiet f → ⊥) → WritesNothing facts d d') → result ≡ status.NoVolume → WritesNothing facts d d'
+    loud fault.Not ends writes h = writes (λ quiet. quiet)
+    loud fault.Old ends writes h = writes (λ quiet. quiet)
+    loud fault.Damaged ends writes h = writes (λ quiet. quiet)
+    loud fault.Disk ends writes h = let e : result ≡ status.Disk = ends in absurd (cc)
+    loud fault.Memory ends writes h = let e : result ≡ status.Memory = ends in absurd (cc)
+
+    either : (result ≡ status.NoVolume) ⊎ (result ≡ status.Sink) → EndsUnopened result
+    either ends = ⊎_elim (λ none. inl none) (λ sink. inr (inr (inr sink))) ends
+
+    may_end : (f : OpenFault) → EndsWith f result → EndsUnopened result
+    may_end fault.Not ends = either ends
+    may_end fault.Old ends = either ends
+    may_end fault.Damaged ends = either ends
+    may_end fault.Disk ends = inr (inr (inl ends))
+    may_end fault.Memory ends = inr (inl ends)
+
+    of_kind : (read : VolumeRead) (image : Image) → volume image ≡ read → AppendsPrefix (to.taken k) (to.taken k') (check_line read) → AppendsPrefix (to.taken k) (to.taken k') (check_line (volume image))
+    of_kind read image is prefix = subst (λ v. AppendsPrefix (to.taken k) (to.taken k') (check_line v)) (sym is) prefix
+
+    line : (f : OpenFault) → FaultTells f (facts.seen d) → AppendsPrefix (to.taken k) (to.taken k') (fault_line f) → (image : Image) → facts.seen d ≡ Some image
+        → AppendsPrefix (to.taken k) (to.taken k') (check_line (volume image))
+    line fault.Not tells prefix image is = of_kind NotVolume image (tells image is) prefix
+    line fault.Old tells prefix image is = of_kind OldVolume image (tells image is) prefix
+    line fault.Damaged tells prefix image is = of_kind Damaged image (tells image is) prefix
+    line fault.Disk tells prefix image is = AppendsPrefix-longer (to.taken k) (to.taken k') [] (check_line (volume image)) prefix
+    line fault.Memory tells prefix image is = AppendsPrefix-longer (to.taken k) (to.taken k') [] (check_line (volume image)) prefix
 
 -- where nothing was taken or put, no line is answered
 none_answered : (taken : Option (List ℕ)) → AreAnswered taken taken 0

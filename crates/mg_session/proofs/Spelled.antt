@@ -4,7 +4,7 @@ use Rattle.std.specs.Prelude.{String, codes}
 use Rattle.std.specs.String.{string_bytes}
 use Rattle.std.specs.declared.alloc.Global.{Global}
 use Rattle.mg_model.specs.Words.{same_bytes}
-use Rattle.mg_session.specs.Commands.{dry_of, dry_words, format_usual, format_with, format_words, is_check, run_alone, run_with, run_words, tariff_of, words_of}
+use Rattle.mg_session.specs.Commands.{dry_of, dry_words, format_usual, format_with, format_words, gen_with, gen_words, is_check, run_alone, run_with, run_words, tariff_of, words_of}
 
 not_five : (words : List (List ℕ)) → (length words ≡ 5 → ⊥) → dry_of words ≡ None
 not_five [] h = refl
@@ -151,3 +151,24 @@ not_two_or_three (a ∷ b ∷ c ∷ d ∷ more) h k = refl
 
 pub run_words-other : (words : List (String Global)) → (length words ≡ 2 → ⊥) → (length words ≡ 3 → ⊥) → run_words (words_of words) ≡ None
 run_words-other words h k = not_two_or_three (words_of words) (λ e. h (sym (length-words_of words) ∙ e)) (λ e. k (sym (length-words_of words) ∙ e))
+
+-- the words of `gen`, each by its place
+pub gen_words-four : (words : List (List ℕ)) (word number count : List ℕ) → length words ≡ 4
+    → get_or words 1 [] ≡ word → get_or words 2 [] ≡ number → get_or words 3 [] ≡ count → gen_with word number count ≡ gen_words words
+gen_words-four [] w n m four p q r = absurd (omega arith)
+gen_words-four (a0 ∷ []) w n m four p q r = absurd (omega arith)
+gen_words-four (a0 ∷ a1 ∷ []) w n m four p q r = absurd (omega arith)
+gen_words-four (a0 ∷ a1 ∷ a2 ∷ []) w n m four p q r = absurd (omega arith)
+gen_words-four (a0 ∷ a1 ∷ a2 ∷ a3 ∷ []) w n m four p q r = sym (ap (λ v. gen_with v a2 a3) p ∙ ap (λ v. gen_with w v a3) q ∙ ap (λ v. gen_with w n v) r)
+gen_words-four (a0 ∷ a1 ∷ a2 ∷ a3 ∷ a4 ∷ more) w n m four p q r = absurd (omega arith)
+
+not_four : (words : List (List ℕ)) → (length words ≡ 4 → ⊥) → gen_words words ≡ None
+not_four [] h = refl
+not_four (a ∷ []) h = refl
+not_four (a ∷ b ∷ []) h = refl
+not_four (a ∷ b ∷ c ∷ []) h = refl
+not_four (a ∷ b ∷ c ∷ d ∷ []) h = absurd (h refl)
+not_four (a ∷ b ∷ c ∷ d ∷ e ∷ more) h = refl
+
+pub gen_words-other : (words : List (String Global)) → (length words ≡ 4 → ⊥) → gen_words (words_of words) ≡ None
+gen_words-other words h = not_four (words_of words) (λ e. h (sym (length-words_of words) ∙ e))

@@ -19,13 +19,19 @@ pub record GoesOn : Type 0 where
   pub costs : CostsGoOn cost
 
 -- each key is kept that would be warm behind a line more
+pub warm-more : GoesOn → (s now : State) (ls : List Line) (line : Line) (kept kept' : Key → Bool) (n n' : ℕ) → KeepsWarm (events [] s ls) kept → now ≡ after s ls
+    → KeepsLine now line kept kept' n n' → KeepsWarm (events [] s (ls ++ line ∷ [])) kept'
+warm-more laws s now ls line kept kept' n n' warm is keeps =
+    let event : Event = record { state = after s ls; line = line } in
+    let line_keeps : KeepsLine (after s ls) line kept kept' n n' = subst (λ (v : State). KeepsLine v line kept kept' n n') is keeps in
+    subst (λ (v : List Event). KeepsWarm v kept') (sym (laws.events [] s ls line)) (laws.stays (events [] s ls) event kept kept' warm line_keeps.keys)
+
+-- the same, where the line waits behind others
 pub warm-line : GoesOn → (s now : State) (done waiting : List Line) (line : Line) (kept kept' : Key → Bool) (n n' : ℕ) → KeepsWarm (events [] s (done ++ waiting)) kept → now ≡ after s (done ++ waiting)
     → KeepsLine now line kept kept' n n' → KeepsWarm (events [] s (done ++ (waiting ++ line ∷ []))) kept'
 warm-line laws s now done waiting line kept kept' n n' warm is keeps =
-    let event : Event = record { state = after s (done ++ waiting); line = line } in
-    let line_keeps : KeepsLine (after s (done ++ waiting)) line kept kept' n n' = subst (λ (v : State). KeepsLine v line kept kept' n n') is keeps in
     subst (λ (v : List Line). KeepsWarm (events [] s v) kept') (append_assoc done waiting (line ∷ []))
-    (subst (λ (v : List Event). KeepsWarm v kept') (sym (laws.events [] s (done ++ waiting) line)) (laws.stays (events [] s (done ++ waiting)) event kept kept' warm line_keeps.keys))
+    (warm-more laws s now (done ++ waiting) line kept kept' n n' warm is keeps)
 
 -- the counter stays within the cost of the lines
 pub spent-line : GoesOn → (s now : State) (ls : List Line) (line : Line) (kept : Key → Bool) (first n n' : ℕ) → KeepsWarm (events [] s ls) kept → now ≡ after s ls → n ≤ first + cost s ls

@@ -7,7 +7,7 @@ use Rattle.mg_model.specs.Settings.{Settings, within_limits}
 use Rattle.mg_model.specs.Tariff.{is_tariff, usual_tariff}
 use Rattle.mg_model.specs.Words.{and_then, digit_of, number_of, same_bytes}
 use Rattle.mg_session.specs.declared.words.Command.{Command}
-use Rattle.mg_session.specs.declared.words.Command.TheVariants.{Check, Dry, Format, Run}
+use Rattle.mg_session.specs.declared.words.Command.TheVariants.{Check, Dry, Format, Gen, Run}
 
 -- the byte of two hexadecimal digits, the high one first
 abbrev pub byte_of : ℕ → ℕ → Option ℕ
@@ -113,6 +113,20 @@ run_words (volume ∷ word ∷ []) = run_alone word
 run_words (volume ∷ word ∷ batch ∷ []) = run_with word batch
 run_words words = None
 
+-- a run of so many lines, if it may have as many
+abbrev pub lines_within : ℕ → ℕ → Option (ℕ × ℕ)
+lines_within number count = if nat_le count 1000000 then Some (number, count) else None
+
+-- `gen NUMBER LINES`
+abbrev pub gen_with : List ℕ → List ℕ → List ℕ → Option (ℕ × ℕ)
+gen_with word number count =
+    if same_bytes word (codes "gen") then and_then (number_of number) (λ n. and_then (number_of count) (λ m. lines_within n m)) else None
+
+-- `VOLUME gen NUMBER LINES`
+abbrev pub gen_words : List (List ℕ) → Option (ℕ × ℕ)
+gen_words (volume ∷ word ∷ number ∷ count ∷ []) = gen_with word number count
+gen_words words = None
+
 -- the first of two, or else the other
 abbrev pub or_else : {X : Type 0} → Option X → Option X → Option X
 or_else None other = other
@@ -123,7 +137,8 @@ abbrev pub command_of : List (List ℕ) → Option Command
 command_of words =
     or_else (option_map (λ settings. Dry settings) (dry_of words))
     (or_else (option_map (λ settings. Format settings) (format_words words))
-    (or_else (if is_check words then Some Check else None) (option_map (λ batch. Run batch) (run_words words))))
+    (or_else (if is_check words then Some Check else None)
+    (or_else (option_map (λ batch. Run batch) (run_words words)) (option_map (λ run. Gen run.0 run.1) (gen_words words)))))
 
 -- the settings of the machine that the lines run on, if that is the command
 abbrev pub settings_to_run : Option Command → Option Settings
@@ -132,6 +147,7 @@ settings_to_run (Some (Dry settings)) = Some settings
 settings_to_run (Some (Format settings)) = None
 settings_to_run (Some Check) = None
 settings_to_run (Some (Run batch)) = None
+settings_to_run (Some (Gen number count)) = None
 
 -- the settings of the volume that is to be made, if that is the command
 abbrev pub settings_to_make : Option Command → Option Settings
@@ -140,6 +156,7 @@ settings_to_make (Some (Dry settings)) = None
 settings_to_make (Some (Format settings)) = Some settings
 settings_to_make (Some Check) = None
 settings_to_make (Some (Run batch)) = None
+settings_to_make (Some (Gen number count)) = None
 
 -- how many replies a batch has, if the lines run on the volume
 abbrev pub batch_to_run : Option Command → Option ℕ
@@ -148,6 +165,16 @@ batch_to_run (Some (Dry settings)) = None
 batch_to_run (Some (Format settings)) = None
 batch_to_run (Some Check) = None
 batch_to_run (Some (Run batch)) = Some batch
+batch_to_run (Some (Gen number count)) = None
+
+-- the number of a generated run and its lines, if that is the command
+abbrev pub run_to_make : Option Command → Option (ℕ × ℕ)
+run_to_make None = None
+run_to_make (Some (Dry settings)) = None
+run_to_make (Some (Format settings)) = None
+run_to_make (Some Check) = None
+run_to_make (Some (Run batch)) = None
+run_to_make (Some (Gen number count)) = Some (number, count)
 
 -- the command, if it is to tell whether the disk is a volume
 abbrev pub only_check : Option Command → Option Command
@@ -156,6 +183,7 @@ only_check (Some (Dry settings)) = None
 only_check (Some (Format settings)) = None
 only_check (Some Check) = Some Check
 only_check (Some (Run batch)) = None
+only_check (Some (Gen number count)) = None
 
 -- the command, if it is one that opens the volume
 abbrev pub only_opening : Option Command → Option Command
@@ -164,6 +192,7 @@ only_opening (Some (Dry settings)) = None
 only_opening (Some (Format settings)) = None
 only_opening (Some Check) = Some Check
 only_opening (Some (Run batch)) = Some (Run batch)
+only_opening (Some (Gen number count)) = None
 
 -- `VOLUME format ..`
 abbrev pub format_of : List (List ℕ) → Option Settings
@@ -172,6 +201,10 @@ format_of words = settings_to_make (command_of words)
 -- `VOLUME run ..`
 abbrev pub run_of : List (List ℕ) → Option ℕ
 run_of words = batch_to_run (command_of words)
+
+-- `VOLUME gen ..`: the number, and how many lines
+abbrev pub gen_of : List (List ℕ) → Option (ℕ × ℕ)
+gen_of words = run_to_make (command_of words)
 
 -- `VOLUME check`
 abbrev pub check_of : List (List ℕ) → Option Command

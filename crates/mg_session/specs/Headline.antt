@@ -1,8 +1,9 @@
 -- What the program promises: the words and the records of the clauses of `top` and of `serve`, in the order in which
 -- docs/PROMISES.md tells them. An object that does not tell its content has None for it; a promise on content is then empty.
-use Rattle.std.specs.Prelude.{ℕ, ◌+◌, ◌-◌, ◌^◌, ◌<◌, ◌≤◌, ◌≡◌, ◌≢◌, ◌⊎◌, List, [], ◌∷◌, ◌++◌, length, take, drop, codes, Option, Some, IfSome, IsSomeAnd, Result, Ok, Err}
+use Rattle.std.specs.Prelude.{ℕ, ◌+◌, ◌-◌, ◌^◌, ◌<◌, ◌≤◌, ◌≡◌, ◌≢◌, ◌⊎◌, List, [], ◌∷◌, ◌++◌, length, take, drop, map, codes, Option, Some, IfSome, IsSomeAnd, Result, Ok, Err}
 use Rattle.std.specs.Fmt.{decimal}
 use Rattle.std.specs.Io.KnownBytes.{Appends}
+use Rattle.std.specs.List.{range_with_len}
 use Rattle.std.specs.Option.{ForSome}
 use Rattle.mg_check.specs.declared.examining.Summary.{Summary}
 use Rattle.mg_check.specs.Summaries.{Tells, summary_of}
@@ -10,11 +11,15 @@ use Rattle.mg_disk.specs.Disk.{Image}
 use Rattle.mg_disk.specs.Stops.{CountRose, Leaves, NothingPending, WritesNothing}
 use Rattle.mg_disk.specs.declared.disk.Disk as disks
 use Rattle.mg_faults.specs.Faults.{Rose}
+use Rattle.mg_gen.specs.Asked.{line_asked}
+use Rattle.mg_gen.specs.Generated.{run_settings}
+use Rattle.mg_gen.specs.Summary.{tally_of, tally_text}
 use Rattle.mg_io.specs.Known.{AppendsPrefix}
 use Rattle.mg_io.specs.declared.traits.Sink as sinks
 use Rattle.mg_io.specs.declared.traits.Source as sources
 use Rattle.mg_layout.specs.MayFormat.{IsNoState, MayFormat, ReadsFresh}
 use Rattle.mg_model.specs.declared.calls.Line.{Line}
+use Rattle.mg_model.specs.declared.replies.Reply.{Reply}
 use Rattle.mg_model.specs.Draw.{password_drawn}
 use Rattle.mg_model.specs.Ended.{ended_lines}
 use Rattle.mg_model.specs.Fresh.{fresh, root_base}
@@ -23,7 +28,7 @@ use Rattle.mg_model.specs.Lines.{lines}
 use Rattle.mg_model.specs.Print.{answered, hex_text, ok_text, spaced, text}
 use Rattle.mg_model.specs.Settings.{Settings}
 use Rattle.mg_model.specs.State.{State}
-use Rattle.mg_model.specs.Step.{after, prefix}
+use Rattle.mg_model.specs.Step.{after, prefix, step}
 use Rattle.mg_model.specs.Volume.{Damaged, Is, NotVolume, OldVolume, VolumeRead, volume}
 use Rattle.mg_model.specs.Warmth.{cost}
 use Rattle.mg_session.specs.declared.batches.Ended.{Ended}
@@ -286,6 +291,43 @@ pub record DryKeeps {S K : Type 0} (from : sources.Ghosts S) (to : sinks.Ghosts 
   -- Where no call failed and the input is not too long, all is done, or memory was wanting.
   pub complete : (Rose (from.faults source) (from.faults source') (from.is_spent source') → ⊥)
       → (Rose (to.faults sink) (to.faults sink') (to.is_spent sink') → ⊥) → IsWithin input_limit (from.left source) (IsDoneOrMemory result)
+
+-- `VOLUME gen NUMBER LINES`
+
+-- so many lines of the run of a number, from its first on
+abbrev pub run_lines : ℕ → ℕ → List Line
+run_lines number count = map (λ k. line_asked number k) (range_with_len 0 count)
+
+-- the machine's replies to these lines
+abbrev pub replies_from : State → List Line → List Reply
+replies_from s [] = []
+replies_from s (line ∷ more) = (step s line).1 ∷ replies_from (step s line).0 more
+
+-- the fresh state that such a run begins with
+abbrev pub run_state : State
+run_state = fresh run_settings
+
+-- what is put of a run: a line for `ok` and one for each refusal, each with the number of replies that were so
+abbrev pub run_text : ℕ → ℕ → List ℕ
+run_text number count = tally_text (tally_of (replies_from run_state (run_lines number count)))
+
+-- how it may end
+abbrev pub EndsGen : Status → Type 0
+EndsGen result = (result ≡ status.Done) ⊎ ((result ≡ status.Memory) ⊎ (result ≡ status.Sink))
+
+-- What `gen` keeps.
+pub record GenKeeps {K : Type 0} (to : sinks.Ghosts K) (number count : ℕ) (result : Status) (sink sink' : K) (steps steps' : ℕ) : Type 0 where
+  -- At the end the counts of the machine's replies were put; at each status what was put is a prefix of that.
+  pub done : result ≡ status.Done → Appends (to.taken sink) (to.taken sink') (run_text number count)
+  pub prefix : AppendsPrefix (to.taken sink) (to.taken sink') (run_text number count)
+  -- At each status the counter rose by no more than the generated lines may cost.
+  pub cost : steps' ≤ steps + cost run_state (run_lines number count)
+  pub which : EndsGen result
+  -- Where memory was wanting nothing was put; the sink failed only where its count rose.
+  pub memory : result ≡ status.Memory → sink' ≡ sink
+  pub sink_failed : result ≡ status.Sink → Rose (to.faults sink) (to.faults sink') (to.is_spent sink')
+  -- Where no call failed all is done, or memory was wanting.
+  pub complete : (Rose (to.faults sink) (to.faults sink') (to.is_spent sink') → ⊥) → IsDoneOrMemory result
 
 -- `VOLUME check`
 

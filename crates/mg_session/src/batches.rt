@@ -19,7 +19,7 @@ use std::sync::ledger::Ledger;
 use thiserror::Error;
 
 /// A batch closes above so many staged blocks, so that one line more has room.
-const STAGED_LIMIT: usize = 28;
+pub const STAGED_LIMIT: usize = 28;
 
 /// Why a session ended before the end of its input.
 #[derive(Clone, Copy, Debug, PartialEq, Eq, Error)]

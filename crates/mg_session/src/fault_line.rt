@@ -1,7 +1,7 @@
 // What is put of a disk that was not opened.
 ghost use Rattle.std.specs.Prelude.{◌≡◌, ◌⊎◌};
 ghost use Rattle.std.specs.Io.KnownBytes.{Appends};
-ghost use Rattle.mg_faults.specs.Faults.{Rose};
+ghost use Rattle.mg_faults.specs.Faults.{CountGoesOn, Rose};
 ghost use Rattle.mg_io.specs.Known.{AppendsPrefix};
 ghost use Rattle.mg_session.specs.Unopened.{EndsWith, IsQuiet, fault_line};
 
@@ -16,6 +16,7 @@ pub fn put_fault<K: Sink>(fault: OpenFault, sink: &mut K) -> Status
     ensures prefix { AppendsPrefix (K.taken sink.old) (K.taken sink.new) (fault_line fault) }
     ensures quiet { IsQuiet fault → sink.new ≡ sink.old }
     ensures sink { result ≡ Status.Sink → Rose (K.faults sink.old) (K.faults sink.new) (K.is_spent sink.new) }
+    ensures sink_count { CountGoesOn (K.faults sink.old) (K.faults sink.new) (K.is_spent sink.old) (K.is_spent sink.new) }
 {
     match fault {
         OpenFault::Not => put_line(b"open not\n", sink),
@@ -31,6 +32,7 @@ fn put_line<K: Sink>(line: &[u8], sink: &mut K) -> Status
     ensures put { result ≡ Status.NoVolume → Appends (K.taken sink.old) (K.taken sink.new) line.now }
     ensures prefix { AppendsPrefix (K.taken sink.old) (K.taken sink.new) line.now }
     ensures sink { result ≡ Status.Sink → Rose (K.faults sink.old) (K.faults sink.new) (K.is_spent sink.new) }
+    ensures sink_count { CountGoesOn (K.faults sink.old) (K.faults sink.new) (K.is_spent sink.old) (K.is_spent sink.new) }
 {
     match put_all(sink, line) {
         Ok(()) => Status::NoVolume,

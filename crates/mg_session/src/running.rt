@@ -2,7 +2,7 @@
 ghost use Rattle.std.specs.Prelude.{◌≡◌, ◌≤◌, IfSome, IsTrue};
 ghost use Rattle.std.specs.Option.{ForSome};
 ghost use Rattle.mg_disk.specs.Stops.{CountGoes, CountRose, NothingPending};
-ghost use Rattle.mg_faults.specs.Faults.{Rose};
+ghost use Rattle.mg_faults.specs.Faults.{CountGoesOn, Rose};
 ghost use Rattle.mg_kernel.specs.Meaning.{StandsOn, is_live, now_of, staged_of};
 ghost use Rattle.mg_layout.specs.MayFormat.{IsNoState};
 ghost use Rattle.mg_model.specs.Volume.{volume};
@@ -56,6 +56,8 @@ fn run_kernel<D: Disk, S: Source, K: Sink, L: Ledger>(
         → (Rose (K.faults sink.old) (K.faults sink.new) (K.is_spent sink.new) → ⊥)
         → IsWithin input_limit (S.left source.old) (IsDoneOrMemory result) }
     ensures disk_count { CountGoes D.Disk disk.old disk.new }
+    ensures disk_blocks { D.block_count disk.new ≡ D.block_count disk.old }
+    ensures sink_count { CountGoesOn (K.faults sink.old) (K.faults sink.new) (K.is_spent sink.old) (K.is_spent sink.new) }
 {
     let mut owed = match Buffers::new(alloc) {
         Ok(owed) => owed,
@@ -99,6 +101,8 @@ pub fn run<D: Disk, S: Source, K: Sink, L: Ledger>(
         → (Rose (S.faults source.old) (S.faults source.new) (S.is_spent source.new) → ⊥)
         → (Rose (K.faults sink.old) (K.faults sink.new) (K.is_spent sink.new) → ⊥)
         → IsWithin input_limit (S.left source.old) (IsDoneOrMemory result)) }
+    ensures disk_blocks { D.block_count disk.new ≡ D.block_count disk.old }
+    ensures sink_count { CountGoesOn (K.faults sink.old) (K.faults sink.new) (K.is_spent sink.old) (K.is_spent sink.new) }
 {
     match Kernel::open(alloc, disk) {
         Ok(mut kernel) => run_kernel(alloc, &mut kernel, batch, disk, source, sink, steps),

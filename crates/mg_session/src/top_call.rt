@@ -3,12 +3,13 @@ ghost use Rattle.std.specs.Prelude.{◌≡◌, ◌⊎◌, IfSome, IsSome, None};
 ghost use Rattle.std.specs.Io.KnownBytes.{Appends};
 ghost use Rattle.mg_faults.specs.Faults.{Rose};
 ghost use Rattle.mg_io.specs.Known.{AppendsPrefix};
-ghost use Rattle.mg_session.specs.Commands.{check_of, command_of, dry_of, format_of, opening_of, run_of, words_of};
-ghost use Rattle.mg_session.specs.Headline.{CheckKeeps, DryKeeps, FormatKeeps, RunKeeps, UsageKeeps, usage_line};
+ghost use Rattle.mg_session.specs.Commands.{check_of, command_of, dry_of, format_of, gen_of, opening_of, run_of, words_of};
+ghost use Rattle.mg_session.specs.Headline.{CheckKeeps, DryKeeps, FormatKeeps, GenKeeps, RunKeeps, UsageKeeps, usage_line};
 
 use crate::checking::check;
 use crate::dry::dry;
 use crate::formatting::make_volume;
+use crate::generating::count_run;
 use crate::running::run;
 use crate::status::Status;
 use crate::words::{Command, read_words};
@@ -41,20 +42,22 @@ fn usage<K: Sink>(sink: &mut K) -> Status
 ///   period and credits; it writes nothing, and the source is left alone.
 /// - `VOLUME run` and `VOLUME run BATCH` run the source's lines on the volume of the disk, so many replies to a batch, 1 where
 ///   none is given. A batch is committed, and then its replies are put.
+/// - `VOLUME gen NUMBER LINES` runs so many lines of the run of a number on a fresh machine that is kept nowhere, and puts how
+///   many replies were ok and how many were refused with each word; neither the disk nor the source is called.
 ///
 /// Other words get the line `usage` and [`Status::Usage`]; disk and source are then left alone.
 ///
 /// [`Status::NoVolume`] comes of `check` and `run` where the image that reads give is no volume, with the line `open not`,
 /// `open old` or `open damaged`, without a write, and with the source left alone. [`Status::Memory`] comes before the first
-/// byte is taken, and never where a volume is made. After [`Status::Disk`], [`Status::Source`], [`Status::Sink`] and
+/// byte is taken or put, and never where a volume is made. After [`Status::Disk`], [`Status::Source`], [`Status::Sink`] and
 /// [`Status::TooLong`] of `dry` and `run` what was put is a prefix of the replies; at each moment of `run` a stop leaves the
 /// volume's state after some first lines, and at its end all that are answered are among them. After [`Status::Disk`] of
 /// `format` and `check` nothing was put; after that of `format` the disk holds no volume, what its blocks spelled before, or
 /// the fresh one. [`Status::TooSmall`] comes with the line `small NEED HAVE`, in blocks, and without a call of the disk. Where
 /// the sink failed once a volume was made, that volume stands.
 ///
-/// `steps` counts the words that are read and written, one each. Whatever the status of `dry` and `run`, it rises by no more
-/// than the lines that were read may cost.
+/// `steps` counts the words that are read and written, one each. Whatever the status of `dry`, `run` and `gen`, it rises by no
+/// more than the lines that were read, or the generated ones, may cost.
 pub fn top<D: Disk, S: Source, K: Sink, L: Ledger>(
     alloc: Global,
     words: &[String],
@@ -63,7 +66,7 @@ pub fn top<D: Disk, S: Source, K: Sink, L: Ledger>(
     sink: &mut K,
     steps: &mut Steps<L>,
 ) -> Status
-    // What each command keeps. `dry` makes no call on the disk.
+    // What each command keeps. `dry` makes no call on the disk, and `gen` none on the disk and the source.
     ensures run { IfSome (run_of (words_of words.now)) (λ batch. RunKeeps D.Disk S.Source K.Sink batch result
         disk.old disk.new source.old source.new sink.old sink.new steps.old steps.new) }
     ensures dry { IfSome (dry_of (words_of words.now)) (λ settings. DryKeeps S.Source K.Sink settings result
@@ -72,6 +75,8 @@ pub fn top<D: Disk, S: Source, K: Sink, L: Ledger>(
     ensures check { IfSome (check_of (words_of words.now)) (λ _. CheckKeeps D.Disk K.Sink result disk.old disk.new sink.old sink.new) }
     ensures format { IfSome (format_of (words_of words.now)) (λ settings. FormatKeeps D.Disk K.Sink settings result
         disk.old disk.new sink.old sink.new) }
+    ensures generated { IfSome (gen_of (words_of words.now)) (λ run. GenKeeps K.Sink run.0 run.1 result sink.old sink.new steps.old steps.new) }
+    ensures generated_alone { IfSome (gen_of (words_of words.now)) (λ _. (disk.new ≡ disk.old) × (source.new ≡ source.old)) }
     ensures usage { command_of (words_of words.now) ≡ None → UsageKeeps K.Sink result disk.old disk.new source.old source.new sink.old sink.new }
 
     // Which commands a status comes of, and which make a call on the source.
@@ -90,5 +95,6 @@ pub fn top<D: Disk, S: Source, K: Sink, L: Ledger>(
         Command::Format(params) => make_volume(params, disk, sink),
         Command::Check => check(alloc, disk, sink),
         Command::Run(batch) => run(alloc, *batch, disk, source, sink, steps),
+        Command::Gen(number, count) => count_run(alloc, *number, *count, sink, steps),
     }
 }

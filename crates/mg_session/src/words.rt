@@ -1,10 +1,13 @@
 // The words of the command line.
 ghost use Rattle.std.specs.Prelude.{◌≡◌, ◌≤◌, IfSome, length};
 ghost use Rattle.mg_model.specs.Words.{same_bytes};
-ghost use Rattle.mg_session.specs.Commands.{batch_to_run, batch_within, before_colon, byte_of, check_of, command_of, dry_of, dry_words, format_of, format_usual, format_with, format_words, is_check, only_check, only_opening, opening_of, run_alone, run_of, run_with, run_words, seed_of, settings_of, settings_to_make, settings_to_run, settings_with, step_of, step_parts, tariff_of, words_of};
+ghost use Rattle.mg_session.specs.Commands.{batch_to_run, batch_within, before_colon, byte_of, check_of, command_of, dry_of, dry_words, format_of, format_usual, format_with, format_words, gen_of, gen_with, gen_words, is_check, lines_within, only_check, only_opening, opening_of, run_alone, run_of, run_to_make, run_with, run_words, seed_of, settings_of, settings_to_make, settings_to_run, settings_with, step_of, step_parts, tariff_of, words_of};
 
 use mg_model::{Params, Tariff};
 use mg_text::{digit, read_number};
+
+/// The most lines of a generated run.
+const LINE_LIMIT: u64 = 1_000_000;
 
 /// What the program is asked to do.
 #[derive(Clone, Copy, Debug, PartialEq, Eq)]
@@ -17,14 +20,18 @@ pub enum Command {
     Check,
     /// Run the lines of the input on the volume, so many replies to a batch: 1 to 64.
     Run(u64),
+    /// Run the lines of a generated run on a fresh machine that is kept nowhere, and count the replies: the run's number, and
+    /// how many lines it has, at most 1,000,000.
+    Gen(u64, u64),
 }
 
 /// The command that these words spell, which are those behind the program's name; None exactly where they spell none.
 ///
 /// They are `VOLUME dry FRAMES SEED CREDITS`; `VOLUME format FRAMES SEED CREDITS` with nothing behind it (the usual tariff)
-/// or with a tariff, `F:R F:R F:R F:R`, whose steps keep the rule of [`Tariff`]; `VOLUME check`; and `VOLUME run`, a batch
-/// being one reply, or `VOLUME run BATCH`. FRAMES is 16 to 65,536, SEED has 64 hexadecimal digits of either case, CREDITS
-/// is at most `2^62`, BATCH is 1 to 64, and numbers are spelled as in a line.
+/// or with a tariff, `F:R F:R F:R F:R`, whose steps keep the rule of [`Tariff`]; `VOLUME check`; `VOLUME run`, a batch
+/// being one reply, or `VOLUME run BATCH`; and `VOLUME gen NUMBER LINES`. FRAMES is 16 to 65,536, SEED has 64 hexadecimal
+/// digits of either case, CREDITS is at most `2^62`, BATCH is 1 to 64, NUMBER is below `2^64`, LINES is at most 1,000,000,
+/// and numbers are spelled as in a line.
 pub fn read_words(words: &[String]) -> Option<Command>
     ensures command { result ≡ command_of (words_of words.now) }
     ensures dry { dry_of (words_of words.now) ≡ settings_to_run result }
@@ -32,6 +39,8 @@ pub fn read_words(words: &[String]) -> Option<Command>
     ensures batch { run_of (words_of words.now) ≡ batch_to_run result }
     ensures check { check_of (words_of words.now) ≡ only_check result }
     ensures opens { opening_of (words_of words.now) ≡ only_opening result }
+    ensures run { gen_of (words_of words.now) ≡ run_to_make result }
+    ensures few_lines { IfSome (run_to_make result) (λ run. run.1 ≤ 1000000) }
     ensures batch_within { IfSome (batch_to_run result) (λ batch. (1 ≤ batch) × (batch ≤ 64)) }
 {
     if let Some(params) = dry(words) {
@@ -43,7 +52,11 @@ pub fn read_words(words: &[String]) -> Option<Command>
     if is_check(words) {
         return Some(Command::Check);
     }
-    Some(Command::Run(run(words)?))
+    if let Some(batch) = run(words) {
+        return Some(Command::Run(batch));
+    }
+    let (number, lines) = generated(words)?;
+    Some(Command::Gen(number, lines))
 }
 
 /// Whether the words are `VOLUME check`.
@@ -97,6 +110,43 @@ fn within_batch(batch: u64) -> Option<u64>
 {
     if batch >= 1 && batch <= 64 {
         Some(batch)
+    } else {
+        None
+    }
+}
+
+/// The number and the lines that `VOLUME gen NUMBER LINES` gives.
+fn generated(words: &[String]) -> Option<(u64, u64)>
+    ensures run { result ≡ gen_words (words_of words.now) }
+    ensures few { IfSome result (λ run. run.1 ≤ 1000000) }
+{
+    match words {
+        [_, word, number, lines] => {
+            gen_with(word.as_bytes(), number.as_bytes(), lines.as_bytes())
+        }
+        _ => None,
+    }
+}
+
+/// The number and the lines that these words give, if the first is `gen`.
+fn gen_with(word: &[u8], number: &[u8], lines: &[u8]) -> Option<(u64, u64)>
+    ensures run { result ≡ gen_with word.now number.now lines.now }
+    ensures few { IfSome result (λ run. run.1 ≤ 1000000) }
+{
+    if is_word(word, b"gen") {
+        within_lines(read_number(number)?, read_number(lines)?)
+    } else {
+        None
+    }
+}
+
+/// A run of so many lines, if it may have as many.
+fn within_lines(number: u64, lines: u64) -> Option<(u64, u64)>
+    ensures run { result ≡ lines_within number lines }
+    ensures few { IfSome result (λ run. run.1 ≤ 1000000) }
+{
+    if lines <= LINE_LIMIT {
+        Some((number, lines))
     } else {
         None
     }

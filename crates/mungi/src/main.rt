@@ -10,7 +10,7 @@
 ghost use Rattle.std.specs.Prelude.{◌≡◌, ◌<◌};
 
 use mg_disk::{Disk, FileDisk};
-use mg_io::{ReaderSource, Sink, Source, WriterSink};
+use mg_io::{ReaderSource, Sink, Source, WriterSink, standard_numbers};
 use mg_model::Steps;
 use mg_session::{Status, top};
 use std::alloc::Global;
@@ -20,10 +20,14 @@ use std::rt::Env;
 use std::sync::ledger::{Blank, Ledger};
 use std::{env, io};
 
-/// The exit status where the program cannot have its words: one is no text, or memory is wanting.
+/// The exit status where the program cannot have its words: one is no text, or memory is wanting; or the numbers of the standard
+/// streams, which a file must not get.
 const NO_WORDS: u8 = 9;
 
 fn main(rt: HostRuntime) -> ExitCode {
+    let Ok(_numbers) = standard_numbers(&rt) else {
+        return ExitCode::from(NO_WORDS);
+    };
     let Ok(words) = words_of(&rt) else {
         return ExitCode::from(NO_WORDS);
     };

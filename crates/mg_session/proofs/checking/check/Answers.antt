@@ -1,6 +1,6 @@
 use Rattle.std.proofs.Common.{inl, refl}
 use Rattle.mg_session.specs.Headline.{summary_line}
-use Rattle.mg_session.proofs.Openings.{fault_may_tell, told_prefix, told_without}
+use Rattle.mg_session.proofs.Openings.{fault_may_tell, fault_tells, told_prefix, told_without, unopened_without}
 use Rattle.mg_session.proofs.checking.check.Goals as goal
 
 pub returns-in-Ok-clause-prefix : goal.returns-in-Ok-clause-prefix
@@ -16,3 +16,9 @@ returns-in-Err-clause-some_line g c = fault_may_tell c.in-Err.fault (g.K.Sink.ta
 pub returns-in-Ok-clause-without : goal.returns-in-Ok-clause-without
 returns-in-Ok-clause-without g c =
     told_without g.D.Disk g.K.Sink c.in-Ok.summary c.put_summary.result c.args.disk.now c.examine.new.disk c.args.sink.now c.put_summary.new.sink c.in-Ok.ensures.tells c.put_summary.ensures.ends
+
+pub returns-in-Err-clause-without : goal.returns-in-Err-clause-without
+returns-in-Err-clause-without g c =
+    unopened_without g.D.Disk g.K.Sink c.in-Err.fault c.put_fault.result c.args.disk.now c.examine.new.disk c.args.sink.now c.put_fault.new.sink
+    (fault_tells c.in-Err.fault (g.D.Disk.seen c.args.disk.now) c.in-Err.ensures.not c.in-Err.ensures.old c.in-Err.ensures.damaged) c.put_fault.ensures.ends
+    (λ loud. c.in-Err.ensures.writes) c.put_fault.ensures.put c.put_fault.ensures.prefix
