@@ -1,18 +1,26 @@
 // A client of the disk whose calls fail or whose disk dies, at each call in turn, and what a stop then leaves.
-ghost use Rattle.std.specs.Prelude.{◌≡◌, ◌≢◌, ◌≤◌, IfOk};
-ghost use Rattle.std.specs.Option.{ForSome};
-ghost use Rattle.mg_disk.specs.Stops.{NothingPending};
-ghost use Rattle.mg_disk_trial.specs.Gated.{gate_of};
+ghost use Rattle.std.specs.Prelude.{◌≡◌, ◌≤◌, IfOk};
 
 use mg_disk::{BLOCK_SIZE, Block, Counts, Disk, Failed, Fuse, Left, MemDisk, ScratchDisk};
-use mg_disk_trial::put;
 use std::alloc::{AllocError, Global};
 use std::process::Abort;
 
 /// The byte of an open gate.
 const OPEN: u8 = 0xA5;
 
-/// The first bytes of the two blocks that a disk holds.
+/// Makes these two blocks what a disk of five holds, where its gate is closed.
+fn put<D: Disk>(disk: &mut D, first: &Block, second: &Block) -> Result<(), Failed>
+    requires { 5 ≤ D.block_count disk.old }
+    ensures { D.block_count disk.new ≡ D.block_count disk.old }
+{
+    disk.write(1, first)?;
+    disk.write(2, second)?;
+    disk.sync()?;
+    disk.write(0, &[OPEN; BLOCK_SIZE])?;
+    disk.sync()
+}
+
+/// The first bytes of the two blocks that a disk holds: those behind an open gate, or those at their homes.
 fn held<D: Disk>(disk: &mut D) -> Result<(u8, u8), Failed>
     requires { 5 ≤ D.block_count disk.old }
 {
@@ -28,8 +36,6 @@ fn held<D: Disk>(disk: &mut D) -> Result<(u8, u8), Failed>
 /// A disk of five blocks with a closed gate, whose call of that number fails.
 fn fresh(alloc: Global, failing: u64) -> Result<MemDisk, AllocError>
     ensures room { IfOk result (λ disk. ⟦<MemDisk as Disk>⟧.block_count disk ≡ 5) }
-    ensures settled { IfOk result (λ disk. NothingPending ⟦<MemDisk as Disk>⟧ disk) }
-    ensures closed { IfOk result (λ disk. ForSome (⟦<MemDisk as Disk>⟧.seen disk) (λ image. gate_of image ≢ 0xA5)) }
 {
     let mut fails = Vec::new(alloc);
     fails.push(failing)?;
@@ -39,8 +45,6 @@ fn fresh(alloc: Global, failing: u64) -> Result<MemDisk, AllocError>
 /// The same, which dies after that many calls.
 fn mortal(alloc: Global, calls: u64) -> Result<Fuse<MemDisk>, AllocError>
     ensures room { IfOk result (λ disk. ⟦<Fuse<MemDisk> as Disk>⟧.block_count disk ≡ 5) }
-    ensures settled { IfOk result (λ disk. NothingPending ⟦<Fuse<MemDisk> as Disk>⟧ disk) }
-    ensures closed { IfOk result (λ disk. ForSome (⟦<Fuse<MemDisk> as Disk>⟧.seen disk) (λ image. gate_of image ≢ 0xA5)) }
 {
     Ok(Fuse::new(fresh(alloc, 9)?, calls))
 }

@@ -1,7 +1,7 @@
 //! Tests of disks and streams: a real file, tables of what the forms in memory answer, and a client and a mirror at disks
 //! that fail or die at each call in turn.
 //!
-//! They stand above `mg_disk`, `mg_io`, `mg_mirror` and `mg_disk_trial`, over their public calls, so that those are proved once.
+//! They stand above `mg_disk`, `mg_io` and `mg_mirror`, over their public calls, so that those are proved once.
 #![tactic(auto)]
 
 #[cfg(test)]

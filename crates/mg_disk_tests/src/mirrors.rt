@@ -1,6 +1,5 @@
 // A mirror of two disks that goes on with one of them.
 use mg_disk::{BLOCK_SIZE, Block, Counts, Disk, Fuse, MemDisk};
-use mg_disk_trial::write_pair;
 use mg_mirror::{Mirror, Side};
 use std::alloc::AllocError;
 use std::marker::Brand;
@@ -23,30 +22,6 @@ fn goes_on_with_one_side(rt: HostRuntime) -> Result<(), AllocError> {
     assert!(rt; mirror.sync().is_ok());
     let (left, _right) = mirror.sides();
     assert_eq!(rt; left.counts().reads, 3);
-    Ok(())
-}
-
-#[test]
-fn fails_where_both_fail(rt: HostRuntime) -> Result<(), AllocError> {
-    let left = MemDisk::new(rt.alloc(), 2, 9, Vec::new(rt.alloc()))?;
-    let right = MemDisk::new(rt.alloc(), 2, 9, Vec::new(rt.alloc()))?;
-    // The right side fails as the mirror is opened, and the left one after one read.
-    let Ok(pair) = write_pair(Fuse::new(left, 1), Fuse::new(right, 0), 0, &[7; BLOCK_SIZE]) else {
-        panic!(rt; "the left side gives its block")
-    };
-    assert!(rt; pair.failed);
-    Ok(())
-}
-
-#[test]
-fn goes_on_where_one_does(rt: HostRuntime) -> Result<(), AllocError> {
-    let left = MemDisk::new(rt.alloc(), 2, 9, Vec::new(rt.alloc()))?;
-    let right = MemDisk::new(rt.alloc(), 2, 9, Vec::new(rt.alloc()))?;
-    let Ok(pair) = write_pair(left, Fuse::new(right, 0), 0, &[7; BLOCK_SIZE]) else {
-        panic!(rt; "the left side does not fail")
-    };
-    assert!(rt; !pair.failed);
-    assert_eq!(rt; pair.left.counts().writes, 1);
     Ok(())
 }
 

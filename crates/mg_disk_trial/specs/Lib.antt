@@ -1,2 +1,0 @@
--- Definitions: two bodies behind a gate.
-pub mod Gated

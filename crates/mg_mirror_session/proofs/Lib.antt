@@ -1,0 +1,4 @@
+pub mod Through
+pub mod Endings
+pub mod Opening
+pub mod Ran

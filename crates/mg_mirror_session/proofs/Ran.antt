@@ -1,0 +1,115 @@
+-- A run over a mirror: what it keeps of the two disks.
+use Rattle.std.specs.Prelude.{ℕ, ◌≡◌, ◌≢◌, ◌<◌, ◌&&◌, Bool, true, false, IsTrue, List, Option, Some, None}
+use Rattle.std.proofs.Common.{refl, sym, ap, subst, inl, inr, ⊎_elim, arith, zero, suc}
+use Rattle.mg_disk.specs.Disk.{Image, Moment}
+use Rattle.mg_disk.specs.Stops.{CountRose}
+use Rattle.mg_disk.specs.declared.disk.Disk as disks
+use Rattle.mg_faults.specs.Faults.{CountGoesOn, Rose, is_last, rose_then}
+use Rattle.mg_io.specs.declared.traits.Sink as sinks
+use Rattle.mg_io.specs.declared.traits.Source as sources
+use Rattle.mg_mirror.specs.Mirror.{CutOf, LeftSince, moment_of}
+use Rattle.mg_mirror.specs.Opened.{BothRose, RoseFrom}
+use Rattle.mg_mirror.specs.declared.mirror.Side.{Side}
+use Rattle.mg_mirror.specs.declared.mirror.Side.TheVariants.{Left, Right}
+use Rattle.mg_mirror_session.proofs.Endings.{disk_ran, done_or_memory, ends_run, put_all, put_prefix, sink_failed}
+use Rattle.mg_mirror_session.proofs.Opening.{and_true, of_side}
+use Rattle.mg_mirror_session.proofs.Through.{if_some_then, on_volume_then}
+use Rattle.mg_mirror_session.specs.Headline.{EndsWith, IsOpenedFrom, MirrorKeeps, RanOnMirror}
+use Rattle.mg_mirror_session.specs.Mirrored.{Two, mirror}
+use Rattle.mg_session.specs.Headline.{IsWithin, RunKeeps, input_limit}
+use Rattle.mg_session.specs.declared.status.Status.{Status}
+use Rattle.mg_session.specs.declared.status.Status.TheVariants as status
+
+false_true : false ≡ true → ⊥
+false_true is = cc
+
+-- a count that rose from a number
+pub rose_from : (from count : ℕ) (spent : Bool) → RoseFrom from count spent → Rose from count spent
+rose_from from count true h = inr refl
+rose_from from count false h = inl (h (λ is. cc))
+
+last_is_some : (count : ℕ) → IsTrue (is_last count) → 0 < count
+last_is_some zero is = absurd (false_true is)
+last_is_some (suc n) is = omega arith
+
+pub rose_is_some : (before now : ℕ) → Rose before now (is_last now) → 0 < now
+rose_is_some before now rose = ⊎_elim (λ more. omega arith) (λ last. last_is_some now last) rose
+
+-- what a stop may leave of a side in use it may leave of the mirror
+left_stays : (n : ℕ) (alone : Option Side) (a b : Bool) (l r : Moment) (ls rs : Moment → Image → Type 0) (c : Image) → alone ≢ Some Right → IsTrue (a && b) → CutOf n (ls l) c
+    → LeftSince n alone (a && b) ls rs (moment_of alone l r) c
+left_stays n None a b l r ls rs c used told cut = (told, inl cut)
+left_stays n (Some Left) a b l r ls rs c used told cut = (told, cut)
+left_stays n (Some Right) a b l r ls rs c used told cut = absurd (used refl)
+
+right_stays : (n : ℕ) (alone : Option Side) (a b : Bool) (l r : Moment) (ls rs : Moment → Image → Type 0) (c : Image) → alone ≢ Some Left → IsTrue (a && b) → CutOf n (rs r) c
+    → LeftSince n alone (a && b) ls rs (moment_of alone l r) c
+right_stays n None a b l r ls rs c used told cut = (told, inr cut)
+right_stays n (Some Right) a b l r ls rs c used told cut = (told, cut)
+right_stays n (Some Left) a b l r ls rs c used told cut = absurd (used refl)
+
+within_then : (limit : ℕ) (left : Option (List ℕ)) (P Q : Type 0) → (P → Q) → IsWithin limit left P → IsWithin limit left Q
+within_then limit left P Q then h = if_some_then left _ _ (λ input promise short. then (promise short)) h
+
+-- the disks, the source and the sink of a run
+module _ {D E S K : Type 0} (d : disks.Ghosts D) (e : disks.Ghosts E) (input : sources.Ghosts S) (to : sinks.Ghosts K) (from : Side) (left : D) (right : E) (opened closed : Two D E)
+    (ran result : Status) (source source' : S) (sink replied sink' : K) (steps steps' : ℕ) (opens : IsOpenedFrom d e from left right opened) (blocks : closed.blocks ≡ opened.blocks)
+    (keeps : RunKeeps (mirror d e) input to 1 ran opened closed source source' sink replied steps steps') (ends : EndsWith to ran closed.alone result replied sink')
+    (before : CountGoesOn (to.faults sink) (to.faults replied) (to.is_spent sink) (to.is_spent replied)) (after : CountGoesOn (to.faults replied) (to.faults sink') (to.is_spent replied) (to.is_spent sink'))
+    (both : 0 < closed.failed → BothRose (d.faults left) (d.faults closed.left) (d.is_spent closed.left) (e.faults right) (e.faults closed.right) (e.is_spent closed.right))
+    (left_told : (t : Moment) (c : Image) → d.left_since closed.left t c → IsTrue (d.tells_stops closed.left)) (right_told : (t : Moment) (c : Image) → e.left_since closed.right t c → IsTrue (e.tells_stops closed.right)) where
+  mirror_rose : CountRose (mirror d e) opened closed → CountRose d left closed.left × CountRose e right closed.right
+  mirror_rose rose =
+      let b = both (rose_is_some opened.failed closed.failed rose) in
+      (rose_from (d.faults left) (d.faults closed.left) (d.is_spent closed.left) b.left, rose_from (e.faults right) (e.faults closed.right) (e.is_spent closed.right) b.right)
+
+  both_failed : result ≡ status.Disk → CountRose d left closed.left × CountRose e right closed.right
+  both_failed is = mirror_rose (keeps.disk_failed (disk_ran to ran closed.alone result replied sink' ends is))
+
+  ran_on_mirror : RanOnMirror d e input to from result closed.alone left closed.left right closed.right source source' sink sink' steps steps'
+  ran_on_mirror = record {
+    opened = opened;
+    opens = opens;
+    failed = closed.failed;
+    closed = closed;
+    closes = ap (λ (n : ℕ). record { left = closed.left; right = closed.right; blocks = n; alone = closed.alone; failed = closed.failed }) blocks;
+    ran = ran;
+    replied = replied;
+    keeps = keeps;
+    ends = ends;
+    prefix = on_volume_then ((mirror d e).seen opened) _ _ (λ s a. put_prefix to ran closed.alone result replied sink' ends s (input.left source) (input.left source') (to.taken sink) a) keeps.answers;
+    done = λ is. on_volume_then ((mirror d e).seen opened) _ _ (λ s a. put_all to ran closed.alone result replied sink' ends s (input.left source) (input.left source') (to.taken sink) a is) keeps.answers;
+    left_held = λ used told c cut. left_stays closed.blocks closed.alone (d.tells_stops closed.left) (e.tells_stops closed.right) (d.moment closed.left) (e.moment closed.right) (d.left_since closed.left) (e.left_since closed.right) c used
+        (and_true (d.tells_stops closed.left) (e.tells_stops closed.right) (left_told (d.moment closed.left) cut.whole cut.is_one) told) (subst (λ n. CutOf n (d.left_since closed.left (d.moment closed.left)) c) (sym blocks) cut);
+    right_held = λ used told c cut. right_stays closed.blocks closed.alone (d.tells_stops closed.left) (e.tells_stops closed.right) (d.moment closed.left) (e.moment closed.right) (d.left_since closed.left) (e.left_since closed.right) c used
+        (and_true (d.tells_stops closed.left) (e.tells_stops closed.right) told (right_told (e.moment closed.right) cut.whole cut.is_one)) (subst (λ n. CutOf n (e.left_since closed.right (e.moment closed.right)) c) (sym blocks) cut);
+    both_failed = both_failed;
+    complete = on_volume_then ((mirror d e).seen opened) _ _ (λ s promise. λ not_both source_went sink_went.
+        within_then input_limit (input.left source) _ _ (λ either. done_or_memory to ran closed.alone result replied sink' ends sink before sink_went either)
+        (promise (λ rose. not_both (mirror_rose rose)) source_went (λ rose. sink_went (rose_then _ _ _ _ _ rose after)))) keeps.complete;
+  }
+
+  pub mirror_keeps : (closed.alone ≡ Some Left → RoseFrom (e.faults right) (e.faults closed.right) (e.is_spent closed.right)) → (closed.alone ≡ Some Right → RoseFrom (d.faults left) (d.faults closed.left) (d.is_spent closed.left))
+      → MirrorKeeps d e input to from result closed.alone left closed.left right closed.right source source' sink sink' steps steps'
+  mirror_keeps dropped_right dropped_left = record {
+    how = inr ran_on_mirror;
+    which = ends_run to ran closed.alone result replied sink' ends keeps.which;
+    disk_failed = λ is. of_side from _ _ (λ _. (both_failed is).0) (λ _. (both_failed is).1);
+    right_failed = λ is. rose_from (e.faults right) (e.faults closed.right) (e.is_spent closed.right) (dropped_right is);
+    left_failed = λ is. rose_from (d.faults left) (d.faults closed.left) (d.is_spent closed.left) (dropped_left is);
+    sink_failed = sink_failed to ran closed.alone result replied sink' ends sink before keeps.ends.sink_failed;
+  }
+
+-- the same of what the calls gave back
+pub given_back : {D E : Type 0} (P : D → E → Option Side → Type 0) (left left' : D) (right right' : E) (alone alone' : Option Side) → left' ≡ left → right' ≡ right → alone' ≡ alone → P left right alone → P left' right' alone'
+given_back P left left' right right' alone alone' l r a h =
+    subst (λ x. P x right' alone') (sym l) (subst (λ y. P left y alone') (sym r) (subst (λ z. P left right z) (sym a) h))
+
+-- the counts of both rose from what they were as the call began
+pub both_rose_from : {D E : Type 0} (d : disks.Ghosts D) (e : disks.Ghosts E) (left_count right_count : ℕ) (left now now' : D) (right here here' : E) → d.faults left ≡ left_count → e.faults right ≡ right_count → now' ≡ now → here' ≡ here
+    → BothRose left_count (d.faults now') (d.is_spent now') right_count (e.faults here') (e.is_spent here') → BothRose (d.faults left) (d.faults now) (d.is_spent now) (e.faults right) (e.faults here) (e.is_spent here)
+both_rose_from d e left_count right_count left now now' right here here' a b l r rose =
+    subst (λ n. BothRose n (d.faults now) (d.is_spent now) (e.faults right) (e.faults here) (e.is_spent here)) (sym a)
+    (subst (λ n. BothRose left_count (d.faults now) (d.is_spent now) n (e.faults here) (e.is_spent here)) (sym b)
+    (subst (λ x. BothRose left_count (d.faults x) (d.is_spent x) right_count (e.faults here) (e.is_spent here)) l
+    (subst (λ y. BothRose left_count (d.faults now') (d.is_spent now') right_count (e.faults y) (e.is_spent y)) r rose)))

@@ -1,0 +1,122 @@
+// All that is done over a mirror.
+ghost use Rattle.std.specs.Prelude.{◌≡◌, IfSome, None};
+ghost use Rattle.mg_faults.specs.Faults.{CountGoesOn};
+ghost use Rattle.mg_mirror_session.specs.Commands.{mirror_of};
+ghost use Rattle.mg_mirror_session.specs.Headline.{MirrorKeeps, NoMirrorKeeps};
+ghost use Rattle.mg_session.specs.Commands.{words_of};
+ghost use Rattle.mg_session.specs.Headline.{RunKeeps};
+
+use crate::telling::{put_side, usage};
+use crate::words::read_words;
+use mg_disk::Disk;
+use mg_io::{Sink, Source};
+use mg_mirror::{Mirror, Opened, Side};
+use mg_model::Steps;
+use mg_session::{Status, run};
+use std::alloc::Global;
+use std::marker::Brand;
+use std::sync::ledger::Ledger;
+
+/// How a run over a mirror ended, and its two disks as they are then.
+#[derive(Drop)]
+pub struct Mirrored<D: Disk, E: Disk> {
+    pub status: Status,
+    /// The one side that is still in use; none while both are, and where no mirror was opened.
+    pub alone: Option<Side>,
+    pub left: D,
+    pub right: E,
+}
+
+/// All that the program does over a mirror. The words, which are those behind its name, are `LEFT mirror RIGHT SIDE`.
+///
+/// It makes one disk of the first blocks of two, as many as the smaller has, with what the disk on SIDE holds, which is copied
+/// to the other one. Then it runs the source's lines on the volume of that disk, a reply a batch, as `VOLUME run` does. A side
+/// whose write or sync fails is dropped, and the other one stands alone from then on. Once all lines are answered the line
+/// `alone left` or `alone right` is put, exactly where a side stands alone.
+///
+/// Other words get the line `usage` and [`Status::Usage`]; the disks and the source are then left alone.
+///
+/// [`Status::Disk`] comes with nothing put, no write made on SIDE's disk and no side told where that disk failed while the mirror
+/// was opened. Else it comes only where both disks failed. The other statuses are those of `VOLUME run`, of the mirror; and
+/// [`Status::Sink`] comes too where the last line could not be put.
+///
+/// Which side is in use is not kept on the disks: a later call is told a side that was.
+pub fn top_mirror<D: Disk, E: Disk, S: Source, K: Sink, L: Ledger>(
+    alloc: Global,
+    words: &[String],
+    left: D,
+    right: E,
+    source: &mut S,
+    sink: &mut K,
+    steps: &mut Steps<L>,
+) -> Mirrored<D, E>
+    ensures mirror { IfSome (mirror_of (words_of words.now)) (λ from. MirrorKeeps D.Disk E.Disk S.Source K.Sink from result.status result.alone
+        left result.left right result.right source.old source.new sink.old sink.new steps.old steps.new) }
+    ensures usage { mirror_of (words_of words.now) ≡ None → NoMirrorKeeps K.Sink result.status result.alone
+        left result.left right result.right source.old source.new sink.old sink.new }
+{
+    match read_words(words) {
+        Some(from) => {
+            run_on_mirror::<D, E, S, K, L, Brand>(alloc, from, left, right, source, sink, steps)
+        }
+        None => Mirrored {
+            status: usage(sink),
+            alone: None,
+            left,
+            right,
+        },
+    }
+}
+
+/// Opens a mirror from that side, and runs the source's lines on the volume of it. `O` has the counts of both disks.
+fn run_on_mirror<D: Disk, E: Disk, S: Source, K: Sink, L: Ledger, O: Opened>(
+    alloc: Global,
+    from: Side,
+    left: D,
+    right: E,
+    source: &mut S,
+    sink: &mut K,
+    steps: &mut Steps<L>,
+) -> Mirrored<D, E>
+    requires left_faults { D.faults left ≡ O.left_faults }
+    requires right_faults { E.faults right ≡ O.right_faults }
+    ensures { MirrorKeeps D.Disk E.Disk S.Source K.Sink from result.status result.alone
+        left result.left right result.right source.old source.new sink.old sink.new steps.old steps.new }
+{
+    let mut mirror = match Mirror::<D, E, O>::open(left, right, from) {
+        Ok(mirror) => mirror,
+        Err(disks) => {
+            return Mirrored {
+                status: Status::Disk,
+                alone: None,
+                left: disks.left,
+                right: disks.right,
+            };
+        }
+    };
+    let ran = run_on(alloc, &mut mirror, source, sink, steps);
+    let alone = mirror.alone();
+    let status = put_side(ran, alone, sink);
+    let (left, right) = mirror.sides();
+    Mirrored {
+        status,
+        alone,
+        left,
+        right,
+    }
+}
+
+/// Runs the source's lines on the volume of a disk, a reply a batch.
+fn run_on<D: Disk, S: Source, K: Sink, L: Ledger>(
+    alloc: Global,
+    disk: &mut D,
+    source: &mut S,
+    sink: &mut K,
+    steps: &mut Steps<L>,
+) -> Status
+    ensures keeps { RunKeeps D.Disk S.Source K.Sink 1 result disk.old disk.new source.old source.new sink.old sink.new steps.old steps.new }
+    ensures blocks { D.block_count disk.new ≡ D.block_count disk.old }
+    ensures sink_count { CountGoesOn (K.faults sink.old) (K.faults sink.new) (K.is_spent sink.old) (K.is_spent sink.new) }
+{
+    run(alloc, 1, disk, source, sink, steps)
+}

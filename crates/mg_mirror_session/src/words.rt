@@ -1,0 +1,52 @@
+// The words of the command line.
+ghost use Rattle.std.specs.Prelude.{◌≡◌};
+ghost use Rattle.mg_mirror_session.specs.Commands.{mirror_of, mirror_words, side_named};
+ghost use Rattle.mg_model.specs.Words.{same_bytes};
+ghost use Rattle.mg_session.specs.Commands.{words_of};
+
+use mg_mirror::Side;
+
+/// The side that a mirror is to be opened from, if the words, which are those behind the program's name, are `LEFT mirror RIGHT
+/// SIDE`. LEFT and RIGHT differ, and SIDE is `left` or `right`. None exactly where they are not.
+pub fn read_words(words: &[String]) -> Option<Side>
+    ensures { result ≡ mirror_of (words_of words.now) }
+{
+    match words {
+        [left, word, right, side] => mirror(
+            left.as_bytes(),
+            word.as_bytes(),
+            right.as_bytes(),
+            side.as_bytes(),
+        ),
+        _ => None,
+    }
+}
+
+fn mirror(left: &[u8], word: &[u8], right: &[u8], side: &[u8]) -> Option<Side>
+    ensures { result ≡ mirror_words left.now word.now right.now side.now }
+{
+    if is_word(word, b"mirror") && !is_word(left, right) {
+        side_named(side)
+    } else {
+        None
+    }
+}
+
+fn side_named(word: &[u8]) -> Option<Side>
+    ensures { result ≡ side_named word.now }
+{
+    if is_word(word, b"left") {
+        Some(Side::Left)
+    } else if is_word(word, b"right") {
+        Some(Side::Right)
+    } else {
+        None
+    }
+}
+
+/// Whether a word is this one.
+fn is_word(word: &[u8], known: &[u8]) -> bool
+    ensures { result ≡ same_bytes word.now known.now }
+{
+    word == known
+}
