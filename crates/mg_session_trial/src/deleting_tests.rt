@@ -94,6 +94,8 @@ fn made(alloc: Global) -> Result<Tape, AllocError> {
     put_row(&mut disk);
     put_pages(&mut disk);
     let _ = told_of(alloc, "vol run", &mut disk, LISTED)?;
+    // The next opening writes home what these lines left in the journal.
+    let _ = told_of(alloc, "vol run", &mut disk, "")?;
     disk.mark()?;
     Ok(disk)
 }
@@ -132,18 +134,18 @@ fn watched(alloc: Global, disk: &mut Tape) -> Result<Watched, AllocError> {
     let before = left_behind(alloc, disk, 0, 1)?;
     let is_answered = told_of(alloc, "vol run", disk, DELETED)?.as_str() == "0 ok\n";
     let first = left_behind(alloc, disk, 1, 22)?;
-    let last = left_behind(alloc, disk, 246, 267)?;
+    let last = left_behind(alloc, disk, 114, 135)?;
     Ok((before, is_answered, disk.counts(), [first, last]))
 }
 
-// An opening syncs once. The commit of 129 blocks writes an index and 129 bodies and syncs, opens a gate and syncs, writes 129
-// homes and syncs, and closes the gate and syncs: 265 calls behind the first one. Until the gate is open the object is whole,
-// and from the homes on it is gone.
+// An opening syncs once. The commit of 129 blocks writes an index and 129 bodies and syncs, and opens a gate and syncs: 133 calls
+// behind the first one. Until the gate is open the object is whole, and then it is gone: a gate that is not synced yet may be closed
+// still.
 #[test]
 fn the_largest_object_is_deleted(rt: HostRuntime) -> Result<(), Fail> {
     let mut disk = made(rt.alloc())?;
     let found = watched(rt.alloc(), &mut disk)?;
-    let wanted = ([3, 0, 0], true, (261, 5), [[63, 0, 0], [0, 63, 0]]);
+    let wanted = ([3, 0, 0], true, (131, 3), [[63, 0, 0], [58, 5, 0]]);
     assert_eq!(rt; found, wanted);
     Ok(())
 }

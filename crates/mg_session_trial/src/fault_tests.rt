@@ -163,7 +163,7 @@ fn calls(alloc: Global, line: &str, input: &str) -> Result<(u64, u64), AllocErro
 fn calls_of_a_line(rt: HostRuntime) -> Result<(), Fail> {
     for (line, wanted) in [
         ("", (0, 1)),
-        (STORE, (5, 5)),
+        (STORE, (3, 3)),
         ("1 load 0x100000020\n", (0, 1)),
     ] {
         let found = calls(rt.alloc(), "vol run", line)?;

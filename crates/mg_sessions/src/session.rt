@@ -32,6 +32,8 @@ pub struct Session {
     pub check: Option<Vec<u8>>,
     /// The batch under which the disk is stopped after each call; None asks for no stops.
     pub stops: Option<String>,
+    /// The batch under which each call fails once; None asks for no faults.
+    pub faults: Option<String>,
     /// Whether the runs are to make fewer syncs with batches of 64 lines than with one line each.
     pub saves: bool,
     pub runs: Vec<Run>,

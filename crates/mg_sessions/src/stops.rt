@@ -67,7 +67,12 @@ fn stop_run(
 }
 
 /// How many calls of the disk a run of this input makes.
-fn count_calls(alloc: Global, line: &str, disk: &MemDisk, input: &[u8]) -> Result<u64, AllocError> {
+pub fn count_calls(
+    alloc: Global,
+    line: &str,
+    disk: &MemDisk,
+    input: &[u8],
+) -> Result<u64, AllocError> {
     let mut disk = disk.stopped(alloc, Left::New)?;
     let _ = command(alloc, line, &mut disk, &Streams::of(input))?;
     let counts = disk.counts();

@@ -9,7 +9,7 @@ use std::str;
 /// The most bytes that a line without words, or a note, may have: a longer line is answered whatever it holds.
 const LINE_LIMIT: usize = 256;
 
-/// The batch of a sweep of stops that names none.
+/// The batch of a sweep of stops or faults that names none.
 const BATCH: &str = "8";
 
 /// The session that these bytes tell.
@@ -46,6 +46,7 @@ fn empty_session(alloc: Global) -> Result<Session, AllocError> {
         tariff: None,
         check: None,
         stops: None,
+        faults: None,
         saves: false,
         runs: Vec::new(alloc),
     })
@@ -121,6 +122,8 @@ fn set(alloc: Global, session: &mut Session, number: usize, text: &[u8]) -> Resu
         "check" => session.check = Some(ended(alloc, value.as_bytes())?),
         "stops" if value.is_empty() => session.stops = Some(String::from_str(alloc, BATCH)?),
         "stops" => session.stops = Some(value),
+        "faults" if value.is_empty() => session.faults = Some(String::from_str(alloc, BATCH)?),
+        "faults" => session.faults = Some(value),
         "saves" => session.saves = true,
         _ => return Err(trouble(alloc, number, "no such setting")?),
     }

@@ -5,8 +5,8 @@ use mg_session::Status;
 use mg_session_trial::{Streams, command};
 use std::alloc::{AllocError, Global};
 
-/// Of the images with an open segment, the one of this number, from 0, has its opening stopped.
-const CHOSEN: u64 = 4;
+/// Of the images with an open segment, those of these numbers, from 0, have their opening stopped.
+const CHOSEN: [u64; 3] = [4, 20, 60];
 
 /// The gates of the journal: the first one, how far the next one is, and how many there are.
 const GATES: (u64, u64, u64) = (2, 162, 8);
@@ -112,12 +112,12 @@ impl Bench {
         }
         let number = self.open;
         self.open = number.saturating_add(1);
-        number == CHOSEN
+        CHOSEN.iter().any(|chosen| number == *chosen)
     }
 }
 
 /// Makes one disk hold what another does.
-fn copy(from: &mut MemDisk, to: &mut ScratchDisk) {
+pub fn copy(from: &mut MemDisk, to: &mut ScratchDisk) {
     let mut block = [0; BLOCK_SIZE];
     for i in 0..from.blocks() {
         if i < from.blocks() && i < to.blocks() && from.read(i, &mut block).is_ok() {
