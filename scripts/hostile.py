@@ -1,0 +1,348 @@
+#!/usr/bin/env python3
+"""Runs mungi on real files in ways that a machine or a user may be hostile, and tells a line a case.
+
+    scripts/hostile.py files            files, folders, limits, streams, two runs at once
+    scripts/hostile.py kill [RUNS]      runs that are killed at random moments, 100 of them
+    scripts/hostile.py memory           each allocation refused in turn, which takes a C compiler
+
+Behind --program stands the program, which else is the one that the script mungi builds. A line begins with 'ok', with 'not
+tried' and why, or with 'FAILED'; the status is 0 where no line is FAILED. docs/HOSTILE.md tells what each case shows.
+"""
+import argparse
+import os
+import random
+import resource
+import shutil
+import signal
+import subprocess
+import sys
+import tempfile
+import time
+from pathlib import Path
+
+TOP = Path(__file__).resolve().parent.parent
+SEED = "0" * 64
+ROOT = 0x100000000
+FORMATTED = b"ok 0x0000000100000000 0x903df1a0ade0b876 0x28bd8653e56a5d40\n"
+FRESH = b"ok 64 1 1 1 1 0 1000\n"
+failed = 0
+
+
+def tell(good, case, note=""):
+    global failed
+    failed += not good
+    print(("ok          " if good else "FAILED      ") + case + (": " + note if note else ""), flush=True)
+
+
+def not_tried(case, why):
+    print("not tried   " + case + ": " + why, flush=True)
+
+
+class Ended:
+    """A run that ended: its status, what it put, and how many bytes of its input it took."""
+
+    def __init__(self, status, put, took):
+        self.status, self.put, self.took = status, put, took
+
+    def __str__(self):
+        return f"status {self.status}, put {self.put[:60]!r}, took {self.took}"
+
+
+def run(words, lines=b"", stdout=None, **more):
+    """Runs the program on these words and this input, which is a file, so that what it took can be told."""
+    with tempfile.TemporaryFile() as source, tempfile.TemporaryFile() as sink:
+        source.write(lines)
+        source.flush()
+        source.seek(0)
+        done = subprocess.run([PROGRAM, *words], stdin=source, stdout=sink if stdout is None else stdout, stderr=subprocess.PIPE, **more)
+        took = os.lseek(source.fileno(), 0, os.SEEK_CUR)
+        sink.seek(0)
+        return Ended(done.returncode, sink.read(), took)
+
+
+def stores(first, count):
+    """Lines that store their own number, each at the word of its number modulo 400 behind the root's 8th."""
+    return "".join(f"1 store {ROOT + 64 + 8 * (i % 400)} {i}\n" for i in range(first, first + count)).encode()
+
+
+def held(volume, first, last):
+    """The number k for which the volume holds the stores up to k and no more, or None where it holds no such prefix."""
+    ask = "".join(f"1 load {ROOT + 64 + 8 * w}\n" for w in range(400)).encode()
+    ended = run([volume, "run", "64"], ask)
+    if ended.status != 0:
+        return None
+    words = [int(line.split()[1], 16) for line in ended.put.splitlines()]
+    k = max(words)
+    for w in range(400):
+        newest = k - (k - w) % 400
+        if words[w] != (newest if newest >= first else 0):
+            return None
+    return k if k <= last else None
+
+
+def fresh(folder, name="vol"):
+    path = str(Path(folder) / name)
+    ended = run([path, "format", "64", SEED, "1000"])
+    assert (ended.status, ended.put) == (0, FORMATTED), str(ended)
+    return path
+
+
+def answered(ended):
+    return ended.put.count(b"\n")
+
+
+def keeps(volume, ended, count):
+    """Whether all answers are ok, and the volume holds the stores 1 to k: at least those answered, at most all."""
+    k = held(volume, 1, count)
+    return ended.put == b"ok\n" * answered(ended) and k is not None and answered(ended) <= k
+
+
+def untouched(ended, status):
+    return (ended.status, ended.put, ended.took) == (status, b"", 0)
+
+
+# Files
+
+def file_cases(folder):
+    lines = stores(1, 600)
+
+    ended = run([folder, "run"], lines)
+    tell(untouched(ended, 4), "the volume is a folder", str(ended))
+    ended = run([folder + "/none/vol", "run"], lines)
+    tell(untouched(ended, 4), "the folder of the volume is missing", str(ended))
+
+    path = folder + "/new"
+    ended = run([path, "run"], lines)
+    tell((ended.status, ended.put, ended.took) == (2, b"open not\n", 0), "there is no file", str(ended))
+
+    for blocks, put in ((0, b"open not\n"), (1, b"open not\n"), (1300, b"open damaged\n")):
+        volume = fresh(folder, f"cut{blocks}")
+        os.truncate(volume, 4096 * blocks)
+        before = Path(volume).read_bytes()
+        ended = run([volume, "run"], lines)
+        same = Path(volume).read_bytes() == before
+        tell((ended.status, ended.put, ended.took, same) == (2, put, 0, True), f"the file is cut to {blocks} blocks", str(ended))
+
+    volume = fresh(folder, "readonly")
+    os.chmod(volume, 0o444)
+    os.chmod(folder, 0o755)
+    if os.geteuid() == 0:
+        ended = run([volume, "run"], lines, user=65534)
+    else:
+        ended = run([volume, "run"], lines)
+    tell(untouched(ended, 4), "the file may not be written", str(ended))
+
+
+def limit_cases(folder):
+    def limited(size):
+        return lambda: resource.setrlimit(resource.RLIMIT_FSIZE, (size, size))
+
+    path = folder + "/limited"
+    ended = run([path, "format", "64", SEED, "1000"], restore_signals=False, preexec_fn=limited(1 << 20))
+    again = run([path, "check"])
+    tell((ended.status, ended.put, again.put) == (4, b"", b"open not\n"), "format under a limit of file size", f"{ended}; then {again}")
+
+    for blocks in (20, 200, 1300, 2595):
+        for stopped in (False, True):
+            volume = fresh(folder, f"limited{blocks}{stopped}")
+            ended = run([volume, "run", "8"], stores(1, 600), restore_signals=stopped, preexec_fn=limited(4096 * blocks))
+            want = (-signal.SIGXFSZ, 0) if stopped else (4, 0)
+            good = ended.status in want and keeps(volume, ended, 600)
+            tell(good, f"run under a limit of {blocks} blocks" + (", killed by it" if stopped else ""), f"status {ended.status}, {answered(ended)} answers")
+
+
+def full_cases(folder):
+    place = folder + "/small"
+    os.mkdir(place)
+    mount = subprocess.run(["mount", "-t", "tmpfs", "-o", "size=12m", "none", place], stderr=subprocess.PIPE)
+    if mount.returncode != 0:
+        not_tried("a full file system", mount.stderr.decode().strip())
+        return
+    try:
+        volume = fresh(place)
+        for free in (0, 1, 5, 20):
+            filler = Path(place) / "filler"
+            with open(filler, "wb", buffering=0) as f:
+                try:
+                    while f.write(bytes(4096)) == 4096:
+                        pass
+                except OSError:
+                    pass
+            os.truncate(filler, max(0, os.stat(filler).st_size - 4096 * free))
+            ended = run([volume, "run", "8"], stores(1, 600))
+            status = ended.status
+            filler.unlink()
+            tell(status in (0, 4) and keeps(volume, ended, 600), f"a file system with {free} blocks free", f"status {status}, {answered(ended)} answers")
+            Path(volume).unlink()
+            volume = fresh(place)
+        Path(volume).unlink()
+        with open(Path(place) / "filler", "wb") as f:
+            f.write(bytes(8 << 20))
+        ended = run([place + "/vol", "format", "64", SEED, "1000"])
+        tell((ended.status, ended.put) == (4, b""), "format on a full file system", str(ended))
+    finally:
+        subprocess.run(["umount", place])
+
+
+def stream_cases(folder):
+    volume = fresh(folder, "streams")
+    with open("/dev/full", "wb") as full:
+        ended = run([volume, "run", "8"], stores(1, 600), stdout=full)
+    k = held(volume, 1, 600)
+    tell(ended.status == 6 and k is not None and k <= 8, "standard output is full", f"status {ended.status}, {k} lines held")
+
+    volume = fresh(folder, "closed")
+    ended = run([volume, "run", "8"], stores(1, 600), preexec_fn=lambda: os.close(1))
+    k = held(volume, 1, 600)
+    tell(ended.status in (0, 6) and k is not None and (ended.status == 0) == (k == 600), "standard output is closed", f"status {ended.status}, {k} lines held")
+
+    volume = fresh(folder, "broken")
+    reader, writer = os.pipe()
+    os.close(reader)
+    with os.fdopen(writer, "wb") as broken:
+        ended = run([volume, "run", "8"], stores(1, 600), stdout=broken, restore_signals=False)
+    k = held(volume, 1, 600)
+    tell(ended.status == 6 and k is not None and k <= 8, "nobody reads standard output", f"status {ended.status}, {k} lines held")
+
+    volume = fresh(folder, "unread")
+    ended = run([volume, "run", "8"], stores(1, 600), preexec_fn=lambda: os.close(0))
+    tell(ended.status in (0, 5) and ended.put == b"", "standard input is closed", str(ended))
+
+    there = os.open(folder, os.O_RDONLY)
+    done = subprocess.run([PROGRAM, volume, "run"], stdin=there, stdout=subprocess.PIPE)
+    os.close(there)
+    tell((done.returncode, done.stdout) == (5, b""), "standard input is a folder", f"status {done.returncode}")
+
+
+def two_cases(folder):
+    volume = fresh(folder, "two")
+    first = subprocess.Popen([PROGRAM, volume, "run"], stdin=subprocess.PIPE, stdout=subprocess.PIPE)
+    first.stdin.write(stores(1, 1))
+    first.stdin.flush()
+    assert first.stdout.readline() == b"ok\n"
+    for command in (["run"], ["check"], ["format", "64", SEED, "1000"]):
+        ended = run([volume, *command], stores(1, 600))
+        tell(untouched(ended, 4), f"{command[0]} while another run has the file", str(ended))
+    os.symlink(volume, folder + "/other")
+    ended = run([folder + "/other", "run"], stores(1, 600))
+    tell(untouched(ended, 4), "run by another name while another run has the file", str(ended))
+    first.stdin.write(stores(2, 1))
+    first.stdin.flush()
+    good = first.stdout.readline() == b"ok\n"
+    first.stdin.close()
+    good = good and first.wait() == 0
+    ended = run([volume, "check"])
+    tell(good and held(volume, 1, 2) == 2 and ended.status == 0, "the first run goes on, and its file is free afterwards", str(ended))
+
+
+# Stops
+
+def kill_cases(folder, runs):
+    chance = random.Random(1)
+    counts, lost = [], 0
+    for number in range(runs):
+        volume = fresh(folder, "killed")
+        first = 1
+        for part in range(3):
+            batch = chance.choice(("1", "8", "64"))
+            with open(folder + "/in", "wb") as source:
+                source.write(stores(first, 20000))
+            with open(folder + "/in", "rb") as source, open(folder + "/out", "wb") as sink:
+                process = subprocess.Popen([PROGRAM, volume, "run", batch], stdin=source, stdout=sink)
+                time.sleep(chance.uniform(0, 0.05))
+                process.send_signal(signal.SIGKILL)
+                process.wait()
+            put = Path(folder + "/out").read_bytes()
+            answers = put.count(b"\n")
+            k = held(volume, 1, first + 20000 - 1)
+            if first == 1 and k is None and answers == 0:
+                k = 0
+            if put != b"ok\n" * answers or k is None or k < first - 1 + answers:
+                lost += 1
+                print(f"            run {number}, part {part}: batch {batch}, {answers} answers behind {first - 1}, held {k}", flush=True)
+                break
+            counts.append(answers)
+            first = k + 1
+    tell(lost == 0, f"{len(counts)} kills of {runs} volumes", f"{min(counts)} to {max(counts)} answers before a kill, {lost} lost")
+
+
+# Memory
+
+SHIM = r"""
+#define _GNU_SOURCE
+#include <dlfcn.h>
+#include <errno.h>
+#include <stdlib.h>
+#define REAL(name) static __typeof__(name) *real; if (!real) real = (__typeof__(name) *)dlsym(RTLD_NEXT, #name)
+static int refuse(void) {
+    static long count, refused = -1;
+    if (refused < 0) { const char *s = getenv("REFUSED"); refused = s ? atol(s) : 0; }
+    return ++count == refused;
+}
+void *malloc(size_t n) { REAL(malloc); return refuse() ? NULL : real(n); }
+void *calloc(size_t k, size_t n) { REAL(calloc); return refuse() ? NULL : real(k, n); }
+void *realloc(void *p, size_t n) { REAL(realloc); return refuse() ? NULL : real(p, n); }
+void *aligned_alloc(size_t a, size_t n) { REAL(aligned_alloc); return refuse() ? NULL : real(a, n); }
+int posix_memalign(void **p, size_t a, size_t n) { REAL(posix_memalign); return refuse() ? ENOMEM : real(p, a, n); }
+"""
+
+
+def memory_cases(folder):
+    compiler = shutil.which("cc") or shutil.which("gcc") or shutil.which("clang")
+    if compiler is None:
+        not_tried("allocations refused", "there is no C compiler")
+        return
+    source, shim = folder + "/shim.c", folder + "/shim.so"
+    Path(source).write_text(SHIM)
+    subprocess.run([compiler, "-O1", "-shared", "-fPIC", "-o", shim, source, "-ldl"], check=True)
+    for command, lines in ((["run"], stores(1, 20)), (["run", "64"], stores(1, 200)), (["dry", "64", SEED, "1000"], stores(1, 200)),
+                           (["check"], b""), (["format", "64", SEED, "1000"], b""), (["gen", "7", "300"], b"")):
+        refused_cases(folder, shim, command, lines)
+
+
+def refused_cases(folder, shim, command, lines):
+    def one(number):
+        volume = fresh(folder, "memory")
+        environment = dict(os.environ, LD_PRELOAD=shim, REFUSED=str(number))
+        return run([volume, *command], lines, env=environment), volume
+
+    ample, _ = one(1 << 40)
+    statuses, wrong, number, same = {}, 0, 0, 0
+    while same < 40 and number < 5000:
+        number += 1
+        ended, volume = one(number)
+        statuses[ended.status] = statuses.get(ended.status, 0) + 1
+        if (ended.status, ended.put) == (ample.status, ample.put):
+            same += 1
+            continue
+        same = 0
+        if not (ended.status in (3, 9) and ended.put == b"" and ended.took == 0 and run([volume, "check"]).put == FRESH):
+            wrong += 1
+            print(f"            allocation {number}: {ended}", flush=True)
+    tell(wrong == 0 and ample.status == 0, "each allocation refused under " + " ".join(command[:2]), f"{number} tried, statuses {statuses}")
+
+
+def main():
+    global PROGRAM
+    parser = argparse.ArgumentParser(description=__doc__, formatter_class=argparse.RawDescriptionHelpFormatter)
+    parser.add_argument("kind", choices=("files", "kill", "memory"))
+    parser.add_argument("runs", nargs="?", type=int, default=100)
+    parser.add_argument("--program")
+    words = parser.parse_args()
+    if words.program is None:
+        subprocess.run([str(TOP / "mungi"), "x", "dry", "16", SEED, "0"], stdin=subprocess.DEVNULL, check=True)
+        words.program = str(TOP / "crates/mungi/out/mungi")
+    PROGRAM = os.path.abspath(words.program)
+    with tempfile.TemporaryDirectory() as folder:
+        if words.kind == "files":
+            for cases in (file_cases, limit_cases, full_cases, stream_cases, two_cases):
+                cases(folder)
+        elif words.kind == "kill":
+            kill_cases(folder, words.runs)
+        else:
+            memory_cases(folder)
+    return 1 if failed else 0
+
+
+if __name__ == "__main__":
+    sys.exit(main())
