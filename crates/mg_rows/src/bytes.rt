@@ -3,7 +3,7 @@ ghost use Rattle.std.specs.Prelude.{◌≡◌, ◌≤◌, ◌+◌, length};
 ghost use Rattle.mg_model.specs.Bytes.{are_zeros, number_at};
 
 /// The number in the 8 bytes at this place.
-pub(crate) fn number_at(b: &[u8], at: usize) -> u64
+pub fn number_at(b: &[u8], at: usize) -> u64
     requires { at + 8 ≤ length b.now }
     ensures { result ≡ number_at b.now at }
 {
@@ -13,7 +13,7 @@ pub(crate) fn number_at(b: &[u8], at: usize) -> u64
 }
 
 /// Whether they are all zeros.
-pub(crate) fn are_zeros(b: &[u8]) -> bool
+pub fn are_zeros(b: &[u8]) -> bool
     ensures { result ≡ are_zeros b.now }
 {
     b.iter().all(|byte| *byte == 0)

@@ -7,7 +7,7 @@ use std::marker::Model;
 
 /// The first bytes of `N`. Behind them there are zeros.
 #[derive(Drop)]
-pub(crate) struct Filling<const N: usize> {
+pub struct Filling<const N: usize> {
     bytes: [u8; N],
     count: usize,
 }
@@ -25,7 +25,7 @@ impl<const N: usize> Model for Filling<N> {
 
 impl<const N: usize> Filling<N> {
     /// No bytes yet.
-    pub(crate) fn new() -> Filling<N>
+    pub fn new() -> Filling<N>
         ensures { result ≡ [] }
     {
         Filling {
@@ -35,7 +35,7 @@ impl<const N: usize> Filling<N> {
     }
 
     /// One byte more.
-    pub(crate) fn add_byte(&mut self, byte: u8)
+    pub fn add_byte(&mut self, byte: u8)
         requires { length self.old < N }
         ensures { self.new ≡ self.old ++ byte ∷ [] }
     {
@@ -44,9 +44,10 @@ impl<const N: usize> Filling<N> {
     }
 
     /// These bytes too.
-    fn add(&mut self, bytes: &[u8])
+    pub fn add(&mut self, bytes: &[u8])
         requires { length self.old + length bytes.now ≤ N }
-        ensures { self.new ≡ self.old ++ bytes.now }
+        ensures value { self.new ≡ self.old ++ bytes.now }
+        ensures long { length self.new ≡ length self.old + length bytes.now }
     {
         for byte in bytes {
             self.add_byte(*byte);
@@ -54,7 +55,7 @@ impl<const N: usize> Filling<N> {
     }
 
     /// This word too, in 8 bytes.
-    pub(crate) fn add_word(&mut self, word: u64)
+    pub fn add_word(&mut self, word: u64)
         requires { length self.old + 8 ≤ N }
         ensures value { self.new ≡ self.old ++ words_bytes (word ∷ []) }
         ensures long { length self.new ≡ length self.old + 8 }
@@ -63,7 +64,7 @@ impl<const N: usize> Filling<N> {
     }
 
     /// These words too, 8 bytes each.
-    pub(crate) fn add_words(&mut self, words: &[u64])
+    pub fn add_words(&mut self, words: &[u64])
         requires { length self.old + 8 * length words.now ≤ N }
         ensures value { self.new ≡ self.old ++ words_bytes words.now }
         ensures fit { All IsWord words.now }
@@ -75,7 +76,7 @@ impl<const N: usize> Filling<N> {
     }
 
     /// So many zeros too.
-    pub(crate) fn skip(&mut self, n: usize)
+    pub fn skip(&mut self, n: usize)
         requires { length self.old + n ≤ N }
         ensures value { self.new ≡ self.old ++ replicate n 0 }
         ensures long { length self.new ≡ length self.old + n }
@@ -84,7 +85,7 @@ impl<const N: usize> Filling<N> {
     }
 
     /// All the bytes.
-    pub(crate) fn whole(self) -> [u8; N]
+    pub fn whole(self) -> [u8; N]
         ensures { result ≡ padded_to N self.entry }
     {
         self.bytes
