@@ -1,11 +1,10 @@
 -- Lemmas on how runs of reads join.
-use Rattle.std.specs.Prelude.{◌≡◌, ℕ}
+use Rattle.std.specs.Prelude.{◌≡◌, ℕ, Option}
 use Rattle.std.proofs.Common.{refl, sym, ap, ◌∙◌, arith}
+use Rattle.mg_disk.specs.Disk.{Image}
 use Rattle.mg_disk.specs.declared.disk.Disk.{Ghosts}
 use Rattle.mg_disk.specs.Runs.{nothing_none, nothing_then}
 use Rattle.mg_faults.specs.Faults.{count_none, count_then}
-use Rattle.mg_journal.specs.Places.{Placed}
-use Rattle.mg_model.specs.Replay.{replay}
 use Rattle.mg_model.specs.Words.{and_then}
 use Rattle.mg_check.specs.Reads.{CanRead, OnlyRead, contents}
 
@@ -20,11 +19,11 @@ module _ {D : Type 0} (facts : Ghosts D) where
     blocks = b.blocks ∙ a.blocks;
   }
 
-  pub still_read : (old new : D) (view : Placed) → CanRead facts old view → OnlyRead facts old new → CanRead facts new view
-  still_read old new view can only = record {
+  pub still_read : (need : ℕ) (Fits : Image → Type 0) (old new : D) → CanRead facts need Fits old → OnlyRead facts old new → CanRead facts need Fits new
+  still_read need Fits old new can only = record {
     room = let r = can.room in let e = only.blocks in omega arith;
     fits = λ image told. can.fits image (sym only.writes.same ∙ told);
   }
 
-  pub same_contents : (old new : D) (total : ℕ) → OnlyRead facts old new → contents facts new total ≡ contents facts old total
-  same_contents old new total only = ap (λ seen. and_then seen (λ image. replay image total)) only.writes.same
+  pub same_contents : (of : Image → Option Image) (old new : D) → OnlyRead facts old new → contents facts of new ≡ contents facts of old
+  same_contents of old new only = ap (λ seen. and_then seen of) only.writes.same

@@ -89,8 +89,8 @@ fn used(objects: &[(u64, ObjRow)]) -> u64
     used
 }
 
-// What is told of a volume with these rows.
-fn summary_of(rows: &VolumeRows) -> Summary
+/// What is told of a volume with these rows.
+pub fn summary_of(rows: &VolumeRows) -> Summary
     requires held { AreHeld rows.now }
     ensures { result ≡ record { frames = rows.now.params.frames; objects = length rows.now.objects.items; pages = sum_by (λ (o : ℕ × ObjectRow). o.1.pages) rows.now.objects.items; accounts = length rows.now.accounts.items; threads = length rows.now.threads.items; period = rows.now.globals.period; credits = rows.now.params.credits } }
 {

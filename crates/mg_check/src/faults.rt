@@ -2,7 +2,7 @@
 
 /// Why the rows of a volume were not told.
 #[derive(Clone, Copy, Debug)]
-pub(crate) enum RowFault {
+pub enum RowFault {
     /// One of them spells nothing.
     Damaged,
     /// A call of the disk failed.

@@ -3,7 +3,8 @@
 //! A layer above learns from [`read_volume`] what the image that reads give spells: no volume, an older one, a damaged one, or
 //! a state, exactly by the definition `volume` of `mg_model`, and without a write. Of a volume it gets the rows and the frame
 //! table, which keep the rules between rows on every disk: `IsReadAs` and `AreKept` in `specs/RowsRead.antt`. [`examine`]
-//! tells what one counts in them.
+//! tells what one counts in them. The tables are read out of [`Contents`]: what the journal of a volume gives, or what another
+//! crate gives in its place to [`read_rows`].
 #![tactic(auto)]
 
 mod accounts;
@@ -22,6 +23,9 @@ mod tables;
 mod threads;
 mod volume_rows;
 
-pub use examining::{OpenFault, Summary, examine};
+pub use examining::{OpenFault, Summary, examine, summary_of};
+pub use faults::RowFault;
 pub use opening::read_volume;
+pub use reading::Contents;
+pub use tables::read_rows;
 pub use volume_rows::VolumeRows;

@@ -9,10 +9,9 @@ ghost use Rattle.mg_check.specs.TableTold.{AreEntries, HasRest, IsTable, entry_i
 
 use crate::faults::RowFault;
 use crate::lists::{add, with_room};
-use crate::reading::turn_to;
+use crate::reading::{Contents, turn_to};
 use mg_disk::{BLOCK_SIZE, Block, Disk};
 use mg_faults::Failed;
-use mg_journal::View;
 use mg_layout::TABLE_BLOCK;
 use std::alloc::Global;
 
@@ -49,18 +48,18 @@ fn take(table: &mut Vec<u64>, f: u64, block: &Block, frames: u64) -> Result<(), 
 }
 
 /// Reads the frame table of so many frames.
-pub(crate) fn read_table<D: Disk>(
+pub(crate) fn read_table<C: Contents, D: Disk>(
     alloc: Global,
-    view: &View,
+    view: &C,
     disk: &mut D,
     frames: u64,
 ) -> Result<Vec<u64>, RowFault>
     requires few { frames ≤ 65536 }
-    requires room { first_frame frames ≤ view.now.total }
-    requires can { CanRead D.Disk disk.old view.now }
-    ensures told { IfOk result (λ table. ForSome (contents D.Disk disk.old view.now.total) (λ r. IsTable r frames table.items)) }
+    requires room { first_frame frames ≤ C.total view.now }
+    requires can { CanRead D.Disk (C.need view.now) (C.Fits view.now) disk.old }
+    ensures told { IfOk result (λ table. ForSome (contents D.Disk (C.of view.now) disk.old) (λ r. IsTable r frames table.items)) }
     ensures long { IfOk result (λ table. length table.items ≡ frames) }
-    ensures damaged { result ≡ Err RowFault.Damaged → ForSome (contents D.Disk disk.old view.now.total) (λ r. HasRest r frames) }
+    ensures damaged { result ≡ Err RowFault.Damaged → ForSome (contents D.Disk (C.of view.now) disk.old) (λ r. HasRest r frames) }
     ensures cause { result ≡ Err RowFault.Disk → CountRose D.Disk disk.old disk.new }
     ensures reads { OnlyRead D.Disk disk.old disk.new }
 {

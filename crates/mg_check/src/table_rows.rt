@@ -12,10 +12,9 @@ ghost use Rattle.mg_check.specs.Told.{AreLive, EachKeeps, NotSpelled};
 
 use crate::faults::RowFault;
 use crate::lists::{add, with_room};
-use crate::reading::turn_to;
+use crate::reading::{Contents, turn_to};
 use mg_disk::{BLOCK_SIZE, Block, Disk};
 use mg_faults::Failed;
-use mg_journal::View;
 use mg_rows::Spelled;
 use std::alloc::Global;
 
@@ -73,15 +72,15 @@ fn take<R: TableRow>(rows: &mut Vec<(u64, R)>, i: u64, block: &Block) -> Result<
 }
 
 /// Reads all rows of a table, each with its place, in the order of these places.
-pub(crate) fn read_all<R: TableRow, D: Disk>(
+pub(crate) fn read_all<R: TableRow, C: Contents, D: Disk>(
     alloc: Global,
-    view: &View,
+    view: &C,
     disk: &mut D,
 ) -> Result<Vec<(u64, R)>, RowFault>
-    requires room { table_block ≤ view.now.total }
-    requires can { CanRead D.Disk disk.old view.now }
-    ensures told { IfOk result (λ rows. ForSome (contents D.Disk disk.old view.now.total) (λ r. AreLive (λ i. R.spelled (block_of r (R.block_at i)) i) R.ROWS rows.items)) }
-    ensures damaged { result ≡ Err RowFault.Damaged → ForSome (contents D.Disk disk.old view.now.total) (λ r. NotSpelled (λ i. R.spelled (block_of r (R.block_at i)) i) R.ROWS) }
+    requires room { table_block ≤ C.total view.now }
+    requires can { CanRead D.Disk (C.need view.now) (C.Fits view.now) disk.old }
+    ensures told { IfOk result (λ rows. ForSome (contents D.Disk (C.of view.now) disk.old) (λ r. AreLive (λ i. R.spelled (block_of r (R.block_at i)) i) R.ROWS rows.items)) }
+    ensures damaged { result ≡ Err RowFault.Damaged → ForSome (contents D.Disk (C.of view.now) disk.old) (λ r. NotSpelled (λ i. R.spelled (block_of r (R.block_at i)) i) R.ROWS) }
     ensures placed { IfOk result (λ rows. ArePlaced R.ROWS rows.items) }
     ensures kept { IfOk result (λ rows. EachKeeps R.IsKept rows.items) }
     ensures room { IfOk result (λ rows. R.ROWS ≤ vec_capacity rows) }

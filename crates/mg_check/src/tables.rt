@@ -11,24 +11,23 @@ ghost use Rattle.mg_model.specs.Spelling.{globals_read};
 
 use crate::accounts::without_places;
 use crate::faults::RowFault;
-use crate::reading::read_block;
+use crate::reading::{Contents, read_block};
 use crate::table::read_table;
 use crate::table_rows::read_all;
 use crate::volume_rows::VolumeRows;
 use mg_disk::{BLOCK_SIZE, Disk};
 use mg_faults::Failed;
-use mg_journal::View;
 use mg_layout::GLOBALS_BLOCK;
 use mg_model::{AccRow, Globals, Params};
 use mg_rows::read_globals;
 use std::alloc::Global;
 
 // Reads the globals.
-fn read_counters<D: Disk>(view: &View, disk: &mut D) -> Result<Globals, RowFault>
-    requires room { table_block ≤ view.now.total }
-    requires can { CanRead D.Disk disk.old view.now }
-    ensures told { IfOk result (λ counters. ForSome (contents D.Disk disk.old view.now.total) (λ r. globals_read (block_of r globals_block) ≡ Some counters)) }
-    ensures damaged { result ≡ Err RowFault.Damaged → ForSome (contents D.Disk disk.old view.now.total) (λ r. NoCounters r) }
+fn read_counters<C: Contents, D: Disk>(view: &C, disk: &mut D) -> Result<Globals, RowFault>
+    requires room { table_block ≤ C.total view.now }
+    requires can { CanRead D.Disk (C.need view.now) (C.Fits view.now) disk.old }
+    ensures told { IfOk result (λ counters. ForSome (contents D.Disk (C.of view.now) disk.old) (λ r. globals_read (block_of r globals_block) ≡ Some counters)) }
+    ensures damaged { result ≡ Err RowFault.Damaged → ForSome (contents D.Disk (C.of view.now) disk.old) (λ r. NoCounters r) }
     ensures cause { result ≡ Err RowFault.Disk → CountRose D.Disk disk.old disk.new }
     ensures reads { OnlyRead D.Disk disk.old disk.new }
 {
@@ -43,18 +42,18 @@ fn read_counters<D: Disk>(view: &View, disk: &mut D) -> Result<Globals, RowFault
 }
 
 // Reads all tables of a volume with these settings, in the order in which they lie behind the journal.
-fn read_tables<D: Disk>(
+fn read_tables<C: Contents, D: Disk>(
     alloc: Global,
-    view: &View,
+    view: &C,
     disk: &mut D,
     p: &Params,
 ) -> Result<VolumeRows, RowFault>
-    requires room { total_blocks p.now.frames ≤ view.now.total }
-    requires can { CanRead D.Disk disk.old view.now }
-    ensures told { IfOk result (λ rows. ForSome (contents D.Disk disk.old view.now.total) (AreTold rows)) }
+    requires room { total_blocks p.now.frames ≤ C.total view.now }
+    requires can { CanRead D.Disk (C.need view.now) (C.Fits view.now) disk.old }
+    ensures told { IfOk result (λ rows. ForSome (contents D.Disk (C.of view.now) disk.old) (AreTold rows)) }
     ensures params { IfOk result (λ rows. rows.params ≡ p.now) }
     ensures held { IfOk result AreHeld }
-    ensures damaged { result ≡ Err RowFault.Damaged → ForSome (contents D.Disk disk.old view.now.total) (HasNoState p.now) }
+    ensures damaged { result ≡ Err RowFault.Damaged → ForSome (contents D.Disk (C.of view.now) disk.old) (HasNoState p.now) }
     ensures cause { result ≡ Err RowFault.Disk → CountRose D.Disk disk.old disk.new }
     ensures reads { OnlyRead D.Disk disk.old disk.new }
 {
@@ -75,19 +74,23 @@ fn read_tables<D: Disk>(
     })
 }
 
-/// Reads the tables of a volume with these settings. Its rows may stand beside each other.
-pub(crate) fn read_rows<D: Disk>(
+/// Reads the tables of a volume with these settings out of its contents: the rows and the frame table, which keep the rules of a
+/// volume, whatever the disk reads. It writes nothing, and reads each block of a table once.
+///
+/// [`RowFault::Damaged`] comes exactly where the contents that reads give spell no state with these settings;
+/// [`RowFault::Disk`] only where a call of the disk failed.
+pub fn read_rows<C: Contents, D: Disk>(
     alloc: Global,
-    view: &View,
+    view: &C,
     disk: &mut D,
     p: &Params,
 ) -> Result<VolumeRows, RowFault>
-    requires room { total_blocks p.now.frames ≤ view.now.total }
-    requires can { CanRead D.Disk disk.old view.now }
-    ensures told { IfOk result (λ rows. ForSome (contents D.Disk disk.old view.now.total) (TellsRows p.now rows)) }
+    requires room { total_blocks p.now.frames ≤ C.total view.now }
+    requires can { CanRead D.Disk (C.need view.now) (C.Fits view.now) disk.old }
+    ensures told { IfOk result (λ rows. ForSome (contents D.Disk (C.of view.now) disk.old) (TellsRows p.now rows)) }
     ensures params { IfOk result (λ rows. rows.params ≡ p.now) }
     ensures kept { IfOk result AreKept }
-    ensures damaged { result ≡ Err RowFault.Damaged → ForSome (contents D.Disk disk.old view.now.total) (HasNoState p.now) }
+    ensures damaged { result ≡ Err RowFault.Damaged → ForSome (contents D.Disk (C.of view.now) disk.old) (HasNoState p.now) }
     ensures cause { result ≡ Err RowFault.Disk → CountRose D.Disk disk.old disk.new }
     ensures reads { OnlyRead D.Disk disk.old disk.new }
 {

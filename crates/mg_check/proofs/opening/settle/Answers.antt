@@ -1,5 +1,6 @@
 use Rattle.std.proofs.Common.{◌≡◌, Some, ap, sym, ◌∙◌, arith}
 use Rattle.std.proofs.lemmas.Result.{IfOk-weaker}
+use Rattle.mg_journal.specs.Places.{Fits}
 use Rattle.mg_model.specs.Layout.{total_blocks}
 use Rattle.mg_model.specs.Replay.{replay}
 use Rattle.mg_model.specs.Words.{and_then}
@@ -20,19 +21,19 @@ returns-then-blocks-total-clause-damaged g c is image told =
 pub read_rows-requires-clause-can : goal.read_rows-requires-clause-can
 read_rows-requires-clause-can g c =
     let view = c.in_ok-view.view in
-    still_read g.D.Disk c.args.disk.now c.look_through.new.disk view (record { room = let e = c.in_ok-view.ensures.total in omega arith; fits = c.in_ok-view.ensures.fits }) c.look_through.ensures.reads
+    still_read g.D.Disk view.total (Fits view) c.args.disk.now c.look_through.new.disk (record { room = let e = c.in_ok-view.ensures.total in omega arith; fits = c.in_ok-view.ensures.fits }) c.look_through.ensures.reads
 
 pub returns-clause-told : goal.returns-clause-told
 returns-clause-told g c =
-    IfOk-weaker c.read_rows.result (λ rows. ForSome (contents g.D.Disk c.look_through.new.disk c.in_ok-view.view.total) (TellsRows c.args.p.now rows)) (λ rows. ForSome (g.D.Disk.seen c.args.disk.now) (IsSettled c.args.p.now rows))
+    IfOk-weaker c.read_rows.result (λ rows. ForSome (contents g.D.Disk (λ i. replay i c.in_ok-view.view.total) c.look_through.new.disk) (TellsRows c.args.p.now rows)) (λ rows. ForSome (g.D.Disk.seen c.args.disk.now) (IsSettled c.args.p.now rows))
     (λ rows tells image told.
     let p = c.args.p.now in
     let counted = g.met.D.Disk.seen_count c.args.disk.now image told in
     let needed : c.of-total.result.total ≡ total_blocks p.frames = c.of-total.ensures.total ∙ ap total_blocks c.frames.ensures.value in
     let total : c.in_ok-view.view.total ≡ c.of-total.result.total = c.in_ok-view.ensures.total in
     let r = some_in (replay image c.of-total.result.total) (c.in_ok-view.ensures.replayed image told) in
-    let same : contents g.D.Disk c.look_through.new.disk c.in_ok-view.view.total ≡ Some r.0 =
-    same_contents g.D.Disk c.args.disk.now c.look_through.new.disk c.in_ok-view.view.total c.look_through.ensures.reads
+    let same : contents g.D.Disk (λ i. replay i c.in_ok-view.view.total) c.look_through.new.disk ≡ Some r.0 =
+    same_contents g.D.Disk (λ i. replay i c.in_ok-view.view.total) c.args.disk.now c.look_through.new.disk c.look_through.ensures.reads
     ∙ ap (λ seen. and_then seen (λ i. replay i c.in_ok-view.view.total)) told ∙ ap (replay image) total ∙ r.1 in
     settled-tells p image rows r.0 (omega arith) (ap (replay image) (sym needed) ∙ r.1) (tells r.0 same))
     c.read_rows.ensures.told
@@ -44,7 +45,7 @@ returns-clause-damaged g c is image told =
     let needed : c.of-total.result.total ≡ total_blocks p.frames = c.of-total.ensures.total ∙ ap total_blocks c.frames.ensures.value in
     let total : c.in_ok-view.view.total ≡ c.of-total.result.total = c.in_ok-view.ensures.total in
     let r = some_in (replay image c.of-total.result.total) (c.in_ok-view.ensures.replayed image told) in
-    let same : contents g.D.Disk c.look_through.new.disk c.in_ok-view.view.total ≡ Some r.0 =
-    same_contents g.D.Disk c.args.disk.now c.look_through.new.disk c.in_ok-view.view.total c.look_through.ensures.reads
+    let same : contents g.D.Disk (λ i. replay i c.in_ok-view.view.total) c.look_through.new.disk ≡ Some r.0 =
+    same_contents g.D.Disk (λ i. replay i c.in_ok-view.view.total) c.args.disk.now c.look_through.new.disk c.look_through.ensures.reads
     ∙ ap (λ seen. and_then seen (λ i. replay i c.in_ok-view.view.total)) told ∙ ap (replay image) total ∙ r.1 in
     settled-damaged p image r.0 (omega arith) (ap (replay image) (sym needed) ∙ r.1) ((c.read_rows.ensures.damaged is r.0 same).none)

@@ -12,7 +12,7 @@ use Rattle.mg_check.proofs.ReadRuns.{only_then, same_contents, still_read}
 use Rattle.mg_check.proofs.table.read_table.Goals as goal
 
 pub turn_to-requires-clause-can : goal.turn_to-requires-clause-can
-turn_to-requires-clause-can g c = still_read g.D.Disk c.args.disk.now c.loop-f.disk c.args.view.now c.requires.can c.loop-f.invariant.reads
+turn_to-requires-clause-can g c = still_read g.D.Disk (g.C.Contents.need c.args.view.now) (g.C.Contents.Fits c.args.view.now) c.args.disk.now c.loop-f.disk c.requires.can c.loop-f.invariant.reads
 
 pub returns-in_err-take-clause-damaged : goal.returns-in_err-take-clause-damaged
 returns-in_err-take-clause-damaged g c is r told =
@@ -21,15 +21,14 @@ returns-in_err-take-clause-damaged g c is r told =
     let first = p.1 in
     let same = p.2 in
     let damaged : c.take.result ≡ Err fault.Damaged = cc in
-    let there = c.in-Ok.ensures.block r (same_contents g.D.Disk c.args.disk.now c.loop-f.disk c.args.view.now.total c.loop-f.invariant.reads ∙ told) in
+    let there = c.in-Ok.ensures.block r (same_contents g.D.Disk (g.C.Contents.of c.args.view.now) c.args.disk.now c.loop-f.disk c.loop-f.invariant.reads ∙ told) in
     table-rest r c.args.frames (512 * table_blocks c.args.frames) (omega arith) c.loop-f.f (c.take.ensures.behind damaged) (omega arith)
     (ap (λ block. entry_in block c.loop-f.f == 0) (sym there) ∙ c.take.ensures.damaged damaged)
 
 pub loop-f-preserved : goal.loop-f-preserved
 loop-f-preserved g c =
     let f = c.loop-f.f in
-    let total = c.args.view.now.total in
-    let at_hand = λ (r : Image) (told : contents g.D.Disk c.args.disk.now total ≡ Some r). c.in-Ok.ensures.block r (same_contents g.D.Disk c.args.disk.now c.loop-f.disk total c.loop-f.invariant.reads ∙ told) in
+    let at_hand = λ (r : Image) (told : contents g.D.Disk (g.C.Contents.of c.args.view.now) c.args.disk.now ≡ Some r). c.in-Ok.ensures.block r (same_contents g.D.Disk (g.C.Contents.of c.args.view.now) c.args.disk.now c.loop-f.disk c.loop-f.invariant.reads ∙ told) in
     record {
       reads = only_then g.D.Disk c.args.disk.now c.loop-f.disk c.turn_to.new.disk c.loop-f.invariant.reads c.turn_to.ensures.reads;
       there = λ test r told.

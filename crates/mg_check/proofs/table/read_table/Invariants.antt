@@ -10,7 +10,7 @@ use Rattle.mg_check.proofs.table.read_table.Given as goal
 abbrev pub invariant-loop-f : goal.invariant-loop-f
 invariant-loop-f g l = record {
   reads : OnlyRead g.D.Disk l.initial.disk l.disk;
-  there : (l.f % 512 == 0) ≡ false → ForSome (contents g.D.Disk l.initial.disk l.view.total) (λ r. l.block ≡ block_of r (table_block + l.f / 512));
-  told : ForSome (contents g.D.Disk l.initial.disk l.view.total) (λ r. AreEntries (table_entry r) l.f l.frames l.table.items);
+  there : (l.f % 512 == 0) ≡ false → ForSome (contents g.D.Disk (g.C.Contents.of l.view) l.initial.disk) (λ r. l.block ≡ block_of r (table_block + l.f / 512));
+  told : ForSome (contents g.D.Disk (g.C.Contents.of l.view) l.initial.disk) (λ r. AreEntries (table_entry r) l.f l.frames l.table.items);
   long : length l.table.items ≡ min l.f l.frames;
 }

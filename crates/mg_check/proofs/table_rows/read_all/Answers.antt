@@ -13,13 +13,13 @@ use Rattle.mg_check.proofs.ReadRuns.{only_none, only_then, same_contents, still_
 use Rattle.mg_check.proofs.table_rows.read_all.Goals as goal
 
 pub turn_to-requires-clause-can : goal.turn_to-requires-clause-can
-turn_to-requires-clause-can g c = still_read g.D.Disk c.args.disk.now c.loop-i.disk c.args.view.now c.requires.can c.loop-i.invariant.reads
+turn_to-requires-clause-can g c = still_read g.D.Disk (g.C.Contents.need c.args.view.now) (g.C.Contents.Fits c.args.view.now) c.args.disk.now c.loop-i.disk c.requires.can c.loop-i.invariant.reads
 
 pub turn_to-requires-clause-there : goal.turn_to-requires-clause-there
 turn_to-requires-clause-there g c test r told =
     let i = c.loop-i.i in
     let some : 0 < i = ⊎_elim (λ zero. absurd (c.is_first.ensures.first zero test)) (λ other. omega arith) (cases_eq i 0) in
-    let before = sym (same_contents g.D.Disk c.args.disk.now c.loop-i.disk c.args.view.now.total c.loop-i.invariant.reads) ∙ told in
+    let before = sym (same_contents g.D.Disk (g.C.Contents.of c.args.view.now) c.args.disk.now c.loop-i.disk c.loop-i.invariant.reads) ∙ told in
     c.loop-i.invariant.there some r before ∙ ap (block_of r) (c.is_first.ensures.other test ∙ sym c.block_at.ensures.place)
 
 pub returns-in_err-take-clause-damaged : goal.returns-in_err-take-clause-damaged
@@ -30,7 +30,7 @@ returns-in_err-take-clause-damaged g c is r told =
     let same = p.2 in
     let damaged : c.take.result ≡ Err fault.Damaged = cc in
     let i = c.loop-i.i in
-    let there = c.in-Ok.ensures.block r (same_contents g.D.Disk c.args.disk.now c.loop-i.disk c.args.view.now.total c.loop-i.invariant.reads ∙ told) ∙ ap (block_of r) c.block_at.ensures.place in
+    let there = c.in-Ok.ensures.block r (same_contents g.D.Disk (g.C.Contents.of c.args.view.now) c.args.disk.now c.loop-i.disk c.loop-i.invariant.reads ∙ told) ∙ ap (block_of r) c.block_at.ensures.place in
     not_spelled (λ k. g.R.TableRow.spelled (block_of r (g.R.TableRow.block_at k)) k) g.R.TableRow.ROWS i
     (ap (λ block. g.R.TableRow.spelled block i) (sym there) ∙ c.take.ensures.damaged damaged) (omega arith)
 
@@ -40,8 +40,7 @@ returns-in_err-take-clause-reads g c = only_then g.D.Disk c.args.disk.now c.loop
 pub loop-i-preserved : goal.loop-i-preserved
 loop-i-preserved g c =
     let i = c.loop-i.i in
-    let total = c.args.view.now.total in
-    let at_hand = λ (r : Image) (told : contents g.D.Disk c.args.disk.now total ≡ Some r). c.in-Ok.ensures.block r (same_contents g.D.Disk c.args.disk.now c.loop-i.disk total c.loop-i.invariant.reads ∙ told) ∙ ap (block_of r) c.block_at.ensures.place in
+    let at_hand = λ (r : Image) (told : contents g.D.Disk (g.C.Contents.of c.args.view.now) c.args.disk.now ≡ Some r). c.in-Ok.ensures.block r (same_contents g.D.Disk (g.C.Contents.of c.args.view.now) c.args.disk.now c.loop-i.disk c.loop-i.invariant.reads ∙ told) ∙ ap (block_of r) c.block_at.ensures.place in
     record {
       reads = only_then g.D.Disk c.args.disk.now c.loop-i.disk c.turn_to.new.disk c.loop-i.invariant.reads c.turn_to.ensures.reads;
       there = λ some r told. at_hand r told ∙ ap (λ k. block_of r (g.R.TableRow.block_at k)) (let e : i ≡ i + 1 - 1 = omega arith in e);

@@ -10,8 +10,8 @@ use Rattle.mg_check.proofs.table_rows.read_all.Given as goal
 abbrev pub invariant-loop-i : goal.invariant-loop-i
 invariant-loop-i g l = record {
   reads : OnlyRead g.D.Disk l.initial.disk l.disk;
-  there : 0 < l.i → ForSome (contents g.D.Disk l.initial.disk l.view.total) (λ r. l.block ≡ block_of r (g.R.TableRow.block_at (l.i - 1)));
-  told : ForSome (contents g.D.Disk l.initial.disk l.view.total) (λ r. AreLive (λ i. g.R.TableRow.spelled (block_of r (g.R.TableRow.block_at i)) i) l.i l.rows.items);
+  there : 0 < l.i → ForSome (contents g.D.Disk (g.C.Contents.of l.view) l.initial.disk) (λ r. l.block ≡ block_of r (g.R.TableRow.block_at (l.i - 1)));
+  told : ForSome (contents g.D.Disk (g.C.Contents.of l.view) l.initial.disk) (λ r. AreLive (λ i. g.R.TableRow.spelled (block_of r (g.R.TableRow.block_at i)) i) l.i l.rows.items);
   placed : ArePlaced l.i l.rows.items;
   kept : EachKeeps g.R.TableRow.IsKept l.rows.items;
   room : g.R.TableRow.ROWS ≤ vec_capacity l.rows;
