@@ -9,6 +9,7 @@ use Rattle.mg_mirror.specs.declared.mirror.Side.{Side}
 use Rattle.mg_mirror_session.proofs.Through.{if_some_then}
 use Rattle.mg_mirror_session.specs.Headline.{EndsWith, last_line}
 use Rattle.mg_model.specs.State.{State}
+use Rattle.mg_model.specs.Print.{text}
 use Rattle.mg_session.specs.Headline.{Answers, EndsRun, IsDoneOrMemory, replies}
 use Rattle.mg_session.specs.declared.status.Status.{Status}
 use Rattle.mg_session.specs.declared.status.Status.TheVariants as status
@@ -72,27 +73,27 @@ module _ {K : Type 0} (to : sinks.Ghosts K) (ran : Status) (alone : Option Side)
       at_end : ran ≡ status.Done → IsDoneOrMemory result
       at_end done = ⊎_elim (λ p. inl p.0) (λ p. absurd (none (then_rose _ _ _ _ _ _ goes p.2))) (ends.done done)
 
-  module _ (s : State) (left left' : Option (List ℕ)) (taken : Option (List ℕ)) (answers : Answers s ran left left' taken (to.taken replied)) where
-    all_put : (bytes : List ℕ) → Appends taken (to.taken replied) (replies s bytes) → Appends (to.taken replied) (to.taken sink') (last_line alone) → Appends taken (to.taken sink') (replies s bytes ++ last_line alone)
-    all_put bytes first last = Appends-then taken (to.taken replied) (to.taken sink') (replies s bytes) (last_line alone) first last
+  module _ (s : State) (left left' : Option (List ℕ)) (taken : Option (List ℕ)) (answers : Answers (text s) ran left left' taken (to.taken replied)) where
+    all_put : (bytes : List ℕ) → Appends taken (to.taken replied) (replies (text s) bytes) → Appends (to.taken replied) (to.taken sink') (last_line alone) → Appends taken (to.taken sink') (replies (text s) bytes ++ last_line alone)
+    all_put bytes first last = Appends-then taken (to.taken replied) (to.taken sink') (replies (text s) bytes) (last_line alone) first last
 
     -- what was put is a prefix of the replies and the line
-    pub put_prefix : IfSome left (λ bytes. AppendsPrefix taken (to.taken sink') (replies s bytes ++ last_line alone))
+    pub put_prefix : IfSome left (λ bytes. AppendsPrefix taken (to.taken sink') (replies (text s) bytes ++ last_line alone))
     put_prefix = ⊎_elim at_end early (is_done_or_not ran)
       where
-        at_end : ran ≡ status.Done → IfSome left (λ bytes. AppendsPrefix taken (to.taken sink') (replies s bytes ++ last_line alone))
+        at_end : ran ≡ status.Done → IfSome left (λ bytes. AppendsPrefix taken (to.taken sink') (replies (text s) bytes ++ last_line alone))
         at_end done = ⊎_elim
-            (λ p. if_some_then left _ _ (λ bytes all. (replies s bytes ++ last_line alone, [], append-nil _, all_put bytes all.1 p.1)) (answers.done done))
-            (λ p. if_some_then left _ _ (λ bytes all. let line = p.1 in (replies s bytes ++ line.0, line.1, append_assoc (replies s bytes) line.0 line.1 ∙ ap (λ v. replies s bytes ++ v) line.2, Appends-then taken (to.taken replied) (to.taken sink') (replies s bytes) line.0 all.1 line.3)) (answers.done done))
+            (λ p. if_some_then left _ _ (λ bytes all. (replies (text s) bytes ++ last_line alone, [], append-nil _, all_put bytes all.1 p.1)) (answers.done done))
+            (λ p. if_some_then left _ _ (λ bytes all. let line = p.1 in (replies (text s) bytes ++ line.0, line.1, append_assoc (replies (text s) bytes) line.0 line.1 ∙ ap (λ v. replies (text s) bytes ++ v) line.2, Appends-then taken (to.taken replied) (to.taken sink') (replies (text s) bytes) line.0 all.1 line.3)) (answers.done done))
             (ends.done done)
 
-        early : ran ≢ status.Done → IfSome left (λ bytes. AppendsPrefix taken (to.taken sink') (replies s bytes ++ last_line alone))
+        early : ran ≢ status.Done → IfSome left (λ bytes. AppendsPrefix taken (to.taken sink') (replies (text s) bytes ++ last_line alone))
         early not = if_some_then left _ _
-            (λ bytes some. subst (λ k. AppendsPrefix taken (to.taken k) (replies s bytes ++ last_line alone)) (sym (ends.early not).1) (AppendsPrefix-longer taken (to.taken replied) (replies s bytes) (last_line alone) some))
+            (λ bytes some. subst (λ k. AppendsPrefix taken (to.taken k) (replies (text s) bytes ++ last_line alone)) (sym (ends.early not).1) (AppendsPrefix-longer taken (to.taken replied) (replies (text s) bytes) (last_line alone) some))
             answers.prefix
 
     -- and all of it at the end
-    pub put_all : result ≡ status.Done → IfSome left (λ bytes. (left' ≡ Some []) × Appends taken (to.taken sink') (replies s bytes ++ last_line alone))
+    pub put_all : result ≡ status.Done → IfSome left (λ bytes. (left' ≡ Some []) × Appends taken (to.taken sink') (replies (text s) bytes ++ last_line alone))
     put_all is = ⊎_elim
         (λ p. if_some_then left _ _ (λ bytes all. (all.0, all_put bytes all.1 p.1)) (answers.done (done_ran is)))
         (λ p. absurd (done_is_no_sink result is p.0))

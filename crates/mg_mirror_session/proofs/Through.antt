@@ -7,6 +7,7 @@ use Rattle.mg_io.specs.declared.traits.Sink as sinks
 use Rattle.mg_io.specs.declared.traits.Source as sources
 use Rattle.mg_model.specs.State.{State}
 use Rattle.mg_model.specs.Volume.{Damaged, Is, NotVolume, OldVolume, VolumeRead, volume}
+use Rattle.mg_model.specs.Step.{after}
 use Rattle.mg_session.specs.Headline.{Holds, HoldsExactly, IfState, OnVolume, RunKeeps, TellsOfNone}
 use Rattle.mg_session.specs.declared.status.Status.{Status}
 
@@ -44,13 +45,13 @@ module _ {M N : Type 0} (facts : disks.Ghosts N) (view : M → N) where
   pub writes_nothing : (m m' : M) → WritesNothing seen_through m m' → WritesNothing facts (view m) (view m')
   writes_nothing m m' h = record { same = h.same; stops = h.stops }
 
-  holds : (s : State) (m m' : M) (left left' taken taken' : Option (List ℕ)) → Holds seen_through s m m' left left' taken taken' → Holds facts s (view m) (view m') left left' taken taken'
+  holds : (s : State) (m m' : M) (left left' taken taken' : Option (List ℕ)) → Holds seen_through (after s) m m' left left' taken taken' → Holds facts (after s) (view m) (view m') left left' taken taken'
   holds s m m' left left' taken taken' h = record {
     moments = if_some_then left _ _ (λ input l. leaves m m' _ l) h.moments;
     held = h.held;
   }
 
-  exactly : (s : State) (result : Status) (m' : M) (left left' taken taken' : Option (List ℕ)) → HoldsExactly seen_through s result m' left left' taken taken' → HoldsExactly facts s result (view m') left left' taken taken'
+  exactly : (s : State) (result : Status) (m' : M) (left left' taken taken' : Option (List ℕ)) → HoldsExactly seen_through (after s) result m' left left' taken taken' → HoldsExactly facts (after s) result (view m') left left' taken taken'
   exactly s result m' left left' taken taken' h = record { held_source = h.held_source; held_too_long = h.held_too_long; held_sink = h.held_sink }
 
   none : {K : Type 0} (to : sinks.Ghosts K) (result : Status) (m m' : M) (k k' : K) → TellsOfNone seen_through to result m m' k k' → TellsOfNone facts to result (view m) (view m') k k'

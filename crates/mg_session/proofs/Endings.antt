@@ -9,83 +9,86 @@ use Rattle.mg_io.specs.declared.traits.Source as sources
 use Rattle.mg_kernel.specs.declared.kernel.Kernel.{Kernel}
 use Rattle.mg_kernel.specs.Meaning.{StandsOn, is_live, now_of}
 use Rattle.mg_laws.specs.Costs.{PrefixesCostLess}
+use Rattle.mg_model.specs.Print.{text}
+use Rattle.mg_model.specs.Step.{after}
 use Rattle.mg_model.specs.Warmth.{cost}
 use Rattle.mg_session.specs.declared.batches.Ended.{Ended}
 use Rattle.mg_session.specs.declared.batches.Ended.TheVariants as ended
 use Rattle.mg_session.specs.Headline.{Answers, Ends, Holds, HoldsExactly, IsWithin, IsWithinCost, KeepsExactly, SpellsAfter, TakesMore, UnlessDisk, status_at, status_of}
 use Rattle.mg_session.specs.declared.status.Status.TheVariants as status
 use Rattle.mg_session.specs.Readings.{Finishes, Stops}
-use Rattle.mg_session.specs.Sessions.{Entry, Point}
+use Rattle.mg_session.specs.Machines.{Entry, Point}
+use Rattle.mg_session.specs.Sessions.{BrokenAt, Session}
 use Rattle.mg_session.specs.Waiting.{Waiting}
 use Rattle.mg_session.proofs.Outcomes.{disk_exactly, disk_lines, finishes_all, finishes_kept, finishes_stops, finishes_within, not_more, sink_one, source_exactly, source_few, source_lines, source_within, stops_bound, stops_cost, stops_held, stops_moments, stops_prefix, too_long_exactly, too_long_few, too_long_lines, too_long_more, within_more}
 
-module _ {D : Type 0} (facts : Ghosts D) (entry : Entry D) (limit batch : ℕ) (left left' : Option (List ℕ)) (p : Point D) where
+module _ {D : Type 0} (facts : Ghosts D) (entry : Entry Kernel D) (limit batch : ℕ) (left left' : Option (List ℕ)) (p : Point Kernel D) where
   -- it ended early
   abbrev Early : Ended → Type 0
-  Early e = Stops facts e entry left limit batch (limit + 4096) (is_live p.kernel) p.steps p.disk p.taken left'
+  Early e = Stops (BrokenAt facts) e entry left limit batch (limit + 4096) p left'
 
   -- at a good end nothing more was to be put
-  like_early : Finishes facts entry left limit p left' → StandsOn facts p.kernel p.disk → Early ended.Sink
+  like_early : Finishes (Session facts) entry left limit p left' → StandsOn facts p.machine p.disk → Early ended.Sink
   like_early f stands = finishes_stops facts entry limit batch (limit + 4096) left left' p f (omega arith) stands.settled
 
-  answers_early : (e : Ended) → Early e → ForSome (facts.seen entry.disk) (λ image. Answers (now_of entry.kernel image) (status_at e) left left' entry.taken p.taken)
+  answers_early : (e : Ended) → Early e → ForSome (facts.seen entry.disk) (λ image. Answers (text (now_of entry.machine image)) (status_at e) left left' entry.taken p.taken)
   answers_early ended.Disk w = λ image is. record {
-    prefix = stops_prefix facts entry limit batch (limit + 4096) (is_live p.kernel) p.steps ended.Disk left left' p.disk p.taken w image is;
+    prefix = stops_prefix facts entry limit batch (limit + 4096) ended.Disk left left' p w image is;
     done = λ h. absurd (cc);
-    lines_disk = λ h. disk_lines facts entry limit batch (limit + 4096) (is_live p.kernel) p.steps left left' p.disk p.taken w image is;
+    lines_disk = λ h. disk_lines facts entry limit batch (limit + 4096) left left' p w image is;
     lines_source = λ h. absurd (cc);
     lines_too_long = λ h. absurd (cc);
   }
   answers_early ended.Source w = λ image is. record {
-    prefix = stops_prefix facts entry limit batch (limit + 4096) (is_live p.kernel) p.steps ended.Source left left' p.disk p.taken w image is;
+    prefix = stops_prefix facts entry limit batch (limit + 4096) ended.Source left left' p w image is;
     done = λ h. absurd (cc);
     lines_disk = λ h. absurd (cc);
-    lines_source = λ h. source_lines facts entry limit batch (limit + 4096) (is_live p.kernel) p.steps left left' p.disk p.taken w image is;
+    lines_source = λ h. source_lines facts entry limit batch (limit + 4096) left left' p w image is;
     lines_too_long = λ h. absurd (cc);
   }
   answers_early ended.Sink w = λ image is. record {
-    prefix = stops_prefix facts entry limit batch (limit + 4096) (is_live p.kernel) p.steps ended.Sink left left' p.disk p.taken w image is;
+    prefix = stops_prefix facts entry limit batch (limit + 4096) ended.Sink left left' p w image is;
     done = λ h. absurd (cc);
     lines_disk = λ h. absurd (cc);
     lines_source = λ h. absurd (cc);
     lines_too_long = λ h. absurd (cc);
   }
   answers_early ended.TooLong w = λ image is. record {
-    prefix = stops_prefix facts entry limit batch (limit + 4096) (is_live p.kernel) p.steps ended.TooLong left left' p.disk p.taken w image is;
+    prefix = stops_prefix facts entry limit batch (limit + 4096) ended.TooLong left left' p w image is;
     done = λ h. absurd (cc);
     lines_disk = λ h. absurd (cc);
     lines_source = λ h. absurd (cc);
-    lines_too_long = λ h. too_long_lines facts entry limit batch (limit + 4096) (is_live p.kernel) p.steps left left' p.disk p.taken w image is;
+    lines_too_long = λ h. too_long_lines facts entry limit batch (limit + 4096) left left' p w image is;
   }
 
-  exactly_early : (e : Ended) → Early e → ForSome (facts.seen entry.disk) (λ image. HoldsExactly facts (now_of entry.kernel image) (status_at e) p.disk left left' entry.taken p.taken)
+  exactly_early : (e : Ended) → Early e → ForSome (facts.seen entry.disk) (λ image. HoldsExactly facts (after (now_of entry.machine image)) (status_at e) p.disk left left' entry.taken p.taken)
   exactly_early ended.Disk w = λ image is. record { held_source = λ h. absurd (cc); held_too_long = λ h. absurd (cc); held_sink = λ h. absurd (cc) }
   exactly_early ended.Source w = λ image is. record {
-    held_source = λ h. source_exactly facts entry limit batch (limit + 4096) (is_live p.kernel) p.steps left left' p.disk p.taken w image is;
+    held_source = λ h. source_exactly facts entry limit batch (limit + 4096) left left' p w image is;
     held_too_long = λ h. absurd (cc);
     held_sink = λ h. absurd (cc);
   }
   exactly_early ended.Sink w = λ image is. record {
     held_source = λ h. absurd (cc);
     held_too_long = λ h. absurd (cc);
-    held_sink = λ h. sink_one facts entry limit batch (limit + 4096) (is_live p.kernel) p.steps left left' p.disk p.taken w image is;
+    held_sink = λ h. sink_one facts entry limit batch (limit + 4096) left left' p w image is;
   }
   exactly_early ended.TooLong w = λ image is. record {
     held_source = λ h. absurd (cc);
-    held_too_long = λ h. too_long_exactly facts entry limit batch (limit + 4096) (is_live p.kernel) p.steps left left' p.disk p.taken w image is;
+    held_too_long = λ h. too_long_exactly facts entry limit batch (limit + 4096) left left' p w image is;
     held_sink = λ h. absurd (cc);
   }
 
-  holds_early : (e : Ended) → Early e → ForSome (facts.seen entry.disk) (λ image. Holds facts (now_of entry.kernel image) entry.disk p.disk left left' entry.taken p.taken)
+  holds_early : (e : Ended) → Early e → ForSome (facts.seen entry.disk) (λ image. Holds facts (after (now_of entry.machine image)) entry.disk p.disk left left' entry.taken p.taken)
   holds_early e w = λ image is. record {
-    moments = stops_moments facts entry limit batch (limit + 4096) (is_live p.kernel) p.steps e left left' p.disk p.taken w image is;
-    held = stops_held facts entry limit batch (limit + 4096) (is_live p.kernel) p.steps e left left' p.disk p.taken w image is;
+    moments = stops_moments facts entry limit batch (limit + 4096) e left left' p w image is;
+    held = stops_held facts entry limit batch (limit + 4096) e left left' p w image is;
   }
 
-  pub session_answers : {T : Type 0} (r : Result T Ended) → OnOk r (Finishes facts entry left limit p left') → UnlessDisk r (StandsOn facts p.kernel p.disk) → IfErr r Early
-      → ForSome (facts.seen entry.disk) (λ image. Answers (now_of entry.kernel image) (status_of r) left left' entry.taken p.taken)
+  pub session_answers : {T : Type 0} (r : Result T Ended) → OnOk r (Finishes (Session facts) entry left limit p left') → UnlessDisk r (StandsOn facts p.machine p.disk) → IfErr r Early
+      → ForSome (facts.seen entry.disk) (λ image. Answers (text (now_of entry.machine image)) (status_of r) left left' entry.taken p.taken)
   session_answers (Ok x) f stands w = λ image is. record {
-    prefix = stops_prefix facts entry limit batch (limit + 4096) (is_live p.kernel) p.steps ended.Sink left left' p.disk p.taken (like_early f stands) image is;
+    prefix = stops_prefix facts entry limit batch (limit + 4096) ended.Sink left left' p (like_early f stands) image is;
     done = λ h. finishes_all facts entry limit batch (limit + 4096) left left' p f image is;
     lines_disk = λ h. absurd (cc);
     lines_source = λ h. absurd (cc);
@@ -93,36 +96,36 @@ module _ {D : Type 0} (facts : Ghosts D) (entry : Entry D) (limit batch : ℕ) (
   }
   session_answers (Err e) f stands w = answers_early e w
 
-  pub session_cost : {T : Type 0} → PrefixesCostLess cost → (r : Result T Ended) → OnOk r (Finishes facts entry left limit p left') → UnlessDisk r (StandsOn facts p.kernel p.disk) → IfErr r Early
-      → ForSome (facts.seen entry.disk) (λ image. IsWithinCost (now_of entry.kernel image) left left' entry.steps p.steps)
-  session_cost less (Ok x) f stands w = stops_cost facts entry limit batch (limit + 4096) (is_live p.kernel) p.steps less ended.Sink left left' p.disk p.taken (like_early f stands)
-  session_cost less (Err e) f stands w = stops_cost facts entry limit batch (limit + 4096) (is_live p.kernel) p.steps less e left left' p.disk p.taken w
+  pub session_cost : {T : Type 0} → PrefixesCostLess cost → (r : Result T Ended) → OnOk r (Finishes (Session facts) entry left limit p left') → UnlessDisk r (StandsOn facts p.machine p.disk) → IfErr r Early
+      → ForSome (facts.seen entry.disk) (λ image. IsWithinCost (now_of entry.machine image) left left' entry.steps p.steps)
+  session_cost less (Ok x) f stands w = stops_cost facts entry limit batch (limit + 4096) less ended.Sink left left' p (like_early f stands)
+  session_cost less (Err e) f stands w = stops_cost facts entry limit batch (limit + 4096) less e left left' p w
 
-  pub session_kept : {T : Type 0} (r : Result T Ended) → OnOk r (Finishes facts entry left limit p left')
-      → OnOk r (ForSome (facts.seen entry.disk) (λ image. IfSome left (λ input. SpellsAfter (now_of entry.kernel image) input (facts.seen p.disk))))
+  pub session_kept : {T : Type 0} (r : Result T Ended) → OnOk r (Finishes (Session facts) entry left limit p left')
+      → OnOk r (ForSome (facts.seen entry.disk) (λ image. IfSome left (λ input. SpellsAfter (after (now_of entry.machine image)) input (facts.seen p.disk))))
   session_kept (Ok x) f = finishes_kept facts entry limit batch (limit + 4096) left left' p f
   session_kept (Err e) f = tt
 
-  pub session_holds : {T : Type 0} (r : Result T Ended) → OnOk r (Finishes facts entry left limit p left') → UnlessDisk r (StandsOn facts p.kernel p.disk) → IfErr r Early
-      → ForSome (facts.seen entry.disk) (λ image. Holds facts (now_of entry.kernel image) entry.disk p.disk left left' entry.taken p.taken)
+  pub session_holds : {T : Type 0} (r : Result T Ended) → OnOk r (Finishes (Session facts) entry left limit p left') → UnlessDisk r (StandsOn facts p.machine p.disk) → IfErr r Early
+      → ForSome (facts.seen entry.disk) (λ image. Holds facts (after (now_of entry.machine image)) entry.disk p.disk left left' entry.taken p.taken)
   session_holds (Ok x) f stands w = holds_early ended.Sink (like_early f stands)
   session_holds (Err e) f stands w = holds_early e w
 
   pub session_exactly : {T : Type 0} (r : Result T Ended) → IfErr r Early
-      → ForSome (facts.seen entry.disk) (λ image. HoldsExactly facts (now_of entry.kernel image) (status_of r) p.disk left left' entry.taken p.taken)
+      → ForSome (facts.seen entry.disk) (λ image. HoldsExactly facts (after (now_of entry.machine image)) (status_of r) p.disk left left' entry.taken p.taken)
   session_exactly (Ok x) w = λ image is. record { held_source = λ h. absurd (cc); held_too_long = λ h. absurd (cc); held_sink = λ h. absurd (cc) }
   session_exactly (Err e) w = exactly_early e w
 
-  pub session_at_disk : {T : Type 0} (r : Result T Ended) → IfErr r Early → r ≡ Err ended.Disk → is_live p.kernel ≡ true
-      → ForSome (facts.seen entry.disk) (λ image. KeepsExactly (facts.left_since p.disk (facts.moment p.disk)) (now_of entry.kernel image) left entry.taken p.taken)
+  pub session_at_disk : {T : Type 0} (r : Result T Ended) → IfErr r Early → r ≡ Err ended.Disk → is_live p.machine ≡ true
+      → ForSome (facts.seen entry.disk) (λ image. KeepsExactly (facts.left_since p.disk (facts.moment p.disk)) (after (now_of entry.machine image)) left entry.taken p.taken)
   session_at_disk (Ok x) w at live = absurd (cc)
-  session_at_disk (Err ended.Disk) w at live = disk_exactly facts entry limit batch (limit + 4096) (is_live p.kernel) p.steps left left' p.disk p.taken live w
+  session_at_disk (Err ended.Disk) w at live = disk_exactly facts entry limit batch (limit + 4096) left left' p live w
   session_at_disk (Err ended.Source) w at live = absurd (cc)
   session_at_disk (Err ended.Sink) w at live = absurd (cc)
   session_at_disk (Err ended.TooLong) w at live = absurd (cc)
 
 module _ {D S K : Type 0} (facts : Ghosts D) (from : sources.Ghosts S) (to : sinks.Ghosts K) (k k' : Kernel) (d d' : D) (owed : Waiting) (n n' limit batch : ℕ) (source source' : S) (sink sink' : K) where
-  ends_early : (e : Ended) → Early facts (record { kernel = k; disk = d; taken = to.taken sink; steps = n }) limit batch (from.left source) (from.left source') (record { kernel = k'; disk = d'; owed = owed; taken = to.taken sink'; steps = n' }) e
+  ends_early : (e : Ended) → Early facts (record { machine = k; disk = d; taken = to.taken sink; steps = n }) limit batch (from.left source) (from.left source') (record { machine = k'; disk = d'; owed = owed; taken = to.taken sink'; steps = n' }) e
       → (e ≡ ended.Source → Rose (from.faults source) (from.faults source') (from.is_spent source')) → (e ≡ ended.Sink → Rose (to.faults sink) (to.faults sink') (to.is_spent sink'))
       → Ends from to batch limit (status_at e) source source' sink sink'
   ends_early ended.Disk w source_rose sink_rose = record {
@@ -134,18 +137,18 @@ module _ {D S K : Type 0} (facts : Ghosts D) (from : sources.Ghosts S) (to : sin
     too_long = λ h. absurd (cc);
     within_done = λ h. absurd (cc);
     within_source = λ h. absurd (cc);
-    bounded = stops_bound facts (record { kernel = k; disk = d; taken = to.taken sink; steps = n }) limit batch (limit + 4096) (is_live k') n' ended.Disk (from.left source) (from.left source') d' (to.taken sink') w;
+    bounded = stops_bound facts (record { machine = k; disk = d; taken = to.taken sink; steps = n }) limit batch (limit + 4096) ended.Disk (from.left source) (from.left source') (record { machine = k'; disk = d'; owed = owed; taken = to.taken sink'; steps = n' }) w;
   }
   ends_early ended.Source w source_rose sink_rose = record {
-    few_source = λ h. source_few facts (record { kernel = k; disk = d; taken = to.taken sink; steps = n }) limit batch (limit + 4096) (is_live k') n' (from.left source) (from.left source') d' (to.taken sink') w;
+    few_source = λ h. source_few facts (record { machine = k; disk = d; taken = to.taken sink; steps = n }) limit batch (limit + 4096) (from.left source) (from.left source') (record { machine = k'; disk = d'; owed = owed; taken = to.taken sink'; steps = n' }) w;
     few_too_long = λ h. absurd (cc);
     memory = λ h. absurd (cc);
     source_failed = λ h. source_rose refl;
     sink_failed = λ h. absurd (cc);
     too_long = λ h. absurd (cc);
     within_done = λ h. absurd (cc);
-    within_source = λ h. source_within facts (record { kernel = k; disk = d; taken = to.taken sink; steps = n }) limit batch (limit + 4096) (is_live k') n' (from.left source) (from.left source') d' (to.taken sink') w;
-    bounded = stops_bound facts (record { kernel = k; disk = d; taken = to.taken sink; steps = n }) limit batch (limit + 4096) (is_live k') n' ended.Source (from.left source) (from.left source') d' (to.taken sink') w;
+    within_source = λ h. source_within facts (record { machine = k; disk = d; taken = to.taken sink; steps = n }) limit batch (limit + 4096) (from.left source) (from.left source') (record { machine = k'; disk = d'; owed = owed; taken = to.taken sink'; steps = n' }) w;
+    bounded = stops_bound facts (record { machine = k; disk = d; taken = to.taken sink; steps = n }) limit batch (limit + 4096) ended.Source (from.left source) (from.left source') (record { machine = k'; disk = d'; owed = owed; taken = to.taken sink'; steps = n' }) w;
   }
   ends_early ended.Sink w source_rose sink_rose = record {
     few_source = λ h. absurd (cc);
@@ -156,23 +159,23 @@ module _ {D S K : Type 0} (facts : Ghosts D) (from : sources.Ghosts S) (to : sin
     too_long = λ h. absurd (cc);
     within_done = λ h. absurd (cc);
     within_source = λ h. absurd (cc);
-    bounded = stops_bound facts (record { kernel = k; disk = d; taken = to.taken sink; steps = n }) limit batch (limit + 4096) (is_live k') n' ended.Sink (from.left source) (from.left source') d' (to.taken sink') w;
+    bounded = stops_bound facts (record { machine = k; disk = d; taken = to.taken sink; steps = n }) limit batch (limit + 4096) ended.Sink (from.left source) (from.left source') (record { machine = k'; disk = d'; owed = owed; taken = to.taken sink'; steps = n' }) w;
   }
   ends_early ended.TooLong w source_rose sink_rose = record {
     few_source = λ h. absurd (cc);
-    few_too_long = λ h. too_long_few facts (record { kernel = k; disk = d; taken = to.taken sink; steps = n }) limit batch (limit + 4096) (is_live k') n' (from.left source) (from.left source') d' (to.taken sink') w;
+    few_too_long = λ h. too_long_few facts (record { machine = k; disk = d; taken = to.taken sink; steps = n }) limit batch (limit + 4096) (from.left source) (from.left source') (record { machine = k'; disk = d'; owed = owed; taken = to.taken sink'; steps = n' }) w;
     memory = λ h. absurd (cc);
     source_failed = λ h. absurd (cc);
     sink_failed = λ h. absurd (cc);
-    too_long = λ h. too_long_more facts (record { kernel = k; disk = d; taken = to.taken sink; steps = n }) limit batch (limit + 4096) (is_live k') n' (from.left source) (from.left source') d' (to.taken sink') w;
+    too_long = λ h. too_long_more facts (record { machine = k; disk = d; taken = to.taken sink; steps = n }) limit batch (limit + 4096) (from.left source) (from.left source') (record { machine = k'; disk = d'; owed = owed; taken = to.taken sink'; steps = n' }) w;
     within_done = λ h. absurd (cc);
     within_source = λ h. absurd (cc);
-    bounded = stops_bound facts (record { kernel = k; disk = d; taken = to.taken sink; steps = n }) limit batch (limit + 4096) (is_live k') n' ended.TooLong (from.left source) (from.left source') d' (to.taken sink') w;
+    bounded = stops_bound facts (record { machine = k; disk = d; taken = to.taken sink; steps = n }) limit batch (limit + 4096) ended.TooLong (from.left source) (from.left source') (record { machine = k'; disk = d'; owed = owed; taken = to.taken sink'; steps = n' }) w;
   }
 
   pub session_ends : {T : Type 0} (r : Result T Ended)
-      → OnOk r (Finishes facts (record { kernel = k; disk = d; taken = to.taken sink; steps = n }) (from.left source) limit (record { kernel = k'; disk = d'; owed = owed; taken = to.taken sink'; steps = n' }) (from.left source'))
-      → IfErr r (Early facts (record { kernel = k; disk = d; taken = to.taken sink; steps = n }) limit batch (from.left source) (from.left source') (record { kernel = k'; disk = d'; owed = owed; taken = to.taken sink'; steps = n' }))
+      → OnOk r (Finishes (Session facts) (record { machine = k; disk = d; taken = to.taken sink; steps = n }) (from.left source) limit (record { machine = k'; disk = d'; owed = owed; taken = to.taken sink'; steps = n' }) (from.left source'))
+      → IfErr r (Early facts (record { machine = k; disk = d; taken = to.taken sink; steps = n }) limit batch (from.left source) (from.left source') (record { machine = k'; disk = d'; owed = owed; taken = to.taken sink'; steps = n' }))
       → (r ≡ Err ended.Source → Rose (from.faults source) (from.faults source') (from.is_spent source')) → (r ≡ Err ended.Sink → Rose (to.faults sink) (to.faults sink') (to.is_spent sink'))
       → Ends from to batch limit (status_of r) source source' sink sink'
   session_ends (Ok x) f w source_rose sink_rose = record {
@@ -182,9 +185,9 @@ module _ {D S K : Type 0} (facts : Ghosts D) (from : sources.Ghosts S) (to : sin
     source_failed = λ h. absurd (cc);
     sink_failed = λ h. absurd (cc);
     too_long = λ h. absurd (cc);
-    within_done = λ h. finishes_within facts (record { kernel = k; disk = d; taken = to.taken sink; steps = n }) limit batch (limit + 4096) (from.left source) (from.left source') (record { kernel = k'; disk = d'; owed = owed; taken = to.taken sink'; steps = n' }) f;
+    within_done = λ h. finishes_within facts (record { machine = k; disk = d; taken = to.taken sink; steps = n }) limit batch (limit + 4096) (from.left source) (from.left source') (record { machine = k'; disk = d'; owed = owed; taken = to.taken sink'; steps = n' }) f;
     within_source = λ h. absurd (cc);
-    bounded = within_more (from.left source) (from.left source') limit 4096 (finishes_within facts (record { kernel = k; disk = d; taken = to.taken sink; steps = n }) limit batch (limit + 4096) (from.left source) (from.left source') (record { kernel = k'; disk = d'; owed = owed; taken = to.taken sink'; steps = n' }) f);
+    bounded = within_more (from.left source) (from.left source') limit 4096 (finishes_within facts (record { machine = k; disk = d; taken = to.taken sink; steps = n }) limit batch (limit + 4096) (from.left source) (from.left source') (record { machine = k'; disk = d'; owed = owed; taken = to.taken sink'; steps = n' }) f);
   }
   session_ends (Err e) f w source_rose sink_rose = ends_early e w (λ h. source_rose (let s : e ≡ ended.Source = h in cc)) (λ h. sink_rose (let s : e ≡ ended.Sink = h in cc))
 

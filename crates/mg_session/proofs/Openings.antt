@@ -18,22 +18,23 @@ use Rattle.mg_kernel.specs.declared.kernel.Kernel.{Kernel}
 use Rattle.mg_kernel.specs.Meaning.{StandsOn, now_kept, now_of, staged_of}
 use Rattle.mg_kernel.specs.Opening.{Opens}
 use Rattle.mg_layout.specs.MayFormat.{IsNoState}
-use Rattle.mg_model.specs.Print.{answered}
+use Rattle.mg_model.specs.Print.{answered, text}
 use Rattle.mg_model.specs.Lines.{lines}
 use Rattle.mg_model.specs.State.{State}
 use Rattle.mg_model.specs.Volume.{Damaged, Is, NotVolume, OldVolume, VolumeRead, volume}
 use Rattle.mg_session.specs.declared.status.Status.{Status}
 use Rattle.mg_session.specs.declared.status.Status.TheVariants as status
+use Rattle.mg_model.specs.Step.{after}
 use Rattle.mg_session.specs.Headline.{Answers, AnswersLines, AnswersPrefix, AreAnswered, Holds, HoldsExactly, IfState, IsPrefix, IsWithinCost, KeepsAnswered, MayTell, OnVolume, TellsNone, TellsOfNone, EndsUnopened, check_line, replies, summary_line}
 use Rattle.mg_session.specs.Unopened.{EndsSession, EndsWith, FaultTells, IsQuiet, fault_line}
 use Rattle.mg_session.proofs.SessionSteps.{left_spells, no_lines}
 
 -- before the first call
-pub none_put : (s : State) (left taken : Option (List ℕ)) → AnswersPrefix s left taken taken
+pub none_put : (s : State) (left taken : Option (List ℕ)) → AnswersPrefix (text s) left taken taken
 none_put s None taken = tt
-none_put s (Some input) taken = AppendsPrefix-none taken (replies s input)
+none_put s (Some input) taken = AppendsPrefix-none taken (replies (text s) input)
 
-none_lines : (s : State) (left taken : Option (List ℕ)) → AnswersLines s left taken taken
+none_lines : (s : State) (left taken : Option (List ℕ)) → AnswersLines (text s) left taken taken
 none_lines s None taken = tt
 none_lines s (Some input) taken = (0, omega arith, Appends-none taken)
 
@@ -43,7 +44,7 @@ none_spent s None steps = tt
 none_spent s (Some input) steps = omega arith
 
 -- a command that ended before the first call of the source and of the sink
-pub first_answers : (s : State) (result : Status) (left taken : Option (List ℕ)) → result ≢ status.Done → Answers s result left left taken taken
+pub first_answers : (s : State) (result : Status) (left taken : Option (List ℕ)) → result ≢ status.Done → Answers (text s) result left left taken taken
 first_answers s result left taken early = record {
   prefix = none_put s left taken;
   done = λ ended. absurd (early ended);
@@ -96,18 +97,18 @@ unopened fault.Memory told P tells p = λ image is. any_state (volume image) P (
 
 -- what the sink took where the volume was not opened
 pub unopened_answers : (f : OpenFault) (told : Option Image) (result : Status) (left taken taken' : Option (List ℕ)) → FaultTells f told → EndsWith f result → (IsQuiet f → taken' ≡ taken)
-    → OnVolume told (λ s. Answers s result left left taken taken')
+    → OnVolume told (λ s. Answers (text s) result left left taken taken')
 unopened_answers f told result left taken taken' tells ends same =
-    unopened f told (λ s. Answers s result left left taken taken') tells
-    (λ quiet image is s spelled. subst (λ (v : Option (List ℕ)). Answers s result left left taken v) (sym (same quiet)) (first_answers s result left taken (quiet_early f result quiet ends)))
+    unopened f told (λ s. Answers (text s) result left left taken taken') tells
+    (λ quiet image is s spelled. subst (λ (v : Option (List ℕ)). Answers (text s) result left left taken v) (sym (same quiet)) (first_answers s result left taken (quiet_early f result quiet ends)))
 
 -- what a stop leaves of it
 pub unopened_exactly : {D : Type 0} (facts : Ghosts D) (f : OpenFault) (told : Option Image) (result : Status) (d' : D) (left taken taken' : Option (List ℕ)) → FaultTells f told → EndsWith f result
-    → OnVolume told (λ s. HoldsExactly facts s result d' left left taken taken')
+    → OnVolume told (λ s. HoldsExactly facts (after s) result d' left left taken taken')
 unopened_exactly facts f told result d' left taken taken' tells ends =
-    unopened f told (λ s. HoldsExactly facts s result d' left left taken taken') tells (λ quiet image is s spelled. by_fault f quiet ends s)
+    unopened f told (λ s. HoldsExactly facts (after s) result d' left left taken taken') tells (λ quiet image is s spelled. by_fault f quiet ends s)
   where
-    by_fault : (f : OpenFault) → IsQuiet f → EndsWith f result → (s : State) → HoldsExactly facts s result d' left left taken taken'
+    by_fault : (f : OpenFault) → IsQuiet f → EndsWith f result → (s : State) → HoldsExactly facts (after s) result d' left left taken taken'
     by_fault fault.Not quiet ends s = absurd quiet
     by_fault fault.Old quiet ends s = absurd quiet
     by_fault fault.Damaged quiet ends s = absurd quiet
@@ -221,7 +222,7 @@ none_answered : (taken : Option (List ℕ)) → AreAnswered taken taken 0
 none_answered None = tt
 none_answered (Some before) = omega (arith, ap answered (drop_all (length before) before (omega arith)))
 
-pub none_held : (left_now : Image → Type 0) (s : State) (left taken : Option (List ℕ)) → ((c : Image) → left_now c → volume c ≡ Is s) → KeepsAnswered left_now s left left taken taken
+pub none_held : (left_now : Image → Type 0) (s : State) (left taken : Option (List ℕ)) → ((c : Image) → left_now c → volume c ≡ Is s) → KeepsAnswered left_now (after s) left left taken taken
 none_held left_now s None taken spelled = tt
 none_held left_now s (Some input) taken spelled = λ c left. (0, record { all_answered = none_answered taken; came = omega arith }, spelled c left)
 
@@ -231,13 +232,13 @@ module _ {D : Type 0} (facts : Ghosts D) (k : Kernel) (d : D) where
   yet_spelled stands none image is c left = left_spells facts d image c (now_of k image) stands.settled is (now_kept k image (stands.fits image is) none) left
 
   yet_moments : (left : Option (List ℕ)) → StandsOn facts k d → staged_of k ≡ 0 → facts.has_been d (facts.moment d) → (image : Image) → facts.seen d ≡ Some image
-      → IfSome left (λ input. Leaves facts d d (IsPrefix (now_of k image) (lines input)))
+      → IfSome left (λ input. Leaves facts d d (IsPrefix (after (now_of k image)) (lines input)))
   yet_moments None stands clean been image is = tt
   yet_moments (Some input) stands clean been image is =
-      leaves_yet facts d (IsPrefix (now_of k image) (lines input)) been (λ c left. no_lines (now_of k image) (lines input) c (yet_spelled stands clean image is c left))
+      leaves_yet facts d (IsPrefix (after (now_of k image)) (lines input)) been (λ c left. no_lines (now_of k image) (lines input) c (yet_spelled stands clean image is c left))
 
   pub yet_holds : (left taken : Option (List ℕ)) → StandsOn facts k d → staged_of k ≡ 0 → facts.has_been d (facts.moment d)
-      → ForSome (facts.seen d) (λ image. Holds facts (now_of k image) d d left left taken taken)
+      → ForSome (facts.seen d) (λ image. Holds facts (after (now_of k image)) d d left left taken taken)
   yet_holds left taken stands none been = λ image is. record {
     moments = yet_moments left stands none been image is;
     held = none_held (facts.left_since d (facts.moment d)) (now_of k image) left taken (λ c left. yet_spelled stands none image is c left);
@@ -246,33 +247,33 @@ module _ {D : Type 0} (facts : Ghosts D) (k : Kernel) (d : D) where
 -- what an opening may leave, where the session then leaves this
 module _ {D : Type 0} (facts : Ghosts D) (d mid : D) where
   prefix_yet : (left : Option (List ℕ)) (image : Image) (s : State) → volume image ≡ Is s → Leaves facts d mid (λ c. volume c ≡ volume image)
-      → IfSome left (λ input. Leaves facts d mid (IsPrefix s (lines input)))
+      → IfSome left (λ input. Leaves facts d mid (IsPrefix (after s) (lines input)))
   prefix_yet None image s spelled first = tt
   prefix_yet (Some input) image s spelled first =
-      leaves_wider facts d mid (λ c. volume c ≡ volume image) (IsPrefix s (lines input)) first (λ c same. no_lines s (lines input) c (same ∙ spelled))
+      leaves_wider facts d mid (λ c. volume c ≡ volume image) (IsPrefix (after s) (lines input)) first (λ c same. no_lines s (lines input) c (same ∙ spelled))
 
-  prefix_then : (d' : D) (left : Option (List ℕ)) (s : State) → IfSome left (λ input. Leaves facts d mid (IsPrefix s (lines input)))
-      → IfSome left (λ input. Leaves facts mid d' (IsPrefix s (lines input))) → IfSome left (λ input. Leaves facts d d' (IsPrefix s (lines input)))
+  prefix_then : (d' : D) (left : Option (List ℕ)) (s : State) → IfSome left (λ input. Leaves facts d mid (IsPrefix (after s) (lines input)))
+      → IfSome left (λ input. Leaves facts mid d' (IsPrefix (after s) (lines input))) → IfSome left (λ input. Leaves facts d d' (IsPrefix (after s) (lines input)))
   prefix_then d' None s first second = tt
-  prefix_then d' (Some input) s first second = leaves_then facts d mid d' (IsPrefix s (lines input)) (IsPrefix s (lines input)) first second (λ c f. f)
+  prefix_then d' (Some input) s first second = leaves_then facts d mid d' (IsPrefix (after s) (lines input)) (IsPrefix (after s) (lines input)) first second (λ c f. f)
 
   -- an opening, and then a session
   pub opened_holds : (k : Kernel) (d' : D) (left left' taken taken' : Option (List ℕ)) → ForSome (facts.seen d) (λ image. Opens (volume image) k (facts.seen mid))
       → ForSome (facts.seen d) (λ image. Leaves facts d mid (λ c. volume c ≡ volume image))
-      → ForSome (facts.seen mid) (λ image. Holds facts (now_of k image) mid d' left left' taken taken')
-      → OnVolume (facts.seen d) (λ s. Holds facts s d d' left left' taken taken')
+      → ForSome (facts.seen mid) (λ image. Holds facts (after (now_of k image)) mid d' left left' taken taken')
+      → OnVolume (facts.seen d) (λ s. Holds facts (after s) d d' left left' taken taken')
   opened_holds k d' left left' taken taken' opens first second = λ image is.
       let o : Opens (volume image) k (facts.seen mid) = opens image is in
-      let h : Holds facts o.state mid d' left left' taken taken' = subst (λ (s : State). Holds facts s mid d' left left' taken taken') o.holds.now (second o.holds.image o.holds.is) in
-      state_is (volume image) o.state (λ s. Holds facts s d d' left left' taken taken') o.is
+      let h : Holds facts (after o.state) mid d' left left' taken taken' = subst (λ (s : State). Holds facts (after s) mid d' left left' taken taken') o.holds.now (second o.holds.image o.holds.is) in
+      state_is (volume image) o.state (λ s. Holds facts (after s) d d' left left' taken taken') o.is
       record { moments = prefix_then d' left o.state (prefix_yet left image o.state o.is (first image is)) h.moments; held = h.held }
 
   -- an opening that failed
   pub unopened_holds : (f : OpenFault) (left taken taken' : Option (List ℕ)) → FaultTells f (facts.seen d) → (IsQuiet f → taken' ≡ taken) → NothingPending facts d
-      → ForSome (facts.seen d) (λ image. Leaves facts d mid (λ c. volume c ≡ volume image)) → OnVolume (facts.seen d) (λ s. Holds facts s d mid left left taken taken')
+      → ForSome (facts.seen d) (λ image. Leaves facts d mid (λ c. volume c ≡ volume image)) → OnVolume (facts.seen d) (λ s. Holds facts (after s) d mid left left taken taken')
   unopened_holds f left taken taken' tells same only first =
-      unopened f (facts.seen d) (λ s. Holds facts s d mid left left taken taken') tells (λ quiet image is s spelled.
-      subst (λ (v : Option (List ℕ)). Holds facts s d mid left left taken v) (sym (same quiet)) record {
+      unopened f (facts.seen d) (λ s. Holds facts (after s) d mid left left taken taken') tells (λ quiet image is s spelled.
+      subst (λ (v : Option (List ℕ)). Holds facts (after s) d mid left left taken v) (sym (same quiet)) record {
         moments = prefix_yet left image s spelled (first image is);
         held = none_held (facts.left_since mid (facts.moment mid)) s left taken (λ c left. ⊎_elim
             (λ (before : facts.left_since d (facts.moment d) c). left_spells facts d image c s only is spelled before)

@@ -9,6 +9,7 @@ use Rattle.mg_disk.specs.Disk.{Image}
 use Rattle.mg_disk.specs.Runs.{leaves_wider}
 use Rattle.mg_disk.specs.Stops.{Leaves, NothingPending}
 use Rattle.mg_disk.specs.declared.disk.Disk.{Ghosts}
+use Rattle.mg_kernel.specs.declared.kernel.Kernel.{Kernel}
 use Rattle.mg_kernel.specs.Meaning.{is_live, now_of}
 use Rattle.mg_model.specs.declared.calls.Line.{Line}
 use Rattle.mg_session.proofs.Answered.{text-append}
@@ -24,7 +25,8 @@ use Rattle.mg_session.specs.declared.batches.Ended.{Ended}
 use Rattle.mg_session.specs.declared.batches.Ended.TheVariants as ended
 use Rattle.mg_session.specs.Headline.{AnswersAll, AnswersLines, AnswersPrefix, AreAnswered, FewUnanswered, IsAnswered, IsPrefix, IsWithin, IsWithinCost, KeepsAnswered, KeepsExactly, KeepsOne, SpellsAfter, TakesAtMost, TakesMore, replies, taken_of}
 use Rattle.mg_session.specs.Readings.{Finishes, Stops}
-use Rattle.mg_session.specs.Sessions.{Entry, Held, IsBetween, Point, PutsWhole, Remains, Session, Stands}
+use Rattle.mg_session.specs.Machines.{Entry, Point}
+use Rattle.mg_session.specs.Sessions.{BrokenAt, Held, IsBetween, PutsWhole, Remains, Session, Stands}
 use Rattle.mg_session.specs.Waiting.{Waiting}
 use Rattle.mg_session.proofs.SessionSteps.{left_spells, prefix_longer}
 use Rattle.mg_session.proofs.Spending.{spent-same}
@@ -73,167 +75,167 @@ is_answered input rest bytes ls taken taken' put k read came sink least few = re
   came = omega (arith, ap (λ v. length (lines v)) (came_are bytes rest input read), ap length came.1, length-append ls came.0);
 }
 
-module _ {D : Type 0} (facts : Ghosts D) (entry : Entry D) (limit batch most : ℕ) (alive : Bool) (steps : ℕ) where
+module _ {D : Type 0} (facts : Ghosts D) (entry : Entry Kernel D) (limit batch most : ℕ) where
   -- the lines that were stepped are first lines of all
-  cut_of : (e : Ended) (input rest : List ℕ) (new : D) (taken : Option (List ℕ)) (w : Stops facts e entry (Some input) limit batch most alive steps new taken (Some rest))
+  cut_of : (e : Ended) (input rest : List ℕ) (p : Point Kernel D) (w : Stops (BrokenAt facts) e entry (Some input) limit batch most p (Some rest))
       → (more : List Line) × (lines input ≡ w.ls ++ more)
-  cut_of e input rest new taken w = (
+  cut_of e input rest p w = (
     (w.will rest refl).0,
     ap (λ v. lines v) w.read ∙ (w.will rest refl).1,
   )
 
-  pub stops_prefix : (e : Ended) (left left' : Option (List ℕ)) (new : D) (taken : Option (List ℕ)) → Stops facts e entry left limit batch most alive steps new taken left'
-      → ForSome (facts.seen entry.disk) (λ image. AnswersPrefix (now_of entry.kernel image) left entry.taken taken)
-  stops_prefix e None left' new taken w = λ image is. tt
-  stops_prefix e (Some input) None new taken w = absurd w.read
-  stops_prefix e (Some input) (Some rest) new taken w = λ image is.
-      let t : Remains facts e entry (now_of entry.kernel image) w.ls w.broken.put alive steps new = w.broken.told image is in
-      let cut : (more : List Line) × (lines input ≡ w.ls ++ more) = cut_of e input rest new taken w in (
-        w.broken.put,
-        t.more ++ text (after (now_of entry.kernel image) w.ls) cut.0,
-        sym (append_assoc w.broken.put t.more (text (after (now_of entry.kernel image) w.ls) cut.0))
-            ∙ ap (λ v. v ++ text (after (now_of entry.kernel image) w.ls) cut.0) (sym t.replies)
-            ∙ sym (text-append (now_of entry.kernel image) w.ls cut.0) ∙ ap (λ v. text (now_of entry.kernel image) v) (sym cut.1),
+  pub stops_prefix : (e : Ended) (left left' : Option (List ℕ)) (p : Point Kernel D) → Stops (BrokenAt facts) e entry left limit batch most p left'
+      → ForSome (facts.seen entry.disk) (λ image. AnswersPrefix (text (now_of entry.machine image)) left entry.taken p.taken)
+  stops_prefix e None left' p w = λ image is. tt
+  stops_prefix e (Some input) None p w = absurd w.read
+  stops_prefix e (Some input) (Some rest) p w = λ image is.
+      let t : Remains facts e entry (now_of entry.machine image) w.ls w.put (is_live p.machine) p.steps p.disk = w.broken.told image is in
+      let cut : (more : List Line) × (lines input ≡ w.ls ++ more) = cut_of e input rest p w in (
+        w.put,
+        t.more ++ text (after (now_of entry.machine image) w.ls) cut.0,
+        sym (append_assoc w.put t.more (text (after (now_of entry.machine image) w.ls) cut.0))
+            ∙ ap (λ v. v ++ text (after (now_of entry.machine image) w.ls) cut.0) (sym t.replies)
+            ∙ sym (text-append (now_of entry.machine image) w.ls cut.0) ∙ ap (λ v. text (now_of entry.machine image) v) (sym cut.1),
         w.broken.sink,
       )
 
-  pub stops_moments : (e : Ended) (left left' : Option (List ℕ)) (new : D) (taken : Option (List ℕ)) → Stops facts e entry left limit batch most alive steps new taken left'
-      → ForSome (facts.seen entry.disk) (λ image. IfSome left (λ input. Leaves facts entry.disk new (IsPrefix (now_of entry.kernel image) (lines input))))
-  stops_moments e None left' new taken w = λ image is. tt
-  stops_moments e (Some input) None new taken w = absurd w.read
-  stops_moments e (Some input) (Some rest) new taken w = λ image is.
-      let t : Remains facts e entry (now_of entry.kernel image) w.ls w.broken.put alive steps new = w.broken.told image is in
-      let cut : (more : List Line) × (lines input ≡ w.ls ++ more) = cut_of e input rest new taken w in
-      leaves_wider facts entry.disk new (IsPrefix (now_of entry.kernel image) w.ls) (IsPrefix (now_of entry.kernel image) (lines input)) t.leaves
-      (λ c f. subst (λ (v : List Line). IsPrefix (now_of entry.kernel image) v c) (sym cut.1) (prefix_longer (now_of entry.kernel image) w.ls cut.0 c f))
+  pub stops_moments : (e : Ended) (left left' : Option (List ℕ)) (p : Point Kernel D) → Stops (BrokenAt facts) e entry left limit batch most p left'
+      → ForSome (facts.seen entry.disk) (λ image. IfSome left (λ input. Leaves facts entry.disk p.disk (IsPrefix (after (now_of entry.machine image)) (lines input))))
+  stops_moments e None left' p w = λ image is. tt
+  stops_moments e (Some input) None p w = absurd w.read
+  stops_moments e (Some input) (Some rest) p w = λ image is.
+      let t : Remains facts e entry (now_of entry.machine image) w.ls w.put (is_live p.machine) p.steps p.disk = w.broken.told image is in
+      let cut : (more : List Line) × (lines input ≡ w.ls ++ more) = cut_of e input rest p w in
+      leaves_wider facts entry.disk p.disk (IsPrefix (after (now_of entry.machine image)) w.ls) (IsPrefix (after (now_of entry.machine image)) (lines input)) t.leaves
+      (λ c f. subst (λ (v : List Line). IsPrefix (after (now_of entry.machine image)) v c) (sym cut.1) (prefix_longer (now_of entry.machine image) w.ls cut.0 c f))
 
-  pub stops_held : (e : Ended) (left left' : Option (List ℕ)) (new : D) (taken : Option (List ℕ)) → Stops facts e entry left limit batch most alive steps new taken left'
-      → ForSome (facts.seen entry.disk) (λ image. KeepsAnswered (facts.left_since new (facts.moment new)) (now_of entry.kernel image) left left' entry.taken taken)
-  stops_held e None left' new taken w = λ image is. tt
-  stops_held e (Some input) None new taken w = absurd w.read
-  stops_held e (Some input) (Some rest) new taken w = λ image is. λ c left.
-      let cut : (more : List Line) × (lines input ≡ w.ls ++ more) = cut_of e input rest new taken w in
-      let b : IsBetween (answered w.broken.put) (now_of entry.kernel image) w.ls c =
-      held_between e alive (answered w.broken.put) (now_of entry.kernel image) w.ls c w.broken.fewer ((w.broken.told image is).held c left) in (
+  pub stops_held : (e : Ended) (left left' : Option (List ℕ)) (p : Point Kernel D) → Stops (BrokenAt facts) e entry left limit batch most p left'
+      → ForSome (facts.seen entry.disk) (λ image. KeepsAnswered (facts.left_since p.disk (facts.moment p.disk)) (after (now_of entry.machine image)) left left' entry.taken p.taken)
+  stops_held e None left' p w = λ image is. tt
+  stops_held e (Some input) None p w = absurd w.read
+  stops_held e (Some input) (Some rest) p w = λ image is. λ c left.
+      let cut : (more : List Line) × (lines input ≡ w.ls ++ more) = cut_of e input rest p w in
+      let b : IsBetween (answered w.put) (now_of entry.machine image) w.ls c =
+      held_between e (is_live p.machine) (answered w.put) (now_of entry.machine image) w.ls c w.broken.fewer ((w.broken.told image is).held c left) in (
         b.0,
-        is_answered input rest w.bytes w.ls entry.taken taken w.broken.put b.0 w.read w.came w.broken.sink b.1 b.2,
-        first_of (now_of entry.kernel image) b.0 w.ls cut.0 (lines input) c cut.1 b.2 b.3,
+        is_answered input rest w.bytes w.ls entry.taken p.taken w.put b.0 w.read w.came w.broken.sink b.1 b.2,
+        first_of (now_of entry.machine image) b.0 w.ls cut.0 (lines input) c cut.1 b.2 b.3,
       )
 
   -- the counter rose by no more than the lines of the bytes that came may cost
-  pub stops_cost : PrefixesCostLess cost → (e : Ended) (left left' : Option (List ℕ)) (new : D) (taken : Option (List ℕ)) → Stops facts e entry left limit batch most alive steps new taken left'
-      → ForSome (facts.seen entry.disk) (λ image. IsWithinCost (now_of entry.kernel image) left left' entry.steps steps)
-  stops_cost less e None left' new taken w = λ image is. tt
-  stops_cost less e (Some input) None new taken w = absurd w.read
-  stops_cost less e (Some input) (Some rest) new taken w = λ image is.
+  pub stops_cost : PrefixesCostLess cost → (e : Ended) (left left' : Option (List ℕ)) (p : Point Kernel D) → Stops (BrokenAt facts) e entry left limit batch most p left'
+      → ForSome (facts.seen entry.disk) (λ image. IsWithinCost (now_of entry.machine image) left left' entry.steps p.steps)
+  stops_cost less e None left' p w = λ image is. tt
+  stops_cost less e (Some input) None p w = absurd w.read
+  stops_cost less e (Some input) (Some rest) p w = λ image is.
       let spent = (w.broken.told image is).spent in
-      let first = less (now_of entry.kernel image) w.ls w.came.0 in
-      let all : cost (now_of entry.kernel image) (lines (taken_of input rest)) ≡ cost (now_of entry.kernel image) (w.ls ++ w.came.0) =
-      ap (λ v. cost (now_of entry.kernel image) (lines v)) (came_are w.bytes rest input w.read) ∙ ap (λ v. cost (now_of entry.kernel image) v) w.came.1 in
+      let first = less (now_of entry.machine image) w.ls w.came.0 in
+      let all : cost (now_of entry.machine image) (lines (taken_of input rest)) ≡ cost (now_of entry.machine image) (w.ls ++ w.came.0) =
+      ap (λ v. cost (now_of entry.machine image) (lines v)) (came_are w.bytes rest input w.read) ∙ ap (λ v. cost (now_of entry.machine image) v) w.came.1 in
       omega (arith, all, first)
 
-  exactly : (e : Ended) (left left' : Option (List ℕ)) (new : D) (taken : Option (List ℕ)) (w : Stops facts e entry left limit batch most alive steps new taken left')
-      → ((s : State) (c : Image) → Held e alive (answered w.broken.put) s w.ls c → volume c ≡ Is (after s (take (answered w.broken.put) w.ls)))
-      → ForSome (facts.seen entry.disk) (λ image. KeepsExactly (facts.left_since new (facts.moment new)) (now_of entry.kernel image) left entry.taken taken)
-  exactly e None left' new taken w held = λ image is. tt
-  exactly e (Some input) None new taken w held = absurd w.read
-  exactly e (Some input) (Some rest) new taken w held = by_sink entry.taken taken w.broken.sink
+  exactly : (e : Ended) (left left' : Option (List ℕ)) (p : Point Kernel D) (w : Stops (BrokenAt facts) e entry left limit batch most p left')
+      → ((s : State) (c : Image) → Held e (is_live p.machine) (answered w.put) s w.ls c → volume c ≡ Is (after s (take (answered w.put) w.ls)))
+      → ForSome (facts.seen entry.disk) (λ image. KeepsExactly (facts.left_since p.disk (facts.moment p.disk)) (after (now_of entry.machine image)) left entry.taken p.taken)
+  exactly e None left' p w held = λ image is. tt
+  exactly e (Some input) None p w held = absurd w.read
+  exactly e (Some input) (Some rest) p w held = by_sink entry.taken p.taken w.broken.sink
     where
-      by_sink : (before now : Option (List ℕ)) → Appends before now w.broken.put
-          → ForSome (facts.seen entry.disk) (λ image. KeepsExactly (facts.left_since new (facts.moment new)) (now_of entry.kernel image) (Some input) before now)
+      by_sink : (before now : Option (List ℕ)) → Appends before now w.put
+          → ForSome (facts.seen entry.disk) (λ image. KeepsExactly (facts.left_since p.disk (facts.moment p.disk)) (after (now_of entry.machine image)) (Some input) before now)
       by_sink None now took = λ image is. tt
       by_sink (Some before) None took = absurd took
       by_sink (Some before) (Some now) took = λ image is. λ c left.
-          let cut : (more : List Line) × (lines input ≡ w.ls ++ more) = cut_of e input rest new taken w in
-          first_of (now_of entry.kernel image) (answered w.broken.put) w.ls cut.0 (lines input) c cut.1 w.broken.fewer (held (now_of entry.kernel image) c ((w.broken.told image is).held c left))
-          ∙ ap (λ v. Is (after (now_of entry.kernel image) (take (answered v) (lines input)))) (sym (put_is before now w.broken.put took))
+          let cut : (more : List Line) × (lines input ≡ w.ls ++ more) = cut_of e input rest p w in
+          first_of (now_of entry.machine image) (answered w.put) w.ls cut.0 (lines input) c cut.1 w.broken.fewer (held (now_of entry.machine image) c ((w.broken.told image is).held c left))
+          ∙ ap (λ v. Is (after (now_of entry.machine image) (take (answered v) (lines input)))) (sym (put_is before now w.put took))
 
   -- whole lines are answered
-  whole_lines : (e : Ended) (left left' : Option (List ℕ)) (new : D) (taken : Option (List ℕ)) (w : Stops facts e entry left limit batch most alive steps new taken left')
-      → ((s : State) → PutsWhole e s w.ls w.broken.put → w.broken.put ≡ text s (take (answered w.broken.put) w.ls))
-      → ForSome (facts.seen entry.disk) (λ image. AnswersLines (now_of entry.kernel image) left entry.taken taken)
-  whole_lines e None left' new taken w whole = λ image is. tt
-  whole_lines e (Some input) None new taken w whole = absurd w.read
-  whole_lines e (Some input) (Some rest) new taken w whole = λ image is.
-      let cut : (more : List Line) × (lines input ≡ w.ls ++ more) = cut_of e input rest new taken w in
-      let few : answered w.broken.put ≤ length (lines input) = let f = w.broken.fewer in omega (arith, ap length cut.1, length-append w.ls cut.0) in
-      let put : w.broken.put ≡ text (now_of entry.kernel image) (take (answered w.broken.put) (lines input)) =
-      whole (now_of entry.kernel image) (w.broken.told image is).whole
-      ∙ ap (λ v. text (now_of entry.kernel image) v) (sym (ap (λ v. take (answered w.broken.put) v) cut.1 ∙ take-append-le (answered w.broken.put) w.ls cut.0 w.broken.fewer)) in (
-        answered w.broken.put,
+  whole_lines : (e : Ended) (left left' : Option (List ℕ)) (p : Point Kernel D) (w : Stops (BrokenAt facts) e entry left limit batch most p left')
+      → ((s : State) → PutsWhole e s w.ls w.put → w.put ≡ text s (take (answered w.put) w.ls))
+      → ForSome (facts.seen entry.disk) (λ image. AnswersLines (text (now_of entry.machine image)) left entry.taken p.taken)
+  whole_lines e None left' p w whole = λ image is. tt
+  whole_lines e (Some input) None p w whole = absurd w.read
+  whole_lines e (Some input) (Some rest) p w whole = λ image is.
+      let cut : (more : List Line) × (lines input ≡ w.ls ++ more) = cut_of e input rest p w in
+      let few : answered w.put ≤ length (lines input) = let f = w.broken.fewer in omega (arith, ap length cut.1, length-append w.ls cut.0) in
+      let put : w.put ≡ text (now_of entry.machine image) (take (answered w.put) (lines input)) =
+      whole (now_of entry.machine image) (w.broken.told image is).whole
+      ∙ ap (λ v. text (now_of entry.machine image) v) (sym (ap (λ v. take (answered w.put) v) cut.1 ∙ take-append-le (answered w.put) w.ls cut.0 w.broken.fewer)) in (
+        answered w.put,
         few,
-        subst (λ (v : List ℕ). Appends entry.taken taken v) put w.broken.sink,
+        subst (λ (v : List ℕ). Appends entry.taken p.taken v) put w.broken.sink,
       )
 
-  few_of : (e : Ended) (left left' : Option (List ℕ)) (new : D) (taken : Option (List ℕ)) (w : Stops facts e entry left limit batch most alive steps new taken left')
-      → length (ended_lines (take limit w.bytes)) < answered w.broken.put + batch → FewUnanswered batch limit left left' entry.taken taken
-  few_of e None left' new taken w few = tt
-  few_of e (Some input) None new taken w few = absurd w.read
-  few_of e (Some input) (Some rest) new taken w few = by_sink entry.taken taken w.broken.sink
+  few_of : (e : Ended) (left left' : Option (List ℕ)) (p : Point Kernel D) (w : Stops (BrokenAt facts) e entry left limit batch most p left')
+      → length (ended_lines (take limit w.bytes)) < answered w.put + batch → FewUnanswered batch limit left left' entry.taken p.taken
+  few_of e None left' p w few = tt
+  few_of e (Some input) None p w few = absurd w.read
+  few_of e (Some input) (Some rest) p w few = by_sink entry.taken p.taken w.broken.sink
     where
-      by_sink : (before now : Option (List ℕ)) → Appends before now w.broken.put → FewUnanswered batch limit (Some input) (Some rest) before now
+      by_sink : (before now : Option (List ℕ)) → Appends before now w.put → FewUnanswered batch limit (Some input) (Some rest) before now
       by_sink None now took = tt
       by_sink (Some before) None took = absurd took
       by_sink (Some before) (Some now) took =
-          omega (arith, ap (λ v. length (ended_lines (take limit v))) (came_are w.bytes rest input w.read), ap answered (put_is before now w.broken.put took))
+          omega (arith, ap (λ v. length (ended_lines (take limit v))) (came_are w.bytes rest input w.read), ap answered (put_is before now w.put took))
 
-  pub stops_bound : (e : Ended) (left left' : Option (List ℕ)) (new : D) (taken : Option (List ℕ)) → Stops facts e entry left limit batch most alive steps new taken left' → TakesAtMost most left left'
-  stops_bound e None left' new taken w = tt
-  stops_bound e (Some input) None new taken w = absurd w.read
-  stops_bound e (Some input) (Some rest) new taken w = let b = w.bound in omega (arith, ap length w.read, length-append w.bytes rest)
+  pub stops_bound : (e : Ended) (left left' : Option (List ℕ)) (p : Point Kernel D) → Stops (BrokenAt facts) e entry left limit batch most p left' → TakesAtMost most left left'
+  stops_bound e None left' p w = tt
+  stops_bound e (Some input) None p w = absurd w.read
+  stops_bound e (Some input) (Some rest) p w = let b = w.bound in omega (arith, ap length w.read, length-append w.bytes rest)
 
-  pub source_exactly : (left left' : Option (List ℕ)) (new : D) (taken : Option (List ℕ)) → Stops facts ended.Source entry left limit batch most alive steps new taken left'
-      → ForSome (facts.seen entry.disk) (λ image. KeepsExactly (facts.left_since new (facts.moment new)) (now_of entry.kernel image) left entry.taken taken)
-  source_exactly left left' new taken w = exactly ended.Source left left' new taken w (λ s c h. h)
+  pub source_exactly : (left left' : Option (List ℕ)) (p : Point Kernel D) → Stops (BrokenAt facts) ended.Source entry left limit batch most p left'
+      → ForSome (facts.seen entry.disk) (λ image. KeepsExactly (facts.left_since p.disk (facts.moment p.disk)) (after (now_of entry.machine image)) left entry.taken p.taken)
+  source_exactly left left' p w = exactly ended.Source left left' p w (λ s c h. h)
 
-  pub too_long_exactly : (left left' : Option (List ℕ)) (new : D) (taken : Option (List ℕ)) → Stops facts ended.TooLong entry left limit batch most alive steps new taken left'
-      → ForSome (facts.seen entry.disk) (λ image. KeepsExactly (facts.left_since new (facts.moment new)) (now_of entry.kernel image) left entry.taken taken)
-  too_long_exactly left left' new taken w = exactly ended.TooLong left left' new taken w (λ s c h. h)
+  pub too_long_exactly : (left left' : Option (List ℕ)) (p : Point Kernel D) → Stops (BrokenAt facts) ended.TooLong entry left limit batch most p left'
+      → ForSome (facts.seen entry.disk) (λ image. KeepsExactly (facts.left_since p.disk (facts.moment p.disk)) (after (now_of entry.machine image)) left entry.taken p.taken)
+  too_long_exactly left left' p w = exactly ended.TooLong left left' p w (λ s c h. h)
 
   -- the disk failed, and no commit of it
-  pub disk_exactly : (left left' : Option (List ℕ)) (new : D) (taken : Option (List ℕ)) → alive ≡ true → Stops facts ended.Disk entry left limit batch most alive steps new taken left'
-      → ForSome (facts.seen entry.disk) (λ image. KeepsExactly (facts.left_since new (facts.moment new)) (now_of entry.kernel image) left entry.taken taken)
-  disk_exactly left left' new taken live w = exactly ended.Disk left left' new taken w (λ s c h. subst (λ (v : Bool). Held ended.Disk v (answered w.broken.put) s w.ls c) live h)
+  pub disk_exactly : (left left' : Option (List ℕ)) (p : Point Kernel D) → is_live p.machine ≡ true → Stops (BrokenAt facts) ended.Disk entry left limit batch most p left'
+      → ForSome (facts.seen entry.disk) (λ image. KeepsExactly (facts.left_since p.disk (facts.moment p.disk)) (after (now_of entry.machine image)) left entry.taken p.taken)
+  disk_exactly left left' p live w = exactly ended.Disk left left' p w (λ s c h. subst (λ (v : Bool). Held ended.Disk v (answered w.put) s w.ls c) live h)
 
-  pub disk_lines : (left left' : Option (List ℕ)) (new : D) (taken : Option (List ℕ)) → Stops facts ended.Disk entry left limit batch most alive steps new taken left'
-      → ForSome (facts.seen entry.disk) (λ image. AnswersLines (now_of entry.kernel image) left entry.taken taken)
-  disk_lines left left' new taken w = whole_lines ended.Disk left left' new taken w (λ s h. h)
+  pub disk_lines : (left left' : Option (List ℕ)) (p : Point Kernel D) → Stops (BrokenAt facts) ended.Disk entry left limit batch most p left'
+      → ForSome (facts.seen entry.disk) (λ image. AnswersLines (text (now_of entry.machine image)) left entry.taken p.taken)
+  disk_lines left left' p w = whole_lines ended.Disk left left' p w (λ s h. h)
 
-  pub source_lines : (left left' : Option (List ℕ)) (new : D) (taken : Option (List ℕ)) → Stops facts ended.Source entry left limit batch most alive steps new taken left'
-      → ForSome (facts.seen entry.disk) (λ image. AnswersLines (now_of entry.kernel image) left entry.taken taken)
-  source_lines left left' new taken w = whole_lines ended.Source left left' new taken w (λ s h. h)
+  pub source_lines : (left left' : Option (List ℕ)) (p : Point Kernel D) → Stops (BrokenAt facts) ended.Source entry left limit batch most p left'
+      → ForSome (facts.seen entry.disk) (λ image. AnswersLines (text (now_of entry.machine image)) left entry.taken p.taken)
+  source_lines left left' p w = whole_lines ended.Source left left' p w (λ s h. h)
 
-  pub too_long_lines : (left left' : Option (List ℕ)) (new : D) (taken : Option (List ℕ)) → Stops facts ended.TooLong entry left limit batch most alive steps new taken left'
-      → ForSome (facts.seen entry.disk) (λ image. AnswersLines (now_of entry.kernel image) left entry.taken taken)
-  too_long_lines left left' new taken w = whole_lines ended.TooLong left left' new taken w (λ s h. h)
+  pub too_long_lines : (left left' : Option (List ℕ)) (p : Point Kernel D) → Stops (BrokenAt facts) ended.TooLong entry left limit batch most p left'
+      → ForSome (facts.seen entry.disk) (λ image. AnswersLines (text (now_of entry.machine image)) left entry.taken p.taken)
+  too_long_lines left left' p w = whole_lines ended.TooLong left left' p w (λ s h. h)
 
-  pub source_few : (left left' : Option (List ℕ)) (new : D) (taken : Option (List ℕ)) → Stops facts ended.Source entry left limit batch most alive steps new taken left' → FewUnanswered batch limit left left' entry.taken taken
-  source_few left left' new taken w = few_of ended.Source left left' new taken w w.few
+  pub source_few : (left left' : Option (List ℕ)) (p : Point Kernel D) → Stops (BrokenAt facts) ended.Source entry left limit batch most p left' → FewUnanswered batch limit left left' entry.taken p.taken
+  source_few left left' p w = few_of ended.Source left left' p w w.few
 
-  pub too_long_few : (left left' : Option (List ℕ)) (new : D) (taken : Option (List ℕ)) → Stops facts ended.TooLong entry left limit batch most alive steps new taken left' → FewUnanswered batch limit left left' entry.taken taken
-  too_long_few left left' new taken w = few_of ended.TooLong left left' new taken w w.few
+  pub too_long_few : (left left' : Option (List ℕ)) (p : Point Kernel D) → Stops (BrokenAt facts) ended.TooLong entry left limit batch most p left' → FewUnanswered batch limit left left' entry.taken p.taken
+  too_long_few left left' p w = few_of ended.TooLong left left' p w w.few
 
-  pub source_within : (left left' : Option (List ℕ)) (new : D) (taken : Option (List ℕ)) → Stops facts ended.Source entry left limit batch most alive steps new taken left' → TakesAtMost limit left left'
-  source_within None left' new taken w = tt
-  source_within (Some input) None new taken w = absurd w.read
-  source_within (Some input) (Some rest) new taken w = let b = w.size in omega (arith, ap length w.read, length-append w.bytes rest)
+  pub source_within : (left left' : Option (List ℕ)) (p : Point Kernel D) → Stops (BrokenAt facts) ended.Source entry left limit batch most p left' → TakesAtMost limit left left'
+  source_within None left' p w = tt
+  source_within (Some input) None p w = absurd w.read
+  source_within (Some input) (Some rest) p w = let b = w.size in omega (arith, ap length w.read, length-append w.bytes rest)
 
-  pub too_long_more : (left left' : Option (List ℕ)) (new : D) (taken : Option (List ℕ)) → Stops facts ended.TooLong entry left limit batch most alive steps new taken left' → TakesMore limit left left'
-  too_long_more None left' new taken w = tt
-  too_long_more (Some input) None new taken w = absurd w.read
-  too_long_more (Some input) (Some rest) new taken w = let b = w.size in omega (arith, ap length w.read, length-append w.bytes rest)
+  pub too_long_more : (left left' : Option (List ℕ)) (p : Point Kernel D) → Stops (BrokenAt facts) ended.TooLong entry left limit batch most p left' → TakesMore limit left left'
+  too_long_more None left' p w = tt
+  too_long_more (Some input) None p w = absurd w.read
+  too_long_more (Some input) (Some rest) p w = let b = w.size in omega (arith, ap length w.read, length-append w.bytes rest)
 
   -- after a fault of the sink there is one state
-  pub sink_one : (left left' : Option (List ℕ)) (new : D) (taken : Option (List ℕ)) → Stops facts ended.Sink entry left limit batch most alive steps new taken left'
-      → ForSome (facts.seen entry.disk) (λ image. KeepsOne (facts.left_since new (facts.moment new)) (now_of entry.kernel image) left left' entry.taken taken)
-  sink_one None left' new taken w = λ image is. tt
-  sink_one (Some input) None new taken w = absurd w.read
-  sink_one (Some input) (Some rest) new taken w = λ image is.
-      let cut : (more : List Line) × (lines input ≡ w.ls ++ more) = cut_of ended.Sink input rest new taken w in (
+  pub sink_one : (left left' : Option (List ℕ)) (p : Point Kernel D) → Stops (BrokenAt facts) ended.Sink entry left limit batch most p left'
+      → ForSome (facts.seen entry.disk) (λ image. KeepsOne (facts.left_since p.disk (facts.moment p.disk)) (after (now_of entry.machine image)) left left' entry.taken p.taken)
+  sink_one None left' p w = λ image is. tt
+  sink_one (Some input) None p w = absurd w.read
+  sink_one (Some input) (Some rest) p w = λ image is.
+      let cut : (more : List Line) × (lines input ≡ w.ls ++ more) = cut_of ended.Sink input rest p w in (
         length w.ls,
-        is_answered input rest w.bytes w.ls entry.taken taken w.broken.put (length w.ls) w.read w.came w.broken.sink w.broken.fewer (omega arith),
-        λ c left. first_of (now_of entry.kernel image) (length w.ls) w.ls cut.0 (lines input) c cut.1 (omega arith)
-            ((w.broken.told image is).held c left ∙ ap (λ v. Is (after (now_of entry.kernel image) v)) (sym (take_all (length w.ls) w.ls (omega arith)))),
+        is_answered input rest w.bytes w.ls entry.taken p.taken w.put (length w.ls) w.read w.came w.broken.sink w.broken.fewer (omega arith),
+        λ c left. first_of (now_of entry.machine image) (length w.ls) w.ls cut.0 (lines input) c cut.1 (omega arith)
+            ((w.broken.told image is).held c left ∙ ap (λ v. Is (after (now_of entry.machine image) v)) (sym (take_all (length w.ls) w.ls (omega arith)))),
       )
 
 -- where no reply waits, all that was stepped is answered
@@ -241,20 +243,20 @@ all_done : (done waiting ls : List Line) (count : ℕ) → ls ≡ done ++ waitin
 all_done front [] ls count split same zero_is = sym (append-nil front) ∙ sym split
 all_done front (line ∷ more) ls count split same zero_is = absurd (omega arith)
 
-module _ {D : Type 0} (facts : Ghosts D) (entry : Entry D) (limit batch most : ℕ) where
+module _ {D : Type 0} (facts : Ghosts D) (entry : Entry Kernel D) (limit batch most : ℕ) where
   -- what stands after a good end
-  stood : (ls : List Line) (p : Point D) (a : Session facts entry ls p) → p.owed.count ≡ 0 → (image : Image) → facts.seen entry.disk ≡ Some image
-      → (x : Image) × (facts.seen p.disk ≡ Some x) × (volume x ≡ Is (after (now_of entry.kernel image) ls)) × (a.put ≡ text (now_of entry.kernel image) ls) × Leaves facts entry.disk p.disk (IsPrefix (now_of entry.kernel image) ls)
-      × (p.steps ≤ entry.steps + cost (now_of entry.kernel image) ls)
+  stood : (ls : List Line) (p : Point Kernel D) (a : Session facts entry ls p) → p.owed.count ≡ 0 → (image : Image) → facts.seen entry.disk ≡ Some image
+      → (x : Image) × (facts.seen p.disk ≡ Some x) × (volume x ≡ Is (after (now_of entry.machine image) ls)) × (a.put ≡ text (now_of entry.machine image) ls) × Leaves facts entry.disk p.disk (IsPrefix (after (now_of entry.machine image)) ls)
+      × (p.steps ≤ entry.steps + cost (now_of entry.machine image) ls)
   stood ls p a none image is =
-      let st : Stands facts entry (now_of entry.kernel image) a.done a.waiting a.put p = a.told image is in
+      let st : Stands facts entry (now_of entry.machine image) a.done a.waiting a.put p = a.told image is in
       let done_are : a.done ≡ ls = all_done a.done a.waiting ls p.owed.count a.split a.count none in (
         st.image,
         st.is,
-        st.kept ∙ ap (λ v. Is (after (now_of entry.kernel image) v)) done_are,
-        st.replies ∙ ap (λ v. text (now_of entry.kernel image) v) done_are,
-        subst (λ (v : List Line). Leaves facts entry.disk p.disk (IsPrefix (now_of entry.kernel image) v)) (sym a.split) st.leaves,
-        spent-same (now_of entry.kernel image) (a.done ++ a.waiting) ls entry.steps p.steps (sym a.split) st.spent,
+        st.kept ∙ ap (λ v. Is (after (now_of entry.machine image) v)) done_are,
+        st.replies ∙ ap (λ v. text (now_of entry.machine image) v) done_are,
+        subst (λ (v : List Line). Leaves facts entry.disk p.disk (IsPrefix (after (now_of entry.machine image)) v)) (sym a.split) st.leaves,
+        spent-same (now_of entry.machine image) (a.done ++ a.waiting) ls entry.steps p.steps (sym a.split) st.spent,
       )
 
   at_end_nil : (left' : Option (List ℕ)) (rest : List ℕ) → IsAtEnd left' → left' ≡ Some rest → rest ≡ []
@@ -262,7 +264,7 @@ module _ {D : Type 0} (facts : Ghosts D) (entry : Entry D) (limit batch most : �
   at_end_nil (Some xs) rest h e = cc
 
   -- a good end is one at which the sink had nothing more to take
-  pub finishes_stops : (left left' : Option (List ℕ)) (p : Point D) → Finishes facts entry left limit p left' → limit ≤ most → NothingPending facts p.disk → Stops facts ended.Sink entry left limit batch most (is_live p.kernel) p.steps p.disk p.taken left'
+  pub finishes_stops : (left left' : Option (List ℕ)) (p : Point Kernel D) → Finishes (Session facts) entry left limit p left' → limit ≤ most → NothingPending facts p.disk → Stops (BrokenAt facts) ended.Sink entry left limit batch most p left'
   finishes_stops left left' p f small only =
       let none : p.owed.count ≡ 0 = ap (λ (v : Waiting). v.count) f.empty in
       let a : Session facts entry (lines f.bytes) p = f.session in record {
@@ -273,8 +275,8 @@ module _ {D : Type 0} (facts : Ghosts D) (entry : Entry D) (limit batch most : �
         bound = let w = f.within in omega arith;
         came = ([], sym (append-nil (lines f.bytes)));
         will = λ rest here. ([], ap (λ v. lines (f.bytes ++ v)) (at_end_nil left' rest f.at_end here) ∙ ap (λ v. lines v) (append-nil f.bytes) ∙ sym (append-nil (lines f.bytes)));
+        put = a.put;
         broken = record {
-          put = a.put;
           sink = a.sink;
           fewer = let count = a.answers in omega (arith, ap length a.split, length-append a.done a.waiting);
           told = λ image is.
@@ -283,38 +285,38 @@ module _ {D : Type 0} (facts : Ghosts D) (entry : Entry D) (limit batch most : �
                 replies = sym (append-nil a.put ∙ st.3);
                 whole = tt;
                 leaves = st.4;
-                held = λ c left. left_spells facts p.disk st.0 c (after (now_of entry.kernel image) (lines f.bytes)) only st.1 st.2 left;
+                held = λ c left. left_spells facts p.disk st.0 c (after (now_of entry.machine image) (lines f.bytes)) only st.1 st.2 left;
                 spent = st.5;
               };
         };
         few = tt;
       }
 
-  pub finishes_all : (left left' : Option (List ℕ)) (p : Point D) → Finishes facts entry left limit p left'
-      → ForSome (facts.seen entry.disk) (λ image. AnswersAll (now_of entry.kernel image) left left' entry.taken p.taken)
+  pub finishes_all : (left left' : Option (List ℕ)) (p : Point Kernel D) → Finishes (Session facts) entry left limit p left'
+      → ForSome (facts.seen entry.disk) (λ image. AnswersAll (text (now_of entry.machine image)) left left' entry.taken p.taken)
   finishes_all None left' p f = λ image is. tt
   finishes_all (Some input) None p f = absurd f.read
   finishes_all (Some input) (Some rest) p f = λ image is.
       let st = stood (lines f.bytes) p f.session (ap (λ (v : Waiting). v.count) f.empty) image is in
       let whole : f.bytes ≡ input = sym (f.read ∙ ap (λ v. f.bytes ++ v) f.at_end ∙ append-nil f.bytes) in (
         ap (λ v. Some v) f.at_end,
-        subst (λ (v : List ℕ). Appends entry.taken p.taken v) (st.3 ∙ ap (λ v. replies (now_of entry.kernel image) v) whole) f.session.sink,
+        subst (λ (v : List ℕ). Appends entry.taken p.taken v) (st.3 ∙ ap (λ v. replies (text (now_of entry.machine image)) v) whole) f.session.sink,
       )
 
-  pub finishes_kept : (left left' : Option (List ℕ)) (p : Point D) → Finishes facts entry left limit p left'
-      → ForSome (facts.seen entry.disk) (λ image. IfSome left (λ input. SpellsAfter (now_of entry.kernel image) input (facts.seen p.disk)))
+  pub finishes_kept : (left left' : Option (List ℕ)) (p : Point Kernel D) → Finishes (Session facts) entry left limit p left'
+      → ForSome (facts.seen entry.disk) (λ image. IfSome left (λ input. SpellsAfter (after (now_of entry.machine image)) input (facts.seen p.disk)))
   finishes_kept None left' p f = λ image is. tt
   finishes_kept (Some input) None p f = absurd f.read
   finishes_kept (Some input) (Some rest) p f = λ image is.
       let st = stood (lines f.bytes) p f.session (ap (λ (v : Waiting). v.count) f.empty) image is in
       let whole : f.bytes ≡ input = sym (f.read ∙ ap (λ v. f.bytes ++ v) f.at_end ∙ append-nil f.bytes) in
-      told_spells (facts.seen p.disk) st.0 (now_of entry.kernel image) input st.1 (st.2 ∙ ap (λ v. Is (after (now_of entry.kernel image) (lines v))) whole)
+      told_spells (facts.seen p.disk) st.0 (now_of entry.machine image) input st.1 (st.2 ∙ ap (λ v. Is (after (now_of entry.machine image) (lines v))) whole)
     where
-      told_spells : (told : Option Image) (x : Image) (s : State) (input : List ℕ) → told ≡ Some x → volume x ≡ Is (after s (lines input)) → SpellsAfter s input told
+      told_spells : (told : Option Image) (x : Image) (s : State) (input : List ℕ) → told ≡ Some x → volume x ≡ Is (after s (lines input)) → SpellsAfter (after s) input told
       told_spells None x s input same kept = cc
       told_spells (Some y) x s input same kept = let one : y ≡ x = cc in ap volume one ∙ kept
 
-  pub finishes_within : (left left' : Option (List ℕ)) (p : Point D) → Finishes facts entry left limit p left' → TakesAtMost limit left left'
+  pub finishes_within : (left left' : Option (List ℕ)) (p : Point Kernel D) → Finishes (Session facts) entry left limit p left' → TakesAtMost limit left left'
   finishes_within None left' p f = tt
   finishes_within (Some input) None p f = absurd f.read
   finishes_within (Some input) (Some rest) p f = let w = f.within in omega (arith, ap length f.read, length-append f.bytes rest)

@@ -6,10 +6,7 @@ use Rattle.std.proofs.Common.{refl, sym, ap, ◌∙◌, append_assoc, append-nil
 use Rattle.std.proofs.lemmas.Grind.{common_steps}
 use Rattle.std.proofs.lemmas.List.{length-take-le, take-append-drop, take_all}
 use Rattle.std.proofs.Math.Seq.{take-append-add}
-use Rattle.mg_disk.specs.Stops.{NothingPending}
-use Rattle.mg_disk.specs.declared.disk.Disk.{Ghosts}
 use Rattle.mg_io.specs.Known.{Consumes-kept, Consumes-none, Consumes-then}
-use Rattle.mg_kernel.specs.Meaning.{is_live}
 use Rattle.mg_model.specs.declared.calls.Line.{Line}
 use Rattle.mg_model.specs.Print.{answered}
 use Rattle.mg_session.proofs.Cutting.{ended_lines-exact}
@@ -20,10 +17,9 @@ use Rattle.mg_session.specs.declared.batches.Ended.{Ended}
 use Rattle.mg_session.specs.declared.batches.Ended.TheVariants as ended
 use Rattle.mg_session.specs.Incoming.{Breaks, Goes}
 use Rattle.mg_session.specs.Readings.{Few, Finishes, Reading, Size, Stops}
-use Rattle.mg_session.specs.Sessions.{Broken, Entry, Halts, IsInside, Point, Runs, Session}
+use Rattle.mg_session.specs.Machines.{Entry, Halts, IsInside, Point, Runs}
 use Rattle.mg_session.specs.Waiting.{no_replies}
 use Rattle.mg_session.proofs.IncomingSteps.{Breaks-more}
-use Rattle.mg_session.proofs.SessionSteps.{Broken-open}
 
 inside_size : (e : Ended) (limit count : ℕ) → IsInside e → Size e limit count
 inside_size ended.Disk limit count h = tt
@@ -60,8 +56,8 @@ some_nil : (left : Option (List ℕ)) (rest : List ℕ) → IsAtEnd left → lef
 some_nil None rest h e = cc
 some_nil (Some xs) rest h e = cc
 
-module _ {D : Type 0} (facts : Ghosts D) where
-  pub Reading-none : (entry : Entry D) (left : Option (List ℕ)) (p : Point D) (part : List ℕ) → part ≡ [] → Session facts entry [] p → Reading facts entry left 0 p part left
+module _ {M D : Type 0} (Session : Entry M D → List Line → Point M D → Type 0) where
+  pub Reading-none : (entry : Entry M D) (left : Option (List ℕ)) (p : Point M D) (part : List ℕ) → part ≡ [] → Session entry [] p → Reading Session entry left 0 p part left
   Reading-none entry left p part empty a = record {
     bytes = [];
     read = Consumes-none left;
@@ -73,15 +69,15 @@ module _ {D : Type 0} (facts : Ghosts D) where
   }
 
   -- how a piece more is cut
-  cut_more : (bytes part piece : List ℕ) (ls : List Line) (p q : Point D) (part' : List ℕ) → ((rest : List ℕ) → lines (bytes ++ rest) ≡ ls ++ lines (part ++ rest)) → (g : Goes facts p part piece q part')
+  cut_more : (bytes part piece : List ℕ) (ls : List Line) (p q : Point M D) (part' : List ℕ) → ((rest : List ℕ) → lines (bytes ++ rest) ≡ ls ++ lines (part ++ rest)) → (g : Goes Session p part piece q part')
       → (rest : List ℕ) → lines ((bytes ++ piece) ++ rest) ≡ (ls ++ g.ls) ++ lines (part' ++ rest)
   cut_more bytes part piece ls p q part' cut g rest =
       ap (λ v. lines v) (append_assoc bytes piece rest) ∙ cut (piece ++ rest) ∙ ap (λ v. ls ++ v) (g.cuts rest) ∙ sym (append_assoc ls g.ls (lines (part' ++ rest)))
 
   -- a piece more
-  pub Reading-more : (entry : Entry D) (left left' left'' : Option (List ℕ)) (total n : ℕ) (p q : Point D) (part part' piece : List ℕ)
-      → Reading facts entry left total p part left' → Consumes left' left'' (take n piece) → n ≤ length piece
-      → Goes facts p part (take n piece) q part' → list_any is_newline part' ≡ false → Reading facts entry left (total + n) q part' left''
+  pub Reading-more : (entry : Entry M D) (left left' left'' : Option (List ℕ)) (total n : ℕ) (p q : Point M D) (part part' piece : List ℕ)
+      → Reading Session entry left total p part left' → Consumes left' left'' (take n piece) → n ≤ length piece
+      → Goes Session p part (take n piece) q part' → list_any is_newline part' ≡ false → Reading Session entry left (total + n) q part' left''
   Reading-more entry left left' left'' total n p q part part' piece r read short g whole = record {
     bytes = r.bytes ++ take n piece;
     read = Consumes-then left left' left'' r.bytes (take n piece) r.read read;
@@ -92,20 +88,28 @@ module _ {D : Type 0} (facts : Ghosts D) where
     session = g.steps entry r.ls r.session;
   }
 
-  -- fewer lines than a batch are unanswered
-  pub session_few : (entry : Entry D) (ls : List Line) (p : Point D) (batch : ℕ) (a : Session facts entry ls p) → p.owed.count < batch → length ls < answered a.put + batch
-  session_few entry ls p batch a small =
-      let count = a.count in
-      let answers = a.answers in
-      omega (arith, ap length a.split, length-append a.done a.waiting)
+  -- the input ended, and the last line is answered
+  pub Finishes-last : (entry : Entry M D) (left left' left'' : Option (List ℕ)) (total limit n : ℕ) (p q : Point M D) (part piece : List ℕ)
+      → Reading Session entry left total p part left' → total ≤ limit → Consumes left' left'' (take n piece) → n ≡ 0 → IsAtEnd left''
+      → Runs Session p (lines part) q → q.owed ≡ no_replies → Finishes Session entry left limit q left''
+  Finishes-last entry left left' left'' total limit n p q part piece r within read zero_is ended_is g none = record {
+    bytes = r.bytes;
+    read = none_more left left' left'' r.bytes piece n r.read read zero_is;
+    at_end = ended_is;
+    within = let e = r.count in omega arith;
+    session = subst (λ (v : List Line). Session entry v q) (sym (cut_last r.bytes part r.ls r.cut)) (g entry r.ls r.session);
+    empty = none;
+  }
 
+module _ {M D : Type 0} (Session : Entry M D → List Line → Point M D → Type 0) (Broken : Ended → Entry M D → List Line → List ℕ → Point M D → Type 0) where
   -- a take failed: the line that is not ended is left as it was
-  pub Stops-source : (entry : Entry D) (left left' left'' : Option (List ℕ)) (total limit batch most : ℕ) (p : Point D) (part : List ℕ)
-      → Reading facts entry left total p part left' → total ≤ limit → limit ≤ most → Keeps left' left'' → NothingPending facts p.disk → p.owed.count < batch
-      → Stops facts ended.Source entry left limit batch most (is_live p.kernel) p.steps p.disk p.taken left''
-  Stops-source entry left left' left'' total limit batch most p part r within small kept only few =
+  pub Stops-source : (entry : Entry M D) (left left' left'' : Option (List ℕ)) (total limit batch most : ℕ) (p : Point M D) (part : List ℕ)
+      → Reading Session entry left total p part left' → total ≤ limit → limit ≤ most → Keeps left' left''
+      → ((ls : List Line) → Session entry ls p → (put : List ℕ) × Broken ended.Source entry ls put p × (length ls < answered put + batch))
+      → Stops Broken ended.Source entry left limit batch most p left''
+  Stops-source entry left left' left'' total limit batch most p part r within small kept off =
       let short : length r.bytes ≤ limit = let e = r.count in omega arith in
-      let open_few : length r.ls < answered r.session.put + batch = session_few entry r.ls p batch r.session few in record {
+      let o : (put : List ℕ) × Broken ended.Source entry r.ls put p × (length r.ls < answered put + batch) = off r.ls r.session in record {
         bytes = r.bytes;
         ls = r.ls;
         read = Consumes-kept left left' left'' r.bytes r.read kept;
@@ -113,22 +117,24 @@ module _ {D : Type 0} (facts : Ghosts D) where
         bound = omega arith;
         came = came_first r.bytes r.ls (lines (part ++ [])) (r.cut []);
         will = λ rest here. (lines (part ++ rest), r.cut rest);
-        broken = Broken-open facts ended.Source (is_live p.kernel) (λ n s ls c h. h) (λ s ls put h. h) entry r.ls p r.session only;
-        few = omega (arith, ap (λ v. length (ended_lines v)) (take_all limit r.bytes short), ended_lines-exact r.bytes part r.ls r.cut r.whole);
+        put = o.0;
+        broken = o.1;
+        few = let few = o.2 in omega (arith, ap (λ v. length (ended_lines v)) (take_all limit r.bytes short), ended_lines-exact r.bytes part r.ls r.cut r.whole);
       }
 
   -- a byte too many came: the lines up to the limit are stepped
-  pub Stops-too_long : (entry : Entry D) (left left' left'' : Option (List ℕ)) (total limit batch most n : ℕ) (p q : Point D) (part part' piece : List ℕ)
-      → Reading facts entry left total p part left' → total ≤ limit → limit + length piece ≤ most → Consumes left' left'' (take n piece) → n ≤ length piece → limit - total < n
-      → Goes facts p part (take (limit - total) piece) q part' → list_any is_newline part' ≡ false → NothingPending facts q.disk → q.owed.count < batch
-      → Stops facts ended.TooLong entry left limit batch most (is_live q.kernel) q.steps q.disk q.taken left''
-  Stops-too_long entry left left' left'' total limit batch most n p q part part' piece r within small read short more g whole only few =
+  pub Stops-too_long : (entry : Entry M D) (left left' left'' : Option (List ℕ)) (total limit batch most n : ℕ) (p q : Point M D) (part part' piece : List ℕ)
+      → Reading Session entry left total p part left' → total ≤ limit → limit + length piece ≤ most → Consumes left' left'' (take n piece) → n ≤ length piece → limit - total < n
+      → Goes Session p part (take (limit - total) piece) q part' → list_any is_newline part' ≡ false
+      → ((ls : List Line) → Session entry ls q → (put : List ℕ) × Broken ended.TooLong entry ls put q × (length ls < answered put + batch))
+      → Stops Broken ended.TooLong entry left limit batch most q left''
+  Stops-too_long entry left left' left'' total limit batch most n p q part part' piece r within small read short more g whole off =
       let all : length (r.bytes ++ take n piece) ≡ total + n = length-append r.bytes (take n piece) ∙ ap (λ v. v + length (take n piece)) r.count ∙ ap (λ v. total + v) (length-take-le n piece short) in
       let sum : limit ≡ length r.bytes + (limit - total) = let e = r.count in omega arith in
       let front : take limit (r.bytes ++ take n piece) ≡ r.bytes ++ take (limit - total) piece =
       ap (λ v. take v (r.bytes ++ take n piece)) sum ∙ take-append-add r.bytes (take n piece) (limit - total) ∙ ap (λ v. r.bytes ++ v) (front_of n (limit - total) piece (omega arith)) in
       let cut : (rest : List ℕ) → lines ((r.bytes ++ take (limit - total) piece) ++ rest) ≡ (r.ls ++ g.ls) ++ lines (part' ++ rest) =
-      cut_more r.bytes part (take (limit - total) piece) r.ls p q part' r.cut g in
+      cut_more Session r.bytes part (take (limit - total) piece) r.ls p q part' r.cut g in
       let parts : r.bytes ++ take n piece ≡ (r.bytes ++ take (limit - total) piece) ++ drop (limit - total) (take n piece) =
       ap (λ v. r.bytes ++ v) (sym (front_and_back n (limit - total) piece (omega arith)))
       ∙ sym (append_assoc r.bytes (take (limit - total) piece) (drop (limit - total) (take n piece))) in
@@ -136,8 +142,7 @@ module _ {D : Type 0} (facts : Ghosts D) where
       λ rest. ap (λ v. lines (v ++ rest)) parts
       ∙ ap (λ v. lines v) (append_assoc (r.bytes ++ take (limit - total) piece) (drop (limit - total) (take n piece)) rest)
       ∙ cut (drop (limit - total) (take n piece) ++ rest) in
-      let a : Session facts entry (r.ls ++ g.ls) q = g.steps entry r.ls r.session in
-      let open_few : length (r.ls ++ g.ls) < answered a.put + batch = session_few entry (r.ls ++ g.ls) q batch a few in record {
+      let o : (put : List ℕ) × Broken ended.TooLong entry (r.ls ++ g.ls) put q × (length (r.ls ++ g.ls) < answered put + batch) = off (r.ls ++ g.ls) (g.steps entry r.ls r.session) in record {
         bytes = r.bytes ++ take n piece;
         ls = r.ls ++ g.ls;
         read = Consumes-then left left' left'' r.bytes (take n piece) r.read read;
@@ -145,20 +150,21 @@ module _ {D : Type 0} (facts : Ghosts D) where
         bound = omega arith;
         came = came_first (r.bytes ++ take n piece) (r.ls ++ g.ls) (lines (part' ++ (drop (limit - total) (take n piece) ++ []))) (later []);
         will = λ rest here. (lines (part' ++ (drop (limit - total) (take n piece) ++ rest)), later rest);
-        broken = Broken-open facts ended.TooLong (is_live q.kernel) (λ n s ls c h. h) (λ s ls put h. h) entry (r.ls ++ g.ls) q a only;
-        few = omega (arith, ap (λ v. length (ended_lines v)) front, ended_lines-exact (r.bytes ++ take (limit - total) piece) part' (r.ls ++ g.ls) cut whole);
+        put = o.0;
+        broken = o.1;
+        few = let few = o.2 in omega (arith, ap (λ v. length (ended_lines v)) front, ended_lines-exact (r.bytes ++ take (limit - total) piece) part' (r.ls ++ g.ls) cut whole);
       }
 
   -- a line within a piece ended the session
-  pub Stops-bytes : (e : Ended) (entry : Entry D) (left left' left'' : Option (List ℕ)) (total limit batch most n w : ℕ) (p q : Point D) (part piece : List ℕ)
-      → Reading facts entry left total p part left' → total ≤ limit → limit + length piece ≤ most → Consumes left' left'' (take n piece) → n ≤ length piece → w ≤ n
-      → IsInside e → Breaks facts e p part (take w piece) q → Stops facts e entry left limit batch most (is_live q.kernel) q.steps q.disk q.taken left''
+  pub Stops-bytes : (e : Ended) (entry : Entry M D) (left left' left'' : Option (List ℕ)) (total limit batch most n w : ℕ) (p q : Point M D) (part piece : List ℕ)
+      → Reading Session entry left total p part left' → total ≤ limit → limit + length piece ≤ most → Consumes left' left'' (take n piece) → n ≤ length piece → w ≤ n
+      → IsInside e → Breaks Session Broken e p part (take w piece) q → Stops Broken e entry left limit batch most q left''
   Stops-bytes e entry left left' left'' total limit batch most n w p q part piece r within small read short front inside h =
       let all : length (r.bytes ++ take n piece) ≡ total + n = length-append r.bytes (take n piece) ∙ ap (λ v. v + length (take n piece)) r.count ∙ ap (λ v. total + v) (length-take-le n piece short) in
-      let b : Breaks facts e p part (take n piece) q =
-      subst (λ (v : List ℕ). Breaks facts e p part v q) (front_and_back n w piece front) (Breaks-more facts e p part (take w piece) (drop w (take n piece)) q h) in
+      let b : Breaks Session Broken e p part (take n piece) q =
+      subst (λ (v : List ℕ). Breaks Session Broken e p part v q) (front_and_back n w piece front) (Breaks-more Session Broken e p part (take w piece) (drop w (take n piece)) q h) in
       let cut : (rest : List ℕ) → (more : List Line) × (lines ((r.bytes ++ take n piece) ++ rest) ≡ (r.ls ++ b.ls) ++ more) = λ rest. later b rest (b.cuts rest) in
-      let broken : Broken facts e entry (r.ls ++ b.ls) (is_live q.kernel) q.steps q.disk q.taken = b.halts entry r.ls r.session in record {
+      let o : (put : List ℕ) × Broken e entry (r.ls ++ b.ls) put q = b.halts entry r.ls r.session in record {
         bytes = r.bytes ++ take n piece;
         ls = r.ls ++ b.ls;
         read = Consumes-then left left' left'' r.bytes (take n piece) r.read read;
@@ -166,36 +172,24 @@ module _ {D : Type 0} (facts : Ghosts D) where
         bound = omega arith;
         came = came_first (r.bytes ++ take n piece) (r.ls ++ b.ls) (cut []).0 (cut []).1;
         will = λ rest here. cut rest;
-        broken = broken;
-        few = inside_few e (length (ended_lines (take limit (r.bytes ++ take n piece)))) (answered broken.put) batch inside;
+        put = o.0;
+        broken = o.1;
+        few = inside_few e (length (ended_lines (take limit (r.bytes ++ take n piece)))) (answered o.0) batch inside;
       }
     where
-      later : (b : Breaks facts e p part (take n piece) q) (rest : List ℕ) → (more : List Line) × (lines (part ++ (take n piece ++ rest)) ≡ b.ls ++ more)
+      later : (b : Breaks Session Broken e p part (take n piece) q) (rest : List ℕ) → (more : List Line) × (lines (part ++ (take n piece ++ rest)) ≡ b.ls ++ more)
           → (more : List Line) × (lines ((r.bytes ++ take n piece) ++ rest) ≡ (r.ls ++ b.ls) ++ more)
       later b rest (more, is) = (
         more,
         ap (λ v. lines v) (append_assoc r.bytes (take n piece) rest) ∙ r.cut (take n piece ++ rest) ∙ ap (λ v. r.ls ++ v) is ∙ sym (append_assoc r.ls b.ls more),
       )
 
-  -- the input ended, and the last line is answered
-  pub Finishes-last : (entry : Entry D) (left left' left'' : Option (List ℕ)) (total limit n : ℕ) (p q : Point D) (part piece : List ℕ)
-      → Reading facts entry left total p part left' → total ≤ limit → Consumes left' left'' (take n piece) → n ≡ 0 → IsAtEnd left''
-      → Runs facts p (lines part) q → q.owed ≡ no_replies → Finishes facts entry left limit q left''
-  Finishes-last entry left left' left'' total limit n p q part piece r within read zero_is ended_is g none = record {
-    bytes = r.bytes;
-    read = none_more left left' left'' r.bytes piece n r.read read zero_is;
-    at_end = ended_is;
-    within = let e = r.count in omega arith;
-    session = subst (λ (v : List Line). Session facts entry v q) (sym (cut_last r.bytes part r.ls r.cut)) (g entry r.ls r.session);
-    empty = none;
-  }
-
   -- the input ended, and the last batch ended the session
-  pub Stops-last : (e : Ended) (entry : Entry D) (left left' left'' : Option (List ℕ)) (total limit batch most n : ℕ) (p q : Point D) (part piece : List ℕ)
-      → Reading facts entry left total p part left' → total ≤ limit → limit ≤ most → Consumes left' left'' (take n piece) → n ≡ 0 → IsAtEnd left''
-      → IsInside e → Halts facts e p (lines part) q → Stops facts e entry left limit batch most (is_live q.kernel) q.steps q.disk q.taken left''
+  pub Stops-last : (e : Ended) (entry : Entry M D) (left left' left'' : Option (List ℕ)) (total limit batch most n : ℕ) (p q : Point M D) (part piece : List ℕ)
+      → Reading Session entry left total p part left' → total ≤ limit → limit ≤ most → Consumes left' left'' (take n piece) → n ≡ 0 → IsAtEnd left''
+      → IsInside e → Halts Session Broken e p (lines part) q → Stops Broken e entry left limit batch most q left''
   Stops-last e entry left left' left'' total limit batch most n p q part piece r within small read zero_is ended_is inside h =
-      let broken : Broken facts e entry (r.ls ++ lines part) (is_live q.kernel) q.steps q.disk q.taken = h entry r.ls r.session in
+      let o : (put : List ℕ) × Broken e entry (r.ls ++ lines part) put q = h entry r.ls r.session in
       let cut : lines r.bytes ≡ r.ls ++ lines part = cut_last r.bytes part r.ls r.cut in record {
         bytes = r.bytes;
         ls = r.ls ++ lines part;
@@ -207,6 +201,7 @@ module _ {D : Type 0} (facts : Ghosts D) where
           [],
           ap (λ v. lines (r.bytes ++ v)) (some_nil left'' rest ended_is here) ∙ ap (λ v. lines v) (append-nil r.bytes) ∙ cut ∙ sym (append-nil (r.ls ++ lines part)),
         );
-        broken = broken;
-        few = inside_few e (length (ended_lines (take limit r.bytes))) (answered broken.put) batch inside;
+        put = o.0;
+        broken = o.1;
+        few = inside_few e (length (ended_lines (take limit r.bytes))) (answered o.0) batch inside;
       }

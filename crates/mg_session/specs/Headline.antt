@@ -28,7 +28,7 @@ use Rattle.mg_model.specs.Lines.{lines}
 use Rattle.mg_model.specs.Print.{answered, hex_text, ok_text, spaced, text}
 use Rattle.mg_model.specs.Settings.{Settings}
 use Rattle.mg_model.specs.State.{State}
-use Rattle.mg_model.specs.Step.{after, prefix, step}
+use Rattle.mg_model.specs.Step.{after, step}
 use Rattle.mg_model.specs.Volume.{Damaged, Is, NotVolume, OldVolume, VolumeRead, volume}
 use Rattle.mg_model.specs.Warmth.{cost}
 use Rattle.mg_session.specs.declared.batches.Ended.{Ended}
@@ -97,37 +97,39 @@ abbrev pub taken_of : List ℕ → List ℕ → List ℕ
 taken_of input rest = take (length input - length rest) input
 
 -- A session: what is put
+-- A machine is told by two functions of the lines that it takes: `said`, the text of its replies to them, and `kept`, the
+-- state of its volume after them. On a volume of the state `s` alone they are `text s` and `after s`.
 
 -- the replies to an input
-abbrev pub replies : State → List ℕ → List ℕ
-replies s input = text s (lines input)
+abbrev pub replies : (List Line → List ℕ) → List ℕ → List ℕ
+replies said input = said (lines input)
 
 -- what the sink took is a prefix of the replies to the whole input
-abbrev pub AnswersPrefix : State → Option (List ℕ) → Option (List ℕ) → Option (List ℕ) → Type 0
-AnswersPrefix s left taken taken' = IfSome left (λ input. AppendsPrefix taken taken' (replies s input))
+abbrev pub AnswersPrefix : (List Line → List ℕ) → Option (List ℕ) → Option (List ℕ) → Option (List ℕ) → Type 0
+AnswersPrefix said left taken taken' = IfSome left (λ input. AppendsPrefix taken taken' (replies said input))
 
 -- the whole input was read, and all of it is answered
-abbrev pub AnswersAll : State → Option (List ℕ) → Option (List ℕ) → Option (List ℕ) → Option (List ℕ) → Type 0
-AnswersAll s left left' taken taken' = IfSome left (λ input. (left' ≡ Some []) × Appends taken taken' (replies s input))
+abbrev pub AnswersAll : (List Line → List ℕ) → Option (List ℕ) → Option (List ℕ) → Option (List ℕ) → Option (List ℕ) → Type 0
+AnswersAll said left left' taken taken' = IfSome left (λ input. (left' ≡ Some []) × Appends taken taken' (replies said input))
 
 -- what the sink took is the replies to some first lines of the input, and no part of another
-abbrev pub AnswersLines : State → Option (List ℕ) → Option (List ℕ) → Option (List ℕ) → Type 0
-AnswersLines s left taken taken' = IfSome left (λ input. (k : ℕ) × (k ≤ length (lines input)) × Appends taken taken' (text s (take k (lines input))))
+abbrev pub AnswersLines : (List Line → List ℕ) → Option (List ℕ) → Option (List ℕ) → Option (List ℕ) → Type 0
+AnswersLines said left taken taken' = IfSome left (λ input. (k : ℕ) × (k ≤ length (lines input)) × Appends taken taken' (said (take k (lines input))))
 
--- What the sink took of a session from the state `s` that ended with this status.
-pub record Answers (s : State) (result : Status) (left left' taken taken' : Option (List ℕ)) : Type 0 where
+-- What the sink took of a session that ended with this status.
+pub record Answers (said : List Line → List ℕ) (result : Status) (left left' taken taken' : Option (List ℕ)) : Type 0 where
   -- At each status it is a prefix of the replies to the whole input.
-  pub prefix : AnswersPrefix s left taken taken'
+  pub prefix : AnswersPrefix said left taken taken'
   -- At the end the source was read whole, and the sink took the replies to all of it.
-  pub done : result ≡ status.Done → AnswersAll s left left' taken taken'
+  pub done : result ≡ status.Done → AnswersAll said left left' taken taken'
   -- Where the disk or the source failed, or too much came, it is the replies to some first lines, each of them whole.
-  pub lines_disk : result ≡ status.Disk → AnswersLines s left taken taken'
-  pub lines_source : result ≡ status.Source → AnswersLines s left taken taken'
-  pub lines_too_long : result ≡ status.TooLong → AnswersLines s left taken taken'
+  pub lines_disk : result ≡ status.Disk → AnswersLines said left taken taken'
+  pub lines_source : result ≡ status.Source → AnswersLines said left taken taken'
+  pub lines_too_long : result ≡ status.TooLong → AnswersLines said left taken taken'
 
 -- reads give an image that spells the state after the whole input
-abbrev pub SpellsAfter : State → List ℕ → Option Image → Type 0
-SpellsAfter s input told = IsSomeAnd told (λ image. volume image ≡ Is (after s (lines input)))
+abbrev pub SpellsAfter : (List Line → State) → List ℕ → Option Image → Type 0
+SpellsAfter kept input told = IsSomeAnd told (λ image. volume image ≡ Is (kept (lines input)))
 
 -- A session: what it costs
 
@@ -139,8 +141,8 @@ IsWithinCost s left left' steps steps' =
 -- A session: what a stop leaves
 
 -- the image spells the state after some first ones of the lines
-abbrev pub IsPrefix : State → List Line → Image → Type 0
-IsPrefix s ls c = (k : ℕ) × (k ≤ length ls) × (volume c ≡ Is (prefix s ls k))
+abbrev pub IsPrefix : (List Line → State) → List Line → Image → Type 0
+IsPrefix kept ls c = (k : ℕ) × (k ≤ length ls) × (volume c ≡ Is (kept (take k ls)))
 
 -- so many lines at least are answered
 abbrev pub AreAnswered : Option (List ℕ) → Option (List ℕ) → ℕ → Type 0
@@ -152,34 +154,34 @@ pub record IsAnswered (input rest : List ℕ) (taken taken' : Option (List ℕ))
   pub came : k ≤ length (lines (taken_of input rest))
 
 -- At a stop now the volume has the state after some first lines: among them are all that are answered, and all came.
-abbrev pub KeepsAnswered : (Image → Type 0) → State → Option (List ℕ) → Option (List ℕ) → Option (List ℕ) → Option (List ℕ) → Type 0
-KeepsAnswered left_now s left left' taken taken' = IfSome left (λ input. IsSomeAnd left' (λ rest. (c : Image) → left_now c →
-    (k : ℕ) × IsAnswered input rest taken taken' k × (volume c ≡ Is (prefix s (lines input) k))))
+abbrev pub KeepsAnswered : (Image → Type 0) → (List Line → State) → Option (List ℕ) → Option (List ℕ) → Option (List ℕ) → Option (List ℕ) → Type 0
+KeepsAnswered left_now kept left left' taken taken' = IfSome left (λ input. IsSomeAnd left' (λ rest. (c : Image) → left_now c →
+    (k : ℕ) × IsAnswered input rest taken taken' k × (volume c ≡ Is (kept (take k (lines input))))))
 
 -- At a stop now the volume has the state after the answered lines and no others.
-abbrev pub KeepsExactly : (Image → Type 0) → State → Option (List ℕ) → Option (List ℕ) → Option (List ℕ) → Type 0
-KeepsExactly left_now s left taken taken' = IfSome left (λ input. IfSome taken (λ before. IsSomeAnd taken' (λ now. (c : Image) → left_now c →
-    volume c ≡ Is (prefix s (lines input) (answered (drop (length before) now))))))
+abbrev pub KeepsExactly : (Image → Type 0) → (List Line → State) → Option (List ℕ) → Option (List ℕ) → Option (List ℕ) → Type 0
+KeepsExactly left_now kept left taken taken' = IfSome left (λ input. IfSome taken (λ before. IsSomeAnd taken' (λ now. (c : Image) → left_now c →
+    volume c ≡ Is (kept (take (answered (drop (length before) now)) (lines input))))))
 
 -- Whatever a stop leaves now, it is one and the same state: that after some first lines, as above.
-abbrev pub KeepsOne : (Image → Type 0) → State → Option (List ℕ) → Option (List ℕ) → Option (List ℕ) → Option (List ℕ) → Type 0
-KeepsOne left_now s left left' taken taken' = IfSome left (λ input. IsSomeAnd left' (λ rest.
-    (k : ℕ) × IsAnswered input rest taken taken' k × ((c : Image) → left_now c → volume c ≡ Is (prefix s (lines input) k))))
+abbrev pub KeepsOne : (Image → Type 0) → (List Line → State) → Option (List ℕ) → Option (List ℕ) → Option (List ℕ) → Option (List ℕ) → Type 0
+KeepsOne left_now kept left left' taken taken' = IfSome left (λ input. IsSomeAnd left' (λ rest.
+    (k : ℕ) × IsAnswered input rest taken taken' k × ((c : Image) → left_now c → volume c ≡ Is (kept (take k (lines input))))))
 
--- What a stop leaves of a session from the state `s`.
-pub record Holds {D : Type 0} (facts : disks.Ghosts D) (s : State) (disk disk' : D) (left left' taken taken' : Option (List ℕ)) : Type 0 where
+-- What a stop leaves of a session.
+pub record Holds {D : Type 0} (facts : disks.Ghosts D) (kept : List Line → State) (disk disk' : D) (left left' taken taken' : Option (List ℕ)) : Type 0 where
   -- At each moment it leaves the state after some first lines.
-  pub moments : IfSome left (λ input. Leaves facts disk disk' (IsPrefix s (lines input)))
+  pub moments : IfSome left (λ input. Leaves facts disk disk' (IsPrefix kept (lines input)))
   -- At the end, whatever the status, these are at least the answered lines, and all of them came.
-  pub held : KeepsAnswered (facts.left_since disk' (facts.moment disk')) s left left' taken taken'
+  pub held : KeepsAnswered (facts.left_since disk' (facts.moment disk')) kept left left' taken taken'
 
 -- What a stop leaves once a session ended, and not by the disk.
-pub record HoldsExactly {D : Type 0} (facts : disks.Ghosts D) (s : State) (result : Status) (disk' : D) (left left' taken taken' : Option (List ℕ)) : Type 0 where
+pub record HoldsExactly {D : Type 0} (facts : disks.Ghosts D) (kept : List Line → State) (result : Status) (disk' : D) (left left' taken taken' : Option (List ℕ)) : Type 0 where
   -- Where the source failed, or gave too much, the answered lines are held and no others.
-  pub held_source : result ≡ status.Source → KeepsExactly (facts.left_since disk' (facts.moment disk')) s left taken taken'
-  pub held_too_long : result ≡ status.TooLong → KeepsExactly (facts.left_since disk' (facts.moment disk')) s left taken taken'
+  pub held_source : result ≡ status.Source → KeepsExactly (facts.left_since disk' (facts.moment disk')) kept left taken taken'
+  pub held_too_long : result ≡ status.TooLong → KeepsExactly (facts.left_since disk' (facts.moment disk')) kept left taken taken'
   -- Where the sink failed there is one state.
-  pub held_sink : result ≡ status.Sink → KeepsOne (facts.left_since disk' (facts.moment disk')) s left left' taken taken'
+  pub held_sink : result ≡ status.Sink → KeepsOne (facts.left_since disk' (facts.moment disk')) kept left left' taken taken'
 
 -- A session: when each status comes
 
@@ -259,11 +261,11 @@ EndsRun result =
 
 -- What `run` keeps, in batches of so many replies. `s` is the state of the volume that reads give at entry.
 pub record RunKeeps {D S K : Type 0} (facts : disks.Ghosts D) (from : sources.Ghosts S) (to : sinks.Ghosts K) (batch : ℕ) (result : Status) (disk disk' : D) (source source' : S) (sink sink' : K) (steps steps' : ℕ) : Type 0 where
-  pub answers : OnVolume (facts.seen disk) (λ s. Answers s result (from.left source) (from.left source') (to.taken sink) (to.taken sink'))
+  pub answers : OnVolume (facts.seen disk) (λ s. Answers (text s) result (from.left source) (from.left source') (to.taken sink) (to.taken sink'))
   -- At the end reads give the state after all lines.
-  pub kept : result ≡ status.Done → OnVolume (facts.seen disk) (λ s. IfSome (from.left source) (λ input. SpellsAfter s input (facts.seen disk')))
-  pub holds : NothingPending facts disk → OnVolume (facts.seen disk) (λ s. Holds facts s disk disk' (from.left source) (from.left source') (to.taken sink) (to.taken sink'))
-  pub holds_exactly : OnVolume (facts.seen disk) (λ s. HoldsExactly facts s result disk' (from.left source) (from.left source') (to.taken sink) (to.taken sink'))
+  pub kept : result ≡ status.Done → OnVolume (facts.seen disk) (λ s. IfSome (from.left source) (λ input. SpellsAfter (after s) input (facts.seen disk')))
+  pub holds : NothingPending facts disk → OnVolume (facts.seen disk) (λ s. Holds facts (after s) disk disk' (from.left source) (from.left source') (to.taken sink) (to.taken sink'))
+  pub holds_exactly : OnVolume (facts.seen disk) (λ s. HoldsExactly facts (after s) result disk' (from.left source) (from.left source') (to.taken sink) (to.taken sink'))
   -- At each status the counter rose by no more than the lines that were read may cost.
   pub cost : OnVolume (facts.seen disk) (λ s. IsWithinCost s (from.left source) (from.left source') steps steps')
   pub ends : Ends from to batch input_limit result source source' sink sink'
@@ -282,7 +284,7 @@ pub record RunKeeps {D S K : Type 0} (facts : disks.Ghosts D) (from : sources.Gh
 
 -- What `dry` keeps, from the fresh state of these settings, in batches of 64 replies.
 pub record DryKeeps {S K : Type 0} (from : sources.Ghosts S) (to : sinks.Ghosts K) (settings : Settings) (result : Status) (source source' : S) (sink sink' : K) (steps steps' : ℕ) : Type 0 where
-  pub answers : Answers (fresh settings) result (from.left source) (from.left source') (to.taken sink) (to.taken sink')
+  pub answers : Answers (text (fresh settings)) result (from.left source) (from.left source') (to.taken sink) (to.taken sink')
   -- At each status the counter rose by no more than the lines that were read may cost.
   pub cost : IsWithinCost (fresh settings) (from.left source) (from.left source') steps steps'
   pub ends : Ends from to 64 input_limit result source source' sink sink'

@@ -3,6 +3,7 @@ pub mod Commands
 pub mod Headline
 -- What the parts of a session do.
 pub mod Generating
+pub mod Machines
 pub mod Incoming
 pub mod Waiting
 pub mod Readings

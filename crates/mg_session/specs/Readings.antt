@@ -1,8 +1,7 @@
 -- The input of a session, piece by piece, and how the session ends.
-use Rattle.std.specs.Prelude.{ℕ, ◌+◌, ◌<◌, ◌≤◌, ◌≡◌, Bool, false, List, ◌++◌, length, take, Option, Some}
+use Rattle.std.specs.Prelude.{ℕ, ◌+◌, ◌<◌, ◌≤◌, ◌≡◌, false, List, ◌++◌, length, take, Option, Some}
 use Rattle.std.specs.List.{list_any}
 use Rattle.std.specs.Io.KnownBytes.{Consumes, IsAtEnd}
-use Rattle.mg_disk.specs.declared.disk.Disk.{Ghosts}
 use Rattle.mg_model.specs.declared.calls.Line.{Line}
 use Rattle.mg_model.specs.Print.{answered}
 use Rattle.mg_model.specs.Ended.{ended_lines}
@@ -10,26 +9,26 @@ use Rattle.mg_model.specs.Lines.{lines}
 use Rattle.mg_model.specs.Words.{is_newline}
 use Rattle.mg_session.specs.declared.batches.Ended.{Ended}
 use Rattle.mg_session.specs.declared.batches.Ended.TheVariants as ended
-use Rattle.mg_session.specs.Sessions.{Broken, Entry, Point, Session}
+use Rattle.mg_session.specs.Machines.{Entry, Point}
 use Rattle.mg_session.specs.Waiting.{no_replies}
 
 -- the input so far
-pub record Reading {D : Type 0} (facts : Ghosts D) (entry : Entry D) (left : Option (List ℕ)) (total : ℕ) (p : Point D) (part : List ℕ) (left' : Option (List ℕ)) : Type 0 where
+pub record Reading {M D : Type 0} (Session : Entry M D → List Line → Point M D → Type 0) (entry : Entry M D) (left : Option (List ℕ)) (total : ℕ) (p : Point M D) (part : List ℕ) (left' : Option (List ℕ)) : Type 0 where
   pub bytes : List ℕ
   pub read : Consumes left left' bytes
   pub count : length bytes ≡ total
   pub ls : List Line
   pub cut : (rest : List ℕ) → lines (bytes ++ rest) ≡ ls ++ lines (part ++ rest)
   pub whole : list_any is_newline part ≡ false
-  pub session : Session facts entry ls p
+  pub session : Session entry ls p
 
 -- the input was read to its end, its lines were stepped, and no reply waits
-pub record Finishes {D : Type 0} (facts : Ghosts D) (entry : Entry D) (left : Option (List ℕ)) (limit : ℕ) (p : Point D) (left' : Option (List ℕ)) : Type 0 where
+pub record Finishes {M D : Type 0} (Session : Entry M D → List Line → Point M D → Type 0) (entry : Entry M D) (left : Option (List ℕ)) (limit : ℕ) (p : Point M D) (left' : Option (List ℕ)) : Type 0 where
   pub bytes : List ℕ
   pub read : Consumes left left' bytes
   pub at_end : IsAtEnd left'
   pub within : length bytes ≤ limit
-  pub session : Session facts entry (lines bytes) p
+  pub session : Session entry (lines bytes) p
   pub empty : p.owed ≡ no_replies
 
 -- how many bytes were taken
@@ -47,7 +46,7 @@ Few ended.Disk calls replies batch = Unit {0}
 Few ended.Sink calls replies batch = Unit {0}
 
 -- The session ended before the end of its input.
-pub record Stops {D : Type 0} (facts : Ghosts D) (e : Ended) (entry : Entry D) (left : Option (List ℕ)) (limit batch most : ℕ) (alive : Bool) (steps : ℕ) (disk : D) (taken left' : Option (List ℕ)) : Type 0 where
+pub record Stops {M D : Type 0} (Broken : Ended → Entry M D → List Line → List ℕ → Point M D → Type 0) (e : Ended) (entry : Entry M D) (left : Option (List ℕ)) (limit batch most : ℕ) (p : Point M D) (left' : Option (List ℕ)) : Type 0 where
   pub bytes : List ℕ
   pub ls : List Line
   pub read : Consumes left left' bytes
@@ -57,5 +56,6 @@ pub record Stops {D : Type 0} (facts : Ghosts D) (e : Ended) (entry : Entry D) (
   pub came : (more : List Line) × (lines bytes ≡ ls ++ more)
   -- and of the whole input
   pub will : (rest : List ℕ) → left' ≡ Some rest → (more : List Line) × (lines (bytes ++ rest) ≡ ls ++ more)
-  pub broken : Broken facts e entry ls alive steps disk taken
-  pub few : Few e (length (ended_lines (take limit bytes))) (answered broken.put) batch
+  pub put : List ℕ
+  pub broken : Broken e entry ls put p
+  pub few : Few e (length (ended_lines (take limit bytes))) (answered put) batch

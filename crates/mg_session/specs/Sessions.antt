@@ -1,5 +1,4 @@
--- A session on a volume: which lines are kept and answered, which wait, and what a stop may leave. The lines that are cut
--- from the input and the lines that are stepped are told apart, so nothing here depends on how the input is cut.
+-- A session on a volume: which lines are kept and answered, which wait, and what a stop may leave.
 use Rattle.std.specs.Prelude.{ℕ, ◌≡◌, ◌≤◌, ◌+◌, Bool, false, true, List, [], ◌++◌, length, take, Option, Some}
 use Rattle.std.specs.Io.KnownBytes.{Appends}
 use Rattle.std.specs.Option.{ForSome}
@@ -18,42 +17,27 @@ use Rattle.mg_model.specs.Warmth.{cost, events}
 use Rattle.mg_session.specs.declared.batches.Ended.{Ended}
 use Rattle.mg_session.specs.declared.batches.Ended.TheVariants as ended
 use Rattle.mg_session.specs.Headline.{IsPrefix}
-use Rattle.mg_session.specs.Waiting.{Waiting}
+use Rattle.mg_session.specs.Machines.{Entry, Point}
 
 -- the image spells the state after some first ones of the lines, and so many at least
 abbrev pub IsBetween : ℕ → State → List Line → Image → Type 0
 IsBetween low s ls c = (k : ℕ) × (low ≤ k) × (k ≤ length ls) × (volume c ≡ Is (after s (take k ls)))
 
--- where a session began
-pub record Entry (D : Type 0) : Type 0 where
-  pub kernel : Kernel
-  pub disk : D
-  pub taken : Option (List ℕ)
-  pub steps : ℕ
-
--- where it stands
-pub record Point (D : Type 0) : Type 0 where
-  pub kernel : Kernel
-  pub disk : D
-  pub owed : Waiting
-  pub taken : Option (List ℕ)
-  pub steps : ℕ
-
 -- where reads were told: `done` is kept and answered, `waiting` was stepped since
-pub record Stands {D : Type 0} (facts : Ghosts D) (entry : Entry D) (s : State) (done waiting : List Line) (put : List ℕ) (p : Point D) : Type 0 where
+pub record Stands {D : Type 0} (facts : Ghosts D) (entry : Entry Kernel D) (s : State) (done waiting : List Line) (put : List ℕ) (p : Point Kernel D) : Type 0 where
   pub image : Image
   pub is : facts.seen p.disk ≡ Some image
   pub kept : volume image ≡ Is (after s done)
-  pub now : now_of p.kernel image ≡ after s (done ++ waiting)
+  pub now : now_of p.machine image ≡ after s (done ++ waiting)
   pub replies : put ≡ text s done
   pub owed : p.owed.text ≡ text (after s done) waiting
-  pub leaves : Leaves facts entry.disk p.disk (IsPrefix s (done ++ waiting))
+  pub leaves : Leaves facts entry.disk p.disk (IsPrefix (after s) (done ++ waiting))
   -- each key is kept that would be warm, and the counter rose by no more than the lines cost
-  pub warm : KeepsWarm (events [] s (done ++ waiting)) (λ key. keeps_key p.kernel key)
+  pub warm : KeepsWarm (events [] s (done ++ waiting)) (λ key. keeps_key p.machine key)
   pub spent : p.steps ≤ entry.steps + cost s (done ++ waiting)
 
 -- since `entry` these lines were stepped
-pub record Session {D : Type 0} (facts : Ghosts D) (entry : Entry D) (ls : List Line) (p : Point D) : Type 0 where
+pub record Session {D : Type 0} (facts : Ghosts D) (entry : Entry Kernel D) (ls : List Line) (p : Point Kernel D) : Type 0 where
   pub done : List Line
   pub waiting : List Line
   pub put : List ℕ
@@ -62,14 +46,7 @@ pub record Session {D : Type 0} (facts : Ghosts D) (entry : Entry D) (ls : List 
   pub answers : answered put ≡ length done
   pub owes : answered p.owed.text ≡ length waiting
   pub count : p.owed.count ≡ length waiting
-  pub told : ForSome (facts.seen entry.disk) (λ image. Stands facts entry (now_of entry.kernel image) done waiting put p)
-
--- a line ends a session only by the disk or by the sink
-abbrev pub IsInside : Ended → Type 0
-IsInside ended.Disk = Unit {0}
-IsInside ended.Sink = Unit {0}
-IsInside ended.Source = ⊥
-IsInside ended.TooLong = ⊥
+  pub told : ForSome (facts.seen entry.disk) (λ image. Stands facts entry (now_of entry.machine image) done waiting put p)
 
 -- what a stop may leave where a session ended so, with so many lines answered; a disk that failed in a commit leaves a
 -- kernel that is not live
@@ -88,33 +65,20 @@ PutsWhole ended.TooLong s ls put = put ≡ text s (take (answered put) ls)
 PutsWhole ended.Sink s ls put = Unit {0}
 
 -- where reads were told: what is left of a session that ended so
-pub record Remains {D : Type 0} (facts : Ghosts D) (e : Ended) (entry : Entry D) (s : State) (ls : List Line) (put : List ℕ) (alive : Bool) (steps : ℕ) (disk : D) : Type 0 where
+pub record Remains {D : Type 0} (facts : Ghosts D) (e : Ended) (entry : Entry Kernel D) (s : State) (ls : List Line) (put : List ℕ) (alive : Bool) (steps : ℕ) (disk : D) : Type 0 where
   pub more : List ℕ
   pub replies : text s ls ≡ put ++ more
   pub whole : PutsWhole e s ls put
-  pub leaves : Leaves facts entry.disk disk (IsPrefix s ls)
+  pub leaves : Leaves facts entry.disk disk (IsPrefix (after s) ls)
   pub held : (c : Image) → facts.left_since disk (facts.moment disk) c → Held e alive (answered put) s ls c
   pub spent : steps ≤ entry.steps + cost s ls
 
--- the session ended so, with a kernel that is live or not and with this count, and had stepped these lines
-pub record Broken {D : Type 0} (facts : Ghosts D) (e : Ended) (entry : Entry D) (ls : List Line) (alive : Bool) (steps : ℕ) (disk : D) (taken : Option (List ℕ)) : Type 0 where
-  pub put : List ℕ
+-- the session ended so, with so much put, a kernel that is live or not and with this count, and had stepped these lines
+pub record Broken {D : Type 0} (facts : Ghosts D) (e : Ended) (entry : Entry Kernel D) (ls : List Line) (put : List ℕ) (alive : Bool) (steps : ℕ) (disk : D) (taken : Option (List ℕ)) : Type 0 where
   pub sink : Appends entry.taken taken put
   pub fewer : answered put ≤ length ls
-  pub told : ForSome (facts.seen entry.disk) (λ image. Remains facts e entry (now_of entry.kernel image) ls put alive steps disk)
+  pub told : ForSome (facts.seen entry.disk) (λ image. Remains facts e entry (now_of entry.machine image) ls put alive steps disk)
 
-module _ {D : Type 0} (facts : Ghosts D) where
-  -- whatever was stepped before, these lines were stepped from old to new
-  abbrev pub Runs : Point D → List Line → Point D → Type 0
-  Runs old ls new = (entry : Entry D) (sofar : List Line) → Session facts entry sofar old → Session facts entry (sofar ++ ls) new
-
-  -- the session ended between them
-  abbrev pub Halts : Ended → Point D → List Line → Point D → Type 0
-  Halts e old ls new = (entry : Entry D) (sofar : List Line) → Session facts entry sofar old → Broken facts e entry (sofar ++ ls) (is_live new.kernel) new.steps new.disk new.taken
-
-  -- the same, with no line between them
-  abbrev pub Closes : Point D → Point D → Type 0
-  Closes old new = (entry : Entry D) (ls : List Line) → Session facts entry ls old → Session facts entry ls new
-
-  abbrev pub FailsToClose : Ended → Point D → Point D → Type 0
-  FailsToClose e old new = (entry : Entry D) (ls : List Line) → Session facts entry ls old → Broken facts e entry ls (is_live new.kernel) new.steps new.disk new.taken
+-- the same, where it stands at a point
+abbrev pub BrokenAt : {D : Type 0} → Ghosts D → Ended → Entry Kernel D → List Line → List ℕ → Point Kernel D → Type 0
+BrokenAt facts e entry ls put p = Broken facts e entry ls put (is_live p.machine) p.steps p.disk p.taken

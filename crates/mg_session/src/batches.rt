@@ -5,7 +5,8 @@ ghost use Rattle.mg_faults.specs.Faults.{CountGoesOn, Rose};
 ghost use Rattle.mg_kernel.specs.Meaning.{StandsOn, is_live, staged_of, words_in};
 ghost use Rattle.mg_model.specs.Counts.{CountsAlike};
 ghost use Rattle.mg_session.specs.Headline.{UnlessDisk};
-ghost use Rattle.mg_session.specs.Sessions.{Closes, FailsToClose, Halts, IsInside, Runs};
+ghost use Rattle.mg_session.specs.Machines.{Closes, FailsToClose, Halts, IsInside, Runs};
+ghost use Rattle.mg_session.specs.Sessions.{BrokenAt, Session};
 ghost use Rattle.mg_session.specs.Waiting.{no_replies};
 
 use crate::buffers::Buffers;
@@ -47,12 +48,12 @@ pub fn close<D: Disk, K: Sink>(
 ) -> Result<(), Ended>
     requires live { IsTrue (is_live kernel.old) }
     requires stands { StandsOn D.Disk kernel.old disk.old }
-    ensures closes { OnOk result ((n : ℕ) → Closes D.Disk
-        (record { kernel = kernel.old; disk = disk.old; owed = owed.old; taken = K.taken sink.old; steps = n })
-        (record { kernel = kernel.new; disk = disk.new; owed = owed.new; taken = K.taken sink.new; steps = n })) }
-    ensures halts { IfErr result (λ e. (n : ℕ) → FailsToClose D.Disk e
-        (record { kernel = kernel.old; disk = disk.old; owed = owed.old; taken = K.taken sink.old; steps = n })
-        (record { kernel = kernel.new; disk = disk.new; owed = owed.new; taken = K.taken sink.new; steps = n })) }
+    ensures closes { OnOk result ((n : ℕ) → Closes (Session D.Disk)
+        (record { machine = kernel.old; disk = disk.old; owed = owed.old; taken = K.taken sink.old; steps = n })
+        (record { machine = kernel.new; disk = disk.new; owed = owed.new; taken = K.taken sink.new; steps = n })) }
+    ensures halts { IfErr result (λ e. (n : ℕ) → FailsToClose (Session D.Disk) (BrokenAt D.Disk) e
+        (record { machine = kernel.old; disk = disk.old; owed = owed.old; taken = K.taken sink.old; steps = n })
+        (record { machine = kernel.new; disk = disk.new; owed = owed.new; taken = K.taken sink.new; steps = n })) }
     ensures live { UnlessDisk result (IsTrue (is_live kernel.new)) }
     ensures stands { UnlessDisk result (StandsOn D.Disk kernel.new disk.new) }
     ensures staged { OnOk result (staged_of kernel.new ≡ 0) }
@@ -92,12 +93,12 @@ pub fn take_line<D: Disk, K: Sink, L: Ledger>(
     requires staged { staged_of kernel.old ≤ 28 }
     requires open_batch { owed.old.count < batch }
     requires small { batch ≤ 64 }
-    ensures steps { OnOk result (Runs D.Disk
-        (record { kernel = kernel.old; disk = disk.old; owed = owed.old; taken = K.taken sink.old; steps = steps.old }) (line.now ∷ [])
-        (record { kernel = kernel.new; disk = disk.new; owed = owed.new; taken = K.taken sink.new; steps = steps.new })) }
-    ensures halts { IfErr result (λ e. Halts D.Disk e
-        (record { kernel = kernel.old; disk = disk.old; owed = owed.old; taken = K.taken sink.old; steps = steps.old }) (line.now ∷ [])
-        (record { kernel = kernel.new; disk = disk.new; owed = owed.new; taken = K.taken sink.new; steps = steps.new })) }
+    ensures steps { OnOk result (Runs (Session D.Disk)
+        (record { machine = kernel.old; disk = disk.old; owed = owed.old; taken = K.taken sink.old; steps = steps.old }) (line.now ∷ [])
+        (record { machine = kernel.new; disk = disk.new; owed = owed.new; taken = K.taken sink.new; steps = steps.new })) }
+    ensures halts { IfErr result (λ e. Halts (Session D.Disk) (BrokenAt D.Disk) e
+        (record { machine = kernel.old; disk = disk.old; owed = owed.old; taken = K.taken sink.old; steps = steps.old }) (line.now ∷ [])
+        (record { machine = kernel.new; disk = disk.new; owed = owed.new; taken = K.taken sink.new; steps = steps.new })) }
     ensures live { UnlessDisk result (IsTrue (is_live kernel.new)) }
     ensures stands { UnlessDisk result (StandsOn D.Disk kernel.new disk.new) }
     ensures staged { OnOk result (staged_of kernel.new ≤ 28) }
@@ -118,40 +119,5 @@ pub fn take_line<D: Disk, K: Sink, L: Ledger>(
     if owed.count() < batch && kernel.staged() <= STAGED_LIMIT {
         return Ok(());
     }
-    close(kernel, disk, sink, owed)
-}
-
-/// One line is stepped, and the batch closes with it.
-pub fn line_and_close<D: Disk, K: Sink, L: Ledger>(
-    kernel: &mut Kernel,
-    disk: &mut D,
-    sink: &mut K,
-    owed: &mut Buffers,
-    line: &Line,
-    batch: u64,
-    steps: &mut Steps<L>,
-) -> Result<(), Ended>
-    requires live { IsTrue (is_live kernel.old) }
-    requires stands { StandsOn D.Disk kernel.old disk.old }
-    requires staged { staged_of kernel.old ≤ 28 }
-    requires open_batch { owed.old.count < batch }
-    requires small { batch ≤ 64 }
-    ensures steps { OnOk result (Runs D.Disk
-        (record { kernel = kernel.old; disk = disk.old; owed = owed.old; taken = K.taken sink.old; steps = steps.old }) (line.now ∷ [])
-        (record { kernel = kernel.new; disk = disk.new; owed = owed.new; taken = K.taken sink.new; steps = steps.new })) }
-    ensures halts { IfErr result (λ e. Halts D.Disk e
-        (record { kernel = kernel.old; disk = disk.old; owed = owed.old; taken = K.taken sink.old; steps = steps.old }) (line.now ∷ [])
-        (record { kernel = kernel.new; disk = disk.new; owed = owed.new; taken = K.taken sink.new; steps = steps.new })) }
-    ensures live { UnlessDisk result (IsTrue (is_live kernel.new)) }
-    ensures stands { UnlessDisk result (StandsOn D.Disk kernel.new disk.new) }
-    ensures staged { OnOk result (staged_of kernel.new ≡ 0) }
-    ensures empty { OnOk result (owed.new ≡ no_replies) }
-    ensures counted { CountsAlike (words_in kernel.old) (words_in kernel.new) steps.old steps.new }
-    ensures sink_count { CountGoesOn (K.faults sink.old) (K.faults sink.new) (K.is_spent sink.old) (K.is_spent sink.new) }
-    ensures disk { DiskCallsBy D.Disk disk.old disk.new (result ≡ Err Ended.Disk) }
-    ensures sink { result ≡ Err Ended.Sink → Rose (K.faults sink.old) (K.faults sink.new) (K.is_spent sink.new) }
-    ensures only { IfErr result IsInside }
-{
-    take_line(kernel, disk, sink, owed, line, batch, steps)?;
     close(kernel, disk, sink, owed)
 }

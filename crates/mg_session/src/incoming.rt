@@ -3,27 +3,26 @@ ghost use Rattle.std.specs.Prelude.{◌≡◌, ◌<◌, ◌≤◌, [], ◌∷◌
 ghost use Rattle.std.specs.List.{list_any};
 ghost use Rattle.mg_disk.specs.Stops.{DiskCallsBy};
 ghost use Rattle.mg_faults.specs.Faults.{CountGoesOn, Rose};
-ghost use Rattle.mg_kernel.specs.Meaning.{StandsOn, is_live, staged_of, words_in};
 ghost use Rattle.mg_model.specs.Lines.{lines};
 ghost use Rattle.mg_model.specs.Words.{is_newline};
 ghost use Rattle.mg_model.specs.Counts.{CountsAlike};
 ghost use Rattle.mg_session.specs.Headline.{UnlessDisk};
 ghost use Rattle.mg_session.specs.Incoming.{Breaks, Goes};
-ghost use Rattle.mg_session.specs.Sessions.{Halts, IsInside, Runs};
+ghost use Rattle.mg_session.specs.Machines.{Halts, IsInside, Runs};
 ghost use Rattle.mg_session.specs.Waiting.{no_replies};
 
-use crate::batches::{Ended, close, line_and_close, take_line};
+use crate::batches::Ended;
 use crate::buffers::Buffers;
+use crate::machine::Machine;
 use crate::partial::PartialLine;
 use mg_disk::Disk;
 use mg_io::Sink;
-use mg_kernel::Kernel;
-use mg_model::Steps;
+use mg_model::{Line, Steps};
 use std::sync::ledger::Ledger;
 
 /// One byte came.
-fn take_byte<D: Disk, K: Sink, L: Ledger>(
-    kernel: &mut Kernel,
+fn take_byte<M: Machine, D: Disk, K: Sink, L: Ledger>(
+    machine: &mut M,
     disk: &mut D,
     sink: &mut K,
     owed: &mut Buffers,
@@ -32,23 +31,23 @@ fn take_byte<D: Disk, K: Sink, L: Ledger>(
     batch: u64,
     steps: &mut Steps<L>,
 ) -> Result<(), Ended>
-    requires live { IsTrue (is_live kernel.old) }
-    requires stands { StandsOn D.Disk kernel.old disk.old }
-    requires staged { staged_of kernel.old ≤ 28 }
+    requires live { IsTrue (M.is_live machine.old) }
+    requires stands { M.StandsOn D D.Disk machine.old disk.old }
+    requires staged { M.staged_of machine.old ≤ 28 }
     requires open_batch { owed.old.count < batch }
     requires small { batch ≤ 64 }
-    ensures goes { OnOk result (Goes D.Disk
-        (record { kernel = kernel.old; disk = disk.old; owed = owed.old; taken = K.taken sink.old; steps = steps.old }) part.old (b ∷ [])
-        (record { kernel = kernel.new; disk = disk.new; owed = owed.new; taken = K.taken sink.new; steps = steps.new }) part.new) }
-    ensures breaks { IfErr result (λ e. Breaks D.Disk e
-        (record { kernel = kernel.old; disk = disk.old; owed = owed.old; taken = K.taken sink.old; steps = steps.old }) part.old (b ∷ [])
-        (record { kernel = kernel.new; disk = disk.new; owed = owed.new; taken = K.taken sink.new; steps = steps.new })) }
+    ensures goes { OnOk result (Goes (M.Session D D.Disk)
+        (record { machine = machine.old; disk = disk.old; owed = owed.old; taken = K.taken sink.old; steps = steps.old }) part.old (b ∷ [])
+        (record { machine = machine.new; disk = disk.new; owed = owed.new; taken = K.taken sink.new; steps = steps.new }) part.new) }
+    ensures breaks { IfErr result (λ e. Breaks (M.Session D D.Disk) (M.Broken D D.Disk) e
+        (record { machine = machine.old; disk = disk.old; owed = owed.old; taken = K.taken sink.old; steps = steps.old }) part.old (b ∷ [])
+        (record { machine = machine.new; disk = disk.new; owed = owed.new; taken = K.taken sink.new; steps = steps.new })) }
     ensures whole { list_any is_newline part.new ≡ false }
-    ensures live { UnlessDisk result (IsTrue (is_live kernel.new)) }
-    ensures stands { UnlessDisk result (StandsOn D.Disk kernel.new disk.new) }
-    ensures staged { OnOk result (staged_of kernel.new ≤ 28) }
+    ensures live { UnlessDisk result (IsTrue (M.is_live machine.new)) }
+    ensures stands { UnlessDisk result (M.StandsOn D D.Disk machine.new disk.new) }
+    ensures staged { OnOk result (M.staged_of machine.new ≤ 28) }
     ensures open_batch { OnOk result (owed.new.count < batch) }
-    ensures counted { CountsAlike (words_in kernel.old) (words_in kernel.new) steps.old steps.new }
+    ensures counted { CountsAlike (M.words_in machine.old) (M.words_in machine.new) steps.old steps.new }
     ensures sink_count { CountGoesOn (K.faults sink.old) (K.faults sink.new) (K.is_spent sink.old) (K.is_spent sink.new) }
     ensures disk { DiskCallsBy D.Disk disk.old disk.new (result ≡ Err Ended.Disk) }
     ensures sink { result ≡ Err Ended.Sink → Rose (K.faults sink.old) (K.faults sink.new) (K.is_spent sink.new) }
@@ -60,13 +59,13 @@ fn take_byte<D: Disk, K: Sink, L: Ledger>(
     }
     match part.finish() {
         None => Ok(()),
-        Some(line) => take_line(kernel, disk, sink, owed, &line, batch, steps),
+        Some(line) => machine.take_line(disk, sink, owed, &line, batch, steps),
     }
 }
 
 /// Some bytes came.
-pub fn take_bytes<D: Disk, K: Sink, L: Ledger>(
-    kernel: &mut Kernel,
+pub fn take_bytes<M: Machine, D: Disk, K: Sink, L: Ledger>(
+    machine: &mut M,
     disk: &mut D,
     sink: &mut K,
     owed: &mut Buffers,
@@ -75,31 +74,31 @@ pub fn take_bytes<D: Disk, K: Sink, L: Ledger>(
     batch: u64,
     steps: &mut Steps<L>,
 ) -> Result<(), Ended>
-    requires live { IsTrue (is_live kernel.old) }
-    requires stands { StandsOn D.Disk kernel.old disk.old }
-    requires staged { staged_of kernel.old ≤ 28 }
+    requires live { IsTrue (M.is_live machine.old) }
+    requires stands { M.StandsOn D D.Disk machine.old disk.old }
+    requires staged { M.staged_of machine.old ≤ 28 }
     requires open_batch { owed.old.count < batch }
     requires small { batch ≤ 64 }
     requires whole { list_any is_newline part.old ≡ false }
-    ensures goes { OnOk result (Goes D.Disk
-        (record { kernel = kernel.old; disk = disk.old; owed = owed.old; taken = K.taken sink.old; steps = steps.old }) part.old bytes.now
-        (record { kernel = kernel.new; disk = disk.new; owed = owed.new; taken = K.taken sink.new; steps = steps.new }) part.new) }
-    ensures breaks { IfErr result (λ e. Breaks D.Disk e
-        (record { kernel = kernel.old; disk = disk.old; owed = owed.old; taken = K.taken sink.old; steps = steps.old }) part.old bytes.now
-        (record { kernel = kernel.new; disk = disk.new; owed = owed.new; taken = K.taken sink.new; steps = steps.new })) }
+    ensures goes { OnOk result (Goes (M.Session D D.Disk)
+        (record { machine = machine.old; disk = disk.old; owed = owed.old; taken = K.taken sink.old; steps = steps.old }) part.old bytes.now
+        (record { machine = machine.new; disk = disk.new; owed = owed.new; taken = K.taken sink.new; steps = steps.new }) part.new) }
+    ensures breaks { IfErr result (λ e. Breaks (M.Session D D.Disk) (M.Broken D D.Disk) e
+        (record { machine = machine.old; disk = disk.old; owed = owed.old; taken = K.taken sink.old; steps = steps.old }) part.old bytes.now
+        (record { machine = machine.new; disk = disk.new; owed = owed.new; taken = K.taken sink.new; steps = steps.new })) }
     ensures whole { OnOk result (list_any is_newline part.new ≡ false) }
-    ensures live { UnlessDisk result (IsTrue (is_live kernel.new)) }
-    ensures stands { UnlessDisk result (StandsOn D.Disk kernel.new disk.new) }
-    ensures staged { OnOk result (staged_of kernel.new ≤ 28) }
+    ensures live { UnlessDisk result (IsTrue (M.is_live machine.new)) }
+    ensures stands { UnlessDisk result (M.StandsOn D D.Disk machine.new disk.new) }
+    ensures staged { OnOk result (M.staged_of machine.new ≤ 28) }
     ensures open_batch { OnOk result (owed.new.count < batch) }
-    ensures counted { CountsAlike (words_in kernel.old) (words_in kernel.new) steps.old steps.new }
+    ensures counted { CountsAlike (M.words_in machine.old) (M.words_in machine.new) steps.old steps.new }
     ensures sink_count { CountGoesOn (K.faults sink.old) (K.faults sink.new) (K.is_spent sink.old) (K.is_spent sink.new) }
     ensures disk { DiskCallsBy D.Disk disk.old disk.new (result ≡ Err Ended.Disk) }
     ensures sink { result ≡ Err Ended.Sink → Rose (K.faults sink.old) (K.faults sink.new) (K.is_spent sink.new) }
     ensures only { IfErr result IsInside }
 {
     for b in bytes {
-        match take_byte(kernel, disk, sink, owed, part, *b, batch, steps) {
+        match take_byte(machine, disk, sink, owed, part, *b, batch, steps) {
             Ok(()) => {}
             Err(ended) => return Err(ended),
         }
@@ -107,9 +106,44 @@ pub fn take_bytes<D: Disk, K: Sink, L: Ledger>(
     Ok(())
 }
 
+/// One line is stepped, and the batch closes with it.
+fn line_and_close<M: Machine, D: Disk, K: Sink, L: Ledger>(
+    machine: &mut M,
+    disk: &mut D,
+    sink: &mut K,
+    owed: &mut Buffers,
+    line: &Line,
+    batch: u64,
+    steps: &mut Steps<L>,
+) -> Result<(), Ended>
+    requires live { IsTrue (M.is_live machine.old) }
+    requires stands { M.StandsOn D D.Disk machine.old disk.old }
+    requires staged { M.staged_of machine.old ≤ 28 }
+    requires open_batch { owed.old.count < batch }
+    requires small { batch ≤ 64 }
+    ensures steps { OnOk result (Runs (M.Session D D.Disk)
+        (record { machine = machine.old; disk = disk.old; owed = owed.old; taken = K.taken sink.old; steps = steps.old }) (line.now ∷ [])
+        (record { machine = machine.new; disk = disk.new; owed = owed.new; taken = K.taken sink.new; steps = steps.new })) }
+    ensures halts { IfErr result (λ e. Halts (M.Session D D.Disk) (M.Broken D D.Disk) e
+        (record { machine = machine.old; disk = disk.old; owed = owed.old; taken = K.taken sink.old; steps = steps.old }) (line.now ∷ [])
+        (record { machine = machine.new; disk = disk.new; owed = owed.new; taken = K.taken sink.new; steps = steps.new })) }
+    ensures live { UnlessDisk result (IsTrue (M.is_live machine.new)) }
+    ensures stands { UnlessDisk result (M.StandsOn D D.Disk machine.new disk.new) }
+    ensures staged { OnOk result (M.staged_of machine.new ≡ 0) }
+    ensures empty { OnOk result (owed.new ≡ no_replies) }
+    ensures counted { CountsAlike (M.words_in machine.old) (M.words_in machine.new) steps.old steps.new }
+    ensures sink_count { CountGoesOn (K.faults sink.old) (K.faults sink.new) (K.is_spent sink.old) (K.is_spent sink.new) }
+    ensures disk { DiskCallsBy D.Disk disk.old disk.new (result ≡ Err Ended.Disk) }
+    ensures sink { result ≡ Err Ended.Sink → Rose (K.faults sink.old) (K.faults sink.new) (K.is_spent sink.new) }
+    ensures only { IfErr result IsInside }
+{
+    machine.take_line(disk, sink, owed, line, batch, steps)?;
+    machine.close(disk, sink, owed)
+}
+
 /// The input ended: the last line, which may lack its newline, is stepped, and the batch closes.
-pub fn finish<D: Disk, K: Sink, L: Ledger>(
-    kernel: &mut Kernel,
+pub fn finish<M: Machine, D: Disk, K: Sink, L: Ledger>(
+    machine: &mut M,
     disk: &mut D,
     sink: &mut K,
     owed: &mut Buffers,
@@ -117,29 +151,29 @@ pub fn finish<D: Disk, K: Sink, L: Ledger>(
     batch: u64,
     steps: &mut Steps<L>,
 ) -> Result<(), Ended>
-    requires live { IsTrue (is_live kernel.old) }
-    requires stands { StandsOn D.Disk kernel.old disk.old }
-    requires staged { staged_of kernel.old ≤ 28 }
+    requires live { IsTrue (M.is_live machine.old) }
+    requires stands { M.StandsOn D D.Disk machine.old disk.old }
+    requires staged { M.staged_of machine.old ≤ 28 }
     requires open_batch { owed.old.count < batch }
     requires small { batch ≤ 64 }
-    ensures steps { OnOk result (Runs D.Disk
-        (record { kernel = kernel.old; disk = disk.old; owed = owed.old; taken = K.taken sink.old; steps = steps.old }) (lines part.old)
-        (record { kernel = kernel.new; disk = disk.new; owed = owed.new; taken = K.taken sink.new; steps = steps.new })) }
-    ensures halts { IfErr result (λ e. Halts D.Disk e
-        (record { kernel = kernel.old; disk = disk.old; owed = owed.old; taken = K.taken sink.old; steps = steps.old }) (lines part.old)
-        (record { kernel = kernel.new; disk = disk.new; owed = owed.new; taken = K.taken sink.new; steps = steps.new })) }
-    ensures live { UnlessDisk result (IsTrue (is_live kernel.new)) }
-    ensures stands { UnlessDisk result (StandsOn D.Disk kernel.new disk.new) }
-    ensures staged { OnOk result (staged_of kernel.new ≡ 0) }
+    ensures steps { OnOk result (Runs (M.Session D D.Disk)
+        (record { machine = machine.old; disk = disk.old; owed = owed.old; taken = K.taken sink.old; steps = steps.old }) (lines part.old)
+        (record { machine = machine.new; disk = disk.new; owed = owed.new; taken = K.taken sink.new; steps = steps.new })) }
+    ensures halts { IfErr result (λ e. Halts (M.Session D D.Disk) (M.Broken D D.Disk) e
+        (record { machine = machine.old; disk = disk.old; owed = owed.old; taken = K.taken sink.old; steps = steps.old }) (lines part.old)
+        (record { machine = machine.new; disk = disk.new; owed = owed.new; taken = K.taken sink.new; steps = steps.new })) }
+    ensures live { UnlessDisk result (IsTrue (M.is_live machine.new)) }
+    ensures stands { UnlessDisk result (M.StandsOn D D.Disk machine.new disk.new) }
+    ensures staged { OnOk result (M.staged_of machine.new ≡ 0) }
     ensures empty { OnOk result (owed.new ≡ no_replies) }
-    ensures counted { CountsAlike (words_in kernel.old) (words_in kernel.new) steps.old steps.new }
+    ensures counted { CountsAlike (M.words_in machine.old) (M.words_in machine.new) steps.old steps.new }
     ensures sink_count { CountGoesOn (K.faults sink.old) (K.faults sink.new) (K.is_spent sink.old) (K.is_spent sink.new) }
     ensures disk { DiskCallsBy D.Disk disk.old disk.new (result ≡ Err Ended.Disk) }
     ensures sink { result ≡ Err Ended.Sink → Rose (K.faults sink.old) (K.faults sink.new) (K.is_spent sink.new) }
     ensures only { IfErr result IsInside }
 {
     match part.finish() {
-        None => close(kernel, disk, sink, owed),
-        Some(line) => line_and_close(kernel, disk, sink, owed, &line, batch, steps),
+        None => machine.close(disk, sink, owed),
+        Some(line) => line_and_close(machine, disk, sink, owed, &line, batch, steps),
     }
 }

@@ -6,10 +6,14 @@
 //! for every disk, source and sink, those that fail at any call among them: what the sink took, how much the source gave, what
 //! the disk holds and what a stop may leave of it at each moment, and when each status comes.
 //!
+//! The loop from bytes to lines, [`serve_lines`], is one for every [`Machine`]: what a machine has done is told in its own words,
+//! and the loop joins them. [`serve`] is that loop over a kernel.
+//!
 //! The definitions stand in `specs/`: `Commands` (what the words spell) and `Headline` (what each command keeps, in one
 //! record, which is a clause of [`top`], and the words of it); for the layers below it `Generating` (a generated run),
-//! `Sessions` (lines kept and answered, and lines that wait), `Incoming` (bytes and the lines that they end), `Readings` (the
-//! ends of a session) and `Unopened` (what a fault of the opening tells).
+//! `Machines` (a session of any machine), `Sessions` (that of a kernel: lines kept and answered, and lines that wait),
+//! `Incoming` (bytes and the lines that they end), `Readings` (the ends of a session) and `Unopened` (what a fault of the
+//! opening tells).
 #![tactic(auto)]
 
 mod batches;
@@ -20,7 +24,10 @@ mod fault_line;
 mod formatting;
 mod generating;
 mod incoming;
+mod kernel_machine;
+mod machine;
 mod partial;
+mod reading;
 mod running;
 mod serving;
 mod status;
@@ -29,6 +36,8 @@ mod words;
 
 pub use batches::Ended;
 pub use buffers::Buffers;
+pub use machine::Machine;
+pub use reading::serve_lines;
 pub use running::{INPUT, run};
 pub use serving::serve;
 pub use status::Status;

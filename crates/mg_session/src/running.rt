@@ -6,6 +6,8 @@ ghost use Rattle.mg_faults.specs.Faults.{CountGoesOn, Rose};
 ghost use Rattle.mg_kernel.specs.Meaning.{StandsOn, is_live, now_of, staged_of};
 ghost use Rattle.mg_layout.specs.MayFormat.{IsNoState};
 ghost use Rattle.mg_model.specs.Volume.{volume};
+ghost use Rattle.mg_model.specs.Print.{text};
+ghost use Rattle.mg_model.specs.Step.{after};
 ghost use Rattle.mg_session.specs.Headline.{Answers, Ends, EndsRun, Holds, HoldsExactly, IsDoneOrMemory, IsWithin, IsWithinCost, OnVolume, SpellsAfter, TellsOfNone, input_limit};
 ghost use Rattle.mg_session.specs.Unopened.{EndsSession};
 
@@ -40,13 +42,13 @@ fn run_kernel<D: Disk, S: Source, K: Sink, L: Ledger>(
     requires some { 1 ≤ batch }
     requires small { batch ≤ 64 }
     ensures which { EndsSession result }
-    ensures answers { ForSome (D.seen disk.old) (λ image. Answers (now_of kernel.old image) result
+    ensures answers { ForSome (D.seen disk.old) (λ image. Answers (text (now_of kernel.old image)) result
         (S.left source.old) (S.left source.new) (K.taken sink.old) (K.taken sink.new)) }
     ensures kept { result ≡ Status.Done → ForSome (D.seen disk.old) (λ image. IfSome (S.left source.old) (λ input.
-        SpellsAfter (now_of kernel.old image) input (D.seen disk.new))) }
-    ensures holds { ForSome (D.seen disk.old) (λ image. Holds D.Disk (now_of kernel.old image) disk.old disk.new
+        SpellsAfter (after (now_of kernel.old image)) input (D.seen disk.new))) }
+    ensures holds { ForSome (D.seen disk.old) (λ image. Holds D.Disk (after (now_of kernel.old image)) disk.old disk.new
         (S.left source.old) (S.left source.new) (K.taken sink.old) (K.taken sink.new)) }
-    ensures holds_exactly { ForSome (D.seen disk.old) (λ image. HoldsExactly D.Disk (now_of kernel.old image) result disk.new
+    ensures holds_exactly { ForSome (D.seen disk.old) (λ image. HoldsExactly D.Disk (after (now_of kernel.old image)) result disk.new
         (S.left source.old) (S.left source.new) (K.taken sink.old) (K.taken sink.new)) }
     ensures cost { ForSome (D.seen disk.old) (λ image. IsWithinCost (now_of kernel.old image) (S.left source.old) (S.left source.new) steps.old steps.new) }
     ensures ends { Ends S.Source K.Sink batch input_limit result source.old source.new sink.old sink.new }
@@ -84,11 +86,11 @@ pub fn run<D: Disk, S: Source, K: Sink, L: Ledger>(
 ) -> Status
     requires some { 1 ≤ batch }
     requires small { batch ≤ 64 }
-    ensures answers { OnVolume (D.seen disk.old) (λ s. Answers s result (S.left source.old) (S.left source.new) (K.taken sink.old) (K.taken sink.new)) }
-    ensures kept { result ≡ Status.Done → OnVolume (D.seen disk.old) (λ s. IfSome (S.left source.old) (λ input. SpellsAfter s input (D.seen disk.new))) }
-    ensures holds { NothingPending D.Disk disk.old → OnVolume (D.seen disk.old) (λ s. Holds D.Disk s disk.old disk.new
+    ensures answers { OnVolume (D.seen disk.old) (λ s. Answers (text s) result (S.left source.old) (S.left source.new) (K.taken sink.old) (K.taken sink.new)) }
+    ensures kept { result ≡ Status.Done → OnVolume (D.seen disk.old) (λ s. IfSome (S.left source.old) (λ input. SpellsAfter (after s) input (D.seen disk.new))) }
+    ensures holds { NothingPending D.Disk disk.old → OnVolume (D.seen disk.old) (λ s. Holds D.Disk (after s) disk.old disk.new
         (S.left source.old) (S.left source.new) (K.taken sink.old) (K.taken sink.new)) }
-    ensures holds_exactly { OnVolume (D.seen disk.old) (λ s. HoldsExactly D.Disk s result disk.new
+    ensures holds_exactly { OnVolume (D.seen disk.old) (λ s. HoldsExactly D.Disk (after s) result disk.new
         (S.left source.old) (S.left source.new) (K.taken sink.old) (K.taken sink.new)) }
     ensures cost { OnVolume (D.seen disk.old) (λ s. IsWithinCost s (S.left source.old) (S.left source.new) steps.old steps.new) }
     ensures ends { Ends S.Source K.Sink batch input_limit result source.old source.new sink.old sink.new }

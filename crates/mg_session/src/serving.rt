@@ -1,91 +1,23 @@
 // A whole session: the source is read to its end, and its lines are stepped and answered in batches.
-ghost use Rattle.std.specs.Prelude.{◌≡◌, ◌+◌, ◌≤◌, Err, IfErr, IfSome, IsOk, IsTrue, OnOk};
+ghost use Rattle.std.specs.Prelude.{◌≡◌, ◌≤◌, Err, IfSome, IsOk, IsTrue, OnOk};
 ghost use Rattle.std.specs.Option.{ForSome};
 ghost use Rattle.mg_disk.specs.Stops.{CountRose, DiskCallsBy};
 ghost use Rattle.mg_faults.specs.Faults.{CountGoesOn, Rose};
 ghost use Rattle.mg_kernel.specs.Meaning.{StandsOn, is_live, now_of, staged_of, words_in};
 ghost use Rattle.mg_model.specs.Counts.{CountsAlike};
+ghost use Rattle.mg_model.specs.Print.{text};
+ghost use Rattle.mg_model.specs.Step.{after};
 ghost use Rattle.mg_session.specs.Headline.{Answers, Ends, Holds, HoldsExactly, IsWithin, IsWithinCost, KeepsExactly, SpellsAfter, UnlessDisk, status_of};
-ghost use Rattle.mg_session.specs.Readings.{Finishes, Stops};
 
 use crate::batches::Ended;
 use crate::buffers::Buffers;
-use crate::incoming::{finish, take_bytes};
-use crate::partial::PartialLine;
+use crate::reading::serve_lines;
 use mg_disk::Disk;
 use mg_io::{Sink, Source};
 use mg_kernel::Kernel;
-use mg_laws::{costs_add_up, warm_keys_are_kept};
+use mg_laws::costs_add_up;
 use mg_model::Steps;
 use std::sync::ledger::Ledger;
-
-/// The most bytes that are taken at once.
-const PIECE: usize = 4096;
-
-/// The loop over the pieces of the input.
-fn serve_pieces<D: Disk, S: Source, K: Sink, L: Ledger>(
-    kernel: &mut Kernel,
-    disk: &mut D,
-    source: &mut S,
-    sink: &mut K,
-    owed: &mut Buffers,
-    batch: u64,
-    limit: u64,
-    steps: &mut Steps<L>,
-) -> Result<(), Ended>
-    requires live { IsTrue (is_live kernel.old) }
-    requires stands { StandsOn D.Disk kernel.old disk.old }
-    requires staged { staged_of kernel.old ≡ 0 }
-    requires some { 1 ≤ batch }
-    requires small { batch ≤ 64 }
-    ensures finishes { OnOk result (Finishes D.Disk (record { kernel = kernel.old; disk = disk.old; taken = K.taken sink.old; steps = steps.old }) (S.left source.old) limit
-        (record { kernel = kernel.new; disk = disk.new; owed = owed.new; taken = K.taken sink.new; steps = steps.new }) (S.left source.new)) }
-    ensures stops { IfErr result (λ e. Stops D.Disk e (record { kernel = kernel.old; disk = disk.old; taken = K.taken sink.old; steps = steps.old }) (S.left source.old)
-        limit batch (limit + 4096) (is_live kernel.new) steps.new disk.new (K.taken sink.new) (S.left source.new)) }
-    ensures live { UnlessDisk result (IsTrue (is_live kernel.new)) }
-    ensures stands { UnlessDisk result (StandsOn D.Disk kernel.new disk.new) }
-    ensures staged { OnOk result (staged_of kernel.new ≡ 0) }
-    ensures counted { CountsAlike (words_in kernel.old) (words_in kernel.new) steps.old steps.new }
-    ensures source_count { CountGoesOn (S.faults source.old) (S.faults source.new) (S.is_spent source.old) (S.is_spent source.new) }
-    ensures sink_count { CountGoesOn (K.faults sink.old) (K.faults sink.new) (K.is_spent sink.old) (K.is_spent sink.new) }
-    ensures disk { DiskCallsBy D.Disk disk.old disk.new (result ≡ Err Ended.Disk) }
-    ensures source { result ≡ Err Ended.Source → Rose (S.faults source.old) (S.faults source.new) (S.is_spent source.new) }
-    ensures sink { result ≡ Err Ended.Sink → Rose (K.faults sink.old) (K.faults sink.new) (K.is_spent sink.new) }
-{
-    warm_keys_are_kept();
-    owed.clear();
-    let mut piece = [0; PIECE];
-    let mut part = PartialLine::new();
-    let mut total: u64 = 0;
-    'pieces: loop {
-        let count = match source.take(&mut piece) {
-            Ok(count) => count,
-            Err(_) => return Err(Ended::Source),
-        };
-        if count == 0 {
-            return finish(kernel, disk, sink, owed, &mut part, batch, steps);
-        }
-        let room = limit - total;
-        let within = (count as u64).min(room) as usize;
-        match take_bytes(
-            kernel,
-            disk,
-            sink,
-            owed,
-            &mut part,
-            &piece[..within],
-            batch,
-            steps,
-        ) {
-            Ok(()) => {}
-            Err(ended) => return Err(ended),
-        }
-        if count as u64 > room {
-            return Err(Ended::TooLong);
-        }
-        total += count as u64;
-    }
-}
 
 /// Reads lines to the end of the source, steps them and puts their replies in batches of at most 64, up to a limit on the
 /// bytes. What waits in `owed` at first is dropped.
@@ -117,13 +49,13 @@ pub fn serve<D: Disk, S: Source, K: Sink, L: Ledger>(
     requires small { batch ≤ 64 }
 
     // What the sink took, what a stop leaves, and how the session ends.
-    ensures answers { ForSome (D.seen disk.old) (λ image. Answers (now_of kernel.old image) (status_of result)
+    ensures answers { ForSome (D.seen disk.old) (λ image. Answers (text (now_of kernel.old image)) (status_of result)
         (S.left source.old) (S.left source.new) (K.taken sink.old) (K.taken sink.new)) }
     ensures kept { OnOk result (ForSome (D.seen disk.old) (λ image. IfSome (S.left source.old) (λ input.
-        SpellsAfter (now_of kernel.old image) input (D.seen disk.new)))) }
-    ensures holds { ForSome (D.seen disk.old) (λ image. Holds D.Disk (now_of kernel.old image) disk.old disk.new
+        SpellsAfter (after (now_of kernel.old image)) input (D.seen disk.new)))) }
+    ensures holds { ForSome (D.seen disk.old) (λ image. Holds D.Disk (after (now_of kernel.old image)) disk.old disk.new
         (S.left source.old) (S.left source.new) (K.taken sink.old) (K.taken sink.new)) }
-    ensures holds_exactly { ForSome (D.seen disk.old) (λ image. HoldsExactly D.Disk (now_of kernel.old image) (status_of result) disk.new
+    ensures holds_exactly { ForSome (D.seen disk.old) (λ image. HoldsExactly D.Disk (after (now_of kernel.old image)) (status_of result) disk.new
         (S.left source.old) (S.left source.new) (K.taken sink.old) (K.taken sink.new)) }
     ensures ends { Ends S.Source K.Sink batch limit (status_of result) source.old source.new sink.old sink.new }
     ensures disk { DiskCallsBy D.Disk disk.old disk.new (result ≡ Err Ended.Disk) }
@@ -140,7 +72,7 @@ pub fn serve<D: Disk, S: Source, K: Sink, L: Ledger>(
     ensures stands { UnlessDisk result (StandsOn D.Disk kernel.new disk.new) }
     ensures staged { OnOk result (staged_of kernel.new ≡ 0) }
     ensures held_disk { result ≡ Err Ended.Disk → IsTrue (is_live kernel.new) → ForSome (D.seen disk.old) (λ image.
-        KeepsExactly (D.left_since disk.new (D.moment disk.new)) (now_of kernel.old image) (S.left source.old) (K.taken sink.old) (K.taken sink.new)) }
+        KeepsExactly (D.left_since disk.new (D.moment disk.new)) (after (now_of kernel.old image)) (S.left source.old) (K.taken sink.old) (K.taken sink.new)) }
 
     // Whatever ends it, the counter rises by no more than the lines that were read may cost.
     ensures cost { ForSome (D.seen disk.old) (λ image. IsWithinCost (now_of kernel.old image) (S.left source.old) (S.left source.new) steps.old steps.new) }
@@ -151,5 +83,5 @@ pub fn serve<D: Disk, S: Source, K: Sink, L: Ledger>(
     ensures sink_count { CountGoesOn (K.faults sink.old) (K.faults sink.new) (K.is_spent sink.old) (K.is_spent sink.new) }
 {
     costs_add_up();
-    serve_pieces(kernel, disk, source, sink, owed, batch, limit, steps)
+    serve_lines(kernel, disk, source, sink, owed, batch, limit, steps)
 }

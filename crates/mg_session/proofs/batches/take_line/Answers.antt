@@ -1,7 +1,8 @@
 use Rattle.std.proofs.Common.{ℕ, [], ◌∷◌, ◌++◌}
 use Rattle.std.proofs.lemmas.Result.{IfErr-weaker, on_ok_weaker}
 use Rattle.mg_kernel.specs.Meaning.{is_live}
-use Rattle.mg_session.specs.Sessions.{FailsToClose, Halts}
+use Rattle.mg_session.specs.Machines.{FailsToClose, Halts}
+use Rattle.mg_session.specs.Sessions.{BrokenAt, Session}
 use Rattle.mg_session.proofs.SessionSteps.{Broken-step, Session-line}
 use Rattle.mg_session.proofs.batches.take_line.Goals as goal
 
@@ -25,10 +26,10 @@ returns-clause-steps g c =
 pub returns-clause-halts : goal.returns-clause-halts
 returns-clause-halts g c =
     IfErr-weaker c.close.result
-    (λ e. (n : ℕ) → FailsToClose g.D.Disk e (record { kernel = c.step.new.self; disk = c.step.new.disk; owed = c.add.new.self; taken = g.K.Sink.taken c.args.sink.now; steps = n })
-    (record { kernel = c.close.new.kernel; disk = c.close.new.disk; owed = c.close.new.owed; taken = g.K.Sink.taken c.close.new.sink; steps = n }))
-    (λ e. Halts g.D.Disk e (record { kernel = c.args.kernel.now; disk = c.args.disk.now; owed = c.args.owed.now; taken = g.K.Sink.taken c.args.sink.now; steps = c.args.steps.now }) (c.args.line.now ∷ [])
-    (record { kernel = c.close.new.kernel; disk = c.close.new.disk; owed = c.close.new.owed; taken = g.K.Sink.taken c.close.new.sink; steps = c.step.new.steps }))
+    (λ e. (n : ℕ) → FailsToClose (Session g.D.Disk) (BrokenAt g.D.Disk) e (record { machine = c.step.new.self; disk = c.step.new.disk; owed = c.add.new.self; taken = g.K.Sink.taken c.args.sink.now; steps = n })
+    (record { machine = c.close.new.kernel; disk = c.close.new.disk; owed = c.close.new.owed; taken = g.K.Sink.taken c.close.new.sink; steps = n }))
+    (λ e. Halts (Session g.D.Disk) (BrokenAt g.D.Disk) e (record { machine = c.args.kernel.now; disk = c.args.disk.now; owed = c.args.owed.now; taken = g.K.Sink.taken c.args.sink.now; steps = c.args.steps.now }) (c.args.line.now ∷ [])
+    (record { machine = c.close.new.kernel; disk = c.close.new.disk; owed = c.close.new.owed; taken = g.K.Sink.taken c.close.new.sink; steps = c.step.new.steps }))
     (λ e h. λ entry ls a. h c.step.new.steps entry (ls ++ c.args.line.now ∷ [])
     (Session-line g.D.Disk (record { stays = c.warm_keys_are_kept.ensures.stays; limit = c.warm_keys_are_kept.ensures.limit; events = c.costs_add_up.ensures.events; costs = c.costs_add_up.ensures.line }) entry ls c.args.kernel.now c.step.new.self c.args.disk.now c.step.new.disk c.args.owed.now c.add.new.self (g.K.Sink.taken c.args.sink.now) c.args.steps.now c.step.new.steps c.args.line.now c.in-Ok.reply a
     c.in-Ok.ensures.replies c.in-Ok.ensures.state c.in-Ok.ensures.keeps c.in-Ok.ensures.writes c.add.ensures))

@@ -1,34 +1,34 @@
 use Rattle.std.proofs.Common.{ℕ, [], ◌∷◌, sym}
 use Rattle.std.proofs.lemmas.Result.{IfErr-weaker, on_ok_weaker}
 use Rattle.mg_model.specs.Lines.{lines}
-use Rattle.mg_session.specs.Sessions.{FailsToClose, Halts}
+use Rattle.mg_session.specs.Machines.{FailsToClose, Halts}
 use Rattle.mg_session.proofs.IncomingSteps.{Halts-last, Halts-note, Runs-last, Runs-note}
 use Rattle.mg_session.proofs.incoming.finish.Goals as goal
 
 pub returns-in-None-clause-steps : goal.returns-in-None-clause-steps
 returns-in-None-clause-steps g c =
     on_ok_weaker c.close.result
-    (λ h. Runs-note g.D.Disk (record { kernel = c.args.kernel.now; disk = c.args.disk.now; owed = c.args.owed.now; taken = g.K.Sink.taken c.args.sink.now; steps = c.args.steps.now }) c.args.part.now (record { kernel = c.close.new.kernel; disk = c.close.new.disk; owed = c.close.new.owed; taken = g.K.Sink.taken c.close.new.sink; steps = c.args.steps.now }) c.in-None.ensures.whole (sym c.in-None.ensures.line) (h c.args.steps.now))
+    (λ h. Runs-note (g.M.Machine.Session _ g.D.Disk) (record { machine = c.args.machine.now; disk = c.args.disk.now; owed = c.args.owed.now; taken = g.K.Sink.taken c.args.sink.now; steps = c.args.steps.now }) c.args.part.now (record { machine = c.close.new.self; disk = c.close.new.disk; owed = c.close.new.owed; taken = g.K.Sink.taken c.close.new.sink; steps = c.args.steps.now }) c.in-None.ensures.whole (sym c.in-None.ensures.line) (h c.args.steps.now))
     c.close.ensures.closes
 
 pub returns-in-None-clause-halts : goal.returns-in-None-clause-halts
 returns-in-None-clause-halts g c =
     IfErr-weaker c.close.result
-    (λ e. (n : ℕ) → FailsToClose g.D.Disk e (record { kernel = c.args.kernel.now; disk = c.args.disk.now; owed = c.args.owed.now; taken = g.K.Sink.taken c.args.sink.now; steps = n }) (record { kernel = c.close.new.kernel; disk = c.close.new.disk; owed = c.close.new.owed; taken = g.K.Sink.taken c.close.new.sink; steps = n }))
-    (λ e. Halts g.D.Disk e (record { kernel = c.args.kernel.now; disk = c.args.disk.now; owed = c.args.owed.now; taken = g.K.Sink.taken c.args.sink.now; steps = c.args.steps.now }) (lines c.args.part.now) (record { kernel = c.close.new.kernel; disk = c.close.new.disk; owed = c.close.new.owed; taken = g.K.Sink.taken c.close.new.sink; steps = c.args.steps.now }))
-    (λ e h. Halts-note g.D.Disk e (record { kernel = c.args.kernel.now; disk = c.args.disk.now; owed = c.args.owed.now; taken = g.K.Sink.taken c.args.sink.now; steps = c.args.steps.now }) c.args.part.now (record { kernel = c.close.new.kernel; disk = c.close.new.disk; owed = c.close.new.owed; taken = g.K.Sink.taken c.close.new.sink; steps = c.args.steps.now }) c.in-None.ensures.whole (sym c.in-None.ensures.line) (h c.args.steps.now))
+    (λ e. (n : ℕ) → FailsToClose (g.M.Machine.Session _ g.D.Disk) (g.M.Machine.Broken _ g.D.Disk) e (record { machine = c.args.machine.now; disk = c.args.disk.now; owed = c.args.owed.now; taken = g.K.Sink.taken c.args.sink.now; steps = n }) (record { machine = c.close.new.self; disk = c.close.new.disk; owed = c.close.new.owed; taken = g.K.Sink.taken c.close.new.sink; steps = n }))
+    (λ e. Halts (g.M.Machine.Session _ g.D.Disk) (g.M.Machine.Broken _ g.D.Disk) e (record { machine = c.args.machine.now; disk = c.args.disk.now; owed = c.args.owed.now; taken = g.K.Sink.taken c.args.sink.now; steps = c.args.steps.now }) (lines c.args.part.now) (record { machine = c.close.new.self; disk = c.close.new.disk; owed = c.close.new.owed; taken = g.K.Sink.taken c.close.new.sink; steps = c.args.steps.now }))
+    (λ e h. Halts-note (g.M.Machine.Session _ g.D.Disk) (g.M.Machine.Broken _ g.D.Disk) e (record { machine = c.args.machine.now; disk = c.args.disk.now; owed = c.args.owed.now; taken = g.K.Sink.taken c.args.sink.now; steps = c.args.steps.now }) c.args.part.now (record { machine = c.close.new.self; disk = c.close.new.disk; owed = c.close.new.owed; taken = g.K.Sink.taken c.close.new.sink; steps = c.args.steps.now }) c.in-None.ensures.whole (sym c.in-None.ensures.line) (h c.args.steps.now))
     c.close.ensures.halts
 
 pub returns-in-Some-clause-steps : goal.returns-in-Some-clause-steps
 returns-in-Some-clause-steps g c =
     on_ok_weaker c.line_and_close.result
-    (λ h. Runs-last g.D.Disk (record { kernel = c.args.kernel.now; disk = c.args.disk.now; owed = c.args.owed.now; taken = g.K.Sink.taken c.args.sink.now; steps = c.args.steps.now }) c.args.part.now (record { kernel = c.line_and_close.new.kernel; disk = c.line_and_close.new.disk; owed = c.line_and_close.new.owed; taken = g.K.Sink.taken c.line_and_close.new.sink; steps = c.line_and_close.new.steps }) c.in-Some.line c.in-Some.ensures.whole (sym c.in-Some.ensures.line) h)
+    (λ h. Runs-last (g.M.Machine.Session _ g.D.Disk) (record { machine = c.args.machine.now; disk = c.args.disk.now; owed = c.args.owed.now; taken = g.K.Sink.taken c.args.sink.now; steps = c.args.steps.now }) c.args.part.now (record { machine = c.line_and_close.new.machine; disk = c.line_and_close.new.disk; owed = c.line_and_close.new.owed; taken = g.K.Sink.taken c.line_and_close.new.sink; steps = c.line_and_close.new.steps }) c.in-Some.line c.in-Some.ensures.whole (sym c.in-Some.ensures.line) h)
     c.line_and_close.ensures.steps
 
 pub returns-in-Some-clause-halts : goal.returns-in-Some-clause-halts
 returns-in-Some-clause-halts g c =
     IfErr-weaker c.line_and_close.result
-    (λ e. Halts g.D.Disk e (record { kernel = c.args.kernel.now; disk = c.args.disk.now; owed = c.args.owed.now; taken = g.K.Sink.taken c.args.sink.now; steps = c.args.steps.now }) (c.in-Some.line ∷ []) (record { kernel = c.line_and_close.new.kernel; disk = c.line_and_close.new.disk; owed = c.line_and_close.new.owed; taken = g.K.Sink.taken c.line_and_close.new.sink; steps = c.line_and_close.new.steps }))
-    (λ e. Halts g.D.Disk e (record { kernel = c.args.kernel.now; disk = c.args.disk.now; owed = c.args.owed.now; taken = g.K.Sink.taken c.args.sink.now; steps = c.args.steps.now }) (lines c.args.part.now) (record { kernel = c.line_and_close.new.kernel; disk = c.line_and_close.new.disk; owed = c.line_and_close.new.owed; taken = g.K.Sink.taken c.line_and_close.new.sink; steps = c.line_and_close.new.steps }))
-    (λ e h. Halts-last g.D.Disk e (record { kernel = c.args.kernel.now; disk = c.args.disk.now; owed = c.args.owed.now; taken = g.K.Sink.taken c.args.sink.now; steps = c.args.steps.now }) c.args.part.now (record { kernel = c.line_and_close.new.kernel; disk = c.line_and_close.new.disk; owed = c.line_and_close.new.owed; taken = g.K.Sink.taken c.line_and_close.new.sink; steps = c.line_and_close.new.steps }) c.in-Some.line c.in-Some.ensures.whole (sym c.in-Some.ensures.line) h)
+    (λ e. Halts (g.M.Machine.Session _ g.D.Disk) (g.M.Machine.Broken _ g.D.Disk) e (record { machine = c.args.machine.now; disk = c.args.disk.now; owed = c.args.owed.now; taken = g.K.Sink.taken c.args.sink.now; steps = c.args.steps.now }) (c.in-Some.line ∷ []) (record { machine = c.line_and_close.new.machine; disk = c.line_and_close.new.disk; owed = c.line_and_close.new.owed; taken = g.K.Sink.taken c.line_and_close.new.sink; steps = c.line_and_close.new.steps }))
+    (λ e. Halts (g.M.Machine.Session _ g.D.Disk) (g.M.Machine.Broken _ g.D.Disk) e (record { machine = c.args.machine.now; disk = c.args.disk.now; owed = c.args.owed.now; taken = g.K.Sink.taken c.args.sink.now; steps = c.args.steps.now }) (lines c.args.part.now) (record { machine = c.line_and_close.new.machine; disk = c.line_and_close.new.disk; owed = c.line_and_close.new.owed; taken = g.K.Sink.taken c.line_and_close.new.sink; steps = c.line_and_close.new.steps }))
+    (λ e h. Halts-last (g.M.Machine.Session _ g.D.Disk) (g.M.Machine.Broken _ g.D.Disk) e (record { machine = c.args.machine.now; disk = c.args.disk.now; owed = c.args.owed.now; taken = g.K.Sink.taken c.args.sink.now; steps = c.args.steps.now }) c.args.part.now (record { machine = c.line_and_close.new.machine; disk = c.line_and_close.new.disk; owed = c.line_and_close.new.owed; taken = g.K.Sink.taken c.line_and_close.new.sink; steps = c.line_and_close.new.steps }) c.in-Some.line c.in-Some.ensures.whole (sym c.in-Some.ensures.line) h)
     c.line_and_close.ensures.halts

@@ -2,18 +2,20 @@ use Rattle.std.proofs.Common.{ap}
 use Rattle.std.specs.Prelude.{IfSome}
 use Rattle.mg_disk.specs.Stops.{WritesNothing}
 use Rattle.mg_faults.specs.Faults.{then_rose}
+use Rattle.mg_model.specs.Print.{text}
+use Rattle.mg_model.specs.Step.{after}
 use Rattle.mg_session.specs.Headline.{Answers, HoldsExactly, IsWithinCost, SpellsAfter}
 use Rattle.mg_session.proofs.Openings.{fault_tells, none_spent, opened_holds, opened_then, opened_without, unopened, unopened_answers, unopened_exactly, unopened_holds, unopened_without, untouched}
 use Rattle.mg_session.proofs.running.run.Goals as goal
 
 pub returns-in-Ok-clause-answers : goal.returns-in-Ok-clause-answers
 returns-in-Ok-clause-answers g c =
-    opened_then c.in-Ok.kernel (g.D.Disk.seen c.args.disk.now) (g.D.Disk.seen c.open.new.disk) (λ s. Answers s c.run_kernel.result (g.S.Source.left c.args.source.now) (g.S.Source.left c.run_kernel.new.source) (g.K.Sink.taken c.args.sink.now) (g.K.Sink.taken c.run_kernel.new.sink))
+    opened_then c.in-Ok.kernel (g.D.Disk.seen c.args.disk.now) (g.D.Disk.seen c.open.new.disk) (λ s. Answers (text s) c.run_kernel.result (g.S.Source.left c.args.source.now) (g.S.Source.left c.run_kernel.new.source) (g.K.Sink.taken c.args.sink.now) (g.K.Sink.taken c.run_kernel.new.sink))
     c.in-Ok.ensures.opens c.run_kernel.ensures.answers
 
 pub returns-in-Ok-clause-kept : goal.returns-in-Ok-clause-kept
 returns-in-Ok-clause-kept g c = λ is.
-    opened_then c.in-Ok.kernel (g.D.Disk.seen c.args.disk.now) (g.D.Disk.seen c.open.new.disk) (λ s. IfSome (g.S.Source.left c.args.source.now) (λ input. SpellsAfter s input (g.D.Disk.seen c.run_kernel.new.disk)))
+    opened_then c.in-Ok.kernel (g.D.Disk.seen c.args.disk.now) (g.D.Disk.seen c.open.new.disk) (λ s. IfSome (g.S.Source.left c.args.source.now) (λ input. SpellsAfter (after s) input (g.D.Disk.seen c.run_kernel.new.disk)))
     c.in-Ok.ensures.opens (c.run_kernel.ensures.kept is)
 
 pub returns-in-Ok-clause-holds : goal.returns-in-Ok-clause-holds
@@ -23,7 +25,7 @@ returns-in-Ok-clause-holds g c = λ pending.
 
 pub returns-in-Ok-clause-holds_exactly : goal.returns-in-Ok-clause-holds_exactly
 returns-in-Ok-clause-holds_exactly g c =
-    opened_then c.in-Ok.kernel (g.D.Disk.seen c.args.disk.now) (g.D.Disk.seen c.open.new.disk) (λ s. HoldsExactly g.D.Disk s c.run_kernel.result c.run_kernel.new.disk (g.S.Source.left c.args.source.now) (g.S.Source.left c.run_kernel.new.source) (g.K.Sink.taken c.args.sink.now) (g.K.Sink.taken c.run_kernel.new.sink))
+    opened_then c.in-Ok.kernel (g.D.Disk.seen c.args.disk.now) (g.D.Disk.seen c.open.new.disk) (λ s. HoldsExactly g.D.Disk (after s) c.run_kernel.result c.run_kernel.new.disk (g.S.Source.left c.args.source.now) (g.S.Source.left c.run_kernel.new.source) (g.K.Sink.taken c.args.sink.now) (g.K.Sink.taken c.run_kernel.new.sink))
     c.in-Ok.ensures.opens c.run_kernel.ensures.holds_exactly
 
 pub returns-in-Ok-clause-cost : goal.returns-in-Ok-clause-cost

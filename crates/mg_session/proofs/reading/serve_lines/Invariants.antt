@@ -2,21 +2,20 @@ use Rattle.std.proofs.Common.{◌≡◌, ◌-◌, ◌<◌, ◌≤◌, length}
 use Rattle.std.specs.Prelude.{IsTrue}
 use Rattle.mg_disk.specs.Stops.{CountGoes}
 use Rattle.mg_faults.specs.Faults.{CountGoesOn}
-use Rattle.mg_kernel.specs.Meaning.{StandsOn, is_live, staged_of, words_in}
 use Rattle.mg_model.specs.Counts.{CountsAlike}
 use Rattle.mg_session.specs.Readings.{Reading}
-use Rattle.mg_session.proofs.serving.serve_pieces.Given as goal
+use Rattle.mg_session.proofs.reading.serve_lines.Given as goal
 
 abbrev pub invariant-pieces : goal.invariant-pieces
 invariant-pieces g l = record {
-  reading : Reading g.D.Disk (record { kernel = l.initial.kernel; disk = l.initial.disk; taken = g.K.Sink.taken l.initial.sink; steps = l.initial.steps }) (g.S.Source.left l.initial.source) l.total (record { kernel = l.kernel; disk = l.disk; owed = l.owed; taken = g.K.Sink.taken l.sink; steps = l.steps }) l.part (g.S.Source.left l.source);
+  reading : Reading (g.M.Machine.Session _ g.D.Disk) (record { machine = l.initial.machine; disk = l.initial.disk; taken = g.K.Sink.taken l.initial.sink; steps = l.initial.steps }) (g.S.Source.left l.initial.source) l.total (record { machine = l.machine; disk = l.disk; owed = l.owed; taken = g.K.Sink.taken l.sink; steps = l.steps }) l.part (g.S.Source.left l.source);
   within : l.total ≤ l.limit;
   size : length l.piece ≡ 4096;
-  live : IsTrue (is_live l.kernel);
-  stands : StandsOn g.D.Disk l.kernel l.disk;
-  staged : staged_of l.kernel ≤ 28;
+  live : IsTrue (g.M.Machine.is_live l.machine);
+  stands : g.M.Machine.StandsOn _ g.D.Disk l.machine l.disk;
+  staged : g.M.Machine.staged_of l.machine ≤ 28;
   open_batch : l.owed.count < l.batch;
-  counted : CountsAlike (words_in l.initial.kernel) (words_in l.kernel) l.initial.steps l.steps;
+  counted : CountsAlike (g.M.Machine.words_in l.initial.machine) (g.M.Machine.words_in l.machine) l.initial.steps l.steps;
   blocks : g.D.Disk.block_count l.disk ≡ g.D.Disk.block_count l.initial.disk;
   disk_count : CountGoes g.D.Disk l.initial.disk l.disk;
   source_count : CountGoesOn (g.S.Source.faults l.initial.source) (g.S.Source.faults l.source) (g.S.Source.is_spent l.initial.source) (g.S.Source.is_spent l.source);
