@@ -1,0 +1,11 @@
+pub mod Fronts
+pub mod WideRow
+pub mod WideBytes
+pub mod LiftedRows
+pub mod LiftedBlocks
+pub mod LiftedState
+pub mod Volume1Reads
+pub mod LiftedVolume
+pub mod MovedParts
+pub mod SuperBlocks
+pub mod FreshBlocks1

@@ -1,0 +1,55 @@
+-- What an image spells as a volume of version 1, case by case.
+use Rattle.std.specs.Prelude.{◌≡◌, ◌≢◌, ℕ, ◌<◌, ◌≤◌, ◌==◌, ◌&&◌, nat_le, nat_lt, Bool, true, false, not, List, length, if◌then◌else◌, Option, Some, None}
+use Rattle.std.specs.Option.{option_map_or}
+use Rattle.std.proofs.Common.{refl, sym, ap, ◌∙◌, arith}
+use Rattle.std.proofs.lemmas.Bool.{and_left, and_right, eq-eqb, le-leb, lt-leb, ne_eqb}
+use Rattle.mg_model.specs.Layout.{gate_open, super_block}
+use Rattle.mg_model.specs.Replay.{block_of, replay}
+use Rattle.mg_model.specs.Settings.{Settings}
+use Rattle.mg_model.specs.Volume.{Damaged, VolumeRead, gate_byte, IsOpened}
+use Rattle.mg_migrate.specs.Layout1.{total1_blocks}
+use Rattle.mg_migrate.specs.Lifted.{IsReplayed1}
+use Rattle.mg_migrate.specs.Spelling1.{Spells1, super1_read}
+use Rattle.mg_migrate.specs.Version1.{NotVolume1, Volume1Read, as_volume1, replayed1_volume, settled1_volume, volume1, volume1_behind}
+
+pub volume1-closed : (image : List (List ℕ)) → gate_byte image ≢ gate_open → volume1 image ≡ NotVolume1
+unfolding volume1
+volume1-closed image closed =
+    ap (λ b. if b then volume1_behind image (super1_read (block_of image super_block)) else NotVolume1)
+    (and_right (nat_le 2 (length image)) (gate_byte image == gate_open) (ne_eqb (gate_byte image) gate_open closed))
+
+pub volume1-short : (image : List (List ℕ)) → length image < 2 → volume1 image ≡ NotVolume1
+unfolding volume1
+volume1-short image short =
+    ap (λ b. if b then volume1_behind image (super1_read (block_of image super_block)) else NotVolume1)
+    (and_left (nat_le 2 (length image)) (gate_byte image == gate_open) (lt-leb 2 (length image) short))
+
+pub volume1-opened : (image : List (List ℕ)) → IsOpened image → volume1 image ≡ volume1_behind image (super1_read (block_of image super_block))
+unfolding volume1
+volume1-opened image is =
+    let long = le-leb 2 (length image) is.long in
+    let gate = eq-eqb (gate_byte image) gate_open is.gate in
+    rw (long, gate)
+
+-- of an image with a superblock of version 1: too short, with a journal that gives none, or with one that gives an image
+abbrev gives : Settings → Bool → Option (List (List ℕ)) → VolumeRead
+gives settings enough replayed = if enough then option_map_or (λ replayed. replayed1_volume settings replayed) replayed Damaged else Damaged
+
+settled1-is : (settings : Settings) (image : List (List ℕ)) → settled1_volume image settings ≡ gives settings (nat_le (total1_blocks settings.frames) (length image)) (replay image (total1_blocks settings.frames))
+settled1-is settings image = refl
+
+pub settled1-short : (settings : Settings) (image : List (List ℕ)) → length image < total1_blocks settings.frames → settled1_volume image settings ≡ Damaged
+settled1-short settings image short = ap (λ t. gives settings t (replay image (total1_blocks settings.frames))) (lt-leb (total1_blocks settings.frames) (length image) short)
+
+pub settled1-none : (settings : Settings) (image : List (List ℕ)) → total1_blocks settings.frames ≤ length image → replay image (total1_blocks settings.frames) ≡ None → settled1_volume image settings ≡ Damaged
+settled1-none settings image long none =
+    ap (λ t. gives settings t (replay image (total1_blocks settings.frames))) (le-leb (total1_blocks settings.frames) (length image) long) ∙ ap (λ r. gives settings true r) none
+
+pub settled1-some : (settings : Settings) (image replayed : List (List ℕ)) → total1_blocks settings.frames ≤ length image → replay image (total1_blocks settings.frames) ≡ Some replayed
+    → settled1_volume image settings ≡ replayed1_volume settings replayed
+settled1-some settings image replayed long is =
+    ap (λ t. gives settings t (replay image (total1_blocks settings.frames))) (le-leb (total1_blocks settings.frames) (length image) long) ∙ ap (λ r. gives settings true r) is
+
+pub replayed1-is : (settings : Settings) (image replayed : List (List ℕ)) → IsReplayed1 settings image replayed → volume1 image ≡ as_volume1 (replayed1_volume settings replayed)
+replayed1-is settings image replayed is =
+    volume1-opened image is.opened ∙ ap (volume1_behind image) is.super ∙ ap as_volume1 (settled1-some settings image replayed is.long is.is)

@@ -1,0 +1,34 @@
+-- What is true of lifted images.
+use Rattle.std.specs.Prelude.{◌≡◌, ℕ, List, Some}
+use Rattle.mg_model.specs.Layout.{super_block, total_blocks}
+use Rattle.mg_model.specs.Limits.{most_frames}
+use Rattle.mg_model.specs.Replay.{block_of, replay}
+use Rattle.mg_model.specs.Settings.{Settings}
+use Rattle.mg_model.specs.Volume.{VolumeRead, replayed_volume, volume}
+use Rattle.mg_migrate.specs.Layout1.{total1_blocks}
+use Rattle.mg_migrate.specs.Lifted.{IsLifted, IsReplayed1, lifted}
+use Rattle.mg_migrate.specs.Spelling1.{Spells1, super1_read}
+use Rattle.mg_migrate.specs.Version1.{as_volume1, lift_volume, replayed1_volume, volume1}
+
+-- how many blocks a volume of version 1 has: of 64 frames, and of as many as a volume may have
+pub record AreSizes : Type 0 where
+  pub small : total1_blocks 64 ≡ 2148
+  pub most : total1_blocks most_frames ≡ 67747
+
+-- the journal of a lifted image is closed, so the image is what its journal gives
+abbrev pub LiftedIsReplayed : Type 0
+LiftedIsReplayed = (settings : Settings) (replayed : List (List ℕ)) (total : ℕ) → replay (lifted settings replayed) total ≡ Some (lifted settings replayed)
+
+-- a lifted image spells the lifted state, and is damaged where there is none
+abbrev pub LiftedIsLift : Type 0
+LiftedIsLift = (settings : Settings) (replayed : List (List ℕ)) → replayed_volume settings (lifted settings replayed) ≡ lift_volume (replayed1_volume settings replayed)
+
+-- so does each image that has the lifted blocks, where the settings are those of a volume of version 1
+abbrev pub LiftedIsVolume : Type 0
+LiftedIsVolume =
+    (settings : Settings) (image replayed c : List (List ℕ)) → super1_read (block_of image super_block) ≡ Spells1 settings → IsLifted settings replayed c
+    → volume c ≡ lift_volume (replayed1_volume settings replayed)
+
+-- an image with a volume of version 1 spells what its journal gives
+abbrev pub ReplayedIsVolume1 : Type 0
+ReplayedIsVolume1 = (settings : Settings) (image replayed : List (List ℕ)) → IsReplayed1 settings image replayed → volume1 image ≡ as_volume1 (replayed1_volume settings replayed)

@@ -1,0 +1,12 @@
+// What is true of volumes of version 1 and of what they become.
+ghost use Rattle.mg_migrate.specs.Laws.{AreSizes, LiftedIsLift, LiftedIsReplayed, LiftedIsVolume, ReplayedIsVolume1};
+
+/// The image that a volume of version 1 is copied to spells the lifted state, and is damaged where there is none. It does
+/// nothing.
+pub fn lifted_images_spell_the_lifted_state()
+    ensures sizes { AreSizes }
+    ensures replayed { LiftedIsReplayed }
+    ensures lift { LiftedIsLift }
+    ensures volume { LiftedIsVolume }
+    ensures old { ReplayedIsVolume1 }
+{}

@@ -1,0 +1,161 @@
+// Rows of objects of version 1, as the rows that they become.
+ghost use Rattle.std.specs.Prelude.{◌≡◌, ◌≤◌, ◌<◌, ◌+◌, ◌*◌, ◌++◌, drop, length, replicate};
+ghost use Rattle.std.specs.Option.{option_map_or};
+ghost use Rattle.mg_migrate.specs.Lifted.{lifted_objects, lifted_row, object1_bytes_in};
+ghost use Rattle.mg_migrate.specs.Spelling1.{lift_read, object1_read};
+ghost use Rattle.mg_migrate.specs.Widened.{may_widen, untils, widened};
+ghost use Rattle.mg_model.specs.Bytes.{are_zeros, bytes_at, number_at};
+ghost use Rattle.mg_model.specs.Spelling.{object_bytes};
+ghost use Rattle.mg_rows.specs.Answers.{as_read, row_in};
+
+use mg_disk::Block;
+use mg_model::ObjRow;
+use mg_model::limits::NEVER;
+use mg_rows::{Filling, Spelled, are_zeros, number_at, read_object, write_object};
+
+/// The bytes of an object's row of this version.
+const ROW: usize = 1024;
+
+/// The bytes of an object's row of version 1: a block has 8.
+const ROW1: usize = 512;
+
+/// How many rows of this version a block has.
+const ROWS: u64 = 4;
+
+/// How many password rows an object of version 1 may have.
+const PASSWORD_LIMIT: u64 = 16;
+
+/// How many entries an object may have.
+const ENTRY_LIMIT: u64 = 16;
+
+/// A byte that begins no row.
+const NO_ROW: u8 = 255;
+
+/// Spells a block of four objects: of the eight in a block of version 1 the first half (0) or the second (1). A row that
+/// spells nothing there spells nothing here.
+pub fn lift_objects(old: &Block, half: u64, out: &mut Block)
+    requires { half < 2 }
+    ensures { out.new ≡ lifted_objects old.now half }
+{
+    let first = first_row(half);
+    let mut filling = Filling::new();
+    filling.add(&lifted_row(old, first));
+    filling.add(&lifted_row(old, first + 1));
+    filling.add(&lifted_row(old, first + 2));
+    filling.add(&lifted_row(old, first + 3));
+    *out = filling.whole();
+}
+
+// The first row of a half of a block of version 1.
+fn first_row(half: u64) -> u64
+    requires { half < 2 }
+    ensures { result ≡ 4 * half }
+{
+    ROWS * half
+}
+
+// What row k of a block becomes.
+fn lifted_row(old: &Block, k: u64) -> [u8; ROW]
+    requires { k < 8 }
+    ensures value { result ≡ lifted_row (object1_bytes_in old.now k) }
+    ensures long { length result ≡ 1024 }
+{
+    match object1_in(old, k) {
+        Some(row) => spelling(row),
+        None => [NO_ROW; ROW],
+    }
+}
+
+// The bytes of this row.
+fn spelling(row: Spelled<ObjRow>) -> [u8; ROW]
+    ensures value { result ≡ option_map_or (λ row. object_bytes row) (row_in row) (replicate 1024 0) }
+    ensures long { length result ≡ 1024 }
+{
+    let mut bytes = [0; ROW];
+    match row {
+        Spelled::Row(row) => write_object(Some(&row), &mut bytes),
+        Spelled::Free => write_object(None, &mut bytes),
+    }
+    bytes
+}
+
+/// What row `k` of a block of version 1 spells of an object. Its passwords never end.
+pub fn object1_in(block: &Block, k: u64) -> Option<Spelled<ObjRow>>
+    requires { k < 8 }
+    ensures { as_read result ≡ lift_read (object1_read (object1_bytes_in block.now k)) }
+{
+    let at = ROW1 * k as usize;
+    read_row(&block[at..at + ROW1])
+}
+
+// What 512 bytes spell of an object.
+fn read_row(b: &[u8]) -> Option<Spelled<ObjRow>>
+    requires { length b.now ≡ 512 }
+    ensures { as_read result ≡ lift_read (object1_read b.now) }
+{
+    if are_zeros(b) {
+        return Some(Spelled::Free);
+    }
+    if may_widen(b) {
+        read_object(&widened(b))
+    } else {
+        None
+    }
+}
+
+// Whether the counts are within their limits, and zeros behind the columns.
+fn may_widen(b: &[u8]) -> bool
+    requires { length b.now ≡ 512 }
+    ensures { result ≡ may_widen b.now }
+{
+    number_at(b, 32) <= PASSWORD_LIMIT && number_at(b, 40) <= ENTRY_LIMIT && ends(b)
+}
+
+// Whether there are zeros behind the columns.
+fn ends(b: &[u8]) -> bool
+    requires { length b.now ≡ 512 }
+    ensures { result ≡ are_zeros (drop 352 b.now) }
+{
+    are_zeros(&b[352..])
+}
+
+// The bytes where this version has them.
+fn widened(b: &[u8]) -> [u8; ROW]
+    requires long { length b.now ≡ 512 }
+    requires few { number_at b.now 32 ≤ 16 }
+    ensures value { result ≡ widened b.now }
+    ensures long { length result ≡ 1024 }
+{
+    let mut filling = Filling::new();
+    add_part(b, 0, 80, &mut filling);
+    add_part(b, 80, 128, &mut filling);
+    filling.skip(128);
+    add_part(b, 208, 16, &mut filling);
+    filling.skip(16);
+    add_part(b, 224, 128, &mut filling);
+    add_untils(number_at(b, 32), &mut filling);
+    filling.whole()
+}
+
+// So many bytes from a place on.
+fn add_part(b: &[u8], at: usize, n: usize, filling: &mut Filling<ROW>)
+    requires within { at + n ≤ length b.now }
+    requires room { length filling.old + n ≤ 1024 }
+    ensures value { filling.new ≡ filling.old ++ bytes_at b.now at n }
+    ensures long { length filling.new ≡ length filling.old + n }
+{
+    filling.add(&b[at..at + n]);
+}
+
+// The untils of so many passwords that never end.
+fn add_untils(count: u64, filling: &mut Filling<ROW>)
+    requires few { count ≤ 16 }
+    requires room { length filling.old + 256 ≤ 1024 }
+    ensures value { filling.new ≡ filling.old ++ untils count }
+    ensures long { length filling.new ≡ length filling.old + 256 }
+{
+    for _ in 0..count {
+        filling.add_word(NEVER);
+    }
+    filling.skip(256 - 8 * count as usize);
+}
