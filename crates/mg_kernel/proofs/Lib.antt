@@ -1,3 +1,4 @@
+mod Bases
 mod Counted
 mod TurnCounts
 mod Standing

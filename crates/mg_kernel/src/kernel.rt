@@ -1,10 +1,11 @@
 // The kernel.
-ghost use Rattle.std.specs.Prelude.{List, ◌≡◌, ◌≤◌, ◌<◌, ◌+◌, ◌-◌, ◌⊎◌, ℕ, true, false, IfErr, IfOk, IsOk, IsTrue, MatchOption, None, OnErr, OnOk, option_map, replicate, if◌then◌else◌};
+ghost use Rattle.std.specs.Prelude.{List, ◌≡◌, ◌≤◌, ◌<◌, ◌+◌, ◌-◌, ◌⊎◌, ℕ, true, false, IfErr, IfOk, IsOk, IsTrue, MatchOption, None, OnErr, OnOk, is_some, option_map, replicate, if◌then◌else◌};
 ghost use Rattle.std.specs.Option.{ForSome};
+ghost use Rattle.mg_disk.specs.Disk.{Image};
 ghost use Rattle.mg_disk.specs.Stops.{DiskCalls, DiskCallsBy, Leaves, NothingPending, WritesNothing};
 ghost use Rattle.mg_kernel.specs.Meaning.{StandsOn, is_live, keeps_key, knows, now_of, seats_in, staged_of, words_in};
 ghost use Rattle.mg_kernel.specs.Opening.{Holds, Opens};
-ghost use Rattle.mg_model.specs.Access.{allowed, at};
+ghost use Rattle.mg_model.specs.Access.{allowed, at, based_at};
 ghost use Rattle.mg_model.specs.Kept.{KeepsLine, Validates, access_limit, line_limit};
 ghost use Rattle.mg_model.specs.Limits.{seat_count};
 ghost use Rattle.mg_model.specs.Refused.{IsRefusal};
@@ -157,6 +158,13 @@ impl Kernel {
             }
             Err(Failed) => Err(Failed),
         }
+    }
+
+    /// Whether this is the base of an object, in bytes. It reads no disk, and nothing changes.
+    pub fn is_base(&self, base: u64) -> bool
+        ensures { (image : Image) → result ≡ is_some (based_at (now_of self.now image).objects base) }
+    {
+        self.volume.object(base).is_some()
     }
 
     /// How many blocks are staged, 0 to 160.

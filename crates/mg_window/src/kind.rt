@@ -3,9 +3,10 @@ ghost use Rattle.std.specs.Prelude.{◌≡◌};
 ghost use Rattle.mg_window.specs.Devices.{number_of};
 
 /// What a device answers a load with.
-#[derive(Clone, Copy, Debug, Drop, PartialEq)]
+#[derive(Clone, Copy, Debug, Default, Drop, PartialEq)]
 pub enum Kind {
     /// The value that was stored last at that place, 0 where none was.
+    #[default]
     Latch,
     /// How many stores it took, at whatever place.
     Console,

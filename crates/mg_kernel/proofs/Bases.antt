@@ -1,0 +1,19 @@
+-- The rows that are held tell the bases of the state's objects.
+use Rattle.std.specs.Prelude.{ℕ, ◌≡◌, ◌==◌, List, find, is_some, map, option_map, Option, Some, None}
+use Rattle.std.proofs.Common.{refl, sym, ap, ◌∙◌}
+use Rattle.mg_calls_dom.specs.KnownLemmas.{find-rows}
+use Rattle.mg_disk.specs.Disk.{Image}
+use Rattle.mg_model.specs.Access.{based_at}
+use Rattle.mg_model.specs.State.{Object, ObjectRow}
+use Rattle.mg_volume.specs.Held.{VolumeHeld}
+use Rattle.mg_volume.specs.Meaning.{now_of, objects_in}
+use Rattle.mg_volume.specs.RunLemmas.{told_rows}
+
+some_row : (o : Option Object) → is_some (option_map (λ (object : Object). object.row) o) ≡ is_some o
+some_row None = refl
+some_row (Some object) = refl
+
+pub base_told : (v : VolumeHeld) (image : Image) (base : ℕ) → is_some (find (λ (row : ObjectRow). row.base == base) (objects_in v)) ≡ is_some (based_at (now_of v image).objects base)
+base_told v image base =
+    ap is_some (sym (told_rows v image (λ (row : ObjectRow). row.base == base) (find (λ (row : ObjectRow). row.base == base) (objects_in v)) refl) ∙ find-rows (λ (row : ObjectRow). row.base == base) (now_of v image).objects)
+    ∙ some_row (based_at (now_of v image).objects base)

@@ -1,0 +1,11 @@
+mod Answering
+mod Asked
+mod Lines
+mod Newlines
+mod SessionSteps
+mod Outcomes
+mod Endings
+mod Openings
+mod Ran
+mod Told
+mod Staying

@@ -1,0 +1,131 @@
+-- What a run with device windows promises. An object that does not tell its content has None for it; a promise on content is then empty.
+use Rattle.std.specs.Prelude.{ℕ, ◌+◌, ◌≤◌, ◌≡◌, ◌≢◌, ◌⊎◌, List, [], ◌∷◌, ◌++◌, codes, drop, length, take, Option, Some, IfSome, IsSomeAnd}
+use Rattle.std.specs.Fmt.{decimal}
+use Rattle.std.specs.Io.KnownBytes.{Appends}
+use Rattle.std.specs.Option.{ForSome}
+use Rattle.mg_disk.specs.Stops.{CountRose, NothingPending}
+use Rattle.mg_disk.specs.declared.disk.Disk as disks
+use Rattle.mg_faults.specs.Faults.{Rose}
+use Rattle.mg_io.specs.Known.{AppendsPrefix}
+use Rattle.mg_io.specs.declared.traits.Sink as sinks
+use Rattle.mg_io.specs.declared.traits.Source as sources
+use Rattle.mg_layout.specs.MayFormat.{IsNoState}
+use Rattle.mg_model.specs.Lines.{lines}
+use Rattle.mg_model.specs.Print.{answered, hex_text, spaced}
+use Rattle.mg_model.specs.State.{State}
+use Rattle.mg_model.specs.Volume.{volume}
+use Rattle.mg_session.specs.Headline.{Answers, Ends, EndsRun, Holds, HoldsExactly, IsDoneOrMemory, IsWithin, OnVolume, SpellsAfter, TellsOfNone, UsageKeeps, input_limit, replies}
+use Rattle.mg_session.specs.declared.status.Status.{Status}
+use Rattle.mg_session.specs.declared.status.Status.TheVariants as status
+use Rattle.mg_window.specs.Attached.{Attached}
+use Rattle.mg_window.specs.Devices.{Held, number_of}
+use Rattle.mg_window_session.specs.Machine.{Equipped, device_after, device_state, device_text}
+
+-- the machine that begins: the state of a volume, and the devices that were handed in
+abbrev pub equipped : Attached → State → Equipped
+equipped windows s = record { state = s; windows = windows }
+
+-- The devices
+
+-- the devices after the lines of the whole input
+abbrev pub AreAfterAll : Equipped → Option (List ℕ) → Attached → Type 0
+AreAfterAll m left windows = IfSome left (λ input. windows ≡ (device_after m (lines input)).windows)
+
+-- the devices after the answered lines and no others
+abbrev pub AreAfterAnswered : Equipped → Option (List ℕ) → Option (List ℕ) → Option (List ℕ) → Attached → Type 0
+AreAfterAnswered m left taken taken' windows = IfSome left (λ input. IfSome taken (λ before. IsSomeAnd taken' (λ now.
+    windows ≡ (device_after m (take (answered (drop (length before) now)) (lines input))).windows)))
+
+-- so many first lines are those that are answered, or one more
+pub record IsOneMore (n k : ℕ) : Type 0 where
+  pub least : n ≤ k
+  pub most : k ≤ n + 1
+
+-- the devices after the answered lines, or after one line more
+abbrev pub AreAfterOneMore : Equipped → Option (List ℕ) → Option (List ℕ) → Option (List ℕ) → Attached → Type 0
+AreAfterOneMore m left taken taken' windows = IfSome left (λ input. IfSome taken (λ before. IsSomeAnd taken' (λ now.
+    (k : ℕ) × IsOneMore (answered (drop (length before) now)) k × (k ≤ length (lines input)) × (windows ≡ (device_after m (take k (lines input))).windows))))
+
+-- The devices as they are where the lines ran and ended with this status.
+pub record LeavesDevices (m : Equipped) (result : Status) (windows : Attached) (left taken taken' : Option (List ℕ)) : Type 0 where
+  -- At the end they are those after all lines, and these are the answered ones.
+  pub all : result ≡ status.Done → AreAfterAll m left windows
+  pub done : result ≡ status.Done → AreAfterAnswered m left taken taken' windows
+  -- Where the source failed, or gave too much, they are those after the answered lines and no others.
+  pub source : result ≡ status.Source → AreAfterAnswered m left taken taken' windows
+  pub too_long : result ≡ status.TooLong → AreAfterAnswered m left taken taken' windows
+  -- Where the disk or the sink failed, they are those or those after one line more.
+  pub disk : result ≡ status.Disk → AreAfterOneMore m left taken taken' windows
+  pub sink : result ≡ status.Sink → AreAfterOneMore m left taken taken' windows
+
+-- The lines of the devices
+
+-- the line of a device: the base that it stands at, the number of its kind, and how many stores its tape holds
+abbrev pub device_line : ℕ × Held → List ℕ
+device_line (base, device) = codes "dev" ++ spaced (hex_text base ∷ decimal (number_of device.kind) ∷ decimal (length device.tape) ∷ []) ++ 10 ∷ []
+
+-- a line each, in their order
+abbrev pub device_lines : Attached → List ℕ
+device_lines [] = []
+device_lines (window ∷ windows) = device_line window ++ device_lines windows
+
+-- the replies to a whole input, and the lines of the devices that are left behind it
+abbrev pub whole_text : Equipped → List ℕ → List ℕ
+whole_text m input = replies (device_text m) input ++ device_lines (device_after m (lines input)).windows
+
+-- What is put once the lines ran and ended so, and how the whole ends.
+pub record EndsWith {K : Type 0} (to : sinks.Ghosts K) (ran : Status) (windows : Attached) (result : Status) (replied sink' : K) : Type 0 where
+  -- At the end the lines of the devices are put, or the sink fails in them.
+  pub done : ran ≡ status.Done → ((result ≡ status.Done) × Appends (to.taken replied) (to.taken sink') (device_lines windows))
+      ⊎ ((result ≡ status.Sink) × AppendsPrefix (to.taken replied) (to.taken sink') (device_lines windows) × Rose (to.faults replied) (to.faults sink') (to.is_spent sink'))
+  -- After lines that ended early nothing more is put.
+  pub early : ran ≢ status.Done → (result ≡ ran) × (sink' ≡ replied)
+
+-- What a command keeps that runs lines with device windows
+
+-- What is kept as the lines run, a reply a batch. `s` is the state of the volume that reads give at entry; all that is put are replies.
+pub record LinesKeep {D S K : Type 0} (facts : disks.Ghosts D) (from : sources.Ghosts S) (to : sinks.Ghosts K) (result : Status) (windows windows' : Attached) (disk disk' : D) (source source' : S) (sink sink' : K) : Type 0 where
+  pub answers : OnVolume (facts.seen disk) (λ s. Answers (device_text (equipped windows s)) result (from.left source) (from.left source') (to.taken sink) (to.taken sink'))
+  -- At the end reads give the state after all lines.
+  pub kept : result ≡ status.Done → OnVolume (facts.seen disk) (λ s. IfSome (from.left source) (λ input. SpellsAfter (device_state (equipped windows s)) input (facts.seen disk')))
+  pub holds : NothingPending facts disk → OnVolume (facts.seen disk) (λ s. Holds facts (device_state (equipped windows s)) disk disk' (from.left source) (from.left source') (to.taken sink) (to.taken sink'))
+  pub holds_exactly : OnVolume (facts.seen disk) (λ s. HoldsExactly facts (device_state (equipped windows s)) result disk' (from.left source) (from.left source') (to.taken sink) (to.taken sink'))
+  pub devices : OnVolume (facts.seen disk) (λ s. LeavesDevices (equipped windows s) result windows' (from.left source) (to.taken sink) (to.taken sink'))
+  -- Where there is no volume, or memory was wanting, the devices are as they were.
+  pub none_devices : result ≡ status.NoVolume → windows' ≡ windows
+  pub memory_devices : result ≡ status.Memory → windows' ≡ windows
+  pub ends : Ends from to 1 input_limit result source source' sink sink'
+  pub which : EndsRun result
+  -- The disk failed only where its count rose.
+  pub disk_failed : result ≡ status.Disk → CountRose facts disk disk'
+  pub without : TellsOfNone facts to result disk disk' sink sink'
+  -- Where there is no volume nothing is taken.
+  pub none_source : result ≡ status.NoVolume → source' ≡ source
+  pub not_opened_source : ForSome (facts.seen disk) (λ image. IsNoState (volume image) → source' ≡ source)
+  -- Where reads give a volume, no call failed and the input is not too long, all is done, or memory was wanting.
+  pub complete : OnVolume (facts.seen disk) (λ _. (CountRose facts disk disk' → ⊥) → (Rose (from.faults source) (from.faults source') (from.is_spent source') → ⊥)
+      → (Rose (to.faults sink) (to.faults sink') (to.is_spent sink') → ⊥) → IsWithin input_limit (from.left source) (IsDoneOrMemory result))
+
+-- What `VOLUME dev KIND:BASE ..` keeps, where the devices that were handed in are those that the words ask for.
+pub record DevKeeps {D S K : Type 0} (facts : disks.Ghosts D) (from : sources.Ghosts S) (to : sinks.Ghosts K) (result : Status) (windows windows' : Attached) (disk disk' : D) (source source' : S) (sink sink' : K) : Type 0 where
+  -- How the lines ended, and the sink once all replies were put: what is answered are the replies alone.
+  pub ran : Status
+  pub replied : K
+  pub keeps : LinesKeep facts from to ran windows windows' disk disk' source source' sink replied
+  -- Then the lines of the devices are put that are left.
+  pub ends : EndsWith to ran windows' result replied sink'
+  -- What was put is a prefix of the replies to the whole input and those lines; at the end it is all of them.
+  pub prefix : OnVolume (facts.seen disk) (λ s. IfSome (from.left source) (λ input. AppendsPrefix (to.taken sink) (to.taken sink') (whole_text (equipped windows s) input)))
+  pub done : result ≡ status.Done → OnVolume (facts.seen disk) (λ s. IfSome (from.left source) (λ input. (from.left source' ≡ Some []) × Appends (to.taken sink) (to.taken sink') (whole_text (equipped windows s) input)))
+  -- It ends in one of the ways of `run`, and the disk and the sink failed only where their counts rose.
+  pub which : EndsRun result
+  pub disk_failed : result ≡ status.Disk → CountRose facts disk disk'
+  pub sink_failed : result ≡ status.Sink → Rose (to.faults sink) (to.faults sink') (to.is_spent sink')
+  -- Where reads give a volume, no call failed and the input is not too long, all is done, or memory was wanting.
+  pub complete : OnVolume (facts.seen disk) (λ _. (CountRose facts disk disk' → ⊥) → (Rose (from.faults source) (from.faults source') (from.is_spent source') → ⊥)
+      → (Rose (to.faults sink) (to.faults sink') (to.is_spent sink') → ⊥) → IsWithin input_limit (from.left source) (IsDoneOrMemory result))
+
+-- What is kept where the words are no such, or ask for other devices: the disk, the source and the devices are left alone.
+pub record NoDevKeeps {D S K : Type 0} (to : sinks.Ghosts K) (result : Status) (windows windows' : Attached) (disk disk' : D) (source source' : S) (sink sink' : K) : Type 0 where
+  pub usage : UsageKeeps to result disk disk' source source' sink sink'
+  pub devices : windows' ≡ windows

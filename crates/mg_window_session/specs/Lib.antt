@@ -1,0 +1,7 @@
+-- What the words ask for, the machine with devices, and what is promised; then how a session goes on.
+pub mod Commands
+pub mod Machine
+pub mod Headline
+pub mod Sessions
+pub mod Stepping
+pub mod Running

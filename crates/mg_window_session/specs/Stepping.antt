@@ -1,0 +1,49 @@
+-- What a line does to a kernel and the devices beside it.
+use Rattle.std.specs.Prelude.{ℕ, ◌≡◌, List, [], ◌∷◌, Bool, filter, if◌then◌else◌, is_some, map}
+use Rattle.std.specs.Option.{ForSome}
+use Rattle.mg_disk.specs.Disk.{Image}
+use Rattle.mg_disk.specs.Stops.{WritesNothing}
+use Rattle.mg_disk.specs.declared.disk.Disk.{Ghosts}
+use Rattle.mg_kernel.specs.declared.kernel.Kernel.{Kernel}
+use Rattle.mg_kernel.specs.Meaning.{StandsOn, is_live, now_of, staged_of, words_in}
+use Rattle.mg_model.specs.declared.replies.Reply.{Reply}
+use Rattle.mg_model.specs.Access.{based_at}
+use Rattle.mg_model.specs.Counts.{CountsAlike}
+use Rattle.mg_model.specs.State.{State}
+use Rattle.mg_window.specs.Attached.{Attached, without}
+use Rattle.mg_window.specs.Devices.{Held}
+use Rattle.mg_window_session.specs.Machine.{Equipped, Outcome}
+
+-- whether an object has this base
+abbrev pub is_base : State → ℕ → Bool
+is_base s base = is_some (based_at s.objects base)
+
+-- the bases of devices that are bases of objects
+abbrev pub bases_of : State → Attached → List ℕ
+bases_of s windows = filter (λ base. is_base s base) (map (λ (window : ℕ × Held). window.0) windows)
+
+-- the devices without those at these bases that are bases no more
+abbrev pub dropped : State → List ℕ → Attached → Attached
+dropped s [] windows = windows
+dropped s (base ∷ bases) windows = dropped s bases (if is_base s base then windows else without windows base)
+
+-- the machine that a kernel and devices are
+abbrev pub machine : Kernel → Attached → Image → Equipped
+machine k windows image = record { state = now_of k image; windows = windows }
+
+-- where reads were told, the machine behind the call and the reply are those of this step
+pub record IsAnswered {D : Type 0} (facts : Ghosts D) (does : Equipped → Outcome) (k k' : Kernel) (windows windows' : Attached) (disk : D) (answer : Reply) : Type 0 where
+  pub told : ForSome (facts.seen disk) (λ image. (machine k' windows' image, answer) ≡ does (machine k windows image))
+
+-- whatever comes of it: nothing was written, and the kernel serves on
+pub record Serves {D : Type 0} (facts : Ghosts D) (k k' : Kernel) (disk disk' : D) (steps steps' : ℕ) : Type 0 where
+  pub stands : StandsOn facts k' disk'
+  pub writes : WritesNothing facts disk disk'
+  pub live : is_live k' ≡ is_live k
+  pub counted : CountsAlike (words_in k) (words_in k') steps steps'
+
+-- the same of a call that leaves the state as it is
+pub record Looks {D : Type 0} (facts : Ghosts D) (k k' : Kernel) (disk disk' : D) (steps steps' : ℕ) : Type 0 where
+  pub same : ForSome (facts.seen disk) (λ image. now_of k' image ≡ now_of k image)
+  pub staged : staged_of k' ≡ staged_of k
+  pub serves : Serves facts k k' disk disk' steps steps'

@@ -1,0 +1,116 @@
+// What is put besides the replies.
+ghost use Rattle.std.specs.Prelude.{◌≡◌, ◌+◌, ◌<◌, ◌≤◌, ◌⊎◌, [], length};
+ghost use Rattle.std.specs.Io.KnownBytes.{Appends};
+ghost use Rattle.arrayvec.specs.ArrayVec.{array_vec_len};
+ghost use Rattle.mg_faults.specs.Faults.{CountGoesOn, Rose};
+ghost use Rattle.mg_io.specs.Known.{AppendsPrefix};
+ghost use Rattle.mg_session.specs.Headline.{usage_line};
+ghost use Rattle.mg_session.specs.Unopened.{EndsWith, IsQuiet, fault_line};
+ghost use Rattle.mg_window.specs.Attached.{window_at};
+ghost use Rattle.mg_window_session.specs.Headline.{device_line, device_lines};
+ghost use Rattle.mg_window_session.specs.Headline as headline;
+
+use arrayvec::ArrayVec;
+use mg_check::OpenFault;
+use mg_io::{Sink, put_all};
+use mg_session::Status;
+use mg_text::{push_number, push_text, push_word};
+use mg_window::Windows;
+
+/// Room for the lines of 16 devices.
+const ROOM: usize = 16 * 72;
+
+/// Puts the lines of the devices in one call of `put_all`, if the lines that ran are done.
+pub(crate) fn put_devices<K: Sink>(ran: Status, windows: &Windows, sink: &mut K) -> Status
+    ensures ends { headline.EndsWith K.Sink ran windows.now result sink.old sink.new }
+    ensures sink_count { CountGoesOn (K.faults sink.old) (K.faults sink.new) (K.is_spent sink.old) (K.is_spent sink.new) }
+{
+    match ran {
+        Status::Done => put_lines(windows, sink),
+        _ => ran,
+    }
+}
+
+fn put_lines<K: Sink>(windows: &Windows, sink: &mut K) -> Status
+    ensures ends { headline.EndsWith K.Sink Status.Done windows.now result sink.old sink.new }
+    ensures sink_count { CountGoesOn (K.faults sink.old) (K.faults sink.new) (K.is_spent sink.old) (K.is_spent sink.new) }
+{
+    let text = device_text(windows);
+    match put_all(sink, text.as_slice()) {
+        Ok(()) => Status::Done,
+        Err(_) => Status::Sink,
+    }
+}
+
+/// The lines of the devices, in their order.
+fn device_text(windows: &Windows) -> ArrayVec<u8, ROOM>
+    ensures { result.items ≡ device_lines windows.now }
+{
+    let count = windows.len();
+    let mut text = ArrayVec::new();
+    let mut i = 0;
+    while i < count {
+        let mut line = ArrayVec::new();
+        print_device(windows, i, &mut line);
+        let _ = text.try_extend_from_slice(line.as_slice());
+        i += 1;
+    }
+    text
+}
+
+/// Writes the line of the i-th device into an empty buffer.
+fn print_device(windows: &Windows, i: usize, out: &mut ArrayVec<u8, 256>)
+    requires place { i < length windows.now }
+    requires empty { out.old.items ≡ [] }
+    ensures text { out.new.items ≡ device_line (window_at windows.now i) }
+    ensures short { length out.new.items ≤ 72 }
+{
+    push_text(out, b"dev");
+    push_word(out, windows.base_at(i));
+    push_number(out, windows.kind_at(i));
+    push_number(out, windows.length_at(i));
+    push_text(out, b"\n");
+}
+
+/// Puts the line of a fault of the opening; of a fault of the disk and of a want of memory nothing is put.
+pub(crate) fn put_fault<K: Sink>(fault: OpenFault, sink: &mut K) -> Status
+    ensures ends { EndsWith fault result }
+    ensures put { result ≡ Status.NoVolume → Appends (K.taken sink.old) (K.taken sink.new) (fault_line fault) }
+    ensures prefix { AppendsPrefix (K.taken sink.old) (K.taken sink.new) (fault_line fault) }
+    ensures quiet { IsQuiet fault → sink.new ≡ sink.old }
+    ensures sink { result ≡ Status.Sink → Rose (K.faults sink.old) (K.faults sink.new) (K.is_spent sink.new) }
+    ensures sink_count { CountGoesOn (K.faults sink.old) (K.faults sink.new) (K.is_spent sink.old) (K.is_spent sink.new) }
+{
+    match fault {
+        OpenFault::Not => put_line(b"open not\n", Status::NoVolume, sink),
+        OpenFault::Old => put_line(b"open old\n", Status::NoVolume, sink),
+        OpenFault::Damaged => put_line(b"open damaged\n", Status::NoVolume, sink),
+        OpenFault::Disk => Status::Disk,
+        OpenFault::Memory => Status::Memory,
+    }
+}
+
+/// Puts the line `usage`.
+pub(crate) fn usage<K: Sink>(sink: &mut K) -> Status
+    ensures either { (result ≡ Status.Usage) ⊎ (result ≡ Status.Sink) }
+    ensures text { result ≡ Status.Usage → Appends (K.taken sink.old) (K.taken sink.new) usage_line }
+    ensures prefix { AppendsPrefix (K.taken sink.old) (K.taken sink.new) usage_line }
+    ensures sink { result ≡ Status.Sink → Rose (K.faults sink.old) (K.faults sink.new) (K.is_spent sink.new) }
+{
+    put_line(b"usage\n", Status::Usage, sink)
+}
+
+/// Puts a line, and ends so where the sink took it.
+fn put_line<K: Sink>(line: &[u8], end: Status, sink: &mut K) -> Status
+    requires other { end ≡ Status.Sink → ⊥ }
+    ensures ends { (result ≡ end) ⊎ (result ≡ Status.Sink) }
+    ensures put { result ≡ end → Appends (K.taken sink.old) (K.taken sink.new) line.now }
+    ensures prefix { AppendsPrefix (K.taken sink.old) (K.taken sink.new) line.now }
+    ensures sink { result ≡ Status.Sink → Rose (K.faults sink.old) (K.faults sink.new) (K.is_spent sink.new) }
+    ensures sink_count { CountGoesOn (K.faults sink.old) (K.faults sink.new) (K.is_spent sink.old) (K.is_spent sink.new) }
+{
+    match put_all(sink, line) {
+        Ok(()) => end,
+        Err(_) => Status::Sink,
+    }
+}

@@ -1,0 +1,150 @@
+// The words of the command line.
+ghost use Rattle.std.specs.Prelude.{◌≡◌, ◌≤◌, ◌<◌, ◌++◌, ◌∷◌, [], IfSome, MatchOption, None, Some, length, map, option_map};
+ghost use Rattle.std.specs.String.{string_bytes};
+ghost use Rattle.mg_model.specs.Words.{same_bytes};
+ghost use Rattle.mg_session.specs.Commands.{before_colon, words_of};
+ghost use Rattle.mg_window.specs.Attached.{window_at};
+ghost use Rattle.mg_window_session.specs.Commands.{are_those, asks_for, dev_of, dev_words, device_more, device_named, device_parts, devices_named, is_taken, is_that, kind_named};
+
+use arrayvec::ArrayVec;
+use mg_text::read_number;
+use mg_window::{Kind, Windows};
+
+/// The devices that words ask for: the kind of each, and the base that it is to stand at, in bytes.
+pub type Asked = ArrayVec<(Kind, u64), 16>;
+
+/// The device that a word `KIND:BASE` asks for: its kind, and the base that it is to stand at. KIND is `latch`, `console` or
+/// `counter`, and BASE is a number as in a line. None exactly where the word is not of this form.
+pub fn read_device(word: &String) -> Option<(Kind, u64)>
+    ensures { result ≡ device_named (string_bytes word.now) }
+{
+    device(word.as_bytes())
+}
+
+fn device(word: &[u8]) -> Option<(Kind, u64)>
+    ensures { result ≡ device_named word.now }
+{
+    let (kind, rest) = word.split_at(before_colon(word));
+    device_parts(kind, rest)
+}
+
+/// The device of a kind and what stands behind it, which begins with a colon.
+fn device_parts(kind: &[u8], rest: &[u8]) -> Option<(Kind, u64)>
+    ensures { result ≡ device_parts kind.now rest.now }
+{
+    match rest {
+        [_, base @ ..] => Some((kind_named(kind)?, read_number(base)?)),
+        [] => None,
+    }
+}
+
+/// How many bytes stand before the first colon.
+fn before_colon(word: &[u8]) -> usize
+    ensures count { result ≡ before_colon word.now }
+    ensures within { result ≤ length word.now }
+{
+    word.iter().take_while(|b| **b != b':').count()
+}
+
+fn kind_named(word: &[u8]) -> Option<Kind>
+    ensures { result ≡ kind_named word.now }
+{
+    if is_word(word, b"latch") {
+        Some(Kind::Latch)
+    } else if is_word(word, b"console") {
+        Some(Kind::Console)
+    } else if is_word(word, b"counter") {
+        Some(Kind::Counter)
+    } else {
+        None
+    }
+}
+
+/// Whether a word is this one.
+fn is_word(word: &[u8], known: &[u8]) -> bool
+    ensures { result ≡ same_bytes word.now known.now }
+{
+    word == known
+}
+
+/// The devices that are asked for, if the words, which are those behind the program's name, are `VOLUME dev` and up to 16 words
+/// `KIND:BASE`, all bases different. None exactly where they are not.
+pub fn read_words(words: &[String]) -> Option<Asked>
+    ensures { option_map (λ asked. asked.items) result ≡ dev_of (words_of words.now) }
+{
+    match words {
+        [_, word, devices @ ..] => dev_words(word.as_bytes(), devices),
+        _ => None,
+    }
+}
+
+fn dev_words(word: &[u8], devices: &[String]) -> Option<Asked>
+    ensures { option_map (λ asked. asked.items) result ≡ dev_words word.now (words_of devices.now) }
+{
+    if is_word(word, b"dev") {
+        devices_named(devices)
+    } else {
+        None
+    }
+}
+
+fn devices_named(words: &[String]) -> Option<Asked>
+    ensures { option_map (λ asked. asked.items) result ≡ devices_named (words_of words.now) }
+{
+    if words.len() > 16 {
+        return None;
+    }
+    let mut asked = ArrayVec::new();
+    for word in words {
+        let device = match read_device(word) {
+            Some(device) => device,
+            None => return None,
+        };
+        if is_taken(device.1, asked.as_slice()) {
+            return None;
+        }
+        asked.push(device);
+    }
+    Some(asked)
+}
+
+/// Whether one of these stands at the base.
+fn is_taken(base: u64, devices: &[(Kind, u64)]) -> bool
+    ensures { result ≡ is_taken base devices.now }
+{
+    devices.iter().any(|device| device.1 == base)
+}
+
+/// Whether the words ask for a run with these windows.
+pub(crate) fn ask_for(words: &[String], windows: &Windows) -> bool
+    ensures { result ≡ asks_for (words_of words.now) windows.now }
+{
+    match read_words(words) {
+        Some(asked) => are_those(windows, asked.as_slice()),
+        None => false,
+    }
+}
+
+/// Whether the windows are those that are asked for, in their order.
+fn are_those(windows: &Windows, asked: &[(Kind, u64)]) -> bool
+    ensures { result ≡ are_those windows.now asked.now }
+{
+    if windows.len() != asked.len() {
+        return false;
+    }
+    let mut i = 0;
+    while i < asked.len() {
+        if !is_that(windows, i, asked[i]) {
+            return false;
+        }
+        i += 1;
+    }
+    true
+}
+
+fn is_that(windows: &Windows, i: usize, asked: (Kind, u64)) -> bool
+    requires { i < length windows.now }
+    ensures { result ≡ is_that (window_at windows.now i) asked }
+{
+    windows.base_at(i) == asked.1 && windows.kind_at(i) == asked.0.number()
+}
