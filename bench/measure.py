@@ -1,0 +1,228 @@
+#!/usr/bin/env python3
+"""Measures the program in one run on one machine: durable stores beside SQLite, openings beside reading the file, lines a second
+that are kept nowhere, instructions a line, and calls of the disk.
+
+    bench/measure.py [--program PATH] [--folder FOLDER] [--seconds S] [--svg FILE]
+
+It puts one table. A rate of mungi is that of a run less a run on no lines, both with the page cache warm; a rate of SQLite is that of
+the same number of updates of one row each, with journal_mode WAL and synchronous FULL, in transactions of as many updates as a batch has
+lines. A row fills a page of SQLite's as a store's page fills one of mungi's. Instructions are counted by valgrind's callgrind and calls by
+strace; where one of them is not there, its rows are left out, and that is said on standard error. --svg draws the ratios to SQLite.
+"""
+import argparse
+import os
+import re
+import shutil
+import sqlite3
+import subprocess
+import sys
+import tempfile
+import time
+from pathlib import Path
+
+TOP = Path(__file__).resolve().parent.parent
+SEED = "0" * 64
+TREASURY = "0x28bd8653e56a5d40"
+CREDITS = str(2**62)
+LOAD = "1 load 0x100000000"
+STORE = "1 store 0x100000008 7"
+PAGES = (1, 24, 1000)
+# What is wanted of the ratio to SQLite: a line a commit, and 64, over so many pages.
+WANTED = {(1, 1): 0.6, (1, 24): 0.6, (1, 1000): 0.6, (64, 1): 2.0, (64, 24): 1.5, (64, 1000): 2.0}
+
+
+def text_of(lines):
+    return "".join(line + "\n" for line in lines).encode()
+
+
+def mungi(program, words, lines=()):
+    """Runs these lines, and gives the seconds and the answers."""
+    begun = time.perf_counter()
+    done = subprocess.run([program, *words], input=text_of(lines), stdout=subprocess.PIPE, check=True)
+    return time.perf_counter() - begun, done.stdout.decode().splitlines()
+
+
+def rate(run, seconds):
+    """Lines a second: `run` takes so many lines and gives its seconds, those of no lines are taken off."""
+    empty = min(run(0) for _ in range(3))
+    count = 64
+    while True:
+        took = run(count) - empty
+        if took > seconds or count >= 1 << 22:
+            return count / took
+        count *= 2
+
+
+def volume_with(program, volume, pages):
+    """A volume with one object of so many pages, each stored to, and its base."""
+    Path(volume).unlink(missing_ok=True)
+    mungi(program, [volume, "format", "2048", SEED, "1000000"])
+    _, put = mungi(program, [volume, "run"], [f"1 create {pages} 1 {TREASURY}"])
+    base, password = put[0].split()[1:]
+    lines = [f"1 store 0x100000020 {base}", f"1 store 0x100000028 {password}", "1 store 0x100000000 2"]
+    _, put = mungi(program, [volume, "run", "64"], lines + [f"1 store {int(base, 16) + 4096 * k} 1" for k in range(pages)])
+    assert all(line == "ok" for line in put)
+    return int(base, 16)
+
+
+def store_rate(program, volume, pages, batch, seconds):
+    base = volume_with(program, volume, pages)
+
+    def run(count):
+        lines = [f"1 store {base + 4096 * (i * 7 % pages) + 8 * (i % 512)} {i}" for i in range(count)]
+        took, put = mungi(program, [volume, "run", str(batch)], lines)
+        assert put == ["ok"] * count
+        return took
+
+    return rate(run, seconds)
+
+
+def sqlite_rate(path, pages, batch, seconds):
+    for name in (path, path + "-wal", path + "-shm"):
+        Path(name).unlink(missing_ok=True)
+    base = sqlite3.connect(path, isolation_level=None)
+    base.execute("PRAGMA page_size = 4096")
+    base.execute("PRAGMA journal_mode = WAL")
+    base.execute("PRAGMA synchronous = FULL")
+    base.execute("CREATE TABLE pages (k INTEGER PRIMARY KEY, v INTEGER, rest BLOB)")
+    base.execute("BEGIN")
+    for k in range(pages):
+        base.execute("INSERT INTO pages VALUES (?, 0, ?)", (k, bytes(3900)))
+    base.execute("COMMIT")
+    done, begun = 0, time.perf_counter()
+    while True:
+        # Each update has another value: one that changes nothing is not written.
+        for first in range(done, done + 64, batch):
+            base.execute("BEGIN")
+            for i in range(first, first + batch):
+                base.execute("UPDATE pages SET v = ? WHERE k = ?", (i + 1, i * 7 % pages))
+            base.execute("COMMIT")
+        done += 64
+        took = time.perf_counter() - begun
+        if took > seconds:
+            base.close()
+            return done / took
+
+
+def machine_with(objects):
+    """Lines that make a machine with so many objects, the root object among them."""
+    return [f"1 create 1 1 {TREASURY}"] * (objects - 1)
+
+
+def dry(frames=65536):
+    return ["x", "dry", str(frames), SEED, CREDITS]
+
+
+def dry_rate(program, line, objects, seconds):
+    before = machine_with(objects)
+
+    def run(count):
+        took, put = mungi(program, dry(), before + [line] * count)
+        assert all(answer.startswith("ok") for answer in put)
+        return took
+
+    return rate(run, seconds)
+
+
+def instructions(program, line, objects):
+    """Instructions a line: those of 3,000 less those of 1,000, over 2,000."""
+    counts = []
+    for count in (1000, 3000):
+        command = ["valgrind", "--tool=callgrind", "--callgrind-out-file=/dev/null", program, *dry()]
+        done = subprocess.run(command, input=text_of(machine_with(objects) + [line] * count), stdout=subprocess.DEVNULL, stderr=subprocess.PIPE, check=True)
+        counts.append(int(re.search(rb"Collected : (\d+)", done.stderr)[1]))
+    return (counts[1] - counts[0]) / 2000
+
+
+def disk_calls(program, volume, lines):
+    """The writes and the syncs of a run of these lines, a line a commit, less those of one on no lines."""
+    counts = []
+    for some in ([], lines):
+        command = ["strace", "-f", "-e", "trace=pwrite64,fdatasync,fsync", program, volume, "run"]
+        done = subprocess.run(command, input=text_of(some), stdout=subprocess.DEVNULL, stderr=subprocess.PIPE, check=True)
+        counts.append((done.stderr.count(b"pwrite64("), done.stderr.count(b"sync(")))
+    return counts[1][0] - counts[0][0], counts[1][1] - counts[0][1]
+
+
+def least(command, runs=20):
+    best = None
+    for _ in range(runs):
+        begun = time.perf_counter()
+        subprocess.run(command, stdin=subprocess.DEVNULL, stdout=subprocess.DEVNULL, check=True)
+        took = time.perf_counter() - begun
+        best = took if best is None else min(best, took)
+    return best
+
+
+def picture(ratios):
+    """The ratios to SQLite as bars, each with a mark at the one that is wanted."""
+    left, wide, step = 210, 170, 34
+    parts = []
+    for place, ((batch, pages), ratio) in enumerate(ratios.items()):
+        y = 40 + step * place
+        label = f"{batch} to a commit, {pages:,} page{'s' if pages > 1 else ''}"
+        parts.append(f'<text x="{left - 8}" y="{y + 14}" text-anchor="end">{label}</text>')
+        parts.append(f'<rect x="{left}" y="{y}" width="{wide * ratio:.0f}" height="20" fill="#4878a8"/>')
+        parts.append(f'<text x="{left + wide * ratio + 6:.0f}" y="{y + 14}">{ratio:.2f}</text>')
+        x = left + wide * WANTED[(batch, pages)]
+        parts.append(f'<line x1="{x:.0f}" y1="{y - 4}" x2="{x:.0f}" y2="{y + 24}" stroke="#b03030" stroke-width="2"/>')
+    height = 40 + step * len(ratios) + 10
+    x = left + wide
+    parts.append(f'<line x1="{x}" y1="30" x2="{x}" y2="{height - 8}" stroke="#888" stroke-dasharray="3 3"/>')
+    parts.append(f'<text x="{left}" y="20">durable stores a second over SQLite\'s updates; red: wanted; dashed: as many</text>')
+    return f'<svg xmlns="http://www.w3.org/2000/svg" width="660" height="{height}" font-family="sans-serif" font-size="13">\n' + "\n".join(parts) + "\n</svg>\n"
+
+
+def row(name, figure, beside="", ratio=""):
+    print(f"| {name} | {figure} | {beside} | {ratio} |", flush=True)
+
+
+def main():
+    parser = argparse.ArgumentParser(description=__doc__, formatter_class=argparse.RawDescriptionHelpFormatter)
+    parser.add_argument("--program")
+    parser.add_argument("--folder")
+    parser.add_argument("--seconds", type=float, default=2.0)
+    parser.add_argument("--svg")
+    words = parser.parse_args()
+    if words.program is None:
+        mungi(str(TOP / "mungi"), ["x", "dry", "16", SEED, "0"])
+        words.program = str(TOP / "crates/mungi/out/mungi")
+    program = os.path.abspath(words.program)
+    print(f"SQLite {sqlite3.sqlite_version}, WAL, synchronous FULL; {words.seconds} seconds or more a rate\n")
+    row("what", "mungi", "beside it", "ratio")
+    row("---", "---", "---", "---")
+    ratios = {}
+    with tempfile.TemporaryDirectory(dir=words.folder) as folder:
+        volume = folder + "/vol"
+        for batch in (1, 64):
+            for pages in PAGES:
+                ours = store_rate(program, volume, pages, batch, words.seconds)
+                theirs = sqlite_rate(folder + "/base", pages, batch, words.seconds)
+                ratios[(batch, pages)] = ours / theirs
+                row(f"durable stores a second, {batch} to a commit, {pages:,} pages", f"{ours:,.0f}", f"SQLite {theirs:,.0f}", f"{ours / theirs:.2f}")
+        opening, reading = least([program, volume, "run"]), least(["cat", volume])
+        row(f"opening a volume of {os.stat(volume).st_size >> 20} MB", f"{1000 * opening:.1f} ms", f"`cat` of it {1000 * reading:.1f} ms", f"{opening / reading:.1f}")
+        if shutil.which("strace"):
+            base = volume_with(program, volume, 1)
+            writes, syncs = disk_calls(program, volume, [f"1 store {base + 8 * (i % 512)} {i}" for i in range(800)])
+            row("writes a commit, of 800 of one store", f"{writes / 800:.2f}")
+            row("syncs a commit, of 800 of one store", f"{syncs / 800:.2f}")
+        else:
+            print("strace is not there: no counts of calls", file=sys.stderr)
+    for objects in (1, 4096):
+        row(f"loads a second under `dry`, {objects:,} objects", f"{dry_rate(program, LOAD, objects, words.seconds):,.0f}")
+    row("stores a second under `dry`", f"{dry_rate(program, STORE, 1, words.seconds):,.0f}")
+    row("lines a second of `gen`", f"{1000000 / (mungi(program, ['x', 'gen', '7', '1000000'])[0] - mungi(program, ['x', 'gen', '7', '0'])[0]):,.0f}")
+    if shutil.which("valgrind"):
+        counts = {objects: instructions(program, LOAD, objects) for objects in (1, 64, 4096)}
+        for objects, count in counts.items():
+            row(f"instructions of a load, {objects:,} objects", f"{count:,.0f}", "1 object", f"{count / counts[1]:.2f}")
+        row("instructions of a store", f"{instructions(program, STORE, 1):,.0f}")
+    else:
+        print("valgrind is not there: no counts of instructions", file=sys.stderr)
+    if words.svg:
+        Path(words.svg).write_text(picture(ratios))
+
+
+if __name__ == "__main__":
+    main()
