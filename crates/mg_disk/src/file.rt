@@ -30,7 +30,7 @@ impl OneHolder for File {
 }
 
 /// A disk of 70,000 blocks in a file, which is opened at the first read, write or sync and made empty where there is
-/// none. Past the end of the file it reads zeros.
+/// none, unless it is to be read alone. Past the end of the file it reads zeros.
 ///
 /// A file that is opened is held for this run alone ([`OneHolder`]): one that another run holds counts as one that cannot be
 /// opened.
@@ -46,6 +46,8 @@ where
 {
     rt: &'a R,
     path: &'a str,
+    // Whether the file may be written, and is made where there is none.
+    writes: bool,
     file: Option<R::File>,
     count: FaultCount,
 }
@@ -61,6 +63,21 @@ where
         FileDisk {
             rt,
             path,
+            writes: true,
+            file: None,
+            count: FaultCount::new(),
+        }
+    }
+
+    /// The disk in the file at `path`, to be read alone: the file is opened for reading and not made where there is none, so
+    /// that every read of it fails then, and every write always. It is not touched yet, and no memory is taken.
+    pub fn reader(rt: &'a R, path: &'a str) -> FileDisk<'a, R>
+        ensures { ⟦<FileDisk<'a, R> as Disk>⟧.faults result ≡ 0 }
+    {
+        FileDisk {
+            rt,
+            path,
+            writes: false,
             file: None,
             count: FaultCount::new(),
         }
@@ -75,8 +92,8 @@ where
             None => {
                 let file = OpenOptions::new()
                     .read(true)
-                    .write(true)
-                    .create(true)
+                    .write(self.writes)
+                    .create(self.writes)
                     .open(self.rt, self.path)?;
                 file.hold()?;
                 Ok(file)

@@ -69,8 +69,8 @@ fn make<D: Disk>(disk: &mut D, p: &Params) -> Result<(), Failed>
     write_firmly(disk, GATE_BLOCK, &gate)
 }
 
-// Writes a block and makes sure of it.
-fn write_firmly<D: Disk>(disk: &mut D, i: u64, from: &Block) -> Result<(), Failed>
+/// Writes a block and makes sure of it.
+pub fn write_firmly<D: Disk>(disk: &mut D, i: u64, from: &Block) -> Result<(), Failed>
     requires room { i < D.block_count disk.old }
     ensures any_moment { NothingPending D.Disk disk.old → ForSome (D.seen disk.old) (λ image. Leaves D.Disk disk.old disk.new (SameBut (only_place i) image)) }
     ensures written { OnOk result (D.seen disk.new ≡ option_map (λ image. slice_set image i from.now) (D.seen disk.old)) }

@@ -17,7 +17,7 @@ mod geometry;
 mod laws;
 mod superblock;
 
-pub use formatting::{FormatFault, format};
+pub use formatting::{FormatFault, format, write_firmly};
 pub use fresh::fresh_block;
 pub use geometry::{
     FIRST_ACCOUNT_BLOCK, FIRST_OBJECT_BLOCK, FIRST_THREAD_BLOCK, GATE_BLOCK, GATE_OPEN,
