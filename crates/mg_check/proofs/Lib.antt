@@ -4,6 +4,7 @@ pub mod Covered
 pub mod Entries
 pub mod Gaps
 pub mod LiveRows
+pub mod LiveTables
 pub mod NoRows
 pub mod ObjectOrder
 pub mod Placed

@@ -1,5 +1,5 @@
 -- The tests of the rows decide whether these may stand beside each other.
-use Rattle.std.specs.Prelude.{◌≡◌, ℕ, ◌+◌, ◌==◌, ◌&&◌, nat_le, Bool, true, false, List, [], ◌∷◌, if◌then◌else◌, length, sum_by, Some}
+use Rattle.std.specs.Prelude.{◌≡◌, ℕ, ◌+◌, ◌==◌, ◌&&◌, nat_le, Bool, true, false, List, [], ◌∷◌, Option, if◌then◌else◌, length, sum_by, Some}
 use Rattle.std.specs.List.{list_all, list_any}
 use Rattle.std.specs.Option.{option_map_or}
 use Rattle.std.proofs.Common.{refl, sym, ap, ◌∙◌}
@@ -7,13 +7,15 @@ use Rattle.std.proofs.lemmas.Bool.{and_from, eq-eqb}
 use Rattle.std.proofs.lemmas.List.Folds.{list_all-map}
 use Rattle.std.proofs.lemmas.Simd.{map-map}
 use Rattle.mg_check.specs.declared.volume_rows.VolumeRows.{VolumeRows}
+use Rattle.mg_check.proofs.LiveTables.{live-pages, live-paid}
 use Rattle.mg_check.proofs.ObjectOrder.{spelled-apart, spelled-covered, spelled-paid, spelled-used}
-use Rattle.mg_check.specs.RowsRead.{placed_from, rows_in, state_in}
+use Rattle.mg_check.specs.RowsRead.{live_from, objects_of, placed_from, rows_in, state_in}
 use Rattle.mg_check.specs.RowsTold.{AreTold, HasNoState, TellsRows}
 use Rattle.mg_check.specs.TableTold.{IsTable}
 use Rattle.mg_check.specs.Told.{AreLive}
 use Rattle.mg_check.specs.Rules.{AreSpans, Decides, births_of}
 use Rattle.mg_check.specs.Spans.{apart_from, is_in}
+use Rattle.mg_check.specs.Tables.{is_paid, pages_in}
 use Rattle.mg_disk.specs.Disk.{Image}
 use Rattle.mg_model.specs.declared.accounts.AccRow.{AccRow}
 use Rattle.mg_model.specs.Bank.{used}
@@ -54,6 +56,14 @@ module _ (image : Image) (frames : ℕ) (table : List ℕ) (spans : List (ℕ ×
       ap (λ t. t && all_distinct (bound_pages table))
       (all_same (λ page. list_any (λ object. is_page_of page object) (objects_spelled image frames table rows)) (λ page. list_any (is_in page) spans) (λ page. spelled-covered image frames table rows spans are.are page) (bound_pages table))
 
+pub objects-fit-table :
+    (image : Image) (frames : ℕ) (table : List ℕ) (spans : List (ℕ × ℕ)) (rows : List (Option ObjectRow)) → AreSpans spans (live_from 0 rows) → (accounts : ℕ)
+    → objects_fit frames accounts (objects_spelled image frames table (live_from 0 rows)) ≡ (apart_from 0 spans && list_all (is_paid accounts) rows && nat_le (sum_by pages_in rows) frames)
+objects-fit-table image frames table spans rows are accounts =
+    objects-fit image frames table spans (live_from 0 rows) are accounts
+    ∙ ap (λ t. apart_from 0 spans && t && nat_le (sum_by (λ (row : ℕ × ObjectRow). row.1.pages) (live_from 0 rows)) frames) (sym (live-paid accounts 0 rows))
+    ∙ ap (λ n. apart_from 0 spans && list_all (is_paid accounts) rows && nat_le n frames) (sym (live-pages 0 rows))
+
 -- threads
 abbrev thread_of : ℕ × ThreadRow → Thread
 thread_of row = record { number = row.0 + 1; row = row.1 }
@@ -68,7 +78,7 @@ threads-fit births rows =
 -- all rows
 module _ (rows : VolumeRows) where
   abbrev objects_at : Image → List Object
-  objects_at image = objects_spelled image rows.params.frames rows.table.items rows.objects.items
+  objects_at image = objects_spelled image rows.params.frames rows.table.items (objects_of rows)
 
   abbrev all_fit : Image → Bool
   all_fit image =
@@ -96,7 +106,7 @@ module _ (rows : VolumeRows) where
   accounts-test test credits accounts is same here = sym (is ∙ ap (λ n. accounts_fit n rows.globals.period accounts) same ∙ ap (accounts_fit rows.params.credits rows.globals.period) here)
 
   pub objects-test : (test : Bool) (frames n : ℕ) (objects : List (ℕ × ObjectRow)) → ((image : Image) (table : List ℕ) → objects_fit frames n (objects_spelled image frames table objects) ≡ test) → frames ≡ rows.params.frames → n ≡ length rows.accounts.items
-      → objects ≡ rows.objects.items → (image : Image) → objects_fit rows.params.frames (length rows.accounts.items) (objects_at image) ≡ test
+      → objects ≡ (objects_of rows) → (image : Image) → objects_fit rows.params.frames (length rows.accounts.items) (objects_at image) ≡ test
   objects-test test frames n objects is same count here image =
       sym (ap (λ k. objects_fit k n (objects_spelled image k rows.table.items objects)) same
       ∙ ap (λ k. objects_fit rows.params.frames k (objects_spelled image rows.params.frames rows.table.items objects)) count
@@ -133,13 +143,13 @@ module _ (rows : VolumeRows) where
     pub bad-threads : threads_fit rows.globals.births (threads_spelled rows.threads.items) ≡ false → Decides false rows
     bad-threads bad = record { is = λ image. good_objects image ∙ ap (λ t. t && table_fits (objects_at image) rows.table.items) bad }
 
-    pub decided : threads_fit rows.globals.births (threads_spelled rows.threads.items) ≡ true → (spans : List (ℕ × ℕ)) → AreSpans spans rows.objects.items → (fit : Bool)
+    pub decided : threads_fit rows.globals.births (threads_spelled rows.threads.items) ≡ true → (spans : List (ℕ × ℕ)) → AreSpans spans (objects_of rows) → (fit : Bool)
         → fit ≡ (list_all (λ page. list_any (is_in page) spans) (bound_pages rows.table.items) && all_distinct (bound_pages rows.table.items)) → Decides fit rows
     decided threads spans are fit is = record {
       is = λ image.
           good_objects image
           ∙ ap (λ t. t && table_fits (objects_at image) rows.table.items) threads
-          ∙ table-fits image rows.params.frames rows.table.items spans rows.objects.items are
+          ∙ table-fits image rows.params.frames rows.table.items spans (objects_of rows) are
           ∙ sym is;
     }
 
@@ -163,11 +173,11 @@ module _ (rows : VolumeRows) where
 pub tables-told : (rows : VolumeRows) (image : Image) → globals_read (block_of image globals_block) ≡ Some rows.globals
     → AreLive (λ i. account_read (account_row_bytes image i)) account_rows (placed_from 0 rows.accounts.items)
     → AreLive (λ i. thread_read (thread_row_bytes image i)) thread_rows rows.threads.items
-    → AreLive (λ i. object_read (object_row_bytes image i)) object_rows rows.objects.items
+    → AreLive (λ i. object_read (object_row_bytes image i)) object_rows (objects_of rows)
     → IsTable image rows.params.frames rows.table.items → AreTold rows image
 tables-told rows image counters accounts threads objects table = record {
   are =
-      rows-read image rows.params.frames rows.globals (placed_from 0 rows.accounts.items) rows.threads.items rows.objects.items (whole_table image rows.params.frames)
+      rows-read image rows.params.frames rows.globals (placed_from 0 rows.accounts.items) rows.threads.items (objects_of rows) (whole_table image rows.params.frames)
       (record { counters_are = counters; accounts_are = accounts.are; threads_are = threads.are; objects_are = objects.are; whole_is = refl; rest = table.rest })
-      ∙ ap (λ t. Some (rows_with rows.globals (placed_from 0 rows.accounts.items) rows.threads.items rows.objects.items t)) table.are;
+      ∙ ap (λ t. Some (rows_with rows.globals (placed_from 0 rows.accounts.items) rows.threads.items (objects_of rows) t)) table.are;
 }

@@ -1,6 +1,6 @@
 -- Definitions, in the order in which one reads them. First what a layer above learns.
-pub mod Summaries
 pub mod RowsRead
+pub mod Summaries
 -- What was read, and which rows are live.
 pub mod Reads
 pub mod Told
@@ -9,4 +9,5 @@ pub mod TableTold
 pub mod RowsTold
 pub mod Spans
 pub mod Rules
+pub mod Tables
 pub mod Settled

@@ -1,5 +1,5 @@
 -- The rows of a volume as they are read and held.
-use Rattle.std.specs.Prelude.{◌≡◌, ◌≤◌, ◌<◌, ◌+◌, ℕ, true, List, [], ◌∷◌, All, AllPairs, Some, length, vec_capacity}
+use Rattle.std.specs.Prelude.{◌≡◌, ◌≤◌, ◌<◌, ◌+◌, ℕ, true, List, [], ◌∷◌, All, AllPairs, Option, None, Some, length, vec_capacity}
 use Rattle.mg_check.specs.declared.volume_rows.VolumeRows.{VolumeRows}
 use Rattle.mg_disk.specs.Disk.{Image}
 use Rattle.mg_model.specs.declared.accounts.AccRow.{AccRow}
@@ -15,13 +15,23 @@ abbrev pub placed_from : ℕ → List AccRow → List (ℕ × AccRow)
 placed_from i [] = []
 placed_from i (row ∷ rows) = (i, row) ∷ placed_from (i + 1) rows
 
+-- the rows that are there, each with its place, where the first place is i
+abbrev pub live_from : {R : Type 0} → ℕ → List (Option R) → List (ℕ × R)
+live_from i [] = []
+live_from i (None ∷ rows) = live_from (i + 1) rows
+live_from i (Some row ∷ rows) = (i, row) ∷ live_from (i + 1) rows
+
+-- the objects of these rows
+abbrev pub objects_of : VolumeRows → List (ℕ × ObjectRow)
+objects_of rows = live_from 0 rows.objects.items
+
 -- the rows that are held
 abbrev pub rows_in : VolumeRows → Rows
 rows_in rows = record {
   counters = rows.globals;
   accounts = placed_from 0 rows.accounts.items;
   threads = rows.threads.items;
-  objects = rows.objects.items;
+  objects = objects_of rows;
   table = rows.table.items;
 }
 
@@ -54,8 +64,9 @@ pub record AreHeld (rows : VolumeRows) : Type 0 where
   pub few_frames : rows.params.frames ≤ 65536
   pub few_accounts : length rows.accounts.items ≤ account_rows
   pub threads : ArePlaced thread_rows rows.threads.items
-  pub objects : ArePlaced object_rows rows.objects.items
-  pub ranges : AreInRange rows.objects.items
+  pub places : length rows.objects.items ≤ object_rows
+  pub objects : ArePlaced object_rows (objects_of rows)
+  pub ranges : AreInRange (objects_of rows)
   pub entries : length rows.table.items ≡ rows.params.frames
   pub room_accounts : account_rows ≤ vec_capacity rows.accounts
   pub room_threads : thread_rows ≤ vec_capacity rows.threads

@@ -1,6 +1,8 @@
 -- What is told of a volume.
 use Rattle.std.specs.Prelude.{◌≡◌, length}
 use Rattle.mg_check.specs.declared.examining.Summary.{Summary}
+use Rattle.mg_check.specs.declared.volume_rows.VolumeRows.{VolumeRows}
+use Rattle.mg_check.specs.RowsRead.{state_in}
 use Rattle.mg_disk.specs.Disk.{Image}
 use Rattle.mg_model.specs.Bank.{used}
 use Rattle.mg_model.specs.State.{State}
@@ -22,3 +24,7 @@ pub record Tells (summary : Summary) (image : Image) : Type 0 where
   pub state : State
   pub is : volume image ≡ Is state
   pub told : summary ≡ summary_of state
+
+-- this is what is told of these rows, whatever words the frames have
+abbrev pub TellsOf : Summary → VolumeRows → Type 0
+TellsOf summary rows = (replayed : Image) → summary ≡ summary_of (state_in rows replayed)

@@ -1,14 +1,15 @@
 // Whether what reads give is a volume.
-ghost use Rattle.std.specs.Prelude.{◌≡◌, ◌≤◌, ℕ, IfOk, length, sum_by};
+ghost use Rattle.std.specs.Prelude.{◌≡◌, ◌≤◌, IfOk, length, sum_by};
 ghost use Rattle.std.specs.Option.{ForSome};
-ghost use Rattle.mg_check.specs.RowsRead.{AreHeld, AreInRange};
-ghost use Rattle.mg_check.specs.Summaries.{Tells};
+ghost use Rattle.mg_check.specs.RowsRead.{AreHeld};
+ghost use Rattle.mg_check.specs.Summaries.{Tells, TellsOf};
+ghost use Rattle.mg_check.specs.Tables.{count_in, pages_in};
 ghost use Rattle.mg_disk.specs.Stops.{DiskCallsBy, WritesNothing};
 ghost use Rattle.mg_model.specs.Layout.{total_blocks};
-ghost use Rattle.mg_model.specs.State.{ObjectRow};
 ghost use Rattle.mg_model.specs.Volume.{Damaged, NotVolume, OldVolume, volume};
 
 use crate::opening::read_volume;
+use crate::soundness::pages_in;
 use crate::volume_rows::VolumeRows;
 use mg_disk::Disk;
 use mg_model::ObjRow;
@@ -77,26 +78,40 @@ pub fn examine<D: Disk>(alloc: Global, disk: &mut D) -> Result<Summary, OpenFaul
 }
 
 // How many pages the objects have together.
-fn used(objects: &[(u64, ObjRow)]) -> u64
+fn used(objects: &[Option<ObjRow>]) -> u64
     requires few { length objects.now ≤ 4096 }
-    requires ranges { AreInRange objects.now }
-    ensures { result ≡ sum_by (λ (o : ℕ × ObjectRow). o.1.pages) objects.now }
+    ensures { result ≡ sum_by pages_in objects.now }
 {
     let mut used = 0;
-    for o in objects {
-        used += o.1.pages();
+    for row in objects {
+        used += pages_in(row);
     }
     used
+}
+
+// How many objects there are.
+fn count(objects: &[Option<ObjRow>]) -> u64
+    requires few { length objects.now ≤ 4096 }
+    ensures { result ≡ sum_by count_in objects.now }
+{
+    let mut count = 0;
+    for row in objects {
+        if row.is_some() {
+            count += 1;
+        }
+    }
+    count
 }
 
 /// What is told of a volume with these rows.
 pub fn summary_of(rows: &VolumeRows) -> Summary
     requires held { AreHeld rows.now }
-    ensures { result ≡ record { frames = rows.now.params.frames; objects = length rows.now.objects.items; pages = sum_by (λ (o : ℕ × ObjectRow). o.1.pages) rows.now.objects.items; accounts = length rows.now.accounts.items; threads = length rows.now.threads.items; period = rows.now.globals.period; credits = rows.now.params.credits } }
+    ensures told { TellsOf result rows.now }
+    ensures frames { result.frames ≡ rows.now.params.frames }
 {
     Summary {
         frames: rows.params.frames(),
-        objects: rows.objects.len() as u64,
+        objects: count(&rows.objects),
         pages: used(&rows.objects),
         accounts: rows.accounts.len() as u64,
         threads: rows.threads.len() as u64,

@@ -1,11 +1,13 @@
 // The rules between the rows of a volume.
-ghost use Rattle.std.specs.Prelude.{◌≡◌, ◌+◌, ◌*◌, ◌^◌, ◌==◌, ◌&&◌, ℕ, All, IfOk, List, nat_le, sum_by, true};
-ghost use Rattle.std.specs.List.{list_all, list_any};
-ghost use Rattle.mg_check.specs.RowsRead.{AreInRange};
-ghost use Rattle.mg_check.specs.Rules.{AreSpans, births_of, place_of, places_of};
+ghost use Rattle.std.specs.Prelude.{◌≡◌, ◌+◌, ◌*◌, ◌^◌, ◌==◌, ◌≤◌, ◌&&◌, ℕ, All, IfOk, List, nat_le, sum_by, true};
+ghost use Rattle.std.specs.List.{filter_map, list_all, list_any};
+ghost use Rattle.std.specs.Option.{option_map};
+ghost use Rattle.mg_check.specs.RowsRead.{AreInRange, live_from};
+ghost use Rattle.mg_check.specs.Tables.{is_paid, pages_in};
+ghost use Rattle.mg_check.specs.Rules.{AreSpans, births_of, place_of};
 ghost use Rattle.mg_check.specs.Spans.{IsSome, apart_from, is_in};
 ghost use Rattle.mg_disk.specs.Disk.{Image};
-ghost use Rattle.mg_model.specs.State.{ObjectRow, ThreadRow};
+ghost use Rattle.mg_model.specs.State.{ThreadRow};
 ghost use Rattle.mg_model.specs.Tests.{all_distinct};
 ghost use Rattle.mg_model.specs.Volume.{accounts_fit, begins_with_first, bound_pages, objects_fit, objects_spelled, table_fits, threads_fit, threads_spelled};
 
@@ -52,44 +54,80 @@ pub(crate) fn accounts_fit(accounts: &[AccRow], credits: u64, globals: &Globals)
 }
 
 // The first page of an object, and the one right behind it.
-fn place_of(row: &ObjRow) -> (u64, u64)
-    ensures { result ≡ place_of row.now }
+fn place_of(row: &Option<ObjRow>) -> Option<(u64, u64)>
+    ensures { result ≡ option_map place_of row.now }
 {
-    let first = row.base() / PAGE_SIZE;
-    (first, first + row.pages())
+    match row {
+        Some(row) => {
+            let first = row.base() / PAGE_SIZE;
+            Some((first, first + row.pages()))
+        }
+        None => None,
+    }
 }
 
 // The pages of all objects.
-fn places_of(alloc: Global, objects: &[(u64, ObjRow)]) -> Result<Vec<(u64, u64)>, AllocError>
-    ensures { IfOk result (λ places. places.items ≡ places_of objects.now) }
+fn places_of(alloc: Global, objects: &[Option<ObjRow>]) -> Result<Vec<(u64, u64)>, AllocError>
+    ensures { IfOk result (λ places. places.items ≡ filter_map (option_map place_of) objects.now) }
 {
-    objects.iter().map(|o| place_of(&o.1)).collect(alloc)
+    objects
+        .iter()
+        .filter_map(|row| place_of(row))
+        .collect(alloc)
 }
 
 /// The pages of all objects, in order.
-pub(crate) fn spans(alloc: Global, objects: &[(u64, ObjRow)]) -> Result<Vec<(u64, u64)>, AllocError>
-    requires ranges { AreInRange objects.now }
-    ensures { IfOk result (λ spans. AreSpans spans.items objects.now) }
+pub(crate) fn spans(
+    alloc: Global,
+    objects: &[Option<ObjRow>],
+) -> Result<Vec<(u64, u64)>, AllocError>
+    requires ranges { AreInRange (live_from 0 objects.now) }
+    ensures { IfOk result (λ spans. AreSpans spans.items (live_from 0 objects.now)) }
 {
     let mut spans = places_of(alloc, objects)?;
     spans.sort_unstable();
     Ok(spans)
 }
 
-// Whether the account of each object is one of the first so many.
-fn are_paid(objects: &[(u64, ObjRow)], accounts: u64) -> bool
-    ensures { result ≡ list_all (λ (o : ℕ × ObjectRow). nat_le o.1.account accounts) objects.now }
+// Whether the account of an object is one of the first so many.
+fn is_paid(row: &Option<ObjRow>, accounts: u64) -> bool
+    ensures { result ≡ is_paid accounts row.now }
 {
-    objects.iter().all(|o| o.1.account() <= accounts)
+    match row {
+        Some(row) => row.account() <= accounts,
+        None => true,
+    }
+}
+
+// Whether the account of each object is one of the first so many.
+fn are_paid(objects: &[Option<ObjRow>], accounts: u64) -> bool
+    ensures { result ≡ list_all (is_paid accounts) objects.now }
+{
+    objects.iter().all(|row| is_paid(row, accounts))
+}
+
+/// How many pages an object has.
+pub(crate) fn pages_in(row: &Option<ObjRow>) -> u64
+    ensures pages { result ≡ pages_in row.now }
+    ensures few { result ≤ 1024 }
+{
+    match row {
+        Some(row) => {
+            // It tells that the row keeps its ranges.
+            let _base = row.base();
+            row.pages()
+        }
+        None => 0,
+    }
 }
 
 // Whether the objects have no more pages than there are frames.
-fn are_few(objects: &[(u64, ObjRow)], frames: u64) -> bool
-    ensures { result ≡ nat_le (sum_by (λ (o : ℕ × ObjectRow). o.1.pages) objects.now) frames }
+fn are_few(objects: &[Option<ObjRow>], frames: u64) -> bool
+    ensures { result ≡ nat_le (sum_by pages_in objects.now) frames }
 {
     let mut left = frames;
-    for o in objects {
-        let pages = o.1.pages();
+    for row in objects {
+        let pages = pages_in(row);
         if pages > left {
             return false;
         }
@@ -101,13 +139,13 @@ fn are_few(objects: &[(u64, ObjRow)], frames: u64) -> bool
 /// Whether no two objects share a page, each has an account, and there are frames for their pages. The spans are those of
 /// the objects.
 pub(crate) fn objects_fit(
-    objects: &[(u64, ObjRow)],
+    objects: &[Option<ObjRow>],
     spans: &[(u64, u64)],
     frames: u64,
     accounts: u64,
 ) -> bool
-    requires spans { AreSpans spans.now objects.now }
-    ensures fit { (replayed : Image) (table : List ℕ) → objects_fit frames accounts (objects_spelled replayed frames table objects.now) ≡ result }
+    requires spans { AreSpans spans.now (live_from 0 objects.now) }
+    ensures fit { (replayed : Image) (table : List ℕ) → objects_fit frames accounts (objects_spelled replayed frames table (live_from 0 objects.now)) ≡ result }
     ensures apart { result ≡ true → apart_from 0 spans.now ≡ true }
 {
     are_apart(spans) && are_paid(objects, accounts) && are_few(objects, frames)

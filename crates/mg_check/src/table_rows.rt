@@ -1,5 +1,5 @@
 // Tables of rows.
-ghost use Rattle.std.specs.Prelude.{◌≡◌, ◌≢◌, ◌≤◌, ◌<◌, ◌+◌, ◌-◌, ℕ, List, All, IfOk, OnOk, None, Some, false, vec_capacity};
+ghost use Rattle.std.specs.Prelude.{◌≡◌, ◌≢◌, ◌≤◌, ◌<◌, ◌+◌, ◌-◌, ℕ, List, All, IfOk, OnOk, None, Some, false, length, vec_capacity};
 ghost use Rattle.std.specs.Option.{ForSome};
 ghost use Rattle.mg_disk.specs.Stops.{CountRose};
 ghost use Rattle.mg_model.specs.Layout.{table_block};
@@ -7,7 +7,7 @@ ghost use Rattle.mg_model.specs.Replay.{block_of};
 ghost use Rattle.mg_model.specs.Spelling.{Read};
 ghost use Rattle.mg_rows.specs.Answers.{as_read};
 ghost use Rattle.mg_check.specs.Reads.{CanRead, OnlyRead, contents};
-ghost use Rattle.mg_check.specs.RowsRead.{ArePlaced};
+ghost use Rattle.mg_check.specs.RowsRead.{ArePlaced, live_from};
 ghost use Rattle.mg_check.specs.Told.{AreLive, EachKeeps, NotSpelled};
 
 use crate::faults::RowFault;
@@ -62,9 +62,10 @@ fn take<R: TableRow>(rows: &mut Vec<(u64, R)>, i: u64, block: &Block) -> Result<
     ensures kept { OnOk result (EachKeeps R.IsKept rows.old.items → EachKeeps R.IsKept rows.new.items) }
     ensures room { vec_capacity rows.old ≤ vec_capacity rows.new }
 {
-    match R::read(block, i) {
+    let found = R::read(block, i);
+    match &found {
         Some(spelled) => match spelled {
-            Spelled::Row(row) => add(rows, (i, row)),
+            Spelled::Row(row) => add(rows, (i, *row)),
             Spelled::Free => Ok(()),
         },
         None => Err(RowFault::Damaged),
@@ -95,6 +96,75 @@ pub(crate) fn read_all<R: TableRow, C: Contents, D: Disk>(
             Err(Failed) => return Err(RowFault::Disk),
         }
         take(&mut rows, i, &block)?;
+    }
+    Ok(rows)
+}
+
+// Puts free places behind the others, until there are so many.
+fn fill_to<R: TableRow>(rows: &mut Vec<Option<R>>, n: u64) -> Result<(), RowFault>
+    requires within { length rows.old.items ≤ n }
+    ensures long { OnOk result (length rows.new.items ≡ n) }
+    ensures live { OnOk result (live_from 0 rows.new.items ≡ live_from 0 rows.old.items) }
+    ensures memory { result ≢ Err RowFault.Damaged }
+    ensures no_disk { result ≢ Err RowFault.Disk }
+    ensures room { vec_capacity rows.old ≤ vec_capacity rows.new }
+{
+    for _ in rows.len() as u64..n {
+        add(rows, None)?;
+    }
+    Ok(())
+}
+
+// Puts row `i` of the table into its place. Where there is none, nothing is put.
+fn put<R: TableRow>(rows: &mut Vec<Option<R>>, i: u64, block: &Block) -> Result<(), RowFault>
+    requires place { i < R.ROWS }
+    requires next { length rows.old.items ≤ i }
+    ensures told { OnOk result ((read : ℕ → Read R) → read i ≡ R.spelled block.now i → AreLive read i (live_from 0 rows.old.items) → AreLive read (i + 1) (live_from 0 rows.new.items)) }
+    ensures damaged { result ≡ Err RowFault.Damaged → R.spelled block.now i ≡ None }
+    ensures no_disk { result ≢ Err RowFault.Disk }
+    ensures long { OnOk result (length rows.new.items ≤ i + 1) }
+    ensures placed { OnOk result (ArePlaced i (live_from 0 rows.old.items) → ArePlaced (i + 1) (live_from 0 rows.new.items)) }
+    ensures kept { OnOk result (EachKeeps R.IsKept (live_from 0 rows.old.items) → EachKeeps R.IsKept (live_from 0 rows.new.items)) }
+    ensures room { vec_capacity rows.old ≤ vec_capacity rows.new }
+{
+    let found = R::read(block, i);
+    match &found {
+        Some(spelled) => match spelled {
+            Spelled::Row(row) => {
+                fill_to(rows, i)?;
+                add(rows, Some(*row))
+            }
+            Spelled::Free => Ok(()),
+        },
+        None => Err(RowFault::Damaged),
+    }
+}
+
+/// Reads the places of a table: the row in each, or that there is none, up to the last that has one. There is room for all.
+pub(crate) fn read_places<R: TableRow, C: Contents, D: Disk>(
+    alloc: Global,
+    view: &C,
+    disk: &mut D,
+) -> Result<Vec<Option<R>>, RowFault>
+    requires room { table_block ≤ C.total view.now }
+    requires can { CanRead D.Disk (C.need view.now) (C.Fits view.now) disk.old }
+    ensures told { IfOk result (λ rows. ForSome (contents D.Disk (C.of view.now) disk.old) (λ r. AreLive (λ i. R.spelled (block_of r (R.block_at i)) i) R.ROWS (live_from 0 rows.items))) }
+    ensures damaged { result ≡ Err RowFault.Damaged → ForSome (contents D.Disk (C.of view.now) disk.old) (λ r. NotSpelled (λ i. R.spelled (block_of r (R.block_at i)) i) R.ROWS) }
+    ensures long { IfOk result (λ rows. length rows.items ≤ R.ROWS) }
+    ensures placed { IfOk result (λ rows. ArePlaced R.ROWS (live_from 0 rows.items)) }
+    ensures kept { IfOk result (λ rows. EachKeeps R.IsKept (live_from 0 rows.items)) }
+    ensures room { IfOk result (λ rows. R.ROWS ≤ vec_capacity rows) }
+    ensures cause { result ≡ Err RowFault.Disk → CountRose D.Disk disk.old disk.new }
+    ensures reads { OnlyRead D.Disk disk.old disk.new }
+{
+    let mut rows = with_room(alloc, R::ROWS as usize)?;
+    let mut block = [0; BLOCK_SIZE];
+    for i in 0..R::ROWS {
+        match turn_to(view, disk, R::block_at(i), R::is_first(i), &mut block) {
+            Ok(()) => {}
+            Err(Failed) => return Err(RowFault::Disk),
+        }
+        put(&mut rows, i, &block)?;
     }
     Ok(rows)
 }

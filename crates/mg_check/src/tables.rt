@@ -13,7 +13,7 @@ use crate::accounts::without_places;
 use crate::faults::RowFault;
 use crate::reading::{Contents, read_block};
 use crate::table::read_table;
-use crate::table_rows::read_all;
+use crate::table_rows::{read_all, read_places};
 use crate::volume_rows::VolumeRows;
 use mg_disk::{BLOCK_SIZE, Disk};
 use mg_faults::Failed;
@@ -62,7 +62,7 @@ fn read_tables<C: Contents, D: Disk>(
     let placed: Vec<(u64, AccRow)> = read_all(alloc, view, disk)?;
     let accounts = without_places(alloc, &placed)?;
     let threads = read_all(alloc, view, disk)?;
-    let objects = read_all(alloc, view, disk)?;
+    let objects = read_places(alloc, view, disk)?;
     let table = read_table(alloc, view, disk, frames)?;
     Ok(VolumeRows {
         params: *p,

@@ -18,8 +18,8 @@ pub struct VolumeRows {
     pub accounts: Vec<AccRow>,
     /// Its threads, at most 256, each with the place of its row: thread n has place n - 1. There is room for all.
     pub threads: Vec<(u64, ThrRow)>,
-    /// Its objects, at most 4,096, each with the place of its row, in the order of these places. There is room for all.
-    pub objects: Vec<(u64, ObjRow)>,
+    /// The table of its objects, a row or none in each place up to the last that has one.
+    pub objects: Vec<Option<ObjRow>>,
     /// The page that each frame holds, 0 where it holds none.
     pub table: Vec<u64>,
 }

@@ -38,7 +38,7 @@ fn counted(alloc: Global) -> Result<Option<([usize; 4], Option<u64>)>, AllocErro
             let lengths = [
                 rows.accounts.len(),
                 rows.threads.len(),
-                rows.objects.len(),
+                rows.objects.iter().flatten().count(),
                 rows.table.len(),
             ];
             Ok(Some((lengths, rows.table.first().copied())))

@@ -1,6 +1,6 @@
 mod Apart
 mod Changes
-mod Filled
 mod Keys
 mod Lists
 mod Rows
+mod Whole

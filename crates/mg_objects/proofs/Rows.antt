@@ -1,5 +1,5 @@
 -- Which objects a table of rows has.
-use Rattle.std.specs.Prelude.{◌≡◌, ◌≢◌, ◌+◌, ◌<◌, ◌≤◌, ℕ, zero, suc, nat_lt, true, false, List, [], ◌∷◌, Option, None, Some, if◌then◌else◌, length, replicate, slice_index_or}
+use Rattle.std.specs.Prelude.{◌≡◌, ◌≢◌, ◌+◌, ◌<◌, ◌≤◌, ℕ, zero, suc, nat_lt, true, false, List, [], ◌∷◌, ◌++◌, Option, None, Some, if◌then◌else◌, length, replicate, slice_index_or}
 use Rattle.std.specs.List.{Contains}
 use Rattle.std.specs.List.Sorted.{IsPermutation}
 use Rattle.std.proofs.Common.{refl, sym, ap, ◌∙◌, subst, ⊎_elim, arith}
@@ -79,6 +79,15 @@ live-none i (suc n) = live-none (i + 1) n
 
 pub held-none : (n : ℕ) → objects_in (replicate n None) ≡ []
 held-none n = ap by_base (live-none 0 n)
+
+-- a free place behind the others
+live-behind : {R : Type 0} (i : ℕ) (rows : List (Option R)) → live_from i (rows ++ None ∷ []) ≡ live_from i rows
+live-behind i [] = refl
+live-behind i (None ∷ rows) = live-behind (i + 1) rows
+live-behind i (Some row ∷ rows) = ap (λ xs. (i, row) ∷ xs) (live-behind (i + 1) rows)
+
+pub held-behind : (old new : List (Option ObjectRow)) → new ≡ old ++ None ∷ [] → objects_in new ≡ objects_in old
+held-behind old new more = ap objects_in more ∙ ap by_base (live-behind 0 old)
 
 -- how many there are
 live-few : (i : ℕ) (rows : List (Option ObjectRow)) → length (live_from i rows) ≤ length rows

@@ -1,5 +1,5 @@
 -- The objects of a volume as a list: each row with its place in the table, in the order of the bases.
-use Rattle.std.specs.Prelude.{◌≡◌, ◌+◌, ◌≤◌, ◌<◌, ◌==◌, ◌⊎◌, ℕ, nat_lt, false, true, All, List, [], ◌∷◌, Option, None, Some, if◌then◌else◌, length, map}
+use Rattle.std.specs.Prelude.{◌≡◌, ◌+◌, ◌-◌, ◌≤◌, ◌<◌, ◌==◌, ◌⊎◌, ℕ, nat_lt, false, true, All, List, [], ◌∷◌, ◌++◌, Option, None, Some, if◌then◌else◌, length, map, replicate}
 use Rattle.std.specs.List.{AllPairs, list_any}
 use Rattle.std.specs.Option.{ForSome}
 use Rattle.mg_model.specs.Objects.{page_behind, page_of}
@@ -20,11 +20,6 @@ into_place new (o ∷ objects) = if nat_lt new.1.base o.1.base then new ∷ o �
 abbrev pub by_base : List (ℕ × ObjectRow) → List (ℕ × ObjectRow)
 by_base [] = []
 by_base (o ∷ objects) = into_place o (by_base objects)
-
--- rows with their places: each is one of the table's, and they rise
-pub record IsPlaced (rows : List (ℕ × ObjectRow)) : Type 0 where
-  pub within : All (λ (o : ℕ × ObjectRow). o.0 < 4096) rows
-  pub rise : AllPairs (λ (a b : ℕ × ObjectRow). a.0 < b.0) rows
 
 -- the objects of a table
 abbrev pub objects_in : List (Option ObjectRow) → List (ℕ × ObjectRow)
@@ -47,12 +42,22 @@ base_of (Some row) = row.base
 abbrev pub key_of : ℕ × ObjectRow → ℕ × ℕ
 key_of o = (o.1.base, o.0)
 
--- a table of rows, and the bases in its places
+-- a table of 4,096 rows, and the bases in its places
 pub record AreHeld (rows : List (Option ObjectRow)) (bases : List ℕ) : Type 0 where
   pub long : length rows ≡ 4096
   pub bases_are : bases ≡ map base_of rows
   pub rows_are : All (λ (row : Option ObjectRow). ForSome row IsObjectRow) rows
   pub apart : AreApart (objects_in rows)
+
+-- the table with free places behind it, 4,096 in all
+abbrev pub whole : List (Option ObjectRow) → List (Option ObjectRow)
+whole rows = rows ++ replicate (4096 - length rows) None
+
+-- a table without places behind the last that ever had a row, the room that it has, and the bases in all places
+pub record AreShort (rows : List (Option ObjectRow)) (space : ℕ) (bases : List ℕ) : Type 0 where
+  pub short : length rows ≤ 4096
+  pub room : 4096 ≤ space
+  pub held : AreHeld (whole rows) bases
 
 -- a row that shares no page with any of these
 abbrev pub MeetsNone : ObjectRow → List (ℕ × ObjectRow) → Type 0

@@ -1,12 +1,12 @@
 // The objects of a volume, by place and by base.
-ghost use Rattle.std.specs.Prelude.{◌≡◌, ◌≤◌, ◌<◌, ◌==◌, [], ℕ, All, IfOk, MatchOption, Some, filter, find, length, not, true};
+ghost use Rattle.std.specs.Prelude.{◌≡◌, ◌≤◌, ◌<◌, ◌==◌, [], ℕ, All, IfOk, MatchOption, Some, filter, find, length, not, true, vec_capacity};
 ghost use Rattle.std.specs.List.{AllWithin, HoldsAt, list_any};
 ghost use Rattle.std.specs.Option.{option_copied, option_map};
 ghost use Rattle.mg_model.specs.Access.{covers};
 ghost use Rattle.mg_model.specs.Ranges.{IsObjectRow};
-ghost use Rattle.mg_objects.specs.Held.{AreApart, IsLowestFree, IsPlaced, MeetsNone, by_base, into_place, with_row};
+ghost use Rattle.mg_objects.specs.Held.{AreApart, IsLowestFree, MeetsNone, into_place, objects_in, with_row};
 
-use crate::table::{are_apart, bases_of, no_rows, row_of, table_of};
+use crate::table::{are_apart, bases_of, put_row, row_of};
 use mg_index::Index;
 use mg_model::ObjRow;
 use std::alloc::{AllocError, Global};
@@ -18,7 +18,7 @@ pub const MOST_OBJECTS: u64 = 4096;
 /// The objects of a volume, no two of which share a page.
 #[derive(Drop)]
 pub struct Objects {
-    // The rows by place.
+    // The rows by place, up to the last that ever had one, in room for 4,096.
     rows: Vec<Option<ObjRow>>,
     // The base of each row, 0 where there is none.
     bases: Index,
@@ -27,13 +27,14 @@ pub struct Objects {
 impl Model for Objects {
     ghost use Rattle.std.specs.Prelude.{ℕ, List};
     ghost use Rattle.mg_model.specs.State.{ObjectRow};
-    ghost use Rattle.mg_objects.specs.Held.{AreHeld, objects_in};
+    ghost use Rattle.mg_objects.specs.Held.{AreShort, objects_in};
+    ghost use Rattle.std.specs.Vec.{vec_capacity};
 
     ghost Value = { List (ℕ × ObjectRow) };
 
     ghost view = { λ objects. objects_in objects.rows.items };
 
-    ghost invariant = { λ objects. AreHeld objects.rows.items objects.bases };
+    ghost invariant = { λ objects. AreShort objects.rows.items (vec_capacity objects.rows) objects.bases };
 }
 
 impl Objects {
@@ -41,18 +42,18 @@ impl Objects {
     pub fn new(alloc: Global) -> Result<Objects, AllocError>
         ensures { IfOk result (λ objects. objects ≡ []) }
     {
-        let rows = no_rows(alloc, MOST_OBJECTS)?;
+        let rows = Vec::with_capacity(alloc, MOST_OBJECTS as usize)?;
         let bases = Index::new(alloc, MOST_OBJECTS)?;
         Ok(Objects { rows, bases })
     }
 
-    /// The objects of these rows, each with its place, below 4,096; the places rise. There are none where two of the rows
-    /// share a page. All memory that they will need is taken here.
-    pub fn of(alloc: Global, rows: &[(u64, ObjRow)]) -> Result<Option<Objects>, AllocError>
-        requires { IsPlaced rows.now }
-        ensures { IfOk result (λ made. MatchOption made (AreApart (by_base rows.now) → ⊥) (λ objects. objects ≡ by_base rows.now)) }
+    /// The objects of a table of at most 4,096 places, which has room for 4,096 and is kept as it is. There are none where
+    /// two of its rows share a page. All memory that they will need beside it is taken here.
+    pub fn of(alloc: Global, table: Vec<Option<ObjRow>>) -> Result<Option<Objects>, AllocError>
+        requires few { length table.items ≤ 4096 }
+        requires room { 4096 ≤ vec_capacity table }
+        ensures { IfOk result (λ made. MatchOption made (AreApart (objects_in table.items) → ⊥) (λ objects. objects ≡ objects_in table.items)) }
     {
-        let table = table_of(alloc, rows)?;
         let numbers = bases_of(alloc, &table)?;
         match Index::of(alloc, numbers)? {
             Some(bases) => {
@@ -101,7 +102,7 @@ impl Objects {
         ensures { option_copied result ≡ option_map (λ o. o.1) (find (λ o. o.0 == place) self.now) }
     {
         let rows = &self.rows;
-        if place >= MOST_OBJECTS {
+        if place >= rows.len() as u64 {
             return None;
         }
         rows[place as usize].as_ref()
@@ -140,7 +141,7 @@ impl Objects {
     {
         let base = row.base();
         let place = self.bases.add(base);
-        self.rows[place as usize] = Some(row);
+        put_row(&mut self.rows, place, row);
         place
     }
 

@@ -1,9 +1,9 @@
 // A table of objects' rows, and the bases that its places have.
-ghost use Rattle.std.specs.Prelude.{◌≡◌, ◌<◌, ◌≤◌, All, IfOk, None, false, length, map, replicate, true};
+ghost use Rattle.std.specs.Prelude.{◌≡◌, ◌<◌, ◌≤◌, ◌-◌, ◌++◌, [], All, IfOk, Some, false, length, map, replicate, slice_set, true, vec_capacity};
 ghost use Rattle.std.specs.List.{HoldsAt};
 ghost use Rattle.std.specs.Option.{ForSome};
 ghost use Rattle.mg_model.specs.Ranges.{IsObjectRow};
-ghost use Rattle.mg_objects.specs.Held.{AreApart, IsPlaced, base_of, key_of, live_from, objects_in};
+ghost use Rattle.mg_objects.specs.Held.{AreApart, base_of, key_of, objects_in, whole};
 
 use crate::objects::MOST_OBJECTS;
 use mg_model::ObjRow;
@@ -12,46 +12,65 @@ use std::alloc::{AllocError, Global};
 /// The bytes of a page.
 const PAGE: u64 = 4096;
 
-/// So many places without a row.
-pub(crate) fn no_rows(alloc: Global, places: u64) -> Result<Vec<Option<ObjRow>>, AllocError>
-    ensures { IfOk result (λ rows. rows.items ≡ replicate places None) }
-{
-    let mut rows = Vec::with_capacity(alloc, places as usize)?;
-    for _ in 0..places {
-        rows.push(None)?;
-    }
-    Ok(rows)
-}
-
-/// The table with these rows in their places, which rise.
-pub(crate) fn table_of(
-    alloc: Global,
-    rows: &[(u64, ObjRow)],
-) -> Result<Vec<Option<ObjRow>>, AllocError>
-    requires { IsPlaced rows.now }
-    ensures live { IfOk result (λ table. live_from 0 table.items ≡ rows.now) }
-    ensures long { IfOk result (λ table. length table.items ≡ 4096) }
-    ensures ranges { IfOk result (λ table. All (λ row. ForSome row IsObjectRow) table.items) }
-{
-    let mut table = no_rows(alloc, MOST_OBJECTS)?;
-    for row in rows {
-        // It tells that the row keeps its ranges.
-        let _base = row.1.base();
-        table[row.0 as usize] = Some(row.1);
-    }
-    Ok(table)
-}
-
-/// The base of the row in each place, 0 where there is none.
+/// The base of the row in each of 4,096 places, 0 where there is none.
 pub(crate) fn bases_of(alloc: Global, table: &[Option<ObjRow>]) -> Result<Vec<u64>, AllocError>
-    ensures { IfOk result (λ bases. bases.items ≡ map base_of table.now) }
+    requires { length table.now ≤ 4096 }
+    ensures bases { IfOk result (λ bases. bases.items ≡ map base_of (whole table.now)) }
+    ensures ranges { IfOk result (λ _. All (λ row. ForSome row IsObjectRow) table.now) }
 {
-    table.iter().map(|row| base_of(row)).collect(alloc)
+    let mut bases = Vec::with_capacity(alloc, MOST_OBJECTS as usize)?;
+    list_bases(table, &mut bases)?;
+    pad(&mut bases, MOST_OBJECTS)?;
+    Ok(bases)
+}
+
+// Lists the base of the row in each place of a table.
+fn list_bases(table: &[Option<ObjRow>], bases: &mut Vec<u64>) -> Result<(), AllocError>
+    requires none { bases.old.items ≡ [] }
+    ensures bases { IfOk result (λ _. bases.new.items ≡ map base_of table.now) }
+    ensures ranges { IfOk result (λ _. All (λ row. ForSome row IsObjectRow) table.now) }
+{
+    for row in table {
+        bases.push(base_of(row))?;
+    }
+    Ok(())
+}
+
+// Puts zeros behind the numbers, until there are so many.
+fn pad(numbers: &mut Vec<u64>, places: u64) -> Result<(), AllocError>
+    requires { length numbers.old.items ≤ places }
+    ensures { IfOk result (λ _. numbers.new.items ≡ numbers.old.items ++ replicate (places - length numbers.old.items) 0) }
+{
+    for _ in numbers.len() as u64..places {
+        numbers.push(0)?;
+    }
+    Ok(())
+}
+
+/// Puts a row into a place of the table, or behind its last place.
+pub(crate) fn put_row(table: &mut Vec<Option<ObjRow>>, place: u64, row: ObjRow)
+    requires within { place ≤ length table.old.items }
+    requires place { place < 4096 }
+    requires few { length table.old.items ≤ 4096 }
+    requires room { 4096 ≤ vec_capacity table.old }
+    ensures put { whole table.new.items ≡ slice_set (whole table.old.items) place (Some row) }
+    ensures few { length table.new.items ≤ 4096 }
+    ensures room { 4096 ≤ vec_capacity table.new }
+{
+    if place < table.len() as u64 {
+        table[place as usize] = Some(row);
+    } else {
+        match table.push(Some(row)) {
+            Ok(()) => {}
+            Err(_) => unreachable!(),
+        }
+    }
 }
 
 // The base of a row, 0 where there is none.
 fn base_of(row: &Option<ObjRow>) -> u64
-    ensures { result ≡ base_of row.now }
+    ensures base { result ≡ base_of row.now }
+    ensures kept { ForSome row.now IsObjectRow }
 {
     match row {
         Some(row) => row.base(),

@@ -122,7 +122,7 @@ fn remove(space: &mut Space, taken: &mut [bool], places: &[u64], count: u64, ste
 /// How many objects were right as all were made, half of them removed and made again, and all removed; whether there was room for
 /// one more behind the two that made some; and the pages in use behind each.
 fn told(alloc: Global) -> Result<([u64; 4], [bool; 2], [u64; 4]), Fail> {
-    let mut space = Space::of(alloc, &[])?.ok_or("no space")?;
+    let mut space = Space::of(alloc, Vec::with_capacity(alloc, MOST as usize)?)?.ok_or("no space")?;
     let mut taken = vec![in alloc; false; PAGES]?;
     let mut places = vec![in alloc; 0; MOST as usize]?;
     let first = make(&mut space, &mut taken, &mut places, MOST, 1);

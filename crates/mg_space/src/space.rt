@@ -1,5 +1,5 @@
 // Objects, the free pages, and how many pages are in use.
-ghost use Rattle.std.specs.Prelude.{◌≡◌, ◌≤◌, ◌<◌, ◌==◌, ◌+◌, ◌⊎◌, ℕ, All, IfOk, List, MatchOption, Some, filter, find, length, not, sum_by, true};
+ghost use Rattle.std.specs.Prelude.{◌≡◌, ◌≤◌, ◌<◌, ◌==◌, ◌+◌, ◌⊎◌, ℕ, All, IfOk, List, MatchOption, Some, filter, find, length, not, sum_by, true, vec_capacity};
 ghost use Rattle.std.specs.List.{list_any};
 ghost use Rattle.std.specs.Option.{option_copied, option_map};
 ghost use Rattle.mg_model.specs.Access.{covers};
@@ -7,7 +7,7 @@ ghost use Rattle.mg_model.specs.Limits.{first_page, page_end};
 ghost use Rattle.mg_model.specs.Objects.{lowest_free, page_behind, page_of};
 ghost use Rattle.mg_model.specs.Ranges.{IsObjectRow};
 ghost use Rattle.mg_model.specs.State.{Object};
-ghost use Rattle.mg_objects.specs.Held.{AreApart, IsLowestFree, IsPlaced, MeetsNone, by_base, into_place, with_row};
+ghost use Rattle.mg_objects.specs.Held.{AreApart, IsLowestFree, MeetsNone, into_place, objects_in, with_row};
 ghost use Rattle.mg_ranges.specs.Gaps.{AreTaken};
 ghost use Rattle.mg_space.specs.Space.{AreRowsOf, spans_in};
 
@@ -43,13 +43,14 @@ impl Model for Space {
 }
 
 impl Space {
-    /// The objects of these rows, each with its place, below 4,096; the places rise. There are none where two of the rows
-    /// share a page. All memory that they, and the gaps between them, will need is taken here.
-    pub fn of(alloc: Global, rows: &[(u64, ObjRow)]) -> Result<Option<Space>, AllocError>
-        requires { IsPlaced rows.now }
-        ensures { IfOk result (λ made. MatchOption made (AreApart (by_base rows.now) → ⊥) (λ space. space ≡ by_base rows.now)) }
+    /// The objects of a table of at most 4,096 places, which has room for 4,096 and is kept as it is. There are none where
+    /// two of its rows share a page. All memory that they, and the gaps between them, will need beside it is taken here.
+    pub fn of(alloc: Global, table: Vec<Option<ObjRow>>) -> Result<Option<Space>, AllocError>
+        requires few { length table.items ≤ 4096 }
+        requires room { 4096 ≤ vec_capacity table }
+        ensures { IfOk result (λ made. MatchOption made (AreApart (objects_in table.items) → ⊥) (λ space. space ≡ objects_in table.items)) }
     {
-        match Objects::of(alloc, rows)? {
+        match Objects::of(alloc, table)? {
             Some(objects) => {
                 let spans = spans(alloc, &objects)?;
                 let free = Ranges::of(alloc, &spans)?;

@@ -1,10 +1,10 @@
 -- A volume is opened from the rows that were read of it.
-use Rattle.std.specs.Prelude.{◌≡◌, ◌≤◌, ◌<◌, ℕ, ◌&&◌, ◌==◌, nat_le, true, All, List, [], ◌∷◌, length, map, sum_by, drop, IsSomeAnd, Option, Some, None}
+use Rattle.std.specs.Prelude.{◌≡◌, ◌≤◌, ◌<◌, ◌+◌, ℕ, ◌&&◌, ◌==◌, nat_le, true, All, List, [], ◌∷◌, length, map, sum_by, drop, IsSomeAnd, Option, Some, None}
 use Rattle.std.specs.List.{list_all, list_any}
 use Rattle.std.specs.Option.{ForSome, option_map_or}
 use Rattle.std.proofs.Common.{refl, sym, ap, subst, ◌∙◌, arith}
 use Rattle.std.proofs.lemmas.Bool.{and_from, and_parts, eqb-true, leb-true}
-use Rattle.mg_check.specs.RowsRead.{AreKept, IsReadAs, rows_in, state_in}
+use Rattle.mg_check.specs.RowsRead.{AreKept, IsReadAs, live_from, objects_of, rows_in, state_in}
 use Rattle.mg_check.specs.declared.volume_rows.VolumeRows.{VolumeRows}
 use Rattle.mg_disk.specs.Disk.{Image}
 use Rattle.mg_disk.specs.Runs.{leaves_wider}
@@ -25,6 +25,7 @@ use Rattle.mg_model.specs.State.{Object, ObjectRow, State, ThreadRow}
 use Rattle.mg_model.specs.Tests.{all_distinct}
 use Rattle.mg_model.specs.TestsTell.{list_all-tells}
 use Rattle.mg_model.specs.Volume.{Rows, account_row_bytes, accounts_fit, bound_pages, has_no_gap, is_page_of, live_rows, object_row_bytes, objects_fit, replayed_volume, state_fits, table_of, thread_row_bytes, threads_fit, volume, whole_table}
+use Rattle.mg_objects.specs.Held as held
 use Rattle.mg_objects.specs.Held.{AreApart, by_base}
 use Rattle.mg_pages.specs.Held.{PagesHeld}
 use Rattle.mg_pages.specs.Laws as laws
@@ -42,12 +43,21 @@ use Rattle.mg_volume.specs.Numbered.{numbered}
 use Rattle.mg_volume.specs.Opening.{Opens}
 use Rattle.mg_volume.specs.Sound.{accounts-placed, all-same, all_spelled, coming_kept, in-object, objects-fit, objects-placed, rows-spelled, rows_fit, threads-numbered}
 
+-- the table of objects has the same rows in the words of both crates
+live-same : {R : Type 0} (i : ℕ) (rows : List (Option R)) → held.live_from i rows ≡ live_from i rows
+live-same i [] = refl
+live-same i (None ∷ rows) = live-same (i + 1) rows
+live-same i (Some row ∷ rows) = ap (λ xs. (i, row) ∷ xs) (live-same (i + 1) rows)
+
+pub same_objects : (rows : VolumeRows) → held.objects_in rows.objects.items ≡ by_base (objects_of rows)
+same_objects rows = ap by_base (live-same 0 rows.objects.items)
+
 -- the volume that holds these rows
 abbrev pub holding : VolumeRows → PagesHeld → VolumeHeld
 holding rows p = record {
   settings = rows.params;
   counters = rows.globals;
-  objects = by_base rows.objects.items;
+  objects = by_base (objects_of rows);
   accounts = rows.accounts.items;
   threads = numbered rows.threads.items;
   pages = p;
@@ -111,31 +121,31 @@ module _ (rows : VolumeRows) (kept : AreKept rows) where
   distinct_is = (fits []).distinct
 
   -- the rules between objects, of their rows
-  fit-rows : rows_fit rows.params.frames (length rows.accounts.items) (map (λ (o : ℕ × ObjectRow). o.1) (by_base rows.objects.items)) ≡ true
+  fit-rows : rows_fit rows.params.frames (length rows.accounts.items) (map (λ (o : ℕ × ObjectRow). o.1) (by_base (objects_of rows))) ≡ true
   fit-rows =
       let frames = rows.params.frames in
       let n = length rows.accounts.items in
       let same : length (state_in rows []).accounts ≡ n = ap length (accounts-placed 0 rows.accounts.items) in
-      let objects = all_spelled [] frames rows.table.items (by_base rows.objects.items) in
-      ap (rows_fit frames n) (sym (rows-spelled [] frames rows.table.items (by_base rows.objects.items)))
+      let objects = all_spelled [] frames rows.table.items (by_base (objects_of rows)) in
+      ap (rows_fit frames n) (sym (rows-spelled [] frames rows.table.items (by_base (objects_of rows))))
       ∙ sym (objects-fit frames n objects)
       ∙ ap (λ k. objects_fit frames k objects) (sym same)
-      ∙ ap (objects_fit frames (length (state_in rows []).accounts)) (sym (objects-placed [] frames rows.table.items rows.objects.items))
+      ∙ ap (objects_fit frames (length (state_in rows []).accounts)) (sym (objects-placed [] frames rows.table.items (objects_of rows)))
       ∙ (fits []).objects
 
-  apart-rows : rows_apart (map (λ (o : ℕ × ObjectRow). o.1) (by_base rows.objects.items)) ≡ true
+  apart-rows : rows_apart (map (λ (o : ℕ × ObjectRow). o.1) (by_base (objects_of rows))) ≡ true
   apart-rows =
-      let bare = map (λ (o : ℕ × ObjectRow). o.1) (by_base rows.objects.items) in
+      let bare = map (λ (o : ℕ × ObjectRow). o.1) (by_base (objects_of rows)) in
       let paid = list_all (λ (row : ObjectRow). nat_le row.account (length rows.accounts.items)) bare in
       let few = nat_le (sum_by (λ (row : ObjectRow). row.pages) bare) rows.params.frames in
       (and_parts (rows_apart bare) paid (and_parts (rows_apart bare && paid) few fit-rows).0).0
 
-  used-rows : sum_by (λ (o : ℕ × ObjectRow). o.1.pages) (by_base rows.objects.items) ≤ rows.params.frames
+  used-rows : sum_by (λ (o : ℕ × ObjectRow). o.1.pages) (by_base (objects_of rows)) ≤ rows.params.frames
   used-rows =
-      let bare = map (λ (o : ℕ × ObjectRow). o.1) (by_base rows.objects.items) in
+      let bare = map (λ (o : ℕ × ObjectRow). o.1) (by_base (objects_of rows)) in
       let paid = list_all (λ (row : ObjectRow). nat_le row.account (length rows.accounts.items)) bare in
       let few = nat_le (sum_by (λ (row : ObjectRow). row.pages) bare) rows.params.frames in
-      let sum = sum_bare (λ (row : ObjectRow). row.pages) (by_base rows.objects.items) in
+      let sum = sum_bare (λ (row : ObjectRow). row.pages) (by_base (objects_of rows)) in
       let most = leb-true (sum_by (λ (row : ObjectRow). row.pages) bare) rows.params.frames (and_parts (rows_apart bare && paid) few fit-rows).1 in
       omega arith
 
@@ -153,8 +163,8 @@ module _ (rows : VolumeRows) (kept : AreKept rows) where
   pub credits_is : sum_by (λ (row : AccRow). row.balance) rows.accounts.items ≡ rows.params.credits
   credits_is = accounts-are.0
 
-  pub apart_is : AreApart (by_base rows.objects.items)
-  apart_is = apart_pairs (by_base rows.objects.items) apart-rows
+  pub apart_is : AreApart (by_base (objects_of rows))
+  apart_is = apart_pairs (by_base (objects_of rows)) apart-rows
 
   -- with pages of the frame table that was read
   module _ (p : PagesHeld) (table : pages.table_in p ≡ rows.table.items) (frames : pages.frame_count p ≡ length rows.table.items) where
@@ -169,9 +179,9 @@ module _ (rows : VolumeRows) (kept : AreKept rows) where
         let n = rows.params.frames in
         let v = holding rows p in
         let made : List Object → List AccRow → State = λ objects accounts. record { settings = rows.params; counters = rows.globals; objects = objects; accounts = accounts; threads = threads_in v } in
-        ap (λ objects. record (state_in rows r) { objects = objects }) (objects-placed r n rows.table.items rows.objects.items ∙ ap (λ t. all_spelled r n t (by_base rows.objects.items)) (sym table))
-        ∙ ap (λ accounts. record (state_in rows r) { objects = all_spelled r n (pages.table_in p) (by_base rows.objects.items); accounts = accounts }) (accounts-placed 0 rows.accounts.items)
-        ∙ ap (λ threads. record (state_in rows r) { objects = all_spelled r n (pages.table_in p) (by_base rows.objects.items); accounts = rows.accounts.items; threads = threads }) (threads-numbered rows.threads.items)
+        ap (λ objects. record (state_in rows r) { objects = objects }) (objects-placed r n rows.table.items (objects_of rows) ∙ ap (λ t. all_spelled r n t (by_base (objects_of rows))) (sym table))
+        ∙ ap (λ accounts. record (state_in rows r) { objects = all_spelled r n (pages.table_in p) (by_base (objects_of rows)); accounts = accounts }) (accounts-placed 0 rows.accounts.items)
+        ∙ ap (λ threads. record (state_in rows r) { objects = all_spelled r n (pages.table_in p) (by_base (objects_of rows)); accounts = rows.accounts.items; threads = threads }) (threads-numbered rows.threads.items)
 
     -- which is sound, whatever the image
     pub sound_is : (image : Image) → is_sound (now_of (holding rows p) image) ≡ true
@@ -188,11 +198,11 @@ module _ (rows : VolumeRows) (kept : AreKept rows) where
     unfolding objects_in
     held_is = record {
       frames = same_frames;
-      rows = by_base_all (λ (o : ℕ × ObjectRow). IsObjectRow o.1) rows.objects.items kept.held.ranges;
-      places = by_base_all (λ (o : ℕ × ObjectRow). o.0 < object_rows) rows.objects.items kept.held.objects.below;
+      rows = by_base_all (λ (o : ℕ × ObjectRow). IsObjectRow o.1) (objects_of rows) kept.held.ranges;
+      places = by_base_all (λ (o : ℕ × ObjectRow). o.0 < object_rows) (objects_of rows) kept.held.objects.below;
       apart = apart-rows;
       used = used-rows;
-      few_objects = (let few = kept.held.objects.few in let same = by-base-length rows.objects.items in omega arith);
+      few_objects = (let few = kept.held.objects.few in let same = by-base-length (objects_of rows) in omega arith);
       some_accounts = accounts-there;
       few_accounts = kept.held.few_accounts;
       few_threads = few-threads;
@@ -205,11 +215,11 @@ module _ (rows : VolumeRows) (kept : AreKept rows) where
 
         inside : list_all (λ page. has_page (holding rows p) page) (bound_pages (pages.table_in p)) ≡ true
         inside =
-            let objects = all_spelled [] rows.params.frames rows.table.items (by_base rows.objects.items) in
+            let objects = all_spelled [] rows.params.frames rows.table.items (by_base (objects_of rows)) in
             all-same (λ page. has_page (holding rows p) page) (λ page. list_any (λ object. is_page_of page object) objects)
-            (λ page. sym (in-object [] rows.params.frames rows.table.items page (by_base rows.objects.items))) (bound_pages (pages.table_in p))
+            (λ page. sym (in-object [] rows.params.frames rows.table.items page (by_base (objects_of rows)))) (bound_pages (pages.table_in p))
             ∙ ap (λ t. list_all (λ page. list_any (λ object. is_page_of page object) objects) (bound_pages t)) table
-            ∙ ap (λ l. list_all (λ page. list_any (λ object. is_page_of page object) l) (bound_pages rows.table.items)) (sym (objects-placed [] rows.params.frames rows.table.items rows.objects.items))
+            ∙ ap (λ l. list_all (λ page. list_any (λ object. is_page_of page object) l) (bound_pages rows.table.items)) (sym (objects-placed [] rows.params.frames rows.table.items (objects_of rows)))
             ∙ (fits []).inside
 
 -- pages of these rows over an open journal
@@ -255,7 +265,7 @@ module _ (rows : VolumeRows) (kept : AreKept rows) (store : Store) (p : PagesHel
           threads = rows.threads.items;
           threads_are = ap (λ (i : Image). live_rows (λ k. thread_read (thread_row_bytes i k)) 0 thread_rows) coming_is ∙ parts.threads_are;
           numbered = refl;
-          objects = rows.objects.items;
+          objects = objects_of rows;
           objects_are = ap (λ (i : Image). live_rows (λ k. object_read (object_row_bytes i k)) 0 object_rows) coming_is ∙ parts.objects_are;
           ordered = refl;
           kept = state_in rows read.replayed;
@@ -315,7 +325,7 @@ module _ (rows : VolumeRows) {D : Type 0} (facts : Ghosts D) (total : ℕ) (same
   undamaged missing image told = replays rows image (read image told) (ap (replay image) (sym same) ∙ missing image told)
 
 -- the volume with the lists that were made of the rows
-pub made_is : (rows : VolumeRows) (p : PagesHeld) (objects : List (ℕ × ObjectRow)) (accounts : List AccRow) (threads : List (ℕ × ThreadRow)) → objects ≡ by_base rows.objects.items → accounts ≡ rows.accounts.items → threads ≡ numbered rows.threads.items
+pub made_is : (rows : VolumeRows) (p : PagesHeld) (objects : List (ℕ × ObjectRow)) (accounts : List AccRow) (threads : List (ℕ × ThreadRow)) → objects ≡ by_base (objects_of rows) → accounts ≡ rows.accounts.items → threads ≡ numbered rows.threads.items
     → ◌≡◌ {A = VolumeHeld} (record { settings = rows.params; counters = rows.globals; objects = objects; accounts = accounts; threads = threads; pages = p }) (holding rows p)
 made_is rows p objects accounts threads are_objects are_accounts are_threads =
     ap (λ os. record (holding rows p) { objects = os; accounts = accounts; threads = threads }) are_objects

@@ -1,11 +1,11 @@
 // Opening a volume whose rows were read: its journal, and then its frame table.
-ghost use Rattle.std.specs.Prelude.{List, ℕ, ◌≡◌, ◌≤◌, true, IfOk, IsTrue};
+ghost use Rattle.std.specs.Prelude.{List, ℕ, ◌≡◌, ◌≤◌, true, IfOk, IsTrue, length, vec_capacity};
 ghost use Rattle.std.specs.Option.{ForSome};
 ghost use Rattle.mg_check.specs.RowsRead.{AreKept, IsReadAs};
 ghost use Rattle.mg_disk.specs.Stops.{DiskCallsBy, Leaves, NothingPending, WritesNothing};
 ghost use Rattle.mg_model.specs.Layout.{total_blocks};
 ghost use Rattle.mg_model.specs.Volume.{volume};
-ghost use Rattle.mg_objects.specs.Held.{AreApart, IsPlaced, by_base};
+ghost use Rattle.mg_objects.specs.Held.{AreApart, objects_in};
 ghost use Rattle.mg_volume.specs.Meaning.{StandsOn, is_live, is_sound, now_of, staged_of};
 ghost use Rattle.mg_volume.specs.Opening.{Opens};
 
@@ -21,13 +21,14 @@ use mg_pages::Pages;
 use mg_space::Space;
 use std::alloc::{AllocError, Global};
 
-// The objects of these rows, of which no two share a page.
-fn objects_of(alloc: Global, rows: &[(u64, ObjRow)]) -> Result<Space, AllocError>
-    requires placed { IsPlaced rows.now }
-    requires apart { AreApart (by_base rows.now) }
-    ensures { IfOk result (λ objects. objects ≡ by_base rows.now) }
+// The objects of this table, of which no two share a page.
+fn objects_of(alloc: Global, table: Vec<Option<ObjRow>>) -> Result<Space, AllocError>
+    requires places { length table.items ≤ 4096 }
+    requires room { 4096 ≤ vec_capacity table }
+    requires apart { AreApart (objects_in table.items) }
+    ensures { IfOk result (λ objects. objects ≡ objects_in table.items) }
 {
-    match Space::of(alloc, rows) {
+    match Space::of(alloc, table) {
         Ok(Some(objects)) => Ok(objects),
         Ok(None) => unreachable!(),
         Err(fault) => Err(fault),
@@ -54,7 +55,7 @@ pub(crate) fn open_rows<D: Disk>(
     ensures untouched { result ≡ Err ViewFault.Damaged → WritesNothing D.Disk disk.old disk.new }
     ensures calls { DiskCallsBy D.Disk disk.old disk.new (result ≡ Err ViewFault.Disk) }
 {
-    let objects = match objects_of(alloc, &rows.objects) {
+    let objects = match objects_of(alloc, rows.objects) {
         Ok(objects) => objects,
         Err(_) => return Err(ViewFault::Memory),
     };

@@ -8,7 +8,7 @@ use Rattle.mg_check.proofs.table_rows.take.Goals as goal
 pub returns-in-Row-clause-told : goal.returns-in-Row-clause-told
 returns-in-Row-clause-told g c =
     on_ok_weaker c.add.result
-    (λ more read here live. live_more read c.args.i c.in-Row.row c.args.rows.now.items c.add.new.list.items live (here ∙ sym c.in-Some.ensures.spelled ∙ ap (λ f. as_read (Some f)) c.in-Row.is) more)
+    (λ more read here live. live_more read c.args.i c.in-Row.row c.args.rows.now.items c.add.new.list.items live (here ∙ sym c.read-found.ensures.spelled ∙ ap as_read c.in-Some.is ∙ ap (λ f. as_read (Some f)) c.in-Row.is) more)
     c.add.ensures.more
 
 pub returns-in-Row-clause-placed : goal.returns-in-Row-clause-placed
@@ -17,8 +17,8 @@ returns-in-Row-clause-placed g c = on_ok_weaker c.add.result (λ more are. place
 pub returns-in-Row-clause-kept : goal.returns-in-Row-clause-kept
 returns-in-Row-clause-kept g c =
     on_ok_weaker c.add.result
-    (λ more are. kept_more g.R.TableRow.IsKept c.args.i c.in-Row.row c.args.rows.now.items c.add.new.list.items more (c.in-Some.ensures.kept c.in-Row.row (ap (λ f. as_read (Some f)) c.in-Row.is)) are)
+    (λ more are. kept_more g.R.TableRow.IsKept c.args.i c.in-Row.row c.args.rows.now.items c.add.new.list.items more (c.read-found.ensures.kept c.in-Row.row (ap as_read c.in-Some.is ∙ ap (λ f. as_read (Some f)) c.in-Row.is)) are)
     c.add.ensures.more
 
 pub returns-in-Free-clause-told : goal.returns-in-Free-clause-told
-returns-in-Free-clause-told g c read here live = live_free read c.args.i c.args.rows.now.items live (here ∙ sym c.in-Some.ensures.spelled ∙ ap (λ f. as_read (Some f)) c.in-Free.is)
+returns-in-Free-clause-told g c read here live = live_free read c.args.i c.args.rows.now.items live (here ∙ sym c.read-found.ensures.spelled ∙ ap as_read c.in-Some.is ∙ ap (λ f. as_read (Some f)) c.in-Free.is)

@@ -17,11 +17,11 @@ read_all-requires-clause-can g c = still_read g.D.Disk (g.C.Contents.need c.args
 pub read_all-requires-2-clause-can : goal.read_all-requires-2-clause-can
 read_all-requires-2-clause-can g c = still_read g.D.Disk (g.C.Contents.need c.args.view.now) (g.C.Contents.Fits c.args.view.now) c.args.disk.now c.read_all.new.disk c.requires.can (only_then g.D.Disk c.args.disk.now c.read_counters.new.disk c.read_all.new.disk c.read_counters.ensures.reads c.read_all.ensures.reads)
 
-pub read_all-requires-3-clause-can : goal.read_all-requires-3-clause-can
-read_all-requires-3-clause-can g c = still_read g.D.Disk (g.C.Contents.need c.args.view.now) (g.C.Contents.Fits c.args.view.now) c.args.disk.now c.read_all-2.new.disk c.requires.can (only_then g.D.Disk c.args.disk.now c.read_all.new.disk c.read_all-2.new.disk (only_then g.D.Disk c.args.disk.now c.read_counters.new.disk c.read_all.new.disk c.read_counters.ensures.reads c.read_all.ensures.reads) c.read_all-2.ensures.reads)
+pub read_places-requires-clause-can : goal.read_places-requires-clause-can
+read_places-requires-clause-can g c = still_read g.D.Disk (g.C.Contents.need c.args.view.now) (g.C.Contents.Fits c.args.view.now) c.args.disk.now c.read_all-2.new.disk c.requires.can (only_then g.D.Disk c.args.disk.now c.read_all.new.disk c.read_all-2.new.disk (only_then g.D.Disk c.args.disk.now c.read_counters.new.disk c.read_all.new.disk c.read_counters.ensures.reads c.read_all.ensures.reads) c.read_all-2.ensures.reads)
 
 pub read_table-requires-clause-can : goal.read_table-requires-clause-can
-read_table-requires-clause-can g c = still_read g.D.Disk (g.C.Contents.need c.args.view.now) (g.C.Contents.Fits c.args.view.now) c.args.disk.now c.read_all-3.new.disk c.requires.can (only_then g.D.Disk c.args.disk.now c.read_all-2.new.disk c.read_all-3.new.disk (only_then g.D.Disk c.args.disk.now c.read_all.new.disk c.read_all-2.new.disk (only_then g.D.Disk c.args.disk.now c.read_counters.new.disk c.read_all.new.disk c.read_counters.ensures.reads c.read_all.ensures.reads) c.read_all-2.ensures.reads) c.read_all-3.ensures.reads)
+read_table-requires-clause-can g c = still_read g.D.Disk (g.C.Contents.need c.args.view.now) (g.C.Contents.Fits c.args.view.now) c.args.disk.now c.read_places.new.disk c.requires.can (only_then g.D.Disk c.args.disk.now c.read_all-2.new.disk c.read_places.new.disk (only_then g.D.Disk c.args.disk.now c.read_all.new.disk c.read_all-2.new.disk (only_then g.D.Disk c.args.disk.now c.read_counters.new.disk c.read_all.new.disk c.read_counters.ensures.reads c.read_all.ensures.reads) c.read_all-2.ensures.reads) c.read_places.ensures.reads)
 
 pub returns-in_err-globals-clause-damaged : goal.returns-in_err-globals-clause-damaged
 returns-in_err-globals-clause-damaged g c is r told =
@@ -65,8 +65,8 @@ returns-in_err-objects-clause-damaged g c is r told =
     let was = c.in_err-objects.was in
     let first = p.1 in
     let same = p.2 in
-    let damaged : c.read_all-3.result ≡ Err fault.Damaged = cc in
-    without-objects c.args.p.now r (c.read_all-3.ensures.damaged damaged r (same_contents g.D.Disk (g.C.Contents.of c.args.view.now) c.args.disk.now c.read_all-2.new.disk (only_then g.D.Disk c.args.disk.now c.read_all.new.disk c.read_all-2.new.disk (only_then g.D.Disk c.args.disk.now c.read_counters.new.disk c.read_all.new.disk c.read_counters.ensures.reads c.read_all.ensures.reads) c.read_all-2.ensures.reads) ∙ told))
+    let damaged : c.read_places.result ≡ Err fault.Damaged = cc in
+    without-objects c.args.p.now r (c.read_places.ensures.damaged damaged r (same_contents g.D.Disk (g.C.Contents.of c.args.view.now) c.args.disk.now c.read_all-2.new.disk (only_then g.D.Disk c.args.disk.now c.read_all.new.disk c.read_all-2.new.disk (only_then g.D.Disk c.args.disk.now c.read_counters.new.disk c.read_all.new.disk c.read_counters.ensures.reads c.read_all.ensures.reads) c.read_all-2.ensures.reads) ∙ told))
 
 pub returns-in_err-table-clause-damaged : goal.returns-in_err-table-clause-damaged
 returns-in_err-table-clause-damaged g c is r told =
@@ -75,7 +75,7 @@ returns-in_err-table-clause-damaged g c is r told =
     let first = p.1 in
     let same = p.2 in
     let damaged : c.read_table.result ≡ Err fault.Damaged = cc in
-    without-zeros c.args.p.now r (subst (HasRest r) c.frames-frames.ensures.value (c.read_table.ensures.damaged damaged r (same_contents g.D.Disk (g.C.Contents.of c.args.view.now) c.args.disk.now c.read_all-3.new.disk (only_then g.D.Disk c.args.disk.now c.read_all-2.new.disk c.read_all-3.new.disk (only_then g.D.Disk c.args.disk.now c.read_all.new.disk c.read_all-2.new.disk (only_then g.D.Disk c.args.disk.now c.read_counters.new.disk c.read_all.new.disk c.read_counters.ensures.reads c.read_all.ensures.reads) c.read_all-2.ensures.reads) c.read_all-3.ensures.reads) ∙ told)))
+    without-zeros c.args.p.now r (subst (HasRest r) c.frames-frames.ensures.value (c.read_table.ensures.damaged damaged r (same_contents g.D.Disk (g.C.Contents.of c.args.view.now) c.args.disk.now c.read_places.new.disk (only_then g.D.Disk c.args.disk.now c.read_all-2.new.disk c.read_places.new.disk (only_then g.D.Disk c.args.disk.now c.read_all.new.disk c.read_all-2.new.disk (only_then g.D.Disk c.args.disk.now c.read_counters.new.disk c.read_all.new.disk c.read_counters.ensures.reads c.read_all.ensures.reads) c.read_all-2.ensures.reads) c.read_places.ensures.reads) ∙ told)))
 
 pub returns-clause-told : goal.returns-clause-told
 returns-clause-told g c r told =
@@ -83,4 +83,4 @@ returns-clause-told g c r told =
     (subst (AreLive (λ i. account_read (account_row_bytes r i)) account_rows) (sym (c.in_ok-accounts.ensures.same ∙ c.deref.ensures.value)) (c.in_ok-placed.ensures.told r (same_contents g.D.Disk (g.C.Contents.of c.args.view.now) c.args.disk.now c.read_counters.new.disk c.read_counters.ensures.reads ∙ told)))
     (c.in_ok-threads.ensures.told r (same_contents g.D.Disk (g.C.Contents.of c.args.view.now) c.args.disk.now c.read_all.new.disk (only_then g.D.Disk c.args.disk.now c.read_counters.new.disk c.read_all.new.disk c.read_counters.ensures.reads c.read_all.ensures.reads) ∙ told))
     (c.in_ok-objects.ensures.told r (same_contents g.D.Disk (g.C.Contents.of c.args.view.now) c.args.disk.now c.read_all-2.new.disk (only_then g.D.Disk c.args.disk.now c.read_all.new.disk c.read_all-2.new.disk (only_then g.D.Disk c.args.disk.now c.read_counters.new.disk c.read_all.new.disk c.read_counters.ensures.reads c.read_all.ensures.reads) c.read_all-2.ensures.reads) ∙ told))
-    (subst (λ n. IsTable r n c.in_ok-table.table.items) c.frames-frames.ensures.value (c.in_ok-table.ensures.told r (same_contents g.D.Disk (g.C.Contents.of c.args.view.now) c.args.disk.now c.read_all-3.new.disk (only_then g.D.Disk c.args.disk.now c.read_all-2.new.disk c.read_all-3.new.disk (only_then g.D.Disk c.args.disk.now c.read_all.new.disk c.read_all-2.new.disk (only_then g.D.Disk c.args.disk.now c.read_counters.new.disk c.read_all.new.disk c.read_counters.ensures.reads c.read_all.ensures.reads) c.read_all-2.ensures.reads) c.read_all-3.ensures.reads) ∙ told)))
+    (subst (λ n. IsTable r n c.in_ok-table.table.items) c.frames-frames.ensures.value (c.in_ok-table.ensures.told r (same_contents g.D.Disk (g.C.Contents.of c.args.view.now) c.args.disk.now c.read_places.new.disk (only_then g.D.Disk c.args.disk.now c.read_all-2.new.disk c.read_places.new.disk (only_then g.D.Disk c.args.disk.now c.read_all.new.disk c.read_all-2.new.disk (only_then g.D.Disk c.args.disk.now c.read_counters.new.disk c.read_all.new.disk c.read_counters.ensures.reads c.read_all.ensures.reads) c.read_all-2.ensures.reads) c.read_places.ensures.reads) ∙ told)))

@@ -5,16 +5,16 @@ use Rattle.mg_journal.specs.declared.faults.ViewFault.TheVariants as fault
 use Rattle.mg_model.specs.Layout.{total_blocks}
 use Rattle.mg_model.specs.State.{ObjectRow}
 use Rattle.mg_model.specs.Volume.{volume}
-use Rattle.mg_objects.specs.Held.{AreApart, by_base}
+use Rattle.mg_objects.specs.Held.{AreApart}
 use Rattle.mg_volume.specs.Held.{VolumeHeld}
 use Rattle.mg_volume.specs.Meaning.{IsKept, StandsOn, is_live, is_sound, now_of, staged_of}
 use Rattle.mg_volume.specs.Numbered.{numbered}
 use Rattle.mg_volume.specs.Opening.{Opens}
-use Rattle.mg_volume.proofs.Opened.{ArePages, apart_is, credits_is, distinct_is, held_is, leaves_still, live_is, made_is, opens_now, sound_is, staged_none, stands_now, undamaged}
+use Rattle.mg_volume.proofs.Opened.{ArePages, apart_is, credits_is, distinct_is, held_is, leaves_still, live_is, made_is, opens_now, same_objects, sound_is, staged_none, stands_now, undamaged}
 use Rattle.mg_volume.proofs.opening.open_rows.Goals as goal
 
 pub objects_of-requires-clause-apart : goal.objects_of-requires-clause-apart
-objects_of-requires-clause-apart g c = let P : List (ℕ × ObjectRow) → Type 0 = λ rows. AreApart (by_base rows) in subst P (sym c.deref.ensures.value) (apart_is c.args.rows c.requires.kept)
+objects_of-requires-clause-apart g c = let P : List (ℕ × ObjectRow) → Type 0 = AreApart in subst P (sym (same_objects c.args.rows)) (apart_is c.args.rows c.requires.kept)
 
 pub returns-in-Err-open-clause-any_moment : goal.returns-in-Err-open-clause-any_moment
 returns-in-Err-open-clause-any_moment g c pending =
@@ -34,7 +34,7 @@ pub invariant_of-result : goal.invariant_of-result
 invariant_of-result g c =
     let rows = c.args.rows in
     let p = c.in-Ok-open-2.pages in
-    let made = made_is rows p c.in-Ok.objects c.of-accounts.result c.in-Ok-of.threads (c.in-Ok.ensures ∙ ap by_base c.deref.ensures.value) c.of-accounts.ensures (c.in-Ok-of.ensures ∙ ap numbered c.deref-2.ensures.value) in
+    let made = made_is rows p c.in-Ok.objects c.of-accounts.result c.in-Ok-of.threads (c.in-Ok.ensures ∙ same_objects rows) c.of-accounts.ensures (c.in-Ok-of.ensures ∙ ap numbered c.deref.ensures.value) in
     let said = c.in-Ok-open-2.ensures in
     let P : VolumeHeld → Type 0 = λ v. IsKept v in
     subst P (sym made) (held_is rows c.requires.kept p said.table said.frames)
@@ -43,7 +43,7 @@ pub returns-in-Ok-open-2-clause-opens : goal.returns-in-Ok-open-2-clause-opens
 returns-in-Ok-open-2-clause-opens g c =
     let rows = c.args.rows in
     let p = c.in-Ok-open-2.pages in
-    let made = made_is rows p c.in-Ok.objects c.of-accounts.result c.in-Ok-of.threads (c.in-Ok.ensures ∙ ap by_base c.deref.ensures.value) c.of-accounts.ensures (c.in-Ok-of.ensures ∙ ap numbered c.deref-2.ensures.value) in
+    let made = made_is rows p c.in-Ok.objects c.of-accounts.result c.in-Ok-of.threads (c.in-Ok.ensures ∙ same_objects rows) c.of-accounts.ensures (c.in-Ok-of.ensures ∙ ap numbered c.deref.ensures.value) in
     let said = c.in-Ok-open-2.ensures in
     let same : c.of-2.result.total ≡ total_blocks rows.params.frames = c.of-2.ensures.total ∙ ap total_blocks c.frames.ensures.value in
     let are : ArePages rows c.in-Ok-open.store p = record { store_is = said.store; total = c.in-Ok-open.ensures.total ∙ same; frames = said.frames; table = said.table; coming = said.coming; spelled = said.spelled } in
@@ -54,7 +54,7 @@ pub returns-in-Ok-open-2-clause-stands : goal.returns-in-Ok-open-2-clause-stands
 returns-in-Ok-open-2-clause-stands g c =
     let rows = c.args.rows in
     let p = c.in-Ok-open-2.pages in
-    let made = made_is rows p c.in-Ok.objects c.of-accounts.result c.in-Ok-of.threads (c.in-Ok.ensures ∙ ap by_base c.deref.ensures.value) c.of-accounts.ensures (c.in-Ok-of.ensures ∙ ap numbered c.deref-2.ensures.value) in
+    let made = made_is rows p c.in-Ok.objects c.of-accounts.result c.in-Ok-of.threads (c.in-Ok.ensures ∙ same_objects rows) c.of-accounts.ensures (c.in-Ok-of.ensures ∙ ap numbered c.deref.ensures.value) in
     let said = c.in-Ok-open-2.ensures in
     let same : c.of-2.result.total ≡ total_blocks rows.params.frames = c.of-2.ensures.total ∙ ap total_blocks c.frames.ensures.value in
     let are : ArePages rows c.in-Ok-open.store p = record { store_is = said.store; total = c.in-Ok-open.ensures.total ∙ same; frames = said.frames; table = said.table; coming = said.coming; spelled = said.spelled } in
@@ -65,7 +65,7 @@ pub returns-in-Ok-open-2-clause-sound : goal.returns-in-Ok-open-2-clause-sound
 returns-in-Ok-open-2-clause-sound g c =
     let rows = c.args.rows in
     let p = c.in-Ok-open-2.pages in
-    let made = made_is rows p c.in-Ok.objects c.of-accounts.result c.in-Ok-of.threads (c.in-Ok.ensures ∙ ap by_base c.deref.ensures.value) c.of-accounts.ensures (c.in-Ok-of.ensures ∙ ap numbered c.deref-2.ensures.value) in
+    let made = made_is rows p c.in-Ok.objects c.of-accounts.result c.in-Ok-of.threads (c.in-Ok.ensures ∙ same_objects rows) c.of-accounts.ensures (c.in-Ok-of.ensures ∙ ap numbered c.deref.ensures.value) in
     let said = c.in-Ok-open-2.ensures in
     let P : VolumeHeld → Type 0 = λ v. (image : Image) → is_sound (now_of v image) ≡ true in
     subst P (sym made) (sound_is rows c.requires.kept p said.table said.frames)
@@ -74,14 +74,14 @@ pub returns-in-Ok-open-2-clause-staged : goal.returns-in-Ok-open-2-clause-staged
 returns-in-Ok-open-2-clause-staged g c =
     let rows = c.args.rows in
     let p = c.in-Ok-open-2.pages in
-    let made = made_is rows p c.in-Ok.objects c.of-accounts.result c.in-Ok-of.threads (c.in-Ok.ensures ∙ ap by_base c.deref.ensures.value) c.of-accounts.ensures (c.in-Ok-of.ensures ∙ ap numbered c.deref-2.ensures.value) in
+    let made = made_is rows p c.in-Ok.objects c.of-accounts.result c.in-Ok-of.threads (c.in-Ok.ensures ∙ same_objects rows) c.of-accounts.ensures (c.in-Ok-of.ensures ∙ ap numbered c.deref.ensures.value) in
     ap staged_of made ∙ staged_none rows p c.in-Ok-open-2.ensures.staged
 
 pub returns-in-Ok-open-2-clause-live : goal.returns-in-Ok-open-2-clause-live
 returns-in-Ok-open-2-clause-live g c =
     let rows = c.args.rows in
     let p = c.in-Ok-open-2.pages in
-    let made = made_is rows p c.in-Ok.objects c.of-accounts.result c.in-Ok-of.threads (c.in-Ok.ensures ∙ ap by_base c.deref.ensures.value) c.of-accounts.ensures (c.in-Ok-of.ensures ∙ ap numbered c.deref-2.ensures.value) in
+    let made = made_is rows p c.in-Ok.objects c.of-accounts.result c.in-Ok-of.threads (c.in-Ok.ensures ∙ same_objects rows) c.of-accounts.ensures (c.in-Ok-of.ensures ∙ ap numbered c.deref.ensures.value) in
     ap is_live made ∙ live_is rows p (c.in-Ok-open-2.ensures.live ∙ c.in-Ok-open.ensures.live)
 
 pub returns-in-Ok-open-2-clause-any_moment : goal.returns-in-Ok-open-2-clause-any_moment

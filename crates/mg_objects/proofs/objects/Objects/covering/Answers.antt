@@ -4,9 +4,10 @@ use Rattle.std.specs.Option.{option_map}
 use Rattle.std.proofs.lemmas.List.{get_or_default}
 use Rattle.mg_model.specs.Access.{covers}
 use Rattle.mg_model.specs.State.{ObjectRow}
-use Rattle.mg_objects.specs.Held.{AreApart}
+use Rattle.mg_objects.specs.Held.{AreApart, whole}
 use Rattle.mg_objects.proofs.Apart.{AreRows, covers-last, covers-no, covers-none}
 use Rattle.mg_objects.proofs.Keys.{held_rows}
+use Rattle.mg_objects.proofs.Whole.{whole-objects}
 use Rattle.mg_objects.proofs.objects.Objects.covering.Goals as goal
 
 blank : ℕ × ObjectRow
@@ -27,8 +28,8 @@ returns-then-covers c =
     let last = get_or now (n - 1) blank in
     let P : List (ℕ × ObjectRow) → Type 0 = AreRows in
     let Q : List (ℕ × ObjectRow) → Type 0 = AreApart in
-    let rows = subst P c.self.view_is (held_rows c.self.inside.rows.items c.self.inside.bases c.self.invariant) in
-    let apart = subst Q c.self.view_is c.self.invariant.apart in
+    let rows = subst P (whole-objects c.self.inside.rows.items ∙ c.self.view_is) (held_rows (whole c.self.inside.rows.items) c.self.inside.bases c.self.invariant.held) in
+    let apart = subst Q (whole-objects c.self.inside.rows.items ∙ c.self.view_is) c.self.invariant.held.apart in
     let row : c.nth-row.result.now ≡ last.1 = c.nth-row.ensures blank in
     let is : covers last.1 a ≡ true = ap (λ (r : ObjectRow). covers r a) (sym row) ∙ sym c.covers.ensures ∙ c.if-covers.true in
     let within = c.count_up_to-count.ensures.within in
@@ -44,8 +45,8 @@ returns-else-covers c =
     let last = get_or now (n - 1) blank in
     let P : List (ℕ × ObjectRow) → Type 0 = AreRows in
     let Q : List (ℕ × ObjectRow) → Type 0 = AreApart in
-    let rows = subst P c.self.view_is (held_rows c.self.inside.rows.items c.self.inside.bases c.self.invariant) in
-    let apart = subst Q c.self.view_is c.self.invariant.apart in
+    let rows = subst P (whole-objects c.self.inside.rows.items ∙ c.self.view_is) (held_rows (whole c.self.inside.rows.items) c.self.inside.bases c.self.invariant.held) in
+    let apart = subst Q (whole-objects c.self.inside.rows.items ∙ c.self.view_is) c.self.invariant.held.apart in
     let row : c.nth-row.result.now ≡ last.1 = c.nth-row.ensures blank in
     let is : covers last.1 a ≡ false = ap (λ (r : ObjectRow). covers r a) (sym row) ∙ sym c.covers.ensures ∙ c.if-covers.false in
     let within = c.count_up_to-count.ensures.within in

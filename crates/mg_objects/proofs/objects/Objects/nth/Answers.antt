@@ -1,12 +1,18 @@
-use Rattle.std.proofs.Common.{◌∙◌, ℕ, List, ap, arith, get_or, length, map}
+use Rattle.std.proofs.Common.{◌∙◌, ℕ, List, ap, arith, get_or, length, map, sym}
 use Rattle.mg_model.specs.State.{ObjectRow}
-use Rattle.mg_objects.specs.Held.{key_of, objects_in}
+use Rattle.mg_objects.specs.Held.{key_of, objects_in, whole}
 use Rattle.mg_objects.proofs.Keys.{keys}
+use Rattle.mg_objects.proofs.Whole.{whole-objects}
 use Rattle.mg_objects.proofs.objects.Objects.nth.Goals as goal
+
+pub row_of-requires-clause-few : goal.row_of-requires-clause-few
+row_of-requires-clause-few c = let at = ap length c.deref.ensures.value in let few = c.self.invariant.short in omega arith
 
 pub row_of-requires-clause-listed : goal.row_of-requires-clause-listed
 row_of-requires-clause-listed c =
-    ap (λ rows. map key_of (objects_in rows)) c.deref.ensures.value ∙ keys c.self.inside.rows.items c.self.inside.bases c.self.invariant c.pairs.result.now c.pairs.ensures.ascending c.pairs.ensures.exact
+    ap (λ rows. map key_of (objects_in rows)) c.deref.ensures.value
+    ∙ ap (map key_of) (sym (whole-objects c.self.inside.rows.items))
+    ∙ keys (whole c.self.inside.rows.items) c.self.inside.bases c.self.invariant.held c.pairs.result.now c.pairs.ensures.ascending c.pairs.ensures.exact
 
 pub row_of-requires-clause-rank : goal.row_of-requires-clause-rank
 row_of-requires-clause-rank c =

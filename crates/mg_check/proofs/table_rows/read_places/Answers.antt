@@ -1,0 +1,77 @@
+use Rattle.std.proofs.Common.{◌≡◌, ◌<◌, ◌+◌, ◌-◌, ℕ, Err, Some, ap, length, subst, sym, ◌∙◌, arith, ⊎_elim}
+use Rattle.std.proofs.lemmas.Bool.{cases_eq}
+use Rattle.std.proofs.lemmas.Result.{err_from_is_err_and}
+use Rattle.mg_disk.specs.Disk.{Image}
+use Rattle.mg_model.specs.Replay.{block_of}
+use Rattle.mg_check.specs.Reads.{contents}
+use Rattle.mg_check.specs.RowsRead.{ArePlaced, live_from}
+use Rattle.mg_check.specs.Told.{AreLive, EachKeeps}
+use Rattle.mg_check.specs.declared.faults.RowFault.TheVariants as fault
+use Rattle.mg_check.proofs.LiveRows.{live_none, not_spelled}
+use Rattle.mg_check.proofs.Placed.{kept_none, placed_all, placed_none}
+use Rattle.mg_check.proofs.ReadRuns.{only_none, only_then, same_contents, still_read}
+use Rattle.mg_check.proofs.table_rows.read_places.Goals as goal
+
+pub turn_to-requires-clause-can : goal.turn_to-requires-clause-can
+turn_to-requires-clause-can g c = still_read g.D.Disk (g.C.Contents.need c.args.view.now) (g.C.Contents.Fits c.args.view.now) c.args.disk.now c.loop-i.disk c.requires.can c.loop-i.invariant.reads
+
+pub turn_to-requires-clause-there : goal.turn_to-requires-clause-there
+turn_to-requires-clause-there g c test r told =
+    let i = c.loop-i.i in
+    let some : 0 < i = ⊎_elim (λ zero. absurd (c.is_first.ensures.first zero test)) (λ other. omega arith) (cases_eq i 0) in
+    let before = sym (same_contents g.D.Disk (g.C.Contents.of c.args.view.now) c.args.disk.now c.loop-i.disk c.loop-i.invariant.reads) ∙ told in
+    c.loop-i.invariant.there some r before ∙ ap (block_of r) (c.is_first.ensures.other test ∙ sym c.block_at.ensures.place)
+
+pub returns-in_err-put-clause-damaged : goal.returns-in_err-put-clause-damaged
+returns-in_err-put-clause-damaged g c is r told =
+    let p = err_from_is_err_and c.from_residual-in_err-put.result c.from_residual-in_err-put.ensures.1 in
+    let was = c.in_err-put.was in
+    let first = p.1 in
+    let same = p.2 in
+    let damaged : c.put.result ≡ Err fault.Damaged = cc in
+    let i = c.loop-i.i in
+    let there = c.in-Ok.ensures.block r (same_contents g.D.Disk (g.C.Contents.of c.args.view.now) c.args.disk.now c.loop-i.disk c.loop-i.invariant.reads ∙ told) ∙ ap (block_of r) c.block_at.ensures.place in
+    not_spelled (λ k. g.R.TableRow.spelled (block_of r (g.R.TableRow.block_at k)) k) g.R.TableRow.ROWS i
+    (ap (λ block. g.R.TableRow.spelled block i) (sym there) ∙ c.put.ensures.damaged damaged) (omega arith)
+
+pub returns-in_err-put-clause-reads : goal.returns-in_err-put-clause-reads
+returns-in_err-put-clause-reads g c = only_then g.D.Disk c.args.disk.now c.loop-i.disk c.turn_to.new.disk c.loop-i.invariant.reads c.turn_to.ensures.reads
+
+pub loop-i-preserved : goal.loop-i-preserved
+loop-i-preserved g c =
+    let i = c.loop-i.i in
+    let at_hand = λ (r : Image) (told : contents g.D.Disk (g.C.Contents.of c.args.view.now) c.args.disk.now ≡ Some r). c.in-Ok.ensures.block r (same_contents g.D.Disk (g.C.Contents.of c.args.view.now) c.args.disk.now c.loop-i.disk c.loop-i.invariant.reads ∙ told) ∙ ap (block_of r) c.block_at.ensures.place in
+    record {
+      reads = only_then g.D.Disk c.args.disk.now c.loop-i.disk c.turn_to.new.disk c.loop-i.invariant.reads c.turn_to.ensures.reads;
+      there = λ some r told. at_hand r told ∙ ap (λ k. block_of r (g.R.TableRow.block_at k)) (let e : i ≡ i + 1 - 1 = omega arith in e);
+      told = λ r told. c.in_ok-put.ensures.told (λ k. g.R.TableRow.spelled (block_of r (g.R.TableRow.block_at k)) k) (ap (λ block. g.R.TableRow.spelled block i) (sym (at_hand r told))) (c.loop-i.invariant.told r told);
+      placed = c.in_ok-put.ensures.placed c.loop-i.invariant.placed;
+      kept = c.in_ok-put.ensures.kept c.loop-i.invariant.kept;
+      long = c.in_ok-put.ensures.long;
+      room = let before = c.loop-i.invariant.room in let more = c.put.ensures.room in omega arith;
+    }
+
+pub loop-i-init : goal.loop-i-init
+loop-i-init g c =
+    let none = ap (live_from 0) (sym c.in_ok-rows.ensures.none) in
+    record {
+      reads = only_none g.D.Disk c.args.disk.now (g.met.D.Disk.now_has_been c.args.disk.now);
+      there = λ some. absurd (omega arith);
+      told = λ r told.
+          subst (AreLive (λ k. g.R.TableRow.spelled (block_of r (g.R.TableRow.block_at k)) k) 0) none (live_none (λ k. g.R.TableRow.spelled (block_of r (g.R.TableRow.block_at k)) k));
+      placed = subst (ArePlaced 0) none placed_none;
+      kept = subst (EachKeeps g.R.TableRow.IsKept) none (kept_none g.R.TableRow.IsKept);
+      long = let none = ap length c.in_ok-rows.ensures.none in omega arith;
+      room = let rows = c.ROWS.ensures in let room = c.in_ok-rows.ensures.room in omega arith;
+    }
+
+pub returns-clause-told : goal.returns-clause-told
+returns-clause-told g c r told =
+    let all : c.loop-i.i ≡ g.R.TableRow.ROWS = let past = c.loop-i-test.false in let end = c.loop-i.auto.i-end in omega arith in
+    let P : ℕ → Type 0 = λ n. AreLive (λ k. g.R.TableRow.spelled (block_of r (g.R.TableRow.block_at k)) k) n (live_from 0 c.loop-i.rows.items) in
+    subst P all (c.loop-i.invariant.told r told)
+
+pub returns-clause-placed : goal.returns-clause-placed
+returns-clause-placed g c =
+    let all : c.loop-i.i ≡ g.R.TableRow.ROWS = let past = c.loop-i-test.false in let end = c.loop-i.auto.i-end in omega arith in
+    placed_all c.loop-i.i g.R.TableRow.ROWS (live_from 0 c.loop-i.rows.items) all c.loop-i.invariant.placed
