@@ -1,5 +1,5 @@
 -- Numbers and bytes in lists that are joined.
-use Rattle.std.specs.Prelude.{◌≡◌, ◌≢◌, ℕ, zero, suc, ◌+◌, ◌-◌, ◌*◌, ◌<◌, ◌≤◌, ◌==◌, ◌&&◌, Bool, true, false, List, [], ◌∷◌, ◌++◌, drop, get_or, length, replicate, take}
+use Rattle.std.specs.Prelude.{◌≡◌, ℕ, zero, suc, ◌+◌, ◌-◌, ◌*◌, ◌<◌, ◌≤◌, ◌==◌, ◌&&◌, true, List, [], ◌∷◌, ◌++◌, drop, get_or, length, replicate, take}
 use Rattle.std.specs.Int.{from_le_bytes, w64}
 use Rattle.std.proofs.Common.{refl, sym, ap, ◌∙◌, arith, append_assoc}
 use Rattle.std.proofs.Math.Bool.{and_assoc}
@@ -7,7 +7,7 @@ use Rattle.std.proofs.lemmas.Bool.{and_parts, eqb-true}
 use Rattle.std.proofs.lemmas.List.{drop-append-le, get_or-append-add, length-drop, replicate-append-replicate, take-append-le}
 use Rattle.std.proofs.lemmas.List.Folds.{list_all-append}
 use Rattle.std.proofs.Math.Bool.{and-true}
-use Rattle.mg_model.specs.Bytes.{are_zeros, bytes_at, number_at, numbers_at, padded_to, word_bytes, words_bytes}
+use Rattle.mg_model.specs.Bytes.{are_zeros, number_at, numbers_at, padded_to, word_bytes, words_bytes}
 use Rattle.mg_model.specs.BytesReads.{number_at-behind, number_at-first}
 use Rattle.mg_model.specs.Ranges.{IsWord}
 use Rattle.mg_model.specs.RowReads.{are_zeros-replicate}

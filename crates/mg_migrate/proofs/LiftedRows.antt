@@ -1,5 +1,5 @@
 -- A row of version 1 and what it becomes are read alike.
-use Rattle.std.specs.Prelude.{◌≡◌, ℕ, ◌+◌, ◌-◌, ◌*◌, ◌<◌, ◌≤◌, ◌==◌, ◌&&◌, nat_le, Bool, true, false, List, [], ◌++◌, drop, if◌then◌else◌, length, min, replicate, take, Option, Some, None}
+use Rattle.std.specs.Prelude.{◌≡◌, ℕ, ◌+◌, ◌<◌, ◌≤◌, ◌&&◌, nat_le, Bool, true, false, List, ◌++◌, drop, if◌then◌else◌, length, replicate, take, Option, Some, None}
 use Rattle.std.specs.Option.{option_map_or}
 use Rattle.std.proofs.Common.{refl, sym, ap, subst, ◌∙◌, arith, ⊎_elim}
 use Rattle.std.proofs.lemmas.Bool.{and_from, le-leb, and_left, and_parts, and_right, both_ways, cases_Bool, cond_both, leb-true, lt-leb, cases_lt}

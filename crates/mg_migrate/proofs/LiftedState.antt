@@ -1,8 +1,8 @@
 -- A lifted image spells the lifted state.
-use Rattle.std.specs.Prelude.{◌≡◌, ℕ, zero, suc, ◌+◌, ◌*◌, ◌/◌, ◌%◌, ◌<◌, ◌≤◌, ◌==◌, ◌&&◌, ◌||◌, nat_le, nat_lt, Bool, true, false, List, [], ◌∷◌, ◌++◌, drop, if◌then◌else◌, length, map, position, replicate, sum_by, take, Option, Some, None, option_map}
+use Rattle.std.specs.Prelude.{◌≡◌, ℕ, zero, suc, ◌+◌, ◌*◌, ◌/◌, ◌%◌, ◌<◌, ◌≤◌, ◌==◌, ◌&&◌, ◌||◌, nat_le, nat_lt, Bool, true, false, List, [], ◌∷◌, ◌++◌, drop, if◌then◌else◌, length, map, position, replicate, take, Option, Some, None, option_map}
 use Rattle.std.specs.Option.{option_map_or}
 use Rattle.std.specs.List.{fold, list_all, list_any}
-use Rattle.std.proofs.Common.{refl, sym, ap, subst, ◌∙◌, arith}
+use Rattle.std.proofs.Common.{refl, ap, subst, ◌∙◌, arith}
 use Rattle.std.proofs.lemmas.Bool.Decides.{nat_tests}
 use Rattle.std.proofs.lemmas.List.{length-take}
 use Rattle.std.proofs.lemmas.List.Folds.{list_all-map}
@@ -16,7 +16,7 @@ use Rattle.mg_model.specs.Settings.{Settings}
 use Rattle.mg_model.specs.Spelling.{Read, account_read, globals_read, object_read, thread_read}
 use Rattle.mg_model.specs.State.{Counters, Object, ObjectRow, State, ThreadRow}
 use Rattle.mg_model.specs.Tests.{all_distinct}
-use Rattle.mg_model.specs.Volume.{Damaged, Is, Rows, VolumeRead, account_row_bytes, accounts_fit, are_apart, bound_pages, fitting, has_no_gap, is_page_of, live_rows, object_row_bytes, objects_fit, objects_spelled, page_words, pages_words, replayed_volume, rows_of, state_fits, state_spelled, table_entries, table_fits, thread_row_bytes, threads_fit, whole_table, with_live}
+use Rattle.mg_model.specs.Volume.{Damaged, Is, Rows, account_row_bytes, accounts_fit, are_apart, bound_pages, fitting, has_no_gap, is_page_of, live_rows, object_row_bytes, objects_fit, objects_spelled, page_words, pages_words, replayed_volume, rows_of, state_fits, state_spelled, table_entries, table_fits, thread_row_bytes, threads_fit, whole_table, with_live}
 use Rattle.mg_model.specs.VolumeReads.{live_rows-same, rows_from, rows_with, state_with}
 use Rattle.mg_model.specs.Words.{and_then}
 use Rattle.mg_migrate.proofs.LiftedBlocks.{at_behind, at_row, block-of-lifted, object-row-lifted}

@@ -1,22 +1,22 @@
 -- An image with the lifted blocks spells the lifted state.
-use Rattle.std.specs.Prelude.{◌≡◌, ℕ, ◌+◌, ◌-◌, ◌<◌, ◌≤◌, ◌==◌, ◌&&◌, nat_lt, Bool, true, false, not, IsTrue, List, [], ◌∷◌, ◌++◌, drop, if◌then◌else◌, length, replicate, take}
+use Rattle.std.specs.Prelude.{◌≡◌, ℕ, ◌-◌, ◌≤◌, ◌&&◌, nat_lt, true, not, List, [], ◌∷◌, ◌++◌, drop, if◌then◌else◌, length, replicate}
 use Rattle.std.proofs.Common.{refl, sym, ap, subst, ◌∙◌, arith}
 use Rattle.std.proofs.lemmas.Bool.{and_parts, cond_both}
 use Rattle.std.proofs.lemmas.List.{length-append, length-drop, length-replicate, length-take}
 use Rattle.mg_model.specs.Bytes.{bytes_at, number_at, padded_to, words_bytes}
-use Rattle.mg_model.specs.Layout.{magic, segment_count, super_block, total_blocks}
+use Rattle.mg_model.specs.Layout.{magic, super_block, total_blocks}
 use Rattle.mg_model.specs.Replay.{block_of}
 use Rattle.mg_model.specs.Settings.{Settings, within_limits}
 use Rattle.mg_model.specs.Spelling.{Spells, are_settings, step_words, super_bytes, super_fields, super_read}
 use Rattle.mg_model.specs.SuperReads.{super_read-back}
 use Rattle.mg_model.specs.Tariff.{is_tariff}
-use Rattle.mg_model.specs.Volume.{replayed_volume, settled_volume, volume, volume_behind}
+use Rattle.mg_model.specs.Volume.{volume, volume_behind}
 use Rattle.mg_model.specs.VolumeReads.{settled-closed, settled-same, volume-opened}
 use Rattle.mg_model.specs.Words.{same_bytes}
 use Rattle.mg_migrate.proofs.Fronts.{same_bytes-tells}
 use Rattle.mg_migrate.proofs.LiftedBlocks.{at_super, block-of-lifted, closed, length-lifted}
 use Rattle.mg_migrate.proofs.LiftedState.{replayed-lifted}
-use Rattle.mg_migrate.specs.Lifted.{IsLifted, lifted, lifted_block}
+use Rattle.mg_migrate.specs.Lifted.{IsLifted, lifted}
 use Rattle.mg_migrate.specs.Spelling1.{BadSuper1, NewSuper1, NotSuper1, OldSuper1, Spells1, Super1Read, super1_bytes, super1_read}
 use Rattle.mg_migrate.specs.Version1.{lift_volume, replayed1_volume}
 

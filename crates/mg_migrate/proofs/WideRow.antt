@@ -1,19 +1,15 @@
 -- A row of version 1 and its bytes where this version has them: both are read alike.
-use Rattle.std.specs.Prelude.{◌≡◌, ℕ, zero, suc, ◌+◌, ◌-◌, ◌*◌, ◌<◌, ◌≤◌, ◌==◌, ◌&&◌, nat_le, Bool, true, false, List, [], ◌∷◌, ◌++◌, drop, get_or, if◌then◌else◌, length, map, min, replicate, slice_index, take, Option, Some, None}
-use Rattle.std.proofs.Common.{refl, sym, ap, subst, ◌∙◌, arith, append_assoc}
+use Rattle.std.specs.Prelude.{◌≡◌, ℕ, zero, suc, ◌+◌, ◌-◌, ◌*◌, ◌<◌, ◌≤◌, ◌==◌, List, [], ◌∷◌, ◌++◌, get_or, if◌then◌else◌, length, map, min, replicate, slice_index, Some, None}
+use Rattle.std.proofs.Common.{refl, sym, ap, ◌∙◌, arith, append_assoc}
 use Rattle.std.proofs.Math.ListN.{get_or-append}
-use Rattle.std.proofs.lemmas.List.{length-map, length-replicate, length-append, replicate-append-replicate}
-use Rattle.mg_model.specs.declared.slots.Pw.{Pw}
-use Rattle.mg_model.specs.declared.slots.Slot.{Slot}
-use Rattle.mg_model.specs.Bytes.{are_zeros, bytes_at, number_at, numbers_at, padded_to, words_bytes}
-use Rattle.mg_model.specs.BytesReads.{length-padded_to, length-words_bytes, number_at-behind, numbers_at-behind, same_bytes-refl}
+use Rattle.std.proofs.lemmas.List.{length-replicate, length-append}
+use Rattle.mg_model.specs.Bytes.{number_at, numbers_at, words_bytes}
+use Rattle.mg_model.specs.BytesReads.{number_at-behind, numbers_at-behind}
 use Rattle.mg_model.specs.Limits.{never}
 use Rattle.mg_model.specs.Ranges.{IsWord}
-use Rattle.mg_model.specs.Spelling.{extension_at, object_bytes, object_fields, object_head, passwords_at}
-use Rattle.mg_model.specs.State.{ObjectRow}
-use Rattle.mg_model.specs.Words.{same_bytes}
-use Rattle.mg_migrate.proofs.Fronts.{get_or-behind, number_at-front, number_at-replicate, numbers_at-front, padded_to-further, same_bytes-append}
-use Rattle.mg_migrate.specs.Spelling1.{lift_password, lift_row, object1_bytes, object1_fields, passwords1_at}
+use Rattle.mg_model.specs.Spelling.{extension_at, object_fields, passwords_at}
+use Rattle.mg_migrate.proofs.Fronts.{get_or-behind, number_at-front, number_at-replicate, numbers_at-front}
+use Rattle.mg_migrate.specs.Spelling1.{lift_password, lift_row, object1_fields, passwords1_at}
 use Rattle.mg_migrate.specs.Widened.{joined, untils}
 
 -- the bytes of a row of version 1, from its parts

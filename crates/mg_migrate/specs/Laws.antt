@@ -1,10 +1,10 @@
 -- What is true of lifted images.
 use Rattle.std.specs.Prelude.{◌≡◌, ℕ, List, Some}
-use Rattle.mg_model.specs.Layout.{super_block, total_blocks}
+use Rattle.mg_model.specs.Layout.{super_block}
 use Rattle.mg_model.specs.Limits.{most_frames}
 use Rattle.mg_model.specs.Replay.{block_of, replay}
 use Rattle.mg_model.specs.Settings.{Settings}
-use Rattle.mg_model.specs.Volume.{VolumeRead, replayed_volume, volume}
+use Rattle.mg_model.specs.Volume.{replayed_volume, volume}
 use Rattle.mg_migrate.specs.Layout1.{total1_blocks}
 use Rattle.mg_migrate.specs.Lifted.{IsLifted, IsReplayed1, lifted}
 use Rattle.mg_migrate.specs.Spelling1.{Spells1, super1_read}

@@ -8,3 +8,8 @@ pub mod Fresh1
 -- What the code answers, and what it does to a row's bytes.
 pub mod Super1
 pub mod Widened
+-- What is read of one and copied.
+pub mod LiftedView
+pub mod OldRead
+pub mod Copied
+pub mod Migrated

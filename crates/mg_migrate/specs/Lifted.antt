@@ -1,5 +1,5 @@
 -- The image that a replayed one of version 1 is copied to, block by block: it spells the lifted state.
-use Rattle.std.specs.Prelude.{◌≡◌, ℕ, ◌+◌, ◌-◌, ◌*◌, ◌/◌, ◌%◌, ◌<◌, ◌≤◌, ◌==◌, nat_lt, List, ◌++◌, if◌then◌else◌, length, map, replicate, Option, Some, None}
+use Rattle.std.specs.Prelude.{◌≡◌, ℕ, ◌+◌, ◌-◌, ◌*◌, ◌/◌, ◌%◌, ◌<◌, ◌≤◌, ◌==◌, nat_lt, List, ◌++◌, if◌then◌else◌, length, map, replicate, Some, None}
 use Rattle.std.specs.List.{range_with_len}
 use Rattle.mg_model.specs.Bytes.{bytes_at}
 use Rattle.mg_model.specs.Layout.{first_object_block, gate_open, globals_block, object_size, super_block, table_block, total_blocks}

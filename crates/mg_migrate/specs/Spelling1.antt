@@ -1,6 +1,6 @@
 -- How a superblock and an object are spelled in version 1, where a password never ends and its row has no until. Of a row that
 -- was read the untils are 0; the row that it becomes has the until of a password that never ends.
-use Rattle.std.specs.Prelude.{ℕ, zero, suc, ◌+◌, ◌-◌, ◌*◌, ◌==◌, ◌&&◌, nat_le, nat_lt, Bool, not, min, List, [], ◌∷◌, ◌++◌, if◌then◌else◌, length, map, replicate, slice_index, Option, option_map}
+use Rattle.std.specs.Prelude.{ℕ, zero, suc, ◌+◌, ◌-◌, ◌*◌, ◌&&◌, nat_le, nat_lt, Bool, not, min, List, [], ◌∷◌, ◌++◌, if◌then◌else◌, length, map, replicate, slice_index, Option, option_map}
 use Rattle.mg_model.specs.declared.slots.Pw.{Pw}
 use Rattle.mg_model.specs.Bytes.{bytes_at, number_at, numbers_at, padded_to, words_bytes}
 use Rattle.mg_model.specs.Layout.{block_size, magic, object_account, object_base, object_entry_count, object_pages, object_password_count, object_passwords, super_version}

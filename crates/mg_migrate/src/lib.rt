@@ -3,16 +3,22 @@
 //! What an image of version 1 spells is `volume1` of `specs/Version1.antt`; `lift` gives its state with passwords that never end.
 //! Such an image, once its journal is replayed, is looked at as one of version 2, block by block (`lifted` of
 //! `specs/Lifted.antt`), and [`lifted_images_spell_the_lifted_state`] says that whatever has these blocks spells the lifted state,
-//! or is damaged exactly where the old image is. [`read_super1`] and [`lift_objects`] give the blocks that are not copied as they
-//! are; [`fresh_block1`] is for tests. Nothing here calls a disk.
+//! or is damaged exactly where the old image is. [`fresh_block1`] is for tests.
+//!
+//! [`migrate`] copies a volume of version 1 from one disk to another: its old tables are judged and told as those of today, out of the
+//! lifted blocks, and then these are copied one by one. What each answer tells, and what a stop at any moment leaves on the new disk,
+//! is in `specs/Migrated.antt`.
 #![tactic(auto)]
 
+mod copying;
 mod fresh;
 mod laws;
+mod lifting;
+mod migrating;
+mod old_volume;
 mod rows;
 mod superblock;
 
 pub use fresh::fresh_block1;
 pub use laws::lifted_images_spell_the_lifted_state;
-pub use rows::{lift_objects, object1_in};
-pub use superblock::{Super1, read_super1};
+pub use migrating::{MigrateFault, migrate};

@@ -33,7 +33,7 @@ const NO_ROW: u8 = 255;
 
 /// Spells a block of four objects: of the eight in a block of version 1 the first half (0) or the second (1). A row that
 /// spells nothing there spells nothing here.
-pub fn lift_objects(old: &Block, half: u64, out: &mut Block)
+pub(crate) fn lift_objects(old: &Block, half: u64, out: &mut Block)
     requires { half < 2 }
     ensures { out.new ≡ lifted_objects old.now half }
 {
@@ -79,8 +79,8 @@ fn spelling(row: Spelled<ObjRow>) -> [u8; ROW]
     bytes
 }
 
-/// What row `k` of a block of version 1 spells of an object. Its passwords never end.
-pub fn object1_in(block: &Block, k: u64) -> Option<Spelled<ObjRow>>
+// What row `k` of a block of version 1 spells of an object. Its passwords never end.
+fn object1_in(block: &Block, k: u64) -> Option<Spelled<ObjRow>>
     requires { k < 8 }
     ensures { as_read result ≡ lift_read (object1_read (object1_bytes_in block.now k)) }
 {

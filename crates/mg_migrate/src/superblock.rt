@@ -25,7 +25,7 @@ const VERSION: u8 = 2;
 
 /// What a superblock spells to who looks for a volume of version 1.
 #[derive(Clone, Copy, Debug, PartialEq, Eq)]
-pub enum Super1 {
+pub(crate) enum Super1 {
     /// No volume: it does not begin with the eight bytes.
     Not,
     /// A volume of an older version.
@@ -39,7 +39,7 @@ pub enum Super1 {
 }
 
 /// What a superblock spells to who looks for a volume of version 1.
-pub fn read_super1(b: &Block) -> Super1
+pub(crate) fn read_super1(b: &Block) -> Super1
     ensures { IsSuper1 result (super1_read b.now) }
 {
     if MAGIC[..] != b[..8] {

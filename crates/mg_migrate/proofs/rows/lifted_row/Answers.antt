@@ -1,4 +1,4 @@
-use Rattle.std.proofs.Common.{◌≡◌, ◌∙◌}
+use Rattle.std.proofs.Common.{◌∙◌}
 use Rattle.mg_migrate.proofs.LiftedRows.{lifted-none, lifted-some}
 use Rattle.mg_migrate.specs.Lifted.{object1_bytes_in}
 use Rattle.mg_rows.specs.Answers.{row_in}

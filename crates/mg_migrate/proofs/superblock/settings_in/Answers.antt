@@ -1,5 +1,4 @@
-use Rattle.std.proofs.Common.{◌≡◌, get_or, sym, ◌∙◌}
-use Rattle.mg_model.specs.Settings.{Settings}
+use Rattle.std.proofs.Common.{◌≡◌, sym, ◌∙◌}
 use Rattle.mg_model.specs.Spelling.{BadSuper, NotSuper, OldSuper, Spells}
 use Rattle.mg_migrate.proofs.SuperBlocks.{first-byte, settings1-none, settings1-some}
 use Rattle.mg_migrate.proofs.superblock.settings_in.Goals as goal

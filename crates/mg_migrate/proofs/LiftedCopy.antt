@@ -1,0 +1,107 @@
+-- What a copy of a lifted volume spells, and what is told of the old one.
+use Rattle.std.specs.Prelude.{◌≡◌, ◌⊎◌, ℕ, ◌<◌, ◌≤◌, option_map, Option, Some, None}
+use Rattle.std.proofs.Common.{refl, sym, ap, subst, ◌∙◌, inl, inr, ⊎_elim, arith}
+use Rattle.mg_check.specs.Reads.{contents}
+use Rattle.mg_check.specs.RowsRead.{state_in}
+use Rattle.mg_check.specs.Summaries.{TellsOf, summary_of}
+use Rattle.mg_check.specs.declared.examining.Summary.{Summary}
+use Rattle.mg_check.specs.declared.volume_rows.VolumeRows.{VolumeRows}
+use Rattle.mg_disk.specs.Disk.{Image, only_place}
+use Rattle.mg_disk.specs.Places.{same_as}
+use Rattle.mg_disk.specs.Runs.{leaves_yet, only_image}
+use Rattle.mg_disk.specs.Stops.{Leaves, NothingPending}
+use Rattle.mg_disk.specs.declared.disk.Disk.{Ghosts}
+use Rattle.mg_layout.specs.MayFormat.{IsNoState, opened}
+use Rattle.mg_migrate.proofs.GateAlone.{gate_alone}
+use Rattle.mg_migrate.proofs.LiftedBlocks.{block-of-lifted}
+use Rattle.mg_migrate.proofs.LiftedState.{replayed-lifted}
+use Rattle.mg_migrate.proofs.LiftedVolume.{volume-lifted}
+use Rattle.mg_migrate.proofs.Volume1Reads.{replayed1-is}
+use Rattle.mg_migrate.specs.Copied.{IsCopy, MayCopy, ReadsNow}
+use Rattle.mg_migrate.specs.Layout1.{total1_blocks}
+use Rattle.mg_migrate.specs.Lifted.{lifted}
+use Rattle.mg_migrate.specs.LiftedView.{LiftedView}
+use Rattle.mg_migrate.specs.Migrated.{IsLiftOf, IsState1, MayMigrate, needed}
+use Rattle.mg_migrate.specs.OldRead.{IsOldRead}
+use Rattle.mg_migrate.specs.Version1.{Volume1Read, as_volume1, lift, lift_volume, replayed1_volume, volume1}
+use Rattle.mg_model.specs.Layout.{gate_block, total_blocks}
+use Rattle.mg_model.specs.Replay.{replay}
+use Rattle.mg_model.specs.State.{State}
+use Rattle.mg_model.specs.Volume.{Damaged, Is, NotVolume, OldVolume, VolumeRead, volume}
+
+-- a volume whose lifted one is a state is a state, and what holds of each such state holds of it
+of_state : (v : VolumeRead) (x : State) (P : State → Type 0) → lift_volume v ≡ Is x → ((s : State) → v ≡ Is s → lift s ≡ x → P s) → IsState1 (as_volume1 v) P
+of_state NotVolume x P is then = absurd (cc)
+of_state OldVolume x P is then = absurd (cc)
+of_state Damaged x P is then = absurd (cc)
+of_state (Is s) x P is then = then s refl (cc)
+
+no_state : (c : Image) → volume c ≡ NotVolume → IsNoState (volume c)
+no_state c is = subst (λ (v : VolumeRead). IsNoState v) (sym is) (tt {0})
+
+module _ (seen : LiftedView) (rows : VolumeRows) (image : Image) (read : IsOldRead seen rows image) where
+  abbrev old_lifted : Image
+  old_lifted = lifted seen.settings read.replayed
+
+  -- what is shown of every state that the rows spell once they are lifted
+  pub tells : (P : State → Type 0) → ((s : State) → lift s ≡ state_in rows old_lifted → P s) → IsState1 (volume1 image) P
+  tells P then =
+      subst (λ (v : Volume1Read). IsState1 v P) (sym (replayed1-is seen.settings image read.replayed read.is))
+      (of_state (replayed1_volume seen.settings read.replayed) (state_in rows old_lifted) P (sym (replayed-lifted seen.settings read.replayed) ∙ read.told) (λ s v is. then s is))
+
+  -- how many blocks the state needs
+  needs : (s : State) → lift s ≡ state_in rows old_lifted → needed s ≡ total_blocks rows.params.frames
+  needs s is = ap (λ (state : State). needed state) is
+
+  pub tells-done : (summary : Summary) (have : ℕ) → TellsOf summary rows → total_blocks rows.params.frames ≤ have → IsState1 (volume1 image) (λ state. (summary ≡ summary_of (lift state)) × (needed state ≤ have))
+  tells-done summary have told enough =
+      tells (λ state. (summary ≡ summary_of (lift state)) × (needed state ≤ have)) (λ s is. (told old_lifted ∙ ap summary_of (sym is), (let n = needs s is in omega arith)))
+
+  pub tells-small : (need have h : ℕ) → need ≡ total_blocks rows.params.frames → h ≡ have → have < need → IsState1 (volume1 image) (λ state. (need ≡ needed state) × (h ≡ have) × (have < need))
+  tells-small need have h is same few = tells (λ state. (need ≡ needed state) × (h ≡ have) × (have < need)) (λ s e. (is ∙ sym (needs s e), same, few))
+
+  pub tells-enough : (have : ℕ) → total_blocks rows.params.frames ≤ have → IsState1 (volume1 image) (λ state. needed state ≤ have)
+  tells-enough have enough = tells (λ state. needed state ≤ have) (λ s is. let n = needs s is in omega arith)
+
+  -- a copy of the lifted image
+  copy-spells : (c : Image) → IsCopy (total_blocks seen.settings.frames) old_lifted c → volume c ≡ lift_volume (replayed1_volume seen.settings read.replayed)
+  copy-spells c copy =
+      volume-lifted seen.settings image read.replayed c read.is.super
+      (record { long = copy.long; opened = copy.opened; blocks = λ i low high. copy.blocks i low high ∙ block-of-lifted seen.settings read.replayed i high })
+
+  pub copy-lifts : (c : Image) → IsCopy (total_blocks seen.settings.frames) old_lifted c → IsLiftOf (volume1 image) c
+  copy-lifts c copy =
+      subst (λ (v : Volume1Read). IsLiftOf v c) (sym (replayed1-is seen.settings image read.replayed read.is))
+      (of_state (replayed1_volume seen.settings read.replayed) (state_in rows old_lifted) (λ s. volume c ≡ Is (lift s)) (sym (replayed-lifted seen.settings read.replayed) ∙ read.told)
+      (λ s v is. copy-spells c copy ∙ ap lift_volume v))
+
+  pub copy-may : (new c : Image) → MayCopy (total_blocks seen.settings.frames) new old_lifted c → MayMigrate new (volume1 image) c
+  copy-may new c may = ⊎_elim (λ none. inl (no_state c none)) (λ rest. ⊎_elim (λ before. inr (inl before)) (λ copy. inr (inr (copy-lifts c copy))) rest) may
+
+  pub reads-lift : (old new : Option Image) → ReadsNow (IsCopy (total_blocks seen.settings.frames) old_lifted) old new → ReadsNow (IsLiftOf (volume1 image)) old new
+  reads-lift None new is = is
+  reads-lift (Some before) None is = absurd is
+  reads-lift (Some before) (Some c) is = copy-lifts c is
+
+  -- the contents that reads of the old disk give
+  pub contents-are : {E : Type 0} (facts : Ghosts E) (old : E) → seen.placed.total ≡ total1_blocks seen.settings.frames → facts.seen old ≡ Some image
+      → contents facts (λ before. option_map (lifted seen.settings) (replay before seen.placed.total)) old ≡ Some old_lifted
+  contents-are facts old total told =
+      let is : replay image seen.placed.total ≡ Some read.replayed = ap (replay image) total ∙ read.is.is in
+      rw (told, is)
+
+-- what a settled disk may leave is what reads give
+pub left-lifts : (P : Image → Type 0) (old new : Option Image) (c : Image) → ReadsNow P old new → new ≡ Some c → P c
+left-lifts P None new c is told = absurd (cc)
+left-lifts P (Some before) None c is told = absurd is
+left-lifts P (Some before) (Some image) c is told = subst P (cc) is
+
+-- an image that differs in the gate alone
+gate-may : (v : Volume1Read) (image c : Image) → (volume c ≡ NotVolume) ⊎ (volume c ≡ volume (opened image)) → MayMigrate image v c
+gate-may v image c may = ⊎_elim (λ none. inl (no_state c none)) (λ before. inr (inl before)) may
+
+-- where no call was made, nothing but the image itself may be left
+pub untouched_may : {D : Type 0} (facts : Ghosts D) (v : Volume1Read) (image : Image) (disk : D) → facts.has_been disk (facts.moment disk) → facts.seen disk ≡ Some image → NothingPending facts disk
+    → Leaves facts disk disk (MayMigrate image v)
+untouched_may facts v image disk been told settled =
+    leaves_yet facts disk (MayMigrate image v) been (λ c left. gate-may v image c (gate_alone image c (same_as (only_place gate_block) image c (only_image facts disk image c (record { told = told; settled = settled }) left))))

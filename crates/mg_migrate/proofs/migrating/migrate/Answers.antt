@@ -1,0 +1,81 @@
+use Rattle.std.proofs.Common.{rules, sym, ap, subst, ◌∙◌, ◌≡◌, arith}
+use Rattle.mg_disk.specs.Runs.{leaves_wider}
+use Rattle.mg_migrate.proofs.LiftedCopy.{contents-are, copy-may, left-lifts, reads-lift, tells-done, tells-enough, tells-small, untouched_may}
+use Rattle.mg_migrate.specs.Layout1.{total1_blocks}
+use Rattle.mg_migrate.specs.Lifted.{lifted}
+use Rattle.mg_migrate.specs.LiftedView.{LiftedView}
+use Rattle.mg_migrate.specs.Migrated.{IsLiftOf, MayMigrate}
+use Rattle.mg_migrate.specs.Version1.{volume1}
+use Rattle.mg_model.specs.Layout.{total_blocks}
+use Rattle.mg_migrate.proofs.migrating.migrate.Goals as goal
+
+pub returns-then-have-need-clause-told : goal.returns-then-have-need-clause-told
+returns-then-have-need-clause-told g c image told =
+    tells-small c.in_ok-lifting.lifting c.in_ok-lifting.rows image (c.in_ok-lifting.ensures.told image told) c.of-need.result.total (g.D.Disk.block_count c.args.new.now) c.blocks-have.result
+    (c.of-need.ensures.total ∙ ap total_blocks c.frames.ensures.value) c.blocks-have.ensures.count (search rules)
+
+pub returns-in-Ok-clause-told : goal.returns-in-Ok-clause-told
+returns-in-Ok-clause-told g c image told =
+    tells-done c.in_ok-lifting.lifting c.in_ok-lifting.rows image (c.in_ok-lifting.ensures.told image told) c.summary_of-summary.result (g.D.Disk.block_count c.args.new.now) c.summary_of-summary.ensures.told (search rules)
+
+pub returns-clause-told : goal.returns-clause-told
+returns-clause-told g c image told =
+    tells-enough c.in_ok-lifting.lifting c.in_ok-lifting.rows image (c.in_ok-lifting.ensures.told image told) (g.D.Disk.block_count c.args.new.now) (search rules)
+
+pub returns-in_err-lifting-clause-any_moment : goal.returns-in_err-lifting-clause-any_moment
+returns-in_err-lifting-clause-any_moment g c pending image told before read =
+    untouched_may g.D.Disk (volume1 before) image c.args.new.now (g.met.D.Disk.now_has_been c.args.new.now) told pending
+
+pub returns-in_err-lifting-clause-new_calls : goal.returns-in_err-lifting-clause-new_calls
+returns-in_err-lifting-clause-new_calls g c = search rules
+
+pub returns-then-have-need-clause-any_moment : goal.returns-then-have-need-clause-any_moment
+returns-then-have-need-clause-any_moment g c pending image told before read =
+    untouched_may g.D.Disk (volume1 before) image c.args.new.now (g.met.D.Disk.now_has_been c.args.new.now) told pending
+
+pub copy-requires-clause-can : goal.copy-requires-clause-can
+copy-requires-clause-can g c =
+    let reads = c.in_ok-lifting.ensures.reads in
+    record {
+      room = let room = c.in_ok-lifting.ensures.room in let same = reads.blocks in omega arith;
+      fits = λ image told. (c.in_ok-lifting.ensures.told image (sym reads.writes.same ∙ told)).fits;
+    }
+
+pub returns-in-Ok-clause-any_moment : goal.returns-in-Ok-clause-any_moment
+returns-in-Ok-clause-any_moment g c pending image told before read =
+    let seen = c.in_ok-lifting.lifting in
+    let old = c.in_ok-lifting.ensures.told before read in
+    leaves_wider g.D.Disk c.args.new.now c.copy.new.new _ (MayMigrate image (volume1 before))
+    (c.copy.ensures.any_moment pending image told (lifted seen.settings old.replayed)
+    (contents-are seen c.in_ok-lifting.rows before old g.E.Disk c.read_old.new.old (subst (λ (v : LiftedView). v.placed.total ≡ total1_blocks v.settings.frames) c.lifting.view_is c.lifting.invariant) (c.in_ok-lifting.ensures.reads.writes.same ∙ read)))
+    (λ i may. copy-may seen c.in_ok-lifting.rows before old image i may)
+
+pub returns-in-Err-From-clause-any_moment : goal.returns-in-Err-From-clause-any_moment
+returns-in-Err-From-clause-any_moment g c pending image told before read =
+    let seen = c.in_ok-lifting.lifting in
+    let old = c.in_ok-lifting.ensures.told before read in
+    leaves_wider g.D.Disk c.args.new.now c.copy.new.new _ (MayMigrate image (volume1 before))
+    (c.copy.ensures.any_moment pending image told (lifted seen.settings old.replayed)
+    (contents-are seen c.in_ok-lifting.rows before old g.E.Disk c.read_old.new.old (subst (λ (v : LiftedView). v.placed.total ≡ total1_blocks v.settings.frames) c.lifting.view_is c.lifting.invariant) (c.in_ok-lifting.ensures.reads.writes.same ∙ read)))
+    (λ i may. copy-may seen c.in_ok-lifting.rows before old image i may)
+
+pub returns-clause-any_moment : goal.returns-clause-any_moment
+returns-clause-any_moment g c pending image told before read =
+    let seen = c.in_ok-lifting.lifting in
+    let old = c.in_ok-lifting.ensures.told before read in
+    leaves_wider g.D.Disk c.args.new.now c.copy.new.new _ (MayMigrate image (volume1 before))
+    (c.copy.ensures.any_moment pending image told (lifted seen.settings old.replayed)
+    (contents-are seen c.in_ok-lifting.rows before old g.E.Disk c.read_old.new.old (subst (λ (v : LiftedView). v.placed.total ≡ total1_blocks v.settings.frames) c.lifting.view_is c.lifting.invariant) (c.in_ok-lifting.ensures.reads.writes.same ∙ read)))
+    (λ i may. copy-may seen c.in_ok-lifting.rows before old image i may)
+
+pub returns-in-Ok-clause-made : goal.returns-in-Ok-clause-made
+returns-in-Ok-clause-made g c before read =
+    let seen = c.in_ok-lifting.lifting in
+    let old = c.in_ok-lifting.ensures.told before read in
+    reads-lift seen c.in_ok-lifting.rows before old (g.D.Disk.seen c.args.new.now) (g.D.Disk.seen c.copy.new.new)
+    (c.in-Ok.ensures.made (lifted seen.settings old.replayed)
+    (contents-are seen c.in_ok-lifting.rows before old g.E.Disk c.read_old.new.old (subst (λ (v : LiftedView). v.placed.total ≡ total1_blocks v.settings.frames) c.lifting.view_is c.lifting.invariant) (c.in_ok-lifting.ensures.reads.writes.same ∙ read)))
+
+pub returns-in-Ok-clause-left : goal.returns-in-Ok-clause-left
+returns-in-Ok-clause-left g c before read i left =
+    left-lifts (IsLiftOf (volume1 before)) (g.D.Disk.seen c.args.new.now) (g.D.Disk.seen c.copy.new.new) i (returns-in-Ok-clause-made g c before read) (c.in-Ok.ensures.settled i left)

@@ -1,0 +1,26 @@
+-- What a disk holds while the contents of another one are copied to it, and then.
+use Rattle.std.specs.Prelude.{◌≡◌, ◌⊎◌, ℕ, ◌<◌, ◌≤◌, length, Option, Some, None, IsSomeAnd}
+use Rattle.mg_disk.specs.Disk.{Image}
+use Rattle.mg_layout.specs.MayFormat.{opened}
+use Rattle.mg_model.specs.Layout.{gate_open}
+use Rattle.mg_model.specs.Replay.{block_of}
+use Rattle.mg_model.specs.Volume.{NotVolume, gate_byte, volume}
+
+-- the blocks behind the gate, up to so many with it, are those of the contents
+abbrev pub AreCopied : ℕ → Image → Image → Type 0
+AreCopied n contents c = (i : ℕ) → 1 ≤ i → i < n → block_of c i ≡ block_of contents i
+
+-- its gate is open, and the blocks behind it, up to so many with it, are those of the contents
+pub record IsCopy (n : ℕ) (contents c : Image) : Type 0 where
+  pub long : n ≤ length c
+  pub opened : gate_byte c ≡ gate_open
+  pub blocks : AreCopied n contents c
+
+-- no volume, what the blocks behind the gate spelled before, or a copy
+abbrev pub MayCopy : ℕ → Image → Image → Image → Type 0
+MayCopy n image contents c = (volume c ≡ NotVolume) ⊎ ((volume c ≡ volume (opened image)) ⊎ IsCopy n contents c)
+
+-- reads give an image if they gave one before, and it has P
+abbrev pub ReadsNow : (Image → Type 0) → Option Image → Option Image → Type 0
+ReadsNow P None new = new ≡ None
+ReadsNow P (Some image) new = IsSomeAnd new P

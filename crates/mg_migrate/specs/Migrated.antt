@@ -1,0 +1,58 @@
+-- What is told of a migration: by its answer, and of what a stop may leave on the new disk.
+use Rattle.std.specs.Prelude.{◌≡◌, ◌⊎◌, ℕ, ◌<◌, ◌≤◌, Result, Ok, Err}
+use Rattle.mg_check.specs.declared.examining.Summary.{Summary}
+use Rattle.mg_check.specs.Summaries.{summary_of}
+use Rattle.mg_disk.specs.Disk.{Image}
+use Rattle.mg_layout.specs.MayFormat.{IsNoState, opened}
+use Rattle.mg_migrate.specs.Version1.{Damaged1, Is1, NewVolume1, NotVolume1, OldVolume1, Volume1Read, lift}
+use Rattle.mg_migrate.specs.declared.migrating.MigrateFault.{MigrateFault}
+use Rattle.mg_migrate.specs.declared.migrating.MigrateFault.TheVariants as fault
+use Rattle.mg_model.specs.Layout.{total_blocks}
+use Rattle.mg_model.specs.State.{State}
+use Rattle.mg_model.specs.Volume.{Is, volume}
+
+-- the old image is a volume of version 1, and its state has P
+abbrev pub IsState1 : Volume1Read → (State → Type 0) → Type 0
+IsState1 NotVolume1 P = ⊥
+IsState1 OldVolume1 P = ⊥
+IsState1 NewVolume1 P = ⊥
+IsState1 Damaged1 P = ⊥
+IsState1 (Is1 state) P = P state
+
+-- the blocks that a volume with this state needs
+abbrev pub needed : State → ℕ
+needed state = total_blocks state.settings.frames
+
+-- What an answer tells of the old image and of how many blocks the new disk has. Of a call that failed, and of a want of
+-- memory, nothing but that the new disk was large enough where it failed.
+abbrev pub Tells1 : Result Summary MigrateFault → ℕ → Volume1Read → Type 0
+Tells1 (Ok summary) have old = IsState1 old (λ state. (summary ≡ summary_of (lift state)) × (needed state ≤ have))
+Tells1 (Err fault.OldDisk) have old = Unit {0}
+Tells1 (Err fault.Not) have old = old ≡ NotVolume1
+Tells1 (Err fault.Old) have old = old ≡ OldVolume1
+Tells1 (Err fault.New) have old = old ≡ NewVolume1
+Tells1 (Err fault.Damaged) have old = old ≡ Damaged1
+Tells1 (Err (fault.TooSmall need h)) have old = IsState1 old (λ state. (need ≡ needed state) × (h ≡ have) × (have < need))
+Tells1 (Err fault.Memory) have old = Unit {0}
+Tells1 (Err fault.NewDisk) have old = IsState1 old (λ state. needed state ≤ have)
+
+-- it spells the state of the old image with passwords that never end
+abbrev pub IsLiftOf : Volume1Read → Image → Type 0
+IsLiftOf old c = IsState1 old (λ state. volume c ≡ Is (lift state))
+
+-- no state, what the blocks behind the gate of the new disk spelled before, or the old state with passwords that never end
+abbrev pub MayMigrate : Image → Volume1Read → Image → Type 0
+MayMigrate image old c = IsNoState (volume c) ⊎ ((volume c ≡ volume (opened image)) ⊎ IsLiftOf old c)
+
+-- no call was made on the new disk but where one failed, or where all was done; a failed read of the old disk may come before
+-- them or behind some
+abbrev pub IsUntouched : {D : Type 0} → D → D → Result Summary MigrateFault → Type 0
+IsUntouched old new (Ok summary) = Unit {0}
+IsUntouched old new (Err fault.OldDisk) = Unit {0}
+IsUntouched old new (Err fault.Not) = new ≡ old
+IsUntouched old new (Err fault.Old) = new ≡ old
+IsUntouched old new (Err fault.New) = new ≡ old
+IsUntouched old new (Err fault.Damaged) = new ≡ old
+IsUntouched old new (Err (fault.TooSmall need have)) = new ≡ old
+IsUntouched old new (Err fault.Memory) = new ≡ old
+IsUntouched old new (Err fault.NewDisk) = Unit {0}

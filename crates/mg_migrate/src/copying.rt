@@ -1,0 +1,127 @@
+// The contents of a volume copied to another disk, so that a stop at any moment leaves no volume, what the blocks behind the gate of
+// that disk spelled, or the copy.
+ghost use Rattle.std.specs.Prelude.{◌≡◌, ◌≢◌, ◌≤◌, ◌<◌, OnOk};
+ghost use Rattle.std.specs.Option.{ForSome};
+ghost use Rattle.mg_check.specs.Reads.{CanRead, OnlyRead, contents};
+ghost use Rattle.mg_disk.specs.Disk.{SameBut, SeenBut, Torn, only_place};
+ghost use Rattle.mg_disk.specs.Stops.{CountRose, DiskCallsBy, Leaves, NothingPending, TimeGoes};
+ghost use Rattle.mg_migrate.specs.Copied.{AreCopied, IsCopy, MayCopy, ReadsNow};
+ghost use Rattle.mg_model.specs.Layout.{gate_block};
+ghost use Rattle.mg_model.specs.Replay.{block_of};
+ghost use Rattle.mg_model.specs.Volume.{NotVolume, gate_byte, volume};
+
+use mg_check::Contents;
+use mg_disk::{BLOCK_SIZE, Block, Disk};
+use mg_faults::Failed;
+use mg_layout::{GATE_BLOCK, GATE_OPEN, write_firmly};
+
+/// Which disk failed while contents were copied.
+#[derive(Debug, Drop)]
+pub(crate) enum CopyFault {
+    /// The one that they are read from. The gate of the other one is closed.
+    From,
+    /// The one that they are written to.
+    To,
+}
+
+/// Copies all blocks of the contents but the gate to the same places of a disk, one after the other.
+///
+/// The gate is closed first, then the blocks behind it are copied, and then the gate is opened, with a sync after each.
+///
+/// The caller gives the count of blocks, since [`Contents`] tell it to proofs alone.
+pub(crate) fn copy<C: Contents, D: Disk, E: Disk>(
+    view: &C,
+    total: u64,
+    new: &mut D,
+    old: &mut E,
+) -> Result<(), CopyFault>
+    requires total { total ≡ C.total view.now }
+    requires some { 2 ≤ C.total view.now }
+    requires room { C.total view.now ≤ D.block_count new.old }
+    requires can { CanRead E.Disk (C.need view.now) (C.Fits view.now) old.old }
+    ensures any_moment { NothingPending D.Disk new.old → ForSome (D.seen new.old) (λ image. ForSome (contents E.Disk (C.of view.now) old.old) (λ r. Leaves D.Disk new.old new.new (MayCopy (C.total view.now) image r))) }
+    ensures made { OnOk result (ForSome (contents E.Disk (C.of view.now) old.old) (λ r. ReadsNow (IsCopy (C.total view.now) r) (D.seen new.old) (D.seen new.new))) }
+    ensures settled { OnOk result (NothingPending D.Disk new.new) }
+    ensures closed { result ≡ Err CopyFault.From → ForSome (D.seen new.new) (λ c. volume c ≡ NotVolume) }
+    ensures reads { OnlyRead E.Disk old.old old.new }
+    ensures cause { result ≡ Err CopyFault.From → CountRose E.Disk old.old old.new }
+    ensures calls { DiskCallsBy D.Disk new.old new.new (result ≡ Err CopyFault.To) }
+{
+    write_gate(new, 0)?;
+    copy_behind(view, total, new, old)?;
+    write_gate(new, GATE_OPEN)
+}
+
+// Writes a gate with this byte in front, and zeros behind it, and makes sure of it.
+fn write_gate<D: Disk>(new: &mut D, first: u8) -> Result<(), CopyFault>
+    requires room { 1 ≤ D.block_count new.old }
+    ensures any_moment { NothingPending D.Disk new.old → ForSome (D.seen new.old) (λ image. Leaves D.Disk new.old new.new (SameBut (only_place gate_block) image)) }
+    ensures byte { OnOk result (ForSome (D.seen new.new) (λ c. gate_byte c ≡ first)) }
+    ensures seen { OnOk result (SeenBut (only_place gate_block) (D.seen new.old) (D.seen new.new)) }
+    ensures settled { OnOk result (NothingPending D.Disk new.new) }
+    ensures no_read { result ≢ Err CopyFault.From }
+    ensures calls { DiskCallsBy D.Disk new.old new.new (result ≡ Err CopyFault.To) }
+{
+    let mut gate = [0; BLOCK_SIZE];
+    gate[0] = first;
+    match write_firmly(new, GATE_BLOCK, &gate) {
+        Ok(()) => Ok(()),
+        Err(Failed) => Err(CopyFault::To),
+    }
+}
+
+// Copies the blocks behind the gate and makes sure of them.
+fn copy_behind<C: Contents, D: Disk, E: Disk>(
+    view: &C,
+    total: u64,
+    new: &mut D,
+    old: &mut E,
+) -> Result<(), CopyFault>
+    requires total { total ≡ C.total view.now }
+    requires room { C.total view.now ≤ D.block_count new.old }
+    requires can { CanRead E.Disk (C.need view.now) (C.Fits view.now) old.old }
+    ensures any_moment { NothingPending D.Disk new.old → ForSome (D.seen new.old) (λ image. Leaves D.Disk new.old new.new (SameBut (λ k. 1 ≤ k) image)) }
+    ensures seen { SeenBut (λ k. 1 ≤ k) (D.seen new.old) (D.seen new.new) }
+    ensures copied { OnOk result (ForSome (contents E.Disk (C.of view.now) old.old) (λ r. ForSome (D.seen new.new) (AreCopied (C.total view.now) r))) }
+    ensures settled { OnOk result (NothingPending D.Disk new.new) }
+    ensures reads { OnlyRead E.Disk old.old old.new }
+    ensures cause { result ≡ Err CopyFault.From → CountRose E.Disk old.old old.new }
+    ensures calls { DiskCallsBy D.Disk new.old new.new (result ≡ Err CopyFault.To) }
+{
+    let mut block = [0; BLOCK_SIZE];
+    for i in 1..total {
+        copy_block(view, i, new, old, &mut block)?;
+    }
+    match new.sync() {
+        Ok(()) => Ok(()),
+        Err(Failed) => Err(CopyFault::To),
+    }
+}
+
+// Copies block `i`, through `block`.
+fn copy_block<C: Contents, D: Disk, E: Disk>(
+    view: &C,
+    i: u64,
+    new: &mut D,
+    old: &mut E,
+    block: &mut Block,
+) -> Result<(), CopyFault>
+    requires place { i < C.total view.now }
+    requires room { i < D.block_count new.old }
+    requires can { CanRead E.Disk (C.need view.now) (C.Fits view.now) old.old }
+    ensures stops { TimeGoes D.Disk new.old new.new (Torn i (D.left_since new.old (D.moment new.old))) }
+    ensures seen { SeenBut (only_place i) (D.seen new.old) (D.seen new.new) }
+    ensures copied { OnOk result (ForSome (contents E.Disk (C.of view.now) old.old) (λ r. ForSome (D.seen new.new) (λ c. block_of c i ≡ block_of r i))) }
+    ensures reads { OnlyRead E.Disk old.old old.new }
+    ensures cause { result ≡ Err CopyFault.From → CountRose E.Disk old.old old.new }
+    ensures calls { DiskCallsBy D.Disk new.old new.new (result ≡ Err CopyFault.To) }
+{
+    match view.read(old, i, block) {
+        Ok(()) => {}
+        Err(Failed) => return Err(CopyFault::From),
+    }
+    match new.write(i, block) {
+        Ok(()) => Ok(()),
+        Err(Failed) => Err(CopyFault::To),
+    }
+}

@@ -1,0 +1,87 @@
+// A volume of version 1 copied to another disk as one of this version.
+ghost use Rattle.std.specs.Prelude.{◌≡◌, ◌⊎◌, OnOk};
+ghost use Rattle.std.specs.Option.{ForSome};
+ghost use Rattle.mg_disk.specs.Disk.{Image};
+ghost use Rattle.mg_disk.specs.Stops.{DiskCallsBy, Leaves, NothingPending, WritesNothing};
+ghost use Rattle.mg_migrate.specs.Copied.{ReadsNow};
+ghost use Rattle.mg_migrate.specs.Migrated.{IsLiftOf, IsUntouched, MayMigrate, Tells1};
+ghost use Rattle.mg_migrate.specs.Version1.{volume1};
+ghost use Rattle.mg_model.specs.Volume.{NotVolume, volume};
+
+use crate::copying::{CopyFault, copy};
+use crate::old_volume::read_old;
+use mg_check::{Summary, summary_of};
+use mg_disk::Disk;
+use mg_layout::Geometry;
+use std::alloc::Global;
+use thiserror::Error;
+
+/// Why a volume was not migrated.
+#[derive(Debug, Drop, Error)]
+pub enum MigrateFault {
+    /// A call of the old disk failed. Where the copying had begun, the new disk holds no volume; else no call was made on it.
+    #[error("a call of the old disk failed")]
+    OldDisk,
+    /// The old disk holds no volume: its gate is closed, or no superblock is behind it. No call was made on the new disk.
+    #[error("no volume")]
+    Not,
+    /// It holds a volume of a version before 1. No call was made on the new disk.
+    #[error("a volume of an older version")]
+    Old,
+    /// It holds a volume of a version behind 1. No call was made on the new disk.
+    #[error("a volume of a newer version")]
+    New,
+    /// It holds a volume of version 1 that is not spelled as that version says. No call was made on the new disk.
+    #[error("a damaged volume")]
+    Damaged,
+    /// The volume needs more blocks than the new disk has. No call was made on it.
+    #[error("the volume needs {need} blocks, and the disk has {have}")]
+    TooSmall { need: u64, have: u64 },
+    /// There was not enough memory. No call was made on the new disk.
+    #[error("there was not enough memory")]
+    Memory,
+    /// A call of the new disk failed. What it holds is no volume, what the blocks behind its gate spelled, or the new one.
+    #[error("a call of the new disk failed")]
+    NewDisk,
+}
+
+/// Copies a volume of version 1 to another disk, as one of this version: row by row and frame by frame, each to its number, with
+/// what its journal has not written home. Its passwords never end, and all else of its state is as it was. The old disk is only
+/// read. Memory does not grow with the frames: they are copied block by block.
+///
+/// The gate of the new disk is closed first, then everything behind it is written, and then the gate is opened, with a sync after
+/// each: so a stop at any moment leaves there no volume, what the blocks behind its gate spelled before, or the new one.
+///
+/// The answer tells of the new volume what `check` does. [`MigrateFault::Not`], [`MigrateFault::Old`], [`MigrateFault::New`] and
+/// [`MigrateFault::Damaged`] come exactly where the old image is none, and [`MigrateFault::TooSmall`] exactly where it is a volume
+/// that needs more blocks than the new disk has, unless memory was wanting or a call of the old disk failed before that was known.
+/// [`MigrateFault::OldDisk`] and [`MigrateFault::NewDisk`] come only where a call of that disk failed.
+pub fn migrate<D: Disk, E: Disk>(
+    alloc: Global,
+    new: &mut D,
+    old: &mut E,
+) -> Result<Summary, MigrateFault>
+    ensures told { ForSome (E.seen old.old) (λ before. Tells1 result (D.block_count new.old) (volume1 before)) }
+    ensures any_moment { NothingPending D.Disk new.old → ForSome (D.seen new.old) (λ image. ForSome (E.seen old.old) (λ before. Leaves D.Disk new.old new.new (MayMigrate image (volume1 before)))) }
+    ensures made { OnOk result (ForSome (E.seen old.old) (λ before. ReadsNow (IsLiftOf (volume1 before)) (D.seen new.old) (D.seen new.new))) }
+    ensures settled { OnOk result (NothingPending D.Disk new.new) }
+    ensures left { OnOk result (ForSome (E.seen old.old) (λ before. (c : Image) → D.left_since new.new (D.moment new.new) c → IsLiftOf (volume1 before) c)) }
+    ensures untouched { IsUntouched new.old new.new result }
+    ensures closed { result ≡ Err MigrateFault.OldDisk → (new.new ≡ new.old) ⊎ ForSome (D.seen new.new) (λ c. volume c ≡ NotVolume) }
+    ensures old_kept { WritesNothing E.Disk old.old old.new }
+    ensures old_calls { DiskCallsBy E.Disk old.old old.new (result ≡ Err MigrateFault.OldDisk) }
+    ensures new_calls { DiskCallsBy D.Disk new.old new.new (result ≡ Err MigrateFault.NewDisk) }
+{
+    let (lifting, rows) = read_old(alloc, old)?;
+    let summary = summary_of(&rows);
+    let need = Geometry::of(rows.params.frames()).total;
+    let have = new.blocks();
+    if have < need {
+        return Err(MigrateFault::TooSmall { need, have });
+    }
+    match copy(&lifting, need, new, old) {
+        Ok(()) => Ok(summary),
+        Err(CopyFault::From) => Err(MigrateFault::OldDisk),
+        Err(CopyFault::To) => Err(MigrateFault::NewDisk),
+    }
+}
