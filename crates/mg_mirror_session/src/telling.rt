@@ -1,10 +1,6 @@
 // What is put besides the replies.
-ghost use Rattle.std.specs.Prelude.{◌≡◌, ◌⊎◌};
-ghost use Rattle.std.specs.Io.KnownBytes.{Appends};
-ghost use Rattle.mg_faults.specs.Faults.{CountGoesOn, Rose};
-ghost use Rattle.mg_io.specs.Known.{AppendsPrefix};
+ghost use Rattle.mg_faults.specs.Faults.{CountGoesOn};
 ghost use Rattle.mg_mirror_session.specs.Headline.{EndsWith};
-ghost use Rattle.mg_session.specs.Headline.{usage_line};
 
 use mg_io::{Sink, put_all};
 use mg_mirror::Side;
@@ -31,19 +27,6 @@ fn put_line<K: Sink>(side: Side, sink: &mut K) -> Status
     };
     match put {
         Ok(()) => Status::Done,
-        Err(_) => Status::Sink,
-    }
-}
-
-/// Puts the line `usage`.
-pub(crate) fn usage<K: Sink>(sink: &mut K) -> Status
-    ensures either { (result ≡ Status.Usage) ⊎ (result ≡ Status.Sink) }
-    ensures text { result ≡ Status.Usage → Appends (K.taken sink.old) (K.taken sink.new) usage_line }
-    ensures prefix { AppendsPrefix (K.taken sink.old) (K.taken sink.new) usage_line }
-    ensures sink { result ≡ Status.Sink → Rose (K.faults sink.old) (K.faults sink.new) (K.is_spent sink.new) }
-{
-    match put_all(sink, b"usage\n") {
-        Ok(()) => Status::Usage,
         Err(_) => Status::Sink,
     }
 }

@@ -6,13 +6,13 @@ ghost use Rattle.mg_mirror_session.specs.Headline.{MirrorKeeps, NoMirrorKeeps};
 ghost use Rattle.mg_session.specs.Commands.{words_of};
 ghost use Rattle.mg_session.specs.Headline.{RunKeeps};
 
-use crate::telling::{put_side, usage};
+use crate::telling::put_side;
 use crate::words::read_words;
 use mg_disk::Disk;
 use mg_io::{Sink, Source};
 use mg_mirror::{Mirror, Opened, Side};
 use mg_model::Steps;
-use mg_session::{Status, run};
+use mg_session::{Status, put_usage, run};
 use std::alloc::Global;
 use std::marker::Brand;
 use std::sync::ledger::Ledger;
@@ -60,7 +60,7 @@ pub fn top_mirror<D: Disk, E: Disk, S: Source, K: Sink, L: Ledger>(
             run_on_mirror::<D, E, S, K, L, Brand>(alloc, from, left, right, source, sink, steps)
         }
         None => Mirrored {
-            status: usage(sink),
+            status: put_usage(sink),
             alone: None,
             left,
             right,

@@ -39,7 +39,7 @@ pub fn check<D: Disk, K: Sink>(alloc: Global, disk: &mut D, sink: &mut K) -> Sta
 }
 
 /// Puts the line of a volume.
-fn put_summary<K: Sink>(summary: &Summary, sink: &mut K) -> Status
+pub fn put_summary<K: Sink>(summary: &Summary, sink: &mut K) -> Status
     ensures ends { (result ≡ Status.Done) ⊎ (result ≡ Status.Sink) }
     ensures put { result ≡ Status.Done → Appends (K.taken sink.old) (K.taken sink.new) (summary_line summary.now) }
     ensures prefix { AppendsPrefix (K.taken sink.old) (K.taken sink.new) (summary_line summary.now) }

@@ -48,7 +48,7 @@ fn put_made<K: Sink>(params: &Params, sink: &mut K) -> Result<(), Failed>
 }
 
 /// Puts the line that tells how many blocks are needed, and how many there are.
-fn put_small<K: Sink>(need: u64, have: u64, sink: &mut K) -> Result<(), Failed>
+pub fn put_small<K: Sink>(need: u64, have: u64, sink: &mut K) -> Result<(), Failed>
     ensures line { OnOk result (Appends (K.taken sink.old) (K.taken sink.new) (small_line need have)) }
     ensures prefix { AppendsPrefix (K.taken sink.old) (K.taken sink.new) (small_line need have) }
     ensures sink { OnErr result (Rose (K.faults sink.old) (K.faults sink.new) (K.is_spent sink.new)) }

@@ -36,10 +36,12 @@ mod words;
 
 pub use batches::Ended;
 pub use buffers::Buffers;
+pub use checking::put_summary;
+pub use formatting::put_small;
 pub use machine::Machine;
 pub use reading::serve_lines;
 pub use running::{INPUT, run};
 pub use serving::serve;
 pub use status::Status;
-pub use top_call::top;
+pub use top_call::{put_usage, top};
 pub use words::{Command, read_words};

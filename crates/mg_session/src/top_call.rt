@@ -20,7 +20,7 @@ use std::alloc::Global;
 use std::sync::ledger::Ledger;
 
 /// Puts the line `usage`.
-fn usage<K: Sink>(sink: &mut K) -> Status
+pub fn put_usage<K: Sink>(sink: &mut K) -> Status
     ensures either { (result ≡ Status.Usage) ⊎ (result ≡ Status.Sink) }
     ensures text { result ≡ Status.Usage → Appends (K.taken sink.old) (K.taken sink.new) usage_line }
     ensures prefix { AppendsPrefix (K.taken sink.old) (K.taken sink.new) usage_line }
@@ -88,7 +88,7 @@ pub fn top<D: Disk, S: Source, K: Sink, L: Ledger>(
 {
     let command = match read_words(words) {
         Some(command) => command,
-        None => return usage(sink),
+        None => return put_usage(sink),
     };
     match &command {
         Command::Dry(params) => dry(alloc, params, source, sink, steps),

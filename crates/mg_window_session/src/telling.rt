@@ -4,7 +4,6 @@ ghost use Rattle.std.specs.Io.KnownBytes.{Appends};
 ghost use Rattle.arrayvec.specs.ArrayVec.{array_vec_len};
 ghost use Rattle.mg_faults.specs.Faults.{CountGoesOn, Rose};
 ghost use Rattle.mg_io.specs.Known.{AppendsPrefix};
-ghost use Rattle.mg_session.specs.Headline.{usage_line};
 ghost use Rattle.mg_session.specs.Unopened.{EndsWith, IsQuiet, fault_line};
 ghost use Rattle.mg_window.specs.Attached.{window_at};
 ghost use Rattle.mg_window_session.specs.Headline.{device_line, device_lines};
@@ -88,16 +87,6 @@ pub(crate) fn put_fault<K: Sink>(fault: OpenFault, sink: &mut K) -> Status
         OpenFault::Disk => Status::Disk,
         OpenFault::Memory => Status::Memory,
     }
-}
-
-/// Puts the line `usage`.
-pub(crate) fn usage<K: Sink>(sink: &mut K) -> Status
-    ensures either { (result ≡ Status.Usage) ⊎ (result ≡ Status.Sink) }
-    ensures text { result ≡ Status.Usage → Appends (K.taken sink.old) (K.taken sink.new) usage_line }
-    ensures prefix { AppendsPrefix (K.taken sink.old) (K.taken sink.new) usage_line }
-    ensures sink { result ≡ Status.Sink → Rose (K.faults sink.old) (K.faults sink.new) (K.is_spent sink.new) }
-{
-    put_line(b"usage\n", Status::Usage, sink)
 }
 
 /// Puts a line, and ends so where the sink took it.

@@ -5,11 +5,11 @@ ghost use Rattle.mg_window_session.specs.Commands.{asks_for};
 ghost use Rattle.mg_window_session.specs.Headline.{DevKeeps, NoDevKeeps};
 
 use crate::running::{Served, run_and_tell};
-use crate::telling::usage;
 use crate::words::ask_for;
 use mg_disk::Disk;
 use mg_io::{Sink, Source};
 use mg_model::Steps;
+use mg_session::put_usage;
 use mg_window::Windows;
 use std::alloc::Global;
 use std::sync::ledger::Ledger;
@@ -60,7 +60,7 @@ pub fn top_dev<D: Disk, S: Source, K: Sink, L: Ledger>(
         run_and_tell(alloc, windows, disk, source, sink, steps)
     } else {
         Served {
-            status: usage(sink),
+            status: put_usage(sink),
             windows,
         }
     }

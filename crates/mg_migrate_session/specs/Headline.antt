@@ -1,0 +1,124 @@
+-- What a migration promises. An object that does not tell its content has None for it; a promise on content is then empty.
+use Rattle.std.specs.Prelude.{ℕ, ◌≡◌, ◌⊎◌, ◌<◌, ◌≤◌, nat_lt, List, [], ◌∷◌, ◌++◌, if◌then◌else◌, codes}
+use Rattle.std.specs.Io.KnownBytes.{Appends}
+use Rattle.std.specs.Option.{ForSome}
+use Rattle.mg_check.specs.Summaries.{summary_of}
+use Rattle.mg_check.specs.declared.examining.Summary.{Summary}
+use Rattle.mg_disk.specs.Disk.{Image}
+use Rattle.mg_disk.specs.Stops.{CountRose, Leaves, NothingPending, WritesNothing}
+use Rattle.mg_disk.specs.declared.disk.Disk as disks
+use Rattle.mg_faults.specs.Faults.{Rose}
+use Rattle.mg_io.specs.Known.{AppendsPrefix}
+use Rattle.mg_io.specs.declared.traits.Sink as sinks
+use Rattle.mg_migrate.specs.Copied.{ReadsNow}
+use Rattle.mg_migrate.specs.Migrated.{IsLiftOf, MayMigrate, needed}
+use Rattle.mg_migrate.specs.Version1.{Damaged1, Is1, NewVolume1, NotVolume1, OldVolume1, Volume1Read, lift, volume1}
+use Rattle.mg_model.specs.State.{State}
+use Rattle.mg_model.specs.Volume.{NotVolume, volume}
+use Rattle.mg_session.specs.Headline.{IsDoneOrMemory, small_line, summary_line, usage_line}
+use Rattle.mg_session.specs.declared.status.Status.{Status}
+use Rattle.mg_session.specs.declared.status.Status.TheVariants as status
+
+-- The line, and the status with it
+
+-- the line of what the old image spells: which kind of none, that the new disk, with so many blocks, is too small for the volume, or
+-- what `check` tells of the state with passwords that never end
+abbrev pub migrate_line : ℕ → Volume1Read → List ℕ
+migrate_line have NotVolume1 = codes "open not" ++ 10 ∷ []
+migrate_line have OldVolume1 = codes "open old" ++ 10 ∷ []
+migrate_line have NewVolume1 = codes "open new" ++ 10 ∷ []
+migrate_line have Damaged1 = codes "open damaged" ++ 10 ∷ []
+migrate_line have (Is1 state) = if nat_lt have (needed state) then small_line (needed state) have else summary_line (summary_of (lift state))
+
+-- the status of what the old image spells
+abbrev pub migrate_status : ℕ → Volume1Read → Status
+migrate_status have NotVolume1 = status.NoVolume
+migrate_status have OldVolume1 = status.NoVolume
+migrate_status have NewVolume1 = status.NoVolume
+migrate_status have Damaged1 = status.NoVolume
+migrate_status have (Is1 state) = if nat_lt have (needed state) then status.TooSmall else status.Done
+
+-- a line that goes with a status, of some volume, some kind of none, or some sizes
+abbrev pub GoesWith : Status → List ℕ → Type 0
+GoesWith status.Done line = (summary : Summary) × (line ≡ summary_line summary)
+GoesWith status.NoVolume line =
+    (line ≡ migrate_line 0 NotVolume1) ⊎ ((line ≡ migrate_line 0 OldVolume1) ⊎ ((line ≡ migrate_line 0 NewVolume1) ⊎ (line ≡ migrate_line 0 Damaged1)))
+GoesWith status.TooSmall line = (sizes : ℕ × ℕ) × (line ≡ small_line sizes.0 sizes.1)
+GoesWith status.Usage line = ⊥
+GoesWith status.Memory line = ⊥
+GoesWith status.Disk line = ⊥
+GoesWith status.Source line = ⊥
+GoesWith status.Sink line = ⊥
+GoesWith status.TooLong line = ⊥
+
+-- the line was put
+abbrev pub HasPut : Status → Type 0
+HasPut result = (result ≡ status.Done) ⊎ ((result ≡ status.NoVolume) ⊎ (result ≡ status.TooSmall))
+
+-- memory was wanting, or a call failed
+abbrev pub HasFailed : Status → Type 0
+HasFailed result = (result ≡ status.Memory) ⊎ ((result ≡ status.Disk) ⊎ (result ≡ status.Sink))
+
+-- The new disk
+
+-- the old state stands there with passwords that never end: reads give it, a stop leaves it and no other, and nothing is pending
+pub record IsMigrated {D : Type 0} (facts : disks.Ghosts D) (old : Volume1Read) (new new' : D) : Type 0 where
+  pub reads : ReadsNow (IsLiftOf old) (facts.seen new) (facts.seen new')
+  pub left : (c : Image) → facts.left_since new' (facts.moment new') c → IsLiftOf old c
+  pub settled : NothingPending facts new'
+
+-- the new disk once what the old image spells was told: no call was made on it where that is no volume or the disk is too small
+abbrev pub StandsAfter : {D : Type 0} → disks.Ghosts D → Volume1Read → D → D → Type 0
+StandsAfter facts NotVolume1 new new' = new' ≡ new
+StandsAfter facts OldVolume1 new new' = new' ≡ new
+StandsAfter facts NewVolume1 new new' = new' ≡ new
+StandsAfter facts Damaged1 new new' = new' ≡ new
+StandsAfter facts (Is1 state) new new' =
+    (facts.block_count new < needed state → new' ≡ new) × (needed state ≤ facts.block_count new → IsMigrated facts (Is1 state) new new')
+
+-- `VOLUME migrate OLD`
+
+-- a promise on the state of the old image, where that is a volume of version 1
+abbrev pub IfState1 : Volume1Read → (State → Type 0) → Type 0
+IfState1 NotVolume1 P = Unit {0}
+IfState1 OldVolume1 P = Unit {0}
+IfState1 NewVolume1 P = Unit {0}
+IfState1 Damaged1 P = Unit {0}
+IfState1 (Is1 state) P = P state
+
+-- What `migrate` keeps.
+pub record MigrateKeeps {D E K : Type 0} (d : disks.Ghosts D) (e : disks.Ghosts E) (to : sinks.Ghosts K) (result : Status) (new new' : D) (old old' : E) (sink sink' : K) : Type 0 where
+  -- It ends as the old image says, or memory was wanting, or a call failed; and that on every disk.
+  pub ends : ForSome (e.seen old) (λ before. (result ≡ migrate_status (d.block_count new) (volume1 before)) ⊎ HasFailed result)
+  pub which : HasPut result ⊎ HasFailed result
+  -- At 0, 2 and 8 the line of the old image was put, and at each status a prefix of it.
+  pub line : HasPut result → ForSome (e.seen old) (λ before. Appends (to.taken sink) (to.taken sink') (migrate_line (d.block_count new) (volume1 before)))
+  pub prefix : ForSome (e.seen old) (λ before. AppendsPrefix (to.taken sink) (to.taken sink') (migrate_line (d.block_count new) (volume1 before)))
+  -- Of an old disk that does not tell its reads too, what was put at 0, 2 and 8 is a line of that status.
+  pub some_line : HasPut result → (line : List ℕ) × GoesWith result line × Appends (to.taken sink) (to.taken sink') line
+  -- At each moment a stop leaves on the new disk no state, what the blocks behind its gate spelled, or the migrated one.
+  pub moments : NothingPending d new → ForSome (d.seen new) (λ image. ForSome (e.seen old) (λ before. Leaves d new new' (MayMigrate image (volume1 before))))
+  -- At the end the migrated state stands, also where its line could not be put; no call was made on the new disk where none was told.
+  pub stands : HasPut result ⊎ (result ≡ status.Sink) → ForSome (e.seen old) (λ before. StandsAfter d (volume1 before) new new')
+  pub untouched : (result ≡ status.NoVolume) ⊎ ((result ≡ status.TooSmall) ⊎ (result ≡ status.Memory)) → new' ≡ new
+  -- Nothing is ever written on the old disk.
+  pub old_kept : WritesNothing e old old'
+  -- Where memory was wanting, or a disk failed, nothing was put; a disk and the sink failed only where their counts rose.
+  pub memory : result ≡ status.Memory → sink' ≡ sink
+  pub disk_failed : result ≡ status.Disk → (CountRose d new new' ⊎ CountRose e old old') × (sink' ≡ sink)
+  -- Where the old disk failed alone, no call was made on the new one, or the copying had begun and it reads as no volume.
+  pub closed : result ≡ status.Disk → (CountRose d new new' → ⊥) → (new' ≡ new) ⊎ ForSome (d.seen new') (λ c. volume c ≡ NotVolume)
+  pub sink_failed : result ≡ status.Sink → Rose (to.faults sink) (to.faults sink') (to.is_spent sink')
+  -- Of a volume that the new disk is large enough for, where no call failed, all is done, or memory was wanting.
+  pub complete : ForSome (e.seen old) (λ before. IfState1 (volume1 before) (λ state. needed state ≤ d.block_count new → (CountRose d new new' → ⊥) → (CountRose e old old' → ⊥)
+      → (Rose (to.faults sink) (to.faults sink') (to.is_spent sink') → ⊥) → IsDoneOrMemory result))
+
+-- What is kept where the words spell no migration.
+pub record NoMigrateKeeps {D E K : Type 0} (to : sinks.Ghosts K) (result : Status) (new new' : D) (old old' : E) (sink sink' : K) : Type 0 where
+  pub which : (result ≡ status.Usage) ⊎ (result ≡ status.Sink)
+  -- The line `usage` was put, or a prefix of it where the sink failed, which is only where its count rose.
+  pub usage_text : result ≡ status.Usage → Appends (to.taken sink) (to.taken sink') usage_line
+  pub usage_prefix : AppendsPrefix (to.taken sink) (to.taken sink') usage_line
+  pub sink_failed : result ≡ status.Sink → Rose (to.faults sink) (to.faults sink') (to.is_spent sink')
+  -- Both disks are left alone.
+  pub disks : (new' ≡ new) × (old' ≡ old)

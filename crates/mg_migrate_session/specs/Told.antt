@@ -1,0 +1,40 @@
+-- What a fault of a migration tells, and how the command ends with it.
+use Rattle.std.specs.Prelude.{ℕ, ◌≡◌, ◌⊎◌, List, [], ◌∷◌, ◌++◌, codes}
+use Rattle.mg_migrate.specs.declared.migrating.MigrateFault.{MigrateFault}
+use Rattle.mg_migrate.specs.declared.migrating.MigrateFault.TheVariants as fault
+use Rattle.mg_session.specs.Headline.{small_line}
+use Rattle.mg_session.specs.declared.status.Status.{Status}
+use Rattle.mg_session.specs.declared.status.Status.TheVariants as status
+
+-- the line of a fault, if it has one
+abbrev pub fault_line : MigrateFault → List ℕ
+fault_line fault.OldDisk = []
+fault_line fault.Not = codes "open not" ++ 10 ∷ []
+fault_line fault.Old = codes "open old" ++ 10 ∷ []
+fault_line fault.New = codes "open new" ++ 10 ∷ []
+fault_line fault.Damaged = codes "open damaged" ++ 10 ∷ []
+fault_line (fault.TooSmall need have) = small_line need have
+fault_line fault.Memory = []
+fault_line fault.NewDisk = []
+
+-- it tells nothing of the old image
+abbrev pub IsQuiet : MigrateFault → Type 0
+IsQuiet fault.OldDisk = Unit {0}
+IsQuiet fault.Not = ⊥
+IsQuiet fault.Old = ⊥
+IsQuiet fault.New = ⊥
+IsQuiet fault.Damaged = ⊥
+IsQuiet (fault.TooSmall need have) = ⊥
+IsQuiet fault.Memory = Unit {0}
+IsQuiet fault.NewDisk = Unit {0}
+
+-- how the command ends with it
+abbrev pub EndsWith : MigrateFault → Status → Type 0
+EndsWith fault.OldDisk result = result ≡ status.Disk
+EndsWith fault.Not result = (result ≡ status.NoVolume) ⊎ (result ≡ status.Sink)
+EndsWith fault.Old result = (result ≡ status.NoVolume) ⊎ (result ≡ status.Sink)
+EndsWith fault.New result = (result ≡ status.NoVolume) ⊎ (result ≡ status.Sink)
+EndsWith fault.Damaged result = (result ≡ status.NoVolume) ⊎ (result ≡ status.Sink)
+EndsWith (fault.TooSmall need have) result = (result ≡ status.TooSmall) ⊎ (result ≡ status.Sink)
+EndsWith fault.Memory result = result ≡ status.Memory
+EndsWith fault.NewDisk result = result ≡ status.Disk

@@ -1,0 +1,58 @@
+// All that a migration does.
+ghost use Rattle.std.specs.Prelude.{◌≡◌, false, true};
+ghost use Rattle.mg_migrate_session.specs.Commands.{is_migrate};
+ghost use Rattle.mg_migrate_session.specs.Headline.{MigrateKeeps, NoMigrateKeeps};
+ghost use Rattle.mg_session.specs.Commands.{words_of};
+
+use crate::telling::put_fault;
+use crate::words::is_migrate;
+use mg_disk::Disk;
+use mg_io::Sink;
+use mg_migrate::migrate;
+use mg_session::{Status, put_summary, put_usage};
+use std::alloc::Global;
+
+/// All that the program does to migrate a volume. The words, which are those behind its name, are `VOLUME migrate OLD`.
+///
+/// The volume of version 1 on the old disk becomes one of this version on the new one, with passwords that never end and all else as
+/// it was, and the line is put that `check` puts of it. A stop at any moment leaves on the new disk no volume, what the blocks
+/// behind its gate spelled before, or the migrated one. The old disk is only read.
+///
+/// [`Status::NoVolume`] comes with the line `open not`, `open old`, `open new` or `open damaged`, exactly where the old disk holds no
+/// volume, one of a version before 1, one behind 1, or one that is not spelled as version 1 does; [`Status::TooSmall`] with `small
+/// NEED HAVE`, exactly where it holds a volume that needs more blocks than the new disk has. No call is then made on the new
+/// disk, nor at [`Status::Memory`]. [`Status::Disk`] comes only where a call of a disk failed, with nothing put, and [`Status::Sink`] only
+/// where the sink failed; these three come in place of another status.
+///
+/// Other words get the line `usage` and [`Status::Usage`]; the disks are then left alone.
+pub fn top_migrate<D: Disk, E: Disk, K: Sink>(
+    alloc: Global,
+    words: &[String],
+    new: &mut D,
+    old: &mut E,
+    sink: &mut K,
+) -> Status
+    ensures migrate { is_migrate (words_of words.now) ≡ true → MigrateKeeps D.Disk E.Disk K.Sink result new.old new.new old.old old.new sink.old sink.new }
+    ensures usage { is_migrate (words_of words.now) ≡ false → NoMigrateKeeps K.Sink result new.old new.new old.old old.new sink.old sink.new }
+{
+    if is_migrate(words) {
+        migrate_and_tell(alloc, new, old, sink)
+    } else {
+        put_usage(sink)
+    }
+}
+
+/// Migrates the volume, and puts the line of what became of it.
+fn migrate_and_tell<D: Disk, E: Disk, K: Sink>(
+    alloc: Global,
+    new: &mut D,
+    old: &mut E,
+    sink: &mut K,
+) -> Status
+    ensures { MigrateKeeps D.Disk E.Disk K.Sink result new.old new.new old.old old.new sink.old sink.new }
+{
+    match migrate(alloc, new, old) {
+        Ok(summary) => put_summary(&summary, sink),
+        Err(fault) => put_fault(fault, sink),
+    }
+}

@@ -1,0 +1,24 @@
+//! Tests of the migration of a volume of version 1, on disks in memory and in files: what the new volume holds, what a stop or a
+//! call that fails leaves, and which old disks are refused.
+//!
+//! They stand above `mg_migrate_session`, over its public call, so that it is proved once.
+#![tactic(auto)]
+
+#[cfg(test)]
+mod after;
+#[cfg(test)]
+mod files;
+#[cfg(test)]
+mod images;
+#[cfg(test)]
+mod moved;
+#[cfg(test)]
+mod old_faults;
+#[cfg(test)]
+mod refused;
+#[cfg(test)]
+mod scattered;
+#[cfg(test)]
+mod stops;
+#[cfg(test)]
+mod telling;
