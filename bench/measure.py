@@ -3,11 +3,16 @@
 that are kept nowhere, instructions a line, and calls of the disk.
 
     bench/measure.py [--program PATH] [--folder FOLDER] [--seconds S] [--svg FILE]
+    bench/measure.py --full [--program PATH] [--folder FOLDER]
 
 It puts one table. A rate of mungi is that of a run less a run on no lines, both with the page cache warm; a rate of SQLite is that of
 the same number of updates of one row each, with journal_mode WAL and synchronous FULL, in transactions of as many updates as a batch has
 lines. A row fills a page of SQLite's as a store's page fills one of mungi's. Instructions are counted by valgrind's callgrind and calls by
 strace; where one of them is not there, its rows are left out, and that is said on standard error. --svg draws the ratios to SQLite.
+
+With --full it measures a full volume instead: 65,536 frames, 4,096 objects, 61,426 pages and 256 threads. Openings stand beside `cat`
+of the blocks up to the end of the frame table, least of 20 with the page cache warm, and of 5 where it is dropped before each, which
+takes a system that lets it be dropped; a migration stands beside `cp`, with a sync and without.
 """
 import argparse
 import os
@@ -21,6 +26,10 @@ import time
 from pathlib import Path
 
 TOP = Path(__file__).resolve().parent.parent
+sys.path.insert(0, str(TOP / "scripts"))
+
+from version1 import version1  # noqa: E402
+
 SEED = "0" * 64
 TREASURY = "0x28bd8653e56a5d40"
 CREDITS = str(2**62)
@@ -154,6 +163,70 @@ def least(command, runs=20):
     return best
 
 
+def full_volume(program, volume):
+    """A full volume: each page of each object is stored to, and 256 threads live."""
+    mungi(program, [volume, "format", "65536", SEED, CREDITS])
+    _, put = mungi(program, [volume, "run", "64"], [f"1 create 15 1 {TREASURY}"] * 4095 + ["1 thread 0x100000200"] * 255)
+    lines = ["1 store 0x100000000 2"]
+    for answer in put[:4095]:
+        base, password = answer.split()[1:]
+        lines += [f"1 store 0x100000020 {base}", f"1 store 0x100000028 {password}"]
+        lines += [f"1 store {int(base, 16) + 4096 * k} 1" for k in range(15)]
+    _, answers = mungi(program, [volume, "run", "64"], lines)
+    assert all(line.startswith("ok") for line in put) and set(answers) == {"ok"}
+    # A run on no lines writes home what the journal holds.
+    mungi(program, [volume, "run"])
+    _, put = mungi(program, [volume, "check"])
+    assert put[0].split()[1:6] == ["65536", "4096", "61426", "1", "256"], put
+
+
+def drop_caches():
+    """Drops the page cache; whether that could be done."""
+    subprocess.run(["sync"], check=True)
+    try:
+        Path("/proc/sys/vm/drop_caches").write_text("3")
+        return True
+    except OSError:
+        return False
+
+
+def cold(command):
+    times = []
+    for _ in range(5):
+        if not drop_caches():
+            return None
+        times.append(least(command, 1))
+    return min(times)
+
+
+def measure_full(program, folder):
+    volume, head, old, new = (f"{folder}/{name}" for name in ("vol", "head", "old", "new"))
+    full_volume(program, volume)
+    with open(volume, "rb") as whole:
+        Path(head).write_bytes(whole.read(4096 * (2595 + 128)))
+    row("what", "mungi", "beside it", "ratio")
+    row("---", "---", "---", "---")
+    for cache, time_of in (("dropped", cold), ("warm", least)):
+        reading = time_of(["cat", head])
+        if reading is None:
+            print("the page cache can't be dropped here", file=sys.stderr)
+            continue
+        for command in ("run", "check"):
+            took = time_of([program, volume, command])
+            row(f"`{command}` on no lines, page cache {cache}", f"{1000 * took:.1f} ms", f"`cat` {1000 * reading:.1f} ms", f"{took / reading:.2f}")
+    version1(volume, old)
+    copies = {}
+    for name, command in (("mungi", [program, new, "migrate", old]), ("cp and sync", ["sh", "-c", f"cp {old} {new} && sync {new}"]), ("cp", ["cp", old, new])):
+        copies[name] = None
+        for _ in range(5):
+            Path(new).unlink(missing_ok=True)
+            subprocess.run(["sync"], check=True)
+            took = least(command, 1)
+            copies[name] = took if copies[name] is None else min(copies[name], took)
+    for name in ("cp and sync", "cp"):
+        row("migration of a full volume", f"{1000 * copies['mungi']:.0f} ms", f"`{name}` {1000 * copies[name]:.0f} ms", f"{copies['mungi'] / copies[name]:.2f}")
+
+
 def picture(ratios):
     """The ratios to SQLite as bars, each with a mark at the one that is wanted."""
     left, wide, step = 210, 170, 34
@@ -183,11 +256,16 @@ def main():
     parser.add_argument("--folder")
     parser.add_argument("--seconds", type=float, default=2.0)
     parser.add_argument("--svg")
+    parser.add_argument("--full", action="store_true")
     words = parser.parse_args()
     if words.program is None:
         mungi(str(TOP / "mungi"), ["x", "dry", "16", SEED, "0"])
         words.program = str(TOP / "crates/mungi/out/mungi")
     program = os.path.abspath(words.program)
+    if words.full:
+        with tempfile.TemporaryDirectory(dir=words.folder) as folder:
+            measure_full(program, folder)
+        return
     print(f"SQLite {sqlite3.sqlite_version}, WAL, synchronous FULL; {words.seconds} seconds or more a rate\n")
     row("what", "mungi", "beside it", "ratio")
     row("---", "---", "---", "---")

@@ -1,7 +1,7 @@
 #!/usr/bin/env python3
 """Runs mungi on real files in ways that a machine or a user may be hostile, and tells a line a case.
 
-    scripts/hostile.py files            files, folders, limits, streams, two runs at once
+    scripts/hostile.py files            files, folders, limits, streams, two runs at once, migrations
     scripts/hostile.py kill [RUNS]      runs that are killed at random moments, 100 of them
     scripts/hostile.py memory           each allocation refused in turn, which takes a C compiler
 
@@ -19,6 +19,8 @@ import sys
 import tempfile
 import time
 from pathlib import Path
+
+from version1 import version1
 
 TOP = Path(__file__).resolve().parent.parent
 SEED = "0" * 64
@@ -235,6 +237,51 @@ def two_cases(folder):
     tell(good and held(volume, 1, 2) == 2 and ended.status == 0, "the first run goes on, and its file is free afterwards", str(ended))
 
 
+# Migration
+
+def migrate_cases(folder):
+    volume = fresh(folder, "today")
+    # The second run writes home what the journal of the first one holds, whose places are today's.
+    assert run([volume, "run", "64"], stores(1, 300)).status == run([volume, "run"]).status == 0
+    old, new = version1(volume, folder + "/old"), folder + "/migrated"
+    before = Path(old).read_bytes()
+
+    os.chmod(old, 0o444)
+    os.chmod(folder, 0o777)
+    ended = run([new, "migrate", old], **({"user": 65534} if os.geteuid() == 0 else {}))
+    good = (ended.status, ended.put, Path(old).read_bytes() == before) == (0, FRESH, True)
+    tell(good and held(new, 1, 300) == 300, "a volume of version 1 in a file that may not be written is migrated", str(ended))
+
+    ended, none = run([folder + "/no1", "migrate", folder + "/no2"]), (folder + "/no1", folder + "/no2")
+    tell(untouched(ended, 4) and not any(map(os.path.exists, none)), "OLD is missing", str(ended))
+
+    os.symlink(old, folder + "/alias")
+    ended = run([folder + "/alias", "migrate", old])
+    tell(untouched(ended, 4) and Path(old).read_bytes() == before, "VOLUME is another name of OLD", str(ended))
+
+    ended = run([folder + "/no1", "migrate", volume])
+    tell((ended.status, ended.put, os.path.exists(folder + "/no1")) == (2, b"open new\n", False), "OLD is of today's version", str(ended))
+
+    limit = lambda: resource.setrlimit(resource.RLIMIT_FSIZE, (4096 * 2000, 4096 * 2000))
+    ended = run([folder + "/limited", "migrate", old], restore_signals=False, preexec_fn=limit)
+    again = run([folder + "/limited", "check"])
+    tell((ended.status, ended.put, again.put) == (4, b"", b"open not\n"), "migrate under a limit of file size", f"{ended}; then {again}")
+
+    chance, left = random.Random(1), {}
+    for number in range(40):
+        path = folder + f"/killed{number}"
+        process = subprocess.Popen([PROGRAM, path, "migrate", old], stdin=subprocess.DEVNULL, stdout=subprocess.DEVNULL)
+        time.sleep(chance.uniform(0, 0.08))
+        process.send_signal(signal.SIGKILL)
+        process.wait()
+        put = run([path, "check"]).put
+        if put == FRESH and held(path, 1, 300) != 300:
+            put = b"words are lost"
+        left[put] = left.get(put, 0) + 1
+        os.remove(path)
+    tell(set(left) <= {b"open not\n", FRESH} and Path(old).read_bytes() == before, "40 kills of a migration", str(left))
+
+
 # Stops
 
 def kill_cases(folder, runs):
@@ -335,7 +382,7 @@ def main():
     PROGRAM = os.path.abspath(words.program)
     with tempfile.TemporaryDirectory() as folder:
         if words.kind == "files":
-            for cases in (file_cases, limit_cases, full_cases, stream_cases, two_cases):
+            for cases in (file_cases, limit_cases, full_cases, stream_cases, two_cases, migrate_cases):
                 cases(folder)
         elif words.kind == "kill":
             kill_cases(folder, words.runs)

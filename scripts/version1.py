@@ -1,0 +1,44 @@
+#!/usr/bin/env python3
+"""Makes a volume of version 1 of one of today, so that `mungi VOLUME migrate OLD` can be tried.
+
+    scripts/version1.py VOLUME OLD
+
+The file VOLUME is only read; OLD is made, or written over. VOLUME must be a volume whose journal holds nothing, as a run on no
+lines leaves it, and whose objects have at most 16 passwords each, none of which ends. Version 1 has another superblock, objects of
+512 bytes without untils, and so its frame table and its frames 512 blocks lower; all else is as it is today (docs/VOLUME.md).
+"""
+import sys
+from pathlib import Path
+
+BLOCK, OBJECTS, TABLE = 4096, 1571, 2595
+NEVER = (1 << 24).to_bytes(8, "little")
+
+
+def lowered(row):
+    """The 512 bytes of an object for the 1,024 of today."""
+    count = row[32]
+    if count > 16 or row[496 : 496 + 8 * count] != NEVER * count:
+        raise ValueError("an object has more than 16 passwords, or one that ends")
+    return (row[:208] + row[336:352] + row[368:496]).ljust(512, b"\0")
+
+
+def version1(volume, old):
+    """Writes the volume of version 1 that this volume was, and gives the name of its file."""
+    whole = Path(volume).read_bytes()
+    if whole[:1] != b"\xa5" or whole[BLOCK : BLOCK + 9] != b"MUNGIVOL\x02":
+        raise ValueError("no volume of today")
+    if any(whole[BLOCK * gate] == 0xA5 for gate in range(2, 1298, 162)):
+        raise ValueError("the journal holds something: run mungi on no lines first")
+    front = whole[:BLOCK] + b"MUNGIVOL\x01" + whole[BLOCK + 9 : BLOCK * OBJECTS]
+    rows = (lowered(whole[at : at + 1024]) for at in range(BLOCK * OBJECTS, BLOCK * TABLE, 1024))
+    Path(old).write_bytes(front + b"".join(rows) + whole[BLOCK * TABLE :])
+    return old
+
+
+if __name__ == "__main__":
+    if len(sys.argv) != 3:
+        sys.exit(__doc__.split("\n\n")[1])
+    try:
+        version1(*sys.argv[1:])
+    except (OSError, ValueError) as fault:
+        sys.exit(f"version1: {fault}")
