@@ -1,5 +1,5 @@
 -- What a disk's calls are said to do: images, moments, and what a stop may leave. These words are over values.
-use Rattle.std.specs.Prelude.{◌≡◌, ◌⊎◌, ◌<◌, ℕ, List, [], length, All, slice_index_or, Option, Some, None}
+use Rattle.std.specs.Prelude.{◌≡◌, ◌⊎◌, ◌+◌, ◌<◌, ◌≤◌, ℕ, List, [], length, All, slice_index_or, Option, Some, None}
 
 -- An image is a list of blocks, each a list of bytes.
 abbrev pub Image : Type 0
@@ -32,6 +32,15 @@ pub record SameBut (places : ℕ → Type 0) (old new : Image) : Type 0 where
 abbrev pub only_place : ℕ → ℕ → Type 0
 only_place i k = k ≡ i
 
+-- so many places from the first one on
+pub record InRange (first count k : ℕ) : Type 0 where
+  pub from : first ≤ k
+  pub before : k < first + count
+
+-- an image has these blocks one behind the other, the first of them at this place
+abbrev pub HasBlocks : ℕ → Image → Image → Type 0
+HasBlocks first blocks image = (k : ℕ) → k < length blocks → block_at image (first + k) ≡ block_at blocks k
+
 -- what reads give differs at these places alone, where it is told
 abbrev pub SeenBut : (ℕ → Type 0) → Option Image → Option Image → Type 0
 SeenBut places (Some old) (Some new) = SameBut places old new
@@ -52,9 +61,13 @@ pub record GoesOn (old_moment new_moment : Moment) (old_been new_been : Moment �
 abbrev pub no_image : Image → Type 0
 no_image c = ⊥
 
--- one of these images, with any bytes in block i: what is fresh at a write
+-- one of these images, with any bytes at these places
+abbrev pub TornAt : (ℕ → Type 0) → (Image → Type 0) → Image → Type 0
+TornAt places now c = (d : Image) × now d × SameBut places d c
+
+-- the same in block i: what is fresh at a write
 abbrev pub Torn : ℕ → (Image → Type 0) → Image → Type 0
-Torn i now c = (d : Image) × now d × SameBut (only_place i) d c
+Torn i now c = TornAt (only_place i) now c
 
 -- a stop that may leave these images leaves what reads give and nothing else
 abbrev pub OnlySeen : Option Image → (Image → Type 0) → Type 0

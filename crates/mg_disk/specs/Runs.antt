@@ -1,8 +1,8 @@
 -- How what a stop may leave is followed over a run of calls of a disk, one short line a call.
 use Rattle.std.specs.Prelude.{◌≡◌, ◌⊎◌, ℕ, Some}
-use Rattle.std.proofs.Common.{refl, inl, inr, ⊎_elim, sym, ◌∙◌}
-use Rattle.mg_disk.specs.Disk.{Image, SameBut, no_image, Torn}
-use Rattle.mg_disk.specs.Places.{same_as, same_still}
+use Rattle.std.proofs.Common.{refl, inl, inr, ⊎_elim, sym, subst, ◌∙◌}
+use Rattle.mg_disk.specs.Disk.{Image, SameBut, no_image, only_place, Torn, TornAt}
+use Rattle.mg_disk.specs.Places.{same_as, same_then}
 use Rattle.mg_disk.specs.Stops.{NothingPending, StandsAt, TimeGoes, Leaves, WritesNothing}
 use Rattle.mg_disk.specs.declared.disk.Disk.{Ghosts}
 
@@ -30,6 +30,16 @@ module _ {D : Type 0} (facts : Ghosts D) where
     keeps = λ t c was left. b.keeps t c (a.past t was) (a.keeps t c was left);
     nothing_else = λ t c was left. ⊎_elim (a.nothing_else t c was) (λ f. inr (sub c f)) (b.nothing_else t c (a.past t was) left);
     now = λ c left. ⊎_elim (a.now c) (λ f. inr (sub c f)) (b.now c left);
+  }
+
+  -- more images are fresh
+  pub time_wider : (old new : D) (F P : Image → Type 0) → TimeGoes facts old new F → ((c : Image) → F c → P c) → TimeGoes facts old new P
+  time_wider old new F P a sub = record {
+    begins = a.begins;
+    past = a.past;
+    keeps = a.keeps;
+    nothing_else = λ t c was left. ⊎_elim (λ o. inl o) (λ f. inr (sub c f)) (a.nothing_else t c was left);
+    now = λ c left. ⊎_elim (λ o. inl o) (λ f. inr (sub c f)) (a.now c left);
   }
 
   -- before the first call
@@ -67,13 +77,7 @@ module _ {D : Type 0} (facts : Ghosts D) where
   pub leaves_wider : (old new : D) (F P : Image → Type 0) → Leaves facts old new F → ((c : Image) → F c → P c) → Leaves facts old new P
   leaves_wider old new F P a sub = record {
     each = λ c left. sub c (a.each c left);
-    time = record {
-      begins = a.time.begins;
-      past = a.time.past;
-      keeps = a.time.keeps;
-      nothing_else = λ t c was left. ⊎_elim (λ o. inl o) (λ f. inr (sub c f)) (a.time.nothing_else t c was left);
-      now = λ c left. ⊎_elim (λ o. inl o) (λ f. inr (sub c f)) (a.time.now c left);
-    };
+    time = time_wider old new F P a.time sub;
   }
 
   -- before the first call
@@ -112,14 +116,19 @@ module _ {D : Type 0} (facts : Ghosts D) (places : ℕ → Type 0) (s : Image) w
   pub stands : (old : D) (P : Image → Type 0) → facts.has_been old (facts.moment old) → StandsAt facts old s → ((c : Image) → SameBut places s c → P c) → Tracks facts old old P (SameBut places s)
   stands old P been at sub = begun facts old P (SameBut places s) been (λ c left. same_as places s c (only_image facts old s c at left)) sub
 
+  -- a run of writes at some of the places, whatever it answers
+  pub torn_at : (old mid new : D) (these : ℕ → Type 0) (P : Image → Type 0) → Tracks facts old mid P (SameBut places s) → TimeGoes facts mid new (TornAt these (facts.left_since mid (facts.moment mid)))
+      → ((k : ℕ) → these k → places k) → ((c : Image) → SameBut places s c → P c) → Tracks facts old new P (SameBut places s)
+  torn_at old mid new these P so_far call among sub =
+      more facts old mid new P (SameBut places s) (TornAt these (facts.left_since mid (facts.moment mid))) (SameBut places s) so_far call (λ c t. sub c (step c t)) (λ c left. ⊎_elim (so_far.now c) (step c) left)
+    where
+      step : (c : Image) → TornAt these (facts.left_since mid (facts.moment mid)) c → SameBut places s c
+      step c t = same_then places these places s t.0 c (λ k at. at) among (so_far.now t.0 t.1) t.2
+
   -- a write at one of the places, whatever it answers
   pub torn : (old mid new : D) (i : ℕ) (P : Image → Type 0) → Tracks facts old mid P (SameBut places s) → TimeGoes facts mid new (Torn i (facts.left_since mid (facts.moment mid)))
       → places i → ((c : Image) → SameBut places s c → P c) → Tracks facts old new P (SameBut places s)
-  torn old mid new i P so_far call at_i sub =
-      more facts old mid new P (SameBut places s) (Torn i (facts.left_since mid (facts.moment mid))) (SameBut places s) so_far call (λ c t. sub c (step c t)) (λ c left. ⊎_elim (so_far.now c) (step c) left)
-    where
-      step : (c : Image) → Torn i (facts.left_since mid (facts.moment mid)) c → SameBut places s c
-      step c t = same_still places i s t.0 c at_i (so_far.now t.0 t.1) t.2
+  torn old mid new i P so_far call at_i sub = torn_at old mid new (only_place i) P so_far call (λ k is. subst places (sym is) at_i) sub
 
   -- after a good sync it stands at s
   pub settles : (old new : D) (P Q : Image → Type 0) → Tracks facts old new P Q → StandsAt facts new s → Tracks facts old new P (SameBut places s)

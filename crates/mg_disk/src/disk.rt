@@ -1,8 +1,8 @@
 // The trait that the layers above are proved against.
-ghost use Rattle.std.specs.Prelude.{◌≡◌, ◌<◌, ℕ, Bool, IsTrue, Option, length, slice_set, option_map, OnOk, OnErr, IsSomeAnd};
+ghost use Rattle.std.specs.Prelude.{◌≡◌, ◌+◌, ◌<◌, ◌≤◌, ℕ, Bool, IsTrue, Option, length, slice_set, option_map, OnOk, OnErr, IsSomeAnd};
 ghost use Rattle.std.specs.Option.{ForSome};
 ghost use Rattle.mg_faults.specs.Faults.{CountGoesOn, Rose};
-ghost use Rattle.mg_disk.specs.Disk.{Moment, Image, block_at, AreBytes, SeenBut, only_place, GoesOn, no_image, Torn, OnlySeen};
+ghost use Rattle.mg_disk.specs.Disk.{Moment, Image, block_at, AreBytes, HasBlocks, InRange, SeenBut, only_place, GoesOn, no_image, Torn, TornAt, OnlySeen};
 
 use mg_faults::Failed;
 
@@ -11,6 +11,9 @@ pub const BLOCK_SIZE: usize = 4096;
 
 /// A block.
 pub type Block = [u8; BLOCK_SIZE];
+
+/// How many blocks are read and written together, 128 KiB, where one disk is copied to another.
+pub const COPY_BLOCKS: usize = 32;
 
 /// A disk of fixed blocks. Any call may fail; what was written is safe from a stop once a later sync answered Ok.
 ///
@@ -69,6 +72,58 @@ pub trait Disk {
         ensures tells { tells_stops self.new ≡ tells_stops self.old }
         ensures count { CountGoesOn (faults self.old) (faults self.new) (is_spent self.old) (is_spent self.new) }
         ensures cause { OnErr result (Rose (faults self.old) (faults self.new) (is_spent self.new)) };
+
+    /// Gives blocks one behind the other, the first of them block `first`, as many as `out` has room for. A run that fails
+    /// leaves any bytes in `out`.
+    ///
+    /// Where a disk has no faster way, this is a call of `read` a block.
+    fn read_blocks(&mut self, first: u64, out: &mut [Block]) -> Result<(), Failed>
+        requires in_range { first + length out.old ≤ block_count self.old }
+        ensures read { OnOk result (ForSome (seen self.old) (HasBlocks first out.new)) }
+        ensures room { length out.new ≡ length out.old }
+        ensures seen { seen self.new ≡ seen self.old }
+        ensures stops { GoesOn (moment self.old) (moment self.new) (has_been self.old) (has_been self.new)
+            (left_since self.old) (left_since self.new) no_image }
+        ensures blocks { block_count self.new ≡ block_count self.old }
+        ensures tells { tells_stops self.new ≡ tells_stops self.old }
+        ensures count { CountGoesOn (faults self.old) (faults self.new) (is_spent self.old) (is_spent self.new) }
+        ensures cause { OnErr result (Rose (faults self.old) (faults self.new) (is_spent self.new)) }
+    {
+        // With this the sum of `first` and a place in `out` is known to fit.
+        let _count = self.blocks();
+        for k in 0..out.len() {
+            match self.read(first + k as u64, &mut out[k]) {
+                Ok(()) => {}
+                Err(Failed) => return Err(Failed),
+            }
+        }
+        Ok(())
+    }
+
+    /// Puts blocks one behind the other, the first of them at `first`. Until a good sync a stop may leave any bytes at each of
+    /// these places, also after a run that failed, which may have put some of the blocks.
+    ///
+    /// Where a disk has no faster way, this is a call of `write` a block.
+    fn write_blocks(&mut self, first: u64, from: &[Block]) -> Result<(), Failed>
+        requires in_range { first + length from.now ≤ block_count self.old }
+        ensures written { OnOk result (ForSome (seen self.new) (HasBlocks first from.now)) }
+        ensures unknown { SeenBut (InRange first (length from.now)) (seen self.old) (seen self.new) }
+        ensures stops { GoesOn (moment self.old) (moment self.new) (has_been self.old) (has_been self.new)
+            (left_since self.old) (left_since self.new) (TornAt (InRange first (length from.now)) (left_since self.old (moment self.old))) }
+        ensures blocks { block_count self.new ≡ block_count self.old }
+        ensures tells { tells_stops self.new ≡ tells_stops self.old }
+        ensures count { CountGoesOn (faults self.old) (faults self.new) (is_spent self.old) (is_spent self.new) }
+        ensures cause { OnErr result (Rose (faults self.old) (faults self.new) (is_spent self.new)) }
+    {
+        let _count = self.blocks();
+        for (k, block) in from.iter().enumerate() {
+            match self.write(first + k as u64, block) {
+                Ok(()) => {}
+                Err(Failed) => return Err(Failed),
+            }
+        }
+        Ok(())
+    }
 
     /// After Ok a stop leaves what reads give. A sync that fails changes nothing.
     fn sync(&mut self) -> Result<(), Failed>

@@ -8,9 +8,9 @@ use crate::counted::counted;
 use crate::{BLOCK_SIZE, Block, Disk, Failed};
 use mg_faults::FaultCount;
 use std::fs::{File, OpenFile, OpenOptions};
-use std::io;
 use std::os::unix::fs::FileExt;
 use std::rt::Files;
+use std::{io, slice};
 
 /// How many blocks a [`FileDisk`] has.
 const BLOCKS: u64 = 70_000;
@@ -36,7 +36,7 @@ impl OneHolder for File {
 /// opened.
 ///
 /// A call fails where the file cannot be opened, where the system answers an error, and where it takes less than the
-/// whole of a block that is written; the next call tries again. A sync is `sync_data` of the file: one that answers Ok
+/// whole of what is written, a block or a run of them; the next call tries again. A sync is `sync_data` of the file: one that answers Ok
 /// has brought the file's bytes to the medium, and of what else is kept of it all that reading them back takes, as its
 /// size, but not such things as the time of its last change.
 #[derive(Drop)]
@@ -102,12 +102,12 @@ where
     }
 }
 
-/// Reads the block at an offset. Where the file ends within it, the rest is zeros.
-fn read_block<F: FileExt>(file: &F, offset: u64, out: &mut Block) -> io::Result<()>
+/// Reads the bytes at an offset. Where the file ends within them, the rest is zeros.
+fn read_whole<F: FileExt>(file: &F, offset: u64, out: &mut [u8]) -> io::Result<()>
     requires { offset < 2 ^ 60 }
 {
     let mut filled = 0;
-    while filled < BLOCK_SIZE {
+    while filled < out.len() {
         let count = file.read_at(&mut out[filled..], offset + filled as u64)?;
         if count == 0 {
             break;
@@ -118,9 +118,9 @@ fn read_block<F: FileExt>(file: &F, offset: u64, out: &mut Block) -> io::Result<
     Ok(())
 }
 
-/// Writes the block at an offset, in one call of the system.
-fn write_block<F: FileExt>(file: &F, offset: u64, from: &Block) -> io::Result<()> {
-    if file.write_at(from, offset)? == BLOCK_SIZE {
+/// Writes all these bytes at an offset, in one call of the system.
+fn write_whole<F: FileExt>(file: &F, offset: u64, from: &[u8]) -> io::Result<()> {
+    if file.write_at(from, offset)? == from.len() {
         Ok(())
     } else {
         Err(io::ErrorKind::WriteZero.into())
@@ -169,9 +169,19 @@ where
     }
 
     fn read(&mut self, i: u64, out: &mut Block) -> Result<(), Failed> {
+        self.read_blocks(i, slice::from_mut(out))
+    }
+
+    fn write(&mut self, i: u64, from: &Block) -> Result<(), Failed> {
+        self.write_blocks(i, slice::from_ref(from))
+    }
+
+    /// One call of the system for all of them, where it gives as much as it is asked for.
+    fn read_blocks(&mut self, first: u64, out: &mut [Block]) -> Result<(), Failed> {
         let outcome = match self.take_file() {
             Ok(file) => {
-                let outcome = read_block(&file, i * BLOCK_SIZE as u64, out);
+                let offset = first * BLOCK_SIZE as u64;
+                let outcome = read_whole(&file, offset, out.as_flattened_mut());
                 self.file = Some(file);
                 outcome
             }
@@ -180,10 +190,12 @@ where
         counted(fault(outcome), &mut self.count)
     }
 
-    fn write(&mut self, i: u64, from: &Block) -> Result<(), Failed> {
+    /// One call of the system for all of them.
+    fn write_blocks(&mut self, first: u64, from: &[Block]) -> Result<(), Failed> {
         let outcome = match self.take_file() {
             Ok(file) => {
-                let outcome = write_block(&file, i * BLOCK_SIZE as u64, from);
+                let offset = first * BLOCK_SIZE as u64;
+                let outcome = write_whole(&file, offset, from.as_flattened());
                 self.file = Some(file);
                 outcome
             }

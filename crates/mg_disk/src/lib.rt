@@ -17,7 +17,7 @@ mod fuse;
 mod memory;
 mod scratch;
 
-pub use disk::{BLOCK_SIZE, Block, Disk};
+pub use disk::{BLOCK_SIZE, Block, COPY_BLOCKS, Disk};
 pub use file::{FileDisk, OneHolder};
 pub use fuse::Fuse;
 pub use memory::{Counts, Left, MemDisk};

@@ -20,6 +20,39 @@ fn a_file_keeps_what_was_synced(rt: HostRuntime) -> io::Result<()> {
 }
 
 #[test]
+fn blocks_of_a_file_follow_one_another(rt: HostRuntime) -> io::Result<()> {
+    let _ = fs::remove_file(&rt, "blocks");
+    let mut disk = FileDisk::new(&rt, "blocks");
+    let written: [Block; 3] = [[7; BLOCK_SIZE], [8; BLOCK_SIZE], [9; BLOCK_SIZE]];
+    assert!(rt; disk.write_blocks(69_997, &written).is_ok());
+    assert!(rt; disk.write_blocks(1, &written).is_ok());
+    assert!(rt; disk.write(2, &[5; BLOCK_SIZE]).is_ok());
+    let mut read = [[1; BLOCK_SIZE]; 5];
+    assert!(rt; disk.read_blocks(0, &mut read).is_ok());
+    for (block, byte) in read.iter().zip([0, 7, 5, 9, 0]) {
+        assert!(rt; block.iter().all(|&b| b == byte), "{byte}");
+    }
+    let mut last: Block = [1; BLOCK_SIZE];
+    assert!(rt; disk.read(69_999, &mut last).is_ok());
+    assert!(rt; last.iter().all(|&b| b == 9));
+    fs::remove_file(&rt, "blocks")
+}
+
+#[test]
+fn a_file_that_ends_among_blocks_reads_as_zeros_behind(rt: HostRuntime) -> io::Result<()> {
+    fs::write(&rt, "short", [9; BLOCK_SIZE + 100])?;
+    let mut disk = FileDisk::reader(&rt, "short");
+    let mut blocks = [[1; BLOCK_SIZE]; 3];
+    assert!(rt; disk.read_blocks(0, &mut blocks).is_ok());
+    assert!(rt; blocks[0].iter().all(|&b| b == 9));
+    assert!(rt; blocks[1][..100].iter().all(|&b| b == 9));
+    assert!(rt; blocks[1][100..].iter().all(|&b| b == 0));
+    assert!(rt; blocks[2].iter().all(|&b| b == 0));
+    assert!(rt; disk.write_blocks(0, &blocks).is_err());
+    fs::remove_file(&rt, "short")
+}
+
+#[test]
 fn a_file_that_another_run_holds_fails_at_each_call(rt: HostRuntime) -> io::Result<()> {
     let _ = fs::remove_file(&rt, "held");
     let mut block: Block = [7; BLOCK_SIZE];

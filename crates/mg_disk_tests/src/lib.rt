@@ -1,9 +1,11 @@
-//! Tests of disks and streams: a real file, tables of what the forms in memory answer, and a client and a mirror at disks
-//! that fail or die at each call in turn.
+//! Tests of disks and streams: a real file, tables of what the forms in memory answer, and blocks that are put together, and
+//! a client and a mirror at disks that fail or die at each call in turn.
 //!
 //! They stand above `mg_disk`, `mg_io` and `mg_mirror`, over their public calls, so that those are proved once.
 #![tactic(auto)]
 
+#[cfg(test)]
+mod blocks;
 #[cfg(test)]
 mod clients;
 #[cfg(test)]
