@@ -10,6 +10,7 @@ mod Once
 mod OpenSteps
 mod PhaseSteps
 mod RecoverSteps
+mod ReadTogether
 mod Spliced
 mod Tables
 mod Waits

@@ -1,7 +1,7 @@
 // A journal that is looked through and left as it is.
-ghost use Rattle.std.specs.Prelude.{◌≡◌, ◌≤◌, ◌<◌, ◌==◌, All, IfOk, IsSome, None, OnErr, OnOk, find, option_copied, reverse};
+ghost use Rattle.std.specs.Prelude.{◌≡◌, ◌+◌, ◌≤◌, ◌<◌, ◌==◌, All, IfOk, IsSome, None, OnErr, OnOk, find, length, option_copied, reverse};
 ghost use Rattle.std.specs.Option.{ForSome};
-ghost use Rattle.mg_disk.specs.Disk.{block_at};
+ghost use Rattle.mg_disk.specs.Disk.{HasBlocks, block_at};
 ghost use Rattle.mg_disk.specs.Stops.{DiskCalls, DiskCallsBy, WritesNothing};
 ghost use Rattle.mg_model.specs.Layout.{globals_block, segment_count};
 ghost use Rattle.mg_model.specs.Replay.{replay};
@@ -111,5 +111,46 @@ impl View {
         ensures calls { DiskCalls D.Disk disk.old disk.new result }
     {
         disk.read(self.place_of(i), out)
+    }
+    /// Gives blocks of the contents one behind the other, the first of them block `first`, as many as `out` has room for. They
+    /// are read together, and then those again that an open segment has, there. A read that fails leaves any bytes in `out`.
+    pub fn read_blocks<D: Disk>(
+        &self,
+        disk: &mut D,
+        first: u64,
+        out: &mut [Block],
+    ) -> Result<(), Failed>
+        requires place { first + length out.old ≤ self.now.total }
+        requires room { self.now.total ≤ D.block_count disk.old }
+        requires fits { ForSome (D.seen disk.old) (λ image. Fits self.now image) }
+        ensures read { OnOk result (ForSome (D.seen disk.old) (λ image. ForSome (replay image self.now.total) (HasBlocks first out.new))) }
+        ensures count { length out.new ≡ length out.old }
+        ensures writes { WritesNothing D.Disk disk.old disk.new }
+        ensures calls { DiskCalls D.Disk disk.old disk.new result }
+    {
+        let _total = self.total;
+        disk.read_blocks(first, out)?;
+        for k in 0..out.len() {
+            self.read_newer(disk, first + k as u64, &mut out[k])?;
+        }
+        Ok(())
+    }
+
+    // Reads block `i` again where an open segment has it. `block` is the one at its home.
+    fn read_newer<D: Disk>(&self, disk: &mut D, i: u64, block: &mut Block) -> Result<(), Failed>
+        requires place { i < self.now.total }
+        requires room { self.now.total ≤ D.block_count disk.old }
+        requires fits { ForSome (D.seen disk.old) (λ image. Fits self.now image) }
+        requires home { ForSome (D.seen disk.old) (λ image. block.old ≡ block_at image i) }
+        ensures block { OnOk result (ForSome (D.seen disk.old) (λ image. ForSome (replay image self.now.total) (λ r. block.new ≡ block_at r i))) }
+        ensures writes { WritesNothing D.Disk disk.old disk.new }
+        ensures calls { DiskCalls D.Disk disk.old disk.new result }
+    {
+        let place = self.place_of(i);
+        if place == i {
+            Ok(())
+        } else {
+            disk.read(place, block)
+        }
     }
 }
