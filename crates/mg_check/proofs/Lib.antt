@@ -8,6 +8,5 @@ pub mod LiveTables
 pub mod NoRows
 pub mod ObjectOrder
 pub mod Placed
-pub mod ReadRuns
 pub mod SettledVolume
 pub mod StateFits

@@ -11,3 +11,5 @@ pub mod Spans
 pub mod Rules
 pub mod Tables
 pub mod Settled
+-- Lemmas that crates above cite. None of them is part of a statement.
+pub mod ReadRuns

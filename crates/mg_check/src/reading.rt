@@ -1,7 +1,7 @@
 // Reading blocks of a volume, through its journal or in another way.
-ghost use Rattle.std.specs.Prelude.{◌≡◌, ◌≤◌, ◌<◌, ℕ, Option, false, OnErr, OnOk};
+ghost use Rattle.std.specs.Prelude.{◌≡◌, ◌+◌, ◌^◌, ◌≤◌, ◌<◌, ℕ, Option, false, OnErr, OnOk, length};
 ghost use Rattle.std.specs.Option.{ForSome};
-ghost use Rattle.mg_disk.specs.Disk.{Image, block_at};
+ghost use Rattle.mg_disk.specs.Disk.{HasBlocks, Image, block_at};
 ghost use Rattle.mg_disk.specs.Stops.{CountRose, DiskCalls, WritesNothing};
 ghost use Rattle.mg_journal.specs.Places.{Fits};
 ghost use Rattle.mg_model.specs.Replay.{block_of, replay};
@@ -35,6 +35,31 @@ pub trait Contents {
         ensures block { OnOk result (ForSome (D.seen disk.old) (λ image. ForSome (of self.now image) (λ r. out.new ≡ block_at r i))) }
         ensures writes { WritesNothing D.Disk disk.old disk.new }
         ensures calls { DiskCalls D.Disk disk.old disk.new result };
+
+    /// Gives blocks of the contents one behind the other, the first of them block `first`, as many as `out` has room for. It
+    /// writes nothing. A read that fails leaves any bytes in `out`.
+    ///
+    /// Where contents have no faster way, this is a call of `read` a block.
+    fn read_blocks<D: Disk>(
+        &self,
+        disk: &mut D,
+        first: u64,
+        out: &mut [Block],
+    ) -> Result<(), Failed>
+        requires place { first + length out.old ≤ total self.now }
+        requires total { total self.now < 2 ^ 64 }
+        requires room { need self.now ≤ D.block_count disk.old }
+        requires fits { ForSome (D.seen disk.old) (λ image. Fits self.now image) }
+        ensures read { OnOk result (ForSome (D.seen disk.old) (λ image. ForSome (of self.now image) (HasBlocks first out.new))) }
+        ensures count { length out.new ≡ length out.old }
+        ensures writes { WritesNothing D.Disk disk.old disk.new }
+        ensures calls { DiskCalls D.Disk disk.old disk.new result }
+    {
+        for k in 0..out.len() {
+            self.read(disk, first + k as u64, &mut out[k])?;
+        }
+        Ok(())
+    }
 }
 
 // What the journal of a volume gives: its contents.

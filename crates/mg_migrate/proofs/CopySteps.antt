@@ -1,56 +1,19 @@
 -- How the copying of contents goes on, from the gate closed to the gate open.
-use Rattle.std.specs.Prelude.{◌≡◌, ℕ, ◌+◌, ◌≤◌, List, length, slice_index, Option, Some, None}
+use Rattle.std.specs.Prelude.{◌≡◌, ℕ, ◌+◌, ◌-◌, ◌<◌, ◌≤◌, List, length, slice_index, Option, Some, None}
 use Rattle.std.specs.Option.{ForSome}
 use Rattle.std.proofs.Common.{refl, inl, inr, sym, ap, subst, ◌∙◌, ⊎_elim, arith}
-use Rattle.std.proofs.lemmas.Bool.{cases_eq}
-use Rattle.mg_check.specs.Reads.{CanRead, OnlyRead, contents}
-use Rattle.mg_disk.specs.Disk.{Image, SameBut, SeenBut, only_place}
+use Rattle.std.proofs.lemmas.Bool.{cases_eq, cases_lt}
+use Rattle.mg_disk.specs.Disk.{HasBlocks, Image, InRange, SameBut, SeenBut, no_image, only_place}
 use Rattle.mg_disk.specs.declared.disk.Disk.{Ghosts}
-use Rattle.mg_disk.specs.Places.{same_as, same_or_not, same_still}
-use Rattle.mg_disk.specs.Runs.{leaves_then, leaves_wider, nothing_none, nothing_then}
-use Rattle.mg_disk.specs.Stops.{Leaves}
-use Rattle.mg_faults.specs.Faults.{count_none, count_then}
+use Rattle.mg_disk.specs.Runs.{Tracks, leaves_then, leaves_wider, quiet}
+use Rattle.mg_disk.specs.Stops.{Leaves, TimeGoes}
 use Rattle.mg_migrate.proofs.GateAlone.{gate_alone}
-use Rattle.mg_migrate.specs.Copied.{AreCopied, IsCopy, MayCopy, ReadsNow}
+use Rattle.mg_migrate.specs.Copied.{AreCopied, AreSame, IsCopy, MayCopy, ReadsNow}
 use Rattle.mg_model.specs.Layout.{gate_block, gate_open}
 use Rattle.mg_model.specs.Replay.{block_of}
 use Rattle.mg_model.specs.Volume.{NotVolume, gate_byte, volume}
 use Rattle.mg_model.specs.VolumeReads.{volume-closed}
 use Rattle.mg_model.specs.Words.{and_then}
-
--- how runs of reads join
-module _ {D : Type 0} (facts : Ghosts D) where
-  pub only_none : (disk : D) → facts.has_been disk (facts.moment disk) → OnlyRead facts disk disk
-  only_none disk been = record { writes = nothing_none facts disk been; count = count_none (facts.faults disk) (facts.is_spent disk); blocks = refl }
-
-  pub only_then : (old mid new : D) → OnlyRead facts old mid → OnlyRead facts mid new → OnlyRead facts old new
-  only_then old mid new a b = record {
-    writes = nothing_then facts old mid new a.writes b.writes;
-    count = count_then (facts.faults old) (facts.faults mid) (facts.faults new) (facts.is_spent old) (facts.is_spent mid) (facts.is_spent new) a.count b.count;
-    blocks = b.blocks ∙ a.blocks;
-  }
-
-  pub still_read : (need : ℕ) (Fits : Image → Type 0) (old new : D) → CanRead facts need Fits old → OnlyRead facts old new → CanRead facts need Fits new
-  still_read need Fits old new can only = record {
-    room = let r = can.room in let e = only.blocks in omega arith;
-    fits = λ image told. can.fits image (sym only.writes.same ∙ told);
-  }
-
-  pub same_contents : (of : Image → Option Image) (old new : D) → OnlyRead facts old new → contents facts of new ≡ contents facts of old
-  same_contents of old new only = ap (λ seen. and_then seen of) only.writes.same
-
--- what reads give, call by call
-pub seen_none : (places : ℕ → Type 0) (o : Option Image) → SeenBut places o o
-seen_none places None = tt {0}
-seen_none places (Some image) = same_as places image image refl
-
-pub seen_more : (places : ℕ → Type 0) (i : ℕ) (first mid last : Option Image) → places i → SeenBut places first mid → SeenBut (only_place i) mid last → SeenBut places first last
-seen_more places i None None None at_i a b = tt {0}
-seen_more places i None None (Some c) at_i a b = absurd b
-seen_more places i None (Some s) last at_i a b = absurd a
-seen_more places i (Some image) None last at_i a b = absurd a
-seen_more places i (Some image) (Some s) None at_i a b = absurd b
-seen_more places i (Some image) (Some s) (Some c) at_i a b = same_still places i image s c at_i a b
 
 -- an image with the same blocks but at these places is told
 pub record IsThen (places : ℕ → Type 0) (image : Image) (told : Option Image) : Type 0 where
@@ -66,22 +29,48 @@ seen_then places (Some s) (Some c) image same is =
     let P : Image → Type 0 = λ x. SameBut places x c in
     record { c = c; is = refl; same = subst P (some_inj s image is) same }
 
--- the blocks that are copied
-pub copied_none : (r c : Image) → AreCopied 1 r c
-copied_none r c i low high = absurd (omega arith)
+-- the blocks before this one, of so many, are those of the contents
+abbrev pub AreBefore : ℕ → ℕ → Image → Image → Type 0
+AreBefore n next contents c = (i : ℕ) → 1 ≤ i → i < n → i < next → block_of c i ≡ block_of contents i
 
-pub copied_more : (i : ℕ) (r : Image) (mid new : Option Image) → SeenBut (only_place i) mid new → ForSome mid (AreCopied i r) → ForSome new (λ c. block_of c i ≡ block_of r i) → ForSome new (AreCopied (i + 1) r)
-copied_more i r None None same before here c is = absurd cc
-copied_more i r None (Some d) same before here c is = absurd same
-copied_more i r (Some s) None same before here c is = absurd same
-copied_more i r (Some s) (Some d) same before here c is =
-    let P : Image → Type 0 = λ x. AreCopied (i + 1) r x in
+pub copied_none : (n : ℕ) (r c : Image) → AreBefore n 1 r c
+copied_none n r c i low high before = absurd (omega arith)
+
+-- blocks that both have
+pub same_blocks : (first count : ℕ) (blocks r c : Image) → length blocks ≡ count → HasBlocks first blocks r → HasBlocks first blocks c → AreSame first count r c
+same_blocks first count blocks r c is read put i at =
+    let from = at.from in
+    let before = at.before in
+    let place : first + (i - first) ≡ i = omega arith in
+    let inside : i - first < length blocks = omega arith in
+    let P : ℕ → Type 0 = λ j. block_of c j ≡ block_of r j in
+    subst P place (put (i - first) inside ∙ sym (read (i - first) inside))
+
+-- what is said of the contents that reads give
+pub of_contents : (of : Image → Option Image) (seen : Option Image) (P : Image → Type 0) → ForSome seen (λ image. ForSome (of image) P) → ForSome (and_then seen of) P
+of_contents of None P told r is = absurd cc
+of_contents of (Some s) P told r is = told s refl r is
+
+-- so many blocks more
+before_more : (n first count next : ℕ) (r s d : Image) → ((i : ℕ) → i < n → i < next → i < first + count) → SameBut (InRange first count) s d → AreBefore n first r s → AreSame first count r d → AreBefore n next r d
+before_more n first count next r s d ends same so_far here i low high before = ⊎_elim earlier (λ from. here i (record { from = from; before = ends i high before })) (cases_lt i first)
+  where
+    earlier : i < first → block_of d i ≡ block_of r i
+    earlier below = same.others i (λ in_range. let from = in_range.from in omega arith) ∙ so_far i low high below
+
+pub copied_more : (n first count next : ℕ) (r : Image) (mid new : Option Image) → ((i : ℕ) → i < n → i < next → i < first + count)
+    → SeenBut (InRange first count) mid new → ForSome mid (AreBefore n first r) → ForSome new (AreSame first count r) → ForSome new (AreBefore n next r)
+copied_more n first count next r None None ends same so_far here c is = absurd cc
+copied_more n first count next r None (Some d) ends same so_far here c is = absurd same
+copied_more n first count next r (Some s) None ends same so_far here c is = absurd same
+copied_more n first count next r (Some s) (Some d) ends same so_far here c is =
+    let P : Image → Type 0 = λ x. AreBefore n next r x in
     let the_same : d ≡ c = cc in
-    subst P the_same
-    (λ k low high.
-    ⊎_elim (λ e. let Q : ℕ → Type 0 = λ j. block_of d j ≡ block_of r j in subst Q (sym e) (here d refl))
-    (λ other. same.others k other ∙ before s refl k low (omega arith))
-    (same_or_not k i))
+    subst P the_same (before_more n first count next r s d ends same (so_far s refl) (here d refl))
+
+-- a sync of a disk whose writes were followed
+pub synced : {D : Type 0} (facts : Ghosts D) (P : Image → Type 0) (first at mid new : D) → mid ≡ at → Tracks facts first at P P → TimeGoes facts mid new no_image → Leaves facts first new P
+synced facts P first at mid new is tracks call = (quiet facts first mid new P P (subst (λ d. Tracks facts first d P P) (sym is) tracks) call).leaves
 
 -- The gate is closed: a stop leaves no volume, or what is behind the gate.
 pub close_may : (n : ℕ) (image r c : Image) → SameBut (only_place gate_block) image c → MayCopy n image r c

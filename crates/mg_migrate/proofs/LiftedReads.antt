@@ -1,8 +1,8 @@
 -- Reading the blocks of a lifted image.
-use Rattle.std.specs.Prelude.{◌≡◌, ℕ, ◌+◌, ◌-◌, ◌/◌, ◌%◌, ◌<◌, ◌≤◌, List, Option, None, Some, option_map}
+use Rattle.std.specs.Prelude.{◌≡◌, ℕ, ◌+◌, ◌-◌, ◌/◌, ◌%◌, ◌<◌, ◌≤◌, List, length, Option, None, Some, option_map}
 use Rattle.std.specs.Option.{ForSome}
-use Rattle.std.proofs.Common.{refl, sym, ap, subst, ◌∙◌}
-use Rattle.mg_disk.specs.Disk.{Image, block_at}
+use Rattle.std.proofs.Common.{refl, sym, ap, subst, ◌∙◌, arith}
+use Rattle.mg_disk.specs.Disk.{HasBlocks, Image, block_at}
 use Rattle.mg_journal.specs.Places.{Fits, Placed}
 use Rattle.mg_model.specs.Layout.{first_object_block, globals_block, super_block, table_block, total_blocks}
 use Rattle.mg_model.specs.Replay.{block_of, replay}
@@ -56,3 +56,10 @@ module _ (l : LiftedView) (view : Placed) (settings : Settings) (is : record { p
       → ForSome seen (λ image. ForSome (replay image view.total) (λ r. out ≡ block_at r k))
       → ForSome seen (λ image. ForSome (option_map (lifted l.settings) (replay image l.placed.total)) (λ x. out ≡ block_at x i))
   behind_so seen out i k below low is = seen_so seen out i (λ r. out ≡ block_at r k) below (λ r same. same ∙ sym (at_behind settings r i k low is))
+
+  -- blocks from the frame table on, together
+  pub blocks_so : (seen : Option Image) (out : Image) (first from : ℕ) → first + length out ≤ total_blocks l.settings.frames → table1_block ≤ from → first ≡ from + 512
+      → ForSome seen (λ image. ForSome (replay image view.total) (HasBlocks from out))
+      → ForSome seen (λ image. ForSome (option_map (lifted l.settings) (replay image l.placed.total)) (HasBlocks first out))
+  blocks_so seen out first from room low is told image at x lift k below =
+      sym (behind_so seen (block_at out k) (first + k) (from + k) (omega arith) (omega arith) (omega arith) (λ image at r so. sym (told image at r so k below)) image at x lift)

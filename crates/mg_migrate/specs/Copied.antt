@@ -1,6 +1,6 @@
 -- What a disk holds while the contents of another one are copied to it, and then.
 use Rattle.std.specs.Prelude.{◌≡◌, ◌⊎◌, ℕ, ◌<◌, ◌≤◌, length, Option, Some, None, IsSomeAnd}
-use Rattle.mg_disk.specs.Disk.{Image}
+use Rattle.mg_disk.specs.Disk.{Image, InRange}
 use Rattle.mg_layout.specs.MayFormat.{opened}
 use Rattle.mg_model.specs.Layout.{gate_open}
 use Rattle.mg_model.specs.Replay.{block_of}
@@ -9,6 +9,10 @@ use Rattle.mg_model.specs.Volume.{NotVolume, gate_byte, volume}
 -- the blocks behind the gate, up to so many with it, are those of the contents
 abbrev pub AreCopied : ℕ → Image → Image → Type 0
 AreCopied n contents c = (i : ℕ) → 1 ≤ i → i < n → block_of c i ≡ block_of contents i
+
+-- so many blocks from the first one on are those of the contents
+abbrev pub AreSame : ℕ → ℕ → Image → Image → Type 0
+AreSame first count contents c = (i : ℕ) → InRange first count i → block_of c i ≡ block_of contents i
 
 -- its gate is open, and the blocks behind it, up to so many with it, are those of the contents
 pub record IsCopy (n : ℕ) (contents c : Image) : Type 0 where

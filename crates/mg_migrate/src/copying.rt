@@ -1,17 +1,16 @@
 // The contents of a volume copied to another disk, so that a stop at any moment leaves no volume, what the blocks behind the gate of
 // that disk spelled, or the copy.
-ghost use Rattle.std.specs.Prelude.{◌≡◌, ◌≢◌, ◌≤◌, ◌<◌, OnOk};
+ghost use Rattle.std.specs.Prelude.{◌≡◌, ◌≢◌, ◌+◌, ◌^◌, ◌≤◌, ◌<◌, OnOk, length};
 ghost use Rattle.std.specs.Option.{ForSome};
 ghost use Rattle.mg_check.specs.Reads.{CanRead, OnlyRead, contents};
-ghost use Rattle.mg_disk.specs.Disk.{SameBut, SeenBut, Torn, only_place};
+ghost use Rattle.mg_disk.specs.Disk.{InRange, SameBut, SeenBut, TornAt, only_place};
 ghost use Rattle.mg_disk.specs.Stops.{CountRose, DiskCallsBy, Leaves, NothingPending, TimeGoes};
-ghost use Rattle.mg_migrate.specs.Copied.{AreCopied, IsCopy, MayCopy, ReadsNow};
+ghost use Rattle.mg_migrate.specs.Copied.{AreCopied, AreSame, IsCopy, MayCopy, ReadsNow};
 ghost use Rattle.mg_model.specs.Layout.{gate_block};
-ghost use Rattle.mg_model.specs.Replay.{block_of};
 ghost use Rattle.mg_model.specs.Volume.{NotVolume, gate_byte, volume};
 
 use mg_check::Contents;
-use mg_disk::{BLOCK_SIZE, Block, Disk};
+use mg_disk::{BLOCK_SIZE, Block, COPY_BLOCKS, Disk};
 use mg_faults::Failed;
 use mg_layout::{GATE_BLOCK, GATE_OPEN, write_firmly};
 
@@ -24,7 +23,7 @@ pub(crate) enum CopyFault {
     To,
 }
 
-/// Copies all blocks of the contents but the gate to the same places of a disk, one after the other.
+/// Copies all blocks of the contents but the gate to the same places of a disk, in order, some of them at a time.
 ///
 /// The gate is closed first, then the blocks behind it are copied, and then the gate is opened, with a sync after each.
 ///
@@ -88,9 +87,10 @@ fn copy_behind<C: Contents, D: Disk, E: Disk>(
     ensures cause { result ≡ Err CopyFault.From → CountRose E.Disk old.old old.new }
     ensures calls { DiskCallsBy D.Disk new.old new.new (result ≡ Err CopyFault.To) }
 {
-    let mut block = [0; BLOCK_SIZE];
-    for i in 1..total {
-        copy_block(view, i, new, old, &mut block)?;
+    let mut blocks = [[0; BLOCK_SIZE]; COPY_BLOCKS];
+    for first in (1..total).step_by(COPY_BLOCKS) {
+        let count = (total - first).min(COPY_BLOCKS as u64);
+        copy_blocks(view, first, new, old, &mut blocks[..count as usize])?;
     }
     match new.sync() {
         Ok(()) => Ok(()),
@@ -98,29 +98,30 @@ fn copy_behind<C: Contents, D: Disk, E: Disk>(
     }
 }
 
-// Copies block `i`, through `block`.
-fn copy_block<C: Contents, D: Disk, E: Disk>(
+// Copies blocks, the first of them block `first`, as many as `blocks` has room for.
+fn copy_blocks<C: Contents, D: Disk, E: Disk>(
     view: &C,
-    i: u64,
+    first: u64,
     new: &mut D,
     old: &mut E,
-    block: &mut Block,
+    blocks: &mut [Block],
 ) -> Result<(), CopyFault>
-    requires place { i < C.total view.now }
-    requires room { i < D.block_count new.old }
+    requires place { first + length blocks.old ≤ C.total view.now }
+    requires total { C.total view.now < 2 ^ 64 }
+    requires room { first + length blocks.old ≤ D.block_count new.old }
     requires can { CanRead E.Disk (C.need view.now) (C.Fits view.now) old.old }
-    ensures stops { TimeGoes D.Disk new.old new.new (Torn i (D.left_since new.old (D.moment new.old))) }
-    ensures seen { SeenBut (only_place i) (D.seen new.old) (D.seen new.new) }
-    ensures copied { OnOk result (ForSome (contents E.Disk (C.of view.now) old.old) (λ r. ForSome (D.seen new.new) (λ c. block_of c i ≡ block_of r i))) }
+    ensures stops { TimeGoes D.Disk new.old new.new (TornAt (InRange first (length blocks.old)) (D.left_since new.old (D.moment new.old))) }
+    ensures seen { SeenBut (InRange first (length blocks.old)) (D.seen new.old) (D.seen new.new) }
+    ensures copied { OnOk result (ForSome (contents E.Disk (C.of view.now) old.old) (λ r. ForSome (D.seen new.new) (AreSame first (length blocks.old) r))) }
     ensures reads { OnlyRead E.Disk old.old old.new }
     ensures cause { result ≡ Err CopyFault.From → CountRose E.Disk old.old old.new }
     ensures calls { DiskCallsBy D.Disk new.old new.new (result ≡ Err CopyFault.To) }
 {
-    match view.read(old, i, block) {
+    match view.read_blocks(old, first, blocks) {
         Ok(()) => {}
         Err(Failed) => return Err(CopyFault::From),
     }
-    match new.write(i, block) {
+    match new.write_blocks(first, blocks) {
         Ok(()) => Ok(()),
         Err(Failed) => Err(CopyFault::To),
     }

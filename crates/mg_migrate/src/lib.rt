@@ -6,7 +6,7 @@
 //! or is damaged exactly where the old image is. [`fresh_block1`] is for tests.
 //!
 //! [`migrate`] copies a volume of version 1 from one disk to another: its old tables are judged and told as those of today, out of the
-//! lifted blocks, and then these are copied one by one. What each answer tells, and what a stop at any moment leaves on the new disk,
+//! lifted blocks, and then these are copied in order. What each answer tells, and what a stop at any moment leaves on the new disk,
 //! is in `specs/Migrated.antt`.
 #![tactic(auto)]
 

@@ -104,4 +104,21 @@ impl Contents for Lifting {
             self.view.read(disk, i - (TABLE_BLOCK - TABLE1_BLOCK), out)
         }
     }
+    /// From the frame table on, blocks that follow one another in the old volume follow one another here.
+    fn read_blocks<D: Disk>(
+        &self,
+        disk: &mut D,
+        first: u64,
+        out: &mut [Block],
+    ) -> Result<(), Failed> {
+        if first >= TABLE_BLOCK {
+            return self
+                .view
+                .read_blocks(disk, first - (TABLE_BLOCK - TABLE1_BLOCK), out);
+        }
+        for k in 0..out.len() {
+            self.read(disk, first + k as u64, &mut out[k])?;
+        }
+        Ok(())
+    }
 }

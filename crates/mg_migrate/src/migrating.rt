@@ -47,7 +47,7 @@ pub enum MigrateFault {
 
 /// Copies a volume of version 1 to another disk, as one of this version: row by row and frame by frame, each to its number, with
 /// what its journal has not written home. Its passwords never end, and all else of its state is as it was. The old disk is only
-/// read. Memory does not grow with the frames: they are copied block by block.
+/// read. Memory does not grow with the frames: 32 blocks are copied at a time.
 ///
 /// The gate of the new disk is closed first, then everything behind it is written, and then the gate is opened, with a sync after
 /// each: so a stop at any moment leaves there no volume, what the blocks behind its gate spelled before, or the new one.

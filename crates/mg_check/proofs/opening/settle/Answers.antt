@@ -5,7 +5,7 @@ use Rattle.mg_model.specs.Layout.{total_blocks}
 use Rattle.mg_model.specs.Replay.{replay}
 use Rattle.mg_model.specs.Words.{and_then}
 use Rattle.std.specs.Option.{ForSome}
-use Rattle.mg_check.proofs.ReadRuns.{same_contents, still_read}
+use Rattle.mg_check.specs.ReadRuns.{same_contents, still_read}
 use Rattle.mg_check.specs.Reads.{contents}
 use Rattle.mg_check.specs.RowsTold.{TellsRows}
 use Rattle.mg_check.specs.Settled.{IsSettled}

@@ -8,7 +8,7 @@ use Rattle.mg_check.specs.Reads.{contents}
 use Rattle.mg_check.specs.TableTold.{entry_in, table_entry}
 use Rattle.mg_check.specs.declared.faults.RowFault.TheVariants as fault
 use Rattle.mg_check.proofs.Entries.{table-rest, table-told}
-use Rattle.mg_check.proofs.ReadRuns.{only_then, same_contents, still_read}
+use Rattle.mg_check.specs.ReadRuns.{only_then, same_contents, still_read}
 use Rattle.mg_check.proofs.table.read_table.Goals as goal
 
 pub turn_to-requires-clause-can : goal.turn_to-requires-clause-can

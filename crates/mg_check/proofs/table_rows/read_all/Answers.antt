@@ -9,7 +9,7 @@ use Rattle.mg_check.specs.Told.{AreLive, EachKeeps}
 use Rattle.mg_check.specs.declared.faults.RowFault.TheVariants as fault
 use Rattle.mg_check.proofs.LiveRows.{live_none, not_spelled}
 use Rattle.mg_check.proofs.Placed.{kept_none, placed_all, placed_none}
-use Rattle.mg_check.proofs.ReadRuns.{only_none, only_then, same_contents, still_read}
+use Rattle.mg_check.specs.ReadRuns.{only_none, only_then, same_contents, still_read}
 use Rattle.mg_check.proofs.table_rows.read_all.Goals as goal
 
 pub turn_to-requires-clause-can : goal.turn_to-requires-clause-can

@@ -7,7 +7,7 @@ use Rattle.mg_check.specs.TableTold.{HasRest, IsTable}
 use Rattle.mg_check.specs.Told.{AreLive}
 use Rattle.mg_check.specs.declared.faults.RowFault.TheVariants as fault
 use Rattle.mg_check.proofs.NoRows.{with-gap, without-accounts, without-counters, without-objects, without-threads, without-zeros}
-use Rattle.mg_check.proofs.ReadRuns.{only_then, same_contents, still_read}
+use Rattle.mg_check.specs.ReadRuns.{only_then, same_contents, still_read}
 use Rattle.mg_check.proofs.StateFits.{tables-told}
 use Rattle.mg_check.proofs.tables.read_tables.Goals as goal
 

@@ -1,19 +1,23 @@
-use Rattle.std.proofs.Common.{◌≡◌, ◌≤◌}
+use Rattle.std.proofs.Common.{◌≡◌, ◌≤◌, ◌-◌}
 use Rattle.std.specs.Option.{ForSome}
 use Rattle.mg_check.specs.Reads.{OnlyRead, contents}
 use Rattle.mg_disk.specs.Disk.{SameBut, SeenBut}
 use Rattle.mg_disk.specs.Runs.{Tracks}
 use Rattle.mg_disk.specs.Stops.{CountGoes, NothingPending}
-use Rattle.mg_migrate.specs.Copied.{AreCopied}
+use Rattle.mg_migrate.proofs.CopySteps.{AreBefore}
 use Rattle.mg_migrate.proofs.copying.copy_behind.Given as goal
 
 -- the blocks before this one are copied, and only blocks behind the gate differ
-abbrev pub invariant-loop-i : goal.invariant-loop-i
-invariant-loop-i g l = record {
+abbrev pub invariant-loop-first : goal.invariant-loop-first
+invariant-loop-first g l = record {
+  behind : 1 ≤ l.first;
   blocks : g.D.Disk.block_count l.new ≡ g.D.Disk.block_count l.initial.new;
   count : CountGoes g.D.Disk l.initial.new l.new;
   tracks : NothingPending g.D.Disk l.initial.new → ForSome (g.D.Disk.seen l.initial.new) (λ image. Tracks g.D.Disk l.initial.new l.new (SameBut (λ k. 1 ≤ k) image) (SameBut (λ k. 1 ≤ k) image));
   seen : SeenBut (λ k. 1 ≤ k) (g.D.Disk.seen l.initial.new) (g.D.Disk.seen l.new);
-  copied : ForSome (contents g.E.Disk (g.C.Contents.of l.view) l.initial.old) (λ r. ForSome (g.D.Disk.seen l.new) (AreCopied l.i r));
+  copied : ForSome (contents g.E.Disk (g.C.Contents.of l.view) l.initial.old) (λ r. ForSome (g.D.Disk.seen l.new) (AreBefore l.total l.first r));
   reads : OnlyRead g.E.Disk l.initial.old l.old;
 }
+
+abbrev pub decreases-loop-first : goal.decreases-loop-first
+decreases-loop-first g l = l.total - l.first

@@ -1,8 +1,10 @@
 -- Lemmas on how runs of reads join.
-use Rattle.std.specs.Prelude.{◌≡◌, ℕ, Option}
+use Rattle.std.specs.Prelude.{◌≡◌, ℕ, length, Option}
+use Rattle.std.specs.Option.{ForSome}
 use Rattle.std.proofs.Common.{refl, sym, ap, ◌∙◌, arith}
 use Rattle.mg_disk.specs.Disk.{Image}
 use Rattle.mg_disk.specs.declared.disk.Disk.{Ghosts}
+use Rattle.mg_disk.specs.Places.{HasFirst}
 use Rattle.mg_disk.specs.Runs.{nothing_none, nothing_then}
 use Rattle.mg_faults.specs.Faults.{count_none, count_then}
 use Rattle.mg_model.specs.Words.{and_then}
@@ -27,3 +29,9 @@ module _ {D : Type 0} (facts : Ghosts D) where
 
   pub same_contents : (of : Image → Option Image) (old new : D) → OnlyRead facts old new → contents facts of new ≡ contents facts of old
   same_contents of old new only = ap (λ seen. and_then seen of) only.writes.same
+
+-- what lasts while blocks of contents are read one by one
+pub record AreRead {D : Type 0} (facts : Ghosts D) (of : Image → Option Image) (first : ℕ) (blocks : Image) (n count : ℕ) (old new : D) : Type 0 where
+  pub read : ForSome (facts.seen old) (λ image. ForSome (of image) (HasFirst first blocks n))
+  pub same_count : length blocks ≡ count
+  pub reads : OnlyRead facts old new
