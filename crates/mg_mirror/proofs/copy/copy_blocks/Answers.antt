@@ -1,25 +1,24 @@
-use Rattle.std.proofs.Common.{◌≡◌, ◌∙◌, rules, slice_set, arith}
-use Rattle.std.specs.Prelude.{option_map}
+use Rattle.std.proofs.Common.{◌≡◌, ◌+◌, ◌∙◌, length, min, rules, take}
 use Rattle.mg_disk.specs.Runs.{nothing_then}
-use Rattle.mg_mirror.proofs.Copied.{copied_more}
+use Rattle.mg_mirror.proofs.Copied.{copied_on}
 use Rattle.mg_mirror.proofs.copy.copy_blocks.Goals as goal
 
-pub loop-i-preserved : goal.loop-i-preserved
-loop-i-preserved g c =
-    let was = c.args.from.now in
-    let inv = c.loop-i.invariant in
-    let below = c.loop-i-test.true in
-    let put : g.E.Disk.seen c.write.new.self ≡ option_map (λ image. slice_set image c.loop-i.i c.read.new.out) (g.E.Disk.seen c.loop-i.to) = search rules in
+pub loop-first-preserved : goal.loop-first-preserved
+loop-first-preserved g c =
+    let first = c.loop-first.first in
+    let inv = c.loop-first.invariant in
+    let copied = length (take c.min-count.result c.loop-first.run) in
+    let told = c.in_ok-copy_run.ensures in
+    let start : min first c.args.blocks ≡ first = search rules in
+    let end : first + copied ≡ min (first + 32) c.args.blocks = search rules in
     record {
-      copied = copied_more c.loop-i.i c.read.new.out (g.D.Disk.seen was) (g.E.Disk.seen c.loop-i.to) (g.E.Disk.seen c.write.new.self)
-          (λ x is. let e = g.met.D.Disk.seen_count was x is in let r = c.requires.from_long in omega arith)
-          (λ y is. let e = g.met.E.Disk.seen_count c.loop-i.to y is in let r = c.requires.to_long in let b = inv.to_blocks in omega arith)
-          (λ x is. c.in_ok-read.ensures.block x (inv.reads.same ∙ is)) inv.copied put;
-      reads = nothing_then g.D.Disk was c.loop-i.from c.read.new.self inv.reads (record { same = c.read.ensures.seen; stops = c.read.ensures.stops });
-      from_blocks = c.read.ensures.blocks ∙ inv.from_blocks;
-      to_blocks = c.write.ensures.blocks ∙ inv.to_blocks;
-      from_tells = c.read.ensures.tells ∙ inv.from_tells;
-      to_tells = c.write.ensures.tells ∙ inv.to_tells;
+      copied = copied_on (min first c.args.blocks) first (first + copied) (min (first + 32) c.args.blocks) (g.D.Disk.seen c.args.from.now) (g.D.Disk.seen c.loop-first.from) (g.E.Disk.seen c.loop-first.to) (g.E.Disk.seen c.copy_run.new.to)
+          inv.reads.same start end (told.copied c.if-not-branch.false) inv.copied;
+      reads = nothing_then g.D.Disk c.args.from.now c.loop-first.from c.copy_run.new.from inv.reads told.reads;
+      from_blocks = told.from_blocks ∙ inv.from_blocks;
+      to_blocks = told.to_blocks ∙ inv.to_blocks;
+      from_tells = told.from_tells ∙ inv.from_tells;
+      to_tells = told.to_tells ∙ inv.to_tells;
       from_count = search rules;
       to_count = search rules;
     }

@@ -1,12 +1,12 @@
-use Rattle.std.proofs.Common.{◌≡◌}
+use Rattle.std.proofs.Common.{◌≡◌, ◌-◌, min}
 use Rattle.mg_disk.specs.Stops.{WritesNothing, CountGoes}
 use Rattle.mg_mirror.specs.Copy.{IsCopied}
 use Rattle.mg_mirror.proofs.copy.copy_blocks.Given as goal
 
 -- the blocks so far are copied, and nothing was written on the disk that is read
-abbrev pub invariant-loop-i : goal.invariant-loop-i
-invariant-loop-i g l = record {
-  copied : IsCopied l.i (g.D.Disk.seen l.initial.from) (g.E.Disk.seen l.to);
+abbrev pub invariant-loop-first : goal.invariant-loop-first
+invariant-loop-first g l = record {
+  copied : IsCopied (min l.first l.blocks) (g.D.Disk.seen l.initial.from) (g.E.Disk.seen l.to);
   reads : WritesNothing g.D.Disk l.initial.from l.from;
   from_blocks : g.D.Disk.block_count l.from ≡ g.D.Disk.block_count l.initial.from;
   to_blocks : g.E.Disk.block_count l.to ≡ g.E.Disk.block_count l.initial.to;
@@ -15,3 +15,6 @@ invariant-loop-i g l = record {
   from_count : CountGoes g.D.Disk l.initial.from l.from;
   to_count : CountGoes g.E.Disk l.initial.to l.to;
 }
+
+abbrev pub decreases-loop-first : goal.decreases-loop-first
+decreases-loop-first g l = l.blocks - l.first
