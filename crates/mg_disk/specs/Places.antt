@@ -1,11 +1,11 @@
 -- Lemmas on images that are the same but at some places.
-use Rattle.std.specs.Prelude.{◌≡◌, ◌≢◌, ◌⊎◌, ◌+◌, ◌<◌, ℕ, List, [], ◌∷◌, ◌++◌, length, slice_set, slice_index_or, Contains, Option, Some, None}
+use Rattle.std.specs.Prelude.{◌≡◌, ◌≢◌, ◌⊎◌, ◌+◌, ◌<◌, ℕ, List, [], ◌∷◌, ◌++◌, length, slice_set, slice_index_or, Contains}
 use Rattle.std.proofs.Common.{refl, inl, inr, ⊎_elim, sym, subst, ◌∙◌, arith}
 use Rattle.std.proofs.lemmas.Bool.Decides.{eqb_tells}
 use Rattle.std.proofs.lemmas.List.{length-set, ext_get_or, get_or-set_same, get_or-set_other}
 use Rattle.std.proofs.lemmas.List.Elements.{Contains-append_left, Contains-append_right, Contains-append_cases}
 use Rattle.mg_disk.specs.Blocks.{IsGated, gates_block}
-use Rattle.mg_disk.specs.Disk.{Image, block_at, SameBut, SeenBut, only_place}
+use Rattle.mg_disk.specs.Disk.{Image, block_at, SameBut, only_place}
 
 pub same_or_not : (a b : ℕ) → (a ≡ b) ⊎ (a ≢ b)
 same_or_not a b = ⊎_elim (λ t. inl t.1) (λ t. inr t.1) (eqb_tells a b)
@@ -36,45 +36,19 @@ pub same_as : (places : ℕ → Type 0) (s c : Image) → c ≡ s → SameBut pl
 same_as places s c is = let P : Image → Type 0 = λ x. SameBut places s x in subst P (sym is) (record { count = refl; others = λ k out. refl })
 
 -- any bytes at some of the places, after others at some of them
-pub same_then : (p q places : ℕ → Type 0) (s d c : Image) → ((k : ℕ) → p k → places k) → ((k : ℕ) → q k → places k) → SameBut p s d → SameBut q d c → SameBut places s c
-same_then p q places s d c first then a b = record {
+pub same_after : (p q places : ℕ → Type 0) (s d c : Image) → ((k : ℕ) → p k → places k) → ((k : ℕ) → q k → places k) → SameBut p s d → SameBut q d c → SameBut places s c
+same_after p q places s d c first then a b = record {
   count = b.count ∙ a.count;
   others = λ k out. b.others k (λ at. out (then k at)) ∙ a.others k (λ at. out (first k at));
 }
 
 -- any bytes at one of the places, after others there
 pub same_still : (places : ℕ → Type 0) (i : ℕ) (s d c : Image) → places i → SameBut places s d → SameBut (only_place i) d c → SameBut places s c
-same_still places i s d c at_i a b = same_then places (only_place i) places s d c (λ k at. at) (λ k is. subst places (sym is) at_i) a b
+same_still places i s d c at_i a b = same_after places (only_place i) places s d c (λ k at. at) (λ k is. subst places (sym is) at_i) a b
 
 -- an image has the first n of these blocks, one behind the other
 abbrev pub HasFirst : ℕ → Image → ℕ → Image → Type 0
 HasFirst first blocks n image = (k : ℕ) → k < n → block_at image (first + k) ≡ block_at blocks k
-
--- one more of them, which is put among the blocks
-pub first_longer : (first : ℕ) (blocks : Image) (n : ℕ) (block : List ℕ) (image : Image) → n < length blocks → block ≡ block_at image (first + n) → HasFirst first blocks n image → HasFirst first (slice_set blocks n block) (n + 1) image
-first_longer first blocks n block image inside is so_far k below = ⊎_elim here (λ not. there not) (same_or_not k n)
-  where
-    here : k ≡ n → block_at image (first + k) ≡ block_at (slice_set blocks n block) k
-    here same =
-        let P : ℕ → Type 0 = λ j. block_at image (first + j) ≡ block_at (slice_set blocks n block) j in
-        subst P (sym same) (sym is ∙ sym (get_or-set_same blocks n block [] inside))
-
-    there : k ≢ n → block_at image (first + k) ≡ block_at (slice_set blocks n block) k
-    there not = so_far k (omega arith) ∙ sym (get_or-set_other blocks n k block [] not)
-
--- the same of what reads give
-pub seen_then : (p q places : ℕ → Type 0) (old mid new : Option Image) → ((k : ℕ) → p k → places k) → ((k : ℕ) → q k → places k) → SeenBut p old mid → SeenBut q mid new → SeenBut places old new
-seen_then p q places None None None first then a b = tt {0}
-seen_then p q places None None (Some c) first then a b = absurd b
-seen_then p q places None (Some d) new first then a b = absurd a
-seen_then p q places (Some s) None new first then a b = absurd a
-seen_then p q places (Some s) (Some d) None first then a b = absurd b
-seen_then p q places (Some s) (Some d) (Some c) first then a b = same_then p q places s d c first then a b
-
--- reads give what they gave
-pub seen_still : (places : ℕ → Type 0) (o : Option Image) → SeenBut places o o
-seen_still places None = tt {0}
-seen_still places (Some s) = record { count = refl; others = λ k out. refl }
 
 -- a write changes its place alone
 pub same_set : (s : Image) (i : ℕ) (b : List ℕ) → SameBut (only_place i) s (slice_set s i b)

@@ -2,7 +2,7 @@
 use Rattle.std.specs.Prelude.{◌≡◌, ◌⊎◌, ℕ, Some}
 use Rattle.std.proofs.Common.{refl, inl, inr, ⊎_elim, sym, subst, ◌∙◌}
 use Rattle.mg_disk.specs.Disk.{Image, SameBut, no_image, only_place, Torn, TornAt}
-use Rattle.mg_disk.specs.Places.{same_as, same_then}
+use Rattle.mg_disk.specs.Places.{same_as, same_after}
 use Rattle.mg_disk.specs.Stops.{NothingPending, StandsAt, TimeGoes, Leaves, WritesNothing}
 use Rattle.mg_disk.specs.declared.disk.Disk.{Ghosts}
 
@@ -123,7 +123,7 @@ module _ {D : Type 0} (facts : Ghosts D) (places : ℕ → Type 0) (s : Image) w
       more facts old mid new P (SameBut places s) (TornAt these (facts.left_since mid (facts.moment mid))) (SameBut places s) so_far call (λ c t. sub c (step c t)) (λ c left. ⊎_elim (so_far.now c) (step c) left)
     where
       step : (c : Image) → TornAt these (facts.left_since mid (facts.moment mid)) c → SameBut places s c
-      step c t = same_then places these places s t.0 c (λ k at. at) among (so_far.now t.0 t.1) t.2
+      step c t = same_after places these places s t.0 c (λ k at. at) among (so_far.now t.0 t.1) t.2
 
   -- a write at one of the places, whatever it answers
   pub torn : (old mid new : D) (i : ℕ) (P : Image → Type 0) → Tracks facts old mid P (SameBut places s) → TimeGoes facts mid new (Torn i (facts.left_since mid (facts.moment mid)))

@@ -2,8 +2,8 @@
 use Rattle.std.specs.Prelude.{◌≡◌, ℕ, ◌+◌, ◌-◌, ◌<◌, ◌≤◌, List, length, slice_index, Option, Some, None}
 use Rattle.std.specs.Option.{ForSome}
 use Rattle.std.proofs.Common.{refl, inl, inr, sym, ap, subst, ◌∙◌, ⊎_elim, arith}
-use Rattle.std.proofs.lemmas.Bool.{cases_eq, cases_lt}
-use Rattle.mg_disk.specs.Disk.{HasBlocks, Image, InRange, SameBut, SeenBut, no_image, only_place}
+use Rattle.std.proofs.lemmas.Bool.{cases_eq}
+use Rattle.mg_disk.specs.Disk.{HasBlocks, Image, SameBut, SeenBut, no_image, only_place}
 use Rattle.mg_disk.specs.declared.disk.Disk.{Ghosts}
 use Rattle.mg_disk.specs.Runs.{Tracks, leaves_then, leaves_wider, quiet}
 use Rattle.mg_disk.specs.Stops.{Leaves, TimeGoes}
@@ -33,9 +33,6 @@ seen_then places (Some s) (Some c) image same is =
 abbrev pub AreBefore : ℕ → ℕ → Image → Image → Type 0
 AreBefore n next contents c = (i : ℕ) → 1 ≤ i → i < n → i < next → block_of c i ≡ block_of contents i
 
-pub copied_none : (n : ℕ) (r c : Image) → AreBefore n 1 r c
-copied_none n r c i low high before = absurd (omega arith)
-
 -- blocks that both have
 pub same_blocks : (first count : ℕ) (blocks r c : Image) → length blocks ≡ count → HasBlocks first blocks r → HasBlocks first blocks c → AreSame first count r c
 same_blocks first count blocks r c is read put i at =
@@ -50,23 +47,6 @@ same_blocks first count blocks r c is read put i at =
 pub of_contents : (of : Image → Option Image) (seen : Option Image) (P : Image → Type 0) → ForSome seen (λ image. ForSome (of image) P) → ForSome (and_then seen of) P
 of_contents of None P told r is = absurd cc
 of_contents of (Some s) P told r is = told s refl r is
-
--- so many blocks more
-before_more : (n first count next : ℕ) (r s d : Image) → ((i : ℕ) → i < n → i < next → i < first + count) → SameBut (InRange first count) s d → AreBefore n first r s → AreSame first count r d → AreBefore n next r d
-before_more n first count next r s d ends same so_far here i low high before = ⊎_elim earlier (λ from. here i (record { from = from; before = ends i high before })) (cases_lt i first)
-  where
-    earlier : i < first → block_of d i ≡ block_of r i
-    earlier below = same.others i (λ in_range. let from = in_range.from in omega arith) ∙ so_far i low high below
-
-pub copied_more : (n first count next : ℕ) (r : Image) (mid new : Option Image) → ((i : ℕ) → i < n → i < next → i < first + count)
-    → SeenBut (InRange first count) mid new → ForSome mid (AreBefore n first r) → ForSome new (AreSame first count r) → ForSome new (AreBefore n next r)
-copied_more n first count next r None None ends same so_far here c is = absurd cc
-copied_more n first count next r None (Some d) ends same so_far here c is = absurd same
-copied_more n first count next r (Some s) None ends same so_far here c is = absurd same
-copied_more n first count next r (Some s) (Some d) ends same so_far here c is =
-    let P : Image → Type 0 = λ x. AreBefore n next r x in
-    let the_same : d ≡ c = cc in
-    subst P the_same (before_more n first count next r s d ends same (so_far s refl) (here d refl))
 
 -- a sync of a disk whose writes were followed
 pub synced : {D : Type 0} (facts : Ghosts D) (P : Image → Type 0) (first at mid new : D) → mid ≡ at → Tracks facts first at P P → TimeGoes facts mid new no_image → Leaves facts first new P
