@@ -3,7 +3,7 @@
 that are kept nowhere, instructions a line, and calls of the disk.
 
     bench/measure.py [--program PATH] [--folder FOLDER] [--seconds S] [--svg FILE]
-    bench/measure.py --full [--program PATH] [--folder FOLDER]
+    bench/measure.py --full [--program PATH] [--mirror PATH] [--folder FOLDER]
 
 It puts one table. A rate of mungi is that of a run less a run on no lines, both with the page cache warm; a rate of SQLite is that of
 the same number of updates of one row each, with journal_mode WAL and synchronous FULL, in transactions of as many updates as a batch has
@@ -12,7 +12,8 @@ strace; where one of them is not there, its rows are left out, and that is said 
 
 With --full it measures a full volume instead: 65,536 frames, 4,096 objects, 61,426 pages and 256 threads. Openings stand beside `cat`
 of the blocks up to the end of the frame table, least of 20 with the page cache warm, and of 5 where it is dropped before each, which
-takes a system that lets it be dropped; a migration stands beside `cp`, with a sync and without.
+takes a system that lets it be dropped; a migration, and a mirror's copy by the program mungi_dev, stand beside `cp`, with a sync and
+without. Their ratio is that of the speeds.
 """
 import argparse
 import os
@@ -199,7 +200,7 @@ def cold(command):
     return min(times)
 
 
-def measure_full(program, folder):
+def measure_full(program, mirror, folder):
     volume, head, old, new = (f"{folder}/{name}" for name in ("vol", "head", "old", "new"))
     full_volume(program, volume)
     with open(volume, "rb") as whole:
@@ -215,16 +216,28 @@ def measure_full(program, folder):
             took = time_of([program, volume, command])
             row(f"`{command}` on no lines, page cache {cache}", f"{1000 * took:.1f} ms", f"`cat` {1000 * reading:.1f} ms", f"{took / reading:.2f}")
     version1(volume, old)
-    copies = {}
-    for name, command in (("mungi", [program, new, "migrate", old]), ("cp and sync", ["sh", "-c", f"cp {old} {new} && sync {new}"]), ("cp", ["cp", old, new])):
-        copies[name] = None
-        for _ in range(5):
-            Path(new).unlink(missing_ok=True)
-            subprocess.run(["sync"], check=True)
-            took = least(command, 1)
-            copies[name] = took if copies[name] is None else min(copies[name], took)
-    for name in ("cp and sync", "cp"):
-        row("migration of a full volume", f"{1000 * copies['mungi']:.0f} ms", f"`{name}` {1000 * copies[name]:.0f} ms", f"{copies['mungi'] / copies[name]:.2f}")
+    copies_beside_cp("migration of a full volume", [program, new, "migrate", old], old, new)
+    if mirror is None:
+        print("mungi_dev is not built: no copy of a mirror", file=sys.stderr)
+    else:
+        copies_beside_cp("mirror of a full volume, on no lines", [mirror, volume, "mirror", new, "left"], volume, new)
+
+
+def made_anew(command, target):
+    """The least of five times in which this command makes a file that is not there, with nothing else left to write."""
+    times = []
+    for _ in range(5):
+        Path(target).unlink(missing_ok=True)
+        subprocess.run(["sync"], check=True)
+        times.append(least(command, 1))
+    return min(times)
+
+
+def copies_beside_cp(name, command, source, target):
+    took = made_anew(command, target)
+    for other, copy in (("cp and sync", ["sh", "-c", f"cp {source} {target} && sync {target}"]), ("cp", ["cp", source, target])):
+        beside = made_anew(copy, target)
+        row(name, f"{1000 * took:.0f} ms", f"`{other}` {1000 * beside:.0f} ms", f"{beside / took:.2f}")
 
 
 def picture(ratios):
@@ -253,6 +266,7 @@ def row(name, figure, beside="", ratio=""):
 def main():
     parser = argparse.ArgumentParser(description=__doc__, formatter_class=argparse.RawDescriptionHelpFormatter)
     parser.add_argument("--program")
+    parser.add_argument("--mirror")
     parser.add_argument("--folder")
     parser.add_argument("--seconds", type=float, default=2.0)
     parser.add_argument("--svg")
@@ -262,9 +276,11 @@ def main():
         mungi(str(TOP / "mungi"), ["x", "dry", "16", SEED, "0"])
         words.program = str(TOP / "crates/mungi/out/mungi")
     program = os.path.abspath(words.program)
+    if words.mirror is None and (TOP / "crates/mungi_dev/out/mungi_dev").exists():
+        words.mirror = str(TOP / "crates/mungi_dev/out/mungi_dev")
     if words.full:
         with tempfile.TemporaryDirectory(dir=words.folder) as folder:
-            measure_full(program, folder)
+            measure_full(program, words.mirror, folder)
         return
     print(f"SQLite {sqlite3.sqlite_version}, WAL, synchronous FULL; {words.seconds} seconds or more a rate\n")
     row("what", "mungi", "beside it", "ratio")

@@ -2,7 +2,7 @@
 ghost use Rattle.std.specs.Prelude.{◌≤◌};
 
 use crate::runs::{BLOCKS, are_same, calls_to_make, fresh, run, zeros};
-use mg_disk::Fuse;
+use mg_disk::{COPY_BLOCKS, Fuse};
 use std::alloc::{AllocError, Global};
 use std::test::Fail;
 
@@ -64,7 +64,8 @@ fn goes_on_where_one_dies(rt: HostRuntime) -> Result<(), Fail> {
 
 #[test]
 fn fails_where_both_die(rt: HostRuntime) -> Result<(), Fail> {
-    let left = Fuse::new(fresh(rt.alloc(), &[])?, 1);
+    // The right one dies before a block is written, and the left one once the first of them were read.
+    let left = Fuse::new(fresh(rt.alloc(), &[])?, COPY_BLOCKS as u64);
     let right = Fuse::new(zeros(rt.alloc())?, 0);
     let ran = run(rt.alloc(), "l mirror r left", left, right, TWO_PAGES)?;
     assert_eq!(rt; ran.told.as_str(), "4L ");
