@@ -2,7 +2,7 @@
 use arrayvec::ArrayVec;
 use mg_disk::ScratchDisk;
 use mg_gen::line;
-use mg_session_trial::{Streams, command};
+use mg_testing::{Streams, command};
 use std::alloc::{AllocError, Global};
 use std::test::Fail;
 

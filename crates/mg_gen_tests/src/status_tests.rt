@@ -1,7 +1,7 @@
 // How the command ends.
 use mg_disk::{Disk, ScratchDisk};
 use mg_session::Status;
-use mg_session_trial::{Streams, command};
+use mg_testing::{Streams, command};
 use std::test::Fail;
 
 /// No input, and a sink of so much room whose puts of these numbers fail.

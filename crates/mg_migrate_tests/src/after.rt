@@ -3,7 +3,7 @@ use crate::images::{BLOCKS, MOVED, zeros};
 use crate::telling::told_of;
 use Held::{Before, Moved, Nothing};
 use mg_disk::{Left, MemDisk};
-use mg_session_trial::SEED;
+use mg_testing::SEED;
 use std::alloc::{AllocError, Global};
 
 /// How many calls it takes to make a volume of this version: 1,310 writes and three syncs.

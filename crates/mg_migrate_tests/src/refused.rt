@@ -2,7 +2,7 @@
 use crate::images::{BLOCKS, BLOCKS1, Words, old_volume, put_block, put_words, zeros};
 use crate::telling::{migrated, told_of};
 use mg_disk::{BLOCK_SIZE, Disk, Fuse, Left, MemDisk};
-use mg_session_trial::{SEED, volume};
+use mg_testing::{SEED, volume};
 use std::alloc::{AllocError, Global};
 use std::test::Fail;
 

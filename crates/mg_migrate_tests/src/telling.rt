@@ -2,7 +2,7 @@
 use mg_disk::Disk;
 use mg_io::MemSink;
 use mg_migrate_session::top_migrate;
-use mg_session_trial::{Streams, command, words_of};
+use mg_testing::{Streams, command, words_of};
 use std::alloc::{AllocError, Global};
 
 /// The status of a migration, and behind a blank what it put.

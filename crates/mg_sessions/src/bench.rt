@@ -2,7 +2,7 @@
 use crate::kept::Kept;
 use mg_disk::{BLOCK_SIZE, Counts, Disk, MemDisk, ScratchDisk};
 use mg_session::Status;
-use mg_session_trial::{Streams, command};
+use mg_testing::{Streams, command};
 use std::alloc::{AllocError, Global};
 
 /// Of the images with an open segment, those of these numbers, from 0, have their opening stopped.

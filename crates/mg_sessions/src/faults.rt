@@ -8,7 +8,7 @@ use crate::stops::count_calls;
 use crate::trouble::Trouble;
 use mg_disk::{BLOCK_SIZE, Disk, Left, MemDisk, ScratchDisk};
 use mg_session::Status;
-use mg_session_trial::{ROOM, Streams, command, volume};
+use mg_testing::{ROOM, Streams, command, volume};
 use std::alloc::{AllocError, Global};
 
 /// How many bytes a take gives, so that a session has many.

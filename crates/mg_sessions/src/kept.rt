@@ -4,7 +4,7 @@ use crate::session::{Run, Session};
 use crate::trouble::Trouble;
 use mg_disk::{Left, MemDisk, ScratchDisk};
 use mg_session::Status;
-use mg_session_trial::{Streams, command};
+use mg_testing::{Streams, command};
 use std::alloc::{AllocError, Global};
 
 /// A state by what it answers.

@@ -2,7 +2,7 @@
 use crate::parts::is_blank;
 use crate::session::{Call, Run, Session};
 use crate::trouble::Trouble;
-use mg_session_trial::SEED;
+use mg_testing::SEED;
 use std::alloc::{AllocError, Global};
 use std::str;
 

@@ -4,7 +4,7 @@ use crate::session::{Run, Session};
 use crate::trouble::Trouble;
 use mg_disk::{Left, MemDisk, ScratchDisk};
 use mg_session::Status;
-use mg_session_trial::{Outcome, Streams, command, volume};
+use mg_testing::{Outcome, Streams, command, volume};
 use std::alloc::{AllocError, Global};
 
 /// The batches of `run`, each with the size of the pieces in which its source gives the lines.

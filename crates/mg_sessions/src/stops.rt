@@ -6,7 +6,7 @@ use crate::running::tell;
 use crate::session::Session;
 use crate::trouble::Trouble;
 use mg_disk::{Fuse, Left, MemDisk};
-use mg_session_trial::{Streams, command, volume};
+use mg_testing::{Streams, command, volume};
 use std::alloc::{AllocError, Global};
 
 /// What a stop may leave of the blocks that were written since the last sync.

@@ -1,10 +1,10 @@
 // A volume as another program may write it: rows and pages at any places, and open segments in the journal.
 ghost use Rattle.std.specs.Prelude.{◌≡◌, ◌<◌, IfOk, length};
 
-use crate::telling::{Byte, fresh, put, told_of};
 use mg_disk::{BLOCK_SIZE, Block, Disk, Left, MemDisk};
 use mg_model::{AccRow, Fault, Frame, Globals, ObjRow, Pw, Rights, Slot, ThrRow, ThrState};
 use mg_rows::{write_account, write_globals, write_object, write_thread};
+use mg_testing::{Byte, fresh, put, told_of};
 use std::alloc::{AllocError, Global};
 use std::test::Fail;
 

@@ -1,11 +1,10 @@
 // The largest object, each page of which was stored to, is deleted by one line: of a batch none is larger.
-use crate::SEED;
 use crate::tape::Tape;
-use crate::telling::told_of;
 use mg_disk::{BLOCK_SIZE, Block, Disk, Left};
 use mg_layout::{FIRST_OBJECT_BLOCK, TABLE_BLOCK};
 use mg_model::{ObjRow, Pw, Rights};
 use mg_rows::put_object;
+use mg_testing::{SEED, told_of};
 use std::alloc::{AllocError, Global};
 use std::test::Fail;
 

@@ -1,7 +1,6 @@
 // Commands whose source, sink or disk fails, with how they end and what they leave.
-use crate::telling::{fresh, told, told_of};
-use crate::{SEED, Streams};
 use mg_disk::{Disk, Fuse, MemDisk};
+use mg_testing::{SEED, Streams, fresh, told, told_of};
 use std::alloc::{AllocError, Global};
 use std::test::Fail;
 

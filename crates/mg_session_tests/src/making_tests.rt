@@ -1,9 +1,8 @@
 // Volumes that are made, where the disk is too small, where it stops, and where the line is not taken.
-use crate::telling::{BLOCKS, making, told, told_of};
-use crate::{ROOM, Streams};
 use mg_disk::{BLOCK_SIZE, Disk, Fuse, Left, MemDisk};
 use mg_layout::{Geometry, fresh_block};
 use mg_model::{Params, Tariff};
+use mg_testing::{BLOCKS, ROOM, Streams, making, told, told_of};
 use std::alloc::{AllocError, Global};
 use std::test::Fail;
 

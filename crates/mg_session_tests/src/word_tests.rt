@@ -1,7 +1,7 @@
 // The words of the command line, form by form.
-use crate::words_of;
 use mg_model::{Params, Tariff};
 use mg_session::{Command, read_words};
+use mg_testing::words_of;
 use std::alloc::{AllocError, Global};
 use std::test::Fail;
 

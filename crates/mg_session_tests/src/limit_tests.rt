@@ -1,11 +1,11 @@
 // A session with a limit on its bytes that is reached.
 ghost use Rattle.std.specs.Prelude.{◌≡◌, ◌<◌};
 
-use crate::telling::fresh;
 use mg_io::{MemSink, MemSource};
 use mg_kernel::Kernel;
 use mg_model::Steps;
 use mg_session::{Buffers, Ended, serve};
+use mg_testing::fresh;
 use std::alloc::Global;
 use std::marker::Brand;
 use std::sync::ledger::{Blank, Ledger};

@@ -1,6 +1,6 @@
 // Counters of a volume at their ends, where no session comes.
-use crate::telling::{Byte, fresh, put, told_of};
 use mg_disk::{Left, MemDisk};
+use mg_testing::{Byte, fresh, put, told_of};
 use std::alloc::{AllocError, Global};
 use std::test::Fail;
 

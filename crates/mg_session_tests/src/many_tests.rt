@@ -1,8 +1,7 @@
 // As many accounts and objects as there may be, with rents where the pages in use are at a step of the tariff or beside it.
-use crate::telling::{told, told_of};
-use crate::{SEED, Streams, volume};
 use mg_disk::MemDisk;
 use mg_model::draw;
+use mg_testing::{SEED, Streams, told, told_of, volume};
 use std::alloc::{AllocError, Global};
 use std::test::Fail;
 

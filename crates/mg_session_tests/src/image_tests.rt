@@ -1,7 +1,6 @@
 // Images that are a fresh volume but for one change, as commands tell them.
-use crate::ROOM;
-use crate::telling::{BLOCKS, Byte, fresh, put, told_of};
 use mg_disk::{BLOCK_SIZE, Disk, MemDisk};
+use mg_testing::{BLOCKS, Byte, ROOM, fresh, put, told_of};
 use std::alloc::{AllocError, Global};
 use std::test::Fail;
 
