@@ -1,46 +1,56 @@
 //! A disk in a file: the trusted edge, which tells nothing of its content.
-ghost use Rattle.std.specs.Prelude.{◌≡◌, ◌<◌, ◌^◌, false, None};
+ghost use Rattle.std.specs.Prelude.{◌≡◌, ◌<◌, ◌≤◌, ◌^◌, false, None, IfOk, OnErr, OnOk, length};
 ghost use Rattle.std.proofs.Common.{rules};
-ghost use Rattle.mg_faults.specs.Faults.{is_last};
+ghost use Rattle.mg_faults.specs.Faults.{CountGoesOn, Rose, is_last};
 ghost use Rattle.mg_disk.specs.Disk.{At};
 
-use crate::counted::counted;
+use crate::watching::{FileFault, Unwatched, Watch};
 use crate::{BLOCK_SIZE, Block, Disk, Failed};
 use mg_faults::FaultCount;
 use std::fs::{File, OpenFile, OpenOptions};
+use std::io::{self, ErrorKind};
 use std::os::unix::fs::FileExt;
 use std::rt::Files;
-use std::{io, slice};
+use std::slice;
 
 /// How many blocks a [`FileDisk`] has.
 const BLOCKS: u64 = 70_000;
 
-/// A file that one run at a time may hold for itself.
+/// A file that a run holds, so that no other one changes it meanwhile.
 pub trait OneHolder {
-    /// Takes the file for this run, until it is closed. An error comes where another run has it (`WouldBlock`), and where the
+    /// Takes the file for this run alone, until it is closed. An error comes where another run has it (`WouldBlock`), and where the
     /// system keeps no locks on it; neither waits.
     fn hold(&self) -> io::Result<()>;
+
+    /// Takes the file for this run and others that only read it. An error comes where a run has it for itself alone (`WouldBlock`),
+    /// and where the system keeps no locks on it; neither waits.
+    fn share(&self) -> io::Result<()>;
 }
 
 impl OneHolder for File {
-    /// The lock is the advisory one on the whole file, `flock` of the system, exclusive: it keeps out those that ask for it.
+    /// The lock is the advisory one on the whole file, `flock` of the system, exclusive: it keeps out those that ask for one.
     fn hold(&self) -> io::Result<()> {
         Ok(self.try_lock()?)
     }
+
+    /// The same lock, shared.
+    fn share(&self) -> io::Result<()> {
+        Ok(self.try_lock_shared()?)
+    }
 }
 
-/// A disk of 70,000 blocks in a file, which is opened at the first read, write or sync and made empty where there is
-/// none, unless it is to be read alone. Past the end of the file it reads zeros.
+/// A disk of 70,000 blocks in a file, which is opened at the first read, write or sync. Past the end of the file it reads zeros.
 ///
-/// A file that is opened is held for this run alone ([`OneHolder`]): one that another run holds counts as one that cannot be
-/// opened.
+/// A file that may be written is made empty where there is none, and is held for this run alone ([`OneHolder`]). One that is only
+/// read is shared with others that read it, and reads as zeros where there is none. A file that another run holds counts as one that
+/// cannot be opened.
 ///
 /// A call fails where the file cannot be opened, where the system answers an error, and where it takes less than the
 /// whole of what is written, a block or a run of them; the next call tries again. A sync is `sync_data` of the file: one that answers Ok
 /// has brought the file's bytes to the medium, and of what else is kept of it all that reading them back takes, as its
 /// size, but not such things as the time of its last change.
 #[derive(Drop)]
-pub struct FileDisk<'a, R: Files>
+pub struct FileDisk<'a, R: Files, W: Watch = Unwatched>
 where
     R::File: FileExt + OneHolder,
 {
@@ -50,6 +60,9 @@ where
     writes: bool,
     file: Option<R::File>,
     count: FaultCount,
+    fault: Option<FileFault>,
+    end: Option<u64>,
+    watch: W,
 }
 
 impl<'a, R: Files> FileDisk<'a, R>
@@ -60,19 +73,41 @@ where
     pub fn new(rt: &'a R, path: &'a str) -> FileDisk<'a, R>
         ensures { ⟦<FileDisk<'a, R> as Disk>⟧.faults result ≡ 0 }
     {
+        FileDisk::watched(rt, path, Unwatched)
+    }
+
+    /// The disk in the file at `path`, to be read alone: the file is opened for reading and not made where there is none, and
+    /// every write fails. It is not touched yet, and no memory is taken.
+    pub fn reader(rt: &'a R, path: &'a str) -> FileDisk<'a, R>
+        ensures { ⟦<FileDisk<'a, R> as Disk>⟧.faults result ≡ 0 }
+    {
+        FileDisk::watched_reader(rt, path, Unwatched)
+    }
+}
+
+impl<'a, R: Files, W: Watch> FileDisk<'a, R, W>
+where
+    R::File: FileExt + OneHolder,
+{
+    /// As [`FileDisk::new`], and `watch` is told of what its calls do.
+    pub fn watched(rt: &'a R, path: &'a str, watch: W) -> FileDisk<'a, R, W>
+        ensures { ⟦<FileDisk<'a, R, W> as Disk>⟧.faults result ≡ 0 }
+    {
         FileDisk {
             rt,
             path,
             writes: true,
             file: None,
             count: FaultCount::new(),
+            fault: None,
+            end: None,
+            watch,
         }
     }
 
-    /// The disk in the file at `path`, to be read alone: the file is opened for reading and not made where there is none, so
-    /// that every read of it fails then, and every write always. It is not touched yet, and no memory is taken.
-    pub fn reader(rt: &'a R, path: &'a str) -> FileDisk<'a, R>
-        ensures { ⟦<FileDisk<'a, R> as Disk>⟧.faults result ≡ 0 }
+    /// As [`FileDisk::reader`], and `watch` is told of what its calls do.
+    pub fn watched_reader(rt: &'a R, path: &'a str, watch: W) -> FileDisk<'a, R, W>
+        ensures { ⟦<FileDisk<'a, R, W> as Disk>⟧.faults result ≡ 0 }
     {
         FileDisk {
             rt,
@@ -80,30 +115,143 @@ where
             writes: false,
             file: None,
             count: FaultCount::new(),
+            fault: None,
+            end: None,
+            watch,
         }
     }
 
-    /// The file, opened and held where it is not yet. The caller puts it back.
-    fn take_file(&mut self) -> io::Result<R::File>
+    /// Why the first call failed of those that did; none while none did.
+    pub fn fault(&self) -> Option<&FileFault> {
+        self.fault.as_ref()
+    }
+
+    /// The lowest block that a read found behind the end of the file, or cut by it; none where no read came so far.
+    pub fn end(&self) -> Option<u64> {
+        self.end
+    }
+
+    /// The file, opened and held where it is not yet. The caller puts it back. None where it is only read and there is none.
+    fn take_file(&mut self) -> io::Result<Option<R::File>>
         ensures { self.new.count ≡ self.old.count }
     {
         match self.file.take() {
-            Some(file) => Ok(file),
-            None => {
-                let file = OpenOptions::new()
-                    .read(true)
-                    .write(self.writes)
-                    .create(self.writes)
-                    .open(self.rt, self.path)?;
-                file.hold()?;
-                Ok(file)
+            Some(file) => Ok(Some(file)),
+            None if self.writes => Ok(Some(held(self.rt, self.path)?)),
+            None => shared(self.rt, self.path),
+        }
+    }
+
+    /// Notes that the file ends in this block, or before it.
+    fn ends_at(&mut self, block: u64)
+        ensures { self.new.count ≡ self.old.count }
+    {
+        self.end = match self.end {
+            Some(end) if end <= block => Some(end),
+            _ => Some(block),
+        };
+    }
+
+    /// A read of blocks that ended so.
+    fn read_ended(
+        &mut self,
+        outcome: io::Result<usize>,
+        first: u64,
+        count: usize,
+    ) -> Result<(), Failed>
+        ensures quiet { OnOk result (self.new.count ≡ self.old.count) }
+        ensures goes_on { CountGoesOn self.old.count self.new.count (is_last self.old.count) (is_last self.new.count) }
+        ensures rose { OnErr result (Rose self.old.count self.new.count (is_last self.new.count)) }
+    {
+        match outcome {
+            Ok(whole) => {
+                if whole < count {
+                    self.ends_at(first.saturating_add(whole as u64));
+                }
+                Ok(())
+            }
+            Err(error) => {
+                let fault = FileFault {
+                    error,
+                    block: Some(first),
+                };
+                self.watch.read_failed(&fault);
+                self.failed(fault)
             }
         }
     }
+
+    /// A write or a sync that ended so.
+    fn write_ended(
+        &mut self,
+        outcome: io::Result<()>,
+        block: Option<u64>,
+        count: usize,
+    ) -> Result<(), Failed>
+        ensures quiet { OnOk result (self.new.count ≡ self.old.count) }
+        ensures goes_on { CountGoesOn self.old.count self.new.count (is_last self.old.count) (is_last self.new.count) }
+        ensures rose { OnErr result (Rose self.old.count self.new.count (is_last self.new.count)) }
+    {
+        match outcome {
+            Ok(()) => {
+                if let Some(first) = block {
+                    self.watch.wrote(first, count);
+                }
+                Ok(())
+            }
+            Err(error) => {
+                let fault = FileFault { error, block };
+                self.watch.write_failed(&fault);
+                self.failed(fault)
+            }
+        }
+    }
+
+    /// Keeps the first fault, and raises the count.
+    fn failed(&mut self, fault: FileFault) -> Result<(), Failed>
+        ensures fails { OnOk result ⊥ }
+        ensures goes_on { CountGoesOn self.old.count self.new.count (is_last self.old.count) (is_last self.new.count) }
+        ensures rose { Rose self.old.count self.new.count (is_last self.new.count) }
+    {
+        if self.fault.is_none() {
+            self.fault = Some(fault);
+        }
+        self.count.raise();
+        Err(Failed)
+    }
 }
 
-/// Reads the bytes at an offset. Where the file ends within them, the rest is zeros.
-fn read_whole<F: FileExt>(file: &F, offset: u64, out: &mut [u8]) -> io::Result<()>
+/// The file, opened to be read and written, made where there is none, and held for this run alone.
+fn held<R: Files>(rt: &R, path: &str) -> io::Result<R::File>
+where
+    R::File: OneHolder,
+{
+    let file = OpenOptions::new()
+        .read(true)
+        .write(true)
+        .create(true)
+        .open(rt, path)?;
+    file.hold()?;
+    Ok(file)
+}
+
+/// The file, opened to be read and shared with others that read it; none where there is none.
+fn shared<R: Files>(rt: &R, path: &str) -> io::Result<Option<R::File>>
+where
+    R::File: OneHolder,
+{
+    match OpenOptions::new().read(true).open(rt, path) {
+        Ok(file) => {
+            file.share()?;
+            Ok(Some(file))
+        }
+        Err(e) if e.kind() == ErrorKind::NotFound => Ok(None),
+        Err(e) => Err(e),
+    }
+}
+
+/// Reads the bytes at an offset. Where the file ends within them, the rest is zeros. Gives how many bytes the file had.
+fn read_whole<F: FileExt>(file: &F, offset: u64, out: &mut [u8]) -> io::Result<usize>
     requires { offset < 2 ^ 60 }
 {
     let mut filled = 0;
@@ -115,7 +263,7 @@ fn read_whole<F: FileExt>(file: &F, offset: u64, out: &mut [u8]) -> io::Result<(
         filled += count;
     }
     out[filled..].fill(0);
-    Ok(())
+    Ok(filled)
 }
 
 /// Writes all these bytes at an offset, in one call of the system.
@@ -123,16 +271,11 @@ fn write_whole<F: FileExt>(file: &F, offset: u64, from: &[u8]) -> io::Result<()>
     if file.write_at(from, offset)? == from.len() {
         Ok(())
     } else {
-        Err(io::ErrorKind::WriteZero.into())
+        Err(ErrorKind::WriteZero.into())
     }
 }
 
-/// An error of the system is a fault.
-fn fault(outcome: io::Result<()>) -> Result<(), Failed> {
-    outcome.map_err(|_| Failed)
-}
-
-impl<'a, R: Files> Disk for FileDisk<'a, R>
+impl<'a, R: Files, W: Watch> Disk for FileDisk<'a, R, W>
 where
     R::File: FileExt + OneHolder,
 {
@@ -179,40 +322,47 @@ where
     /// One call of the system for all of them, where it gives as much as it is asked for.
     fn read_blocks(&mut self, first: u64, out: &mut [Block]) -> Result<(), Failed> {
         let outcome = match self.take_file() {
-            Ok(file) => {
+            Ok(Some(file)) => {
                 let offset = first * BLOCK_SIZE as u64;
                 let outcome = read_whole(&file, offset, out.as_flattened_mut());
                 self.file = Some(file);
                 outcome
             }
+            Ok(None) => {
+                out.as_flattened_mut().fill(0);
+                Ok(0)
+            }
             Err(e) => Err(e),
         };
-        counted(fault(outcome), &mut self.count)
+        let whole = outcome.map(|bytes| bytes / BLOCK_SIZE);
+        self.read_ended(whole, first, out.len())
     }
 
     /// One call of the system for all of them.
     fn write_blocks(&mut self, first: u64, from: &[Block]) -> Result<(), Failed> {
         let outcome = match self.take_file() {
-            Ok(file) => {
+            Ok(Some(file)) => {
                 let offset = first * BLOCK_SIZE as u64;
                 let outcome = write_whole(&file, offset, from.as_flattened());
                 self.file = Some(file);
                 outcome
             }
+            Ok(None) => Err(ErrorKind::NotFound.into()),
             Err(e) => Err(e),
         };
-        counted(fault(outcome), &mut self.count)
+        self.write_ended(outcome, Some(first), from.len())
     }
 
     fn sync(&mut self) -> Result<(), Failed> {
         let outcome = match self.take_file() {
-            Ok(file) => {
+            Ok(Some(file)) => {
                 let outcome = file.sync_data();
                 self.file = Some(file);
                 outcome
             }
+            Ok(None) => Err(ErrorKind::NotFound.into()),
             Err(e) => Err(e),
         };
-        counted(fault(outcome), &mut self.count)
+        self.write_ended(outcome, None, 0)
     }
 }

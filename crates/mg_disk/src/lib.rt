@@ -16,6 +16,7 @@ mod file;
 mod fuse;
 mod memory;
 mod scratch;
+mod watching;
 
 pub use disk::{BLOCK_SIZE, Block, COPY_BLOCKS, Disk};
 pub use file::{FileDisk, OneHolder};
@@ -23,3 +24,4 @@ pub use fuse::Fuse;
 pub use memory::{Counts, Left, MemDisk};
 pub use mg_faults::Failed;
 pub use scratch::ScratchDisk;
+pub use watching::{FileFault, Unwatched, Watch};
