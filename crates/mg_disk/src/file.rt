@@ -194,8 +194,9 @@ where
     {
         match outcome {
             Ok(()) => {
-                if let Some(first) = block {
-                    self.watch.wrote(first, count);
+                match block {
+                    Some(first) => self.watch.wrote(first, count),
+                    None => self.watch.synced(),
                 }
                 Ok(())
             }

@@ -35,6 +35,9 @@ pub trait Watch {
 
     /// Blocks were written, so many, the first of them this one.
     fn wrote(&mut self, first: u64, count: usize);
+
+    /// What was written is on the medium.
+    fn synced(&mut self);
 }
 
 /// Watches nothing.
@@ -47,4 +50,6 @@ impl Watch for Unwatched {
     fn write_failed(&mut self, _: &FileFault) {}
 
     fn wrote(&mut self, _: u64, _: usize) {}
+
+    fn synced(&mut self) {}
 }

@@ -4,7 +4,7 @@ ghost use Rattle.mg_faults.specs.Faults.{is_last};
 
 use super::traits::{Sink, Source};
 use mg_faults::{Failed, FaultCount};
-use std::io::{Read, Write};
+use std::io::{self, ErrorKind, Read, Write};
 
 /// A source over a reader. It tells what the reader tells: the bytes left of a reader in memory, nothing of a file or
 /// a stream.
@@ -12,6 +12,7 @@ use std::io::{Read, Write};
 pub struct ReaderSource<R> {
     reader: R,
     faults: FaultCount,
+    error: Option<io::Error>,
 }
 
 impl<R: Read> ReaderSource<R> {
@@ -24,7 +25,13 @@ impl<R: Read> ReaderSource<R> {
         ReaderSource {
             reader,
             faults: FaultCount::new(),
+            error: None,
         }
+    }
+
+    /// The first error of the reader; none while there was none.
+    pub fn error(&self) -> Option<&io::Error> {
+        self.error.as_ref()
     }
 }
 
@@ -39,7 +46,8 @@ impl<R: Read> Source for ReaderSource<R> {
     fn take(&mut self, into: &mut [u8]) -> Result<usize, Failed> {
         match self.reader.read(into) {
             Ok(count) => Ok(count),
-            Err(_) => {
+            Err(error) => {
+                keep(&mut self.error, error);
                 self.faults.raise();
                 Err(Failed)
             }
@@ -56,6 +64,7 @@ impl<R: Read> Source for ReaderSource<R> {
 pub struct WriterSink<W> {
     writer: W,
     faults: FaultCount,
+    error: Option<io::Error>,
 }
 
 impl<W: Write> WriterSink<W> {
@@ -68,7 +77,13 @@ impl<W: Write> WriterSink<W> {
         WriterSink {
             writer,
             faults: FaultCount::new(),
+            error: None,
         }
+    }
+
+    /// The first error of the writer; none while there was none. A write that took nothing is told as `WriteZero`.
+    pub fn error(&self) -> Option<&io::Error> {
+        self.error.as_ref()
     }
 }
 
@@ -84,10 +99,23 @@ impl<W: Write> Sink for WriterSink<W> {
     fn put(&mut self, from: &[u8]) -> Result<usize, Failed> {
         match self.writer.write(from) {
             Ok(count) if count > 0 || from.is_empty() => Ok(count),
-            Ok(_) | Err(_) => {
+            Ok(_) => {
+                keep(&mut self.error, ErrorKind::WriteZero.into());
+                self.faults.raise();
+                Err(Failed)
+            }
+            Err(error) => {
+                keep(&mut self.error, error);
                 self.faults.raise();
                 Err(Failed)
             }
         }
+    }
+}
+
+/// Keeps the first error.
+fn keep(first: &mut Option<io::Error>, error: io::Error) {
+    if first.is_none() {
+        *first = Some(error);
     }
 }

@@ -2,7 +2,7 @@
 //! [`mg_migrate_session::top_migrate`] where the words are `VOLUME migrate OLD`, and else to [`mg_session::top`].
 //!
 //! What it then does, and with which status it ends, is what these two ensure of the words, the disks, the source and the sink. The
-//! file OLD is opened for reading alone, and is not made where there is none.
+//! file of `check`, and OLD, are only read, and are not made where there are none. Why a command failed is told on standard error.
 //!
 //! Nothing is held back between them: a reply is written when its batch closes. That is at once under `run` with no BATCH or
 //! with BATCH 1, so that each reply is written before more input is waited for; otherwise up to 63 replies may wait for more
@@ -11,52 +11,89 @@
 
 ghost use Rattle.std.specs.Prelude.{◌≡◌, ◌<◌};
 
+mod telling;
+mod usage;
+
+use mg_console::{Notes, Task, tell_error, tell_fault, tell_volume, word, words_of};
 use mg_disk::{Disk, FileDisk, OneHolder};
 use mg_io::{ReaderSource, Sink, Source, WriterSink, standard_numbers};
 use mg_migrate_session::{is_migrate, top_migrate};
 use mg_model::Steps;
 use mg_session::{Status, top};
 use std::alloc::Global;
+use std::io::{Eprint, IsTerminal};
 use std::marker::Brand;
 use std::os::unix::fs::FileExt;
 use std::process::ExitCode;
-use std::rt::{Env, Files};
+use std::rt::Files;
 use std::sync::ledger::{Blank, Ledger};
-use std::{env, io};
+use telling::tell_status;
+
+/// The program's name.
+const NAME: &str = "mungi";
 
 /// The exit status where the program cannot have its words: one is no text, or memory is wanting; or the numbers of the standard
 /// streams, which a file must not get.
 const NO_WORDS: u8 = 9;
 
 fn main(rt: HostRuntime) -> ExitCode {
-    let Ok(_numbers) = standard_numbers(&rt) else {
-        return ExitCode::from(NO_WORDS);
-    };
-    let Ok(words) = words_of(&rt) else {
-        return ExitCode::from(NO_WORDS);
-    };
+    match standard_numbers(&rt) {
+        Ok(_numbers) => ExitCode::from(with_words(&rt)),
+        Err(error) => {
+            tell_error(&rt, NAME, "the standard streams", Some(&error));
+            ExitCode::from(NO_WORDS)
+        }
+    }
+}
+
+/// Has the words, and carries out what they ask for.
+fn with_words(rt: &HostRuntime) -> u8 {
+    match words_of(rt) {
+        Ok(words) => carried_out(rt, &words),
+        Err(error) => {
+            tell_error(rt, NAME, "the words", Some(&error));
+            NO_WORDS
+        }
+    }
+}
+
+/// Carries out what the words ask for, and tells why it ended so.
+fn carried_out(rt: &HostRuntime, words: &[String]) -> u8 {
     let mut source = ReaderSource::new(rt.stdin());
     let mut sink = WriterSink::new(rt.stdout());
-    let status = if is_migrate(&words) {
-        migrate(&rt, &words, &mut sink)
+    let status = if is_migrate(words) {
+        migrate(rt, words, &mut sink, rt.stderr().is_terminal())
     } else {
-        command(&rt, &words, &mut source, &mut sink)
+        command(rt, words, &mut source, &mut sink)
     };
-    ExitCode::from(status.code())
+    tell_status(rt, words, status, source.error(), sink.error());
+    status.code()
 }
 
 /// The migration of the volume in the file of the third word to that of the first one.
-fn migrate<R: Files + AllocGlobal, K: Sink>(rt: &R, words: &[String], sink: &mut K) -> Status
+fn migrate<R: Files + AllocGlobal + Eprint, K: Sink>(
+    rt: &R,
+    words: &[String],
+    sink: &mut K,
+    is_terminal: bool,
+) -> Status
 where
     R::File: FileExt + OneHolder,
 {
-    let mut new = FileDisk::new(rt, word(words, 0));
-    let mut old = FileDisk::reader(rt, word(words, 2));
-    top_migrate(rt.alloc(), words, &mut new, &mut old, sink)
+    let (path, old_path) = (word(words, 0), word(words, 2));
+    let notes = Notes::new(rt, NAME, path, Task::Copy, is_terminal);
+    let mut new = FileDisk::watched(rt, path, notes);
+    let mut old = FileDisk::reader(rt, old_path);
+    let status = top_migrate(rt.alloc(), words, &mut new, &mut old, sink);
+    if status == Status::Disk {
+        tell_fault(rt, NAME, path, new.fault());
+        tell_fault(rt, NAME, old_path, old.fault());
+    }
+    status
 }
 
-/// Every other command, on the file of the first word.
-fn command<R: Files + AllocGlobal, S: Source, K: Sink>(
+/// Every other command, on the file of the first word. `check` only reads it.
+fn command<R: Files + AllocGlobal + Eprint, S: Source, K: Sink>(
     rt: &R,
     words: &[String],
     source: &mut S,
@@ -65,21 +102,18 @@ fn command<R: Files + AllocGlobal, S: Source, K: Sink>(
 where
     R::File: FileExt + OneHolder,
 {
-    let mut disk = FileDisk::new(rt, word(words, 0));
-    run::<_, _, _, Brand>(rt.alloc(), words, &mut disk, source, sink, Blank::new(1))
-}
-
-/// The words behind the program's name.
-fn words_of<R: Env + AllocGlobal>(rt: &R) -> io::Result<Vec<String>> {
-    Ok(env::args(rt)?.skip(1).collect(rt.alloc())?)
-}
-
-/// The word at that place, or the empty one where there is none.
-fn word(words: &[String], place: usize) -> &str {
-    match words.get(place) {
-        Some(word) => word.as_str(),
-        None => "",
+    let path = word(words, 0);
+    let mut disk = if word(words, 1) == "check" {
+        FileDisk::reader(rt, path)
+    } else {
+        FileDisk::new(rt, path)
+    };
+    let status = run::<_, _, _, Brand>(rt.alloc(), words, &mut disk, source, sink, Blank::new(1));
+    if status == Status::Disk {
+        tell_fault(rt, NAME, path, disk.fault());
     }
+    tell_volume(rt, NAME, path, &mut disk, status == Status::NoVolume);
+    status
 }
 
 /// The top call, with a count of steps of its own.

@@ -5,26 +5,27 @@
 #![tactic(auto)]
 
 use mg_asm_session::top;
+use mg_console::{tell_error, words_of};
 use mg_io::{ReaderSource, WriterSink};
 use std::process::ExitCode;
-use std::rt::Env;
-use std::{env, io};
 
 /// The exit status where the program cannot have its words: one is no text, or memory is wanting.
 const NO_WORDS: u8 = 9;
 
 fn main(rt: HostRuntime) -> ExitCode {
-    let Ok(words) = words_of(&rt) else {
-        return ExitCode::from(NO_WORDS);
-    };
+    match words_of(&rt) {
+        Ok(words) => ExitCode::from(carried_out(&rt, &words)),
+        Err(error) => {
+            tell_error(&rt, "mungi_asm", "the words", Some(&error));
+            ExitCode::from(NO_WORDS)
+        }
+    }
+}
+
+/// Carries out what the words ask for.
+fn carried_out(rt: &HostRuntime, words: &[String]) -> u8 {
     let mut source = ReaderSource::new(rt.stdin());
     let mut out = WriterSink::new(rt.stdout());
     let mut err = WriterSink::new(rt.stderr());
-    let status = top(rt.alloc(), &words, &mut source, &mut out, &mut err);
-    ExitCode::from(status.code())
-}
-
-/// The words behind the program's name.
-fn words_of<R: Env + AllocGlobal>(rt: &R) -> io::Result<Vec<String>> {
-    Ok(env::args(rt)?.skip(1).collect(rt.alloc())?)
+    top(rt.alloc(), words, &mut source, &mut out, &mut err).code()
 }

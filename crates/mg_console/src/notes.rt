@@ -1,0 +1,112 @@
+// What is told while a command runs.
+use mg_disk::{FileFault, Watch};
+use std::io::Eprint;
+
+/// How many blocks are written between two lines that say how far a copy is: 8 MiB.
+const STEP: u64 = 2048;
+
+/// What a file is for, which says what is told of it while a command runs.
+#[derive(Clone, Copy, Debug, PartialEq, Eq)]
+pub enum Task {
+    /// A volume of its own. Its first fault ends the command, and is told then.
+    Volume,
+    /// A volume that is made by copying another one.
+    Copy,
+    /// A side of a mirror. The command goes on where it fails.
+    Side,
+}
+
+/// Notes on one file, on standard error.
+///
+/// Of a side of a mirror the first read and the first write that fail are told at once; after that write the side is dropped. Of a
+/// copy and of a side a line says how many bytes were copied, where standard error is a terminal; it is written over, and goes
+/// with the first sync.
+#[derive(Drop)]
+pub struct Notes<'a, R: Eprint> {
+    rt: &'a R,
+    program: &'static str,
+    path: &'a str,
+    task: Task,
+    is_terminal: bool,
+    // Whether a read, and a write, was told to have failed.
+    read_told: bool,
+    write_told: bool,
+    // The blocks that were copied, how many of them the line on the terminal counts, and whether there is one.
+    copied: u64,
+    shown: u64,
+    is_shown: bool,
+}
+
+impl<'a, R: Eprint> Notes<'a, R> {
+    /// Notes of this program on the file at `path`.
+    pub fn new(
+        rt: &'a R,
+        program: &'static str,
+        path: &'a str,
+        task: Task,
+        is_terminal: bool,
+    ) -> Notes<'a, R> {
+        Notes {
+            rt,
+            program,
+            path,
+            task,
+            is_terminal,
+            read_told: false,
+            write_told: false,
+            copied: 0,
+            shown: 0,
+            is_shown: false,
+        }
+    }
+
+    /// Takes the line on the terminal away.
+    fn clear(&mut self) {
+        if self.is_shown {
+            let _ = eprint!(self.rt; "\r\x1b[K");
+            self.is_shown = false;
+        }
+    }
+
+    fn show(&mut self) {
+        let (program, path, megabytes) = (self.program, self.path, self.copied / 256);
+        let _ = eprint!(self.rt; "\r{program}: {path}: {megabytes} MiB copied\x1b[K");
+        self.is_shown = true;
+        self.shown = self.copied;
+    }
+}
+
+impl<'a, R: Eprint> Watch for Notes<'a, R> {
+    fn read_failed(&mut self, fault: &FileFault) {
+        self.clear();
+        if self.task == Task::Side && !self.read_told {
+            let (program, path) = (self.program, self.path);
+            let _ = eprintln!(self.rt; "{program}: {path}: a read failed: {fault}");
+            self.read_told = true;
+        }
+    }
+
+    fn write_failed(&mut self, fault: &FileFault) {
+        self.clear();
+        if self.task == Task::Side && !self.write_told {
+            let (program, path) = (self.program, self.path);
+            let _ = eprintln!(self.rt; "{program}: {path}: {fault}; this side is dropped");
+            self.write_told = true;
+        }
+    }
+
+    fn wrote(&mut self, _: u64, count: usize) {
+        // Only a copy writes blocks together.
+        if !self.is_terminal || self.task == Task::Volume || count < 2 {
+            return;
+        }
+        self.copied = self.copied.saturating_add(count as u64);
+        if self.copied.saturating_sub(self.shown) >= STEP {
+            self.show();
+        }
+    }
+
+    fn synced(&mut self) {
+        self.clear();
+    }
+}

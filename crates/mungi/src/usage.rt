@@ -1,0 +1,136 @@
+// Which word is at fault where the words spell no command.
+use crate::NAME;
+use crate::telling::tell;
+use mg_text::read_number;
+use std::io::Eprint;
+
+/// What the program can be asked.
+const SYNOPSIS: [&str; 6] = [
+    "usage: mungi VOLUME dry FRAMES SEED CREDITS",
+    "       mungi VOLUME format FRAMES SEED CREDITS [F:R F:R F:R F:R]",
+    "       mungi VOLUME check",
+    "       mungi VOLUME run [BATCH]",
+    "       mungi VOLUME migrate OLD",
+    "       mungi VOLUME gen NUMBER LINES",
+];
+
+/// How many digits a seed has.
+const DIGITS: usize = 64;
+
+/// Tells what the program can be asked, and which word is at fault where one can be named.
+pub(crate) fn tell_usage<R: Eprint>(rt: &R, words: &[String]) {
+    for line in SYNOPSIS {
+        let _ = eprintln!(rt; "{line}");
+    }
+    match words.split_first() {
+        None => tell(rt, "no VOLUME is given"),
+        Some((_, rest)) => match rest.split_first() {
+            None => tell(rt, "no command is given"),
+            Some((command, rest)) => tell_command(rt, command.as_str(), rest),
+        },
+    }
+}
+
+/// Tells what is at fault of a command with these words behind it.
+fn tell_command<R: Eprint>(rt: &R, command: &str, rest: &[String]) {
+    if command == "dry" {
+        tell_settings(rt, rest, false);
+    } else if command == "format" {
+        tell_settings(rt, rest, true);
+    } else if command == "check" {
+        tell(rt, "check has no word behind it");
+    } else if command == "run" {
+        tell_batch(rt, rest);
+    } else if command == "migrate" {
+        tell(
+            rt,
+            "migrate has one word behind it, OLD, and OLD is not VOLUME",
+        );
+    } else if command == "gen" {
+        tell_run(rt, rest);
+    } else {
+        let _ = eprintln!(rt; "{NAME}: {command} is no command");
+    }
+}
+
+/// Tells what is at fault of the words behind `run`.
+fn tell_batch<R: Eprint>(rt: &R, rest: &[String]) {
+    match rest {
+        [batch] => {
+            let _ = is_told(rt, "BATCH", batch.as_str(), 1, 64);
+        }
+        _ => tell(rt, "run has at most one word behind it, BATCH"),
+    }
+}
+
+/// Tells what is at fault of the words behind `gen`.
+fn tell_run<R: Eprint>(rt: &R, rest: &[String]) {
+    match rest {
+        [number, lines] => {
+            if !is_told(rt, "NUMBER", number.as_str(), 0, u64::MAX) {
+                let _ = is_told(rt, "LINES", lines.as_str(), 0, 1_000_000);
+            }
+        }
+        _ => tell(rt, "gen has two words behind it, NUMBER and LINES"),
+    }
+}
+
+/// Tells what is at fault of the words behind `dry` or `format`.
+fn tell_settings<R: Eprint>(rt: &R, rest: &[String], has_tariff: bool) {
+    match rest {
+        [frames, seed, credits] => {
+            let _ = is_setting_told(rt, frames.as_str(), seed.as_str(), credits.as_str());
+        }
+        [frames, seed, credits, _, _, _, _] if has_tariff => {
+            if !is_setting_told(rt, frames.as_str(), seed.as_str(), credits.as_str()) {
+                tell(
+                    rt,
+                    "a tariff has four steps F:R, the first from 0 pages on, each from more than the one before; no number is above 1048576",
+                );
+            }
+        }
+        _ if has_tariff => tell(
+            rt,
+            "format has three words behind it, FRAMES SEED CREDITS, and then four steps F:R or none",
+        ),
+        _ => tell(rt, "dry has three words behind it, FRAMES SEED CREDITS"),
+    }
+}
+
+/// Whether one of these is at fault, which is then told.
+fn is_setting_told<R: Eprint>(rt: &R, frames: &str, seed: &str, credits: &str) -> bool {
+    is_told(rt, "FRAMES", frames, 16, 65_536)
+        || is_seed_told(rt, seed)
+        || is_told(rt, "CREDITS", credits, 0, 1 << 62)
+}
+
+/// Whether a seed is at fault, which is then told.
+fn is_seed_told<R: Eprint>(rt: &R, seed: &str) -> bool {
+    let digits = seed.len();
+    if digits != DIGITS {
+        let _ = eprintln!(rt; "{NAME}: SEED has {digits} digits, {DIGITS} are wanted");
+        return true;
+    }
+    if !seed.as_bytes().iter().all(|byte| byte.is_ascii_hexdigit()) {
+        tell(rt, "SEED has a character that is no hexadecimal digit");
+        return true;
+    }
+    false
+}
+
+/// Whether a number is at fault, which is then told: no number, or outside these two.
+fn is_told<R: Eprint>(rt: &R, name: &str, word: &str, least: u64, most: u64) -> bool {
+    match read_number(word.as_bytes()) {
+        None => {
+            let _ = eprintln!(rt; "{NAME}: {name} is no number: {word}");
+            true
+        }
+        Some(number) if number < least || number > most => {
+            let _ = eprintln!(rt;
+                "{NAME}: {name} is {number}, and has to be from {least} to {most}"
+            );
+            true
+        }
+        Some(_) => false,
+    }
+}
