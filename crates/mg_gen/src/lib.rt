@@ -13,6 +13,7 @@ mod machine;
 mod tally;
 mod writing;
 
+pub use drawing::draw;
 pub use laws::{counts_add_up, lines_are_calls, passwords_are_drawn};
 pub use lines::line;
 pub use machine::settings;

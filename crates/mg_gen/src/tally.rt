@@ -146,29 +146,3 @@ fn push_row(word: &[u8], n: u64, out: &mut ArrayVec<u8, 1024>)
     let _ = out.try_extend_from_slice(digits.format(n).as_bytes());
     out.push(b'\n');
 }
-
-#[cfg(test)]
-mod tests {
-    use super::*;
-
-    #[test]
-    fn counts(rt: HostRuntime) {
-        let mut tally = Tally::new();
-        tally.count(&Reply::Done);
-        tally.count(&Reply::No(Refusal::Idle));
-        tally.count(&Reply::Value(0));
-        tally.count(&Reply::No(Refusal::Past));
-        tally.count(&Reply::Count(1));
-        tally.count(&Reply::No(Refusal::Idle));
-        let mut out = ArrayVec::new();
-        tally.print(&mut out);
-        let front =
-            b"ok 3\nSyntax 0\nNoThread 0\nAlign 0\nDenied 0\nSize 0\nAccount 0\nDebt 0\nLimit 0\nFull 0\nNoPassword 0\nRange 0\n";
-        let back =
-            b"SlotFull 0\nNoSlot 0\nNoEntry 0\nDepth 0\nNoFrame 0\nNotYours 0\nNotReady 0\nIdle 2\nCredit 0\nCalendar 0\nPast 1\n";
-        let mut text: ArrayVec<u8, 1024> = ArrayVec::new();
-        let _ = text.try_extend_from_slice(front);
-        let _ = text.try_extend_from_slice(back);
-        assert_eq!(&rt; out.as_slice(), text.as_slice());
-    }
-}

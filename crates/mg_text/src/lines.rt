@@ -98,38 +98,3 @@ fn stands_alone(word: &[u8]) -> bool
 {
     is_word(word, b"next") || is_word(word, b"rent")
 }
-
-#[cfg(test)]
-mod tests {
-    use super::*;
-    use std::process::Abort;
-
-    const STORE: Call = Call::Store { a: 8, value: 15 };
-
-    fn spells(rt: &impl Abort, bytes: &[u8], thread: u64, call: Call) {
-        assert_eq!(rt; read_line(bytes), Some(Line { thread, call }));
-    }
-
-    #[test]
-    fn lines(rt: HostRuntime) {
-        let mut long = [b' '; 257];
-        long[..12].copy_from_slice(b"2 store 8 15");
-        spells(&rt, &long[..256], 2, STORE);
-        spells(&rt, &long, 0, Call::Bad);
-        spells(&rt, b"\t0x2  store\r8 0xF \r", 2, STORE);
-        spells(
-            &rt,
-            b"3 info 0x0000000100000000",
-            3,
-            Call::Info {
-                base: 4_294_967_296,
-            },
-        );
-        spells(&rt, b"1 load 8 8", 0, Call::Bad);
-        spells(&rt, b"1 load\0 8", 0, Call::Bad);
-        spells(&rt, b"18446744073709551616 load 8", 0, Call::Bad);
-        spells(&rt, b"1 rent", 0, Call::Bad);
-        assert_eq!(rt; read_line(b" # 1 load 8"), None);
-        assert_eq!(rt; read_line(b" \t\r"), None);
-    }
-}
