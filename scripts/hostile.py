@@ -9,6 +9,7 @@ Behind --program stands the program, which else is the one that the script mungi
 tried' and why, or with 'FAILED'; the status is 0 where no line is FAILED. docs/HOSTILE.md tells what each case shows.
 """
 import argparse
+import fcntl
 import os
 import random
 import resource
@@ -41,13 +42,13 @@ def not_tried(case, why):
 
 
 class Ended:
-    """A run that ended: its status, what it put, and how many bytes of its input it took."""
+    """A run that ended: its status, what it put, how many bytes of its input it took, and what it said on standard error."""
 
-    def __init__(self, status, put, took):
-        self.status, self.put, self.took = status, put, took
+    def __init__(self, status, put, took, said):
+        self.status, self.put, self.took, self.said = status, put, took, said
 
     def __str__(self):
-        return f"status {self.status}, put {self.put[:60]!r}, took {self.took}"
+        return f"status {self.status}, put {self.put[:60]!r}, took {self.took}, said {self.said[:120]!r}"
 
 
 def run(words, lines=b"", stdout=None, **more):
@@ -59,7 +60,17 @@ def run(words, lines=b"", stdout=None, **more):
         done = subprocess.run([PROGRAM, *words], stdin=source, stdout=sink if stdout is None else stdout, stderr=subprocess.PIPE, **more)
         took = os.lseek(source.fileno(), 0, os.SEEK_CUR)
         sink.seek(0)
-        return Ended(done.returncode, sink.read(), took)
+        return Ended(done.returncode, sink.read(), took, done.stderr)
+
+
+def as_nobody():
+    """What runs a command as somebody who may write no file here, or None where that somebody can't run the program."""
+    more = {"user": 65534} if os.geteuid() == 0 else {}
+    try:
+        subprocess.run([PROGRAM], stdin=subprocess.DEVNULL, capture_output=True, **more)
+    except OSError:
+        return None
+    return more
 
 
 def stores(first, count):
@@ -103,15 +114,25 @@ def untouched(ended, status):
     return (ended.status, ended.put, ended.took) == (status, b"", 0)
 
 
+def told(ended, path, what):
+    """Whether nothing was done, at status 4, and one line on standard error says of which file and why."""
+    line = f"mungi: {path}: {what}".encode()
+    return untouched(ended, 4) and ended.said.startswith(line) and ended.said.count(b"\n") == 1
+
+
 # Files
 
 def file_cases(folder):
     lines = stores(1, 600)
 
     ended = run([folder, "run"], lines)
-    tell(untouched(ended, 4), "the volume is a folder", str(ended))
+    tell(told(ended, folder, "Is a directory"), "the volume is a folder", str(ended))
     ended = run([folder + "/none/vol", "run"], lines)
-    tell(untouched(ended, 4), "the folder of the volume is missing", str(ended))
+    tell(told(ended, folder + "/none/vol", "No such file or directory"), "the folder of the volume is missing", str(ended))
+
+    path = folder + "/nothing"
+    ended = run([path, "check"])
+    tell((ended.status, ended.put, os.path.exists(path)) == (2, b"open not\n", False), "check where there is no file", str(ended))
 
     path = folder + "/new"
     ended = run([path, "run"], lines)
@@ -125,14 +146,37 @@ def file_cases(folder):
         same = Path(volume).read_bytes() == before
         tell((ended.status, ended.put, ended.took, same) == (2, put, 0, True), f"the file is cut to {blocks} blocks", str(ended))
 
+    volume = fresh(folder, "cut")
+    os.truncate(volume, 4096 * 2000)
+    ended = run([volume, "check"])
+    tell(ended.status == 0 and b"it was cut short" in ended.said, "check of a file that ends before its frame table", str(ended))
+
     volume = fresh(folder, "readonly")
     os.chmod(volume, 0o444)
     os.chmod(folder, 0o755)
-    if os.geteuid() == 0:
-        ended = run([volume, "run"], lines, user=65534)
-    else:
-        ended = run([volume, "run"], lines)
-    tell(untouched(ended, 4), "the file may not be written", str(ended))
+    nobody = as_nobody()
+    if nobody is None:
+        not_tried("the file may not be written", "the program can't be run by the user nobody")
+        return
+    ended = run([volume, "run"], lines, **nobody)
+    tell(told(ended, volume, "Permission denied"), "the file may not be written", str(ended))
+    ended = run([volume, "check"], **nobody)
+    tell((ended.status, ended.put) == (0, FRESH), "check of a file that may not be written", str(ended))
+
+
+def maker_cases(folder):
+    def made(*words):
+        return subprocess.run([str(TOP / "scripts/new_volume"), *words], capture_output=True, env=dict(os.environ, MUNGI=PROGRAM))
+
+    path = folder + "/made"
+    done = made(path, "64", "1000")
+    mode = os.stat(path).st_mode & 0o777 if os.path.exists(path) else None
+    tell(done.returncode == 0 and mode == 0o600 and run([path, "check"]).put == FRESH, "new_volume makes a volume", f"mode {mode and oct(mode)}")
+    before = Path(path).read_bytes()
+    done = made(path, "64", "1000")
+    tell(done.returncode == 1 and Path(path).read_bytes() == before, "new_volume where there is a file", done.stderr.decode().strip())
+    done = made(folder + "/few", "15", "1000")
+    tell(done.returncode == 1 and not os.path.exists(folder + "/few"), "new_volume with words that format refuses", f"status {done.returncode}")
 
 
 def limit_cases(folder):
@@ -224,7 +268,7 @@ def two_cases(folder):
     assert first.stdout.readline() == b"ok\n"
     for command in (["run"], ["check"], ["format", "64", SEED, "1000"]):
         ended = run([volume, *command], stores(1, 600))
-        tell(untouched(ended, 4), f"{command[0]} while another run has the file", str(ended))
+        tell(told(ended, volume, "another run holds it"), f"{command[0]} while another run has the file", str(ended))
     os.symlink(volume, folder + "/other")
     ended = run([folder + "/other", "run"], stores(1, 600))
     tell(untouched(ended, 4), "run by another name while another run has the file", str(ended))
@@ -235,6 +279,10 @@ def two_cases(folder):
     good = good and first.wait() == 0
     ended = run([volume, "check"])
     tell(good and held(volume, 1, 2) == 2 and ended.status == 0, "the first run goes on, and its file is free afterwards", str(ended))
+    with open(volume, "rb") as reader:
+        fcntl.flock(reader, fcntl.LOCK_SH)
+        ended, other = run([volume, "check"]), run([volume, "run"], stores(1, 600))
+    tell(ended.status == 0 and told(other, volume, "another run holds it"), "check, and run, while somebody reads the file", f"{ended}; {other}")
 
 
 # Migration
@@ -248,12 +296,20 @@ def migrate_cases(folder):
 
     os.chmod(old, 0o444)
     os.chmod(folder, 0o777)
-    ended = run([new, "migrate", old], **({"user": 65534} if os.geteuid() == 0 else {}))
-    good = (ended.status, ended.put, Path(old).read_bytes() == before) == (0, FRESH, True)
-    tell(good and held(new, 1, 300) == 300, "a volume of version 1 in a file that may not be written is migrated", str(ended))
+    nobody = as_nobody()
+    if nobody is None:
+        not_tried("a volume of version 1 in a file that may not be written", "the program can't be run by the user nobody")
+    else:
+        ended = run([new, "migrate", old], **nobody)
+        good = (ended.status, ended.put, Path(old).read_bytes() == before) == (0, FRESH, True)
+        tell(good and held(new, 1, 300) == 300, "a volume of version 1 in a file that may not be written is migrated", str(ended))
+
+    ended = run([old, "check"])
+    tell((ended.status, ended.put, b"migrate" in ended.said) == (2, b"open old\n", True), "check of a volume of version 1", str(ended))
 
     ended, none = run([folder + "/no1", "migrate", folder + "/no2"]), (folder + "/no1", folder + "/no2")
-    tell(untouched(ended, 4) and not any(map(os.path.exists, none)), "OLD is missing", str(ended))
+    good = (ended.status, ended.put) == (2, b"open not\n")
+    tell(good and not any(map(os.path.exists, none)), "OLD is missing", str(ended))
 
     os.symlink(old, folder + "/alias")
     ended = run([folder + "/alias", "migrate", old])
@@ -279,6 +335,9 @@ def migrate_cases(folder):
             put = b"words are lost"
         left[put] = left.get(put, 0) + 1
         os.remove(path)
+    if set(left) == {b"open not\n"}:
+        not_tried("40 kills of a migration", "none had copied the volume when it was killed")
+        return
     tell(set(left) <= {b"open not\n", FRESH} and Path(old).read_bytes() == before, "40 kills of a migration", str(left))
 
 
@@ -310,7 +369,11 @@ def kill_cases(folder, runs):
                 break
             counts.append(answers)
             first = k + 1
-    tell(lost == 0, f"{len(counts)} kills of {runs} volumes", f"{min(counts)} to {max(counts)} answers before a kill, {lost} lost")
+    case = f"{len(counts)} kills of {runs} volumes"
+    if lost == 0 and sum(counts) == 0:
+        not_tried(case, "no run had answered a line when it was killed")
+        return
+    tell(lost == 0, case, f"{min(counts, default=0)} to {max(counts, default=0)} answers before a kill, {lost} lost")
 
 
 # Memory
@@ -366,7 +429,12 @@ def refused_cases(folder, shim, command, lines):
         if not (ended.status in (3, 9) and ended.put == b"" and ended.took == 0 and run([volume, "check"]).put == FRESH):
             wrong += 1
             print(f"            allocation {number}: {ended}", flush=True)
-    tell(wrong == 0 and ample.status == 0, "each allocation refused under " + " ".join(command[:2]), f"{number} tried, statuses {statuses}")
+    case = "each allocation refused under " + " ".join(command[:2])
+    if wrong == 0 and not statuses.keys() & {3, 9}:
+        # (a program that is linked with no shared C library, say, never calls what would refuse)
+        not_tried(case, "no allocation was refused")
+        return
+    tell(wrong == 0 and ample.status == 0, case, f"{number} tried, statuses {statuses}")
 
 
 def main():
@@ -382,7 +450,7 @@ def main():
     PROGRAM = os.path.abspath(words.program)
     with tempfile.TemporaryDirectory() as folder:
         if words.kind == "files":
-            for cases in (file_cases, limit_cases, full_cases, stream_cases, two_cases, migrate_cases):
+            for cases in (file_cases, maker_cases, limit_cases, full_cases, stream_cases, two_cases, migrate_cases):
                 cases(folder)
         elif words.kind == "kill":
             kill_cases(folder, words.runs)
