@@ -2,7 +2,7 @@
 use crate::names::Name;
 
 /// What a line asks for.
-#[derive(Clone, Copy, Debug, PartialEq, Eq)]
+#[derive(Clone, Copy)]
 pub enum Item {
     /// Nothing: it has no words.
     Blank,

@@ -10,7 +10,7 @@ use mg_script::decode;
 use std::alloc::{AllocError, Global};
 
 /// An operand, as it is printed.
-#[derive(Clone, Copy, Debug, PartialEq, Eq)]
+#[derive(Clone, Copy)]
 pub(crate) enum Operand {
     /// A number.
     Plain(u64),

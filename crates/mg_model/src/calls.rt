@@ -2,7 +2,7 @@
 use crate::rights::Rights;
 
 /// A system call with its arguments, in the order of the table of calls. Addresses, passwords and words are 64 bits.
-#[derive(Clone, Copy, Debug, PartialEq, Eq)]
+#[derive(Clone, Copy, PartialEq, Eq)]
 pub enum Call {
     Load {
         a: u64,
@@ -90,7 +90,7 @@ pub enum Call {
 }
 
 /// One line of a call file: a call, and the thread that makes it.
-#[derive(Clone, Copy, Debug, PartialEq, Eq)]
+#[derive(Clone, Copy, PartialEq, Eq)]
 pub struct Line {
     /// The thread's number; 0 for `Next`, `Rent` and `Bad`, which name none.
     pub thread: u64,

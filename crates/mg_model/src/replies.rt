@@ -39,7 +39,7 @@ pub enum After {
 }
 
 /// The answer to a line.
-#[derive(Clone, Copy, Debug, PartialEq, Eq)]
+#[derive(Clone, Copy, PartialEq, Eq)]
 pub enum Reply {
     No(Refusal),
     /// Ok, with no value.

@@ -10,7 +10,7 @@ ghost use Rattle.mg_script.specs.Encoded.{HasRegisters};
 use mg_model::{Instr, ThrRow, ThrState};
 
 /// What an instruction asks of the machine. But for `Next` the thread's row is to be the one with its pc advanced.
-#[derive(Clone, Copy, Debug, PartialEq, Eq)]
+#[derive(Clone, Copy)]
 pub enum Action {
     /// Nothing: this is the thread's row after the turn.
     Next(ThrRow),

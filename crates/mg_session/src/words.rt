@@ -10,7 +10,7 @@ use mg_text::{digit, read_number};
 const LINE_LIMIT: u64 = 1_000_000;
 
 /// What the program is asked to do.
-#[derive(Clone, Copy, Debug, PartialEq, Eq)]
+#[derive(Clone, Copy, PartialEq, Eq)]
 pub enum Command {
     /// Run the lines of the input on a fresh machine that is kept nowhere.
     Dry(Params),
