@@ -1,12 +1,11 @@
--- How a copy goes on, run by run, and what two sides tell after it.
-use Rattle.std.specs.Prelude.{◌≡◌, ◌<◌, ◌≤◌, ◌+◌, ◌-◌, [], ℕ, length, take, Option, Some, None}
+-- How a copy goes on, run by run.
+use Rattle.std.specs.Prelude.{◌≡◌, ◌<◌, ◌≤◌, ◌+◌, ◌-◌, [], ℕ, length, min, take, Option, Some, None}
 use Rattle.std.specs.Option.{ForSome}
 use Rattle.std.proofs.Common.{refl, sym, ap, subst, ◌∙◌, ⊎_elim, arith}
 use Rattle.std.proofs.lemmas.Bool.{cases_lt}
 use Rattle.std.proofs.lemmas.List.{ext_get_or, get_or-take, length-take-le}
 use Rattle.mg_disk.specs.Disk.{HasBlocks, Image, InRange, SameBut, SeenBut, block_at}
 use Rattle.mg_mirror.specs.Copy.{IsCopied}
-use Rattle.mg_mirror.specs.Mirror.{told_cut}
 
 -- images whose first n blocks are the same, block by block
 same_read : (n : ℕ) (x y : Image) → take n y ≡ take n x → (k : ℕ) → k < n → block_at y k ≡ block_at x k
@@ -42,18 +41,15 @@ module _ (n count : ℕ) (blocks : Image) (is : length blocks ≡ count) where
       let the_same : y' ≡ y = cc in
       subst P the_same (same_taken (n + count) x y' (from_long x was) (to_long y' refl) (one_of x z y' (read x was) (put y' refl) same (so_far x was z refl)))
 
+-- the first blocks of a disk, which were read before, are written to the other
+pub copied_first : (blocks : ℕ) (first : Image) (from to to' : Option Image) → length first ≤ blocks → ForSome from (λ x. length first ≤ length x) → ForSome to' (λ y. length first ≤ length y)
+    → ForSome from (HasBlocks 0 first) → ForSome to' (HasBlocks 0 first) → SeenBut (InRange 0 (length first)) to to' → IsCopied (min (length first) blocks) from to'
+copied_first blocks first from to to' few from_long to_long read put same =
+    let none : 0 + length first ≡ min (length first) blocks = omega arith in
+    subst (λ n. IsCopied n from to') none
+    (copied_run 0 (length first) first refl from to to' (λ x was. let h = from_long x was in omega arith) (λ y told. let h = to_long y told in omega arith) read put same (λ x was y told. refl))
+
 -- what was copied of a disk that gives what it gave
 pub copied_on : (a b c d : ℕ) (was from to to' : Option Image) → from ≡ was → a ≡ b → c ≡ d → (IsCopied b from to → IsCopied c from to') → IsCopied a was to → IsCopied d was to'
 copied_on a b c d was from to to' same is is' step so_far =
     subst (λ n. IsCopied n was to') is' (subst (λ o. IsCopied c o to') same (step (subst (λ n. IsCopied n from to) is (subst (λ o. IsCopied a o to) (sym same) so_far))))
-
--- so both sides give the same
-pub copied_same : (n : ℕ) (l r : Option Image) → IsCopied n l r → told_cut n l r ≡ told_cut n r l
-copied_same n (Some x) (Some y) copied = ap (λ z. Some z) (sym (copied x refl y refl))
-copied_same n (Some x) None copied = refl
-copied_same n None (Some y) copied = refl
-copied_same n None None copied = refl
-
--- and the first still tells what it told
-pub copied_still : (n : ℕ) (l l' r : Option Image) → l' ≡ l → IsCopied n l r → told_cut n l' r ≡ told_cut n r l'
-copied_still n l l' r is copied = ap (λ o. told_cut n o r) is ∙ copied_same n l r copied ∙ ap (λ o. told_cut n r o) (sym is)

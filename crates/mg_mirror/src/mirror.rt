@@ -1,8 +1,8 @@
 // One disk of two.
-ghost use Rattle.std.specs.Prelude.{◌≡◌, ◌≢◌, ◌<◌, ◌≤◌, ℕ, min, Some, ◌&&◌, None, take, option_map, slice_set, IfOk, IfErr, OnOk, OnErr};
+ghost use Rattle.std.specs.Prelude.{◌≡◌, ◌≢◌, ◌<◌, ◌≤◌, ℕ, min, Some, ◌&&◌, None, take, option_map, slice_set, length, IfOk, IfErr, OnOk, OnErr};
 ghost use Rattle.std.specs.Option.{ForSome};
 ghost use Rattle.mg_disk.specs.Stops.{NothingPending, WritesNothing, TimeGoes, CountGoes, CountRose};
-ghost use Rattle.mg_disk.specs.Disk.{SeenBut, Torn, block_at, no_image, only_place};
+ghost use Rattle.mg_disk.specs.Disk.{HasBlocks, SeenBut, Torn, block_at, no_image, only_place};
 ghost use Rattle.mg_disk.specs.Calls.{IsWrite, IsSync};
 ghost use Rattle.mg_mirror.specs.Sides.{FailsWithSides, ReadsSides, DropsSides};
 ghost use Rattle.mg_mirror.specs.declared.mirror.Side.{Side};
@@ -11,7 +11,7 @@ ghost use Rattle.mg_faults.specs.Faults.{is_last};
 ghost use Rattle.mg_mirror.specs.Mirror.{seen_of, SameWhileBoth, moment_of, Been, LeftSince, seen_long, seen_bytes, and_left, and_right};
 ghost use Rattle.mg_mirror.specs.MirrorMoments.{been_now, counted_now, seen_stays};
 
-use crate::copy::copy_blocks;
+use crate::copy::copy_side;
 use mg_disk::{Block, Disk, Failed};
 use mg_faults::FaultCount;
 use std::marker::{Brand, PhantomData};
@@ -89,60 +89,44 @@ impl<D: Disk, E: Disk, K: Opened> Mirror<D, E, K> {
         ensures left_cause { from ≡ Side.Left → IfErr result (λ e. CountRose D.Disk left e.left) }
         ensures right_cause { from ≡ Side.Right → IfErr result (λ e. CountRose E.Disk right e.right) }
     {
-        match from {
-            Side::Left => Mirror::open_left(left, right),
-            Side::Right => Mirror::open_right(left, right),
-        }
+        Mirror::open_behind(left, right, from, &[])
     }
 
-    fn open_left(left: D, right: E) -> Result<Mirror<D, E, K>, MirrorFailed<D, E>>
-        requires left_faults { D.faults left ≡ K.left_faults }
-        requires right_faults { E.faults right ≡ K.right_faults }
-        ensures reads { IfOk result (λ m. ForSome (⟦<Mirror<D, E, K> as Disk>⟧.seen m) (λ image. ForSome (D.seen left) (λ x. image ≡ take (⟦<Mirror<D, E, K> as Disk>⟧.block_count m) x))) }
-        ensures settled { IfOk result (λ m. NothingPending D.Disk left → NothingPending ⟦<Mirror<D, E, K> as Disk>⟧ m) }
+    /// Opens a mirror as [`Mirror::open`] does, where the first blocks of the disk on the side `from` were read already. These are
+    /// written to the other one and not read again. `K` has the counts of both disks as they were then, or before.
+    pub fn open_behind(
+        left: D,
+        right: E,
+        from: Side,
+        first: &[Block],
+    ) -> Result<Mirror<D, E, K>, MirrorFailed<D, E>>
+        requires left_faults { K.left_faults ≤ D.faults left }
+        requires right_faults { K.right_faults ≤ E.faults right }
+        requires left_first { from ≡ Side.Left → ForSome (D.seen left) (HasBlocks 0 first.now) }
+        requires right_first { from ≡ Side.Right → ForSome (E.seen right) (HasBlocks 0 first.now) }
+        requires left_long { length first.now ≤ D.block_count left }
+        requires right_long { length first.now ≤ E.block_count right }
+        ensures left_reads { from ≡ Side.Left → IfOk result (λ m. ForSome (⟦<Mirror<D, E, K> as Disk>⟧.seen m) (λ image. ForSome (D.seen left) (λ x. image ≡ take (⟦<Mirror<D, E, K> as Disk>⟧.block_count m) x))) }
+        ensures right_reads { from ≡ Side.Right → IfOk result (λ m. ForSome (⟦<Mirror<D, E, K> as Disk>⟧.seen m) (λ image. ForSome (E.seen right) (λ x. image ≡ take (⟦<Mirror<D, E, K> as Disk>⟧.block_count m) x))) }
+        ensures left_settled { from ≡ Side.Left → IfOk result (λ m. NothingPending D.Disk left → NothingPending ⟦<Mirror<D, E, K> as Disk>⟧ m) }
+        ensures right_settled { from ≡ Side.Right → IfOk result (λ m. NothingPending E.Disk right → NothingPending ⟦<Mirror<D, E, K> as Disk>⟧ m) }
         ensures no_faults { IfOk result (λ m. ⟦<Mirror<D, E, K> as Disk>⟧.faults m ≡ 0) }
         ensures blocks { IfOk result (λ m. ⟦<Mirror<D, E, K> as Disk>⟧.block_count m ≡ min (D.block_count left) (E.block_count right)) }
         ensures tells { IfOk result (λ m. ⟦<Mirror<D, E, K> as Disk>⟧.tells_stops m ≡ (D.tells_stops left && E.tells_stops right)) }
-        ensures serves { IfOk result (λ m. m.alone ≢ Some Side.Right) }
-        ensures kept { IfOk result (λ m. WritesNothing D.Disk left m.left) }
-        ensures back { IfErr result (λ e. WritesNothing D.Disk left e.left) }
-        ensures cause { IfErr result (λ e. CountRose D.Disk left e.left) }
+        ensures left_serves { from ≡ Side.Left → IfOk result (λ m. m.alone ≢ Some Side.Right) }
+        ensures right_serves { from ≡ Side.Right → IfOk result (λ m. m.alone ≢ Some Side.Left) }
+        ensures left_kept { from ≡ Side.Left → IfOk result (λ m. WritesNothing D.Disk left m.left) }
+        ensures right_kept { from ≡ Side.Right → IfOk result (λ m. WritesNothing E.Disk right m.right) }
+        ensures left_back { from ≡ Side.Left → IfErr result (λ e. WritesNothing D.Disk left e.left) }
+        ensures right_back { from ≡ Side.Right → IfErr result (λ e. WritesNothing E.Disk right e.right) }
+        ensures left_cause { from ≡ Side.Left → IfErr result (λ e. CountRose D.Disk left e.left) }
+        ensures right_cause { from ≡ Side.Right → IfErr result (λ e. CountRose E.Disk right e.right) }
     {
         let (mut left, mut right) = (left, right);
         let blocks = left.blocks().min(right.blocks());
-        let alone = match copy_blocks(&mut left, &mut right, blocks) {
+        let alone = match copy_side(&mut left, &mut right, from, blocks, first) {
             Ok(true) => None,
-            Ok(false) => Some(Side::Left),
-            Err(_) => return Err(MirrorFailed { left, right }),
-        };
-        Ok(Mirror {
-            left,
-            right,
-            blocks,
-            alone,
-            count: FaultCount::new(),
-            of: PhantomData,
-        })
-    }
-
-    fn open_right(left: D, right: E) -> Result<Mirror<D, E, K>, MirrorFailed<D, E>>
-        requires left_faults { D.faults left ≡ K.left_faults }
-        requires right_faults { E.faults right ≡ K.right_faults }
-        ensures reads { IfOk result (λ m. ForSome (⟦<Mirror<D, E, K> as Disk>⟧.seen m) (λ image. ForSome (E.seen right) (λ x. image ≡ take (⟦<Mirror<D, E, K> as Disk>⟧.block_count m) x))) }
-        ensures settled { IfOk result (λ m. NothingPending E.Disk right → NothingPending ⟦<Mirror<D, E, K> as Disk>⟧ m) }
-        ensures no_faults { IfOk result (λ m. ⟦<Mirror<D, E, K> as Disk>⟧.faults m ≡ 0) }
-        ensures blocks { IfOk result (λ m. ⟦<Mirror<D, E, K> as Disk>⟧.block_count m ≡ min (D.block_count left) (E.block_count right)) }
-        ensures tells { IfOk result (λ m. ⟦<Mirror<D, E, K> as Disk>⟧.tells_stops m ≡ (D.tells_stops left && E.tells_stops right)) }
-        ensures serves { IfOk result (λ m. m.alone ≢ Some Side.Left) }
-        ensures kept { IfOk result (λ m. WritesNothing E.Disk right m.right) }
-        ensures back { IfErr result (λ e. WritesNothing E.Disk right e.right) }
-        ensures cause { IfErr result (λ e. CountRose E.Disk right e.right) }
-    {
-        let (mut left, mut right) = (left, right);
-        let blocks = left.blocks().min(right.blocks());
-        let alone = match copy_blocks(&mut right, &mut left, blocks) {
-            Ok(true) => None,
-            Ok(false) => Some(Side::Right),
+            Ok(false) => Some(from),
             Err(_) => return Err(MirrorFailed { left, right }),
         };
         Ok(Mirror {

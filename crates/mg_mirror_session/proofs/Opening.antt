@@ -1,10 +1,12 @@
 -- A mirror that was opened, as the promise speaks of it.
 use Rattle.std.specs.Prelude.{ℕ, ◌≡◌, ◌≢◌, ◌&&◌, Bool, true, false, IsTrue, min, take, option_map, Option, Some, None, IsSomeAnd}
 use Rattle.std.specs.Option.{ForSome}
-use Rattle.std.proofs.Common.{refl, ◌∙◌, ap}
+use Rattle.std.proofs.Common.{refl, sym, subst, ◌∙◌, ap}
 use Rattle.mg_disk.specs.Disk.{Image}
-use Rattle.mg_disk.specs.Stops.{NothingPending, WritesNothing}
+use Rattle.mg_disk.specs.Runs.{nothing_none, nothing_then, still_seen}
+use Rattle.mg_disk.specs.Stops.{CountGoes, NothingPending, WritesNothing}
 use Rattle.mg_disk.specs.declared.disk.Disk as disks
+use Rattle.mg_faults.specs.Faults.{count_none}
 use Rattle.mg_mirror.specs.Mirror.{and_left, and_right}
 use Rattle.mg_mirror.specs.MirrorMoments.{seen_stays}
 use Rattle.mg_mirror.specs.declared.mirror.Mirror.{Mirror}
@@ -70,3 +72,40 @@ module _ {D E : Type 0} (d : disks.Ghosts D) (e : disks.Ghosts E) (left_stays : 
           → IsTrue (d.tells_stops left) → IsTrue (e.tells_stops right) → (mirror d e).seen opened ≡ option_map (take opened.blocks) (seen_on d e from left right)
       reads Left on_left on_right l r = told_first opened.blocks ((mirror d e).seen opened) (d.seen left) _ _ (told l r) (left_stays left l) (on_left refl)
       reads Right on_left on_right l r = told_first opened.blocks ((mirror d e).seen opened) (e.seen right) _ _ (told l r) (right_stays right r) (on_right refl)
+
+-- a disk that was read, or left alone
+pub record OnlyRead {D : Type 0} (d : disks.Ghosts D) (old new : D) : Type 0 where
+  pub writes : WritesNothing d old new
+  pub blocks : d.block_count new ≡ d.block_count old
+  pub tells : d.tells_stops new ≡ d.tells_stops old
+  pub count : CountGoes d old new
+
+pub left_alone : {D : Type 0} (d : disks.Ghosts D) (old new : D) → d.has_been old (d.moment old) → new ≡ old → OnlyRead d old new
+left_alone d old new been same =
+    subst (OnlyRead d old) (sym same) (record { writes = nothing_none d old been; blocks = refl; tells = refl; count = count_none (d.faults old) (d.is_spent old) })
+
+-- A mirror of two disks of which one was read before it was opened.
+module _ {D E : Type 0} (d : disks.Ghosts D) (e : disks.Ghosts E) (left left' : D) (right right' : E) (on_left : OnlyRead d left left') (on_right : OnlyRead e right right') where
+  pub same_blocks : min (d.block_count left') (e.block_count right') ≡ min (d.block_count left) (e.block_count right)
+  same_blocks = ap (λ n. min n (e.block_count right')) on_left.blocks ∙ ap (min (d.block_count left)) on_right.blocks
+
+  pub same_seen : (from : Side) → seen_on d e from left' right' ≡ seen_on d e from left right
+  same_seen Left = on_left.writes.same
+  same_seen Right = on_right.writes.same
+
+  pub opened_since : (from : Side) (opened : Two D E) → IsOpenedFrom d e from left' right' opened → IsOpenedFrom d e from left right opened
+  opened_since from opened opens = record {
+    blocks = opens.blocks ∙ same_blocks;
+    reads = λ l r. opens.reads (on_left.tells ∙ l) (on_right.tells ∙ r) ∙ ap (option_map (take opened.blocks)) (same_seen from);
+    serves = opens.serves;
+    kept = kept from opens.kept;
+    settled = settled from opens.settled;
+  }
+    where
+      kept : (from : Side) → OfSide from (WritesNothing d left' opened.left) (WritesNothing e right' opened.right) → OfSide from (WritesNothing d left opened.left) (WritesNothing e right opened.right)
+      kept Left h = nothing_then d left left' opened.left on_left.writes h
+      kept Right h = nothing_then e right right' opened.right on_right.writes h
+
+      settled : (from : Side) → (OfSide from (NothingPending d left') (NothingPending e right') → NothingPending (mirror d e) opened) → OfSide from (NothingPending d left) (NothingPending e right) → NothingPending (mirror d e) opened
+      settled Left h pending = h (still_seen d left left' pending on_left.writes.same on_left.writes.stops)
+      settled Right h pending = h (still_seen e right right' pending on_right.writes.same on_right.writes.stops)

@@ -1,8 +1,9 @@
 -- A run over a mirror: what it keeps of the two disks.
-use Rattle.std.specs.Prelude.{ℕ, ◌≡◌, ◌≢◌, ◌<◌, ◌&&◌, Bool, true, false, IsTrue, List, Option, Some, None}
+use Rattle.std.specs.Prelude.{ℕ, ◌≡◌, ◌≢◌, ◌<◌, ◌&&◌, Bool, true, false, IsTrue, List, length, Option, Some, None}
+use Rattle.std.specs.Option.{ForSome}
 use Rattle.std.proofs.Common.{refl, sym, ap, subst, inl, inr, ⊎_elim, arith, zero, suc}
 use Rattle.mg_disk.specs.Disk.{Image, Moment}
-use Rattle.mg_disk.specs.Stops.{CountRose}
+use Rattle.mg_disk.specs.Stops.{CountRose, WritesNothing}
 use Rattle.mg_disk.specs.declared.disk.Disk as disks
 use Rattle.mg_faults.specs.Faults.{CountGoesOn, Rose, is_last, rose_then}
 use Rattle.mg_io.specs.declared.traits.Sink as sinks
@@ -13,8 +14,10 @@ use Rattle.mg_mirror.specs.declared.mirror.Side.{Side}
 use Rattle.mg_mirror.specs.declared.mirror.Side.TheVariants.{Left, Right}
 use Rattle.mg_mirror_session.proofs.Endings.{disk_ran, done_or_memory, ends_run, put_all, put_prefix, sink_failed}
 use Rattle.mg_mirror_session.proofs.Opening.{and_true, of_side}
+use Rattle.mg_mirror_session.proofs.Refusing.{of_side_too}
 use Rattle.mg_mirror_session.proofs.Through.{if_some_then, on_volume_then}
-use Rattle.mg_mirror_session.specs.Headline.{EndsWith, IsOpenedFrom, MirrorKeeps, RanOnMirror}
+use Rattle.mg_mirror_session.specs.Headline.{EndsWith, IsOpenedFrom, MirrorKeeps, RanOnMirror, seen_behind}
+use Rattle.mg_mirror_session.specs.Judged.{first_fault}
 use Rattle.mg_mirror_session.specs.Mirrored.{Two, mirror}
 use Rattle.mg_session.specs.Headline.{IsWithin, RunKeeps, input_limit}
 use Rattle.mg_session.specs.declared.status.Status.{Status}
@@ -66,10 +69,11 @@ module _ {D E S K : Type 0} (d : disks.Ghosts D) (e : disks.Ghosts E) (input : s
   both_failed : result ≡ status.Disk → CountRose d left closed.left × CountRose e right closed.right
   both_failed is = mirror_rose (keeps.disk_failed (disk_ran to ran closed.alone result replied sink' ends is))
 
-  ran_on_mirror : RanOnMirror d e input to from result closed.alone left closed.left right closed.right source source' sink sink' steps steps'
-  ran_on_mirror = record {
+  ran_on_mirror : ForSome (seen_behind d e from left right) (λ image. first_fault image ≡ None) → RanOnMirror d e input to from result closed.alone left closed.left right closed.right source source' sink sink' steps steps'
+  ran_on_mirror no_fault = record {
     opened = opened;
     opens = opens;
+    no_fault = no_fault;
     failed = closed.failed;
     closed = closed;
     closes = ap (λ (n : ℕ). record { left = closed.left; right = closed.right; blocks = n; alone = closed.alone; failed = closed.failed }) blocks;
@@ -89,10 +93,14 @@ module _ {D E S K : Type 0} (d : disks.Ghosts D) (e : disks.Ghosts E) (input : s
         (promise (λ rose. not_both (mirror_rose rose)) source_went (λ rose. sink_went (rose_then _ _ _ _ _ rose after)))) keeps.complete;
   }
 
-  pub mirror_keeps : (closed.alone ≡ Some Left → RoseFrom (e.faults right) (e.faults closed.right) (e.is_spent closed.right)) → (closed.alone ≡ Some Right → RoseFrom (d.faults left) (d.faults closed.left) (d.is_spent closed.left))
+  pub mirror_keeps : ForSome (d.seen left) (λ image. length image ≡ d.block_count left) → ForSome (e.seen right) (λ image. length image ≡ e.block_count right)
+      → ForSome (seen_behind d e from left right) (λ image. first_fault image ≡ None)
+      → (closed.alone ≡ Some Left → RoseFrom (e.faults right) (e.faults closed.right) (e.is_spent closed.right)) → (closed.alone ≡ Some Right → RoseFrom (d.faults left) (d.faults closed.left) (d.is_spent closed.left))
       → MirrorKeeps d e input to from result closed.alone left closed.left right closed.right source source' sink sink' steps steps'
-  mirror_keeps dropped_right dropped_left = record {
-    how = inr ran_on_mirror;
+  mirror_keeps left_count right_count no_fault dropped_right dropped_left = record {
+    how = inr (inr (ran_on_mirror no_fault));
+    side_judged = of_side_too d e from left right (WritesNothing d left closed.left × WritesNothing e right closed.right) left_count right_count (λ image told some. absurd (some (no_fault image told)));
+    judged = λ image told some. absurd (some (no_fault image told));
     which = ends_run to ran closed.alone result replied sink' ends keeps.which;
     disk_failed = λ is. of_side from _ _ (λ _. (both_failed is).0) (λ _. (both_failed is).1);
     right_failed = λ is. rose_from (e.faults right) (e.faults closed.right) (e.is_spent closed.right) (dropped_right is);

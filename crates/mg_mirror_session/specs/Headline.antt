@@ -1,6 +1,7 @@
 -- What a run over a mirror promises. An object that does not tell its content has None for it; a promise on content is then empty.
 use Rattle.std.specs.Prelude.{ℕ, ◌≡◌, ◌≢◌, ◌⊎◌, IsTrue, List, [], ◌∷◌, ◌++◌, codes, min, take, option_map, Option, Some, None, IfSome}
 use Rattle.std.specs.Io.KnownBytes.{Appends}
+use Rattle.std.specs.Option.{ForSome}
 use Rattle.mg_disk.specs.Disk.{Image}
 use Rattle.mg_disk.specs.Stops.{CountRose, NothingPending, WritesNothing}
 use Rattle.mg_disk.specs.declared.disk.Disk as disks
@@ -8,12 +9,15 @@ use Rattle.mg_faults.specs.Faults.{Rose}
 use Rattle.mg_io.specs.Known.{AppendsPrefix}
 use Rattle.mg_io.specs.declared.traits.Sink as sinks
 use Rattle.mg_io.specs.declared.traits.Source as sources
+use Rattle.mg_layout.specs.MayFormat.{IsNoState}
 use Rattle.mg_mirror.specs.Mirror.{CutOf}
 use Rattle.mg_mirror.specs.declared.mirror.Side.{Side}
 use Rattle.mg_mirror.specs.declared.mirror.Side.TheVariants.{Left, Right}
+use Rattle.mg_mirror_session.specs.Judged.{first_fault}
 use Rattle.mg_mirror_session.specs.Mirrored.{Two, mirror}
 use Rattle.mg_model.specs.Print.{text}
-use Rattle.mg_session.specs.Headline.{EndsRun, IsDoneOrMemory, IsWithin, OnVolume, RunKeeps, UsageKeeps, input_limit, replies}
+use Rattle.mg_model.specs.Volume.{VolumeRead, volume}
+use Rattle.mg_session.specs.Headline.{EndsRun, IsDoneOrMemory, IsWithin, OnVolume, RunKeeps, UsageKeeps, check_line, input_limit, replies}
 use Rattle.mg_session.specs.declared.status.Status.{Status}
 use Rattle.mg_session.specs.declared.status.Status.TheVariants as status
 
@@ -28,6 +32,10 @@ OfSide Right of_left of_right = of_right
 abbrev pub seen_on : {D E : Type 0} → disks.Ghosts D → disks.Ghosts E → Side → D → E → Option Image
 seen_on d e Left left right = d.seen left
 seen_on d e Right left right = e.seen right
+
+-- what reads of a mirror give that is opened from that side: that disk's first blocks, as many as the smaller disk has
+abbrev pub seen_behind : {D E : Type 0} → disks.Ghosts D → disks.Ghosts E → Side → D → E → Option Image
+seen_behind d e from left right = option_map (take (min (d.block_count left) (e.block_count right))) (seen_on d e from left right)
 
 -- The mirror
 
@@ -70,11 +78,29 @@ pub record IsNotOpened {D E S K : Type 0} (d : disks.Ghosts D) (e : disks.Ghosts
   pub kept : OfSide from (WritesNothing d left left') (WritesNothing e right right')
   pub nothing : (source' ≡ source) × (sink' ≡ sink) × (steps' ≡ steps)
 
+-- The first two blocks that the mirror was to have tell of no volume: no mirror, no write on either disk, nothing was taken, and the
+-- line of it was put.
+pub record IsRefused {D E S K : Type 0} (d : disks.Ghosts D) (e : disks.Ghosts E) (to : sinks.Ghosts K) (from : Side) (result : Status) (alone : Option Side) (left left' : D) (right right' : E) (source source' : S) (sink sink' : K) (steps steps' : ℕ) : Type 0 where
+  -- They tell of this kind of none, and the mirror would have held none of this kind.
+  pub kind : VolumeRead
+  pub fault : ForSome (seen_behind d e from left right) (λ image. first_fault image ≡ Some kind)
+  pub is : ForSome (seen_behind d e from left right) (λ image. volume image ≡ kind)
+  pub no_state : IsNoState kind
+  -- Its line was put, or the sink failed in it.
+  pub line : ((result ≡ status.NoVolume) × Appends (to.taken sink) (to.taken sink') (check_line kind))
+      ⊎ ((result ≡ status.Sink) × AppendsPrefix (to.taken sink) (to.taken sink') (check_line kind) × Rose (to.faults sink) (to.faults sink') (to.is_spent sink'))
+  pub none : alone ≡ None
+  -- SIDE's disk was read alone, and the other one was left alone.
+  pub kept : OfSide from (WritesNothing d left left' × (right' ≡ right)) (WritesNothing e right right' × (left' ≡ left))
+  pub nothing : (source' ≡ source) × (steps' ≡ steps)
+
 -- The lines ran on a mirror.
 pub record RanOnMirror {D E S K : Type 0} (d : disks.Ghosts D) (e : disks.Ghosts E) (input : sources.Ghosts S) (to : sinks.Ghosts K) (from : Side) (result : Status) (alone : Option Side) (left left' : D) (right right' : E) (source source' : S) (sink sink' : K) (steps steps' : ℕ) : Type 0 where
   -- The mirror as it was opened, and as it was at the end: its disks are those that are given back, and its side in use is the one that is told.
   pub opened : Two D E
   pub opens : IsOpenedFrom d e from left right opened
+  -- Its first two blocks told of no fault.
+  pub no_fault : ForSome (seen_behind d e from left right) (λ image. first_fault image ≡ None)
   pub failed : ℕ
   pub closed : Two D E
   pub closes : closed ≡ record { left = left'; right = right'; blocks = opened.blocks; alone = alone; failed = failed }
@@ -99,8 +125,13 @@ pub record RanOnMirror {D E S K : Type 0} (d : disks.Ghosts D) (e : disks.Ghosts
 
 -- What `LEFT mirror RIGHT SIDE` keeps.
 pub record MirrorKeeps {D E S K : Type 0} (d : disks.Ghosts D) (e : disks.Ghosts E) (input : sources.Ghosts S) (to : sinks.Ghosts K) (from : Side) (result : Status) (alone : Option Side) (left left' : D) (right right' : E) (source source' : S) (sink sink' : K) (steps steps' : ℕ) : Type 0 where
-  -- The lines ran on a mirror, unless the disk on SIDE failed while it was opened.
-  pub how : IsNotOpened d e from result alone left left' right right' source source' sink sink' steps steps' ⊎ RanOnMirror d e input to from result alone left left' right right' source source' sink sink' steps steps'
+  -- The lines ran on a mirror, unless the disk on SIDE failed while it was opened, or its first two blocks tell of no volume.
+  pub how : IsNotOpened d e from result alone left left' right right' source source' sink sink' steps steps' ⊎ (IsRefused d e to from result alone left left' right right' source source' sink sink' steps steps'
+      ⊎ RanOnMirror d e input to from result alone left left' right right' source source' sink sink' steps steps')
+  -- Where SIDE's first two blocks tell of no volume, or those that the mirror was to have do, nothing is written on either disk, at
+  -- each status.
+  pub side_judged : ForSome (seen_on d e from left right) (λ image. first_fault image ≢ None → WritesNothing d left left' × WritesNothing e right right')
+  pub judged : ForSome (seen_behind d e from left right) (λ image. first_fault image ≢ None → WritesNothing d left left' × WritesNothing e right right')
   -- It ends in one of the ways of `run`.
   pub which : EndsRun result
   -- The disk is told to have failed only where the count of SIDE's disk rose.

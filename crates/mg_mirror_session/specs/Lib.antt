@@ -1,3 +1,4 @@
 pub mod Commands
 pub mod Mirrored
+pub mod Judged
 pub mod Headline

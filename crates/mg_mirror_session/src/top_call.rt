@@ -6,13 +6,14 @@ ghost use Rattle.mg_mirror_session.specs.Headline.{MirrorKeeps, NoMirrorKeeps};
 ghost use Rattle.mg_session.specs.Commands.{words_of};
 ghost use Rattle.mg_session.specs.Headline.{RunKeeps};
 
+use crate::judging::read_first;
 use crate::telling::put_side;
 use crate::words::read_words;
-use mg_disk::Disk;
+use mg_disk::{BLOCK_SIZE, COPY_BLOCKS, Disk, Failed};
 use mg_io::{Sink, Source};
 use mg_mirror::{Mirror, Opened, Side};
 use mg_model::Steps;
-use mg_session::{Status, put_usage, run};
+use mg_session::{Status, put_fault, put_usage, run};
 use std::alloc::Global;
 use std::marker::Brand;
 use std::sync::ledger::Ledger;
@@ -29,10 +30,15 @@ pub struct Mirrored<D: Disk, E: Disk> {
 
 /// All that the program does over a mirror. The words, which are those behind its name, are `LEFT mirror RIGHT SIDE`.
 ///
-/// It makes one disk of the first blocks of two, as many as the smaller has, with what the disk on SIDE holds, which is copied
-/// to the other one. Then it runs the source's lines on the volume of that disk, a reply a batch, as `VOLUME run` does. A side
-/// whose write or sync fails is dropped, and the other one stands alone from then on. Once all lines are answered the line
-/// `alone left` or `alone right` is put, exactly where a side stands alone.
+/// First the gate and the superblock of SIDE's disk are judged, before anything is written. Where they tell that it holds no
+/// volume, `open not`, `open old` or `open damaged` is put with [`Status::NoVolume`]: nothing is written on either disk, and nothing is
+/// taken from the source. Two disks of which one has fewer than two blocks get `open not` as well. What only the blocks behind these
+/// two tell, is told after the copy.
+///
+/// Else it makes one disk of the first blocks of two, as many as the smaller has, with what the disk on SIDE holds, which is copied
+/// to the other one; each block of SIDE's disk is read once. Then it runs the source's lines on the volume of that disk, a reply a
+/// batch, as `VOLUME run` does. A side whose write or sync fails is dropped, and the other one stands alone from then on. Once all
+/// lines are answered the line `alone left` or `alone right` is put, exactly where a side stands alone.
 ///
 /// Other words get the line `usage` and [`Status::Usage`]; the disks and the source are then left alone.
 ///
@@ -68,7 +74,8 @@ pub fn top_mirror<D: Disk, E: Disk, S: Source, K: Sink, L: Ledger>(
     }
 }
 
-/// Opens a mirror from that side, and runs the source's lines on the volume of it. `O` has the counts of both disks.
+/// Judges the first blocks of the disk on that side, opens a mirror from it, and runs the source's lines on the volume of it. `O` has
+/// the counts of both disks.
 fn run_on_mirror<D: Disk, E: Disk, S: Source, K: Sink, L: Ledger, O: Opened>(
     alloc: Global,
     from: Side,
@@ -83,7 +90,31 @@ fn run_on_mirror<D: Disk, E: Disk, S: Source, K: Sink, L: Ledger, O: Opened>(
     ensures { MirrorKeeps D.Disk E.Disk S.Source K.Sink from result.status result.alone
         left result.left right result.right source.old source.new sink.old sink.new steps.old steps.new }
 {
-    let mut mirror = match Mirror::<D, E, O>::open(left, right, from) {
+    let (mut left, mut right) = (left, right);
+    let mut run = [[0; BLOCK_SIZE]; COPY_BLOCKS];
+    let count = left.blocks().min(right.blocks()).min(COPY_BLOCKS as u64);
+    let first = &mut run[..count as usize];
+    match read_first(&mut left, &mut right, from, first) {
+        Ok(None) => {}
+        Ok(Some(fault)) => {
+            let status = put_fault(fault, sink);
+            return Mirrored {
+                status,
+                alone: None,
+                left,
+                right,
+            };
+        }
+        Err(Failed) => {
+            return Mirrored {
+                status: Status::Disk,
+                alone: None,
+                left,
+                right,
+            };
+        }
+    }
+    let mut mirror = match Mirror::<D, E, O>::open_behind(left, right, from, first) {
         Ok(mirror) => mirror,
         Err(disks) => {
             return Mirrored {

@@ -37,6 +37,7 @@ mod words;
 pub use batches::Ended;
 pub use buffers::Buffers;
 pub use checking::put_summary;
+pub use fault_line::put_fault;
 pub use formatting::put_small;
 pub use machine::Machine;
 pub use reading::serve_lines;

@@ -4,9 +4,9 @@ use Rattle.mg_mirror.specs.Copy.{IsCopied}
 use Rattle.mg_mirror.proofs.copy.copy_blocks.Given as goal
 
 -- the blocks so far are copied, and nothing was written on the disk that is read
-abbrev pub invariant-loop-first : goal.invariant-loop-first
-invariant-loop-first g l = record {
-  copied : IsCopied (min l.first l.blocks) (g.D.Disk.seen l.initial.from) (g.E.Disk.seen l.to);
+abbrev pub invariant-loop-next : goal.invariant-loop-next
+invariant-loop-next g l = record {
+  copied : IsCopied (min l.next l.blocks) (g.D.Disk.seen l.initial.from) (g.E.Disk.seen l.to);
   reads : WritesNothing g.D.Disk l.initial.from l.from;
   from_blocks : g.D.Disk.block_count l.from ≡ g.D.Disk.block_count l.initial.from;
   to_blocks : g.E.Disk.block_count l.to ≡ g.E.Disk.block_count l.initial.to;
@@ -16,5 +16,5 @@ invariant-loop-first g l = record {
   to_count : CountGoes g.E.Disk l.initial.to l.to;
 }
 
-abbrev pub decreases-loop-first : goal.decreases-loop-first
-decreases-loop-first g l = l.blocks - l.first
+abbrev pub decreases-loop-next : goal.decreases-loop-next
+decreases-loop-next g l = l.blocks - l.next
