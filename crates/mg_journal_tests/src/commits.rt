@@ -1,168 +1,464 @@
-// Commits of two blocks, on disks that die and that fail.
-ghost use Rattle.std.specs.Prelude.{◌≡◌, ◌≤◌, IfOk};
+// A commit of two blocks, and nine of three blocks, of which the ninth begins with a checkpoint, on disks that die and that fail.
+ghost use Rattle.std.specs.Prelude.{◌≡◌, ◌≤◌, IfSome, true};
+ghost use Rattle.mg_journal.specs.Standing.{Stands, is_live, total_of};
+ghost use Rattle.mg_model.specs.Replay.{homes_fit};
 
-use mg_disk::{BLOCK_SIZE, Block, Counts, Disk, Fuse, Left, MemDisk};
+use crate::disks::{NONE, begins, zeros};
+use mg_disk::{BLOCK_SIZE, Counts, Disk, Fuse, Left, MemDisk};
 use mg_journal::{Store, Writes};
-use std::alloc::{AllocError, Global};
+use std::alloc::Global;
 
 /// The blocks of the disks here.
-const BLOCKS: u64 = 1300;
+const BLOCKS: u64 = 1311;
+
+/// More calls than a test makes of one disk.
+const ROOM: u64 = 200;
 
 /// The calls of an opening that finds no open segment.
 const OPENING: u64 = 17;
 
-/// The calls of one that finds a segment with two bodies open.
-const RECOVERY: u64 = 24;
+/// What blocks 1298, 1299, 1300 and 1310 begin with.
+type Contents = [u8; 4];
 
-/// The calls of a commit of two blocks.
-const COMMIT: u64 = 6;
-
-const LEFTS: [Left; 3] = [Left::Old, Left::New, Left::Gates];
-
-/// A disk of zeros whose call of that number fails.
-fn zeros(alloc: Global, failing: u64) -> Result<MemDisk, AllocError>
-    ensures blocks { IfOk result (λ disk. ⟦<MemDisk as Disk>⟧.block_count disk ≡ 1300) }
-{
-    let mut fails = Vec::new(alloc);
-    fails.push(failing)?;
-    MemDisk::new(alloc, BLOCKS, RECOVERY + COMMIT, fails)
+/// The commits that are made.
+#[derive(Clone, Copy)]
+enum Work {
+    /// One of two blocks, the second of which is staged twice.
+    Pair,
+    /// Those of three blocks, from 1 up to before this number.
+    Threes(u8),
 }
 
-/// Opens the journal and commits two blocks, and says whether that was done.
-fn commits<D: Disk>(alloc: Global, disk: &mut D) -> Result<bool, AllocError>
-    requires room { 1300 ≤ D.block_count disk.old }
+/// Stages blocks 1299 and 1300, and 1298 where the number is even or 1310 where it is odd, each filled with the number.
+fn stage(writes: &mut Writes, number: u8)
+    ensures fit { homes_fit 1311 writes.new ≡ true }
+{
+    let block = [number; BLOCK_SIZE];
+    writes.clear();
+    writes.stage(1300, &block);
+    writes.stage(1299, &block);
+    if number % 2 == 0 {
+        writes.stage(1298, &block);
+    } else {
+        writes.stage(1310, &block);
+    }
+}
+
+/// Makes the commit of that number.
+fn commit<D: Disk>(store: &mut Store, disk: &mut D, writes: &mut Writes, number: u8) -> bool
+    requires live { is_live store.old ≡ true }
+    requires stands { Stands D.Disk store.old disk.old }
+    requires total { total_of store.old ≡ 1311 }
+    ensures live { result ≡ true → is_live store.new ≡ true }
+    ensures stands { result ≡ true → Stands D.Disk store.new disk.new }
+    ensures total { total_of store.new ≡ 1311 }
     ensures blocks { D.block_count disk.new ≡ D.block_count disk.old }
 {
-    let mut writes = Writes::new(alloc)?;
+    stage(writes, number);
+    store.commit(disk, writes).is_ok()
+}
+
+/// Makes the commits from 1 up to before another, until one fails.
+fn commit_all<D: Disk>(store: &mut Store, disk: &mut D, writes: &mut Writes, to: u8) -> bool
+    requires live { is_live store.old ≡ true }
+    requires stands { Stands D.Disk store.old disk.old }
+    requires total { total_of store.old ≡ 1311 }
+    ensures live { result ≡ true → is_live store.new ≡ true }
+    ensures stands { result ≡ true → Stands D.Disk store.new disk.new }
+    ensures total { total_of store.new ≡ 1311 }
+    ensures blocks { D.block_count disk.new ≡ D.block_count disk.old }
+{
+    for number in 1..to {
+        if !commit(store, disk, writes, number) {
+            return false;
+        }
+    }
+    true
+}
+
+/// Makes the commit of two blocks.
+fn commit_pair<D: Disk>(store: &mut Store, disk: &mut D, writes: &mut Writes) -> bool
+    requires live { is_live store.old ≡ true }
+    requires stands { Stands D.Disk store.old disk.old }
+    requires total { total_of store.old ≡ 1311 }
+    ensures blocks { D.block_count disk.new ≡ D.block_count disk.old }
+{
+    writes.clear();
     writes.stage(1298, &[1; BLOCK_SIZE]);
     writes.stage(1299, &[9; BLOCK_SIZE]);
     writes.stage(1299, &[2; BLOCK_SIZE]);
+    store.commit(disk, writes).is_ok()
+}
+
+fn commits_by<D: Disk>(store: &mut Store, disk: &mut D, writes: &mut Writes, work: Work) -> bool
+    requires live { is_live store.old ≡ true }
+    requires stands { Stands D.Disk store.old disk.old }
+    requires total { total_of store.old ≡ 1311 }
+    ensures blocks { D.block_count disk.new ≡ D.block_count disk.old }
+{
+    match work {
+        Work::Pair => commit_pair(store, disk, writes),
+        Work::Threes(to) => commit_all(store, disk, writes, to),
+    }
+}
+
+/// Opens the journal and makes the commits, and says whether that was done.
+fn commits_on<D: Disk>(alloc: Global, disk: &mut D, writes: &mut Writes, work: Work) -> bool
+    requires room { 1311 ≤ D.block_count disk.old }
+    ensures blocks { D.block_count disk.new ≡ D.block_count disk.old }
+{
     match Store::open(alloc, disk, BLOCKS) {
-        Ok(mut store) => Ok(store.commit(disk, &writes).is_ok()),
-        Err(_) => Ok(false),
+        Ok(mut store) => commits_by(&mut store, disk, writes, work),
+        Err(_) => false,
     }
 }
 
-/// The same on a disk that dies after so many calls of the commit.
-fn stopped_commit(alloc: Global, calls: u64) -> Result<(bool, MemDisk), AllocError>
-    requires few { calls ≤ 6 }
-    ensures blocks { IfOk result (λ r. ⟦<MemDisk as Disk>⟧.block_count r.1 ≡ 1300) }
+fn commits<D: Disk>(alloc: Global, disk: &mut D, work: Work) -> bool
+    requires room { 1311 ≤ D.block_count disk.old }
+    ensures blocks { D.block_count disk.new ≡ D.block_count disk.old }
 {
-    let mut fuse = Fuse::new(zeros(alloc, u64::MAX)?, OPENING + calls);
-    let done = commits(alloc, &mut fuse)?;
-    Ok((done, fuse.into_inner()))
+    match Writes::new(alloc) {
+        Ok(mut writes) => commits_on(alloc, disk, &mut writes, work),
+        Err(_) => false,
+    }
 }
 
-/// Opens the journal and gives the first bytes of the two blocks.
-fn held(alloc: Global, mut disk: MemDisk) -> Option<(u8, u8)>
-    requires room { ⟦<MemDisk as Disk>⟧.block_count disk ≡ 1300 }
+fn contents<D: Disk>(store: &Store, disk: &mut D) -> Option<Contents>
+    requires total { total_of store.now ≡ 1311 }
+    requires stands { Stands D.Disk store.now disk.old }
 {
-    let Ok(store) = Store::open(alloc, &mut disk, BLOCKS) else {
-        return None;
-    };
-    let mut block: Block = [0; BLOCK_SIZE];
-    if store.read(&mut disk, 1298, &mut block).is_err() {
-        return None;
-    }
-    let first = block[0];
-    if store.read(&mut disk, 1299, &mut block).is_err() {
-        return None;
-    }
-    Some((first, block[0]))
+    whole([
+        begins(store, disk, 1298),
+        begins(store, disk, 1299),
+        begins(store, disk, 1300),
+        begins(store, disk, 1310),
+    ])
 }
 
-/// Stops the disk in each way, and says where the blocks are the new ones after an opening, if all are new or all old.
-fn new_after(alloc: Global, disk: &MemDisk) -> Result<Option<[bool; 3]>, AllocError>
-    requires room { ⟦<MemDisk as Disk>⟧.block_count disk.now ≡ 1300 }
+fn whole(parts: [Option<u8>; 4]) -> Option<Contents> {
+    match parts {
+        [Some(first), Some(second), Some(third), Some(last)] => Some([first, second, third, last]),
+        _ => None,
+    }
+}
+
+/// Opens the journal and gives the contents.
+fn held(alloc: Global, mut disk: MemDisk) -> Option<Contents>
+    requires room { ⟦<MemDisk as Disk>⟧.block_count disk ≡ 1311 }
 {
-    let mut are_new = [false; 3];
-    for (left, is_new) in LEFTS.into_iter().zip(&mut are_new) {
-        match held(alloc, disk.stopped(alloc, left)?) {
-            Some((0, 0)) => *is_new = false,
-            Some((1, 2)) => *is_new = true,
-            _ => return Ok(None),
+    match Store::open(alloc, &mut disk, BLOCKS) {
+        Ok(store) => contents(&store, &mut disk),
+        Err(_) => None,
+    }
+}
+
+/// The calls of a commit with a number, and the contents then.
+type Row = (u8, Counts, Contents);
+
+/// The calls of the first eight.
+const LATE: Counts = Counts {
+    reads: 0,
+    writes: 5,
+    syncs: 2,
+};
+
+/// Those of the ninth.
+const CHECKPOINT: Counts = Counts {
+    reads: 12,
+    writes: 17,
+    syncs: 11,
+};
+
+const ROWS: [Row; 9] = [
+    (1, LATE, [0, 1, 1, 1]),
+    (2, LATE, [2, 2, 2, 1]),
+    (3, LATE, [2, 3, 3, 3]),
+    (4, LATE, [4, 4, 4, 3]),
+    (5, LATE, [4, 5, 5, 5]),
+    (6, LATE, [6, 6, 6, 5]),
+    (7, LATE, [6, 7, 7, 7]),
+    (8, LATE, [8, 8, 8, 7]),
+    (9, CHECKPOINT, [8, 9, 9, 9]),
+];
+
+/// The calls between two counts.
+fn between(before: Counts, after: Counts) -> Counts {
+    Counts {
+        reads: after.reads.saturating_sub(before.reads),
+        writes: after.writes.saturating_sub(before.writes),
+        syncs: after.syncs.saturating_sub(before.syncs),
+    }
+}
+
+/// Whether the last of the commits up to that of a row makes its calls, and leaves its contents.
+fn is_right(store: &mut Store, disk: &mut MemDisk, writes: &mut Writes, row: &Row) -> bool
+    requires live { is_live store.old ≡ true }
+    requires stands { Stands ⟦<MemDisk as Disk>⟧ store.old disk.old }
+    requires total { total_of store.old ≡ 1311 }
+{
+    if !commit_all(store, disk, writes, row.0) {
+        return false;
+    }
+    let before = disk.counts();
+    if !commit(store, disk, writes, row.0) {
+        return false;
+    }
+    let calls = between(before, disk.counts());
+    contents(store, disk) == Some(row.2) && calls == row.1
+}
+
+fn is_right_opened(alloc: Global, disk: &mut MemDisk, writes: &mut Writes, row: &Row) -> bool
+    requires room { ⟦<MemDisk as Disk>⟧.block_count disk.old ≡ 1311 }
+{
+    match Store::open(alloc, disk, BLOCKS) {
+        Ok(mut store) => is_right(&mut store, disk, writes, row),
+        Err(_) => false,
+    }
+}
+
+fn is_right_on(alloc: Global, disk: &mut MemDisk, row: &Row) -> bool
+    requires room { ⟦<MemDisk as Disk>⟧.block_count disk.old ≡ 1311 }
+{
+    match Writes::new(alloc) {
+        Ok(mut writes) => is_right_opened(alloc, disk, &mut writes, row),
+        Err(_) => false,
+    }
+}
+
+fn is_right_on_zeros(alloc: Global, row: &Row) -> bool {
+    match zeros(alloc, BLOCKS, ROOM, NONE) {
+        Some(mut disk) => is_right_on(alloc, &mut disk, row),
+        None => false,
+    }
+}
+
+/// How many rows are right, up to the first that is not.
+fn rows_right(alloc: Global) -> usize {
+    let mut right: usize = 0;
+    for row in &ROWS {
+        if !is_right_on_zeros(alloc, row) {
+            return right;
         }
+        right = right.saturating_add(1);
     }
-    Ok(Some(are_new))
+    right
 }
 
-/// The calls of an opening and a commit, where both were done.
-fn calls(alloc: Global) -> Result<Option<Counts>, AllocError> {
-    let mut disk = zeros(alloc, u64::MAX)?;
-    if !commits(alloc, &mut disk)? {
-        return Ok(None);
+/// The calls of an opening and the commit of two blocks, where both were done.
+fn pair_calls(alloc: Global) -> Option<Counts> {
+    match zeros(alloc, BLOCKS, ROOM, NONE) {
+        Some(mut disk) => {
+            if commits(alloc, &mut disk, Work::Pair) {
+                Some(disk.counts())
+            } else {
+                None
+            }
+        }
+        None => None,
     }
-    Ok(Some(disk.counts()))
 }
 
 #[test]
-fn calls_of_a_commit(rt: HostRuntime) -> Result<(), AllocError> {
+fn calls_of_commits(rt: HostRuntime) {
     let both = Counts {
         reads: 16,
         writes: 4,
         syncs: 3,
     };
-    assert_eq!(rt; calls(rt.alloc())?, Some(both));
-    Ok(())
+    let found = (pair_calls(rt.alloc()), rows_right(rt.alloc()));
+    assert_eq!(rt; found, (Some(both), ROWS.len()));
 }
 
-/// What is new where the disk dies before this call of the commit, and where the call fails.
-type Stops = (Option<[bool; 3]>, Option<[bool; 3]>);
-
-fn stops_at(alloc: Global, call: u64) -> Result<Stops, AllocError>
-    requires few { call ≤ 6 }
+/// What is held after a stop of this kind.
+fn stops(alloc: Global, disk: &MemDisk, left: Left) -> Option<Contents>
+    requires room { ⟦<MemDisk as Disk>⟧.block_count disk.now ≡ 1311 }
 {
-    let (_, died) = stopped_commit(alloc, call)?;
-    let mut failed = zeros(alloc, OPENING + call)?;
-    commits(alloc, &mut failed)?;
-    Ok((new_after(alloc, &died)?, new_after(alloc, &failed)?))
-}
-
-#[test]
-fn a_commit_is_whole_or_absent(rt: HostRuntime) -> Result<(), AllocError> {
-    let (old, gate, new) = ([false; 3], [false, true, true], [true; 3]);
-    for call in 0..=COMMIT {
-        let (died, failed) = match call {
-            0..=3 => (old, old),
-            4 => (old, gate),
-            5 => (gate, gate),
-            _ => (new, new),
-        };
-        assert_eq!(rt;
-            stops_at(rt.alloc(), call)?,
-            (Some(died), Some(failed)),
-            "call {call}"
-        );
+    match disk.stopped(alloc, left) {
+        Ok(disk) => held(alloc, disk),
+        Err(_) => None,
     }
-    Ok(())
 }
 
-// Where a commit stopped while the gate was opened, or was made, and the opening then dies after so many calls:
-// whether it was done, and what is new when it is made again.
-fn opened_again(
-    alloc: Global,
-    commit: u64,
-    opening: u64,
-) -> Result<(bool, Option<[bool; 3]>), AllocError>
-    requires few { commit ≤ 6 }
+/// What is held after a stop of each kind.
+type Held = [Option<Contents>; 3];
+
+fn held_after(alloc: Global, disk: &MemDisk) -> Held
+    requires room { ⟦<MemDisk as Disk>⟧.block_count disk.now ≡ 1311 }
 {
-    let (_, stopped) = stopped_commit(alloc, commit)?;
-    let mut fuse = Fuse::new(stopped.stopped(alloc, Left::Gates)?, opening);
-    let is_open = Store::open(alloc, &mut fuse, BLOCKS).is_ok();
-    Ok((is_open, new_after(alloc, &fuse.into_inner())?))
+    [
+        stops(alloc, disk, Left::Old),
+        stops(alloc, disk, Left::New),
+        stops(alloc, disk, Left::Gates),
+    ]
 }
 
-#[test]
-fn a_stopped_opening_is_made_again(rt: HostRuntime) -> Result<(), AllocError> {
-    for commit in [5, 6] {
-        for opening in 0..=RECOVERY {
-            let wanted = (opening == RECOVERY, Some([true; 3]));
-            assert_eq!(rt;
-                opened_again(rt.alloc(), commit, opening)?,
-                wanted,
-                "{commit} {opening}"
-            );
+/// The disk behind this one, where that is committed on.
+fn burnt(alloc: Global, mut fuse: Fuse<MemDisk>, work: Work) -> MemDisk
+    requires room { ⟦<Fuse<MemDisk> as Disk>⟧.block_count fuse ≡ 1311 }
+    ensures blocks { ⟦<MemDisk as Disk>⟧.block_count result ≡ 1311 }
+{
+    commits(alloc, &mut fuse, work);
+    fuse.into_inner()
+}
+
+/// A disk that died before this call.
+fn died_at(alloc: Global, call: u64, work: Work) -> Option<MemDisk>
+    ensures blocks { IfSome result (λ disk. ⟦<MemDisk as Disk>⟧.block_count disk ≡ 1311) }
+{
+    match zeros(alloc, BLOCKS, ROOM, NONE) {
+        Some(disk) => Some(burnt(alloc, Fuse::new(disk, call), work)),
+        None => None,
+    }
+}
+
+/// What is held where the disk dies before this call.
+fn held_dead(alloc: Global, call: u64, work: Work) -> Option<Held> {
+    match died_at(alloc, call, work) {
+        Some(disk) => Some(held_after(alloc, &disk)),
+        None => None,
+    }
+}
+
+/// What is held where this call fails.
+fn held_failed(alloc: Global, call: u64, work: Work) -> Option<Held> {
+    match zeros(alloc, BLOCKS, ROOM, call) {
+        Some(mut disk) => {
+            commits(alloc, &mut disk, work);
+            Some(held_after(alloc, &disk))
+        }
+        None => None,
+    }
+}
+
+/// What is held where a disk dies before a call, and where that call fails.
+type Stops = (Option<Held>, Option<Held>);
+
+/// What is to be held where so many calls of the last commit are left, of old contents and new.
+fn wanted(left: u64, old: Contents, new: Contents) -> Stops {
+    let (old, new) = (Some(old), Some(new));
+    let gate = [old, new, new];
+    let (died, failed) = match left {
+        0 => ([new; 3], [new; 3]),
+        1 => (gate, gate),
+        2 => ([old; 3], gate),
+        _ => ([old; 3], [old; 3]),
+    };
+    (Some(died), Some(failed))
+}
+
+/// The first of the calls of the last commit, from one to another, where something else is held.
+fn wrong_call(
+    alloc: Global,
+    work: Work,
+    first: u64,
+    last: u64,
+    old: Contents,
+    new: Contents,
+) -> Option<u64> {
+    for call in first..=last {
+        let found = (held_dead(alloc, call, work), held_failed(alloc, call, work));
+        if found != wanted(last.saturating_sub(call), old, new) {
+            return Some(call);
         }
     }
-    Ok(())
+    None
+}
+
+/// The same of the commit of two blocks, which makes 6 calls, and of the ninth of three, which makes 40. Each of the eight before
+/// that makes 7.
+fn wrong_calls(alloc: Global) -> [Option<u64>; 2] {
+    let (work, opened, eight) = (Work::Threes(10), OPENING, OPENING + 8 * 7);
+    let nine = wrong_call(alloc, work, eight, eight + 40, [8, 8, 8, 7], [8, 9, 9, 9]);
+    let pair = wrong_call(alloc, Work::Pair, opened, opened + 6, [0; 4], [1, 2, 0, 0]);
+    [pair, nine]
+}
+
+/// Whether the journal is opened on this disk, and what is held then.
+fn opened_on(alloc: Global, mut fuse: Fuse<MemDisk>) -> (bool, Held)
+    requires room { ⟦<Fuse<MemDisk> as Disk>⟧.block_count fuse ≡ 1311 }
+{
+    let is_open = Store::open(alloc, &mut fuse, BLOCKS).is_ok();
+    (is_open, held_after(alloc, &fuse.into_inner()))
+}
+
+/// The same on what a stop leaves of a disk, where that dies after so many calls.
+fn opened_behind(alloc: Global, disk: &MemDisk, left: Left, calls: u64) -> Option<(bool, Held)>
+    requires room { ⟦<MemDisk as Disk>⟧.block_count disk.now ≡ 1311 }
+{
+    match disk.stopped(alloc, left) {
+        Ok(disk) => Some(opened_on(alloc, Fuse::new(disk, calls))),
+        Err(_) => None,
+    }
+}
+
+/// Where commits stopped and what the stop left, how many calls the opening then makes, and what is held.
+#[derive(Clone, Copy)]
+struct Stopped {
+    work: Work,
+    died: u64,
+    left: Left,
+    calls: u64,
+    held: Contents,
+}
+
+/// The gate of the commit of two blocks was opened or was made. Eight commits of three blocks were made.
+const STOPPED: [Stopped; 3] = [
+    Stopped {
+        work: Work::Pair,
+        died: OPENING + 5,
+        left: Left::Gates,
+        calls: 24,
+        held: [1, 2, 0, 0],
+    },
+    Stopped {
+        work: Work::Pair,
+        died: OPENING + 6,
+        left: Left::Gates,
+        calls: 24,
+        held: [1, 2, 0, 0],
+    },
+    Stopped {
+        work: Work::Threes(9),
+        died: NONE,
+        left: Left::Old,
+        calls: 89,
+        held: [8, 8, 8, 7],
+    },
+];
+
+/// Whether an opening that dies after so many calls is made where all were made, and the next one holds what it is to hold.
+fn is_made_again(alloc: Global, case: &Stopped, calls: u64) -> bool {
+    match died_at(alloc, case.died, case.work) {
+        Some(disk) => {
+            let wanted = (calls == case.calls, [Some(case.held); 3]);
+            opened_behind(alloc, &disk, case.left, calls) == Some(wanted)
+        }
+        None => false,
+    }
+}
+
+/// The first number of calls where that is not so.
+fn wrong_opening(alloc: Global, case: &Stopped) -> Option<u64> {
+    for calls in 0..=case.calls {
+        if !is_made_again(alloc, case, calls) {
+            return Some(calls);
+        }
+    }
+    None
+}
+
+fn wrong_openings(alloc: Global) -> [Option<u64>; 3] {
+    let [first, second, third] = &STOPPED;
+    [
+        wrong_opening(alloc, first),
+        wrong_opening(alloc, second),
+        wrong_opening(alloc, third),
+    ]
+}
+
+// A commit is whole or absent, and a stopped opening is made again.
+#[test]
+fn stops_leave_old_contents_or_new(rt: HostRuntime) {
+    let wrong = (wrong_calls(rt.alloc()), wrong_openings(rt.alloc()));
+    assert_eq!(rt; wrong, ([None; 2], [None; 3]));
 }

@@ -1,11 +1,12 @@
 // Eight commits of 160 blocks, none of them twice, and a ninth of one of them, which begins with a checkpoint of all.
-ghost use Rattle.std.specs.Prelude.{◌≡◌, ◌≤◌, ◌+◌, IfOk, length, true};
+ghost use Rattle.std.specs.Prelude.{◌≡◌, ◌≤◌, ◌+◌, true};
 ghost use Rattle.mg_journal.specs.Standing.{Stands, is_live, total_of};
 ghost use Rattle.mg_model.specs.Replay.{homes_fit};
 
-use mg_disk::{BLOCK_SIZE, Block, Disk, Fuse, Left, MemDisk};
+use crate::disks::{NONE, begins, zeros};
+use mg_disk::{BLOCK_SIZE, Disk, Fuse, Left, MemDisk};
 use mg_journal::{Store, Writes};
-use std::alloc::{AllocError, Global};
+use std::alloc::Global;
 
 /// The first block behind the journal.
 const FIRST: u64 = 1298;
@@ -21,8 +22,6 @@ const EIGHT: u64 = 17 + 8 * 164;
 
 /// The calls of the ninth: bodies and homes, 1,280 of each, and a sync; three for each gate; five for the one block.
 const NINTH: u64 = 2560 + 1 + 24 + 5;
-
-const LEFTS: [Left; 3] = [Left::Old, Left::New, Left::Gates];
 
 /// Stages 160 blocks from this one on, each filled with this byte.
 fn stage_all(writes: &mut Writes, first: u64, byte: u8)
@@ -56,42 +55,66 @@ fn fill<D: Disk>(store: &mut Store, disk: &mut D, writes: &mut Writes) -> bool
     true
 }
 
-/// Opens the journal, makes the eight commits, and then one of the first block, filled with 9.
-fn nine<D: Disk>(alloc: Global, disk: &mut D) -> Result<bool, AllocError>
-    requires room { 2578 ≤ D.block_count disk.old }
+/// Makes the eight commits, and then one of the first block, filled with 9.
+fn nine_of<D: Disk>(store: &mut Store, disk: &mut D, writes: &mut Writes) -> bool
+    requires live { is_live store.old ≡ true }
+    requires stands { Stands D.Disk store.old disk.old }
+    requires total { total_of store.old ≡ 2578 }
     ensures blocks { D.block_count disk.new ≡ D.block_count disk.old }
 {
-    let mut writes = Writes::new(alloc)?;
-    let Ok(mut store) = Store::open(alloc, disk, BLOCKS) else {
-        return Ok(false);
-    };
-    if !fill(&mut store, disk, &mut writes) {
-        return Ok(false);
+    if !fill(store, disk, writes) {
+        return false;
     }
     writes.clear();
     writes.stage(1298, &[9; BLOCK_SIZE]);
-    Ok(store.commit(disk, &writes).is_ok())
+    store.commit(disk, writes).is_ok()
 }
 
-/// What the first block begins with, where each other one begins with the number of its commit.
-fn reads<D: Disk>(store: &Store, disk: &mut D) -> Option<u8>
-    requires total { total_of store.now ≡ 2578 }
-    requires stands { Stands D.Disk store.now disk.old }
+/// Opens the journal, and makes the nine commits.
+fn nine_on<D: Disk>(alloc: Global, disk: &mut D, writes: &mut Writes) -> bool
+    requires room { 2578 ≤ D.block_count disk.old }
     ensures blocks { D.block_count disk.new ≡ D.block_count disk.old }
 {
-    let mut block: Block = [0; BLOCK_SIZE];
-    let mut first = 0;
-    for k in 0..1280 {
-        if store.read(disk, FIRST + k, &mut block).is_err() {
-            return None;
-        }
-        if k == 0 {
-            first = block[0];
-        } else if u64::from(block[0]) != k / 160 + 1 {
-            return None;
+    match Store::open(alloc, disk, BLOCKS) {
+        Ok(mut store) => nine_of(&mut store, disk, writes),
+        Err(_) => false,
+    }
+}
+
+fn nine<D: Disk>(alloc: Global, disk: &mut D) -> bool
+    requires room { 2578 ≤ D.block_count disk.old }
+    ensures blocks { D.block_count disk.new ≡ D.block_count disk.old }
+{
+    match Writes::new(alloc) {
+        Ok(mut writes) => nine_on(alloc, disk, &mut writes),
+        Err(_) => false,
+    }
+}
+
+/// Whether each block but the first begins with the number of its commit.
+fn are_numbered<D: Disk>(store: &Store, disk: &mut D) -> bool
+    requires total { total_of store.now ≡ 2578 }
+    requires stands { Stands D.Disk store.now disk.old }
+    ensures stands { Stands D.Disk store.now disk.new }
+{
+    for k in 1..1280 {
+        if begins(store, disk, FIRST + k) != Some((k / 160 + 1) as u8) {
+            return false;
         }
     }
-    Some(first)
+    true
+}
+
+/// What the first block begins with, where the others are right.
+fn first<D: Disk>(store: &Store, disk: &mut D) -> Option<u8>
+    requires total { total_of store.now ≡ 2578 }
+    requires stands { Stands D.Disk store.now disk.old }
+{
+    if are_numbered(store, disk) {
+        begins(store, disk, FIRST)
+    } else {
+        None
+    }
 }
 
 /// The same once the journal is opened.
@@ -99,47 +122,78 @@ fn held(alloc: Global, mut disk: MemDisk) -> Option<u8>
     requires room { ⟦<MemDisk as Disk>⟧.block_count disk ≡ 2578 }
 {
     match Store::open(alloc, &mut disk, BLOCKS) {
-        Ok(store) => reads(&store, &mut disk),
+        Ok(store) => first(&store, &mut disk),
         Err(_) => None,
     }
 }
 
-/// A disk that dies after so many calls of the ninth commit: whether it was done, and what is held after a stop.
-fn ninth_stopped(alloc: Global, calls: u64) -> Result<(bool, [Option<u8>; 3]), AllocError> {
-    let disk = MemDisk::new(alloc, BLOCKS, ROOM, Vec::new(alloc))?;
-    let mut fuse = Fuse::new(disk, EIGHT.saturating_add(calls));
-    let done = nine(alloc, &mut fuse)?;
-    let disk = fuse.into_inner();
-    let mut all = [None; 3];
-    for (left, one) in LEFTS.into_iter().zip(&mut all) {
-        *one = held(alloc, disk.stopped(alloc, left)?);
+/// The same after this stop.
+fn stops(alloc: Global, disk: &MemDisk, left: Left) -> Option<u8>
+    requires room { ⟦<MemDisk as Disk>⟧.block_count disk.now ≡ 2578 }
+{
+    match disk.stopped(alloc, left) {
+        Ok(disk) => held(alloc, disk),
+        Err(_) => None,
     }
-    Ok((done, all))
+}
+
+/// Whether the ninth commit was made, and what is held after a stop of each kind.
+type Found = (bool, [Option<u8>; 3]);
+
+fn burnt(alloc: Global, mut fuse: Fuse<MemDisk>) -> Found
+    requires room { ⟦<Fuse<MemDisk> as Disk>⟧.block_count fuse ≡ 2578 }
+{
+    let done = nine(alloc, &mut fuse);
+    (done, held_after(alloc, &fuse.into_inner()))
+}
+
+fn held_after(alloc: Global, disk: &MemDisk) -> [Option<u8>; 3]
+    requires room { ⟦<MemDisk as Disk>⟧.block_count disk.now ≡ 2578 }
+{
+    [
+        stops(alloc, disk, Left::Old),
+        stops(alloc, disk, Left::New),
+        stops(alloc, disk, Left::Gates),
+    ]
+}
+
+/// The same on a disk that dies after so many calls of the ninth commit.
+fn died_after(alloc: Global, calls: u64) -> Option<Found> {
+    match zeros(alloc, BLOCKS, ROOM, NONE) {
+        Some(disk) => Some(burnt(alloc, Fuse::new(disk, EIGHT.saturating_add(calls)))),
+        None => None,
+    }
+}
+
+/// Numbers of calls of the ninth commit, and the block that is held after a stop of each kind.
+const STOPS: [(u64, [u8; 3]); 13] = [
+    (0, [1; 3]),
+    (1, [1; 3]),
+    (2, [1; 3]),
+    (1280, [1; 3]),
+    (2559, [1; 3]),
+    (2560, [1; 3]),
+    (2561, [1; 3]),
+    (2563, [1; 3]),
+    (2572, [1; 3]),
+    (2584, [1; 3]),
+    (2588, [1; 3]),
+    (2589, [1, 9, 9]),
+    (2590, [9; 3]),
+];
+
+/// The first of these numbers where something else is held.
+fn wrong_stop(alloc: Global) -> Option<u64> {
+    for (calls, [old, new, gates]) in STOPS {
+        let held = [Some(old), Some(new), Some(gates)];
+        if died_after(alloc, calls) != Some((calls == NINTH, held)) {
+            return Some(calls);
+        }
+    }
+    None
 }
 
 #[test]
-fn a_full_journal_is_written_home(rt: HostRuntime) -> Result<(), AllocError> {
-    let (old, gate, new) = ([Some(1); 3], [Some(1), Some(9), Some(9)], [Some(9); 3]);
-    for (calls, wanted) in [
-        (0, old),
-        (1, old),
-        (2, old),
-        (1280, old),
-        (2559, old),
-        (2560, old),
-        (2561, old),
-        (2563, old),
-        (2572, old),
-        (2584, old),
-        (2588, old),
-        (2589, gate),
-        (2590, new),
-    ] {
-        assert_eq!(rt;
-            ninth_stopped(rt.alloc(), calls)?,
-            (calls == NINTH, wanted),
-            "{calls}"
-        );
-    }
-    Ok(())
+fn a_full_journal_is_written_home(rt: HostRuntime) {
+    assert_eq!(rt; wrong_stop(rt.alloc()), None);
 }

@@ -9,8 +9,8 @@ mod checks;
 #[cfg(test)]
 mod commits;
 #[cfg(test)]
-mod full;
+mod disks;
 #[cfg(test)]
-mod late;
+mod full;
 #[cfg(test)]
 mod views;

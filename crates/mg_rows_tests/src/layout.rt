@@ -2,10 +2,9 @@
 use mg_disk::{BLOCK_SIZE, Block, Counts, Disk, Fuse, Left, MemDisk};
 use mg_layout::{Geometry, Super, format, fresh_block, read_super, write_super};
 use mg_model::{Params, Tariff};
-use std::alloc::{AllocError, Global};
+use std::alloc::Global;
 
-#[test]
-fn places(rt: HostRuntime) {
+fn places_are_right() -> bool {
     let small = Geometry {
         total: 2660,
         table: 1,
@@ -16,7 +15,7 @@ fn places(rt: HostRuntime) {
         table: 128,
         first_frame: 2723,
     };
-    assert_eq!(rt; [Geometry::of(64), Geometry::of(65_536)], [small, large]);
+    Geometry::of(64) == small && Geometry::of(65_536) == large
 }
 
 // 64 frames and 1000 credits.
@@ -33,24 +32,28 @@ fn reads_changed(block: &Block, at: usize, byte: u8) -> Super {
     read_super(&changed)
 }
 
-#[test]
-fn a_changed_superblock(rt: HostRuntime) {
+// Bytes that are changed, each alone, and what the superblock is then read as.
+const CHANGES: [(usize, u8, Super); 7] = [
+    (0, 0x6d, Super::Not),
+    (8, 0, Super::Old),
+    (8, 1, Super::Old),
+    (8, 9, Super::Damaged),
+    (16, 15, Super::Damaged),
+    (31, 0x40, Super::Damaged),
+    (200, 1, Super::Damaged),
+];
+
+fn changes_are_read() -> bool {
     let mut block: Block = [0; BLOCK_SIZE];
     if let Some(p) = settings([0; 32]) {
         write_super(&p, &mut block);
     }
-    let changes = [
-        (0, 0x6d, Super::Not),
-        (8, 0, Super::Old),
-        (8, 1, Super::Old),
-        (8, 9, Super::Damaged),
-        (16, 15, Super::Damaged),
-        (31, 0x40, Super::Damaged),
-        (200, 1, Super::Damaged),
-    ];
-    for (at, byte, answer) in changes {
-        assert_eq!(rt; reads_changed(&block, at, byte), answer, "byte {at}");
+    for (at, byte, answer) in CHANGES {
+        if reads_changed(&block, at, byte) != answer {
+            return false;
+        }
     }
+    true
 }
 
 // Block `i` of a fresh volume.
@@ -87,65 +90,62 @@ const SEED: [u8; 32] = [
     26, 27, 28, 29, 30, 31,
 ];
 
-// The list of the root object: one entry, for itself, with the first password of the seed.
-#[test]
-fn the_roots_page(rt: HostRuntime) {
-    let zero = [(0, 1), (2, 1 << 32), (3, 0x903d_f1a0_ade0_b876)];
-    let other = [(0, 1), (2, 1 << 32), (3, 0x6a19_c5d9_7d2b_fd39)];
-    assert!(rt; has_words(fresh([0; 32], 2596), &zero));
-    assert!(rt; has_words(fresh(SEED, 2596), &other));
-}
+// The list of the root object: one entry, for itself, with the first password of the seed 0.
+const ROOT: [Word; 3] = [(0, 1), (2, 1 << 32), (3, 0x903d_f1a0_ade0_b876)];
+
+// The same with that of the other seed.
+const OTHER_ROOT: [Word; 3] = [(0, 1), (2, 1 << 32), (3, 0x6a19_c5d9_7d2b_fd39)];
+
+// The superblock, which begins with MUNGIVOL.
+const SUPER: [Word; 15] = [
+    (0, 0x4c4f_5649_474e_554d),
+    (1, 2),
+    (2, 64),
+    (3, 1000),
+    (4, 0x0706_0504_0302_0100),
+    (5, 0x0f0e_0d0c_0b0a_0908),
+    (6, 0x1716_1514_1312_1110),
+    (7, 0x1f1e_1d1c_1b1a_1918),
+    (9, 1),
+    (10, 16),
+    (11, 2),
+    (12, 32),
+    (13, 4),
+    (14, 48),
+    (15, 8),
+];
 
 #[test]
-fn the_superblock(rt: HostRuntime) {
-    let words = [
-        (0, u64::from_le_bytes(*b"MUNGIVOL")),
-        (1, 2),
-        (2, 64),
-        (3, 1000),
-        (4, 0x0706_0504_0302_0100),
-        (5, 0x0f0e_0d0c_0b0a_0908),
-        (6, 0x1716_1514_1312_1110),
-        (7, 0x1f1e_1d1c_1b1a_1918),
-        (9, 1),
-        (10, 16),
-        (11, 2),
-        (12, 32),
-        (13, 4),
-        (14, 48),
-        (15, 8),
+fn parts_of_a_volume(rt: HostRuntime) {
+    let right = [
+        places_are_right(),
+        changes_are_read(),
+        has_words(fresh([0; 32], 2596), &ROOT),
+        has_words(fresh(SEED, 2596), &OTHER_ROOT),
+        has_words(fresh(SEED, 1), &SUPER),
     ];
-    assert!(rt; has_words(fresh(SEED, 1), &words));
+    assert_eq!(rt; right, [true; 5]);
 }
 
 /// The calls that make a volume of 64 frames.
 const CALLS: u64 = 1313;
 
 // A disk of zeros with room for such a volume.
-fn zeros(alloc: Global) -> Result<MemDisk, AllocError> {
-    MemDisk::new(alloc, 2660, CALLS, Vec::new(alloc))
-}
-
-fn calls_of_format(alloc: Global, p: &Params) -> Result<Option<Counts>, AllocError> {
-    let mut disk = zeros(alloc)?;
-    match format(&mut disk, p) {
-        Ok(()) => Ok(Some(disk.counts())),
-        Err(_) => Ok(None),
+fn zeros(alloc: Global) -> Option<MemDisk> {
+    match MemDisk::new(alloc, 2660, CALLS, Vec::new(alloc)) {
+        Ok(disk) => Some(disk),
+        Err(_) => None,
     }
 }
 
-#[test]
-fn a_volume_is_made(rt: HostRuntime) -> Result<(), AllocError> {
-    let Some(p) = settings([0; 32]) else {
-        return Err(AllocError);
-    };
-    let counts = Counts {
-        reads: 0,
-        writes: 1310,
-        syncs: 3,
-    };
-    assert_eq!(rt; calls_of_format(rt.alloc(), &p)?, Some(counts));
-    Ok(())
+fn calls_of_format(alloc: Global, p: &Params) -> Option<Counts> {
+    match zeros(alloc) {
+        Some(mut disk) => match format(&mut disk, p) {
+            Ok(()) => Some(disk.counts()),
+            Err(_) => None,
+        },
+        None => None,
+    }
 }
 
 // Whether block `i` of a disk begins with these bytes.
@@ -180,30 +180,62 @@ fn is_none_or_fresh(disk: &mut MemDisk, p: &Params) -> bool {
     true
 }
 
-// Whether a volume was made on a disk that dies after so many calls, and whether each stop then leaves none or the fresh
-// one.
-fn dies_after(alloc: Global, p: &Params, calls: u64) -> Result<(bool, [bool; 3]), AllocError> {
-    let mut fuse = Fuse::new(zeros(alloc)?, calls);
-    let made = format(&mut fuse, p).is_ok();
-    let disk = fuse.into_inner();
-    let mut are_good = [false; 3];
-    for (left, is_good) in [Left::Old, Left::New, Left::Gates]
-        .into_iter()
-        .zip(&mut are_good)
-    {
-        *is_good = is_none_or_fresh(&mut disk.stopped(alloc, left)?, p);
+// Whether this stop leaves no volume or the fresh one.
+fn leaves_good(alloc: Global, disk: &MemDisk, p: &Params, left: Left) -> bool {
+    match disk.stopped(alloc, left) {
+        Ok(mut disk) => is_none_or_fresh(&mut disk, p),
+        Err(_) => false,
     }
-    Ok((made, are_good))
+}
+
+fn all_leave_good(alloc: Global, disk: &MemDisk, p: &Params) -> bool {
+    leaves_good(alloc, disk, p, Left::Old)
+        && leaves_good(alloc, disk, p, Left::New)
+        && leaves_good(alloc, disk, p, Left::Gates)
+}
+
+// Whether a volume is made on this disk, and whether each stop then leaves none or the fresh one.
+fn burnt(alloc: Global, mut fuse: Fuse<MemDisk>, p: &Params) -> (bool, bool) {
+    let made = format(&mut fuse, p).is_ok();
+    (made, all_leave_good(alloc, &fuse.into_inner(), p))
+}
+
+// The same on a disk that dies after so many calls.
+fn dies_after(alloc: Global, p: &Params, calls: u64) -> Option<(bool, bool)> {
+    match zeros(alloc) {
+        Some(disk) => Some(burnt(alloc, Fuse::new(disk, calls), p)),
+        None => None,
+    }
+}
+
+// The first of these numbers of calls after which that is not as it is to be.
+fn wrong_after(alloc: Global, p: &Params, from: u64, to: u64) -> Option<u64> {
+    for calls in from..to {
+        if dies_after(alloc, p, calls) != Some((calls == CALLS, true)) {
+            return Some(calls);
+        }
+    }
+    None
+}
+
+/// The calls of making a volume, and where a stop leaves another one.
+type Made = (Option<Counts>, [Option<u64>; 2]);
+
+fn made(alloc: Global) -> Option<Made> {
+    let p = settings([0; 32])?;
+    let wrong = [
+        wrong_after(alloc, &p, 0, 21),
+        wrong_after(alloc, &p, 1290, CALLS + 1),
+    ];
+    Some((calls_of_format(alloc, &p), wrong))
 }
 
 #[test]
-fn a_stop_leaves_none_or_the_fresh_one(rt: HostRuntime) -> Result<(), AllocError> {
-    let Some(p) = settings([0; 32]) else {
-        return Err(AllocError);
+fn a_stop_leaves_none_or_the_fresh_one(rt: HostRuntime) {
+    let counts = Counts {
+        reads: 0,
+        writes: 1310,
+        syncs: 3,
     };
-    for calls in (0..21).chain(1290..CALLS + 1) {
-        let left = dies_after(rt.alloc(), &p, calls)?;
-        assert_eq!(rt; left, (calls == CALLS, [true; 3]), "after {calls} calls");
-    }
-    Ok(())
+    assert_eq!(rt; made(rt.alloc()), Some((Some(counts), [None; 2])));
 }

@@ -44,18 +44,24 @@ fn is_read(kind: Kind, block: &Block) -> bool {
 // How many of these places of a row have another byte.
 fn differ(kind: Kind, block: &Block, wanted: &[Place]) -> usize {
     let row = &block[first_place(kind)..];
-    wanted
-        .iter()
-        .filter(|place| row.get(place.0) != Some(&place.1))
-        .count()
+    let mut others: usize = 0;
+    for place in wanted {
+        if row.get(place.0) != Some(&place.1) {
+            others = others.saturating_add(1);
+        }
+    }
+    others
 }
 
 // How many of these bytes, each alone in its place, leave a row that is read.
 fn still_read(kind: Kind, block: &Block, changes: &[Place]) -> usize {
-    changes
-        .iter()
-        .filter(|change| is_read(kind, &changed(kind, block, change)))
-        .count()
+    let mut read: usize = 0;
+    for change in changes {
+        if is_read(kind, &changed(kind, block, change)) {
+            read = read.saturating_add(1);
+        }
+    }
+    read
 }
 
 fn changed(kind: Kind, block: &Block, change: &Place) -> Block {
@@ -120,16 +126,25 @@ const NO_OBJECT: [Place; 9] = [
     (752, 1),
 ];
 
-#[test]
-fn an_object(rt: HostRuntime) {
+/// How many bytes of a row are other ones, how many of its changes are read, and whether all is read back.
+type Tried = (usize, usize, bool);
+
+// Whether the object, no object and bytes that spell none are read as what they are.
+fn objects_are_read(block: &Block) -> bool {
+    object_in(block, 3) == Some(Spelled::Row(object()))
+        && object_in(block, 1) == Some(Spelled::Free)
+        && object_in(block, 2).is_none()
+}
+
+fn an_object() -> Tried {
     let mut block = [9; BLOCK_SIZE];
     put_object(None, 1, &mut block);
     put_object(Some(&object()), 3, &mut block);
-    assert_eq!(rt; object_in(&block, 1), Some(Spelled::Free));
-    assert_eq!(rt; object_in(&block, 2), None);
-    assert_eq!(rt; differ(Kind::Object, &block, &OF_OBJECT), 0);
-    assert_eq!(rt; object_in(&block, 3), Some(Spelled::Row(object())));
-    assert_eq!(rt; still_read(Kind::Object, &block, &NO_OBJECT), 0);
+    (
+        differ(Kind::Object, &block, &OF_OBJECT),
+        still_read(Kind::Object, &block, &NO_OBJECT),
+        objects_are_read(&block),
+    )
 }
 
 fn thread() -> ThrRow {
@@ -174,46 +189,69 @@ const NO_THREAD: [Place; 9] = [
     (4095, 1),
 ];
 
-#[test]
-fn a_thread(rt: HostRuntime) {
+// Whether no thread is read as none.
+fn none_is_read() -> bool {
+    let mut block: Block = [7; BLOCK_SIZE];
+    write_thread(None, &mut block);
+    read_thread(&block) == Some(Spelled::Free)
+}
+
+fn a_thread() -> Tried {
     let mut block: Block = [7; BLOCK_SIZE];
     write_thread(Some(&thread()), &mut block);
-    assert_eq!(rt; differ(Kind::Thread, &block, &OF_THREAD), 0);
-    assert_eq!(rt; read_thread(&block), Some(Spelled::Row(thread())));
-    assert_eq!(rt; still_read(Kind::Thread, &block, &NO_THREAD), 0);
-    write_thread(None, &mut block);
-    assert_eq!(rt; read_thread(&block), Some(Spelled::Free));
+    let is_read = read_thread(&block) == Some(Spelled::Row(thread()));
+    (
+        differ(Kind::Thread, &block, &OF_THREAD),
+        still_read(Kind::Thread, &block, &NO_THREAD),
+        is_read && none_is_read(),
+    )
 }
 
 const OF_ACCOUNT: [Place; 5] = [(0, 1), (8, 2), (9, 1), (16, 7), (25, 1)];
 
-#[test]
-fn an_account(rt: HostRuntime) {
-    let row = AccRow {
-        password: 0x0102,
-        balance: 7,
-        owed: 256,
-    };
+const NO_ACCOUNT: [Place; 2] = [(0, 2), (63, 1)];
+
+const ACCOUNT: AccRow = AccRow {
+    password: 0x0102,
+    balance: 7,
+    owed: 256,
+};
+
+// Whether the account, no account and bytes that spell none are read as what they are.
+fn accounts_are_read(block: &Block) -> bool {
+    account_in(block, 63) == Some(Spelled::Row(ACCOUNT))
+        && account_in(block, 1) == Some(Spelled::Free)
+        && account_in(block, 2).is_none()
+}
+
+fn an_account() -> Tried {
     let mut block = [0; BLOCK_SIZE];
-    write_account(Some(&row), &mut block[4032..]);
+    write_account(Some(&ACCOUNT), &mut block[4032..]);
     block[64 * 2] = 9;
-    assert_eq!(rt; account_in(&block, 1), Some(Spelled::Free));
-    assert_eq!(rt; account_in(&block, 2), None);
-    assert_eq!(rt; differ(Kind::Account, &block, &OF_ACCOUNT), 0);
-    assert_eq!(rt; account_in(&block, 63), Some(Spelled::Row(row)));
-    assert_eq!(rt; still_read(Kind::Account, &block, &[(0, 2), (63, 1)]), 0);
+    (
+        differ(Kind::Account, &block, &OF_ACCOUNT),
+        still_read(Kind::Account, &block, &NO_ACCOUNT),
+        accounts_are_read(&block),
+    )
 }
 
 const OF_GLOBALS: [Place; 5] = [(0, 2), (8, 3), (16, 0), (17, 1), (24, 1)];
 
 const NO_GLOBALS: [Place; 5] = [(0, 1), (11, 1), (18, 1), (24, 0), (4095, 1)];
 
-#[test]
-fn the_globals(rt: HostRuntime) {
+fn the_globals() -> Tried {
     let globals = Globals::new(2, 3, 256, 1);
     let mut block: Block = [7; BLOCK_SIZE];
     write_globals(&globals, &mut block);
-    assert_eq!(rt; differ(Kind::Globals, &block, &OF_GLOBALS), 0);
-    assert_eq!(rt; read_globals(&block), Some(globals));
-    assert_eq!(rt; still_read(Kind::Globals, &block, &NO_GLOBALS), 0);
+    (
+        differ(Kind::Globals, &block, &OF_GLOBALS),
+        still_read(Kind::Globals, &block, &NO_GLOBALS),
+        read_globals(&block) == Some(globals),
+    )
+}
+
+#[test]
+fn rows_are_spelled(rt: HostRuntime) {
+    let tried = [an_object(), a_thread(), an_account(), the_globals()];
+    assert_eq!(rt; tried, [(0, 0, true); 4]);
 }

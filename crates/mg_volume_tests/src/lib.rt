@@ -5,10 +5,12 @@
 #![tactic(auto)]
 
 #[cfg(test)]
-mod counting;
+mod kernels;
 #[cfg(test)]
 mod probes;
 #[cfg(test)]
 mod sharing;
 #[cfg(test)]
 mod staging;
+#[cfg(test)]
+mod trials;

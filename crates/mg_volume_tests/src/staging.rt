@@ -48,17 +48,20 @@ fn opened(alloc: Global, mut disk: MemDisk, params: &Params) -> Option<Volume>
     }
 }
 
-/// An object as it came, with an extension, and when it is gone; beside each the blocks that are staged.
-type Objects = [(Option<ObjRow>, usize); 3];
+/// Whether an object stands there as it came, with an extension, and is gone; beside each the blocks that are staged.
+type Objects = [(bool, usize); 3];
 
-fn objects(alloc: Global) -> Option<Objects> {
-    let mut volume = fresh(alloc)?;
+fn objects_of(volume: &mut Volume) -> Objects
+    requires { IsFresh volume.old }
+{
     volume.insert(object());
-    let come = (volume.object(BASE), volume.staged());
+    let come = (volume.object(BASE) == Some(object()), volume.staged());
     volume.change(extended());
-    let changed = (volume.covering(BASE + 4096 * PAGES - 1), volume.staged());
+    let last = volume.covering(BASE + 4096 * PAGES - 1);
+    let changed = (last == Some(extended()), volume.staged());
     volume.remove(BASE);
-    Some([come, changed, (volume.object(BASE), volume.staged())])
+    let gone = (volume.object(BASE).is_none(), volume.staged());
+    [come, changed, gone]
 }
 
 fn object() -> ObjRow
@@ -78,26 +81,6 @@ fn extended() -> ObjRow
         password: 3,
     }));
     row
-}
-
-// Both rows are in one block, and no page of the object has a frame.
-#[test]
-fn objects_come_and_go(rt: HostRuntime) {
-    let wanted = [(Some(object()), 1), (Some(extended()), 1), (None, 1)];
-    assert_eq!(rt; objects(rt.alloc()), Some(wanted));
-}
-
-/// Threads 1 and 256, the counters, two passwords, and the blocks that are staged.
-type Rest = ([Option<ThrRow>; 2], Globals, [u64; 2], usize);
-
-fn rest(alloc: Global) -> Option<Rest> {
-    let mut volume = fresh(alloc)?;
-    volume.stage_thread(256, Some(thread()));
-    volume.stage_thread(1, None);
-    put(&mut volume, Globals::new(2, 3, 256, 9))?;
-    let passwords = [next(&mut volume)?, next(&mut volume)?];
-    let threads = [volume.thread(1), volume.thread(256)];
-    Some((threads, volume.globals(), passwords, volume.staged()))
 }
 
 // Other counters, of no earlier period, where there is room for them.
@@ -121,11 +104,58 @@ fn next(volume: &mut Volume) -> Option<u64> {
     Some(volume.next_password())
 }
 
-// The passwords are the third and the fourth of the key stream for the key 0, which RFC 8439 prints in its appendix A.1.
+/// Whether thread 1 is gone, thread 256 has come and the counters are the new ones, with two draws; the two passwords; and the
+/// blocks that are staged.
+type Rest = ([bool; 3], [u64; 2], usize);
+
+fn rest_of(volume: &mut Volume) -> Option<Rest>
+    requires { IsFresh volume.old }
+{
+    volume.stage_thread(256, Some(thread()));
+    volume.stage_thread(1, None);
+    put(volume, Globals::new(2, 3, 256, 9))?;
+    let passwords = [next(volume)?, next(volume)?];
+    let are_seen = [
+        volume.thread(1).is_none(),
+        volume.thread(256) == Some(thread()),
+        volume.globals() == Globals::new(4, 3, 256, 9),
+    ];
+    Some((are_seen, passwords, volume.staged()))
+}
+
+/// What is staged on a fresh volume.
+#[derive(Clone, Copy)]
+enum Part {
+    Objects,
+    Rest,
+}
+
+// Both rows of the object are in one block, and no page of it has a frame. The passwords are the third and the fourth of the key
+// stream for the key 0, which RFC 8439 prints in its appendix A.1.
+fn is_seen(volume: &mut Volume, part: Part) -> bool
+    requires { IsFresh volume.old }
+{
+    match part {
+        Part::Objects => objects_of(volume) == [(true, 1); 3],
+        Part::Rest => {
+            let passwords = [0x1aed_8da0_b819_d2bd, 0xc70d_778b_ccef_36a8];
+            rest_of(volume) == Some(([true; 3], passwords, 3))
+        }
+    }
+}
+
+fn is_seen_on_fresh(alloc: Global, part: Part) -> bool {
+    match fresh(alloc) {
+        Some(mut volume) => is_seen(&mut volume, part),
+        None => false,
+    }
+}
+
 #[test]
-fn threads_and_counters_are_staged(rt: HostRuntime) {
-    let passwords = [0x1aed_8da0_b819_d2bd, 0xc70d_778b_ccef_36a8];
-    let threads = [None, Some(thread())];
-    let wanted = (threads, Globals::new(4, 3, 256, 9), passwords, 3);
-    assert_eq!(rt; rest(rt.alloc()), Some(wanted));
+fn what_is_staged_is_seen(rt: HostRuntime) {
+    let are_seen = [
+        is_seen_on_fresh(rt.alloc(), Part::Objects),
+        is_seen_on_fresh(rt.alloc(), Part::Rest),
+    ];
+    assert_eq!(rt; are_seen, [true; 2]);
 }

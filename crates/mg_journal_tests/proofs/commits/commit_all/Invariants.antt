@@ -1,6 +1,6 @@
 use Rattle.std.proofs.Common.{◌≡◌, true}
 use Rattle.mg_journal.specs.Standing.{Stands, is_live, total_of}
-use Rattle.mg_journal_tests.proofs.late.commit_all.Given as goal
+use Rattle.mg_journal_tests.proofs.commits.commit_all.Given as goal
 
 -- the store stands on the disk, and may commit
 abbrev pub invariant-loop-number : goal.invariant-loop-number

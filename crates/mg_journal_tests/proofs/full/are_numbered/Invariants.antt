@@ -1,6 +1,6 @@
 use Rattle.std.proofs.Common.{◌≡◌}
 use Rattle.mg_journal.specs.Standing.{Stands}
-use Rattle.mg_journal_tests.proofs.full.reads.Given as goal
+use Rattle.mg_journal_tests.proofs.full.are_numbered.Given as goal
 
 -- the store stands on the disk
 abbrev pub invariant-loop-k : goal.invariant-loop-k

@@ -1,0 +1,266 @@
+// Kernels on volumes in memory: what their caches keep is counted in words and in blocks, and told by probes.
+ghost use Rattle.std.specs.Prelude.{◌≡◌, ◌<◌, IsSome};
+ghost use Rattle.mg_kernel.specs.Meaning.{StandsOn};
+
+use crate::sharing::{OTHER, PASSWORD, are_put};
+use crate::trials::{Row, wrong_row};
+use mg_disk::{Disk, MemDisk};
+use mg_kernel::Kernel;
+use mg_layout::format;
+use mg_model::{Params, Steps, Tariff};
+use std::alloc::Global;
+use std::marker::Brand;
+use std::sync::ledger::{Blank, Ledger};
+
+pub(crate) const ROOT: u64 = 0x1_0000_0000;
+
+/// What is tried on a fresh volume of 64 frames.
+#[derive(Clone, Copy)]
+enum Trial {
+    /// The words of a capability list are read once, until a store into it.
+    Counting,
+    /// A page is read once, and stays behind a commit.
+    Reading,
+    /// A probe tells what a thread may reach, also once that has locked itself out.
+    LockedOut,
+    /// It tells the same when the volume is opened again.
+    StillOut,
+    /// Two threads take one seat in turn.
+    Sharing,
+}
+
+// The root's list has one entry: a search reads the count, the base and the password. Each line has a word of its own; the store
+// wants another right, and so searches too.
+const COUNTED: [Row; 4] = [
+    Row::Loads {
+        thread: 1,
+        a: ROOT,
+        value: 1,
+        times: 1,
+        words: Some(4),
+    },
+    Row::Loads {
+        thread: 1,
+        a: ROOT,
+        value: 1,
+        times: 999,
+        words: Some(1003),
+    },
+    Row::Store {
+        a: ROOT + 2048,
+        value: 5,
+        words: Some(1007),
+    },
+    Row::Loads {
+        thread: 1,
+        a: ROOT,
+        value: 1,
+        times: 1,
+        words: Some(1011),
+    },
+];
+
+// The root's page is one block: its list and the word that is loaded.
+const FIRST_READ: [Row; 1] = [Row::Loads {
+    thread: 1,
+    a: ROOT,
+    value: 1,
+    times: 1,
+    words: None,
+}];
+
+const READ_AGAIN: [Row; 1] = [Row::Loads {
+    thread: 1,
+    a: ROOT,
+    value: 1,
+    times: 99,
+    words: None,
+}];
+
+const COMMITTED: [Row; 2] = [
+    Row::Store {
+        a: ROOT + 2048,
+        value: 5,
+        words: None,
+    },
+    Row::Commit,
+];
+
+const READ_BEHIND: [Row; 1] = [Row::Loads {
+    thread: 1,
+    a: ROOT + 2048,
+    value: 5,
+    times: 1,
+    words: None,
+}];
+
+// Thread 1 empties the root's list.
+const LOCKED_OUT: [Row; 4] = [
+    Row::Probes(true),
+    Row::Store {
+        a: ROOT,
+        value: 0,
+        words: None,
+    },
+    Row::Probes(false),
+    Row::Commit,
+];
+
+const STILL_OUT: [Row; 1] = [Row::Probes(false)];
+
+// Thread 1 puts the other object into the root's list, behind the root. Its three stores each search the list up to the root's
+// entry. A search for the other object reads one base more. Both keys have seat 38, so the last load searches again.
+const SHARED: [Row; 6] = [
+    Row::Store {
+        a: ROOT,
+        value: 2,
+        words: None,
+    },
+    Row::Store {
+        a: ROOT + 32,
+        value: OTHER,
+        words: None,
+    },
+    Row::Store {
+        a: ROOT + 40,
+        value: PASSWORD,
+        words: Some(12),
+    },
+    Row::Loads {
+        thread: 1,
+        a: OTHER,
+        value: 0,
+        times: 1,
+        words: Some(17),
+    },
+    Row::Loads {
+        thread: 38,
+        a: ROOT,
+        value: 2,
+        times: 1,
+        words: Some(21),
+    },
+    Row::Loads {
+        thread: 1,
+        a: OTHER,
+        value: 0,
+        times: 1,
+        words: Some(26),
+    },
+];
+
+/// How many blocks some rows read, where they are answered as they say.
+fn read_by<L: Ledger>(
+    kernel: &mut Kernel,
+    disk: &mut MemDisk,
+    rows: &[Row],
+    steps: &mut Steps<L>,
+) -> Option<u64>
+    requires { StandsOn ⟦<MemDisk as Disk>⟧ kernel.old disk.old }
+    ensures { IsSome result → StandsOn ⟦<MemDisk as Disk>⟧ kernel.new disk.new }
+{
+    let before = disk.counts().reads;
+    match wrong_row(kernel, disk, rows, steps) {
+        Some(_) => None,
+        None => Some(disk.counts().reads.wrapping_sub(before)),
+    }
+}
+
+/// How many blocks are read by the first load, by those behind it, and by the one behind a commit.
+fn reads<L: Ledger>(
+    kernel: &mut Kernel,
+    disk: &mut MemDisk,
+    steps: &mut Steps<L>,
+) -> Option<[u64; 3]>
+    requires { StandsOn ⟦<MemDisk as Disk>⟧ kernel.old disk.old }
+{
+    let first = read_by(kernel, disk, &FIRST_READ, steps)?;
+    let again = read_by(kernel, disk, &READ_AGAIN, steps)?;
+    read_by(kernel, disk, &COMMITTED, steps)?;
+    let behind = read_by(kernel, disk, &READ_BEHIND, steps)?;
+    Some([first, again, behind])
+}
+
+/// Whether a trial on this kernel goes as it says.
+fn goes_well<L: Ledger>(
+    kernel: &mut Kernel,
+    disk: &mut MemDisk,
+    trial: Trial,
+    steps: &mut Steps<L>,
+) -> bool
+    requires { StandsOn ⟦<MemDisk as Disk>⟧ kernel.old disk.old }
+{
+    match trial {
+        Trial::Counting => wrong_row(kernel, disk, &COUNTED, steps).is_none(),
+        Trial::Reading => reads(kernel, disk, steps) == Some([1, 0, 0]),
+        Trial::LockedOut => wrong_row(kernel, disk, &LOCKED_OUT, steps).is_none(),
+        Trial::StillOut => wrong_row(kernel, disk, &STILL_OUT, steps).is_none(),
+        Trial::Sharing => wrong_row(kernel, disk, &SHARED, steps).is_none(),
+    }
+}
+
+/// The same on a kernel that is opened here.
+fn is_opened_well<L: Ledger>(
+    alloc: Global,
+    disk: &mut MemDisk,
+    trial: Trial,
+    steps: &mut Steps<L>,
+) -> bool {
+    match Kernel::open(alloc, disk) {
+        Ok(mut kernel) => goes_well(&mut kernel, disk, trial, steps),
+        Err(_) => false,
+    }
+}
+
+/// The same on a fresh volume, behind what the trial begins with.
+fn all_go_well<L: Ledger>(
+    alloc: Global,
+    disk: &mut MemDisk,
+    trial: Trial,
+    steps: &mut Steps<L>,
+) -> bool {
+    let is_ready = match trial {
+        Trial::Sharing => are_put(disk),
+        Trial::StillOut => is_opened_well(alloc, disk, Trial::LockedOut, steps),
+        _ => true,
+    };
+    is_ready && is_opened_well(alloc, disk, trial, steps)
+}
+
+/// Makes a volume of 64 frames.
+fn is_made<D: Disk>(disk: &mut D) -> bool {
+    match Params::new(64, [0; 32], 1000, Tariff::usual(64)) {
+        Some(params) => format(disk, &params).is_ok(),
+        None => false,
+    }
+}
+
+fn goes_well_on_zeros<L: Ledger>(alloc: Global, trial: Trial, steps: &mut Steps<L>) -> bool {
+    match MemDisk::new(alloc, 2660, 20_000, Vec::new(alloc)) {
+        Ok(mut disk) => is_made(&mut disk) && all_go_well(alloc, &mut disk, trial, steps),
+        Err(_) => false,
+    }
+}
+
+fn tried<L: Ledger>(alloc: Global, blank: Blank, trial: Trial) -> bool
+    requires name { blank.name ≡ L.name }
+    requires parts { blank.parts ≡ L.parts }
+    requires some { 0 < blank.parts }
+{
+    let mut steps = Steps::<L>::new(blank);
+    goes_well_on_zeros(alloc, trial, &mut steps)
+}
+
+#[test]
+fn trials_go_well(rt: HostRuntime) {
+    for (name, trial) in [
+        ("counting", Trial::Counting),
+        ("reading", Trial::Reading),
+        ("locked out", Trial::LockedOut),
+        ("still out", Trial::StillOut),
+        ("sharing", Trial::Sharing),
+    ] {
+        let is_well = tried::<Brand>(rt.alloc(), Blank::new(1), trial);
+        assert!(rt; is_well, "{name}");
+    }
+}

@@ -1,0 +1,148 @@
+// Rows of calls on a kernel, and what each is answered.
+ghost use Rattle.std.specs.Prelude.{◌≡◌, None, true};
+ghost use Rattle.mg_kernel.specs.Meaning.{StandsOn};
+
+use crate::probes::wrong_probe;
+use mg_disk::Disk;
+use mg_kernel::Kernel;
+use mg_model::{Call, Line, Reply, Steps};
+use std::sync::ledger::Ledger;
+
+/// What is done on a kernel, and what it answers. Words are those that are counted then, where they are compared.
+#[derive(Clone, Copy)]
+pub(crate) enum Row {
+    /// Loads of a thread that give a value.
+    Loads {
+        thread: u64,
+        a: u64,
+        value: u64,
+        times: u64,
+        words: Option<u64>,
+    },
+    /// A store of thread 1.
+    Store {
+        a: u64,
+        value: u64,
+        words: Option<u64>,
+    },
+    /// All probes, where thread 1 still has the root or not.
+    Probes(bool),
+    Commit,
+}
+
+/// What a line is answered, where there is room for what it stages.
+fn answered<D: Disk, L: Ledger>(
+    kernel: &mut Kernel,
+    disk: &mut D,
+    line: &Line,
+    steps: &mut Steps<L>,
+) -> Option<Reply>
+    requires { StandsOn D.Disk kernel.old disk.old }
+    ensures { StandsOn D.Disk kernel.new disk.new }
+{
+    if !kernel.live() || kernel.staged() > 28 {
+        return None;
+    }
+    kernel.step(disk, line, steps).ok()
+}
+
+/// Whether a line that comes so often gives this value each time.
+fn all_give<D: Disk, L: Ledger>(
+    kernel: &mut Kernel,
+    disk: &mut D,
+    line: &Line,
+    value: u64,
+    times: u64,
+    steps: &mut Steps<L>,
+) -> bool
+    requires { StandsOn D.Disk kernel.old disk.old }
+    ensures { StandsOn D.Disk kernel.new disk.new }
+{
+    for _ in 0..times {
+        if answered(kernel, disk, line, steps) != Some(Reply::Value(value)) {
+            return false;
+        }
+    }
+    true
+}
+
+fn is_stored<D: Disk, L: Ledger>(
+    kernel: &mut Kernel,
+    disk: &mut D,
+    a: u64,
+    value: u64,
+    steps: &mut Steps<L>,
+) -> bool
+    requires { StandsOn D.Disk kernel.old disk.old }
+    ensures { StandsOn D.Disk kernel.new disk.new }
+{
+    let call = Call::Store { a, value };
+    answered(kernel, disk, &Line { thread: 1, call }, steps) == Some(Reply::Done)
+}
+
+fn is_committed<D: Disk>(kernel: &mut Kernel, disk: &mut D) -> bool
+    requires { StandsOn D.Disk kernel.old disk.old }
+    ensures { result ≡ true → StandsOn D.Disk kernel.new disk.new }
+{
+    kernel.live() && kernel.commit(disk).is_ok()
+}
+
+/// Whether so many words are counted, where they are compared.
+fn counts(kernel: &Kernel, words: Option<u64>) -> bool {
+    match words {
+        Some(words) => kernel.words() == words,
+        None => true,
+    }
+}
+
+/// Whether a row is answered as it says.
+fn is_right<D: Disk, L: Ledger>(
+    kernel: &mut Kernel,
+    disk: &mut D,
+    row: &Row,
+    steps: &mut Steps<L>,
+) -> bool
+    requires { StandsOn D.Disk kernel.old disk.old }
+    ensures { result ≡ true → StandsOn D.Disk kernel.new disk.new }
+{
+    match row {
+        Row::Loads {
+            thread,
+            a,
+            value,
+            times,
+            words,
+        } => {
+            let line = Line {
+                thread: *thread,
+                call: Call::Load { a: *a },
+            };
+            all_give(kernel, disk, &line, *value, *times, steps) && counts(kernel, *words)
+        }
+        Row::Store { a, value, words } => {
+            is_stored(kernel, disk, *a, *value, steps) && counts(kernel, *words)
+        }
+        Row::Probes(are_allowed) => wrong_probe(kernel, disk, *are_allowed, steps).is_none(),
+        Row::Commit => is_committed(kernel, disk),
+    }
+}
+
+/// The place of the first row that is answered otherwise. The rows behind it are left out.
+pub(crate) fn wrong_row<D: Disk, L: Ledger>(
+    kernel: &mut Kernel,
+    disk: &mut D,
+    rows: &[Row],
+    steps: &mut Steps<L>,
+) -> Option<usize>
+    requires { StandsOn D.Disk kernel.old disk.old }
+    ensures { result ≡ None → StandsOn D.Disk kernel.new disk.new }
+{
+    let mut place: usize = 0;
+    for row in rows {
+        if !is_right(kernel, disk, row, steps) {
+            return Some(place);
+        }
+        place = place.saturating_add(1);
+    }
+    None
+}
