@@ -1,5 +1,5 @@
 // What commands tell, as one text.
-use crate::{SEED, Streams, command, volume};
+use crate::{Outcome, Streams, command, volume};
 use mg_disk::{BLOCK_SIZE, Disk, MemDisk};
 use std::alloc::{AllocError, Global};
 
@@ -10,13 +10,17 @@ pub type Byte = (u64, usize, u8);
 pub const BLOCKS: u64 = 2660;
 
 /// The words that make a volume of 64 frames.
+pub const MAKING: &str =
+    "vol format 64 0000000000000000000000000000000000000000000000000000000000000000 1000";
+
+/// The same as a text of its own.
 pub fn making(alloc: Global) -> Result<String, AllocError> {
-    format!(in alloc; "vol format 64 {SEED} 1000")
+    String::from_str(alloc, MAKING)
 }
 
 /// A fresh volume of 64 frames, with no call made yet.
 pub fn fresh(alloc: Global) -> Result<MemDisk, AllocError> {
-    volume(alloc, making(alloc)?.as_str())
+    volume(alloc, MAKING)
 }
 
 /// The status of a command, and behind a blank what it put.
@@ -26,10 +30,18 @@ pub fn told<D: Disk>(
     disk: &mut D,
     streams: &Streams<'_>,
 ) -> Result<String, AllocError> {
-    let outcome = command(alloc, line, disk, streams)?;
+    match command(alloc, line, disk, streams) {
+        Ok(outcome) => text_of(alloc, &outcome),
+        Err(e) => Err(e),
+    }
+}
+
+fn text_of(alloc: Global, outcome: &Outcome) -> Result<String, AllocError> {
     let code = outcome.status.code();
-    let put = String::from_utf8_lossy(alloc, &outcome.put)?;
-    format!(in alloc; "{code} {put}")
+    match String::from_utf8_lossy(alloc, &outcome.put) {
+        Ok(put) => format!(in alloc; "{code} {put}"),
+        Err(e) => Err(e),
+    }
 }
 
 /// The same of a command with this input.
@@ -40,6 +52,78 @@ pub fn told_of<D: Disk>(
     input: &str,
 ) -> Result<String, AllocError> {
     told(alloc, line, disk, &Streams::of(input.as_bytes()))
+}
+
+/// Whether this is what [`told`] tells. It is not where memory is wanting.
+pub fn is_told<D: Disk>(
+    alloc: Global,
+    line: &str,
+    disk: &mut D,
+    streams: &Streams<'_>,
+    wanted: &str,
+) -> bool {
+    match told(alloc, line, disk, streams) {
+        Ok(found) => found.as_str() == wanted,
+        Err(_) => false,
+    }
+}
+
+/// Whether this is what [`told_of`] tells. It is not where memory is wanting.
+pub fn is_told_of<D: Disk>(
+    alloc: Global,
+    line: &str,
+    disk: &mut D,
+    input: &str,
+    wanted: &str,
+) -> bool {
+    is_told(alloc, line, disk, &Streams::of(input.as_bytes()), wanted)
+}
+
+/// Whether a command ends with this code of its status and puts these bytes. It does not where memory is wanting.
+pub fn ends<D: Disk>(
+    alloc: Global,
+    line: &str,
+    disk: &mut D,
+    streams: &Streams<'_>,
+    code: u8,
+    put: &[u8],
+) -> bool {
+    match command(alloc, line, disk, streams) {
+        Ok(outcome) => outcome.status.code() == code && outcome.put.as_slice() == put,
+        Err(_) => false,
+    }
+}
+
+/// Lines, each with what it is answered.
+pub type Lines<'a> = &'a [(&'a str, &'a str)];
+
+/// Whether a command that reads these lines ends with status 0 and puts their answers. It does not where memory is wanting.
+pub fn answers<D: Disk>(alloc: Global, line: &str, disk: &mut D, lines: Lines<'_>) -> bool {
+    let mut input = String::new(alloc);
+    let mut replies = String::new(alloc);
+    push_lines(&mut input, &mut replies, lines)
+        && ends(
+            alloc,
+            line,
+            disk,
+            &Streams::of(input.as_bytes()),
+            0,
+            replies.as_bytes(),
+        )
+}
+
+/// Puts the lines behind one text and their answers behind another, and tells whether there was memory for all.
+fn push_lines(input: &mut String, replies: &mut String, lines: Lines<'_>) -> bool {
+    for (line, reply) in lines {
+        if !push_line(input, line) || !push_line(replies, reply) {
+            return false;
+        }
+    }
+    true
+}
+
+fn push_line(text: &mut String, line: &str) -> bool {
+    text.push_str(line).is_ok() && text.push_str("\n").is_ok()
 }
 
 /// Puts bytes into a disk.
