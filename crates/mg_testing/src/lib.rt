@@ -12,7 +12,7 @@ mod volumes;
 
 pub use commands::{Outcome, Streams, command, words_of};
 pub use telling::{
-    BLOCKS, Byte, Lines, MAKING, answers, ends, fresh, is_told, is_told_of, making, put, told,
-    told_of,
+    BLOCKS, Byte, MAKING, answers, ends, fresh, is_told, is_told_of, making, put, put_bytes,
+    put_words, told, told_of,
 };
 pub use volumes::{ROOM, SEED, volume};

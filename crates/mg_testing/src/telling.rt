@@ -1,6 +1,7 @@
 // What commands tell, as one text.
 use crate::{Outcome, Streams, command, volume};
 use mg_disk::{BLOCK_SIZE, Disk, MemDisk};
+use mg_text::read_number;
 use std::alloc::{AllocError, Global};
 
 /// A block, an offset in it, and the byte that is put there.
@@ -94,29 +95,21 @@ pub fn ends<D: Disk>(
     }
 }
 
-/// Lines, each with what it is answered.
-pub type Lines<'a> = &'a [(&'a str, &'a str)];
-
-/// Whether a command that reads these lines ends with status 0 and puts their answers. It does not where memory is wanting.
-pub fn answers<D: Disk>(alloc: Global, line: &str, disk: &mut D, lines: Lines<'_>) -> bool {
-    let mut input = String::new(alloc);
+/// Whether a command that reads these lines ends with status 0 and puts their answers. An answer stands behind its line as `#= ANSWER`,
+/// which the command passes over as a note. It does not where memory is wanting.
+pub fn answers<D: Disk>(alloc: Global, line: &str, disk: &mut D, session: &str) -> bool {
     let mut replies = String::new(alloc);
-    push_lines(&mut input, &mut replies, lines)
-        && ends(
-            alloc,
-            line,
-            disk,
-            &Streams::of(input.as_bytes()),
-            0,
-            replies.as_bytes(),
-        )
+    let streams = Streams::of(session.as_bytes());
+    push_replies(&mut replies, session) && ends(alloc, line, disk, &streams, 0, replies.as_bytes())
 }
 
-/// Puts the lines behind one text and their answers behind another, and tells whether there was memory for all.
-fn push_lines(input: &mut String, replies: &mut String, lines: Lines<'_>) -> bool {
-    for (line, reply) in lines {
-        if !push_line(input, line) || !push_line(replies, reply) {
-            return false;
+/// Puts the answers of a session behind a text, and tells whether there was memory for all.
+fn push_replies(replies: &mut String, session: &str) -> bool {
+    for line in session.split('\n') {
+        if let Some(reply) = line.strip_prefix("#= ") {
+            if !push_line(replies, reply) {
+                return false;
+            }
         }
     }
     true
@@ -124,6 +117,49 @@ fn push_lines(input: &mut String, replies: &mut String, lines: Lines<'_>) -> boo
 
 fn push_line(text: &mut String, line: &str) -> bool {
     text.push_str(line).is_ok() && text.push_str("\n").is_ok()
+}
+
+/// Puts bytes into a disk, as `BLOCK OFFSET BYTE, BLOCK OFFSET BYTE, ..` tells them, and tells whether it could read that.
+pub fn put_bytes(disk: &mut MemDisk, bytes: &str) -> bool {
+    for item in bytes.split(", ") {
+        match three(item) {
+            Some((block, at, byte)) => put_byte(disk, block, at as usize, (byte % 256) as u8),
+            None if item.is_empty() => (),
+            None => return false,
+        }
+    }
+    true
+}
+
+/// Three numbers, which single blanks part.
+fn three(item: &str) -> Option<(u64, u64, u64)> {
+    let (first, rest) = item.split_once(' ')?;
+    let (second, third) = rest.split_once(' ')?;
+    Some((number(first)?, number(second)?, number(third)?))
+}
+
+fn number(word: &str) -> Option<u64> {
+    read_number(word.as_bytes())
+}
+
+/// Puts words into a disk, as `BLOCK PLACE WORD, BLOCK PLACE WORD, ..` tells them, and tells whether it could read that. The places of
+/// a block are 0 to 511.
+pub fn put_words(disk: &mut MemDisk, words: &str) -> bool {
+    for item in words.split(", ") {
+        match three(item) {
+            Some((block, place, word)) => put_word(disk, block, place as usize, word),
+            None => return false,
+        }
+    }
+    true
+}
+
+fn put_word(disk: &mut MemDisk, block: u64, place: usize, word: u64) {
+    let mut bytes = [0; BLOCK_SIZE];
+    if place < 512 && block < disk.blocks() && disk.read(block, &mut bytes).is_ok() {
+        bytes[8 * place..8 * place + 8].copy_from_slice(&word.to_le_bytes());
+        let _ = disk.write(block, &bytes);
+    }
 }
 
 /// Puts bytes into a disk.
