@@ -2,14 +2,16 @@
 use arrayvec::ArrayVec;
 use mg_disk::ScratchDisk;
 use mg_gen::line;
-use mg_testing::{Streams, command};
+use mg_testing::{Streams, command, ends};
 use std::alloc::{AllocError, Global};
 use std::test::Fail;
 
-/// What the command of this line puts.
-fn put(alloc: Global, line: &str) -> Result<Vec<u8>, AllocError> {
-    let mut disk = ScratchDisk::new(alloc, 0)?;
-    Ok(command(alloc, line, &mut disk, &Streams::of(b""))?.put)
+/// Whether the command of this line puts these bytes.
+fn puts(alloc: Global, line: &str, wanted: &[u8]) -> bool {
+    match ScratchDisk::new(alloc, 0) {
+        Ok(mut disk) => ends(alloc, line, &mut disk, &Streams::of(b""), 0, wanted),
+        Err(_) => false,
+    }
 }
 
 /// The text of so many replies that are ok, refused with `Limit` and refused with `Idle`, and no others.
@@ -19,33 +21,55 @@ fn told(alloc: Global, ok: usize, limit: usize, idle: usize) -> Result<String, A
     )
 }
 
-/// Whether a line of a run is `next`.
-fn is_next(number: u64, k: u64) -> bool {
-    let mut out = ArrayVec::new();
-    line(number, k, &mut out);
-    out.as_slice() == b"next\n".as_slice()
+/// Whether the command of this line puts that text.
+fn tells(alloc: Global, line: &str, ok: usize, limit: usize, idle: usize) -> bool {
+    match told(alloc, ok, limit, idle) {
+        Ok(wanted) => puts(alloc, line, wanted.as_bytes()),
+        Err(_) => false,
+    }
 }
 
-/// Whether a line of a run is a `pwadd`: no other one has this letter.
-fn is_pwadd(number: u64, k: u64) -> bool {
+/// Whether a line of a run is `next`, and whether it is a `pwadd`: no other one has its first letter.
+fn kind(number: u64, k: u64) -> (bool, bool) {
     let mut out = ArrayVec::new();
     line(number, k, &mut out);
-    out.iter().any(|b| *b == b'p')
+    let bytes = out.as_slice();
+    (bytes == b"next\n".as_slice(), bytes.contains(&b'p'))
 }
+
+/// How many of the first 20,000 lines of a run are so.
+fn kinds(number: u64) -> (usize, usize) {
+    let mut nexts: usize = 0;
+    let mut pwadds: usize = 0;
+    for k in 0..20_000 {
+        let (is_next, is_pwadd) = kind(number, k);
+        nexts = nexts.wrapping_add(is_next as usize);
+        pwadds = pwadds.wrapping_add(is_pwadd as usize);
+    }
+    (nexts, pwadds)
+}
+
+/// The first of these lines that does not put so many `ok` alone.
+fn wrong(alloc: Global, rows: &[(&'static str, usize)]) -> Option<&'static str> {
+    for (line, ok) in rows {
+        if !tells(alloc, line, *ok, 0, 0) {
+            return Some(*line);
+        }
+    }
+    None
+}
+
+const FEW: [(&str, usize); 5] = [
+    ("vol gen 7 0", 0),
+    ("vol gen 7 1", 1),
+    ("vol gen 7 10", 10),
+    ("vol gen 0x7 0x2c", 44),
+    ("vol gen 18446744073709551615 100", 100),
+];
 
 #[test]
 fn few_lines(rt: HostRuntime) -> Result<(), Fail> {
-    for (line, ok) in [
-        ("vol gen 7 0", 0),
-        ("vol gen 7 1", 1),
-        ("vol gen 7 10", 10),
-        ("vol gen 0x7 0x2c", 44),
-        ("vol gen 18446744073709551615 100", 100),
-    ] {
-        let wanted = told(rt.alloc(), ok, 0, 0)?;
-        let put = put(rt.alloc(), line)?;
-        assert_eq!(rt; put.as_slice(), wanted.as_bytes(), "{line}");
-    }
+    assert_eq!(rt; wrong(rt.alloc(), &FEW), None);
     Ok(())
 }
 
@@ -53,30 +77,31 @@ fn few_lines(rt: HostRuntime) -> Result<(), Fail> {
 // allowed.
 #[test]
 fn many_lines(rt: HostRuntime) -> Result<(), Fail> {
-    for (line, number, ok, limit, idle) in [
-        ("vol gen 7 20000", 7, 17_639, 1144, 1217),
-        (
-            "vol gen 18446744073709551615 20000",
-            u64::MAX,
-            17_696,
-            1134,
-            1170,
-        ),
-    ] {
-        let nexts = (0..20_000).filter(|k| is_next(number, *k)).count();
-        let pwadds = (0..20_000).filter(|k| is_pwadd(number, *k)).count();
-        assert_eq!(rt; (nexts, pwadds), (idle + 62, limit + 124), "{line}");
-        let wanted = told(rt.alloc(), ok, limit, idle)?;
-        let put = put(rt.alloc(), line)?;
-        assert_eq!(rt; put.as_slice(), wanted.as_bytes(), "{line}");
-    }
+    assert_eq!(rt; kinds(7), (1217 + 62, 1144 + 124));
+    assert_eq!(rt; kinds(u64::MAX), (1170 + 62, 1134 + 124));
+    assert!(rt; tells(rt.alloc(), "vol gen 7 20000", 17_639, 1144, 1217));
+    let last = "vol gen 18446744073709551615 20000";
+    assert!(rt; tells(rt.alloc(), last, 17_696, 1134, 1170));
     Ok(())
+}
+
+/// Whether a command puts the same twice.
+fn is_repeated(alloc: Global, line: &str) -> bool {
+    match ScratchDisk::new(alloc, 0) {
+        Ok(mut disk) => is_repeated_on(alloc, line, &mut disk),
+        Err(_) => false,
+    }
+}
+
+fn is_repeated_on(alloc: Global, line: &str, disk: &mut ScratchDisk) -> bool {
+    match command(alloc, line, disk, &Streams::of(b"")) {
+        Ok(first) => puts(alloc, line, &first.put),
+        Err(_) => false,
+    }
 }
 
 #[test]
 fn a_run_is_repeated(rt: HostRuntime) -> Result<(), Fail> {
-    let first = put(rt.alloc(), "vol gen 7 20000")?;
-    let second = put(rt.alloc(), "vol gen 7 20000")?;
-    assert_eq!(rt; first.as_slice(), second.as_slice());
+    assert!(rt; is_repeated(rt.alloc(), "vol gen 7 20000"));
     Ok(())
 }

@@ -1,12 +1,10 @@
 // Commands whose source, sink or disk fails, with how they end and what they leave.
-use mg_disk::{Disk, Fuse, MemDisk};
-use mg_testing::{SEED, Streams, fresh, told, told_of};
-use std::alloc::{AllocError, Global};
+use mg_disk::{Fuse, MemDisk};
+use mg_testing::{Streams, ends, fresh, is_told, is_told_of, told_of};
+use std::alloc::Global;
 use std::test::Fail;
 
 const STORE: &str = "1 store 0x100000020 5\n";
-
-const STORES: &str = "1 store 0x100000020 5\n1 store 0x100000028 6";
 
 const LOADS: &str = "1 load 0x100000020\n1 load 0x100000028\n";
 
@@ -15,170 +13,241 @@ const NONE: &str = "0 ok 0x0000000000000000\nok 0x0000000000000000\n";
 
 const FIRST: &str = "0 ok 0x0000000000000005\nok 0x0000000000000000\n";
 
-// The words that spell no command: batches of 0 and of 65 lines, 15 frames, a volume alone, and none.
+// The words that spell no command, a line each: batches of 0 and of 65 lines, 15 frames, a volume alone, and none.
+const NO_COMMANDS: &str = "vol run 0
+vol run 65
+vol format 15 0000000000000000000000000000000000000000000000000000000000000000 1
+vol dry 64 0000000000000000000000000000000000000000000000000000000000000000
+vol
+";
+
+// Whether a command of these words ends so, on a disk that no call may be made of.
+fn ends_idle(alloc: Global, line: &str, streams: &Streams<'_>, code: u8, put: &[u8]) -> bool {
+    match MemDisk::new(alloc, 1, 0, Vec::new(alloc)) {
+        Ok(mut disk) => ends(alloc, line, &mut disk, streams, code, put),
+        Err(_) => false,
+    }
+}
+
+// The first of these lines that spells a command.
+fn spelled<'a>(alloc: Global, lines: &'a str) -> Option<&'a str> {
+    let streams = Streams::of(STORE.as_bytes());
+    for line in lines.split('\n') {
+        if !ends_idle(alloc, line, &streams, 1, b"usage\n") {
+            return Some(line);
+        }
+    }
+    None
+}
+
 #[test]
 fn words_that_spell_nothing(rt: HostRuntime) -> Result<(), Fail> {
-    let few = format!(in rt.alloc(); "vol format 15 {SEED} 1")?;
-    let short = format!(in rt.alloc(); "vol dry 64 {SEED}")?;
-    for line in [
-        "vol run 0",
-        "vol run 65",
-        few.as_str(),
-        short.as_str(),
-        "vol",
-        "",
-    ] {
-        let mut disk = MemDisk::new(rt.alloc(), 1, 0, Vec::new(rt.alloc()))?;
-        let line_told = told_of(rt.alloc(), line, &mut disk, STORE)?;
-        assert_eq!(rt; line_told.as_str(), "1 usage\n", "{line}");
-    }
+    assert_eq!(rt; spelled(rt.alloc(), NO_COMMANDS), None);
     Ok(())
 }
 
-// What is put of 70 lines under `dry`, in bytes, and the status, where a take and a put fail. The disk has no call.
-fn seventy(alloc: Global, take: u64, put: u64) -> Result<(usize, String), AllocError> {
-    let mut lines = Vec::new(alloc);
-    let mut replies = String::from_str(alloc, "")?;
-    for _ in 0..35 {
-        lines.extend_from_slice(b"1 store 0x100000020 7\n1 load 0x100000020\n")?;
-        replies.push_str("ok\nok 0x0000000000000007\n")?;
-    }
+const DRY: &str =
+    "vol dry 64 0000000000000000000000000000000000000000000000000000000000000000 1000";
+
+// The take and the put that fail, the status, and how many bytes are put.
+type Cut = (u64, u64, u8, usize);
+
+// 70 lines come in 18 pieces of 80 bytes, and the source is asked once more. With 64 replies the first batch is put, and at
+// the end the second.
+const CUTS: [Cut; 7] = [
+    (0, 9, 5, 0),
+    (16, 9, 5, 0),
+    (17, 9, 5, 800),
+    (18, 9, 5, 800),
+    (99, 0, 6, 0),
+    (99, 1, 6, 800),
+    (99, 2, 0, 875),
+];
+
+// Whether a session of these lines is cut so.
+fn is_cut(alloc: Global, lines: &[u8], replies: &[u8], cut: Cut) -> bool {
+    let (take, put, code, count) = cut;
     let streams = Streams {
         piece: 80,
         takes: &[take],
         puts: &[put],
-        ..Streams::of(&lines)
+        ..Streams::of(lines)
     };
-    let mut disk = MemDisk::new(alloc, 1, 0, Vec::new(alloc))?;
-    let line = format!(in alloc; "vol dry 64 {SEED} 1000")?;
-    let text = told(alloc, line.as_str(), &mut disk, &streams)?;
-    match text.as_str().split_once(' ') {
-        Some((code, put)) if replies.as_str().starts_with(put) => {
-            Ok((put.len(), String::from_str(alloc, code)?))
-        }
-        _ => Ok((0, text)),
+    match replies.get(..count) {
+        Some(put) => ends_idle(alloc, DRY, &streams, code, put),
+        None => false,
     }
 }
 
-// 70 lines come in 18 pieces of 80 bytes, and the source is asked once more. With 64 replies the first batch is put, and at
-// the end the second.
+// The first of these that is not so.
+fn wrong_cut(alloc: Global, lines: &[u8], replies: &[u8], cuts: &[Cut]) -> Option<Cut> {
+    for cut in cuts {
+        if !is_cut(alloc, lines, replies, *cut) {
+            return Some(*cut);
+        }
+    }
+    None
+}
+
+// A text so many times; shorter where memory is wanting.
+fn repeated(alloc: Global, part: &str, times: u64) -> String {
+    let mut text = String::new(alloc);
+    for _ in 0..times {
+        let _ = text.push_str(part);
+    }
+    text
+}
+
+// The same of 35 stores, each with a load behind it.
+fn wrong_cut_of_70(alloc: Global, cuts: &[Cut]) -> Option<Cut> {
+    let lines = repeated(alloc, "1 store 0x100000020 7\n1 load 0x100000020\n", 35);
+    let replies = repeated(alloc, "ok\nok 0x0000000000000007\n", 35);
+    wrong_cut(alloc, lines.as_bytes(), replies.as_bytes(), cuts)
+}
+
 #[test]
 fn seventy_lines_in_two_batches(rt: HostRuntime) -> Result<(), Fail> {
-    let rows = [
-        (0, 9, "5", 0),
-        (16, 9, "5", 0),
-        (17, 9, "5", 800),
-        (18, 9, "5", 800),
-        (99, 0, "6", 0),
-        (99, 1, "6", 800),
-        (99, 2, "0", 875),
-    ];
-    for (take, put, code, count) in rows {
-        let (found, status) = seventy(rt.alloc(), take, put)?;
-        assert_eq!(rt; status.as_str(), code, "take {take}, put {put}");
-        assert_eq!(rt; found, count, "take {take}, put {put}");
+    assert_eq!(rt; wrong_cut_of_70(rt.alloc(), &CUTS), None);
+    Ok(())
+}
+
+// A command on a fresh volume with what it reads and tells, and what a second one reads and tells then.
+type Pair<'a> = (&'a str, Streams<'a>, &'a str, &'a str, &'a str, &'a str);
+
+// Whether both tell so.
+fn tell(alloc: Global, disk: &mut MemDisk, pair: &Pair<'_>) -> bool {
+    let (line, streams, wanted, second, input, kept) = pair;
+    is_told(alloc, line, disk, streams, wanted) && is_told_of(alloc, second, disk, input, kept)
+}
+
+fn is_pair(alloc: Global, pair: &Pair<'_>) -> bool {
+    match fresh(alloc) {
+        Ok(mut disk) => tell(alloc, &mut disk, pair),
+        Err(_) => false,
     }
-    Ok(())
 }
 
-// What a run with this input puts where its second take fails, and what two loads behind it put.
-fn cut_short(alloc: Global, line: &str, input: &str) -> Result<String, AllocError> {
-    let mut disk = fresh(alloc)?;
-    let streams = Streams {
-        takes: &[1],
-        ..Streams::of(input.as_bytes())
-    };
-    let mut text = told(alloc, line, &mut disk, &streams)?;
-    text.push_str(told_of(alloc, "vol run", &mut disk, LOADS)?.as_str())?;
-    Ok(text)
-}
-
-// What an open batch has is neither kept nor answered.
-#[test]
-fn a_source_that_fails(rt: HostRuntime) -> Result<(), Fail> {
-    let rows = [
-        ("vol run 2", "1 load 0x100000000\n", "5 ", NONE),
-        ("vol run", STORES, "5 ok\n", FIRST),
-        ("vol run 2", STORES, "5 ", NONE),
-    ];
-    for (line, input, put, kept) in rows {
-        let wanted = format!(in rt.alloc(); "{put}{kept}")?;
-        let found = cut_short(rt.alloc(), line, input)?;
-        assert_eq!(rt; found.as_str(), wanted.as_str(), "{line}");
+// The first of these that does not tell so.
+fn wrong_pair<'a>(alloc: Global, rows: &[Pair<'a>]) -> Option<&'a str> {
+    for row in rows {
+        if !is_pair(alloc, row) {
+            return Some(row.5);
+        }
     }
+    None
+}
+
+const SOURCE_FAILS: Streams<'static> = Streams {
+    input: b"1 store 0x100000020 5\n1 store 0x100000028 6",
+    piece: 4096,
+    takes: &[1],
+    puts: &[],
+    room: 65536,
+};
+
+const LOAD: Streams<'static> = Streams {
+    input: b"1 load 0x100000000\n",
+    ..SOURCE_FAILS
+};
+
+const NO_ROOM: Streams<'static> = Streams {
+    input: b"1 store 0x100000020 5\n",
+    takes: &[],
+    room: 0,
+    ..SOURCE_FAILS
+};
+
+const RENT: Streams<'static> = Streams {
+    input: b"rent\n",
+    takes: &[],
+    puts: &[0],
+    ..SOURCE_FAILS
+};
+
+const RENTED: &str = "0 ok 64 1 1 1 1 1 1000\n";
+
+// Where the source fails, what an open batch has is neither kept nor answered. Where the sink fails, a line was kept before, and of a
+// rent the period has passed.
+const PAIRS: [Pair<'static>; 5] = [
+    ("vol run 2", LOAD, "5 ", "vol run", LOADS, NONE),
+    ("vol run", SOURCE_FAILS, "5 ok\n", "vol run", LOADS, FIRST),
+    ("vol run 2", SOURCE_FAILS, "5 ", "vol run", LOADS, NONE),
+    ("vol run", NO_ROOM, "6 ", "vol run", LOADS, FIRST),
+    ("vol run", RENT, "6 ", "vol check", "", RENTED),
+];
+
+#[test]
+fn a_source_or_a_sink_that_fails(rt: HostRuntime) -> Result<(), Fail> {
+    assert_eq!(rt; wrong_pair(rt.alloc(), &PAIRS), None);
     Ok(())
 }
 
-// A line whose answer the sink does not take was kept before.
-#[test]
-fn a_sink_that_fails(rt: HostRuntime) -> Result<(), Fail> {
-    let mut disk = fresh(rt.alloc())?;
-    let streams = Streams {
-        room: 0,
-        ..Streams::of(STORE.as_bytes())
-    };
-    let put = told(rt.alloc(), "vol run", &mut disk, &streams)?;
-    assert_eq!(rt; put.as_str(), "6 ");
-    let kept = told_of(rt.alloc(), "vol run", &mut disk, LOADS)?;
-    assert_eq!(rt; kept.as_str(), FIRST);
-    Ok(())
-}
-
-// The same of a rent: the period has passed.
-#[test]
-fn a_rent_that_is_not_put(rt: HostRuntime) -> Result<(), Fail> {
-    let mut disk = fresh(rt.alloc())?;
-    let streams = Streams {
-        puts: &[0],
-        ..Streams::of(b"rent\n")
-    };
-    let put = told(rt.alloc(), "vol run", &mut disk, &streams)?;
-    assert_eq!(rt; put.as_str(), "6 ");
-    let kept = told_of(rt.alloc(), "vol check", &mut disk, "")?;
-    assert_eq!(rt; kept.as_str(), "0 ok 64 1 1 1 1 1 1000\n");
-    Ok(())
+// Whether a command ends with a fault of the disk, where none of its calls passes.
+fn fails_at_once(alloc: Global, line: &str) -> bool {
+    match fresh(alloc) {
+        Ok(disk) => {
+            let mut disk = Fuse::new(disk, 0);
+            is_told_of(alloc, line, &mut disk, STORE, "4 ")
+        }
+        Err(_) => false,
+    }
 }
 
 #[test]
 fn a_disk_that_fails_at_once(rt: HostRuntime) -> Result<(), Fail> {
-    for line in ["vol check", "vol run"] {
-        let mut disk = Fuse::new(fresh(rt.alloc())?, 0);
-        let found = told_of(rt.alloc(), line, &mut disk, STORE)?;
-        assert_eq!(rt; found.as_str(), "4 ", "{line}");
-    }
+    let alloc = rt.alloc();
+    assert!(rt; fails_at_once(alloc, "vol check") && fails_at_once(alloc, "vol run"));
     Ok(())
 }
 
-// How many writes and syncs a run makes.
-fn calls(alloc: Global, line: &str, input: &str) -> Result<(u64, u64), AllocError> {
-    let mut disk = fresh(alloc)?;
-    let _ = told_of(alloc, line, &mut disk, input)?;
-    let counts = disk.counts();
-    Ok((counts.writes, counts.syncs))
+// How many writes and syncs a run makes on this disk.
+fn calls_on(alloc: Global, disk: &mut MemDisk, line: &str, input: &str) -> Option<(u64, u64)> {
+    match told_of(alloc, line, disk, input) {
+        Ok(_) => {
+            let counts = disk.counts();
+            Some((counts.writes, counts.syncs))
+        }
+        Err(_) => None,
+    }
+}
+
+// The same on a fresh volume.
+fn calls(alloc: Global, line: &str, input: &str) -> Option<(u64, u64)> {
+    match fresh(alloc) {
+        Ok(mut disk) => calls_on(alloc, &mut disk, line, input),
+        Err(_) => None,
+    }
+}
+
+// Whether a run of this input makes so many.
+fn makes(alloc: Global, input: &str, wanted: (u64, u64)) -> bool {
+    calls(alloc, "vol run", input) == Some(wanted)
 }
 
 // An opening makes one sync, also where no segment is open.
 #[test]
 fn calls_of_a_line(rt: HostRuntime) -> Result<(), Fail> {
-    for (line, wanted) in [
-        ("", (0, 1)),
-        (STORE, (3, 3)),
-        ("1 load 0x100000020\n", (0, 1)),
-    ] {
-        let found = calls(rt.alloc(), "vol run", line)?;
-        assert_eq!(rt; found, wanted, "{line}");
-    }
+    let alloc = rt.alloc();
+    let load = "1 load 0x100000020\n";
+    assert!(rt;
+        makes(alloc, "", (0, 1)) && makes(alloc, STORE, (3, 3)) && makes(alloc, load, (0, 1))
+    );
     Ok(())
+}
+
+// Whether 40 stores make fewer syncs together than alone.
+fn saves_syncs(alloc: Global) -> bool {
+    let lines = repeated(alloc, STORE, 40);
+    let alone = calls(alloc, "vol run", lines.as_str());
+    let together = calls(alloc, "vol run 64", lines.as_str());
+    match (alone, together) {
+        (Some((_, alone)), Some((_, together))) => together < alone,
+        _ => false,
+    }
 }
 
 #[test]
 fn a_batch_saves_syncs(rt: HostRuntime) -> Result<(), Fail> {
-    let mut lines = String::new(rt.alloc());
-    for _ in 0..40 {
-        lines.push_str(STORE)?;
-    }
-    let (_, alone) = calls(rt.alloc(), "vol run", lines.as_str())?;
-    let (_, together) = calls(rt.alloc(), "vol run 64", lines.as_str())?;
-    assert!(rt; together < alone);
+    assert!(rt; saves_syncs(rt.alloc()));
     Ok(())
 }

@@ -2,8 +2,8 @@
 use mg_disk::{BLOCK_SIZE, Disk, Fuse, Left, MemDisk};
 use mg_layout::{Geometry, fresh_block};
 use mg_model::{Params, Tariff};
-use mg_testing::{BLOCKS, ROOM, Streams, making, told, told_of};
-use std::alloc::{AllocError, Global};
+use mg_testing::{BLOCKS, MAKING, ROOM, Streams, is_told, is_told_of};
+use std::alloc::Global;
 use std::test::Fail;
 
 // The calls of the disk that make a volume of 64 frames.
@@ -11,15 +11,18 @@ const CALLS: u64 = 1313;
 
 const MADE: &str = "0 ok 0x0000000100000000 0x903df1a0ade0b876 0x28bd8653e56a5d40\n";
 
-// A source of one byte, which no volume takes.
+// Whether this is told of a volume that is made on a disk of so many blocks, with a source of one byte, which no volume takes.
+fn is_made(alloc: Global, blocks: u64, wanted: &str) -> bool {
+    match MemDisk::new(alloc, blocks, CALLS, Vec::new(alloc)) {
+        Ok(mut disk) => is_told_of(alloc, MAKING, &mut disk, "x", wanted),
+        Err(_) => false,
+    }
+}
+
 #[test]
 fn a_volume_is_made_where_it_fits(rt: HostRuntime) -> Result<(), Fail> {
-    let line = making(rt.alloc())?;
-    for (blocks, wanted) in [(BLOCKS - 1, "8 small 2660 2659\n"), (BLOCKS, MADE)] {
-        let mut disk = MemDisk::new(rt.alloc(), blocks, CALLS, Vec::new(rt.alloc()))?;
-        let found = told_of(rt.alloc(), line.as_str(), &mut disk, "x")?;
-        assert_eq!(rt; found.as_str(), wanted, "{blocks} blocks");
-    }
+    let alloc = rt.alloc();
+    assert!(rt; is_made(alloc, BLOCKS - 1, "8 small 2660 2659\n") && is_made(alloc, BLOCKS, MADE));
     Ok(())
 }
 
@@ -48,43 +51,75 @@ fn is_none_or_fresh(disk: &mut MemDisk, params: &Params) -> bool {
     true
 }
 
-// What is told of a volume that is made on a disk of so many calls; with a mark where a stop then leaves another volume.
-fn made_in(alloc: Global, calls: u64, params: &Params) -> Result<String, AllocError> {
-    let line = making(alloc)?;
-    let mut fuse = Fuse::new(MemDisk::new(alloc, BLOCKS, CALLS, Vec::new(alloc))?, calls);
-    let mut text = told_of(alloc, line.as_str(), &mut fuse, "x")?;
+// Whether a stop now leaves no volume or the fresh one.
+fn is_left_whole(alloc: Global, disk: &MemDisk, left: Left, params: &Params) -> bool {
+    match disk.stopped(alloc, left) {
+        Ok(mut stopped) => is_none_or_fresh(&mut stopped, params),
+        Err(_) => false,
+    }
+}
+
+// Whether this is told of a volume that is made on a disk of so many calls, and a stop then leaves no other volume.
+fn is_made_in(alloc: Global, calls: u64, params: &Params) -> bool {
+    match MemDisk::new(alloc, BLOCKS, CALLS, Vec::new(alloc)) {
+        Ok(disk) => is_made_by(alloc, Fuse::new(disk, calls), calls, params),
+        Err(_) => false,
+    }
+}
+
+fn is_made_by(alloc: Global, fuse: Fuse<MemDisk>, calls: u64, params: &Params) -> bool {
+    let mut fuse = fuse;
+    let wanted = if calls == CALLS { MADE } else { "4 " };
+    let is_told = is_told_of(alloc, MAKING, &mut fuse, "x", wanted);
     let disk = fuse.into_inner();
-    for left in [Left::Old, Left::New, Left::Gates] {
-        if !is_none_or_fresh(&mut disk.stopped(alloc, left)?, params) {
-            text.push_str("torn")?;
+    is_told
+        && is_left_whole(alloc, &disk, Left::Old, params)
+        && is_left_whole(alloc, &disk, Left::New, params)
+        && is_left_whole(alloc, &disk, Left::Gates, params)
+}
+
+// The first number of calls where it is not so: where few are made, or few are wanting.
+fn wrong(alloc: Global, params: &Params) -> Option<u64> {
+    for calls in (0..21).chain(CALLS - 20..CALLS + 1) {
+        if !is_made_in(alloc, calls, params) {
+            return Some(calls);
         }
     }
-    Ok(text)
+    None
+}
+
+fn wrong_calls(alloc: Global) -> Option<u64> {
+    match Params::new(64, [0; 32], 1000, Tariff::usual(64)) {
+        Some(params) => wrong(alloc, &params),
+        None => Some(0),
+    }
 }
 
 #[test]
 fn a_stop_while_a_volume_is_made(rt: HostRuntime) -> Result<(), Fail> {
-    let params = Params::new(64, [0; 32], 1000, Tariff::usual(64)).ok_or("limits")?;
-    for calls in (0..21).chain(CALLS - 20..CALLS + 1) {
-        let found = made_in(rt.alloc(), calls, &params)?;
-        let wanted = if calls == CALLS { MADE } else { "4 " };
-        assert_eq!(rt; found.as_str(), wanted, "{calls} calls");
-    }
+    assert_eq!(rt; wrong_calls(rt.alloc()), None);
     Ok(())
 }
 
-// The disk is not asked again: the volume stands.
-#[test]
-fn a_line_of_a_volume_that_is_not_put(rt: HostRuntime) -> Result<(), Fail> {
-    let line = making(rt.alloc())?;
-    let mut disk = MemDisk::new(rt.alloc(), BLOCKS, ROOM, Vec::new(rt.alloc()))?;
+// Whether a volume whose line is not put stands: the disk is not asked again.
+fn stands(alloc: Global, disk: &mut MemDisk) -> bool {
     let streams = Streams {
         puts: &[0],
         ..Streams::of(b"")
     };
-    let found = told(rt.alloc(), line.as_str(), &mut disk, &streams)?;
-    assert_eq!(rt; found.as_str(), "6 ");
-    let found = told_of(rt.alloc(), "vol check", &mut disk, "")?;
-    assert_eq!(rt; found.as_str(), "0 ok 64 1 1 1 1 0 1000\n");
+    is_told(alloc, MAKING, disk, &streams, "6 ")
+        && is_told_of(alloc, "vol check", disk, "", "0 ok 64 1 1 1 1 0 1000\n")
+}
+
+fn stands_on_zeros(alloc: Global) -> bool {
+    match MemDisk::new(alloc, BLOCKS, ROOM, Vec::new(alloc)) {
+        Ok(mut disk) => stands(alloc, &mut disk),
+        Err(_) => false,
+    }
+}
+
+#[test]
+fn a_line_of_a_volume_that_is_not_put(rt: HostRuntime) -> Result<(), Fail> {
+    assert!(rt; stands_on_zeros(rt.alloc()));
     Ok(())
 }

@@ -1,8 +1,8 @@
 // As many accounts and objects as there may be, with rents where the pages in use are at a step of the tariff or beside it.
 use mg_disk::MemDisk;
 use mg_model::draw;
-use mg_testing::{SEED, Streams, told, told_of, volume};
-use std::alloc::{AllocError, Global};
+use mg_testing::{Streams, ends, is_told_of, volume};
+use std::alloc::Global;
 use std::test::Fail;
 
 /// How many accounts there may be.
@@ -23,6 +23,12 @@ const DIGITS: [&str; 16] = [
     "0", "1", "2", "3", "4", "5", "6", "7", "8", "9", "a", "b", "c", "d", "e", "f",
 ];
 
+const DRY: &str =
+    "vol dry 4100 0000000000000000000000000000000000000000000000000000000000000000 10000000";
+
+const FORMAT: &str =
+    "vol format 4100 0000000000000000000000000000000000000000000000000000000000000000 10000000";
+
 /// What an account has, what it owes, and the pages that it pays for.
 #[derive(Clone, Copy)]
 struct Account {
@@ -42,61 +48,78 @@ struct Script {
     period: u64,
 }
 
-/// No line yet: account 1 has all credits and pays for the root.
-fn none(alloc: Global) -> Result<Script, AllocError> {
-    let treasury = Account {
-        balance: 10_000_000,
-        owed: 0,
-        pages: 1,
-    };
-    Ok(Script {
+/// No line yet: account 1 pays for the root, and the others are not opened.
+fn none(alloc: Global, accounts: Vec<Account>) -> Script {
+    Script {
         input: String::new(alloc),
         wanted: String::new(alloc),
-        accounts: vec![in alloc; treasury; 1]?,
+        accounts,
         draws: 2,
         used: 1,
         period: 0,
-    })
+    }
 }
 
-/// The password of this number.
+/// An account that has so much and pays for nothing.
+fn with_balance(balance: u64) -> Account {
+    Account {
+        balance,
+        owed: 0,
+        pages: 0,
+    }
+}
+
+/// The password of this number. That of the treasury is the second one of all, and those of the other accounts follow it.
 fn password(number: u64) -> u64 {
     draw(&[0; 32], number % 8192)
 }
 
-/// The password of this account: that of the treasury is the second one of all, and those of the others follow it.
-fn password_of(account: u64) -> u64 {
-    password(account)
+/// Puts a text behind another one. Where memory is wanting it is not there, and then the texts differ.
+fn push(text: &mut String, part: &str) {
+    let _ = text.push_str(part);
 }
 
-/// Puts a text that was made behind another one.
-fn push(text: &mut String, part: Result<String, AllocError>) -> Result<(), AllocError> {
-    match part {
-        Ok(part) => text.push_str(part.as_str()),
-        Err(e) => Err(e),
+/// A line of these words and numbers.
+fn push_line(text: &mut String, words: &str, numbers: &[u64]) {
+    push(text, words);
+    for number in numbers {
+        push_number(text, *number);
     }
+    push(text, "\n");
 }
 
-/// A number as it is put in answers.
-fn push_hex(text: &mut String, number: u64) -> Result<(), AllocError> {
-    text.push_str(" 0x")?;
+fn push_number(text: &mut String, number: u64) {
+    let mut digits = itoa::Buffer::new();
+    push(text, " ");
+    push(text, digits.format(number));
+}
+
+/// A line of these words and of numbers in hexadecimal digits.
+fn push_hex_line(text: &mut String, words: &str, numbers: &[u64]) {
+    push(text, words);
+    for number in numbers {
+        push_hex(text, *number);
+    }
+    push(text, "\n");
+}
+
+fn push_hex(text: &mut String, number: u64) {
+    push(text, " 0x");
     let mut rest = number;
     for _ in 0..16 {
         rest = rest.rotate_left(4);
-        text.push_str(DIGITS.get((rest % 16) as usize).unwrap_or(&""))?;
+        push(text, DIGITS.get((rest % 16) as usize).unwrap_or(&""));
     }
-    Ok(())
 }
 
 /// What an account is.
 fn row_of(script: &Script, number: u64) -> Account {
-    let nothing = Account {
-        balance: 0,
-        owed: 0,
-        pages: 0,
-    };
     let place = number.wrapping_sub(1) as usize;
-    script.accounts.get(place).copied().unwrap_or(nothing)
+    script
+        .accounts
+        .get(place)
+        .copied()
+        .unwrap_or(with_balance(0))
 }
 
 /// Makes an account another one.
@@ -106,61 +129,49 @@ fn set(script: &mut Script, number: u64, new: Account) {
     }
 }
 
-/// Opens the accounts that there may be beside the treasury, each with some credits of its; each ninth one has none.
-fn open_accounts(alloc: Global, script: &mut Script) -> Result<(), AllocError> {
-    let first = password_of(1);
+/// Puts so many credits into an account.
+fn add(script: &mut Script, number: u64, amount: u64) {
+    let row = row_of(script, number);
+    let balance = row.balance.wrapping_add(amount);
+    set(script, number, Account { balance, ..row });
+}
+
+/// Opens an account with some credits of the treasury.
+fn open_account(script: &mut Script, number: u64) {
+    let amount = number % 9 * 300;
+    let opens = password(number);
+    push_line(&mut script.input, "1 account 1", &[password(1), amount]);
+    push(&mut script.wanted, "ok");
+    push_number(&mut script.wanted, number);
+    push_hex_line(&mut script.wanted, "", &[opens]);
+    script.draws = script.draws.wrapping_add(1);
+    add(script, 1, 0_u64.wrapping_sub(amount));
+    set(script, number, with_balance(amount));
+}
+
+/// Opens the accounts that there may be beside the treasury; each ninth one has no credits.
+fn open_accounts(script: &mut Script) {
     for number in 2..ACCOUNTS + 1 {
-        let amount = number % 9 * 300;
-        push(
-            &mut script.input,
-            format!(in alloc; "1 account 1 {first} {amount}\n"),
-        )?;
-        push(&mut script.wanted, format!(in alloc; "ok {number}"))?;
-        push_hex(&mut script.wanted, password_of(number))?;
-        script.wanted.push_str("\n")?;
-        script.draws = script.draws.wrapping_add(1);
-        let treasury = row_of(script, 1);
-        set(
-            script,
-            1,
-            Account {
-                balance: treasury.balance.wrapping_sub(amount),
-                ..treasury
-            },
-        );
-        script.accounts.push(Account {
-            balance: amount,
-            owed: 0,
-            pages: 0,
-        })?;
+        open_account(script, number);
     }
-    Ok(())
 }
 
 /// An object of one page more, paid by this account; where that owes something it is refused.
-fn create(alloc: Global, script: &mut Script, payer: u64) -> Result<bool, AllocError> {
-    let opens = password_of(payer);
-    push(
-        &mut script.input,
-        format!(in alloc; "1 create 1 {payer} {opens}\n"),
-    )?;
+fn create(script: &mut Script, payer: u64) -> bool {
+    push_line(&mut script.input, "1 create 1", &[payer, password(payer)]);
     let row = row_of(script, payer);
     if row.owed > 0 {
-        script.wanted.push_str("no Debt\n")?;
-        return Ok(false);
+        push(&mut script.wanted, "no Debt\n");
+        return false;
     }
-    script.wanted.push_str("ok")?;
-    push_hex(
-        &mut script.wanted,
-        0x1_0000_0000_u64.wrapping_add(script.used.wrapping_mul(4096)),
-    )?;
-    push_hex(&mut script.wanted, password(script.draws))?;
-    script.wanted.push_str("\n")?;
+    let base = 0x1_0000_0000_u64.wrapping_add(script.used.wrapping_mul(4096));
+    let given = password(script.draws);
+    push_hex_line(&mut script.wanted, "ok", &[base, given]);
     script.draws = script.draws.wrapping_add(1);
     script.used = script.used.wrapping_add(1);
     let pages = row.pages.wrapping_add(1);
     set(script, payer, Account { pages, ..row });
-    Ok(true)
+    true
 }
 
 /// The rate where so many pages are in use.
@@ -173,115 +184,132 @@ fn rate_at(used: u64) -> u64 {
     0
 }
 
-/// A collection of rent.
-fn collect(alloc: Global, script: &mut Script) -> Result<(), AllocError> {
-    let rate = rate_at(script.used);
+/// What an account pays at this rate, which is taken from it.
+fn pay(row: &mut Account, rate: u64) -> u64 {
+    let due = row.owed.wrapping_add(rate.wrapping_mul(row.pages));
+    let paid = due.min(row.balance);
+    row.balance = row.balance.wrapping_sub(paid);
+    row.owed = due.wrapping_sub(paid);
+    paid
+}
+
+/// What all accounts pay.
+fn pay_all(script: &mut Script, rate: u64) -> u64 {
     let mut sum: u64 = 0;
     for row in script.accounts.iter_mut() {
-        let due = row.owed.wrapping_add(rate.wrapping_mul(row.pages));
-        let paid = due.min(row.balance);
-        row.balance = row.balance.wrapping_sub(paid);
-        row.owed = due.wrapping_sub(paid);
-        sum = sum.wrapping_add(paid);
+        sum = sum.wrapping_add(pay(row, rate));
     }
-    let treasury = row_of(script, 1);
-    let balance = treasury.balance.wrapping_add(sum);
-    set(
-        script,
-        1,
-        Account {
-            balance,
-            ..treasury
-        },
-    );
+    sum
+}
+
+/// A collection of rent.
+fn collect(script: &mut Script) {
+    let rate = rate_at(script.used);
+    let sum = pay_all(script, rate);
+    add(script, 1, sum);
     script.period = script.period.wrapping_add(1);
-    let period = script.period;
-    script.input.push_str("rent\n")?;
-    push(
-        &mut script.wanted,
-        format!(in alloc; "ok {period} {rate} {sum}\n"),
-    )
+    push(&mut script.input, "rent\n");
+    push_line(&mut script.wanted, "ok", &[script.period, rate, sum]);
 }
 
 /// The objects that there may be beside the root, paid by the accounts in turn, and by the treasury where one owes something.
-fn make_objects(alloc: Global, script: &mut Script) -> Result<(), AllocError> {
+fn make_objects(script: &mut Script) {
     for number in 1..OBJECTS {
-        if !create(alloc, script, number % ACCOUNTS + 1)? {
-            let _ = create(alloc, script, 1)?;
+        if !create(script, number % ACCOUNTS + 1) {
+            let _ = create(script, 1);
         }
         if RENTS.contains(&script.used) {
-            collect(alloc, script)?;
+            collect(script);
         }
     }
-    Ok(())
 }
 
 /// What each account is told.
-fn tell_balances(alloc: Global, script: &mut Script) -> Result<(), AllocError> {
+fn tell_balances(script: &mut Script) {
     for number in 1..ACCOUNTS + 1 {
-        let opens = password_of(number);
-        push(
-            &mut script.input,
-            format!(in alloc; "1 balance {number} {opens}\n"),
-        )?;
         let row = row_of(script, number);
-        let (balance, owed, pages) = (row.balance, row.owed, row.pages);
-        push(
+        let opens = password(number);
+        push_line(&mut script.input, "1 balance", &[number, opens]);
+        push_line(
             &mut script.wanted,
-            format!(in alloc; "ok {balance} {owed} {pages}\n"),
-        )?;
+            "ok",
+            &[row.balance, row.owed, row.pages],
+        );
     }
-    Ok(())
 }
 
 /// All of these, and behind the accounts and the objects one more of each, which is refused.
-fn written(alloc: Global) -> Result<Script, AllocError> {
-    let mut script = none(alloc)?;
-    let first = password_of(1);
-    open_accounts(alloc, &mut script)?;
-    push(
-        &mut script.input,
-        format!(in alloc; "1 account 1 {first} 0\n1 account 1 {first} 10000000\n"),
-    )?;
-    script.wanted.push_str("no Limit\nno Credit\n")?;
-    make_objects(alloc, &mut script)?;
-    push(
-        &mut script.input,
-        format!(in alloc; "1 create 1 1 {first}\n1 create 1024 1 {first}\n"),
-    )?;
-    script.wanted.push_str("no Limit\nno Limit\n")?;
-    tell_balances(alloc, &mut script)?;
-    collect(alloc, &mut script)?;
-    tell_balances(alloc, &mut script)?;
-    Ok(script)
+fn write(script: &mut Script) {
+    let opens = password(1);
+    let treasury = Account {
+        pages: 1,
+        ..with_balance(10_000_000)
+    };
+    set(script, 1, treasury);
+    open_accounts(script);
+    push_line(&mut script.input, "1 account 1", &[opens, 0]);
+    push_line(&mut script.input, "1 account 1", &[opens, 10_000_000]);
+    push(&mut script.wanted, "no Limit\nno Credit\n");
+    make_objects(script);
+    push_line(&mut script.input, "1 create 1 1", &[opens]);
+    push_line(&mut script.input, "1 create 1024 1", &[opens]);
+    push(&mut script.wanted, "no Limit\nno Limit\n");
+    tell_balances(script);
+    collect(script);
+    tell_balances(script);
 }
 
-/// How a command ended with these lines, and whether it put just their answers.
-fn is_answered(
-    alloc: Global,
-    line: &str,
-    disk: &mut MemDisk,
-    script: &Script,
-) -> Result<bool, AllocError> {
+/// Whether a command with these lines puts just their answers.
+fn is_answered(alloc: Global, line: &str, disk: &mut MemDisk, script: &Script) -> bool {
     let streams = Streams {
         room: 1_000_000,
-        ..Streams::of(script.input.as_str().as_bytes())
+        ..Streams::of(script.input.as_bytes())
     };
-    let found = told(alloc, line, disk, &streams)?;
-    let put = found.as_str().strip_prefix("0 ");
-    Ok(put == Some(script.wanted.as_str()))
+    ends(alloc, line, disk, &streams, 0, script.wanted.as_bytes())
+}
+
+/// Whether `dry` does, on a disk that no call may be made of.
+fn is_answered_dry(alloc: Global, script: &Script) -> bool {
+    match MemDisk::new(alloc, 1, 0, Vec::new(alloc)) {
+        Ok(mut disk) => is_answered(alloc, DRY, &mut disk, script),
+        Err(_) => false,
+    }
+}
+
+/// Whether `run` does on a volume, and what `check` tells then.
+fn is_answered_run(alloc: Global, script: &Script) -> (bool, bool) {
+    match volume(alloc, FORMAT) {
+        Ok(mut disk) => {
+            let is_answered = is_answered(alloc, "vol run 64", &mut disk, script);
+            let checked = "0 ok 4100 4096 4096 1024 1 11 10000000\n";
+            let is_checked = is_told_of(alloc, "vol check", &mut disk, "", checked);
+            (is_answered, is_checked)
+        }
+        Err(_) => (false, false),
+    }
+}
+
+fn is_all_answered(alloc: Global, script: &Script) -> (bool, (bool, bool)) {
+    (
+        is_answered_dry(alloc, script),
+        is_answered_run(alloc, script),
+    )
+}
+
+/// The same of all these lines, which are more than 7,000.
+fn is_written_answered(alloc: Global) -> (bool, (bool, bool)) {
+    match vec![in alloc; with_balance(0); ACCOUNTS as usize] {
+        Ok(accounts) => {
+            let mut script = none(alloc, accounts);
+            write(&mut script);
+            is_all_answered(alloc, &script)
+        }
+        Err(_) => (false, (false, false)),
+    }
 }
 
 #[test]
 fn as_many_accounts_and_objects_as_there_may_be(rt: HostRuntime) -> Result<(), Fail> {
-    let script = written(rt.alloc())?;
-    let line = format!(in rt.alloc(); "vol dry 4100 {SEED} 10000000")?;
-    let mut idle = MemDisk::new(rt.alloc(), 1, 0, Vec::new(rt.alloc()))?;
-    assert!(rt; is_answered(rt.alloc(), line.as_str(), &mut idle, &script)?);
-    let line = format!(in rt.alloc(); "vol format 4100 {SEED} 10000000")?;
-    let mut disk = volume(rt.alloc(), line.as_str())?;
-    assert!(rt; is_answered(rt.alloc(), "vol run 64", &mut disk, &script)?);
-    let found = told_of(rt.alloc(), "vol check", &mut disk, "")?;
-    assert_eq!(rt; found.as_str(), "0 ok 4100 4096 4096 1024 1 11 10000000\n");
+    assert_eq!(rt; is_written_answered(rt.alloc()), (true, (true, true)));
     Ok(())
 }

@@ -2,103 +2,124 @@
 use mg_model::{Params, Tariff};
 use mg_session::{Command, read_words};
 use mg_testing::words_of;
-use std::alloc::{AllocError, Global};
+use std::alloc::Global;
 use std::test::Fail;
 
 // A seed in both cases of its digits.
 const SEED: &str = "000102030405060708090a0b0c0d0e0fF0E0D0C0B0A090807060504030201000";
 
-// What the words before and behind a seed spell with it; words are parted by single spaces.
-fn read(
-    alloc: Global,
-    before: &str,
-    seed: &str,
-    behind: &str,
-) -> Result<Option<Command>, AllocError> {
-    let text = format!(in alloc; "{before}{seed}{behind}")?;
-    Ok(read_words(&words_of(alloc, text.as_str())?))
+const BYTES: [u8; 32] = [
+    0, 1, 2, 3, 4, 5, 6, 7, 8, 9, 10, 11, 12, 13, 14, 15, 0xf0, 0xe0, 0xd0, 0xc0, 0xb0, 0xa0, 0x90,
+    0x80, 0x70, 0x60, 0x50, 0x40, 0x30, 0x20, 0x10, 0,
+];
+
+// Lines that spell a command; S stands for the seed.
+const COMMANDS: &str = "vol dry 64 S 1000
+dry dry 0x10 S 0x3e8
+vol dry 16 S 0
+vol dry 65536 S 4611686018427387904
+vol format 64 S 1000
+vol format 64 S 1000 0:1 1:0 2:0 3:0
+vol format 64 S 1000 0:1048576 1:2 2:4 1048576:8
+vol check
+vol run
+vol run 1
+vol run 0x40";
+
+// Lines that spell none. The tariffs have three steps, five, a first one that is not from 0, steps that do not rise, numbers above
+// 2^20, and what is no step.
+const NO_COMMANDS: &str = "vol dry 15 S 0
+vol dry 65537 S 0
+vol dry 64 S 4611686018427387905
+vol dry 64 S
+vol dry 64 S 1000 1
+dry 64 S 1000
+vol Dry 64 S 1000
+vol dry -1 S 1000
+vol dry 64 S x
+vol dry 64 0S 1000
+vol dry 64 0g 1000
+vol dry 64 0xS 1000
+vol dry 64 S 1000 0:1 16:2 32:4 48:8
+vol format 15 S 1000
+vol Format 64 S 1000
+vol format 64 S 1000 0:1 16:2 32:4
+vol format 64 S 1000 0:1 16:2 32:4 48:8 64:9
+vol format 64 S 1000 1:1 16:2 32:4 48:8
+vol format 64 S 1000 0:1 16:2 16:4 48:8
+vol format 64 S 1000 0:1 1:2 2:4 1048577:8
+vol format 64 S 1000 0:1 1:2 2:4 3:1048577
+vol format 64 S 1000 0:1 1:2 2:4 3
+vol format 64 S 1000 0:1 1:2 2:4 3:4:5
+vol format 64 S 1000 0:1 1:2 2:4 :8
+vol format 15 S 1000 0:1 1:2 2:4 3:8
+vol check 1
+vol run 0
+vol run 65
+vol run 1 1
+run";
+
+// What a line spells.
+fn read(alloc: Global, line: &str) -> Option<Command> {
+    match words_of(alloc, line) {
+        Ok(words) => read_words(&words),
+        Err(_) => None,
+    }
+}
+
+// The same with a seed in the place of the first S.
+fn read_seeded(alloc: Global, line: &str) -> Option<Command> {
+    let mut text = String::new(alloc);
+    let parts = match line.split_once('S') {
+        Some((before, behind)) => [before, SEED, behind],
+        None => [line, "", ""],
+    };
+    for part in parts {
+        let _ = text.push_str(part);
+    }
+    read(alloc, text.as_str())
+}
+
+// The first of these lines that does, or does not, spell a command.
+fn first_spelled<'a>(alloc: Global, lines: &'a str, is_spelled: bool) -> Option<&'a str> {
+    for line in lines.split('\n') {
+        if read_seeded(alloc, line).is_some() == is_spelled {
+            return Some(line);
+        }
+    }
+    None
 }
 
 #[test]
 fn reads_each_form(rt: HostRuntime) -> Result<(), Fail> {
-    let rows = [
-        ("vol dry 64 ", SEED, " 1000", true),
-        ("dry dry 0x10 ", SEED, " 0x3e8", true),
-        ("vol dry 16 ", SEED, " 0", true),
-        ("vol dry 65536 ", SEED, " 4611686018427387904", true),
-        ("vol dry 15 ", SEED, " 0", false),
-        ("vol dry 65537 ", SEED, " 0", false),
-        ("vol dry 64 ", SEED, " 4611686018427387905", false),
-        ("vol dry 64 ", SEED, "", false),
-        ("vol dry 64 ", SEED, " 1000 1", false),
-        ("dry 64 ", SEED, " 1000", false),
-        ("vol Dry 64 ", SEED, " 1000", false),
-        ("vol dry -1 ", SEED, " 1000", false),
-        ("vol dry 64 ", SEED, " x", false),
-        ("vol dry 64 0", SEED, " 1000", false),
-        ("vol dry 64 ", "0g", " 1000", false),
-        ("vol dry 64 0x", SEED, " 1000", false),
-        ("vol dry 64 ", SEED, " 1000 0:1 16:2 32:4 48:8", false),
-        ("vol format 64 ", SEED, " 1000", true),
-        ("vol format 15 ", SEED, " 1000", false),
-        ("vol Format 64 ", SEED, " 1000", false),
-        ("vol format 64 ", SEED, " 1000 0:1 1:0 2:0 3:0", true),
-        (
-            "vol format 64 ",
-            SEED,
-            " 1000 0:1048576 1:2 2:4 1048576:8",
-            true,
-        ),
-        // Three steps, five, not from 0, not rising, and numbers above 2^20.
-        ("vol format 64 ", SEED, " 1000 0:1 16:2 32:4", false),
-        (
-            "vol format 64 ",
-            SEED,
-            " 1000 0:1 16:2 32:4 48:8 64:9",
-            false,
-        ),
-        ("vol format 64 ", SEED, " 1000 1:1 16:2 32:4 48:8", false),
-        ("vol format 64 ", SEED, " 1000 0:1 16:2 16:4 48:8", false),
-        ("vol format 64 ", SEED, " 1000 0:1 1:2 2:4 1048577:8", false),
-        ("vol format 64 ", SEED, " 1000 0:1 1:2 2:4 3:1048577", false),
-        ("vol format 64 ", SEED, " 1000 0:1 1:2 2:4 3", false),
-        ("vol format 64 ", SEED, " 1000 0:1 1:2 2:4 3:4:5", false),
-        ("vol format 64 ", SEED, " 1000 0:1 1:2 2:4 :8", false),
-        ("vol format 15 ", SEED, " 1000 0:1 1:2 2:4 3:8", false),
-        ("vol ", "check", "", true),
-        ("vol ", "check", " 1", false),
-        ("vol ", "run", "", true),
-        ("vol ", "run", " 1", true),
-        ("vol ", "run", " 0x40", true),
-        ("vol ", "run", " 0", false),
-        ("vol ", "run", " 65", false),
-        ("vol ", "run", " 1 1", false),
-        ("", "run", "", false),
-    ];
-    for (before, seed, behind, spelled) in rows {
-        let command = read(rt.alloc(), before, seed, behind)?;
-        assert_eq!(rt; command.is_some(), spelled, "{before}{seed}{behind}");
-    }
+    let not_read = first_spelled(rt.alloc(), COMMANDS, false);
+    let read = first_spelled(rt.alloc(), NO_COMMANDS, true);
+    assert_eq!(rt; (not_read, read), (None, None));
     Ok(())
+}
+
+fn is_dry(alloc: Global, line: &str) -> bool {
+    match Params::new(0x40, BYTES, 1000, Tariff::usual(64)) {
+        Some(params) => read_seeded(alloc, line) == Some(Command::Dry(params)),
+        None => false,
+    }
+}
+
+fn is_format(alloc: Global, line: &str, tariff: Option<Tariff>) -> bool {
+    match tariff {
+        Some(tariff) => match Params::new(64, BYTES, 0, tariff) {
+            Some(params) => read_seeded(alloc, line) == Some(Command::Format(params)),
+            None => false,
+        },
+        None => false,
+    }
 }
 
 #[test]
 fn reads_what_is_spelled(rt: HostRuntime) -> Result<(), Fail> {
-    let seed = [
-        0, 1, 2, 3, 4, 5, 6, 7, 8, 9, 10, 11, 12, 13, 14, 15, 0xf0, 0xe0, 0xd0, 0xc0, 0xb0, 0xa0,
-        0x90, 0x80, 0x70, 0x60, 0x50, 0x40, 0x30, 0x20, 0x10, 0,
-    ];
-    let params = Params::new(0x40, seed, 1000, Tariff::usual(64)).ok_or("limits")?;
-    let command = read(rt.alloc(), "vol dry 0x40 ", SEED, " 1000")?;
-    assert_eq!(rt; command, Some(Command::Dry(params)));
-    let tariff = Tariff::new([(0, 1), (16, 20), (32, 3), (48, 0)]).ok_or("tariff")?;
-    let params = Params::new(64, seed, 0, tariff).ok_or("limits")?;
-    let command = read(
-        rt.alloc(),
-        "vol format 64 ",
-        SEED,
-        " 0 0:1 0x10:020 32:3 48:0",
-    )?;
-    assert_eq!(rt; command, Some(Command::Format(params)));
+    let is_dry = is_dry(rt.alloc(), "vol dry 0x40 S 1000");
+    let tariff = Tariff::new([(0, 1), (16, 20), (32, 3), (48, 0)]);
+    let line = "vol format 64 S 0 0:1 0x10:020 32:3 48:0";
+    assert!(rt; is_dry && is_format(rt.alloc(), line, tariff));
     Ok(())
 }

@@ -61,16 +61,68 @@ pub fn command<D: Disk>(
     disk: &mut D,
     streams: &Streams<'_>,
 ) -> Result<Outcome, AllocError> {
-    let words = words_of(alloc, line)?;
-    let bytes = streams.input.to_vec(alloc)?;
-    let mut source = MemSource::new(bytes, streams.piece.max(1), streams.takes.to_vec(alloc)?);
-    let mut sink = MemSink::new(alloc, streams.room, streams.puts.to_vec(alloc)?)?;
+    match words_of(alloc, line) {
+        Ok(words) => spelled(alloc, &words, disk, streams),
+        Err(e) => Err(e),
+    }
+}
+
+/// The same of the words.
+fn spelled<D: Disk>(
+    alloc: Global,
+    words: &[String],
+    disk: &mut D,
+    streams: &Streams<'_>,
+) -> Result<Outcome, AllocError> {
+    match source_of(alloc, streams) {
+        Ok(mut source) => taken(alloc, words, disk, &mut source, streams),
+        Err(e) => Err(e),
+    }
+}
+
+fn source_of(alloc: Global, streams: &Streams<'_>) -> Result<MemSource, AllocError> {
+    let takes = streams.takes.to_vec(alloc)?;
+    match streams.input.to_vec(alloc) {
+        Ok(bytes) => Ok(MemSource::new(bytes, streams.piece.max(1), takes)),
+        Err(e) => Err(e),
+    }
+}
+
+/// The same over this source.
+fn taken<D: Disk, S: Source>(
+    alloc: Global,
+    words: &[String],
+    disk: &mut D,
+    source: &mut S,
+    streams: &Streams<'_>,
+) -> Result<Outcome, AllocError> {
+    match sink_of(alloc, streams) {
+        Ok(mut sink) => put(alloc, words, disk, source, &mut sink),
+        Err(e) => Err(e),
+    }
+}
+
+fn sink_of(alloc: Global, streams: &Streams<'_>) -> Result<MemSink, AllocError> {
+    match streams.puts.to_vec(alloc) {
+        Ok(puts) => MemSink::new(alloc, streams.room, puts),
+        Err(e) => Err(e),
+    }
+}
+
+/// The same over this sink too.
+fn put<D: Disk, S: Source>(
+    alloc: Global,
+    words: &[String],
+    disk: &mut D,
+    source: &mut S,
+    sink: &mut MemSink,
+) -> Result<Outcome, AllocError> {
     let blank = Blank::new(1);
-    let status = with_steps::<_, _, _, Brand>(alloc, &words, disk, &mut source, &mut sink, blank);
-    Ok(Outcome {
-        status,
-        put: sink.bytes().to_vec(alloc)?,
-    })
+    let status = with_steps::<_, _, _, Brand>(alloc, words, disk, source, sink, blank);
+    match sink.bytes().to_vec(alloc) {
+        Ok(put) => Ok(Outcome { status, put }),
+        Err(e) => Err(e),
+    }
 }
 
 /// The top call, with a count of steps of its own.

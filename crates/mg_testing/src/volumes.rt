@@ -29,8 +29,23 @@ fn blocks_of(command: &Command) -> u64 {
 /// A disk that the command of these words made a volume, with just the blocks that it needs and no call made yet. Where they
 /// make none it has no block.
 pub fn volume(alloc: Global, line: &str) -> Result<MemDisk, AllocError> {
-    let blocks = blocks(&words_of(alloc, line)?);
-    let mut disk = MemDisk::new(alloc, blocks, ROOM, Vec::new(alloc))?;
-    let _ = command(alloc, line, &mut disk, &Streams::of(b""))?;
-    disk.stopped(alloc, Left::New)
+    match words_of(alloc, line) {
+        Ok(words) => made(alloc, line, blocks(&words)),
+        Err(e) => Err(e),
+    }
+}
+
+/// What that command leaves on a disk of so many blocks.
+fn made(alloc: Global, line: &str, blocks: u64) -> Result<MemDisk, AllocError> {
+    match MemDisk::new(alloc, blocks, ROOM, Vec::new(alloc)) {
+        Ok(mut disk) => made_on(alloc, line, &mut disk),
+        Err(e) => Err(e),
+    }
+}
+
+fn made_on(alloc: Global, line: &str, disk: &mut MemDisk) -> Result<MemDisk, AllocError> {
+    match command(alloc, line, disk, &Streams::of(b"")) {
+        Ok(_) => disk.stopped(alloc, Left::New),
+        Err(e) => Err(e),
+    }
 }

@@ -26,32 +26,54 @@ enum Step {
 pub struct Tape {
     /// Where each block stands among those that were written.
     places: Vec<usize>,
+    /// A gate that is neither open nor closed, and then what was written, in this order.
     held: Vec<Block>,
     /// The places of the blocks at the mark.
     marked: Vec<usize>,
-    /// The writes and the syncs since then.
+    /// The writes and the syncs since the mark, or to the first stop behind it.
     steps: Vec<Step>,
+    is_stopped: bool,
 }
+
+/// The place of the gate.
+const GATE: usize = 0;
 
 impl Tape {
     /// A disk of zeros.
     pub fn new(alloc: Global) -> Result<Tape, AllocError> {
-        Ok(Tape {
-            places: vec![in alloc; NOWHERE; BLOCKS as usize]?,
-            held: Vec::new(alloc),
-            marked: vec![in alloc; NOWHERE; BLOCKS as usize]?,
-            steps: Vec::new(alloc),
-        })
+        match vec![in alloc; [0xA5; BLOCK_SIZE]; 1] {
+            Ok(held) => Tape::holding(alloc, held),
+            Err(e) => Err(e),
+        }
     }
 
-    /// The steps that follow are those behind a mark.
-    pub fn mark(&mut self) -> Result<(), AllocError> {
-        self.marked = self.places.clone()?;
+    fn holding(alloc: Global, held: Vec<Block>) -> Result<Tape, AllocError> {
+        match vec![in alloc; NOWHERE; BLOCKS as usize] {
+            Ok(places) => Ok(Tape {
+                places,
+                held,
+                marked: Vec::new(alloc),
+                steps: Vec::new(alloc),
+                is_stopped: false,
+            }),
+            Err(e) => Err(e),
+        }
+    }
+
+    /// The steps that follow are those behind a mark. It tells whether there was memory for it.
+    pub fn mark(&mut self) -> bool {
         self.steps.clear();
-        Ok(())
+        self.is_stopped = false;
+        match self.places.clone() {
+            Ok(places) => {
+                self.marked = places;
+                true
+            }
+            Err(_) => false,
+        }
     }
 
-    /// How many writes and syncs were made since the mark.
+    /// How many writes and syncs were made from the mark to the first stop behind it.
     pub fn counts(&self) -> (usize, usize) {
         let all = self.steps.len();
         let syncs = self
@@ -62,27 +84,27 @@ impl Tape {
         (all.saturating_sub(syncs), syncs)
     }
 
-    /// What a stop leaves behind so many steps since the mark.
-    pub fn stopped(&self, steps: usize, left: Left) -> Result<Tape, AllocError> {
-        let mut disk = Tape {
-            places: self.marked.clone()?,
-            held: self.held.clone()?,
-            marked: self.marked.clone()?,
-            steps: Vec::new(*self.steps.allocator()),
-        };
-        let gates = disk.held.len();
-        disk.held.push([0xA5; BLOCK_SIZE])?;
+    /// Makes the disk what a stop leaves behind so many steps since the mark. What follows is no step.
+    pub fn stop(&mut self, steps: usize, left: Left) {
+        self.is_stopped = true;
+        self.rewind();
         let synced = self.synced(steps);
-        for (i, step) in self.steps.iter().enumerate().take(steps) {
-            if let Step::Wrote(block, place) = step {
+        for i in 0..steps {
+            if let Some(Step::Wrote(block, place)) = self.steps.get(i).copied() {
                 match left {
-                    Left::Gates if i >= synced => disk.put(*block, gates),
+                    Left::Gates if i >= synced => self.put(block, GATE),
                     Left::Old if i >= synced => (),
-                    _ => disk.put(*block, *place),
+                    _ => self.put(block, place),
                 }
             }
         }
-        Ok(disk)
+    }
+
+    /// Each block stands where it stood at the mark.
+    fn rewind(&mut self) {
+        for (place, marked) in self.places.iter_mut().zip(&self.marked) {
+            *place = *marked;
+        }
     }
 
     /// How many of so many steps the last sync among them ends.
@@ -99,6 +121,12 @@ impl Tape {
     fn put(&mut self, block: usize, place: usize) {
         if let Some(old) = self.places.get_mut(block) {
             *old = place;
+        }
+    }
+
+    fn step(&mut self, step: Step) {
+        if !self.is_stopped {
+            let _ = self.steps.push(step);
         }
     }
 }
@@ -144,16 +172,15 @@ impl Disk for Tape {
 
     fn write(&mut self, i: u64, from: &Block) -> Result<(), Failed> {
         let place = self.held.len();
-        if self.held.push(*from).is_ok()
-            && self.steps.push(Step::Wrote(i as usize, place)).is_ok()
-        {
+        if self.held.push(*from).is_ok() {
+            self.step(Step::Wrote(i as usize, place));
             self.put(i as usize, place);
         }
         Ok(())
     }
 
     fn sync(&mut self) -> Result<(), Failed> {
-        let _ = self.steps.push(Step::Synced);
+        self.step(Step::Synced);
         Ok(())
     }
 }
