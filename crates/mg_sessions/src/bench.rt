@@ -31,13 +31,16 @@ pub struct Bench {
 impl Bench {
     /// A bench for images of as many blocks as this disk has.
     pub fn new(alloc: Global, disk: &MemDisk) -> Result<Bench, AllocError> {
-        Ok(Bench {
-            scratch: ScratchDisk::new(alloc, disk.blocks())?,
-            last: None,
-            settled: 0,
-            stops: 0,
-            open: 0,
-        })
+        match ScratchDisk::new(alloc, disk.blocks()) {
+            Ok(scratch) => Ok(Bench {
+                scratch,
+                last: None,
+                settled: 0,
+                stops: 0,
+                open: 0,
+            }),
+            Err(e) => Err(e),
+        }
     }
 
     /// How many images were opened.
@@ -79,30 +82,26 @@ impl Bench {
         ways
     }
 
-    /// Whether a volume is the state behind the answered lines, or the one behind the next batch.
+    /// Whether a volume is the state behind the answered lines, or the one behind the next batch; None where memory is wanting.
     pub fn goes_on(
         &mut self,
         alloc: Global,
         image: &mut MemDisk,
         states: &[Kept],
         answered: usize,
-    ) -> Result<bool, AllocError> {
+    ) -> Option<bool> {
         self.stops = self.stops.saturating_add(1);
-        for state in states
-            .iter()
-            .filter(|state| state.calls >= answered)
-            .take(2)
-        {
-            copy(image, &mut self.scratch);
-            let streams = Streams::of(&state.input);
-            let outcome = command(alloc, "vol run", &mut self.scratch, &streams)?;
-            if outcome.status == Status::Done
-                && outcome.put.as_slice() == state.answers.as_slice()
-            {
-                return Ok(true);
+        let mut tried: usize = 0;
+        for state in states {
+            if state.calls >= answered && tried < 2 {
+                copy(image, &mut self.scratch);
+                if is_state(alloc, &mut self.scratch, state)? {
+                    return Some(true);
+                }
+                tried = tried.saturating_add(1);
             }
         }
-        Ok(false)
+        Some(false)
     }
 
     /// Whether the opening of this image is to be stopped.
@@ -112,7 +111,17 @@ impl Bench {
         }
         let number = self.open;
         self.open = number.saturating_add(1);
-        CHOSEN.iter().any(|chosen| number == *chosen)
+        CHOSEN.contains(&number)
+    }
+}
+
+/// Whether the volume of a disk is this state; None where memory is wanting.
+fn is_state(alloc: Global, disk: &mut ScratchDisk, state: &Kept) -> Option<bool> {
+    match command(alloc, "vol run", disk, &Streams::of(&state.input)) {
+        Ok(outcome) => Some(
+            outcome.status == Status::Done && outcome.put.as_slice() == state.answers.as_slice(),
+        ),
+        Err(_) => None,
     }
 }
 

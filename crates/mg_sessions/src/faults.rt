@@ -1,14 +1,12 @@
-// A session in which each call of the disk, the source and the sink fails once.
+// A run in which each call of the disk, the source and the sink fails once.
 use crate::bench::{Bench, copy};
-use crate::kept::{Kept, kept_states};
-use crate::parts::{answers_from, count_lines};
-use crate::running::tell;
-use crate::session::{Run, Session};
-use crate::stops::count_calls;
-use crate::trouble::Trouble;
+use crate::kept::{Kept, Stage, Wanted};
+use crate::lines::count_lines;
+use crate::report::Report;
+use crate::stops::{count_disk_calls, goes_on};
 use mg_disk::{BLOCK_SIZE, Disk, Left, MemDisk, ScratchDisk};
 use mg_session::Status;
-use mg_testing::{ROOM, Streams, command, volume};
+use mg_testing::{Outcome, ROOM, Streams, command};
 use std::alloc::{AllocError, Global};
 
 /// How many bytes a take gives, so that a session has many.
@@ -28,111 +26,182 @@ enum Failing {
     Put,
 }
 
-/// A run of a session on a volume, with what it may leave.
-#[derive(Drop)]
+/// A run of a session, with what it may tell and leave.
+#[derive(Clone, Copy)]
 struct Trial<'a> {
     line: &'a str,
-    volume: ScratchDisk,
-    run: &'a Run,
-    states: &'a [Kept],
-    answers: &'a [u8],
+    input: &'a [u8],
+    wanted: &'a Wanted,
 }
 
-/// Fails each call of each run of a session that asks for it, and tells how many did; None where it does not ask.
-pub fn fail_all(alloc: Global, session: &Session) -> Result<Option<u64>, Trouble> {
-    let Some(batch) = &session.faults else {
-        return Ok(None);
+/// A call that fails, by its number.
+#[derive(Clone, Copy)]
+struct Fault {
+    failing: Failing,
+    number: u64,
+}
+
+/// Fails each call of a run behind the opening, each take and each put, one a run, and gives how many failed.
+pub fn fail_run(
+    report: &mut Report,
+    stage: &Stage<'_>,
+    disk: &MemDisk,
+    wanted: &Wanted,
+    bench: &mut Bench,
+) -> Option<u64> {
+    let first = count_disk_calls(report.alloc(), stage.line, disk, b"")?;
+    let last = count_disk_calls(report.alloc(), stage.line, disk, stage.part.run)?;
+    let trial = Trial {
+        line: stage.line,
+        input: stage.part.run,
+        wanted,
     };
-    let line = format!(in alloc; "vol run {batch}")?;
-    let mut disk = volume(alloc, session.format_line(alloc)?.as_str())?;
-    let mut bench = Bench::new(alloc, &disk)?;
-    let mut faults: u64 = 0;
-    for (i, run) in session.runs.iter().enumerate() {
-        let states = kept_states(alloc, session, line.as_str(), &disk, i)?;
-        let answers = answers_from(alloc, session.runs_from(i), 0)?;
-        let first = count_calls(alloc, line.as_str(), &disk, b"")?;
-        let last = count_calls(alloc, line.as_str(), &disk, &run.input)?;
-        let mut held = ScratchDisk::new(alloc, disk.blocks())?;
-        copy(&mut disk.stopped(alloc, Left::New)?, &mut held);
-        let mut trial = Trial {
-            line: line.as_str(),
-            volume: held,
-            run,
-            states: &states,
-            answers: &answers,
-        };
-        let more = fail_calls(alloc, &mut trial, &mut bench, Failing::Disk, first, last)?;
-        let takes = fail_calls(alloc, &mut trial, &mut bench, Failing::Take, 0, MOST_CALLS)?;
-        let puts = fail_calls(alloc, &mut trial, &mut bench, Failing::Put, 0, MOST_CALLS)?;
-        faults = faults
-            .saturating_add(more)
-            .saturating_add(takes)
-            .saturating_add(puts);
-        let _ = command(alloc, line.as_str(), &mut disk, &Streams::of(&run.input))?;
-        disk = disk.stopped(alloc, Left::Old)?;
+    match held(report.alloc(), disk) {
+        Ok(mut volume) => fail_kinds(report, &trial, &mut volume, bench, first, last),
+        Err(_) => None,
     }
-    Ok(Some(faults))
+}
+
+/// A disk that counts no calls, and holds what this one does.
+fn held(alloc: Global, disk: &MemDisk) -> Result<ScratchDisk, AllocError> {
+    match disk.stopped(alloc, Left::New) {
+        Ok(mut from) => match ScratchDisk::new(alloc, from.blocks()) {
+            Ok(mut held) => {
+                copy(&mut from, &mut held);
+                Ok(held)
+            }
+            Err(e) => Err(e),
+        },
+        Err(e) => Err(e),
+    }
+}
+
+fn fail_kinds(
+    report: &mut Report,
+    trial: &Trial<'_>,
+    volume: &mut ScratchDisk,
+    bench: &mut Bench,
+    first: u64,
+    last: u64,
+) -> Option<u64> {
+    let calls = fail_calls(report, trial, volume, bench, Failing::Disk, first, last)?;
+    let takes = fail_calls(report, trial, volume, bench, Failing::Take, 0, MOST_CALLS)?;
+    let puts = fail_calls(report, trial, volume, bench, Failing::Put, 0, MOST_CALLS)?;
+    Some(calls.saturating_add(takes).saturating_add(puts))
 }
 
 /// Fails the calls of one kind, one a run, from the first of these numbers to the one before the last, or to the first that the
-/// run does not reach. Tells how many failed.
+/// run does not reach. Gives how many failed.
 fn fail_calls(
-    alloc: Global,
-    trial: &mut Trial<'_>,
+    report: &mut Report,
+    trial: &Trial<'_>,
+    volume: &mut ScratchDisk,
     bench: &mut Bench,
     failing: Failing,
     first: u64,
     last: u64,
-) -> Result<u64, Trouble> {
+) -> Option<u64> {
     let mut faults: u64 = 0;
     for number in first..last {
-        if !fails_well(alloc, trial, bench, failing, number)? {
+        let fault = Fault { failing, number };
+        if !fails_well(report, trial, volume, bench, &fault)? {
             break;
         }
         faults = faults.saturating_add(1);
     }
-    Ok(faults)
+    Some(faults)
 }
 
 /// Whether the run reaches the call that fails. Where it does it has to end with the status of that call, what it put has to be the
 /// first answers, and the volume the state behind them or behind the next batch.
 fn fails_well(
-    alloc: Global,
-    trial: &mut Trial<'_>,
+    report: &mut Report,
+    trial: &Trial<'_>,
+    volume: &mut ScratchDisk,
     bench: &mut Bench,
-    failing: Failing,
-    number: u64,
-) -> Result<bool, Trouble> {
-    let numbers = [number];
-    let (fails, takes, puts, wanted): (&[u64], &[u64], &[u64], Status) = match failing {
-        Failing::Disk => (&numbers, &[], &[], Status::Disk),
-        Failing::Take => (&[], &numbers, &[], Status::Source),
-        Failing::Put => (&[], &[], &numbers, Status::Sink),
+    fault: &Fault,
+) -> Option<bool> {
+    let numbers = [fault.number];
+    let (fails, takes, puts): (&[u64], &[u64], &[u64]) = match fault.failing {
+        Failing::Disk => (&numbers, &[], &[]),
+        Failing::Take => (&[], &numbers, &[]),
+        Failing::Put => (&[], &[], &numbers),
     };
     let streams = Streams {
         piece: PIECE,
         takes,
         puts,
-        ..Streams::of(&trial.run.input)
+        ..Streams::of(trial.input)
     };
-    let mut disk = copy_with_faults(alloc, &mut trial.volume, fails)?;
-    let outcome = command(alloc, trial.line, &mut disk, &streams)?;
+    fail_on(report, trial, volume, bench, fault, fails, &streams)
+}
+
+/// Makes the run on a copy of the volume of which the calls of these numbers fail.
+fn fail_on(
+    report: &mut Report,
+    trial: &Trial<'_>,
+    volume: &mut ScratchDisk,
+    bench: &mut Bench,
+    fault: &Fault,
+    fails: &[u64],
+    streams: &Streams<'_>,
+) -> Option<bool> {
+    match copy_with_faults(report.alloc(), volume, fails) {
+        Ok(mut disk) => match command(report.alloc(), trial.line, &mut disk, streams) {
+            Ok(outcome) => compare(report, trial, &disk, bench, fault, &outcome),
+            Err(_) => None,
+        },
+        Err(_) => None,
+    }
+}
+
+fn compare(
+    report: &mut Report,
+    trial: &Trial<'_>,
+    disk: &MemDisk,
+    bench: &mut Bench,
+    fault: &Fault,
+    outcome: &Outcome,
+) -> Option<bool> {
     if outcome.status == Status::Done {
-        return Ok(false);
+        return Some(false);
     }
     let answered = count_lines(&outcome.put);
-    let is_first = trial.answers.starts_with(&outcome.put) && outcome.status == wanted;
-    for left in [Left::New, Left::Old] {
-        let mut image = disk.stopped(alloc, left)?;
-        if !is_first || !bench.goes_on(alloc, &mut image, trial.states, answered)? {
-            let code = outcome.status.code();
-            let text = format!(in alloc;
-                "call {number} failed, status {code}, {answered} answers"
-            )?;
-            return Err(tell(alloc, trial.line, text.as_str())?);
-        }
+    let is_first = trial.wanted.answers.starts_with(&outcome.put)
+        && outcome.status == status_of(fault.failing);
+    let states = &trial.wanted.states;
+    if is_first && both_go_on(report.alloc(), disk, states, answered, bench)? {
+        return Some(true);
     }
-    Ok(true)
+    let line = trial.line;
+    let number = fault.number;
+    let code = outcome.status.code();
+    report.put(format!(in report.alloc();
+        "{line}: call {number} failed, status {code}, {answered} answers"
+    ));
+    None
+}
+
+/// Whether what is written, and what was as of the last sync, are both one of the states.
+fn both_go_on(
+    alloc: Global,
+    disk: &MemDisk,
+    states: &[Kept],
+    answered: usize,
+    bench: &mut Bench,
+) -> Option<bool> {
+    let is_new = goes_on(alloc, disk, Left::New, states, answered, bench)?;
+    let is_old = goes_on(alloc, disk, Left::Old, states, answered, bench)?;
+    Some(is_new && is_old)
+}
+
+/// The status with which a run ends where such a call fails.
+fn status_of(failing: Failing) -> Status {
+    match failing {
+        Failing::Disk => Status::Disk,
+        Failing::Take => Status::Source,
+        Failing::Put => Status::Sink,
+    }
 }
 
 /// A disk that holds what this one does, and of which the calls of these numbers fail, counted from here on.
@@ -142,17 +211,30 @@ fn copy_with_faults(
     fails: &[u64],
 ) -> Result<MemDisk, AllocError> {
     let blocks = from.blocks();
-    let mut numbers = Vec::new(alloc);
-    for number in fails {
-        numbers.push(number.saturating_add(blocks).saturating_add(1))?;
+    match fails.to_vec(alloc) {
+        Ok(mut numbers) => {
+            for number in numbers.iter_mut() {
+                *number = number.saturating_add(blocks).saturating_add(1);
+            }
+            match MemDisk::new(alloc, blocks, ROOM, numbers) {
+                Ok(mut disk) => {
+                    fill(from, &mut disk);
+                    Ok(disk)
+                }
+                Err(e) => Err(e),
+            }
+        }
+        Err(e) => Err(e),
     }
-    let mut disk = MemDisk::new(alloc, blocks, ROOM, numbers)?;
+}
+
+/// Writes what one disk holds to the other, and makes a sync.
+fn fill(from: &mut ScratchDisk, to: &mut MemDisk) {
     let mut block = [0; BLOCK_SIZE];
-    for i in 0..blocks {
-        if i < from.blocks() && i < disk.blocks() && from.read(i, &mut block).is_ok() {
-            let _ = disk.write(i, &block);
+    for i in 0..from.blocks() {
+        if i < from.blocks() && i < to.blocks() && from.read(i, &mut block).is_ok() {
+            let _ = to.write(i, &block);
         }
     }
-    let _ = disk.sync();
-    Ok(disk)
+    let _ = to.sync();
 }

@@ -1,13 +1,23 @@
 // Files of sessions, one after the other.
-use crate::faults::fail_all;
-use crate::parts::count_answers;
+use crate::lines::Kind;
+use crate::parts::count;
 use crate::reading::read_session;
+use crate::report::Report;
 use crate::running::run_all;
-use crate::stops::stop_all;
-use crate::trouble::Trouble;
+use crate::session::Session;
+use crate::sweeps::{Sweep, sweep_all};
 use std::alloc::{AllocError, Global};
 use std::rt::{Env, Files};
 use std::{env, fs, io};
+
+/// How much of a file was compared.
+#[derive(Clone, Copy)]
+struct Compared {
+    answers: usize,
+    stops: u64,
+    /// None where the file does not ask for faults.
+    faults: Option<u64>,
+}
 
 /// Puts a line for each file that the words behind the program's name are, or with no words for each `.calls` of the folder that
 /// it is run in, in the order of their names: how much was compared, or where it differs. Tells whether all are as they should
@@ -15,39 +25,127 @@ use std::{env, fs, io};
 pub fn check_files<R: Files + Env + Print + AllocGlobal + Clone + Drop>(
     rt: &R,
 ) -> io::Result<bool> {
+    match paths(rt) {
+        Ok(paths) => check_each(rt, &paths),
+        Err(e) => Err(e),
+    }
+}
+
+fn check_each<R: Files + Print + AllocGlobal + Clone + Drop>(
+    rt: &R,
+    paths: &[String],
+) -> io::Result<bool> {
     let mut is_good = true;
-    for path in paths(rt)? {
-        let name = name_of(path.as_str());
-        let Ok(bytes) = fs::read(rt, path.as_str()) else {
-            println!(rt; "{name}: can't be read")?;
+    for path in paths {
+        if !check_file(rt, path.as_str())? {
             is_good = false;
-            continue;
-        };
-        match told(rt.alloc(), &bytes) {
-            Ok(line) => println!(rt; "{name}: {line}")?,
-            Err(Trouble::Memory) => return Err(AllocError.into()),
-            Err(Trouble::Told(line)) => {
-                println!(rt; "{name}: {line}")?;
-                is_good = false;
-            }
         }
     }
     Ok(is_good)
 }
 
+/// Puts the line of a file, and tells whether it is as it should be.
+fn check_file<R: Files + Print + AllocGlobal + Clone + Drop>(
+    rt: &R,
+    path: &str,
+) -> io::Result<bool> {
+    let name = name_of(path);
+    match fs::read(rt, path) {
+        Ok(bytes) => check_bytes(rt, name, &bytes),
+        Err(_) => {
+            println!(rt; "{name}: can't be read")?;
+            Ok(false)
+        }
+    }
+}
+
+fn check_bytes<R: Print + AllocGlobal + Clone + Drop>(
+    rt: &R,
+    name: &str,
+    bytes: &[u8],
+) -> io::Result<bool> {
+    let mut report = Report::new(rt.alloc());
+    let compared = compare(&mut report, bytes);
+    put_told(rt, name, compared, report.text())
+}
+
+/// Puts the line of a file, and tells whether it is as it should be.
+fn put_told<R: Print>(
+    rt: &R,
+    name: &str,
+    compared: Option<Compared>,
+    text: &str,
+) -> io::Result<bool> {
+    match compared {
+        Some(compared) => {
+            put_compared(rt, name, &compared)?;
+            Ok(true)
+        }
+        None => {
+            if text.is_empty() {
+                return Err(AllocError.into());
+            }
+            println!(rt; "{name}: {text}")?;
+            Ok(false)
+        }
+    }
+}
+
+fn put_compared<R: Print>(rt: &R, name: &str, compared: &Compared) -> io::Result<()> {
+    let answers = compared.answers;
+    let stops = compared.stops;
+    match compared.faults {
+        None => println!(rt; "{name}: {answers} answers, {stops} stops"),
+        Some(faults) => println!(rt; "{name}: {answers} answers, {stops} stops, {faults} faults"),
+    }
+}
+
 /// The paths of these files.
 fn paths<R: Files + Env + AllocGlobal + Clone + Drop>(rt: &R) -> io::Result<Vec<String>> {
-    let mut paths: Vec<String> = env::args(rt)?.skip(1).collect(rt.alloc())?;
+    match words(rt) {
+        Ok(mut paths) => match put_paths(rt, &mut paths) {
+            Ok(()) => Ok(paths),
+            Err(e) => Err(e),
+        },
+        Err(e) => Err(e),
+    }
+}
+
+/// The words behind the program's name.
+fn words<R: Env + AllocGlobal + Clone + Drop>(rt: &R) -> io::Result<Vec<String>> {
+    Ok(env::args(rt)?.skip(1).collect(rt.alloc())?)
+}
+
+/// Puts the files of the folder into paths that are none.
+fn put_paths<R: Files + AllocGlobal + Clone + Drop>(
+    rt: &R,
+    paths: &mut Vec<String>,
+) -> io::Result<()> {
     if paths.is_empty() {
-        for entry in fs::read_dir(rt, ".")? {
-            let entry = entry?;
-            if entry.file_name().ends_with(".calls") {
-                paths.push(String::from_str(rt.alloc(), entry.file_name())?)?;
-            }
-        }
+        put_files(rt, paths)?;
         paths.sort()?;
     }
-    Ok(paths)
+    Ok(())
+}
+
+fn put_files<R: Files + AllocGlobal + Clone + Drop>(
+    rt: &R,
+    paths: &mut Vec<String>,
+) -> io::Result<()> {
+    for entry in fs::read_dir(rt, ".")? {
+        match entry {
+            Ok(entry) => put_path(rt.alloc(), entry.file_name(), paths)?,
+            Err(e) => return Err(e),
+        }
+    }
+    Ok(())
+}
+
+fn put_path(alloc: Global, name: &str, paths: &mut Vec<String>) -> Result<(), AllocError> {
+    if name.ends_with(".calls") {
+        paths.push(String::from_str(alloc, name)?)?;
+    }
+    Ok(())
 }
 
 /// What stands behind the last slash of a path.
@@ -58,14 +156,34 @@ fn name_of(path: &str) -> &str {
     }
 }
 
-/// What is told of a file that is as it should be.
-fn told(alloc: Global, bytes: &[u8]) -> Result<String, Trouble> {
-    let session = read_session(alloc, bytes)?;
-    let answers = count_answers(&session.runs);
-    run_all(alloc, &session)?;
-    let stops = stop_all(alloc, &session)?;
-    match fail_all(alloc, &session)? {
-        None => Ok(format!(in alloc; "{answers} answers, {stops} stops")?),
-        Some(faults) => Ok(format!(in alloc; "{answers} answers, {stops} stops, {faults} faults")?),
+/// How much of a file that is as it should be was compared.
+fn compare(report: &mut Report, bytes: &[u8]) -> Option<Compared> {
+    match read_session(bytes) {
+        Ok(session) => compare_session(report, &session),
+        Err(misread) => {
+            let number = misread.number;
+            let text = misread.text;
+            report.put(format!(in report.alloc(); "line {number}: {text}"));
+            None
+        }
     }
+}
+
+fn compare_session(report: &mut Report, session: &Session<'_>) -> Option<Compared> {
+    if !run_all(report, session) {
+        return None;
+    }
+    let stops = match session.settings.stops {
+        Some(batch) => sweep_all(report, session, Sweep::Stops, batch)?,
+        None => 0,
+    };
+    let faults = match session.settings.faults {
+        Some(batch) => Some(sweep_all(report, session, Sweep::Faults, batch)?),
+        None => None,
+    };
+    Some(Compared {
+        answers: count(session.file, Kind::Answers),
+        stops,
+        faults,
+    })
 }

@@ -11,11 +11,13 @@ mod bench;
 mod faults;
 mod files;
 mod kept;
+mod lines;
 mod parts;
 mod reading;
+mod report;
 mod running;
 mod session;
 mod stops;
-mod trouble;
+mod sweeps;
 
 pub use files::check_files;

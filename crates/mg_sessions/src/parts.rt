@@ -1,82 +1,87 @@
-// Parts of a session: lines from one on or up to one, and their answers.
-use crate::session::Run;
-use std::alloc::{AllocError, Global};
+// Parts of a session: its runs, and its lines of one kind.
+use crate::lines::{Kind, is_newline, text_of};
 
-/// The calls that only read.
-const READS: [&[u8]; 4] = [b"load", b"info", b"balance", b"apdlist"];
-
-/// The bytes of these runs, joined.
-pub fn whole_input(alloc: Global, runs: &[Run]) -> Result<Vec<u8>, AllocError> {
-    let mut input = Vec::new(alloc);
-    for run in runs {
-        input.extend_from_slice(&run.input)?;
-    }
-    Ok(input)
+/// A run of a file, and what stands before and behind it.
+#[derive(Clone, Copy)]
+pub struct Part<'a> {
+    /// The bytes before the run.
+    pub before: &'a [u8],
+    /// The bytes of the run, notes among them.
+    pub run: &'a [u8],
+    /// The bytes of the run and of those behind it.
+    pub rest: &'a [u8],
+    /// How many lines stand before the run.
+    pub lines: usize,
 }
 
-/// The lines of the first calls, so many of them.
-pub fn lines_to(alloc: Global, runs: &[Run], count: usize) -> Result<Vec<u8>, AllocError> {
-    let mut lines = Vec::new(alloc);
-    for call in runs.iter().flat_map(|run| run.calls.iter()).take(count) {
-        lines.extend_from_slice(&call.line)?;
-        lines.push(b'\n')?;
+/// The run of this number, from 0. Behind the last one there are runs of no lines.
+pub fn part_of(file: &[u8], run: usize) -> Part<'_> {
+    let (at, lines) = place_behind(file, Kind::Reopens, run);
+    let (before, rest) = file.split_at(at.min(file.len()));
+    let (end, _) = place_behind(rest, Kind::Reopens, 1);
+    let (run, _) = rest.split_at(end.min(rest.len()));
+    Part {
+        before,
+        run,
+        rest,
+        lines,
     }
-    Ok(lines)
 }
 
-/// The lines of the calls behind the first ones, so many of them.
-pub fn lines_from(alloc: Global, runs: &[Run], skip: usize) -> Result<Vec<u8>, AllocError> {
-    let mut lines = Vec::new(alloc);
-    for call in runs.iter().flat_map(|run| run.calls.iter()).skip(skip) {
-        lines.extend_from_slice(&call.line)?;
-        lines.push(b'\n')?;
+/// How many bytes and lines there are up to the end of the last of so many lines of this kind.
+pub fn place_behind(bytes: &[u8], kind: Kind, count: usize) -> (usize, usize) {
+    let mut at: usize = 0;
+    let mut lines: usize = 0;
+    let mut found: usize = 0;
+    for line in bytes.split_inclusive(is_newline) {
+        if found >= count {
+            break;
+        }
+        if text_of(line, kind).is_some() {
+            found = found.saturating_add(1);
+        }
+        at = at.saturating_add(line.len());
+        lines = lines.saturating_add(1);
     }
-    Ok(lines)
+    (at, lines)
 }
 
-/// The lines of the calls that only read.
-pub fn reads(alloc: Global, runs: &[Run]) -> Result<Vec<u8>, AllocError> {
-    let mut lines = Vec::new(alloc);
-    for call in runs.iter().flat_map(|run| run.calls.iter()) {
-        if is_read(&call.line) {
-            lines.extend_from_slice(&call.line)?;
-            lines.push(b'\n')?;
+/// How many lines of this kind there are.
+pub fn count(bytes: &[u8], kind: Kind) -> usize {
+    let mut lines: usize = 0;
+    for line in bytes.split_inclusive(is_newline) {
+        if text_of(line, kind).is_some() {
+            lines = lines.saturating_add(1);
         }
     }
-    Ok(lines)
+    lines
 }
 
-/// Whether the second word of a line is that of a call that reads.
-fn is_read(line: &[u8]) -> bool {
-    let mut words = line.split(|b| is_blank(*b)).filter(|word| !word.is_empty());
-    match words.nth(1) {
-        Some(word) => READS.iter().any(|read| word == *read),
-        None => false,
+/// How many runs a file has.
+pub fn count_runs(file: &[u8]) -> usize {
+    count(file, Kind::Reopens).saturating_add(1)
+}
+
+/// Puts the lines of this kind from one number on, from 0, up to before another one into `out`; false where memory is wanting.
+pub fn put_lines(out: &mut Vec<u8>, bytes: &[u8], kind: Kind, from: usize, to: usize) -> bool {
+    let mut number: usize = 0;
+    for line in bytes.split_inclusive(is_newline) {
+        if let Some(text) = text_of(line, kind) {
+            if number >= from && number < to && !put_line(out, text) {
+                return false;
+            }
+            number = number.saturating_add(1);
+        }
     }
+    true
 }
 
-/// Whether a byte parts words.
-pub fn is_blank(b: u8) -> bool {
-    b == b' ' || b == b'\t' || b == b'\r'
+/// Puts these bytes and a newline into `out`; false where memory is wanting.
+pub fn put_line(out: &mut Vec<u8>, text: &[u8]) -> bool {
+    put(out, text) && put(out, b"\n")
 }
 
-/// How many answers these runs have.
-pub fn count_answers(runs: &[Run]) -> usize {
-    runs.iter()
-        .map(|run| run.answers.len())
-        .fold(0, |n: usize, more| n.saturating_add(more))
-}
-
-/// The answers behind the first ones, so many of them.
-pub fn answers_from(alloc: Global, runs: &[Run], skip: usize) -> Result<Vec<u8>, AllocError> {
-    let mut answers = Vec::new(alloc);
-    for answer in runs.iter().flat_map(|run| run.answers.iter()).skip(skip) {
-        answers.extend_from_slice(answer)?;
-    }
-    Ok(answers)
-}
-
-/// How many lines these bytes end.
-pub fn count_lines(bytes: &[u8]) -> usize {
-    bytes.iter().filter(|b| **b == b'\n').count()
+/// Puts these bytes into `out`; false where memory is wanting.
+pub fn put(out: &mut Vec<u8>, bytes: &[u8]) -> bool {
+    out.extend_from_slice(bytes).is_ok()
 }

@@ -1,136 +1,106 @@
 // From the bytes of a file to its session.
-use crate::parts::is_blank;
-use crate::session::{Call, Run, Session};
-use crate::trouble::Trouble;
-use mg_testing::SEED;
-use std::alloc::{AllocError, Global};
+use crate::lines::{Line, is_newline, line_of};
+use crate::session::{Session, Settings};
 use std::str;
-
-/// The most bytes that a line without words, or a note, may have: a longer line is answered whatever it holds.
-const LINE_LIMIT: usize = 256;
 
 /// The batch of a sweep of stops or faults that names none.
 const BATCH: &str = "8";
 
+/// Why a file is no session: a line, from 1, and what is wrong there.
+#[derive(Clone, Copy)]
+pub struct Misread {
+    pub number: usize,
+    pub text: &'static str,
+}
+
+/// What the lines so far tell.
+#[derive(Clone, Copy)]
+struct Told<'a> {
+    settings: Settings<'a>,
+    /// The calls of this run.
+    calls: usize,
+    /// The answers of this run.
+    answers: usize,
+}
+
 /// The session that these bytes tell.
-pub fn read_session(alloc: Global, bytes: &[u8]) -> Result<Session, Trouble> {
-    let mut session = empty_session(alloc)?;
-    let mut run = empty_run(alloc);
-    let mut last = 0;
-    for (i, line) in bytes.split_inclusive(|b| *b == b'\n').enumerate() {
-        let number = i.saturating_add(1);
-        let text = line.strip_suffix(b"\n").unwrap_or(line);
-        last = number;
-        run.input.extend_from_slice(line)?;
-        if is_call(text) {
-            add_call(alloc, &mut run, number, line.ends_with(b"\n"), text)?;
-        } else if let Some(answer) = text.strip_prefix(b"#= ") {
-            run.answers.push(ended(alloc, answer)?)?;
-        } else if text == b"#: reopen".as_slice() {
-            session.runs.push(whole(alloc, run, number)?)?;
-            run = empty_run(alloc);
-        } else if let Some(setting) = text.strip_prefix(b"#: ") {
-            set(alloc, &mut session, number, setting)?;
+pub fn read_session(file: &[u8]) -> Result<Session<'_>, Misread> {
+    let mut told = Told {
+        settings: Settings::usual(),
+        calls: 0,
+        answers: 0,
+    };
+    let mut last: usize = 0;
+    for line in file.split_inclusive(is_newline) {
+        last = last.saturating_add(1);
+        if let Some(text) = take_line(&mut told, line) {
+            return Err(Misread { number: last, text });
         }
     }
-    session.runs.push(whole(alloc, run, last)?)?;
-    Ok(session)
-}
-
-/// The settings of a file that names none, and no runs.
-fn empty_session(alloc: Global) -> Result<Session, AllocError> {
-    Ok(Session {
-        frames: String::from_str(alloc, "64")?,
-        seed: String::from_str(alloc, SEED)?,
-        credits: String::from_str(alloc, "1000")?,
-        tariff: None,
-        check: None,
-        stops: None,
-        faults: None,
-        saves: false,
-        runs: Vec::new(alloc),
-    })
-}
-
-fn empty_run(alloc: Global) -> Run {
-    Run {
-        input: Vec::new(alloc),
-        calls: Vec::new(alloc),
-        answers: Vec::new(alloc),
+    match end_run(&mut told) {
+        None => Ok(Session {
+            settings: told.settings,
+            file,
+        }),
+        Some(text) => Err(Misread { number: last, text }),
     }
 }
 
-/// Whether a line is answered: it has words and is no note, or it is too long.
-fn is_call(text: &[u8]) -> bool {
-    let word = text.iter().find(|b| !is_blank(**b));
-    match word {
-        Some(b'#') | None => text.len() > LINE_LIMIT,
-        Some(_) => true,
+/// Takes a line, and tells what is wrong with it.
+fn take_line<'a>(told: &mut Told<'a>, line: &'a [u8]) -> Option<&'static str> {
+    match line_of(line) {
+        Line::Call(_) => add_call(told, line.ends_with(b"\n")),
+        Line::Answer(_) => {
+            told.answers = told.answers.saturating_add(1);
+            None
+        }
+        Line::Reopen => end_run(told),
+        Line::Setting(text) => set(&mut told.settings, text),
+        Line::Note => None,
     }
 }
 
 /// A call more. The one before has to have its answer; that of a last line without a newline stands before the line.
-fn add_call(
-    alloc: Global,
-    run: &mut Run,
-    number: usize,
-    is_ended: bool,
-    text: &[u8],
-) -> Result<(), Trouble> {
+fn add_call(told: &mut Told<'_>, is_ended: bool) -> Option<&'static str> {
     let early = if is_ended { 0 } else { 1 };
-    if run.answers.len() != run.calls.len().saturating_add(early) {
-        return Err(trouble(
-            alloc,
-            number,
-            "the calls before it have not one answer each",
-        )?);
+    if told.answers != told.calls.saturating_add(early) {
+        return Some("the calls before it have not one answer each");
     }
-    run.calls.push(Call {
-        number,
-        line: text.to_vec(alloc)?,
-    })?;
-    Ok(())
+    told.calls = told.calls.saturating_add(1);
+    None
 }
 
-/// These bytes with a newline.
-fn ended(alloc: Global, text: &[u8]) -> Result<Vec<u8>, AllocError> {
-    let mut line = text.to_vec(alloc)?;
-    line.push(b'\n')?;
-    Ok(line)
-}
-
-/// A run that ends with this line.
-fn whole(alloc: Global, run: Run, number: usize) -> Result<Run, Trouble> {
-    if run.answers.len() != run.calls.len() {
-        return Err(trouble(alloc, number, "the calls up to it have not one answer each")?);
+/// The run ends with this line.
+fn end_run(told: &mut Told<'_>) -> Option<&'static str> {
+    if told.answers != told.calls {
+        return Some("the calls up to it have not one answer each");
     }
-    Ok(run)
+    told.calls = 0;
+    told.answers = 0;
+    None
 }
 
 /// Takes the setting that a line names, as `frames 64`.
-fn set(alloc: Global, session: &mut Session, number: usize, text: &[u8]) -> Result<(), Trouble> {
+fn set<'a>(settings: &mut Settings<'a>, text: &'a [u8]) -> Option<&'static str> {
     let Ok(text) = str::from_utf8(text) else {
-        return Err(trouble(alloc, number, "a setting that is no text")?);
+        return Some("a setting that is no text");
     };
     let (word, value) = text.split_once(' ').unwrap_or((text, ""));
-    let value = String::from_str(alloc, value)?;
     match word {
-        "frames" => session.frames = value,
-        "seed" => session.seed = value,
-        "credits" => session.credits = value,
-        "tariff" => session.tariff = Some(value),
-        "check" => session.check = Some(ended(alloc, value.as_bytes())?),
-        "stops" if value.is_empty() => session.stops = Some(String::from_str(alloc, BATCH)?),
-        "stops" => session.stops = Some(value),
-        "faults" if value.is_empty() => session.faults = Some(String::from_str(alloc, BATCH)?),
-        "faults" => session.faults = Some(value),
-        "saves" => session.saves = true,
-        _ => return Err(trouble(alloc, number, "no such setting")?),
+        "frames" => settings.frames = value,
+        "seed" => settings.seed = value,
+        "credits" => settings.credits = value,
+        "tariff" => settings.tariff = Some(value),
+        "check" => settings.check = Some(value),
+        "stops" => settings.stops = Some(batch(value)),
+        "faults" => settings.faults = Some(batch(value)),
+        "saves" => settings.saves = true,
+        _ => return Some("no such setting"),
     }
-    Ok(())
+    None
 }
 
-/// What is told of a file that is no session.
-fn trouble(alloc: Global, number: usize, text: &str) -> Result<Trouble, AllocError> {
-    Ok(Trouble::Told(format!(in alloc; "line {number}: {text}")?))
+/// The batch that a sweep names.
+fn batch(value: &str) -> &str {
+    if value.is_empty() { BATCH } else { value }
 }

@@ -1,14 +1,45 @@
 // A session under `dry`, and under `run` with three batches.
-use crate::parts::whole_input;
-use crate::session::{Run, Session};
-use crate::trouble::Trouble;
+use crate::lines::{Kind, Line, first_line, is_newline, line_of};
+use crate::parts::{Part, count_runs, part_of, place_behind, put, put_line};
+use crate::report::Report;
+use crate::session::{Session, Settings};
 use mg_disk::{Left, MemDisk, ScratchDisk};
 use mg_session::Status;
 use mg_testing::{Outcome, Streams, command, volume};
 use std::alloc::{AllocError, Global};
 
-/// The batches of `run`, each with the size of the pieces in which its source gives the lines.
-const BATCHES: [(&str, usize); 3] = [("1", 7), ("8", 256), ("64", 257)];
+/// A way to run a session on a volume.
+#[derive(Clone, Copy)]
+struct Way {
+    batch: &'static str,
+    /// What it is called where it differs.
+    how: &'static str,
+    /// The words of the command.
+    line: &'static str,
+    /// The size of the pieces in which the source gives the lines.
+    piece: usize,
+}
+
+const ALONE: Way = Way {
+    batch: "1",
+    how: "run 1",
+    line: "vol run 1",
+    piece: 7,
+};
+
+const BY_8: Way = Way {
+    batch: "8",
+    how: "run 8",
+    line: "vol run 8",
+    piece: 256,
+};
+
+const BY_64: Way = Way {
+    batch: "64",
+    how: "run 64",
+    line: "vol run 64",
+    piece: 257,
+};
 
 /// What one way to run the session told, which the others have to tell too.
 #[derive(Drop)]
@@ -19,171 +50,331 @@ struct Told {
     again: Option<Vec<u8>>,
 }
 
-/// Runs the session in each way, and compares what is told.
-pub fn run_all(alloc: Global, session: &Session) -> Result<(), Trouble> {
+/// Runs the session in each way, and tells whether it is the same each time.
+pub fn run_all(report: &mut Report, session: &Session<'_>) -> bool {
     let mut told = Told {
-        check: match &session.check {
-            Some(line) => Some(line.clone()?),
-            None => None,
-        },
+        check: None,
         again: None,
     };
-    if session.tariff.is_none() {
-        run_dry(alloc, session, &mut told)?;
-    }
-    let fresh = volume(alloc, session.format_line(alloc)?.as_str())?;
-    let mut alone = None;
-    for (batch, piece) in BATCHES {
-        let mut disk = fresh.stopped(alloc, Left::New)?;
-        let syncs = run_batch(alloc, session, batch, piece, &mut disk, &mut told)?;
-        match alone {
-            None => alone = Some(syncs),
-            Some(most) => {
-                if syncs > most || session.saves && syncs == most {
-                    return Err(tell(alloc, batch, "no syncs are saved")?);
-                }
-            }
+    run_ways(report, session, &mut told)
+}
+
+fn run_ways(report: &mut Report, session: &Session<'_>, told: &mut Told) -> bool {
+    if let Some(line) = session.settings.check {
+        if !keep(report.alloc(), line.as_bytes(), true, &mut told.check) {
+            return false;
         }
     }
-    Ok(())
+    if session.settings.tariff.is_none() && !run_dry(report, session, &mut told.again) {
+        return false;
+    }
+    match fresh(report.alloc(), &session.settings) {
+        Ok(fresh) => run_batches(report, session, &fresh, told),
+        Err(_) => false,
+    }
+}
+
+/// Keeps these bytes as what was told, with a newline where one is to be behind them; false where memory is wanting.
+fn keep(alloc: Global, bytes: &[u8], is_ended: bool, told: &mut Option<Vec<u8>>) -> bool {
+    let mut kept = Vec::new(alloc);
+    let is_kept = put(&mut kept, bytes) && (!is_ended || put(&mut kept, b"\n"));
+    *told = Some(kept);
+    is_kept
+}
+
+/// A fresh volume with these settings.
+pub fn fresh(alloc: Global, settings: &Settings<'_>) -> Result<MemDisk, AllocError> {
+    match settings.format_line(alloc) {
+        Ok(line) => volume(alloc, line.as_str()),
+        Err(e) => Err(e),
+    }
 }
 
 /// The lines of the file under `dry`, twice in one run: they are answered as the file tells, and what they are answered the second
 /// time is kept. A fresh volume with the usual tariff is what `dry` runs on.
-fn run_dry(alloc: Global, session: &Session, told: &mut Told) -> Result<(), Trouble> {
-    let line = session.dry_line(alloc)?;
-    let mut disk = ScratchDisk::new(alloc, 0)?;
-    let mut input = whole_input(alloc, &session.runs)?;
-    input.push(b'\n')?;
-    input.extend_from_slice(&whole_input(alloc, &session.runs)?)?;
+fn run_dry(report: &mut Report, session: &Session<'_>, again: &mut Option<Vec<u8>>) -> bool {
+    let mut twice = Vec::new(report.alloc());
+    put_line(&mut twice, session.file)
+        && put(&mut twice, session.file)
+        && run_twice(report, session, &twice, again)
+}
+
+fn run_twice(
+    report: &mut Report,
+    session: &Session<'_>,
+    twice: &[u8],
+    again: &mut Option<Vec<u8>>,
+) -> bool {
     let streams = Streams {
         piece: 1,
-        ..Streams::of(&input)
+        ..Streams::of(twice)
     };
-    let outcome = command(alloc, line.as_str(), &mut disk, &streams)?;
-    let again = behind(alloc, "dry", &session.runs, &outcome.put)?;
-    told.again = Some(again.to_vec(alloc)?);
-    is_done(alloc, "dry", outcome.status)
+    match session.settings.dry_line(report.alloc()) {
+        Ok(line) => match dry(report.alloc(), line.as_str(), &streams) {
+            Ok(outcome) => keep_behind(report, session.file, &outcome, again),
+            Err(_) => false,
+        },
+        Err(_) => false,
+    }
+}
+
+/// How a command ends that needs no disk.
+pub fn dry(alloc: Global, line: &str, streams: &Streams<'_>) -> Result<Outcome, AllocError> {
+    match ScratchDisk::new(alloc, 0) {
+        Ok(mut disk) => command(alloc, line, &mut disk, streams),
+        Err(e) => Err(e),
+    }
+}
+
+/// Keeps what `dry` put behind the answers of the file.
+fn keep_behind(
+    report: &mut Report,
+    file: &[u8],
+    outcome: &Outcome,
+    again: &mut Option<Vec<u8>>,
+) -> bool {
+    match behind(report, "dry", file, 0, &outcome.put) {
+        Some(behind) => {
+            keep(report.alloc(), behind, false, again) && is_done(report, "dry", outcome.status)
+        }
+        None => false,
+    }
+}
+
+/// The runs of the session in each of the ways, each on a volume as this one. Larger batches make no more syncs.
+fn run_batches(
+    report: &mut Report,
+    session: &Session<'_>,
+    fresh: &MemDisk,
+    told: &mut Told,
+) -> bool {
+    match run_on_copy(report, session, &ALONE, fresh, told) {
+        Some(most) => {
+            saves(report, session, &BY_8, fresh, told, most)
+                && saves(report, session, &BY_64, fresh, told, most)
+        }
+        None => false,
+    }
+}
+
+fn saves(
+    report: &mut Report,
+    session: &Session<'_>,
+    way: &Way,
+    fresh: &MemDisk,
+    told: &mut Told,
+    most: u64,
+) -> bool {
+    match run_on_copy(report, session, way, fresh, told) {
+        Some(syncs) => {
+            if syncs > most || session.settings.saves && syncs == most {
+                report.tell(way.batch, "no syncs are saved");
+                return false;
+            }
+            true
+        }
+        None => false,
+    }
+}
+
+fn run_on_copy(
+    report: &mut Report,
+    session: &Session<'_>,
+    way: &Way,
+    fresh: &MemDisk,
+    told: &mut Told,
+) -> Option<u64> {
+    match fresh.stopped(report.alloc(), Left::New) {
+        Ok(mut disk) => run_batch(report, session, way, &mut disk, told),
+        Err(_) => None,
+    }
 }
 
 /// The runs one after the other on a volume, a stop between two of them; then `check`, and the same lines once more. Gives how
 /// many syncs the runs made.
 fn run_batch(
-    alloc: Global,
-    session: &Session,
-    batch: &str,
-    piece: usize,
+    report: &mut Report,
+    session: &Session<'_>,
+    way: &Way,
     disk: &mut MemDisk,
     told: &mut Told,
-) -> Result<u64, Trouble> {
-    let line = format!(in alloc; "vol run {batch}")?;
-    let how = format!(in alloc; "run {batch}")?;
+) -> Option<u64> {
     let mut syncs: u64 = 0;
-    for run in &session.runs {
-        let streams = Streams {
-            piece,
-            ..Streams::of(&run.input)
-        };
-        let outcome = command(alloc, line.as_str(), disk, &streams)?;
-        compare(alloc, how.as_str(), std::slice::from_ref(run), &outcome)?;
-        syncs = syncs.saturating_add(disk.counts().syncs);
-        *disk = disk.stopped(alloc, Left::Old)?;
+    for i in 0..count_runs(session.file) {
+        let more = run_part(report, way, &part_of(session.file, i), disk)?;
+        syncs = syncs.saturating_add(more);
     }
-    let check = command(alloc, "vol check", disk, &Streams::of(b""))?;
+    if check(report, way, disk, &mut told.check)
+        && run_again(report, way, session.file, disk, &mut told.again)
+    {
+        Some(syncs)
+    } else {
+        None
+    }
+}
+
+/// A run on the volume, which answers its lines and nothing else, and ends well; then a stop. Gives how many syncs it made.
+fn run_part(report: &mut Report, way: &Way, part: &Part<'_>, disk: &mut MemDisk) -> Option<u64> {
+    if !is_answered(report, way, part, disk) {
+        return None;
+    }
+    let syncs = disk.counts().syncs;
+    if reopen(report.alloc(), disk) {
+        Some(syncs)
+    } else {
+        None
+    }
+}
+
+fn is_answered(report: &mut Report, way: &Way, part: &Part<'_>, disk: &mut MemDisk) -> bool {
+    let streams = Streams {
+        piece: way.piece,
+        ..Streams::of(part.run)
+    };
+    match command(report.alloc(), way.line, disk, &streams) {
+        Ok(outcome) => compare(report, way.how, part, &outcome),
+        Err(_) => false,
+    }
+}
+
+/// Makes a disk one that a stop now leaves, with no call made yet; false where memory is wanting.
+pub fn reopen(alloc: Global, disk: &mut MemDisk) -> bool {
+    match disk.stopped(alloc, Left::Old) {
+        Ok(left) => {
+            *disk = left;
+            true
+        }
+        Err(_) => false,
+    }
+}
+
+/// Whether `check` puts what was told first, and makes no write and no sync.
+fn check(report: &mut Report, way: &Way, disk: &mut MemDisk, told: &mut Option<Vec<u8>>) -> bool {
+    match command(report.alloc(), "vol check", disk, &Streams::of(b"")) {
+        Ok(outcome) => {
+            only_reads(report, way, disk) && same(report, way.how, "then check", told, &outcome.put)
+        }
+        Err(_) => false,
+    }
+}
+
+fn only_reads(report: &mut Report, way: &Way, disk: &MemDisk) -> bool {
     let counts = disk.counts();
     if counts.writes != 0 || counts.syncs != 0 {
-        return Err(tell(alloc, how.as_str(), "then check makes a write or a sync")?);
+        report.tell(way.how, "then check makes a write or a sync");
+        return false;
     }
-    same(
-        alloc,
-        how.as_str(),
-        "then check",
-        &mut told.check,
-        check.put,
-    )?;
-    let input = whole_input(alloc, &session.runs)?;
-    let again = command(alloc, line.as_str(), disk, &Streams::of(&input))?;
-    same(
-        alloc,
-        how.as_str(),
-        "then the lines once more",
-        &mut told.again,
-        again.put,
-    )?;
-    Ok(syncs)
+    true
+}
+
+/// Whether the lines of the file are answered once more as they were first.
+fn run_again(
+    report: &mut Report,
+    way: &Way,
+    file: &[u8],
+    disk: &mut MemDisk,
+    told: &mut Option<Vec<u8>>,
+) -> bool {
+    match command(report.alloc(), way.line, disk, &Streams::of(file)) {
+        Ok(outcome) => same(
+            report,
+            way.how,
+            "then the lines once more",
+            told,
+            &outcome.put,
+        ),
+        Err(_) => false,
+    }
 }
 
 /// Whether these bytes are those that were told first, if any were.
 fn same(
-    alloc: Global,
+    report: &mut Report,
     how: &str,
     what: &str,
-    first: &mut Option<Vec<u8>>,
-    put: Vec<u8>,
-) -> Result<(), Trouble> {
-    match first {
-        None => *first = Some(put),
+    told: &mut Option<Vec<u8>>,
+    put: &[u8],
+) -> bool {
+    match told {
+        None => keep(report.alloc(), put, false, told),
         Some(first) => {
-            if first.as_slice() != put.as_slice() {
-                let wanted = String::from_utf8_lossy(alloc, first)?;
-                let found = String::from_utf8_lossy(alloc, &put)?;
-                let text = format!(in alloc; "{what}: wanted {wanted:?}, found {found:?}")?;
-                return Err(tell(alloc, how, text.as_str())?);
+            if first.as_slice() == put {
+                return true;
             }
+            report.tell_bytes(how, what, first, put);
+            false
         }
     }
-    Ok(())
 }
 
-/// Whether a command answered these runs and nothing else, and ended well.
-fn compare(alloc: Global, how: &str, runs: &[Run], outcome: &Outcome) -> Result<(), Trouble> {
-    if !behind(alloc, how, runs, &outcome.put)?.is_empty() {
-        return Err(tell(alloc, how, "more answers than lines")?);
+/// Whether a command answered this run and nothing else, and ended well.
+fn compare(report: &mut Report, how: &str, part: &Part<'_>, outcome: &Outcome) -> bool {
+    match behind(report, how, part.run, part.lines, &outcome.put) {
+        Some([]) => is_done(report, how, outcome.status),
+        Some(_) => {
+            report.tell(how, "more answers than lines");
+            false
+        }
+        None => false,
     }
-    is_done(alloc, how, outcome.status)
 }
 
-/// What was put behind the answers of these runs, where these are what was put first.
-fn behind<'a>(alloc: Global, how: &str, runs: &[Run], put: &'a [u8]) -> Result<&'a [u8], Trouble> {
+/// What was put behind the answers of these lines, where these are what was put first. So many lines stand before them in the
+/// file.
+fn behind<'a>(
+    report: &mut Report,
+    how: &str,
+    lines: &[u8],
+    before: usize,
+    put: &'a [u8],
+) -> Option<&'a [u8]> {
     let mut put = put;
-    for run in runs {
-        for (call, answer) in run.calls.iter().zip(run.answers.iter()) {
-            match put.strip_prefix(answer.as_slice()) {
+    let mut calls: usize = 0;
+    for line in lines.split_inclusive(is_newline) {
+        if let Line::Answer(answer) = line_of(line) {
+            calls = calls.saturating_add(1);
+            match behind_answer(put, answer) {
                 Some(rest) => put = rest,
                 None => {
-                    let number = call.number;
-                    let wanted = String::from_utf8_lossy(alloc, answer)?;
-                    let found = String::from_utf8_lossy(alloc, first_line(put))?;
-                    let text = format!(in alloc;
-                        "line {number}: wanted {wanted:?}, found {found:?}"
-                    )?;
-                    return Err(tell(alloc, how, text.as_str())?);
+                    let (_, number) = place_behind(lines, Kind::Calls, calls);
+                    tell_answer(report, how, before.saturating_add(number), answer, put);
+                    return None;
                 }
             }
         }
     }
-    Ok(put)
+    Some(put)
+}
+
+/// What stands behind an answer and its newline.
+fn behind_answer<'a>(put: &'a [u8], answer: &[u8]) -> Option<&'a [u8]> {
+    match put.strip_prefix(answer) {
+        Some(rest) => rest.strip_prefix(b"\n"),
+        None => None,
+    }
+}
+
+/// Tells that the line of this number was answered otherwise.
+fn tell_answer(report: &mut Report, how: &str, number: usize, answer: &[u8], put: &[u8]) {
+    let mut wanted = Vec::new(report.alloc());
+    if put_line(&mut wanted, answer) {
+        tell_line(report, how, number, &wanted, first_line(put));
+    }
+}
+
+fn tell_line(report: &mut Report, how: &str, number: usize, wanted: &[u8], found: &[u8]) {
+    match format!(in report.alloc(); "line {number}") {
+        Ok(what) => report.tell_bytes(how, what.as_str(), wanted, found),
+        Err(_) => {}
+    }
 }
 
 /// Whether a command ended well.
-fn is_done(alloc: Global, how: &str, status: Status) -> Result<(), Trouble> {
-    if status != Status::Done {
-        let code = status.code();
-        let text = format!(in alloc; "status {code}")?;
-        return Err(tell(alloc, how, text.as_str())?);
+fn is_done(report: &mut Report, how: &str, status: Status) -> bool {
+    if status == Status::Done {
+        return true;
     }
-    Ok(())
-}
-
-/// The bytes up to the first newline, that with them.
-fn first_line(bytes: &[u8]) -> &[u8] {
-    match bytes.split_inclusive(|b| *b == b'\n').next() {
-        Some(line) => line,
-        None => bytes,
-    }
-}
-
-/// What is told where a way to run the session differs.
-pub fn tell(alloc: Global, how: &str, text: &str) -> Result<Trouble, AllocError> {
-    Ok(Trouble::Told(format!(in alloc; "{how}: {text}")?))
+    let code = status.code();
+    report.put(format!(in report.alloc(); "{how}: status {code}"));
+    false
 }

@@ -1,67 +1,61 @@
 // A session as its file tells it.
+use mg_testing::SEED;
 use std::alloc::{AllocError, Global};
 
-/// A line that is answered.
-#[derive(Drop)]
-pub struct Call {
-    /// The number of its line in the file, from 1.
-    pub number: usize,
-    /// Its bytes, without a newline.
-    pub line: Vec<u8>,
-}
-
-/// The lines between two openings.
-#[derive(Drop)]
-pub struct Run {
-    /// The bytes of the file, notes among them.
-    pub input: Vec<u8>,
-    pub calls: Vec<Call>,
-    /// The answers of the calls, each with a newline.
-    pub answers: Vec<Vec<u8>>,
-}
-
-/// A session: what it runs under, and its runs.
-#[derive(Drop)]
-pub struct Session {
-    pub frames: String,
-    pub seed: String,
-    pub credits: String,
+/// What a session runs under, and what it asks for.
+#[derive(Clone, Copy)]
+pub struct Settings<'a> {
+    pub frames: &'a str,
+    pub seed: &'a str,
+    pub credits: &'a str,
     /// The four steps; None is the usual tariff.
-    pub tariff: Option<String>,
-    /// What `check` is to tell behind the last run, with a newline; None where that is not said.
-    pub check: Option<Vec<u8>>,
+    pub tariff: Option<&'a str>,
+    /// What `check` is to tell behind the last run, without the newline; None where that is not said.
+    pub check: Option<&'a str>,
     /// The batch under which the disk is stopped after each call; None asks for no stops.
-    pub stops: Option<String>,
+    pub stops: Option<&'a str>,
     /// The batch under which each call fails once; None asks for no faults.
-    pub faults: Option<String>,
+    pub faults: Option<&'a str>,
     /// Whether the runs are to make fewer syncs with batches of 64 lines than with one line each.
     pub saves: bool,
-    pub runs: Vec<Run>,
 }
 
-impl Session {
-    /// The runs from this one on.
-    pub fn runs_from(&self, run: usize) -> &[Run] {
-        let (_, rest) = self.runs.split_at(run.min(self.runs.len()));
-        rest
+/// A session: its settings, and its file, which is its runs one after the other.
+#[derive(Clone, Copy)]
+pub struct Session<'a> {
+    pub settings: Settings<'a>,
+    pub file: &'a [u8],
+}
+
+impl<'a> Settings<'a> {
+    /// The settings of a file that names none.
+    pub fn usual() -> Settings<'a> {
+        Settings {
+            frames: "64",
+            seed: SEED,
+            credits: "1000",
+            tariff: None,
+            check: None,
+            stops: None,
+            faults: None,
+            saves: false,
+        }
     }
 
     /// The words of `dry`, which knows the usual tariff alone.
     pub fn dry_line(&self, alloc: Global) -> Result<String, AllocError> {
-        let frames = self.frames.as_str();
-        let seed = self.seed.as_str();
-        let credits = self.credits.as_str();
+        let frames = self.frames;
+        let seed = self.seed;
+        let credits = self.credits;
         format!(in alloc; "vol dry {frames} {seed} {credits}")
     }
 
     /// The words of `format`.
     pub fn format_line(&self, alloc: Global) -> Result<String, AllocError> {
-        let frames = self.frames.as_str();
-        let seed = self.seed.as_str();
-        let credits = self.credits.as_str();
-        match &self.tariff {
-            None => format!(in alloc; "vol format {frames} {seed} {credits}"),
-            Some(tariff) => format!(in alloc; "vol format {frames} {seed} {credits} {tariff}"),
-        }
+        let frames = self.frames;
+        let seed = self.seed;
+        let credits = self.credits;
+        let tariff = self.tariff.unwrap_or("");
+        format!(in alloc; "vol format {frames} {seed} {credits} {tariff}")
     }
 }

@@ -1,83 +1,134 @@
-// A session on a disk that is stopped after each call.
+// A run on a disk that is stopped after each call.
 use crate::bench::Bench;
-use crate::kept::{Kept, kept_states};
-use crate::parts::{answers_from, count_lines};
-use crate::running::tell;
-use crate::session::Session;
-use crate::trouble::Trouble;
+use crate::kept::{Kept, Stage, Wanted};
+use crate::lines::count_lines;
+use crate::report::Report;
 use mg_disk::{Fuse, Left, MemDisk};
-use mg_testing::{Streams, command, volume};
+use mg_testing::{Streams, command};
 use std::alloc::{AllocError, Global};
 
 /// What a stop may leave of the blocks that were written since the last sync.
 const WAYS: [Left; 3] = [Left::New, Left::Old, Left::Gates];
 
-/// Stops each run of a session that asks for it, and tells how many images were opened again.
-pub fn stop_all(alloc: Global, session: &Session) -> Result<u64, Trouble> {
-    let Some(batch) = &session.stops else {
-        return Ok(0);
-    };
-    let line = format!(in alloc; "vol run {batch}")?;
-    let mut disk = volume(alloc, session.format_line(alloc)?.as_str())?;
-    let mut bench = Bench::new(alloc, &disk)?;
-    for (i, run) in session.runs.iter().enumerate() {
-        stop_run(
-            alloc,
-            session,
-            line.as_str(),
-            &disk,
-            i,
-            &run.input,
-            &mut bench,
-        )?;
-        let _ = command(alloc, line.as_str(), &mut disk, &Streams::of(&run.input))?;
-        disk = disk.stopped(alloc, Left::Old)?;
-    }
-    Ok(bench.stops())
+/// A run on a disk that stopped.
+#[derive(Drop)]
+struct Stopped {
+    disk: MemDisk,
+    /// What the run put.
+    put: Vec<u8>,
 }
 
-/// Stops a run after each call of the disk that follows the opening. What is opened then is the state behind the answered
-/// lines, or behind the next batch: it reads as that state does, and answers the lines behind as the whole session does.
-fn stop_run(
-    alloc: Global,
-    session: &Session,
-    line: &str,
+/// Stops a run after each call of the disk that follows the opening, and gives how many images were opened again. What is opened
+/// then is the state behind the answered lines, or behind the next batch: it reads as that state does, and answers the lines
+/// behind as the whole session does.
+pub fn stop_run(
+    report: &mut Report,
+    stage: &Stage<'_>,
     disk: &MemDisk,
-    run: usize,
-    input: &[u8],
+    wanted: &Wanted,
     bench: &mut Bench,
-) -> Result<(), Trouble> {
-    let states = kept_states(alloc, session, line, disk, run)?;
-    let answers = answers_from(alloc, session.runs_from(run), 0)?;
-    let first = count_calls(alloc, line, disk, b"")?;
-    let last = count_calls(alloc, line, disk, input)?;
+) -> Option<u64> {
+    let before = bench.stops();
+    let first = count_disk_calls(report.alloc(), stage.line, disk, b"")?;
+    let last = count_disk_calls(report.alloc(), stage.line, disk, stage.part.run)?;
     bench.begin();
     for calls in first..last.saturating_add(1) {
-        let mut fuse = Fuse::new(disk.stopped(alloc, Left::New)?, calls);
-        let outcome = command(alloc, line, &mut fuse, &Streams::of(input))?;
-        let answered = count_lines(&outcome.put);
-        let is_good = answers.starts_with(&outcome.put)
-            && is_kept(alloc, &fuse.into_inner(), &states, answered, bench)?;
-        if !is_good {
-            let text = format!(in alloc; "stopped after {calls} calls and {answered} answers")?;
-            return Err(tell(alloc, line, text.as_str())?);
+        if !stops_well(report, stage, disk, calls, wanted, bench) {
+            return None;
         }
     }
-    Ok(())
+    Some(bench.stops().saturating_sub(before))
 }
 
-/// How many calls of the disk a run of this input makes.
-pub fn count_calls(
+/// How many calls of the disk a run of this input makes; None where memory is wanting.
+pub fn count_disk_calls(alloc: Global, line: &str, disk: &MemDisk, input: &[u8]) -> Option<u64> {
+    match disk.stopped(alloc, Left::New) {
+        Ok(mut disk) => {
+            if command(alloc, line, &mut disk, &Streams::of(input)).is_ok() {
+                Some(calls_of(&disk))
+            } else {
+                None
+            }
+        }
+        Err(_) => None,
+    }
+}
+
+/// How many calls were made.
+fn calls_of(disk: &MemDisk) -> u64 {
+    changes_of(disk).saturating_add(disk.counts().reads)
+}
+
+/// How many writes and syncs were made.
+fn changes_of(disk: &MemDisk) -> u64 {
+    let counts = disk.counts();
+    counts.writes.saturating_add(counts.syncs)
+}
+
+/// Whether the run that stops after so many calls put the first answers, and left one of the states.
+fn stops_well(
+    report: &mut Report,
+    stage: &Stage<'_>,
+    disk: &MemDisk,
+    calls: u64,
+    wanted: &Wanted,
+    bench: &mut Bench,
+) -> bool {
+    match run_stopped(report.alloc(), stage.line, disk, stage.part.run, calls) {
+        Ok(stopped) => compare(report, stage.line, calls, &stopped, wanted, bench),
+        Err(_) => false,
+    }
+}
+
+/// A run of this input on a copy of this disk, which stops after so many calls.
+fn run_stopped(
     alloc: Global,
     line: &str,
     disk: &MemDisk,
     input: &[u8],
-) -> Result<u64, AllocError> {
-    let mut disk = disk.stopped(alloc, Left::New)?;
-    let _ = command(alloc, line, &mut disk, &Streams::of(input))?;
-    let counts = disk.counts();
-    let moved = counts.reads.saturating_add(counts.writes);
-    Ok(moved.saturating_add(counts.syncs))
+    calls: u64,
+) -> Result<Stopped, AllocError> {
+    match disk.stopped(alloc, Left::New) {
+        Ok(copy) => {
+            let mut fuse = Fuse::new(copy, calls);
+            match command(alloc, line, &mut fuse, &Streams::of(input)) {
+                Ok(outcome) => Ok(Stopped {
+                    disk: fuse.into_inner(),
+                    put: outcome.put,
+                }),
+                Err(e) => Err(e),
+            }
+        }
+        Err(e) => Err(e),
+    }
+}
+
+fn compare(
+    report: &mut Report,
+    line: &str,
+    calls: u64,
+    stopped: &Stopped,
+    wanted: &Wanted,
+    bench: &mut Bench,
+) -> bool {
+    let answered = count_lines(&stopped.put);
+    let is_kept = if wanted.answers.starts_with(&stopped.put) {
+        is_kept(
+            report.alloc(),
+            &stopped.disk,
+            &wanted.states,
+            answered,
+            bench,
+        )
+    } else {
+        Some(false)
+    };
+    if is_kept == Some(false) {
+        report.put(format!(in report.alloc();
+            "{line}: stopped after {calls} calls and {answered} answers"
+        ));
+    }
+    is_kept == Some(true)
 }
 
 /// Whether a stop of this disk leaves one of the states, and still does after a stop in the opening that follows it.
@@ -87,17 +138,42 @@ fn is_kept(
     states: &[Kept],
     answered: usize,
     bench: &mut Bench,
-) -> Result<bool, AllocError> {
+) -> Option<bool> {
     for left in WAYS.into_iter().take(bench.ways(disk, answered)) {
-        let mut image = disk.stopped(alloc, left)?;
-        if !bench.goes_on(alloc, &mut image, states, answered)? {
-            return Ok(false);
-        }
-        if bench.is_chosen(&mut image) && !stays_kept(alloc, &image, states, answered, bench)? {
-            return Ok(false);
+        if !is_left_kept(alloc, disk, left, states, answered, bench)? {
+            return Some(false);
         }
     }
-    Ok(true)
+    Some(true)
+}
+
+fn is_left_kept(
+    alloc: Global,
+    disk: &MemDisk,
+    left: Left,
+    states: &[Kept],
+    answered: usize,
+    bench: &mut Bench,
+) -> Option<bool> {
+    match disk.stopped(alloc, left) {
+        Ok(mut image) => is_image_kept(alloc, &mut image, states, answered, bench),
+        Err(_) => None,
+    }
+}
+
+fn is_image_kept(
+    alloc: Global,
+    image: &mut MemDisk,
+    states: &[Kept],
+    answered: usize,
+    bench: &mut Bench,
+) -> Option<bool> {
+    let is_kept = bench.goes_on(alloc, image, states, answered)?;
+    if is_kept && bench.is_chosen(image) {
+        stays_kept(alloc, image, states, answered, bench)
+    } else {
+        Some(is_kept)
+    }
 }
 
 /// Whether a volume is still one of the states where its opening is stopped after each of its calls, from the first write to
@@ -108,40 +184,81 @@ fn stays_kept(
     states: &[Kept],
     answered: usize,
     bench: &mut Bench,
-) -> Result<bool, AllocError> {
-    let last = count_calls(alloc, "vol run", image, b"")?;
-    let changes = changes_of(&opened_in(alloc, image, last)?);
+) -> Option<bool> {
+    let last = count_disk_calls(alloc, "vol run", image, b"")?;
+    let changes = count_changes(alloc, image, last)?;
+    let first = first_change(alloc, image, last)?;
     bench.begin();
-    for calls in first_change(alloc, image, last)?..last {
-        let disk = opened_in(alloc, image, calls)?;
-        for left in WAYS.into_iter().take(bench.ways(&disk, answered)) {
-            if !bench.goes_on(alloc, &mut disk.stopped(alloc, left)?, states, answered)? {
-                return Ok(false);
+    for calls in first..last {
+        match changes_kept(alloc, image, calls, states, answered, bench)? {
+            None => return Some(false),
+            Some(made) => {
+                if made == changes {
+                    break;
+                }
             }
-        }
-        if changes_of(&disk) == changes {
-            break;
         }
     }
     bench.begin();
-    Ok(true)
+    Some(true)
 }
 
-/// The disk as so many calls of an opening leave it.
-fn opened_in(alloc: Global, image: &MemDisk, calls: u64) -> Result<MemDisk, AllocError> {
-    let mut fuse = Fuse::new(image.stopped(alloc, Left::New)?, calls);
-    let _ = command(alloc, "vol run", &mut fuse, &Streams::of(b""))?;
-    Ok(fuse.into_inner())
+/// How many writes and syncs so many calls of an opening make, where each stop behind them leaves one of the states; else
+/// Some(None). None where memory is wanting.
+fn changes_kept(
+    alloc: Global,
+    image: &MemDisk,
+    calls: u64,
+    states: &[Kept],
+    answered: usize,
+    bench: &mut Bench,
+) -> Option<Option<u64>> {
+    match run_stopped(alloc, "vol run", image, b"", calls) {
+        Ok(opened) => changes_on(alloc, &opened.disk, states, answered, bench),
+        Err(_) => None,
+    }
 }
 
-/// How many writes and syncs were made.
-fn changes_of(disk: &MemDisk) -> u64 {
-    let counts = disk.counts();
-    counts.writes.saturating_add(counts.syncs)
+fn changes_on(
+    alloc: Global,
+    disk: &MemDisk,
+    states: &[Kept],
+    answered: usize,
+    bench: &mut Bench,
+) -> Option<Option<u64>> {
+    for left in WAYS.into_iter().take(bench.ways(disk, answered)) {
+        if !goes_on(alloc, disk, left, states, answered, bench)? {
+            return Some(None);
+        }
+    }
+    Some(Some(changes_of(disk)))
+}
+
+/// Whether what a stop leaves of this disk is one of the states.
+pub fn goes_on(
+    alloc: Global,
+    disk: &MemDisk,
+    left: Left,
+    states: &[Kept],
+    answered: usize,
+    bench: &mut Bench,
+) -> Option<bool> {
+    match disk.stopped(alloc, left) {
+        Ok(mut image) => bench.goes_on(alloc, &mut image, states, answered),
+        Err(_) => None,
+    }
+}
+
+/// How many writes and syncs so many calls of an opening make.
+fn count_changes(alloc: Global, image: &MemDisk, calls: u64) -> Option<u64> {
+    match run_stopped(alloc, "vol run", image, b"", calls) {
+        Ok(opened) => Some(changes_of(&opened.disk)),
+        Err(_) => None,
+    }
 }
 
 /// The least number of calls, up to this one, with which an opening has written.
-fn first_change(alloc: Global, image: &MemDisk, last: u64) -> Result<u64, AllocError> {
+fn first_change(alloc: Global, image: &MemDisk, last: u64) -> Option<u64> {
     let mut low: u64 = 0;
     let mut high = last;
     for _ in 0..64 {
@@ -149,11 +266,11 @@ fn first_change(alloc: Global, image: &MemDisk, last: u64) -> Result<u64, AllocE
             break;
         }
         let middle = low + (high - low) / 2;
-        if changes_of(&opened_in(alloc, image, middle)?) == 0 {
+        if count_changes(alloc, image, middle)? == 0 {
             low = middle.saturating_add(1);
         } else {
             high = middle;
         }
     }
-    Ok(low)
+    Some(low)
 }
