@@ -1,114 +1,119 @@
 // A client of the disk whose calls fail or whose disk dies, at each call in turn, and what a stop then leaves.
-ghost use Rattle.std.specs.Prelude.{◌≡◌, ◌≤◌, IfOk};
+ghost use Rattle.std.specs.Prelude.{◌≡◌};
 
-use mg_disk::{BLOCK_SIZE, Block, Counts, Disk, Failed, Fuse, Left, MemDisk, ScratchDisk};
-use std::alloc::{AllocError, Global};
+use crate::calls::{byte_of, synced, wrote};
+use crate::made::zeros;
+use mg_disk::{Counts, Disk, Fuse, Left, MemDisk, ScratchDisk};
+use std::alloc::Global;
 use std::process::Abort;
 
 /// The byte of an open gate.
 const OPEN: u8 = 0xA5;
 
-/// Makes these two blocks what a disk of five holds, where its gate is closed.
-fn put<D: Disk>(disk: &mut D, first: &Block, second: &Block) -> Result<(), Failed>
-    requires { 5 ≤ D.block_count disk.old }
-    ensures { D.block_count disk.new ≡ D.block_count disk.old }
+/// Makes a block of ones and one of twos what a disk of five holds, where its gate is closed.
+fn put<D: Disk>(disk: &mut D) -> bool
+    requires { D.block_count disk.old ≡ 5 }
+    ensures { D.block_count disk.new ≡ 5 }
 {
-    disk.write(1, first)?;
-    disk.write(2, second)?;
-    disk.sync()?;
-    disk.write(0, &[OPEN; BLOCK_SIZE])?;
-    disk.sync()
+    wrote(disk, 1, 1) && wrote(disk, 2, 2) && synced(disk) && wrote(disk, 0, OPEN) && synced(disk)
 }
 
-/// The first bytes of the two blocks that a disk holds: those behind an open gate, or those at their homes.
-fn held<D: Disk>(disk: &mut D) -> Result<(u8, u8), Failed>
-    requires { 5 ≤ D.block_count disk.old }
+/// The bytes of two blocks.
+type Pair = (Option<u8>, Option<u8>);
+
+/// The bytes of the two blocks that a disk holds: those behind an open gate, or those at their homes.
+fn held<D: Disk>(disk: &mut D) -> Pair
+    requires { D.block_count disk.old ≡ 5 }
 {
-    let mut block: Block = [0; BLOCK_SIZE];
-    disk.read(0, &mut block)?;
-    let at = if block[0] == OPEN { 1 } else { 3 };
-    disk.read(at, &mut block)?;
-    let first = block[0];
-    disk.read(at + 1, &mut block)?;
-    Ok((first, block[0]))
+    match byte_of(disk, 0) {
+        Some(OPEN) => (byte_of(disk, 1), byte_of(disk, 2)),
+        Some(_) => (byte_of(disk, 3), byte_of(disk, 4)),
+        None => (None, None),
+    }
 }
 
-/// A disk of five blocks with a closed gate, whose call of that number fails.
-fn fresh(alloc: Global, failing: u64) -> Result<MemDisk, AllocError>
-    ensures room { IfOk result (λ disk. ⟦<MemDisk as Disk>⟧.block_count disk ≡ 5) }
+const OLD: Pair = (Some(0), Some(0));
+
+const NEW: Pair = (Some(1), Some(2));
+
+/// The disk as this stop leaves it.
+fn stopped(rt: &impl Abort, alloc: Global, disk: &MemDisk, left: Left) -> MemDisk
+    requires { ⟦<MemDisk as Disk>⟧.block_count disk.now ≡ 5 }
+    ensures { ⟦<MemDisk as Disk>⟧.block_count result ≡ 5 }
 {
-    let mut fails = Vec::new(alloc);
-    fails.push(failing)?;
-    MemDisk::new(alloc, 5, 8, fails)
+    disk.stopped(alloc, left).expect(rt, "memory")
 }
 
-/// The same, which dies after that many calls.
-fn mortal(alloc: Global, calls: u64) -> Result<Fuse<MemDisk>, AllocError>
-    ensures room { IfOk result (λ disk. ⟦<Fuse<MemDisk> as Disk>⟧.block_count disk ≡ 5) }
-{
-    Ok(Fuse::new(fresh(alloc, 9)?, calls))
-}
+/// What is held after a stop with what was synced, with what was written, and with gates.
+type Stops = [Pair; 3];
 
-/// Stops the disk in each way, and looks whether it holds the new blocks.
-fn looks(
-    rt: &impl Abort,
-    alloc: Global,
-    disk: &MemDisk,
-    is_new: [bool; 3],
-) -> Result<(), AllocError>
+fn leaves(rt: &impl Abort, alloc: Global, disk: &MemDisk, pairs: Stops) -> bool
     requires { ⟦<MemDisk as Disk>⟧.block_count disk.now ≡ 5 }
 {
-    for (left, is_new) in [Left::Old, Left::New, Left::Gates].into_iter().zip(is_new) {
-        let mut after = disk.stopped(alloc, left)?;
-        let want = if is_new { (1, 2) } else { (0, 0) };
-        assert!(rt; held(&mut after).is_ok_and(|got| got == want));
-    }
-    Ok(())
+    held(&mut stopped(rt, alloc, disk, Left::Old)) == pairs[0]
+        && held(&mut stopped(rt, alloc, disk, Left::New)) == pairs[1]
+        && held(&mut stopped(rt, alloc, disk, Left::Gates)) == pairs[2]
 }
 
-#[test]
-fn a_stop_leaves_the_old_or_the_new(rt: HostRuntime) -> Result<(), AllocError> {
-    let (first, second) = ([1; BLOCK_SIZE], [2; BLOCK_SIZE]);
-    let (old, gate, new) = ([false; 3], [false, true, true], [true; 3]);
-    // Where this call fails, and where the disk dies before it.
-    let cases = [
-        (0, old, old),
-        (1, old, old),
-        (2, old, old),
-        (3, gate, old),
-        (4, gate, gate),
-        (5, new, new),
-    ];
-    for (call, failed, died) in cases {
-        let mut disk = fresh(rt.alloc(), call)?;
-        assert_eq!(rt; put(&mut disk, &first, &second).is_ok(), call == 5);
-        looks(&rt, rt.alloc(), &disk, failed)?;
-        let mut fuse = mortal(rt.alloc(), call)?;
-        assert_eq!(rt; put(&mut fuse, &first, &second).is_ok(), call == 5);
-        looks(&rt, rt.alloc(), &fuse.into_inner(), died)?;
-    }
-    Ok(())
+/// Where that call fails; the sixth is not made.
+fn fails(rt: &impl Abort, alloc: Global, call: u64, stops: Stops) -> bool {
+    let mut disk = zeros(rt, alloc, 5, &[call]);
+    let good = put(&mut disk);
+    good == (call == 5) && leaves(rt, alloc, &disk, stops)
 }
 
-#[test]
-fn calls_are_counted(rt: HostRuntime) -> Result<(), AllocError> {
-    let mut disk = fresh(rt.alloc(), 9)?;
-    assert!(rt; put(&mut disk, &[1; BLOCK_SIZE], &[2; BLOCK_SIZE]).is_ok());
-    assert_eq!(rt;
-        disk.counts(),
-        Counts {
-            reads: 0,
-            writes: 3,
-            syncs: 2
-        }
+/// Where the disk dies after that many calls.
+fn dies(rt: &impl Abort, alloc: Global, calls: u64, stops: Stops) -> bool {
+    let mut disk = Fuse::new(zeros(rt, alloc, 5, &[]), calls);
+    let good = put(&mut disk);
+    let disk = disk.into_inner();
+    good == (calls == 5) && leaves(rt, alloc, &disk, stops)
+}
+
+fn fails_and_dies(rt: &impl Abort, alloc: Global, call: u64, failed: Stops, died: Stops) {
+    assert!(rt;
+        fails(rt, alloc, call, failed) && dies(rt, alloc, call, died),
+        "{call}"
     );
-    Ok(())
 }
 
 #[test]
-fn scratch_serves_a_session(rt: HostRuntime) -> Result<(), AllocError> {
-    let mut disk = ScratchDisk::new(rt.alloc(), 5)?;
-    assert!(rt; disk.write(3, &[7; BLOCK_SIZE]).is_ok());
-    assert!(rt; held(&mut disk).is_ok_and(|got| got == (7, 0)));
-    Ok(())
+fn a_stop_leaves_the_old_or_the_new(rt: HostRuntime) {
+    let alloc = rt.alloc();
+    let gate = [OLD, NEW, NEW];
+    fails_and_dies(&rt, alloc, 0, [OLD; 3], [OLD; 3]);
+    fails_and_dies(&rt, alloc, 1, [OLD; 3], [OLD; 3]);
+    fails_and_dies(&rt, alloc, 2, [OLD; 3], [OLD; 3]);
+    fails_and_dies(&rt, alloc, 3, gate, [OLD; 3]);
+    fails_and_dies(&rt, alloc, 4, gate, gate);
+    fails_and_dies(&rt, alloc, 5, [NEW; 3], [NEW; 3]);
+}
+
+fn is_counted(disk: &mut MemDisk) -> bool
+    requires { ⟦<MemDisk as Disk>⟧.block_count disk.old ≡ 5 }
+{
+    put(disk)
+        && disk.counts()
+            == Counts {
+                reads: 0,
+                writes: 3,
+                syncs: 2,
+            }
+}
+
+#[test]
+fn calls_are_counted(rt: HostRuntime) {
+    assert!(rt; is_counted(&mut zeros(&rt, rt.alloc(), 5, &[])));
+}
+
+fn serves<D: Disk>(disk: &mut D) -> bool
+    requires { D.block_count disk.old ≡ 5 }
+{
+    wrote(disk, 3, 7) && held(disk) == (Some(7), Some(0))
+}
+
+#[test]
+fn scratch_serves_a_session(rt: HostRuntime) {
+    let mut disk = ScratchDisk::new(rt.alloc(), 5).expect(&rt, "memory");
+    assert!(rt; serves(&mut disk));
 }

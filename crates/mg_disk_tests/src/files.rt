@@ -1,78 +1,129 @@
 // A disk in a real file, of which no contract can say what it gives.
+ghost use Rattle.std.specs.Prelude.{◌≡◌, ◌+◌, ◌≤◌};
+
+use crate::calls::{byte_of, synced, wrote};
 use mg_disk::{BLOCK_SIZE, Block, Disk, FileDisk};
-use std::{fs, io};
+use std::fs;
+use std::rt::Files;
 
-#[test]
-fn a_file_keeps_what_was_synced(rt: HostRuntime) -> io::Result<()> {
-    let _ = fs::remove_file(&rt, "volume");
-    let block: Block = [7; BLOCK_SIZE];
-    let mut first = FileDisk::new(&rt, "volume");
-    assert!(rt; first.write(2, &block).is_ok());
-    assert!(rt; first.sync().is_ok());
-    drop(first);
-    let mut second = FileDisk::new(&rt, "volume");
-    for (i, byte) in [(0, 0), (2, 7), (3, 0), (69_999, 0)] {
-        let mut out: Block = [1; BLOCK_SIZE];
-        assert!(rt; second.read(i, &mut out).is_ok());
-        assert!(rt; out.iter().all(|&b| b == byte), "block {i}");
-    }
-    fs::remove_file(&rt, "volume")
+/// Whether a file was there, and is no more.
+fn removed(rt: &impl Files, path: &str) -> bool {
+    fs::remove_file(rt, path).is_ok()
+}
+
+fn wrote_and_synced<D: Disk>(disk: &mut D) -> bool
+    requires { D.block_count disk.old ≡ 70000 }
+{
+    wrote(disk, 2, 7) && synced(disk)
+}
+
+/// Whether block 2 is what was written, and three more are zeros.
+fn holds_one<D: Disk>(disk: &mut D) -> bool
+    requires { D.block_count disk.old ≡ 70000 }
+{
+    byte_of(disk, 0) == Some(0)
+        && byte_of(disk, 2) == Some(7)
+        && byte_of(disk, 3) == Some(0)
+        && byte_of(disk, 69_999) == Some(0)
 }
 
 #[test]
-fn blocks_of_a_file_follow_one_another(rt: HostRuntime) -> io::Result<()> {
-    let _ = fs::remove_file(&rt, "blocks");
-    let mut disk = FileDisk::new(&rt, "blocks");
-    let written: [Block; 3] = [[7; BLOCK_SIZE], [8; BLOCK_SIZE], [9; BLOCK_SIZE]];
-    assert!(rt; disk.write_blocks(69_997, &written).is_ok());
-    assert!(rt; disk.write_blocks(1, &written).is_ok());
-    assert!(rt; disk.write(2, &[5; BLOCK_SIZE]).is_ok());
-    let mut read = [[1; BLOCK_SIZE]; 5];
-    assert!(rt; disk.read_blocks(0, &mut read).is_ok());
-    for (block, byte) in read.iter().zip([0, 7, 5, 9, 0]) {
-        assert!(rt; block.iter().all(|&b| b == byte), "{byte}");
-    }
-    let mut last: Block = [1; BLOCK_SIZE];
-    assert!(rt; disk.read(69_999, &mut last).is_ok());
-    assert!(rt; last.iter().all(|&b| b == 9));
-    fs::remove_file(&rt, "blocks")
+fn a_file_keeps_what_was_synced(rt: HostRuntime) {
+    let _ = removed(&rt, "volume");
+    assert!(rt; wrote_and_synced(&mut FileDisk::new(&rt, "volume")));
+    assert!(rt; holds_one(&mut FileDisk::new(&rt, "volume")));
+    assert!(rt; removed(&rt, "volume"));
+}
+
+const SEVENS: Block = [7; BLOCK_SIZE];
+
+const NINES: Block = [9; BLOCK_SIZE];
+
+const ZEROS: Block = [0; BLOCK_SIZE];
+
+/// Whether three blocks could be written from this one on.
+fn wrote_run<D: Disk>(disk: &mut D, first: u64) -> bool
+    requires { first + 3 ≤ D.block_count disk.old }
+    ensures { D.block_count disk.new ≡ D.block_count disk.old }
+{
+    let run = [SEVENS, [8; BLOCK_SIZE], NINES];
+    disk.write_blocks(first, &run).is_ok()
+}
+
+/// Whether the first five blocks, read together, are those of a run from block 1 on with a block of fives in it.
+fn holds_run<D: Disk>(disk: &mut D) -> bool
+    requires { D.block_count disk.old ≡ 70000 }
+    ensures { D.block_count disk.new ≡ 70000 }
+{
+    let mut run = [[1; BLOCK_SIZE]; 5];
+    disk.read_blocks(0, &mut run).is_ok() && run == [ZEROS, SEVENS, [5; BLOCK_SIZE], NINES, ZEROS]
+}
+
+fn runs_follow<D: Disk>(disk: &mut D) -> bool
+    requires { D.block_count disk.old ≡ 70000 }
+{
+    wrote_run(disk, 69_997)
+        && wrote_run(disk, 1)
+        && wrote(disk, 2, 5)
+        && holds_run(disk)
+        && byte_of(disk, 69_999) == Some(9)
 }
 
 #[test]
-fn a_file_that_ends_among_blocks_reads_as_zeros_behind(rt: HostRuntime) -> io::Result<()> {
-    fs::write(&rt, "short", [9; BLOCK_SIZE + 100])?;
-    let mut disk = FileDisk::reader(&rt, "short");
-    let mut blocks = [[1; BLOCK_SIZE]; 3];
-    assert!(rt; disk.read_blocks(0, &mut blocks).is_ok());
-    assert!(rt; blocks[0].iter().all(|&b| b == 9));
-    assert!(rt; blocks[1][..100].iter().all(|&b| b == 9));
-    assert!(rt; blocks[1][100..].iter().all(|&b| b == 0));
-    assert!(rt; blocks[2].iter().all(|&b| b == 0));
-    assert!(rt; disk.write_blocks(0, &blocks).is_err());
-    fs::remove_file(&rt, "short")
+fn blocks_of_a_file_follow_one_another(rt: HostRuntime) {
+    let _ = removed(&rt, "blocks");
+    assert!(rt; runs_follow(&mut FileDisk::new(&rt, "blocks")));
+    assert!(rt; removed(&rt, "blocks"));
+}
+
+/// Whether three blocks, read together, are a block of nines, 100 bytes more of them, and zeros behind, and can't be written.
+fn ends<D: Disk>(disk: &mut D) -> bool
+    requires { D.block_count disk.old ≡ 70000 }
+{
+    let mut run = [[1; BLOCK_SIZE]; 3];
+    let mut second = ZEROS;
+    second[..100].fill(9);
+    disk.read_blocks(0, &mut run).is_ok()
+        && run == [NINES, second, ZEROS]
+        && disk.write_blocks(0, &run).is_err()
 }
 
 #[test]
-fn a_file_that_another_run_holds_fails_at_each_call(rt: HostRuntime) -> io::Result<()> {
-    let _ = fs::remove_file(&rt, "held");
-    let mut block: Block = [7; BLOCK_SIZE];
+fn a_file_that_ends_among_blocks_reads_as_zeros_behind(rt: HostRuntime) {
+    assert!(rt; fs::write(&rt, "short", [9; BLOCK_SIZE + 100]).is_ok());
+    assert!(rt; ends(&mut FileDisk::reader(&rt, "short")));
+    assert!(rt; removed(&rt, "short"));
+}
+
+/// Whether a read, a write and a sync all fail.
+fn each_fails<D: Disk>(disk: &mut D) -> bool
+    requires { D.block_count disk.old ≡ 70000 }
+    ensures { D.block_count disk.new ≡ 70000 }
+{
+    let mut block: Block = ZEROS;
+    disk.read(0, &mut block).is_err() && !wrote(disk, 0, 9) && !synced(disk)
+}
+
+/// Whether the first disk is written, and each call of the second then fails.
+fn keeps_out<D: Disk>(first: &mut D, second: &mut D) -> bool
+    requires first { D.block_count first.old ≡ 70000 }
+    requires second { D.block_count second.old ≡ 70000 }
+{
+    wrote(first, 0, 7) && each_fails(second)
+}
+
+#[test]
+fn a_file_that_another_run_holds_fails_at_each_call(rt: HostRuntime) {
+    let _ = removed(&rt, "held");
     let mut first = FileDisk::new(&rt, "held");
-    assert!(rt; first.write(0, &block).is_ok());
     let mut second = FileDisk::new(&rt, "held");
-    assert!(rt; second.read(0, &mut block).is_err());
-    assert!(rt; second.write(0, &[9; BLOCK_SIZE]).is_err());
-    assert!(rt; second.sync().is_err());
+    assert!(rt; keeps_out(&mut first, &mut second));
     drop(first);
-    assert!(rt; second.read(0, &mut block).is_ok());
-    assert!(rt; block.iter().all(|&b| b == 7));
-    fs::remove_file(&rt, "held")
+    assert!(rt; byte_of(&mut second, 0) == Some(7));
+    assert!(rt; removed(&rt, "held"));
 }
 
 #[test]
 fn a_folder_fails_at_each_call(rt: HostRuntime) {
-    let mut block: Block = [0; BLOCK_SIZE];
-    let mut disk = FileDisk::new(&rt, ".");
-    assert!(rt; disk.read(0, &mut block).is_err());
-    assert!(rt; disk.write(0, &block).is_err());
-    assert!(rt; disk.sync().is_err());
+    assert!(rt; each_fails(&mut FileDisk::new(&rt, ".")));
 }

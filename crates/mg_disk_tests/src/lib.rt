@@ -7,10 +7,16 @@
 #[cfg(test)]
 mod blocks;
 #[cfg(test)]
+mod calls;
+#[cfg(test)]
 mod clients;
 #[cfg(test)]
 mod files;
 #[cfg(test)]
+mod made;
+#[cfg(test)]
 mod mirrors;
 #[cfg(test)]
-mod streams;
+mod sinks;
+#[cfg(test)]
+mod sources;

@@ -1,80 +1,94 @@
 // Real files, of which no contract can say what they give.
-use crate::images::{BLOCKS1, IN_JOURNAL, MOVED, old_volume, put_block};
-use crate::telling::{migrated, told_of};
-use mg_disk::{BLOCK_SIZE, Disk, FileDisk};
-use std::alloc::{AllocError, Global};
+use crate::images::{IN_JOURNAL, MOVED, begins_with, copy, old_volume};
+use crate::telling::{checks, line_tells};
+use mg_disk::{Disk, FileDisk};
+use std::alloc::{Alloc, Global};
 use std::fs;
-use std::test::Fail;
+use std::process::Abort;
+use std::rt::Files;
 
-/// Writes a volume of version 1 to a disk.
-fn fill<D: Disk>(alloc: Global, disk: &mut D) -> Result<(), AllocError> {
-    let mut made = old_volume(alloc, &IN_JOURNAL, &[])?;
-    let mut block = [0; BLOCK_SIZE];
-    for i in 0..BLOCKS1 {
-        if i < made.blocks() && made.read(i, &mut block).is_ok() {
-            put_block(disk, i, &block);
-        }
+/// Writes a volume of version 1 to a disk. Says whether the disk could be synced.
+fn fill<D: Disk>(rt: &impl Abort, alloc: Global, disk: &mut D) -> bool {
+    copy(&mut old_volume(rt, alloc, &IN_JOURNAL, &[]), disk);
+    disk.sync().is_ok()
+}
+
+/// Whether a disk holds that volume.
+fn is_filled<D: Disk>(rt: &impl Abort, alloc: Global, disk: &mut D) -> bool {
+    begins_with(disk, &mut old_volume(rt, alloc, &IN_JOURNAL, &[]))
+}
+
+/// Whether a file has so many bytes.
+fn is_long<R: Files + Alloc>(rt: &R, path: &str, bytes: usize) -> bool {
+    match fs::read(rt, path) {
+        Ok(read) => read.len() == bytes,
+        Err(_) => false,
     }
-    let _ = disk.sync();
-    Ok(())
+}
+
+/// Whether a file was there, and is no more.
+fn removed(rt: &impl Files, path: &str) -> bool {
+    fs::remove_file(rt, path).is_ok()
+}
+
+/// Whether there is no such file.
+fn is_missing(rt: &impl Files, path: &str) -> bool {
+    fs::open(rt, path).is_err()
+}
+
+/// How long the file of an old volume is, and of a new one.
+const OLD: usize = 2148 * 4096;
+
+const NEW: usize = 2660 * 4096;
+
+#[test]
+fn a_file_is_migrated(rt: HostRuntime) {
+    let alloc = rt.alloc();
+    let _ = removed(&rt, "old");
+    let _ = removed(&rt, "new");
+    assert!(rt; fill(&rt, alloc, &mut FileDisk::new(&rt, "old")));
+    assert!(rt; is_long(&rt, "old", OLD));
+    let (mut new, mut old) = (FileDisk::new(&rt, "new"), FileDisk::reader(&rt, "old"));
+    assert!(rt; line_tells(&rt, alloc, "new migrate old", &mut new, &mut old, MOVED));
+    drop(new);
+    assert!(rt; is_filled(&rt, alloc, &mut old));
+    assert!(rt; is_long(&rt, "old", OLD) && is_long(&rt, "new", NEW));
+    assert!(rt; checks(&rt, alloc, &mut FileDisk::new(&rt, "new"), MOVED));
+    assert!(rt; removed(&rt, "old") && removed(&rt, "new"));
 }
 
 #[test]
-fn a_file_is_migrated(rt: HostRuntime) -> Result<(), Fail> {
-    let _ = fs::remove_file(&rt, "old");
-    let _ = fs::remove_file(&rt, "new");
-    let mut made = FileDisk::new(&rt, "old");
-    fill(rt.alloc(), &mut made)?;
-    drop(made);
-    let before = fs::read(&rt, "old")?;
-    assert_eq!(rt; before.len(), 2148 * 4096);
-    let mut new = FileDisk::new(&rt, "new");
-    let mut old = FileDisk::reader(&rt, "old");
-    let told = migrated(rt.alloc(), "new migrate old", &mut new, &mut old)?;
-    assert_eq!(rt; told.as_str(), MOVED);
-    drop(old);
-    drop(new);
-    let after = fs::read(&rt, "old")?;
-    assert!(rt; after.as_slice() == before.as_slice());
-    assert_eq!(rt; fs::read(&rt, "new")?.len(), 2660 * 4096);
-    let mut new = FileDisk::new(&rt, "new");
-    let told = told_of(rt.alloc(), "new check", &mut new, "")?;
-    assert_eq!(rt; told.as_str(), MOVED);
-    drop(new);
-    fs::remove_file(&rt, "old")?;
-    fs::remove_file(&rt, "new")?;
-    Ok(())
-}
-
-#[test]
-fn a_file_that_is_not_there_is_not_made(rt: HostRuntime) -> Result<(), Fail> {
-    let _ = fs::remove_file(&rt, "missing");
-    let _ = fs::remove_file(&rt, "unmade");
-    let mut new = FileDisk::new(&rt, "unmade");
-    let mut old = FileDisk::reader(&rt, "missing");
-    let told = migrated(rt.alloc(), "unmade migrate missing", &mut new, &mut old)?;
-    assert_eq!(rt; told.as_str(), "4 ");
-    assert!(rt; fs::open(&rt, "missing").is_err());
-    assert!(rt; fs::open(&rt, "unmade").is_err());
-    Ok(())
+fn a_file_that_is_not_there_is_not_made(rt: HostRuntime) {
+    let _ = removed(&rt, "missing");
+    let _ = removed(&rt, "unmade");
+    let (mut new, mut old) = (
+        FileDisk::new(&rt, "unmade"),
+        FileDisk::reader(&rt, "missing"),
+    );
+    let line = "unmade migrate missing";
+    assert!(rt; line_tells(&rt, rt.alloc(), line, &mut new, &mut old, (4, "")));
+    assert!(rt; is_missing(&rt, "missing") && is_missing(&rt, "unmade"));
 }
 
 // The run holds the file to read it, and can't hold it once more to write it.
 #[test]
-fn a_file_of_two_names_is_left_alone(rt: HostRuntime) -> Result<(), Fail> {
-    let _ = fs::remove_file(&rt, "both");
-    let mut made = FileDisk::new(&rt, "both");
-    fill(rt.alloc(), &mut made)?;
-    drop(made);
-    let before = fs::read(&rt, "both")?;
-    let mut new = FileDisk::new(&rt, "./both");
-    let mut old = FileDisk::reader(&rt, "both");
-    let told = migrated(rt.alloc(), "./both migrate both", &mut new, &mut old)?;
-    assert_eq!(rt; told.as_str(), "4 ");
-    drop(old);
-    drop(new);
-    let after = fs::read(&rt, "both")?;
-    assert!(rt; after.as_slice() == before.as_slice());
-    fs::remove_file(&rt, "both")?;
-    Ok(())
+fn a_file_of_two_names_is_left_alone(rt: HostRuntime) {
+    let alloc = rt.alloc();
+    let _ = removed(&rt, "both");
+    assert!(rt; fill(&rt, alloc, &mut FileDisk::new(&rt, "both")));
+    assert!(rt; is_long(&rt, "both", OLD));
+    let (mut new, mut old) = (FileDisk::new(&rt, "./both"), FileDisk::reader(&rt, "both"));
+    assert!(rt;
+        line_tells(
+            &rt,
+            alloc,
+            "./both migrate both",
+            &mut new,
+            &mut old,
+            (4, "")
+        )
+    );
+    assert!(rt; is_filled(&rt, alloc, &mut old));
+    assert!(rt; is_long(&rt, "both", OLD));
+    assert!(rt; removed(&rt, "both"));
 }

@@ -1,8 +1,10 @@
 // Disks in memory with volumes of 64 frames, made with the seed of zeros.
-use mg_disk::{BLOCK_SIZE, Block, Disk, MemDisk};
+use crate::telling::Told;
+use mg_disk::{BLOCK_SIZE, Block, Disk, Left, MemDisk};
 use mg_migrate::fresh_block1;
 use mg_model::{Params, Tariff};
-use std::alloc::{AllocError, Global};
+use std::alloc::Global;
+use std::process::Abort;
 
 /// How many blocks a volume of version 1 has.
 pub const BLOCKS1: u64 = 2148;
@@ -27,19 +29,24 @@ pub const IN_JOURNAL: [Words; 3] = [
 ];
 
 /// What is told of it where it is migrated, and then checked.
-pub const MOVED: &str = "0 ok 64 1 1 1 1 2 1000\n";
+pub const MOVED: Told = (0, "ok 64 1 1 1 1 2 1000\n");
 
 /// How many calls it takes to make that volume: a write for each block and for each change, and a sync.
 pub const CALLS_TO_MAKE: u64 = BLOCKS1 + 4;
 
 /// A disk that was made a fresh volume of version 1 with 1000 credits, with these blocks changed, and synced. Its calls of these
 /// numbers fail, from 0 on as it is made.
-pub fn old_volume(alloc: Global, changes: &[Words], fails: &[u64]) -> Result<MemDisk, AllocError> {
-    let mut disk = MemDisk::new(alloc, BLOCKS1, ROOM, fails.to_vec(alloc)?)?;
+pub fn old_volume(rt: &impl Abort, alloc: Global, changes: &[Words], fails: &[u64]) -> MemDisk {
+    let mut disk = zeros(rt, alloc, BLOCKS1, fails);
     make_fresh(&mut disk);
     put_words(&mut disk, changes);
     let _ = disk.sync();
-    Ok(disk)
+    disk
+}
+
+/// A new disk as a stop now may leave this one.
+pub fn stopped(rt: &impl Abort, alloc: Global, disk: &MemDisk, left: Left) -> MemDisk {
+    disk.stopped(alloc, left).expect(rt, "memory")
 }
 
 /// Writes these blocks.
@@ -80,24 +87,34 @@ pub fn put_block<D: Disk>(disk: &mut D, i: u64, block: &Block) {
 }
 
 /// A disk of zeros whose calls of these numbers fail.
-pub fn zeros(alloc: Global, blocks: u64, fails: &[u64]) -> Result<MemDisk, AllocError> {
-    MemDisk::new(alloc, blocks, ROOM, fails.to_vec(alloc)?)
+pub fn zeros(rt: &impl Abort, alloc: Global, blocks: u64, fails: &[u64]) -> MemDisk {
+    let fails = fails.to_vec(alloc).expect(rt, "memory");
+    MemDisk::new(alloc, blocks, ROOM, fails).expect(rt, "memory")
 }
 
-/// Whether the first blocks of two disks are the same, so many.
-pub fn are_same<D: Disk, E: Disk>(left: &mut D, right: &mut E, blocks: u64) -> bool {
-    let mut on_left: Block = [0; BLOCK_SIZE];
-    let mut on_right: Block = [1; BLOCK_SIZE];
-    for i in 0..blocks {
-        if i >= left.blocks() || i >= right.blocks() {
-            return false;
-        }
-        if left.read(i, &mut on_left).is_err() || right.read(i, &mut on_right).is_err() {
-            return false;
-        }
-        if on_left != on_right {
+/// Whether the first disk begins with the blocks of the second, up to those of a volume of version 1.
+pub fn begins_with<D: Disk>(disk: &mut D, with: &mut MemDisk) -> bool {
+    for i in 0..BLOCKS1 {
+        if block_at(disk, i) != block_at(with, i) {
             return false;
         }
     }
     true
+}
+
+/// Makes the first blocks of a disk those of another one, up to those of a volume of version 1. Zeros come where it has none.
+pub fn copy<D: Disk>(from: &mut MemDisk, to: &mut D) {
+    for i in 0..BLOCKS1 {
+        put_block(to, i, &block_at(from, i).unwrap_or([0; BLOCK_SIZE]));
+    }
+}
+
+/// A block, where the disk has it and gives it.
+fn block_at<D: Disk>(disk: &mut D, i: u64) -> Option<Block> {
+    let mut block = [0; BLOCK_SIZE];
+    if i < disk.blocks() && disk.read(i, &mut block).is_ok() {
+        Some(block)
+    } else {
+        None
+    }
 }

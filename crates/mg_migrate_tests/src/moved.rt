@@ -1,26 +1,35 @@
 // A volume whose journal is not written home, moved to another disk.
-use crate::images::{BLOCKS, BLOCKS1, IN_JOURNAL, MOVED, are_same, old_volume, zeros};
-use crate::telling::{migrated, told_of};
-use mg_disk::Left;
-use std::test::Fail;
+use crate::images::{BLOCKS, IN_JOURNAL, MOVED, begins_with, old_volume, stopped, zeros};
+use crate::telling::{checks, is_told, migrates, outcome};
+use mg_disk::{Left, MemDisk};
+use std::alloc::Global;
+use std::process::Abort;
 
-// The seed's fourth password is the first that the new volume draws.
-#[test]
-fn a_volume_goes_on_where_it_was(rt: HostRuntime) -> Result<(), Fail> {
-    let made = old_volume(rt.alloc(), &IN_JOURNAL, &[])?;
-    let mut old = made.stopped(rt.alloc(), Left::Old)?;
-    let mut before = made.stopped(rt.alloc(), Left::Old)?;
-    let mut new = zeros(rt.alloc(), BLOCKS, &[])?;
-    let told = migrated(rt.alloc(), "new migrate old", &mut new, &mut old)?;
-    assert_eq!(rt; told.as_str(), MOVED);
-    assert_eq!(rt; (old.counts().writes, old.counts().syncs), (0, 0));
-    assert!(rt; are_same(&mut old, &mut before, BLOCKS1));
+/// The seed's fourth password is the first that the new volume draws.
+fn draws(rt: &impl Abort, alloc: Global, new: &mut MemDisk) -> bool {
     let line = "1 pwadd 0x0000000100000000 R\n";
-    let told = told_of(rt.alloc(), "new run", &mut new, line)?;
-    assert_eq!(rt; told.as_str(), "0 ok 0xc70d778bccef36a8\n");
-    // What a stop leaves is that volume.
-    let mut new = new.stopped(rt.alloc(), Left::Old)?;
-    let told = told_of(rt.alloc(), "new check", &mut new, "")?;
-    assert_eq!(rt; told.as_str(), MOVED);
-    Ok(())
+    is_told(
+        &outcome(rt, alloc, "new run", new, line),
+        0,
+        "ok 0xc70d778bccef36a8\n",
+    )
+}
+
+/// Whether a stop leaves that volume.
+fn is_left(rt: &impl Abort, alloc: Global, new: &MemDisk) -> bool {
+    checks(rt, alloc, &mut stopped(rt, alloc, new, Left::Old), MOVED)
+}
+
+#[test]
+fn a_volume_goes_on_where_it_was(rt: HostRuntime) {
+    let alloc = rt.alloc();
+    let mut made = old_volume(&rt, alloc, &IN_JOURNAL, &[]);
+    let mut old = stopped(&rt, alloc, &made, Left::Old);
+    let mut new = zeros(&rt, alloc, BLOCKS, &[]);
+    assert!(rt; migrates(&rt, alloc, &mut new, &mut old, MOVED));
+    let counts = old.counts();
+    assert!(rt; (counts.writes, counts.syncs) == (0, 0));
+    assert!(rt; begins_with(&mut old, &mut made));
+    assert!(rt; draws(&rt, alloc, &mut new));
+    assert!(rt; is_left(&rt, alloc, &new));
 }

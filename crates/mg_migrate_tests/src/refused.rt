@@ -1,18 +1,18 @@
 // Old disks that hold no volume of version 1, new disks that are too small, and words that spell no migration.
-use crate::images::{BLOCKS, BLOCKS1, Words, old_volume, put_block, put_words, zeros};
-use crate::telling::{migrated, told_of};
-use mg_disk::{BLOCK_SIZE, Disk, Fuse, Left, MemDisk};
+use crate::images::{BLOCKS, BLOCKS1, Words, copy, old_volume, put_words, stopped, zeros};
+use crate::telling::{Told, is_told, line_tells, migrates, outcome};
+use mg_disk::{Counts, Fuse, Left, MemDisk};
 use mg_testing::{SEED, volume};
-use std::alloc::{AllocError, Global};
-use std::test::Fail;
+use std::alloc::Global;
+use std::process::Abort;
 
-const NOT: &str = "2 open not\n";
+const NOT: Told = (2, "open not\n");
 
-const OLD: &str = "2 open old\n";
+const OLD: Told = (2, "open old\n");
 
-const NEW: &str = "2 open new\n";
+const NEW: Told = (2, "open new\n");
 
-const DAMAGED: &str = "2 open damaged\n";
+const DAMAGED: Told = (2, "open damaged\n");
 
 // The word that a superblock begins with, the bytes MUNGIVOL.
 const MAGIC: u64 = 0x4c4f_5649_474e_554d;
@@ -22,7 +22,7 @@ const ROOT: u64 = 0x1_0000_0000;
 const ROOT_PAGE: u64 = 0x10_0000;
 
 // What is told of a fresh volume of version 1 with these blocks in place of its own.
-const CHANGES: [(&str, &str, &[Words]); 19] = [
+const CHANGES: [(&str, Told, &[Words]); 19] = [
     ("the gate is closed", NOT, &[(0, &[])]),
     ("another first word", NOT, &[(1, &[(0, 7), (1, 1)])]),
     ("version 0", OLD, &[(1, &[(0, MAGIC)])]),
@@ -118,88 +118,106 @@ const CHANGES: [(&str, &str, &[Words]); 19] = [
     ),
 ];
 
-// What is told of a migration to a new disk with so many blocks, where no call is made on it, and none but reads of the old one.
-fn told_at(alloc: Global, old: &mut MemDisk, blocks: u64) -> Result<String, AllocError> {
+// Whether this is told of a migration to a new disk with so many blocks, where no call is made on it, and none but reads of the old
+// one.
+fn refuses(rt: &impl Abort, alloc: Global, old: &mut MemDisk, blocks: u64, told: Told) -> bool {
+    let mut new = zeros(rt, alloc, blocks, &[]);
     let before = old.counts();
-    let mut new = zeros(alloc, blocks, &[])?;
-    let told = migrated(alloc, "new migrate old", &mut new, old)?;
-    let after = old.counts();
-    let made = new.counts();
-    if made.reads != 0 || made.writes != 0 || made.syncs != 0 {
-        return String::from_str(alloc, "a call of the new disk");
-    }
-    if after.writes != before.writes || after.syncs != before.syncs {
-        return String::from_str(alloc, "a write or a sync of the old disk");
-    }
-    Ok(told)
+    let is_told = migrates(rt, alloc, &mut new, old, told);
+    is_told && is_only_read(before, old.counts()) && new.counts() == Counts::default()
+}
+
+fn is_only_read(before: Counts, after: Counts) -> bool {
+    after.writes == before.writes && after.syncs == before.syncs
+}
+
+// A copy of this disk with these changes is refused.
+fn refuses_change(
+    rt: &impl Abort,
+    alloc: Global,
+    fresh: &MemDisk,
+    changes: &[Words],
+    told: Told,
+) -> bool {
+    let mut old = stopped(rt, alloc, fresh, Left::Old);
+    put_words(&mut old, changes);
+    refuses(rt, alloc, &mut old, BLOCKS, told)
 }
 
 #[test]
-fn old_disks_with_one_change(rt: HostRuntime) -> Result<(), Fail> {
-    let fresh = old_volume(rt.alloc(), &[], &[])?;
-    for (change, line, blocks) in CHANGES {
-        let mut old = fresh.stopped(rt.alloc(), Left::Old)?;
-        put_words(&mut old, blocks);
-        let told = told_at(rt.alloc(), &mut old, BLOCKS)?;
-        assert_eq!(rt; told.as_str(), line, "{change}");
+fn old_disks_with_one_change(rt: HostRuntime) {
+    let fresh = old_volume(&rt, rt.alloc(), &[], &[]);
+    for (change, told, changes) in &CHANGES {
+        assert!(rt;
+            refuses_change(&rt, rt.alloc(), &fresh, changes, *told),
+            "{change}"
+        );
     }
-    Ok(())
 }
 
-// A disk with the first blocks of a fresh volume of version 1, as many as it has.
-fn resized(alloc: Global, blocks: u64) -> Result<MemDisk, AllocError> {
-    let mut from = old_volume(alloc, &[], &[])?;
-    let mut disk = zeros(alloc, blocks, &[])?;
-    let mut bytes = [0; BLOCK_SIZE];
-    for i in 0..BLOCKS1 {
-        if i < from.blocks() && from.read(i, &mut bytes).is_ok() {
-            put_block(&mut disk, i, &bytes);
-        }
-    }
-    Ok(disk)
+// A disk with so many blocks, which begin as those of this one do, is refused.
+fn refuses_size(rt: &impl Abort, alloc: Global, from: &mut MemDisk, blocks: u64, told: Told) {
+    let mut old = zeros(rt, alloc, blocks, &[]);
+    copy(from, &mut old);
+    assert!(rt;
+        refuses(rt, alloc, &mut old, BLOCKS, told),
+        "{blocks} blocks"
+    );
+}
+
+// A volume of this version.
+fn made_new(rt: &impl Abort, alloc: Global) -> MemDisk {
+    let line = format!(in alloc; "old format 64 {SEED} 1000").expect(rt, "memory");
+    volume(alloc, line.as_str()).expect(rt, "memory")
 }
 
 #[test]
-fn old_disks_without_such_a_volume(rt: HostRuntime) -> Result<(), Fail> {
-    for (blocks, line) in [(0, NOT), (1, NOT), (2, DAMAGED), (BLOCKS1 - 1, DAMAGED)] {
-        let told = told_at(rt.alloc(), &mut resized(rt.alloc(), blocks)?, BLOCKS)?;
-        assert_eq!(rt; told.as_str(), line, "{blocks} blocks");
-    }
-    let told = told_at(rt.alloc(), &mut zeros(rt.alloc(), BLOCKS, &[])?, BLOCKS)?;
-    assert_eq!(rt; told.as_str(), NOT);
-    let line = format!(in rt.alloc(); "old format 64 {SEED} 1000")?;
-    let told = told_at(rt.alloc(), &mut volume(rt.alloc(), line.as_str())?, BLOCKS)?;
-    assert_eq!(rt; told.as_str(), NEW);
-    Ok(())
+fn old_disks_without_such_a_volume(rt: HostRuntime) {
+    let alloc = rt.alloc();
+    let mut from = old_volume(&rt, alloc, &[], &[]);
+    refuses_size(&rt, alloc, &mut from, 0, NOT);
+    refuses_size(&rt, alloc, &mut from, 1, NOT);
+    refuses_size(&rt, alloc, &mut from, 2, DAMAGED);
+    refuses_size(&rt, alloc, &mut from, BLOCKS1 - 1, DAMAGED);
+    assert!(rt; refuses(&rt, alloc, &mut zeros(&rt, alloc, BLOCKS, &[]), BLOCKS, NOT));
+    assert!(rt; refuses(&rt, alloc, &mut made_new(&rt, alloc), BLOCKS, NEW));
 }
 
 // Whether there is a volume is told first.
 #[test]
-fn new_disks_that_are_too_small(rt: HostRuntime) -> Result<(), Fail> {
-    let mut old = old_volume(rt.alloc(), &[], &[])?;
-    for (blocks, line) in [(BLOCKS - 1, "8 small 2660 2659\n"), (0, "8 small 2660 0\n")] {
-        let told = told_at(rt.alloc(), &mut old, blocks)?;
-        assert_eq!(rt; told.as_str(), line);
-    }
+fn new_disks_that_are_too_small(rt: HostRuntime) {
+    let alloc = rt.alloc();
+    let mut old = old_volume(&rt, alloc, &[], &[]);
+    assert!(rt; refuses(&rt, alloc, &mut old, BLOCKS - 1, (8, "small 2660 2659\n")));
+    assert!(rt; refuses(&rt, alloc, &mut old, 0, (8, "small 2660 0\n")));
     put_words(&mut old, &[(1298, &[])]);
-    let told = told_at(rt.alloc(), &mut old, 0)?;
-    assert_eq!(rt; told.as_str(), DAMAGED);
-    Ok(())
+    assert!(rt; refuses(&rt, alloc, &mut old, 0, DAMAGED));
+}
+
+fn runs(rt: &impl Abort, alloc: Global, line: &str, disk: &mut MemDisk) -> bool {
+    let outcome = outcome(rt, alloc, line, disk, "1 store 0x100000020 5\n");
+    is_told(&outcome, OLD.0, OLD.1)
 }
 
 #[test]
-fn a_volume_of_version_1_is_not_run(rt: HostRuntime) -> Result<(), Fail> {
-    let mut old = old_volume(rt.alloc(), &[], &[])?.stopped(rt.alloc(), Left::Old)?;
-    for line in ["old run", "old check"] {
-        let told = told_of(rt.alloc(), line, &mut old, "1 store 0x100000020 5\n")?;
-        assert_eq!(rt; told.as_str(), OLD, "{line}");
-    }
-    assert_eq!(rt; (old.counts().writes, old.counts().syncs), (0, 0));
-    Ok(())
+fn a_volume_of_version_1_is_not_run(rt: HostRuntime) {
+    let alloc = rt.alloc();
+    let made = old_volume(&rt, alloc, &[], &[]);
+    let mut old = stopped(&rt, alloc, &made, Left::Old);
+    assert!(rt; runs(&rt, alloc, "old run", &mut old));
+    assert!(rt; runs(&rt, alloc, "old check", &mut old));
+    assert!(rt; (old.counts().writes, old.counts().syncs) == (0, 0));
+}
+
+// A disk of which each call fails.
+fn dead(rt: &impl Abort, alloc: Global, blocks: u64) -> Fuse<MemDisk> {
+    Fuse::new(zeros(rt, alloc, blocks, &[]), 0)
 }
 
 #[test]
-fn words_that_spell_no_migration(rt: HostRuntime) -> Result<(), Fail> {
+fn words_that_spell_no_migration(rt: HostRuntime) {
+    let alloc = rt.alloc();
+    let (mut new, mut old) = (dead(&rt, alloc, BLOCKS), dead(&rt, alloc, BLOCKS1));
     for line in [
         "a migrate a",
         "a Migrate b",
@@ -210,11 +228,9 @@ fn words_that_spell_no_migration(rt: HostRuntime) -> Result<(), Fail> {
         "a check b",
         "",
     ] {
-        // Each call of these disks would fail.
-        let mut new = Fuse::new(zeros(rt.alloc(), BLOCKS, &[])?, 0);
-        let mut old = Fuse::new(zeros(rt.alloc(), BLOCKS1, &[])?, 0);
-        let told = migrated(rt.alloc(), line, &mut new, &mut old)?;
-        assert_eq!(rt; told.as_str(), "1 usage\n", "{line}");
+        assert!(rt;
+            line_tells(&rt, alloc, line, &mut new, &mut old, (1, "usage\n")),
+            "{line}"
+        );
     }
-    Ok(())
 }

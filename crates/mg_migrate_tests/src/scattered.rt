@@ -1,13 +1,13 @@
 // A volume of version 1 as another program may have left it: rows and pages at any places, and open segments in the journal.
 ghost use Rattle.std.specs.Prelude.{◌≡◌, ◌%◌, length};
 
-use crate::images::{BLOCKS, OPEN, Words, old_volume, zeros};
-use crate::telling::{migrated, told_of};
+use crate::images::{BLOCKS, OPEN, Words, old_volume, stopped, zeros};
+use crate::telling::{is_told, migrates, outcome};
 use mg_check::{VolumeRows, read_volume};
 use mg_disk::{Left, MemDisk};
 use mg_model::{AccRow, Fault, Frame, Globals, ObjRow, Pw, Rights, Slot, ThrRow, ThrState};
-use std::alloc::{AllocError, Global};
-use std::test::Fail;
+use std::alloc::Global;
+use std::process::Abort;
 
 // Three objects, of 1, 3 and 60 pages. The last page of the third is the last that an object may have.
 const LOW: u64 = 0x1_0000_0000;
@@ -176,14 +176,12 @@ const IMAGE: [Words; 27] = [
 ];
 
 // The disk that this volume was migrated to, as a stop leaves it.
-fn moved(alloc: Global) -> Result<MemDisk, Fail> {
-    let mut old = old_volume(alloc, &IMAGE, &[])?;
-    let mut new = zeros(alloc, BLOCKS, &[])?;
-    let told = migrated(alloc, "new migrate old", &mut new, &mut old)?;
-    if told.as_str() != "0 ok 64 3 64 2 2 16777215 1000\n" {
-        return Err("told".into());
-    }
-    Ok(new.stopped(alloc, Left::Old)?)
+fn moved(rt: &impl Abort, alloc: Global) -> MemDisk {
+    let mut old = old_volume(rt, alloc, &IMAGE, &[]);
+    let mut new = zeros(rt, alloc, BLOCKS, &[]);
+    let told = (0, "ok 64 3 64 2 2 16777215 1000\n");
+    assert!(rt; migrates(rt, alloc, &mut new, &mut old, told));
+    stopped(rt, alloc, &new, Left::Old)
 }
 
 // Adds a password that never ends.
@@ -245,17 +243,6 @@ fn last_thread() -> ThrRow {
     row
 }
 
-// The page that a frame holds.
-fn page_of(frame: u64) -> u64 {
-    match frame {
-        0 => HIGH_PAGE,
-        5 => MIDDLE_PAGE + 1,
-        40 => MIDDLE_PAGE + 2,
-        63 => LOW_PAGE,
-        _ => 0,
-    }
-}
-
 fn account(password: u64, balance: u64, owed: u64) -> AccRow {
     AccRow {
         password,
@@ -264,41 +251,58 @@ fn account(password: u64, balance: u64, owed: u64) -> AccRow {
     }
 }
 
-fn table_stands(rows: &VolumeRows) -> bool {
-    rows.table.len() == 64 && (0..).zip(&rows.table).all(|(k, page)| *page == page_of(k))
+fn table_stands(table: &[u64]) -> bool {
+    let mut wanted = [0; 64];
+    wanted[0] = HIGH_PAGE;
+    wanted[5] = MIDDLE_PAGE + 1;
+    wanted[40] = MIDDLE_PAGE + 2;
+    wanted[63] = LOW_PAGE;
+    table == wanted.as_slice()
 }
 
-/// The rows of a table, each with its place.
-fn placed(alloc: Global, table: &[Option<ObjRow>]) -> Result<Vec<(u64, ObjRow)>, AllocError> {
-    let mut placed = Vec::new(alloc);
-    for (place, row) in (0..).zip(table) {
-        if let Some(row) = row {
-            placed.push((place, *row))?;
+fn objects_stand(objects: &[Option<ObjRow>]) -> bool {
+    objects.len() == 4096
+        && objects[2] == Some(middle())
+        && objects[5] == Some(low())
+        && objects[4095] == Some(high())
+        && count(objects) == 3
+}
+
+fn count(objects: &[Option<ObjRow>]) -> u64 {
+    let mut count: u64 = 0;
+    for row in objects {
+        if row.is_some() {
+            count = count.saturating_add(1);
         }
     }
-    Ok(placed)
+    count
+}
+
+fn accounts_stand(accounts: &[AccRow]) -> bool {
+    accounts == [account(0xa1, 600, 0), account(0xa2, 400, DEBT)].as_slice()
+}
+
+fn threads_stand(threads: &[(u64, ThrRow)]) -> bool {
+    let first = ThrRow::new(1, 0, 0, frame(0, LOW, 0x11));
+    threads == [(0, first), (255, last_thread())].as_slice()
+}
+
+fn rows_stand(rows: &VolumeRows) -> bool {
+    objects_stand(&rows.objects)
+        && accounts_stand(&rows.accounts)
+        && threads_stand(&rows.threads)
+        && rows.globals == Globals::new(9, LAST, 256, 12)
+        && table_stands(&rows.table)
 }
 
 // Each row stands at the place that it had. Of the objects that is so in the eyes of a reader, and in blocks twice as many.
 #[test]
-fn rows_keep_their_places(rt: HostRuntime) -> Result<(), Fail> {
-    let Ok(rows) = read_volume(rt.alloc(), &mut moved(rt.alloc())?) else {
-        return Err("no volume".into());
-    };
-    assert_eq!(rt;
-        placed(rt.alloc(), &rows.objects)?.as_slice(),
-        [(2, middle()), (5, low()), (4095, high())].as_slice()
-    );
-    let accounts = [account(0xa1, 600, 0), account(0xa2, 400, DEBT)];
-    assert_eq!(rt; rows.accounts.as_slice(), accounts.as_slice());
-    let threads = [
-        (0, ThrRow::new(1, 0, 0, frame(0, LOW, 0x11))),
-        (255, last_thread()),
-    ];
-    assert_eq!(rt; rows.threads.as_slice(), threads.as_slice());
-    assert_eq!(rt; rows.globals, Globals::new(9, LAST, 256, 12));
-    assert!(rt; table_stands(&rows));
-    Ok(())
+fn rows_keep_their_places(rt: HostRuntime) {
+    let mut disk = moved(&rt, rt.alloc());
+    match read_volume(rt.alloc(), &mut disk) {
+        Ok(rows) => assert!(rt; rows_stand(&rows)),
+        Err(_) => panic!(rt; "no volume"),
+    }
 }
 
 // Lines and their replies, in the last period: a password that is allowed then never ends.
@@ -341,18 +345,30 @@ const LINES: &[(&str, &str)] = &[
     ("rent", "no Calendar"),
 ];
 
-#[test]
-fn words_and_passwords_are_there(rt: HostRuntime) -> Result<(), Fail> {
-    let mut input = String::new(rt.alloc());
-    let mut replies = String::from_str(rt.alloc(), "0 ")?;
+// Puts the lines into one text, and the replies into another.
+fn put_lines(rt: &impl Abort, input: &mut String, replies: &mut String) {
     for (line, reply) in LINES {
-        input.push_str(line)?;
-        input.push_str("\n")?;
-        replies.push_str(reply)?;
-        replies.push_str("\n")?;
+        put_line(rt, input, line);
+        put_line(rt, replies, reply);
     }
-    let mut disk = moved(rt.alloc())?;
-    let told = told_of(rt.alloc(), "new run", &mut disk, input.as_str())?;
-    assert_eq!(rt; told.as_str(), replies.as_str());
-    Ok(())
+}
+
+fn put_line(rt: &impl Abort, text: &mut String, line: &str) {
+    text.push_str(line).expect(rt, "memory");
+    text.push_str("\n").expect(rt, "memory");
+}
+
+#[test]
+fn words_and_passwords_are_there(rt: HostRuntime) {
+    let alloc = rt.alloc();
+    let (mut input, mut replies) = (String::new(alloc), String::new(alloc));
+    put_lines(&rt, &mut input, &mut replies);
+    let outcome = outcome(
+        &rt,
+        alloc,
+        "new run",
+        &mut moved(&rt, alloc),
+        input.as_str(),
+    );
+    assert!(rt; is_told(&outcome, 0, replies.as_str()));
 }

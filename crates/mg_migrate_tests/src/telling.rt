@@ -1,35 +1,81 @@
-// What commands tell, as one text.
+// What commands tell.
 use mg_disk::Disk;
 use mg_io::MemSink;
 use mg_migrate_session::top_migrate;
-use mg_testing::{Streams, command, words_of};
-use std::alloc::{AllocError, Global};
+use mg_testing::{Outcome, Streams, command, words_of};
+use std::alloc::Global;
+use std::process::Abort;
 
-/// The status of a migration, and behind a blank what it put.
-pub fn migrated<D: Disk, E: Disk>(
+/// The status of a command, and what it put.
+pub type Told = (u8, &'static str);
+
+fn words(rt: &impl Abort, alloc: Global, line: &str) -> Vec<String> {
+    words_of(alloc, line).expect(rt, "memory")
+}
+
+fn sink(rt: &impl Abort, alloc: Global) -> MemSink {
+    MemSink::new(alloc, 256, Vec::new(alloc)).expect(rt, "memory")
+}
+
+fn puts<D: Disk, E: Disk>(
+    alloc: Global,
+    words: &[String],
+    new: &mut D,
+    old: &mut E,
+    sink: &mut MemSink,
+    told: Told,
+) -> bool {
+    let status = top_migrate(alloc, words, new, old, sink);
+    status.code() == told.0 && sink.bytes() == told.1.as_bytes()
+}
+
+/// Whether the migration that this line spells tells this.
+pub fn line_tells<D: Disk, E: Disk>(
+    rt: &impl Abort,
     alloc: Global,
     line: &str,
     new: &mut D,
     old: &mut E,
-) -> Result<String, AllocError> {
-    let words = words_of(alloc, line)?;
-    let mut sink = MemSink::new(alloc, 256, Vec::new(alloc))?;
-    let status = top_migrate(alloc, &words, new, old, &mut sink);
-    text(alloc, status.code(), sink.bytes())
+    told: Told,
+) -> bool {
+    puts(
+        alloc,
+        &words(rt, alloc, line),
+        new,
+        old,
+        &mut sink(rt, alloc),
+        told,
+    )
 }
 
-/// The same of another command with this input.
-pub fn told_of<D: Disk>(
+/// Whether a migration tells this.
+pub fn migrates<D: Disk, E: Disk>(
+    rt: &impl Abort,
+    alloc: Global,
+    new: &mut D,
+    old: &mut E,
+    told: Told,
+) -> bool {
+    line_tells(rt, alloc, "new migrate old", new, old, told)
+}
+
+/// How another command ends.
+pub fn outcome<D: Disk>(
+    rt: &impl Abort,
     alloc: Global,
     line: &str,
     disk: &mut D,
     input: &str,
-) -> Result<String, AllocError> {
-    let outcome = command(alloc, line, disk, &Streams::of(input.as_bytes()))?;
-    text(alloc, outcome.status.code(), &outcome.put)
+) -> Outcome {
+    command(alloc, line, disk, &Streams::of(input.as_bytes())).expect(rt, "memory")
 }
 
-fn text(alloc: Global, code: u8, put: &[u8]) -> Result<String, AllocError> {
-    let put = String::from_utf8_lossy(alloc, put)?;
-    format!(in alloc; "{code} {put}")
+/// Whether an outcome is this one.
+pub fn is_told(outcome: &Outcome, code: u8, put: &str) -> bool {
+    outcome.status.code() == code && outcome.put.as_slice() == put.as_bytes()
+}
+
+/// Whether a check of a disk tells this.
+pub fn checks<D: Disk>(rt: &impl Abort, alloc: Global, disk: &mut D, told: Told) -> bool {
+    is_told(&outcome(rt, alloc, "new check", disk, ""), told.0, told.1)
 }
