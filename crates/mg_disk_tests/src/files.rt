@@ -2,7 +2,8 @@
 ghost use Rattle.std.specs.Prelude.{◌≡◌, ◌+◌, ◌≤◌};
 
 use crate::calls::{byte_of, synced, wrote};
-use mg_disk::{BLOCK_SIZE, Block, Disk, FileDisk};
+use mg_disk::{BLOCK_SIZE, Block, Disk, FileDisk, FileFault};
+use std::alloc::Global;
 use std::fs;
 use std::rt::Files;
 
@@ -118,6 +119,7 @@ fn a_file_that_another_run_holds_fails_at_each_call(rt: HostRuntime) {
     let mut first = FileDisk::new(&rt, "held");
     let mut second = FileDisk::new(&rt, "held");
     assert!(rt; keeps_out(&mut first, &mut second));
+    assert!(rt; says(rt.alloc(), second.fault(), "another run holds it"));
     drop(first);
     assert!(rt; byte_of(&mut second, 0) == Some(7));
     assert!(rt; removed(&rt, "held"));
@@ -125,5 +127,52 @@ fn a_file_that_another_run_holds_fails_at_each_call(rt: HostRuntime) {
 
 #[test]
 fn a_folder_fails_at_each_call(rt: HostRuntime) {
-    assert!(rt; each_fails(&mut FileDisk::new(&rt, ".")));
+    let mut disk = FileDisk::new(&rt, ".");
+    assert!(rt; each_fails(&mut disk));
+    assert!(rt; says(rt.alloc(), disk.fault(), "Is a directory"));
+}
+
+/// Whether there is a fault, and its text begins so.
+fn says(alloc: Global, fault: Option<&FileFault>, text: &str) -> bool {
+    match fault {
+        Some(fault) => begins(format!(in alloc; "{fault}"), text),
+        None => false,
+    }
+}
+
+fn begins<E: Drop>(told: Result<String, E>, text: &str) -> bool {
+    match told {
+        Ok(told) => told.as_str().starts_with(text),
+        Err(_) => false,
+    }
+}
+
+#[test]
+fn a_file_that_is_only_read_is_not_made(rt: HostRuntime) {
+    let _ = removed(&rt, "none");
+    let mut disk = FileDisk::reader(&rt, "none");
+    assert!(rt; byte_of(&mut disk, 3) == Some(0));
+    assert!(rt; disk.end() == Some(3) && disk.fault().is_none());
+    assert!(rt; !wrote(&mut disk, 0, 9) && !synced(&mut disk));
+    assert!(rt; !removed(&rt, "none"));
+}
+
+/// Whether both read the sevens of block 0, and each call of the third fails meanwhile.
+fn share<D: Disk>(first: &mut D, second: &mut D, third: &mut D) -> bool
+    requires first { D.block_count first.old ≡ 70000 }
+    requires second { D.block_count second.old ≡ 70000 }
+    requires third { D.block_count third.old ≡ 70000 }
+{
+    byte_of(first, 0) == Some(7) && byte_of(second, 0) == Some(7) && each_fails(third)
+}
+
+#[test]
+fn readers_share_a_file(rt: HostRuntime) {
+    let _ = removed(&rt, "shared");
+    assert!(rt; wrote(&mut FileDisk::new(&rt, "shared"), 0, 7));
+    let mut first = FileDisk::reader(&rt, "shared");
+    let mut second = FileDisk::reader(&rt, "shared");
+    let mut third = FileDisk::new(&rt, "shared");
+    assert!(rt; share(&mut first, &mut second, &mut third));
+    assert!(rt; removed(&rt, "shared"));
 }

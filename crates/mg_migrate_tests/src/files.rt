@@ -66,7 +66,7 @@ fn a_file_that_is_not_there_is_not_made(rt: HostRuntime) {
         FileDisk::reader(&rt, "missing"),
     );
     let line = "unmade migrate missing";
-    assert!(rt; line_tells(&rt, rt.alloc(), line, &mut new, &mut old, (4, "")));
+    assert!(rt; line_tells(&rt, rt.alloc(), line, &mut new, &mut old, (2, "open not\n")));
     assert!(rt; is_missing(&rt, "missing") && is_missing(&rt, "unmade"));
 }
 
