@@ -21,7 +21,7 @@ struct Ends {
 }
 
 // The ends of a session of so many blanks.
-fn ends(alloc: Global, count: usize) -> Result<Ends, AllocError> {
+fn ends_of(alloc: Global, count: usize) -> Result<Ends, AllocError> {
     let blanks = vec![in alloc; b' '; count]?;
     let source = MemSource::new(blanks, 4, Vec::new(alloc));
     let sink = MemSink::new(alloc, 256, Vec::new(alloc))?;
@@ -38,7 +38,7 @@ fn serve_blanks<L: Ledger>(alloc: Global, count: usize, blank: Blank) -> Option<
     requires some { 0 < blank.parts }
 {
     let mut steps = Steps::<L>::new(blank);
-    match ends(alloc, count) {
+    match ends_of(alloc, count) {
         Ok(mut ends) => serve_ends(alloc, &mut ends, &mut steps),
         Err(_) => None,
     }
