@@ -1,139 +1,272 @@
 // Runs over two disks of which one is a fresh volume and the other has zeros.
-ghost use Rattle.std.specs.Prelude.{◌≤◌};
-
-use crate::runs::{BLOCKS, are_same, calls_to_make, fresh, run, zeros};
-use mg_disk::{COPY_BLOCKS, Fuse};
-use std::alloc::{AllocError, Global};
+use crate::disks::{BLOCKS, Made, VOLUME, ZEROS, are_same, calls_to_make};
+use crate::runs::{Case, Outcome, Run, Told, is_told, ran, run_over};
+use mg_disk::COPY_BLOCKS;
+use mg_mirror::Side;
+use mg_session::Status;
+use std::alloc::Global;
 use std::test::Fail;
 
 const TWO_PAGES: &str = "1 create 2 1 0x28bd8653e56a5d40\n";
 
 const MADE: &str = "ok 0x0000000100001000 0x1aed8da0b819d2bd\n";
 
-const ONE_PAGE: &str = "1 create 1 1 0x28bd8653e56a5d40\n";
+/// A run of a good session over a mirror that is copied from the left disk.
+const FROM_LEFT: Run = Run {
+    line: &["l", "mirror", "r", "left"],
+    input: TWO_PAGES,
+    told: Told {
+        status: Status::Done,
+        alone: None,
+        put: MADE,
+    },
+};
+
+/// The left disk is a fresh volume, and no call fails.
+const GOOD: Case = Case {
+    left: VOLUME,
+    right: ZEROS,
+    run: FROM_LEFT,
+};
+
+/// What the right disk alone is asked behind that run.
+const FROM_RIGHT: Run = Run {
+    line: &["l", "mirror", "r", "right"],
+    input: "1 create 1 1 0x28bd8653e56a5d40\n",
+    told: Told {
+        status: Status::Done,
+        alone: None,
+        put: "ok 0x0000000100003000 0xc70d778bccef36a8\n",
+    },
+};
+
+/// What a run over both disks and one that goes on from the right one tell.
+#[derive(Clone, Copy, Debug, PartialEq)]
+struct Both {
+    is_first_told: bool,
+    are_same: bool,
+    is_second_told: bool,
+}
+
+fn both_runs(alloc: Global) -> Option<Both> {
+    match ran(alloc, &GOOD) {
+        Some(first) => run_second(alloc, first),
+        None => None,
+    }
+}
+
+fn run_second(alloc: Global, first: Outcome) -> Option<Both> {
+    let mut disks = first.disks;
+    let are_same = are_same(&mut disks);
+    match run_over(alloc, &FROM_RIGHT, disks) {
+        Some(second) => Some(Both {
+            is_first_told: first.is_told,
+            are_same,
+            is_second_told: second.is_told,
+        }),
+        None => None,
+    }
+}
 
 #[test]
 fn both_disks_hold_the_volume(rt: HostRuntime) -> Result<(), Fail> {
-    let left = fresh(rt.alloc(), &[])?;
-    let mut first = run(
-        rt.alloc(),
-        "l mirror r left",
-        left,
-        zeros(rt.alloc())?,
-        TWO_PAGES,
-    )?;
-    let want = format!(in rt.alloc(); "0 {MADE}")?;
-    assert_eq!(rt; first.told.as_str(), want.as_str());
-    assert!(rt; are_same(&mut first.left, &mut first.right)?);
-    // The other disk alone then goes on.
-    let second = run(
-        rt.alloc(),
-        "l mirror r right",
-        first.left,
-        first.right,
-        ONE_PAGE,
-    )?;
-    assert_eq!(rt;
-        second.told.as_str(),
-        "0 ok 0x0000000100003000 0xc70d778bccef36a8\n"
-    );
+    let all = Both {
+        is_first_told: true,
+        are_same: true,
+        is_second_told: true,
+    };
+    assert_eq!(rt; both_runs(rt.alloc()), Some(all));
     Ok(())
 }
+
+/// A disk of zeros that dies at its first call.
+const DEAD: Made = Made { calls: 0, ..ZEROS };
+
+/// A run from the left disk of which one disk dies or both do.
+#[derive(Clone, Copy)]
+struct Death {
+    /// How many calls of the left disk pass before it dies.
+    left: u64,
+    /// The same of the right disk.
+    right: u64,
+    told: Told,
+}
+
+/// How many of these runs, from the first on, tell what they have to.
+fn count_deaths(alloc: Global, deaths: &[Death]) -> usize {
+    let mut told: usize = 0;
+    for death in deaths {
+        if !dies_so(alloc, death) {
+            break;
+        }
+        told = told.saturating_add(1);
+    }
+    told
+}
+
+fn dies_so(alloc: Global, death: &Death) -> bool {
+    let case = Case {
+        left: Made {
+            calls: death.left,
+            ..VOLUME
+        },
+        right: Made {
+            calls: death.right,
+            ..ZEROS
+        },
+        run: Run {
+            told: death.told,
+            ..FROM_LEFT
+        },
+    };
+    is_told(alloc, &case)
+}
+
+const ONE_DIES: [Death; 2] = [
+    // The left one dies once it is copied.
+    Death {
+        left: BLOCKS,
+        right: u64::MAX,
+        told: Told {
+            status: Status::Done,
+            alone: Some(Side::Right),
+            put: "ok 0x0000000100001000 0x1aed8da0b819d2bd\nalone right\n",
+        },
+    },
+    // The right one dies as it is copied.
+    Death {
+        left: u64::MAX,
+        right: 7,
+        told: Told {
+            status: Status::Done,
+            alone: Some(Side::Left),
+            put: "ok 0x0000000100001000 0x1aed8da0b819d2bd\nalone left\n",
+        },
+    },
+];
 
 #[test]
 fn goes_on_where_one_dies(rt: HostRuntime) -> Result<(), Fail> {
-    // The left one dies once it is copied.
-    let left = Fuse::new(fresh(rt.alloc(), &[])?, BLOCKS);
-    let ran = run(
-        rt.alloc(),
-        "l mirror r left",
-        left,
-        zeros(rt.alloc())?,
-        TWO_PAGES,
-    )?;
-    let want = format!(in rt.alloc(); "0R {MADE}alone right\n")?;
-    assert_eq!(rt; ran.told.as_str(), want.as_str());
-    // The right one dies as it is copied.
-    let right = Fuse::new(zeros(rt.alloc())?, 7);
-    let left = fresh(rt.alloc(), &[])?;
-    let ran = run(rt.alloc(), "l mirror r left", left, right, TWO_PAGES)?;
-    let want = format!(in rt.alloc(); "0L {MADE}alone left\n")?;
-    assert_eq!(rt; ran.told.as_str(), want.as_str());
+    assert_eq!(rt; count_deaths(rt.alloc(), &ONE_DIES), 2);
     Ok(())
 }
+
+const BOTH_DIE: [Death; 2] = [
+    // The right one dies before a block is written, and the left one once the first of them were read.
+    Death {
+        left: COPY_BLOCKS as u64,
+        right: 0,
+        told: Told {
+            status: Status::Disk,
+            alone: Some(Side::Left),
+            put: "",
+        },
+    },
+    // Where the first read fails there is no mirror.
+    Death {
+        left: 0,
+        right: u64::MAX,
+        told: Told {
+            status: Status::Disk,
+            alone: None,
+            put: "",
+        },
+    },
+];
 
 #[test]
 fn fails_where_both_die(rt: HostRuntime) -> Result<(), Fail> {
-    // The right one dies before a block is written, and the left one once the first of them were read.
-    let left = Fuse::new(fresh(rt.alloc(), &[])?, COPY_BLOCKS as u64);
-    let right = Fuse::new(zeros(rt.alloc())?, 0);
-    let ran = run(rt.alloc(), "l mirror r left", left, right, TWO_PAGES)?;
-    assert_eq!(rt; ran.told.as_str(), "4L ");
-    // Where the first read fails there is no mirror.
-    let left = Fuse::new(fresh(rt.alloc(), &[])?, 0);
-    let ran = run(
-        rt.alloc(),
-        "l mirror r left",
-        left,
-        zeros(rt.alloc())?,
-        TWO_PAGES,
-    )?;
-    assert_eq!(rt; ran.told.as_str(), "4 ");
+    assert_eq!(rt; count_deaths(rt.alloc(), &BOTH_DIE), 2);
     Ok(())
 }
 
-// In how many of ten runs the same bytes are put as in one without a fault, where in each another read of the left disk fails
-// once it is copied, the first of them after so many others. A write that failed would drop that disk, and be told.
-fn count_same(alloc: Global, reads: u64) -> Result<usize, AllocError>
-    requires { reads ≤ 100 }
-{
-    let want = format!(in alloc; "0 {MADE}")?;
-    let copied = calls_to_make(alloc)?.saturating_add(BLOCKS + reads);
+/// In how many of ten runs the same bytes are put as in one without a fault, where in each another read of the left disk fails
+/// once it is copied, the first of them after so many others. A write that failed would drop that disk, and be told.
+fn count_same(alloc: Global, reads: u64) -> usize {
+    match calls_to_make(alloc) {
+        Some(calls) => {
+            let copied = calls.saturating_add(BLOCKS);
+            count_same_from(alloc, copied.saturating_add(reads))
+        }
+        None => 0,
+    }
+}
+
+fn count_same_from(alloc: Global, first: u64) -> usize {
     let mut same: usize = 0;
     for k in 0..10 {
-        let left = fresh(alloc, &[copied.saturating_add(k)])?;
-        let ran = run(alloc, "l mirror r left", left, zeros(alloc)?, TWO_PAGES)?;
-        if ran.told.as_str() == want.as_str() {
+        let left = Made {
+            fails: Some(first.saturating_add(k)),
+            ..VOLUME
+        };
+        if is_told(alloc, &Case { left, ..GOOD }) {
             same = same.saturating_add(1);
         }
     }
-    Ok(same)
+    same
 }
 
 #[test]
 fn a_read_of_the_first_ten_fails(rt: HostRuntime) -> Result<(), Fail> {
-    assert_eq!(rt; count_same(rt.alloc(), 0)?, 10);
+    assert_eq!(rt; count_same(rt.alloc(), 0), 10);
     Ok(())
 }
 
 #[test]
 fn a_read_of_the_second_ten_fails(rt: HostRuntime) -> Result<(), Fail> {
-    assert_eq!(rt; count_same(rt.alloc(), 10)?, 10);
+    assert_eq!(rt; count_same(rt.alloc(), 10), 10);
     Ok(())
 }
 
 #[test]
 fn a_read_of_the_third_ten_fails(rt: HostRuntime) -> Result<(), Fail> {
-    assert_eq!(rt; count_same(rt.alloc(), 20)?, 10);
+    assert_eq!(rt; count_same(rt.alloc(), 20), 10);
     Ok(())
+}
+
+/// Words that spell no mirror.
+const NO_MIRRORS: [&[&str]; 7] = [
+    &["l", "mirror", "l", "left"],
+    &["l", "mirror", "r", "middle"],
+    &["l", "mirror", "r"],
+    &["l", "mirror", "r", "left", "1"],
+    &["l", "mirrors", "r", "left"],
+    &["l"],
+    &[],
+];
+
+/// Whether these words spell no mirror, where each call of the disks would fail.
+fn spells_none(alloc: Global, line: &'static [&'static str]) -> bool {
+    let case = Case {
+        left: DEAD,
+        right: DEAD,
+        run: Run {
+            line,
+            input: TWO_PAGES,
+            told: Told {
+                status: Status::Usage,
+                alone: None,
+                put: "usage\n",
+            },
+        },
+    };
+    is_told(alloc, &case)
+}
+
+/// How many of these, from the first on, spell no mirror.
+fn count_none(alloc: Global) -> usize {
+    let mut none: usize = 0;
+    for line in NO_MIRRORS {
+        if !spells_none(alloc, line) {
+            break;
+        }
+        none = none.saturating_add(1);
+    }
+    none
 }
 
 #[test]
 fn words_that_spell_no_mirror(rt: HostRuntime) -> Result<(), Fail> {
-    for line in [
-        "l mirror l left",
-        "l mirror r middle",
-        "l mirror r",
-        "l mirror r left 1",
-        "l mirrors r left",
-        "l",
-        "",
-    ] {
-        // Each call of these disks would fail.
-        let left = Fuse::new(zeros(rt.alloc())?, 0);
-        let right = Fuse::new(zeros(rt.alloc())?, 0);
-        let ran = run(rt.alloc(), line, left, right, TWO_PAGES)?;
-        assert_eq!(rt; ran.told.as_str(), "1 usage\n", "{line}");
-    }
+    assert_eq!(rt; count_none(rt.alloc()), 7);
     Ok(())
 }

@@ -1,5 +1,6 @@
 // A run in which each call of the disk, the source and the sink fails once.
 use crate::bench::{Bench, copy};
+use crate::images::image_of;
 use crate::kept::{Kept, Stage, Wanted};
 use crate::lines::count_lines;
 use crate::report::Report;
@@ -57,22 +58,22 @@ pub fn fail_run(
         wanted,
     };
     match held(report.alloc(), disk) {
-        Ok(mut volume) => fail_kinds(report, &trial, &mut volume, bench, first, last),
-        Err(_) => None,
+        Some(mut volume) => fail_kinds(report, &trial, &mut volume, bench, first, last),
+        None => None,
     }
 }
 
 /// A disk that counts no calls, and holds what this one does.
-fn held(alloc: Global, disk: &MemDisk) -> Result<ScratchDisk, AllocError> {
-    match disk.stopped(alloc, Left::New) {
-        Ok(mut from) => match ScratchDisk::new(alloc, from.blocks()) {
+fn held(alloc: Global, disk: &MemDisk) -> Option<ScratchDisk> {
+    match image_of(alloc, disk, Left::New) {
+        Some(mut from) => match ScratchDisk::new(alloc, from.blocks()) {
             Ok(mut held) => {
                 copy(&mut from, &mut held);
-                Ok(held)
+                Some(held)
             }
-            Err(e) => Err(e),
+            Err(_) => None,
         },
-        Err(e) => Err(e),
+        None => None,
     }
 }
 

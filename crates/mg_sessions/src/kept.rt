@@ -1,4 +1,5 @@
 // The states that a run may leave: those behind its batches, and the one that it begins with.
+use crate::images::image_of;
 use crate::lines::{Kind, count_lines};
 use crate::parts::{Part, count, put, put_lines};
 use crate::running::dry;
@@ -92,8 +93,8 @@ fn end_at(alloc: Global, stage: &Stage<'_>, disk: &MemDisk, put: u64) -> End {
         puts: &puts,
         ..Streams::of(stage.part.run)
     };
-    match disk.stopped(alloc, Left::New) {
-        Ok(mut disk) => match command(alloc, stage.line, &mut disk, &streams) {
+    match image_of(alloc, disk, Left::New) {
+        Some(mut disk) => match command(alloc, stage.line, &mut disk, &streams) {
             Ok(outcome) => {
                 if outcome.status == Status::Sink {
                     End::Answered(count_lines(&outcome.put))
@@ -103,7 +104,7 @@ fn end_at(alloc: Global, stage: &Stage<'_>, disk: &MemDisk, put: u64) -> End {
             }
             Err(_) => End::NoMemory,
         },
-        Err(_) => End::NoMemory,
+        None => End::NoMemory,
     }
 }
 

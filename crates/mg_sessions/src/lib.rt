@@ -10,6 +10,7 @@
 mod bench;
 mod faults;
 mod files;
+mod images;
 mod kept;
 mod lines;
 mod parts;

@@ -3,6 +3,9 @@
 /// The most bytes that a line without words, or a note, may have: a longer line is answered whatever it holds.
 const LINE_LIMIT: usize = 256;
 
+/// The calls that only read.
+const READS: [&[u8]; 4] = [b"load", b"info", b"balance", b"apdlist"];
+
 /// What a line is. The bytes are without a newline.
 #[derive(Clone, Copy)]
 pub enum Line<'a> {
@@ -72,20 +75,12 @@ fn is_read(line: &[u8]) -> bool {
     for word in line.split(is_blank) {
         if !word.is_empty() {
             if is_second {
-                return reads(word);
+                return READS.contains(&word);
             }
             is_second = true;
         }
     }
     false
-}
-
-/// Whether the call of this name only reads.
-fn reads(word: &[u8]) -> bool {
-    word == b"load".as_slice()
-        || word == b"info".as_slice()
-        || word == b"balance".as_slice()
-        || word == b"apdlist".as_slice()
 }
 
 /// Whether a byte parts words.

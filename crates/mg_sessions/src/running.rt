@@ -1,4 +1,5 @@
 // A session under `dry`, and under `run` with three batches.
+use crate::images::image_of;
 use crate::lines::{Kind, Line, first_line, is_newline, line_of};
 use crate::parts::{Part, count_runs, part_of, place_behind, put, put_line};
 use crate::report::Report;
@@ -184,9 +185,9 @@ fn run_on_copy(
     fresh: &MemDisk,
     told: &mut Told,
 ) -> Option<u64> {
-    match fresh.stopped(report.alloc(), Left::New) {
-        Ok(mut disk) => run_batch(report, session, way, &mut disk, told),
-        Err(_) => None,
+    match image_of(report.alloc(), fresh, Left::New) {
+        Some(mut disk) => run_batch(report, session, way, &mut disk, told),
+        None => None,
     }
 }
 
@@ -239,12 +240,12 @@ fn is_answered(report: &mut Report, way: &Way, part: &Part<'_>, disk: &mut MemDi
 
 /// Makes a disk one that a stop now leaves, with no call made yet; false where memory is wanting.
 pub fn reopen(alloc: Global, disk: &mut MemDisk) -> bool {
-    match disk.stopped(alloc, Left::Old) {
-        Ok(left) => {
+    match image_of(alloc, disk, Left::Old) {
+        Some(left) => {
             *disk = left;
             true
         }
-        Err(_) => false,
+        None => false,
     }
 }
 

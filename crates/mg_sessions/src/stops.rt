@@ -1,11 +1,12 @@
 // A run on a disk that is stopped after each call.
 use crate::bench::Bench;
+use crate::images::image_of;
 use crate::kept::{Kept, Stage, Wanted};
 use crate::lines::count_lines;
 use crate::report::Report;
 use mg_disk::{Fuse, Left, MemDisk};
 use mg_testing::{Streams, command};
-use std::alloc::{AllocError, Global};
+use std::alloc::Global;
 
 /// What a stop may leave of the blocks that were written since the last sync.
 const WAYS: [Left; 3] = [Left::New, Left::Old, Left::Gates];
@@ -42,15 +43,15 @@ pub fn stop_run(
 
 /// How many calls of the disk a run of this input makes; None where memory is wanting.
 pub fn count_disk_calls(alloc: Global, line: &str, disk: &MemDisk, input: &[u8]) -> Option<u64> {
-    match disk.stopped(alloc, Left::New) {
-        Ok(mut disk) => {
+    match image_of(alloc, disk, Left::New) {
+        Some(mut disk) => {
             if command(alloc, line, &mut disk, &Streams::of(input)).is_ok() {
                 Some(calls_of(&disk))
             } else {
                 None
             }
         }
-        Err(_) => None,
+        None => None,
     }
 }
 
@@ -75,8 +76,8 @@ fn stops_well(
     bench: &mut Bench,
 ) -> bool {
     match run_stopped(report.alloc(), stage.line, disk, stage.part.run, calls) {
-        Ok(stopped) => compare(report, stage.line, calls, &stopped, wanted, bench),
-        Err(_) => false,
+        Some(stopped) => compare(report, stage.line, calls, &stopped, wanted, bench),
+        None => false,
     }
 }
 
@@ -87,19 +88,19 @@ fn run_stopped(
     disk: &MemDisk,
     input: &[u8],
     calls: u64,
-) -> Result<Stopped, AllocError> {
-    match disk.stopped(alloc, Left::New) {
-        Ok(copy) => {
+) -> Option<Stopped> {
+    match image_of(alloc, disk, Left::New) {
+        Some(copy) => {
             let mut fuse = Fuse::new(copy, calls);
             match command(alloc, line, &mut fuse, &Streams::of(input)) {
-                Ok(outcome) => Ok(Stopped {
+                Ok(outcome) => Some(Stopped {
                     disk: fuse.into_inner(),
                     put: outcome.put,
                 }),
-                Err(e) => Err(e),
+                Err(_) => None,
             }
         }
-        Err(e) => Err(e),
+        None => None,
     }
 }
 
@@ -155,24 +156,14 @@ fn is_left_kept(
     answered: usize,
     bench: &mut Bench,
 ) -> Option<bool> {
-    match disk.stopped(alloc, left) {
-        Ok(mut image) => is_image_kept(alloc, &mut image, states, answered, bench),
-        Err(_) => None,
-    }
-}
-
-fn is_image_kept(
-    alloc: Global,
-    image: &mut MemDisk,
-    states: &[Kept],
-    answered: usize,
-    bench: &mut Bench,
-) -> Option<bool> {
-    let is_kept = bench.goes_on(alloc, image, states, answered)?;
-    if is_kept && bench.is_chosen(image) {
-        stays_kept(alloc, image, states, answered, bench)
-    } else {
-        Some(is_kept)
+    match image_of(alloc, disk, left) {
+        Some(mut image) => match bench.goes_on(alloc, &mut image, states, answered) {
+            Some(true) if bench.is_chosen(&mut image) => {
+                stays_kept(alloc, &image, states, answered, bench)
+            }
+            is_kept => is_kept,
+        },
+        None => None,
     }
 }
 
@@ -214,8 +205,8 @@ fn changes_kept(
     bench: &mut Bench,
 ) -> Option<Option<u64>> {
     match run_stopped(alloc, "vol run", image, b"", calls) {
-        Ok(opened) => changes_on(alloc, &opened.disk, states, answered, bench),
-        Err(_) => None,
+        Some(opened) => changes_on(alloc, &opened.disk, states, answered, bench),
+        None => None,
     }
 }
 
@@ -243,17 +234,17 @@ pub fn goes_on(
     answered: usize,
     bench: &mut Bench,
 ) -> Option<bool> {
-    match disk.stopped(alloc, left) {
-        Ok(mut image) => bench.goes_on(alloc, &mut image, states, answered),
-        Err(_) => None,
+    match image_of(alloc, disk, left) {
+        Some(mut image) => bench.goes_on(alloc, &mut image, states, answered),
+        None => None,
     }
 }
 
 /// How many writes and syncs so many calls of an opening make.
 fn count_changes(alloc: Global, image: &MemDisk, calls: u64) -> Option<u64> {
     match run_stopped(alloc, "vol run", image, b"", calls) {
-        Ok(opened) => Some(changes_of(&opened.disk)),
-        Err(_) => None,
+        Some(opened) => Some(changes_of(&opened.disk)),
+        None => None,
     }
 }
 

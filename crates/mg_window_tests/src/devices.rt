@@ -1,75 +1,127 @@
 // Which devices a run may have.
-use crate::runs::{devices, fresh, run, run_with};
+use crate::runs::{Put, Run, count_told, count_words_told};
+use mg_session::Status;
 use std::test::Fail;
 
-const SIXTEEN: &str =
-    "v dev latch:1 latch:2 latch:3 latch:4 latch:5 latch:6 latch:7 latch:8 latch:9 latch:10 latch:11 latch:12 latch:13 latch:14 latch:15 latch:16";
+const LOAD: &[&str] = &["1 load 0x100000000\n"];
+
+const USAGE: Put = Put::All(&["usage\n"]);
+
+const SIXTEEN: &[&str] = &[
+    "v", "dev", "latch:1", "latch:2", "latch:3", "latch:4", "latch:5", "latch:6", "latch:7",
+    "latch:8", "latch:9", "latch:10", "latch:11", "latch:12", "latch:13", "latch:14", "latch:15",
+    "latch:16",
+];
+
+const SEVENTEEN: &[&str] = &[
+    "v", "dev", "latch:1", "latch:2", "latch:3", "latch:4", "latch:5", "latch:6", "latch:7",
+    "latch:8", "latch:9", "latch:10", "latch:11", "latch:12", "latch:13", "latch:14", "latch:15",
+    "latch:16", "latch:17",
+];
+
+const MOST_DEVICES: [Run; 2] = [
+    Run {
+        line: SIXTEEN,
+        devices: None,
+        room: 0,
+        input: LOAD,
+        status: Status::Done,
+        put: Put::Ends(
+            "ok 0x0000000000000001\ndev 0x0000000000000001 1 0\ndev 0x0000000000000002 1 0\n",
+            "dev 0x0000000000000010 1 0\n",
+        ),
+        left: 16,
+    },
+    Run {
+        line: SEVENTEEN,
+        devices: None,
+        room: 0,
+        input: LOAD,
+        status: Status::Usage,
+        put: USAGE,
+        left: 0,
+    },
+];
 
 #[test]
 fn sixteen_devices_and_no_more(rt: HostRuntime) -> Result<(), Fail> {
-    let mut disk = fresh(rt.alloc())?;
-    let ran = run(rt.alloc(), SIXTEEN, 0, &mut disk, "1 load 0x100000000\n")?;
-    assert!(rt;
-        ran.told.starts_with(
-            "0 ok 0x0000000000000001\ndev 0x0000000000000001 1 0\ndev 0x0000000000000002 1 0\n"
-        )
-    );
-    assert!(rt; ran.told.ends_with("dev 0x0000000000000010 1 0\n"));
-    let more = format!(in rt.alloc(); "{SIXTEEN} latch:17")?;
-    let ran = run(rt.alloc(), &more, 0, &mut disk, "1 load 0x100000000\n")?;
-    assert_eq!(rt; ran.told.as_str(), "1 usage\n");
+    assert_eq!(rt; count_told(rt.alloc(), &MOST_DEVICES), 2);
     Ok(())
 }
+
+/// What words tell that ask for no run.
+const NO_RUN: Run = Run {
+    line: &[],
+    devices: None,
+    room: 1,
+    input: LOAD,
+    status: Status::Usage,
+    put: USAGE,
+    left: 0,
+};
+
+const NO_RUNS: [&[&str]; 10] = [
+    &["v", "dev", "latch:1", "console:1"],
+    &["v", "dev", "latch:0x10", "latch:16"],
+    &["v", "dev", "latch"],
+    &["v", "dev", "latch:"],
+    &["v", "dev", "tape:1"],
+    &["v", "dev", "Latch:1"],
+    &["v", "dev", "latch:18446744073709551616"],
+    &["v", "devs", "latch:1"],
+    &["v"],
+    &[],
+];
 
 #[test]
 fn words_that_ask_for_no_run(rt: HostRuntime) -> Result<(), Fail> {
-    let mut disk = fresh(rt.alloc())?;
-    for line in [
-        "v dev latch:1 console:1",
-        "v dev latch:0x10 latch:16",
-        "v dev latch",
-        "v dev latch:",
-        "v dev tape:1",
-        "v dev Latch:1",
-        "v dev latch:18446744073709551616",
-        "v devs latch:1",
-        "v",
-        "",
-    ] {
-        let ran = run(rt.alloc(), line, 1, &mut disk, "1 load 0x100000000\n")?;
-        assert_eq!(rt; ran.told.as_str(), "1 usage\n", "{line}");
-    }
+    assert_eq!(rt; count_words_told(rt.alloc(), &NO_RUN, &NO_RUNS), 10);
     Ok(())
 }
+
+/// What a run tells whose words ask for other devices than it is given.
+const OTHER_RUN: Run = Run {
+    devices: Some(&["v", "dev", "latch:1"]),
+    left: 1,
+    ..NO_RUN
+};
+
+const OTHER_RUNS: [&[&str]; 4] = [
+    &["v", "dev", "latch:2"],
+    &["v", "dev", "console:1"],
+    &["v", "dev", "latch:1", "latch:2"],
+    &["v", "dev"],
+];
 
 #[test]
 fn other_devices_than_asked_for(rt: HostRuntime) -> Result<(), Fail> {
-    let mut disk = fresh(rt.alloc())?;
-    let input = "1 load 0x100000000\n";
-    for line in [
-        "v dev latch:2",
-        "v dev console:1",
-        "v dev latch:1 latch:2",
-        "v dev",
-    ] {
-        let windows = devices(rt.alloc(), "v dev latch:1", 1)?;
-        let ran = run_with(rt.alloc(), line, windows, &mut disk, input)?;
-        assert_eq!(rt; ran.told.as_str(), "1 usage\n", "{line}");
-        assert_eq!(rt; ran.windows.len(), 1);
-    }
+    assert_eq!(rt; count_words_told(rt.alloc(), &OTHER_RUN, &OTHER_RUNS), 4);
     Ok(())
 }
 
+const FEW_DEVICES: [Run; 2] = [
+    Run {
+        line: &["v", "dev"],
+        devices: None,
+        room: 1,
+        input: LOAD,
+        status: Status::Done,
+        put: Put::All(&["ok 0x0000000000000001\n"]),
+        left: 0,
+    },
+    Run {
+        line: &["v", "dev", "console:0x100200000"],
+        devices: None,
+        room: 1,
+        input: &["1 store 0x100200000 1\n1 load 0x100000000\n"],
+        status: Status::Done,
+        put: Put::All(&["no Denied\nok 0x0000000000000001\ndev 0x0000000100200000 2 0\n"]),
+        left: 1,
+    },
+];
+
 #[test]
 fn no_device_and_one_at_no_object(rt: HostRuntime) -> Result<(), Fail> {
-    let mut disk = fresh(rt.alloc())?;
-    let ran = run(rt.alloc(), "v dev", 1, &mut disk, "1 load 0x100000000\n")?;
-    assert_eq!(rt; ran.told.as_str(), "0 ok 0x0000000000000001\n");
-    let input = "1 store 0x100200000 1\n1 load 0x100000000\n";
-    let ran = run(rt.alloc(), "v dev console:0x100200000", 1, &mut disk, input)?;
-    assert_eq!(rt;
-        ran.told.as_str(),
-        "0 no Denied\nok 0x0000000000000001\ndev 0x0000000100200000 2 0\n"
-    );
+    assert_eq!(rt; count_told(rt.alloc(), &FEW_DEVICES), 2);
     Ok(())
 }

@@ -1,4 +1,4 @@
-use Rattle.mg_window_tests.proofs.runs.run_with.Given as goal
+use Rattle.mg_window_tests.proofs.runs.is_told_by.Given as goal
 
 abbrev pub ghosts-with_steps : goal.ghosts-with_steps
 ghosts-with_steps a = record { name = a.blank.name; parts = a.blank.parts }
