@@ -99,6 +99,14 @@ pub fn calls_to_make(alloc: Global) -> Option<u64> {
     }
 }
 
+/// How many writes it takes to make a disk so.
+pub fn writes_to_make(alloc: Global, how: &Made) -> u64 {
+    match filled(alloc, how) {
+        Some(disk) => disk.counts().writes,
+        None => u64::MAX,
+    }
+}
+
 fn count(counts: &Counts) -> u64 {
     counts
         .reads

@@ -6,6 +6,8 @@
 #[cfg(test)]
 mod disks;
 #[cfg(test)]
+mod judged;
+#[cfg(test)]
 mod runs;
 #[cfg(test)]
 mod sessions;
