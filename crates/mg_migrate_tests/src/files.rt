@@ -1,21 +1,59 @@
 // Real files, of which no contract can say what they give.
 use crate::images::{IN_JOURNAL, MOVED, begins_with, copy, old_volume};
 use crate::telling::{checks, line_tells};
-use mg_disk::{Disk, FileDisk};
+use mg_disk::{Disk, FileDisk, MemDisk, OneHolder};
 use std::alloc::{Alloc, Global};
 use std::fs;
+use std::os::unix::fs::FileExt;
 use std::process::Abort;
 use std::rt::Files;
 
-/// Writes a volume of version 1 to a disk. Says whether the disk could be synced.
-fn fill<D: Disk>(rt: &impl Abort, alloc: Global, disk: &mut D) -> bool {
-    copy(&mut old_volume(rt, alloc, &IN_JOURNAL, &[]), disk);
-    disk.sync().is_ok()
+/// Whether the first disk's blocks could be written to the second.
+fn copied<D: Disk>(made: &mut MemDisk, disk: &mut D) -> bool {
+    copy(made, disk);
+    disk.sync().is_ok() && begins_with(disk, made)
 }
 
-/// Whether a disk holds that volume.
-fn is_filled<D: Disk>(rt: &impl Abort, alloc: Global, disk: &mut D) -> bool {
-    begins_with(disk, &mut old_volume(rt, alloc, &IN_JOURNAL, &[]))
+/// Whether a volume of version 1 could be written to a file.
+fn fills<R: Files + Abort>(rt: &R, alloc: Global, path: &str) -> bool
+where
+    R::File: FileExt + OneHolder,
+{
+    let mut made = old_volume(rt, alloc, IN_JOURNAL, &[]);
+    copied(&mut made, &mut FileDisk::new(rt, path))
+}
+
+/// Whether a file holds that volume.
+fn is_filled<R: Files + Abort>(rt: &R, alloc: Global, path: &str) -> bool
+where
+    R::File: FileExt + OneHolder,
+{
+    let mut made = old_volume(rt, alloc, IN_JOURNAL, &[]);
+    begins_with(&mut FileDisk::reader(rt, path), &mut made)
+}
+
+/// Whether the migration of this line from one file to another tells this.
+fn tells<R: Files + Abort>(
+    rt: &R,
+    alloc: Global,
+    line: &str,
+    new: &str,
+    old: &str,
+    told: (u8, &str),
+) -> bool
+where
+    R::File: FileExt + OneHolder,
+{
+    let mut old = FileDisk::reader(rt, old);
+    line_tells(rt, alloc, line, &mut FileDisk::new(rt, new), &mut old, told)
+}
+
+/// Whether a check of a file tells the volume that was migrated.
+fn is_moved<R: Files + Abort>(rt: &R, alloc: Global, path: &str) -> bool
+where
+    R::File: FileExt + OneHolder,
+{
+    checks(rt, alloc, &mut FileDisk::new(rt, path), MOVED)
 }
 
 /// Whether a file has so many bytes.
@@ -46,14 +84,10 @@ fn a_file_is_migrated(rt: HostRuntime) {
     let alloc = rt.alloc();
     let _ = removed(&rt, "old");
     let _ = removed(&rt, "new");
-    assert!(rt; fill(&rt, alloc, &mut FileDisk::new(&rt, "old")));
-    assert!(rt; is_long(&rt, "old", OLD));
-    let (mut new, mut old) = (FileDisk::new(&rt, "new"), FileDisk::reader(&rt, "old"));
-    assert!(rt; line_tells(&rt, alloc, "new migrate old", &mut new, &mut old, MOVED));
-    drop(new);
-    assert!(rt; is_filled(&rt, alloc, &mut old));
-    assert!(rt; is_long(&rt, "old", OLD) && is_long(&rt, "new", NEW));
-    assert!(rt; checks(&rt, alloc, &mut FileDisk::new(&rt, "new"), MOVED));
+    assert!(rt; fills(&rt, alloc, "old") && is_long(&rt, "old", OLD));
+    assert!(rt; tells(&rt, alloc, "new migrate old", "new", "old", MOVED));
+    assert!(rt; is_filled(&rt, alloc, "old") && is_long(&rt, "old", OLD));
+    assert!(rt; is_moved(&rt, alloc, "new") && is_long(&rt, "new", NEW));
     assert!(rt; removed(&rt, "old") && removed(&rt, "new"));
 }
 
@@ -61,12 +95,8 @@ fn a_file_is_migrated(rt: HostRuntime) {
 fn a_file_that_is_not_there_is_not_made(rt: HostRuntime) {
     let _ = removed(&rt, "missing");
     let _ = removed(&rt, "unmade");
-    let (mut new, mut old) = (
-        FileDisk::new(&rt, "unmade"),
-        FileDisk::reader(&rt, "missing"),
-    );
     let line = "unmade migrate missing";
-    assert!(rt; line_tells(&rt, rt.alloc(), line, &mut new, &mut old, (2, "open not\n")));
+    assert!(rt; tells(&rt, rt.alloc(), line, "unmade", "missing", (2, "open not\n")));
     assert!(rt; is_missing(&rt, "missing") && is_missing(&rt, "unmade"));
 }
 
@@ -75,20 +105,8 @@ fn a_file_that_is_not_there_is_not_made(rt: HostRuntime) {
 fn a_file_of_two_names_is_left_alone(rt: HostRuntime) {
     let alloc = rt.alloc();
     let _ = removed(&rt, "both");
-    assert!(rt; fill(&rt, alloc, &mut FileDisk::new(&rt, "both")));
-    assert!(rt; is_long(&rt, "both", OLD));
-    let (mut new, mut old) = (FileDisk::new(&rt, "./both"), FileDisk::reader(&rt, "both"));
-    assert!(rt;
-        line_tells(
-            &rt,
-            alloc,
-            "./both migrate both",
-            &mut new,
-            &mut old,
-            (4, "")
-        )
-    );
-    assert!(rt; is_filled(&rt, alloc, &mut old));
-    assert!(rt; is_long(&rt, "both", OLD));
+    assert!(rt; fills(&rt, alloc, "both") && is_long(&rt, "both", OLD));
+    assert!(rt; tells(&rt, alloc, "./both migrate both", "./both", "both", (4, "")));
+    assert!(rt; is_filled(&rt, alloc, "both") && is_long(&rt, "both", OLD));
     assert!(rt; removed(&rt, "both"));
 }

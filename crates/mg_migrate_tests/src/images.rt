@@ -1,6 +1,6 @@
 // Disks in memory with volumes of 64 frames, made with the seed of zeros.
 use crate::telling::Told;
-use mg_disk::{BLOCK_SIZE, Block, Disk, Left, MemDisk};
+use mg_disk::{BLOCK_SIZE, Block, Counts, Disk, Left, MemDisk};
 use mg_migrate::fresh_block1;
 use mg_model::{Params, Tariff};
 use std::alloc::Global;
@@ -22,7 +22,7 @@ pub const OPEN: u64 = 0xa5;
 pub type Words = (u64, &'static [(usize, u64)]);
 
 /// A fresh volume whose counters stand in segment 0 of the journal alone: three passwords drawn, period 2 and one birth.
-pub const IN_JOURNAL: [Words; 3] = [
+pub const IN_JOURNAL: &[Words] = &[
     (2, &[(0, OPEN)]),
     (3, &[(0, 1), (1, 1298)]),
     (4, &[(0, 3), (1, 2), (3, 1)]),
@@ -90,6 +90,11 @@ pub fn put_block<D: Disk>(disk: &mut D, i: u64, block: &Block) {
 pub fn zeros(rt: &impl Abort, alloc: Global, blocks: u64, fails: &[u64]) -> MemDisk {
     let fails = fails.to_vec(alloc).expect(rt, "memory");
     MemDisk::new(alloc, blocks, ROOM, fails).expect(rt, "memory")
+}
+
+/// Whether only reads were made between these counts.
+pub fn is_only_read(before: Counts, after: Counts) -> bool {
+    after.writes == before.writes && after.syncs == before.syncs
 }
 
 /// Whether the first disk begins with the blocks of the second, up to those of a volume of version 1.

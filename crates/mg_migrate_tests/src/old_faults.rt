@@ -19,12 +19,7 @@ const COPIED: u64 = BLOCKS - 1298;
 
 /// A volume of version 1 on a disk of which that read fails.
 fn faulty(rt: &impl Abort, alloc: Global, read: u64) -> MemDisk {
-    old_volume(
-        rt,
-        alloc,
-        &IN_JOURNAL,
-        &[CALLS_TO_MAKE.saturating_add(read)],
-    )
+    old_volume(rt, alloc, IN_JOURNAL, &[CALLS_TO_MAKE.saturating_add(read)])
 }
 
 /// Whether the migration tells a fault of a disk, and the new one saw so many writes and syncs and holds this.

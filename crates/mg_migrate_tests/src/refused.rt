@@ -1,5 +1,7 @@
 // Old disks that hold no volume of version 1, new disks that are too small, and words that spell no migration.
-use crate::images::{BLOCKS, BLOCKS1, Words, copy, old_volume, put_words, stopped, zeros};
+use crate::images::{
+    BLOCKS, BLOCKS1, Words, copy, is_only_read, old_volume, put_words, stopped, zeros,
+};
 use crate::telling::{Told, is_told, line_tells, migrates, outcome};
 use mg_disk::{Counts, Fuse, Left, MemDisk};
 use mg_testing::{SEED, volume};
@@ -22,7 +24,7 @@ const ROOT: u64 = 0x1_0000_0000;
 const ROOT_PAGE: u64 = 0x10_0000;
 
 // What is told of a fresh volume of version 1 with these blocks in place of its own.
-const CHANGES: [(&str, Told, &[Words]); 19] = [
+const CHANGES: &[(&str, Told, &[Words])] = &[
     ("the gate is closed", NOT, &[(0, &[])]),
     ("another first word", NOT, &[(1, &[(0, 7), (1, 1)])]),
     ("version 0", OLD, &[(1, &[(0, MAGIC)])]),
@@ -127,10 +129,6 @@ fn refuses(rt: &impl Abort, alloc: Global, old: &mut MemDisk, blocks: u64, told:
     is_told && is_only_read(before, old.counts()) && new.counts() == Counts::default()
 }
 
-fn is_only_read(before: Counts, after: Counts) -> bool {
-    after.writes == before.writes && after.syncs == before.syncs
-}
-
 // A copy of this disk with these changes is refused.
 fn refuses_change(
     rt: &impl Abort,
@@ -147,7 +145,7 @@ fn refuses_change(
 #[test]
 fn old_disks_with_one_change(rt: HostRuntime) {
     let fresh = old_volume(&rt, rt.alloc(), &[], &[]);
-    for (change, told, changes) in &CHANGES {
+    for (change, told, changes) in CHANGES {
         assert!(rt;
             refuses_change(&rt, rt.alloc(), &fresh, changes, *told),
             "{change}"
@@ -159,16 +157,21 @@ fn old_disks_with_one_change(rt: HostRuntime) {
 fn refuses_size(rt: &impl Abort, alloc: Global, from: &mut MemDisk, blocks: u64, told: Told) {
     let mut old = zeros(rt, alloc, blocks, &[]);
     copy(from, &mut old);
-    assert!(rt;
-        refuses(rt, alloc, &mut old, BLOCKS, told),
-        "{blocks} blocks"
-    );
+    assert!(rt; refuses(rt, alloc, &mut old, BLOCKS, told));
+}
+
+fn refuses_zeros(rt: &impl Abort, alloc: Global) -> bool {
+    refuses(rt, alloc, &mut zeros(rt, alloc, BLOCKS, &[]), BLOCKS, NOT)
 }
 
 // A volume of this version.
 fn made_new(rt: &impl Abort, alloc: Global) -> MemDisk {
     let line = format!(in alloc; "old format 64 {SEED} 1000").expect(rt, "memory");
     volume(alloc, line.as_str()).expect(rt, "memory")
+}
+
+fn refuses_new(rt: &impl Abort, alloc: Global) -> bool {
+    refuses(rt, alloc, &mut made_new(rt, alloc), BLOCKS, NEW)
 }
 
 #[test]
@@ -179,34 +182,39 @@ fn old_disks_without_such_a_volume(rt: HostRuntime) {
     refuses_size(&rt, alloc, &mut from, 1, NOT);
     refuses_size(&rt, alloc, &mut from, 2, DAMAGED);
     refuses_size(&rt, alloc, &mut from, BLOCKS1 - 1, DAMAGED);
-    assert!(rt; refuses(&rt, alloc, &mut zeros(&rt, alloc, BLOCKS, &[]), BLOCKS, NOT));
-    assert!(rt; refuses(&rt, alloc, &mut made_new(&rt, alloc), BLOCKS, NEW));
+    assert!(rt; refuses_zeros(&rt, alloc) && refuses_new(&rt, alloc));
 }
 
 // Whether there is a volume is told first.
-#[test]
-fn new_disks_that_are_too_small(rt: HostRuntime) {
-    let alloc = rt.alloc();
-    let mut old = old_volume(&rt, alloc, &[], &[]);
-    assert!(rt; refuses(&rt, alloc, &mut old, BLOCKS - 1, (8, "small 2660 2659\n")));
-    assert!(rt; refuses(&rt, alloc, &mut old, 0, (8, "small 2660 0\n")));
-    put_words(&mut old, &[(1298, &[])]);
-    assert!(rt; refuses(&rt, alloc, &mut old, 0, DAMAGED));
+fn are_too_small(rt: &impl Abort, alloc: Global, old: &mut MemDisk) -> bool {
+    let by_one = refuses(rt, alloc, old, BLOCKS - 1, (8, "small 2660 2659\n"));
+    let by_all = refuses(rt, alloc, old, 0, (8, "small 2660 0\n"));
+    put_words(old, &[(1298, &[])]);
+    by_one && by_all && refuses(rt, alloc, old, 0, DAMAGED)
 }
 
-fn runs(rt: &impl Abort, alloc: Global, line: &str, disk: &mut MemDisk) -> bool {
+#[test]
+fn new_disks_that_are_too_small(rt: HostRuntime) {
+    let mut old = old_volume(&rt, rt.alloc(), &[], &[]);
+    assert!(rt; are_too_small(&rt, rt.alloc(), &mut old));
+}
+
+fn tells_old(rt: &impl Abort, alloc: Global, line: &str, disk: &mut MemDisk) -> bool {
     let outcome = outcome(rt, alloc, line, disk, "1 store 0x100000020 5\n");
     is_told(&outcome, OLD.0, OLD.1)
 }
 
+fn is_not_run(rt: &impl Abort, alloc: Global, disk: &mut MemDisk) -> bool {
+    tells_old(rt, alloc, "old run", disk)
+        && tells_old(rt, alloc, "old check", disk)
+        && is_only_read(Counts::default(), disk.counts())
+}
+
 #[test]
 fn a_volume_of_version_1_is_not_run(rt: HostRuntime) {
-    let alloc = rt.alloc();
-    let made = old_volume(&rt, alloc, &[], &[]);
-    let mut old = stopped(&rt, alloc, &made, Left::Old);
-    assert!(rt; runs(&rt, alloc, "old run", &mut old));
-    assert!(rt; runs(&rt, alloc, "old check", &mut old));
-    assert!(rt; (old.counts().writes, old.counts().syncs) == (0, 0));
+    let made = old_volume(&rt, rt.alloc(), &[], &[]);
+    let mut old = stopped(&rt, rt.alloc(), &made, Left::Old);
+    assert!(rt; is_not_run(&rt, rt.alloc(), &mut old));
 }
 
 // A disk of which each call fails.
@@ -214,23 +222,23 @@ fn dead(rt: &impl Abort, alloc: Global, blocks: u64) -> Fuse<MemDisk> {
     Fuse::new(zeros(rt, alloc, blocks, &[]), 0)
 }
 
+fn is_usage(rt: &impl Abort, alloc: Global, line: &str) {
+    let (mut new, mut old) = (dead(rt, alloc, BLOCKS), dead(rt, alloc, BLOCKS1));
+    assert!(rt;
+        line_tells(rt, alloc, line, &mut new, &mut old, (1, "usage\n")),
+        "{line}"
+    );
+}
+
 #[test]
 fn words_that_spell_no_migration(rt: HostRuntime) {
     let alloc = rt.alloc();
-    let (mut new, mut old) = (dead(&rt, alloc, BLOCKS), dead(&rt, alloc, BLOCKS1));
-    for line in [
-        "a migrate a",
-        "a Migrate b",
-        "a migrated b",
-        "a migrate",
-        "a migrate b c",
-        "migrate a b",
-        "a check b",
-        "",
-    ] {
-        assert!(rt;
-            line_tells(&rt, alloc, line, &mut new, &mut old, (1, "usage\n")),
-            "{line}"
-        );
-    }
+    is_usage(&rt, alloc, "a migrate a");
+    is_usage(&rt, alloc, "a Migrate b");
+    is_usage(&rt, alloc, "a migrated b");
+    is_usage(&rt, alloc, "a migrate");
+    is_usage(&rt, alloc, "a migrate b c");
+    is_usage(&rt, alloc, "migrate a b");
+    is_usage(&rt, alloc, "a check b");
+    is_usage(&rt, alloc, "");
 }

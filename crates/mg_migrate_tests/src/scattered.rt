@@ -29,7 +29,7 @@ const LAST: u64 = 0xff_ffff;
 // All that an account may owe then.
 const DEBT: u64 = 0xfff_fff0_0000_0000;
 
-const IMAGE: [Words; 27] = [
+const IMAGE: &[Words] = &[
     // Counters that are old.
     (1298, &[(0, 4), (1, 3), (3, 1)]),
     // Two accounts.
@@ -175,12 +175,17 @@ const IMAGE: [Words; 27] = [
     (1138, &[(0, 7)]),
 ];
 
-// The disk that this volume was migrated to, as a stop leaves it.
-fn moved(rt: &impl Abort, alloc: Global) -> MemDisk {
-    let mut old = old_volume(rt, alloc, &IMAGE, &[]);
-    let mut new = zeros(rt, alloc, BLOCKS, &[]);
+// Migrates this volume.
+fn move_to(rt: &impl Abort, alloc: Global, new: &mut MemDisk) {
+    let mut old = old_volume(rt, alloc, IMAGE, &[]);
     let told = (0, "ok 64 3 64 2 2 16777215 1000\n");
-    assert!(rt; migrates(rt, alloc, &mut new, &mut old, told));
+    assert!(rt; migrates(rt, alloc, new, &mut old, told));
+}
+
+// The disk that it was migrated to, as a stop leaves it.
+fn moved(rt: &impl Abort, alloc: Global) -> MemDisk {
+    let mut new = zeros(rt, alloc, BLOCKS, &[]);
+    move_to(rt, alloc, &mut new);
     stopped(rt, alloc, &new, Left::Old)
 }
 
@@ -295,14 +300,17 @@ fn rows_stand(rows: &VolumeRows) -> bool {
         && table_stands(&rows.table)
 }
 
+fn reads(alloc: Global, disk: &mut MemDisk) -> bool {
+    match read_volume(alloc, disk) {
+        Ok(rows) => rows_stand(&rows),
+        Err(_) => false,
+    }
+}
+
 // Each row stands at the place that it had. Of the objects that is so in the eyes of a reader, and in blocks twice as many.
 #[test]
 fn rows_keep_their_places(rt: HostRuntime) {
-    let mut disk = moved(&rt, rt.alloc());
-    match read_volume(rt.alloc(), &mut disk) {
-        Ok(rows) => assert!(rt; rows_stand(&rows)),
-        Err(_) => panic!(rt; "no volume"),
-    }
+    assert!(rt; reads(rt.alloc(), &mut moved(&rt, rt.alloc())));
 }
 
 // Lines and their replies, in the last period: a password that is allowed then never ends.
@@ -358,17 +366,17 @@ fn put_line(rt: &impl Abort, text: &mut String, line: &str) {
     text.push_str("\n").expect(rt, "memory");
 }
 
+fn lines_run(rt: &impl Abort, alloc: Global, disk: &mut MemDisk) -> bool {
+    let (mut input, mut replies) = (String::new(alloc), String::new(alloc));
+    put_lines(rt, &mut input, &mut replies);
+    is_told(
+        &outcome(rt, alloc, "new run", disk, input.as_str()),
+        0,
+        replies.as_str(),
+    )
+}
+
 #[test]
 fn words_and_passwords_are_there(rt: HostRuntime) {
-    let alloc = rt.alloc();
-    let (mut input, mut replies) = (String::new(alloc), String::new(alloc));
-    put_lines(&rt, &mut input, &mut replies);
-    let outcome = outcome(
-        &rt,
-        alloc,
-        "new run",
-        &mut moved(&rt, alloc),
-        input.as_str(),
-    );
-    assert!(rt; is_told(&outcome, 0, replies.as_str()));
+    assert!(rt; lines_run(&rt, rt.alloc(), &mut moved(&rt, rt.alloc())));
 }

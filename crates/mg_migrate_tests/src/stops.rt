@@ -47,11 +47,9 @@ fn dies(
     stops: [Held; 3],
 ) {
     let mut fuse = Fuse::new(new, call);
-    assert!(rt;
-        migrates(rt, alloc, &mut fuse, old, told_at(call)),
-        "{call}"
-    );
-    assert!(rt; leaves(rt, alloc, &fuse.into_inner(), stops), "{call}");
+    let is_told = migrates(rt, alloc, &mut fuse, old, told_at(call));
+    let new = fuse.into_inner();
+    assert!(rt; is_told && leaves(rt, alloc, &new, stops), "{call}");
 }
 
 /// A migration to this disk, of which a call fails.
@@ -63,8 +61,8 @@ fn fails(
     call: u64,
     stops: [Held; 3],
 ) {
-    assert!(rt; migrates(rt, alloc, new, old, told_at(call)), "{call}");
-    assert!(rt; leaves(rt, alloc, new, stops), "{call}");
+    let is_told = migrates(rt, alloc, new, old, told_at(call));
+    assert!(rt; is_told && leaves(rt, alloc, new, stops), "{call}");
 }
 
 /// Both, one after the other, onto disks that held this before.
@@ -105,7 +103,7 @@ fn stop(rt: &impl Abort, alloc: Global, before: Held, from: u64, to: u64) {
     stops_at(
         rt,
         alloc,
-        &old_volume(rt, alloc, &IN_JOURNAL, &[]),
+        &old_volume(rt, alloc, IN_JOURNAL, &[]),
         before,
         from,
         to,

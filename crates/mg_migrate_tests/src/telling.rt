@@ -23,7 +23,7 @@ fn puts<D: Disk, E: Disk>(
     new: &mut D,
     old: &mut E,
     sink: &mut MemSink,
-    told: Told,
+    told: (u8, &str),
 ) -> bool {
     let status = top_migrate(alloc, words, new, old, sink);
     status.code() == told.0 && sink.bytes() == told.1.as_bytes()
@@ -36,7 +36,7 @@ pub fn line_tells<D: Disk, E: Disk>(
     line: &str,
     new: &mut D,
     old: &mut E,
-    told: Told,
+    told: (u8, &str),
 ) -> bool {
     puts(
         alloc,
@@ -54,7 +54,7 @@ pub fn migrates<D: Disk, E: Disk>(
     alloc: Global,
     new: &mut D,
     old: &mut E,
-    told: Told,
+    told: (u8, &str),
 ) -> bool {
     line_tells(rt, alloc, "new migrate old", new, old, told)
 }
@@ -76,6 +76,6 @@ pub fn is_told(outcome: &Outcome, code: u8, put: &str) -> bool {
 }
 
 /// Whether a check of a disk tells this.
-pub fn checks<D: Disk>(rt: &impl Abort, alloc: Global, disk: &mut D, told: Told) -> bool {
+pub fn checks<D: Disk>(rt: &impl Abort, alloc: Global, disk: &mut D, told: (u8, &str)) -> bool {
     is_told(&outcome(rt, alloc, "new check", disk, ""), told.0, told.1)
 }
