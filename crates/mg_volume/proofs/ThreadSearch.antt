@@ -1,12 +1,12 @@
 -- What a search among threads finds, by what is said of each place.
-use Rattle.std.specs.Prelude.{◌≡◌, ◌≢◌, ◌+◌, ◌-◌, ◌≤◌, ◌<◌, ◌==◌, ◌&&◌, nat_lt, ℕ, zero, suc, Bool, true, false, not, List, [], ◌∷◌, drop, find, if◌then◌else◌, is_some, length, map, option_map, replicate, slice_set, Option, Some, None}
+use Rattle.std.specs.Prelude.{◌≡◌, ◌≢◌, ◌+◌, ◌≤◌, ◌<◌, ◌&&◌, nat_lt, ℕ, zero, suc, Bool, true, false, not, List, [], ◌∷◌, drop, find, if◌then◌else◌, length, map, option_map, replicate, slice_set, Option, Some, None}
 use Rattle.std.specs.List.{position, position_or_len}
-use Rattle.std.specs.Option.{ForSome, option_map_or}
-use Rattle.std.proofs.Common.{refl, sym, ap, cond, subst, ◌∙◌, ⊎_elim, arith}
-use Rattle.std.proofs.lemmas.Bool.{cases_Bool, cond_both, eq-eqb, le-ltb, lt-ltb, ne_eqb}
+use Rattle.std.specs.Option.{ForSome}
+use Rattle.std.proofs.Common.{refl, sym, ap, subst, ◌∙◌, arith}
+use Rattle.std.proofs.lemmas.Bool.{cond_both, eq-eqb, le-ltb, lt-ltb, ne_eqb}
 use Rattle.std.proofs.lemmas.List.{map-set}
 use Rattle.mg_model.specs.Ranges.{IsThreadRow}
-use Rattle.mg_model.specs.State.{Thread, ThreadRow}
+use Rattle.mg_model.specs.State.{ThreadRow}
 use Rattle.mg_model.specs.Threads.{free_number_from}
 use Rattle.mg_model.specs.Turn.{is_ready}
 use Rattle.mg_objects.specs.Held.{live_from}

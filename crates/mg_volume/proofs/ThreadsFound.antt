@@ -1,10 +1,10 @@
 -- A search among the threads that are held is one among those of the state.
-use Rattle.std.specs.Prelude.{◌≡◌, ◌≤◌, ◌<◌, ◌==◌, ◌&&◌, nat_lt, ℕ, Bool, false, List, find, length, map, MatchOption, Option, Some, None, option_map}
+use Rattle.std.specs.Prelude.{◌≡◌, ◌≤◌, ◌<◌, ◌&&◌, nat_lt, ℕ, false, find, length, map, MatchOption, Option, Some, None, option_map}
 use Rattle.std.specs.Option.{option_or}
 use Rattle.std.proofs.Common.{refl, sym, ap, ◌∙◌, arith}
 use Rattle.std.proofs.lemmas.List.{length-map}
 use Rattle.mg_disk.specs.Disk.{Image}
-use Rattle.mg_model.specs.State.{State, Thread, ThreadRow}
+use Rattle.mg_model.specs.State.{Thread, ThreadRow}
 use Rattle.mg_model.specs.Threads.{free_number}
 use Rattle.mg_model.specs.Turn.{is_ready, picked, ready_above}
 use Rattle.mg_volume.proofs.Found.{as_thread, find-mapped}

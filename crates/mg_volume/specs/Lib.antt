@@ -9,6 +9,7 @@ pub mod RowLists
 pub mod StagesAccounts
 pub mod StagesRows
 pub mod Numbered
+pub mod PagesOver
 pub mod Sound
 -- Lemmas that crates above cite, and what these rest on. None of them is part of a statement.
 pub mod Contents

@@ -1,13 +1,19 @@
 // Opening a volume whose rows were read: its journal, and then its frame table.
-ghost use Rattle.std.specs.Prelude.{List, ℕ, ◌≡◌, ◌≤◌, true, IfOk, IsTrue, length, vec_capacity};
+ghost use Rattle.std.specs.Prelude.{List, ℕ, ◌≡◌, ◌≤◌, true, IfOk, IfSome, IsSomeAnd, IsTrue, None, length, vec_capacity};
 ghost use Rattle.std.specs.Option.{ForSome};
-ghost use Rattle.mg_check.specs.RowsRead.{AreKept, IsReadAs};
+ghost use Rattle.mg_check.specs.RowsRead.{AreKept, ArePlaced, IsReadAs};
 ghost use Rattle.mg_disk.specs.Stops.{DiskCallsBy, Leaves, NothingPending, WritesNothing};
-ghost use Rattle.mg_model.specs.Layout.{total_blocks};
-ghost use Rattle.mg_model.specs.Volume.{volume};
+ghost use Rattle.mg_journal.specs.Contents.{SameContents};
+ghost use Rattle.mg_model.specs.Layout.{thread_rows, total_blocks};
+ghost use Rattle.mg_model.specs.Replay.{replay};
+ghost use Rattle.mg_model.specs.Tests.{all_distinct};
+ghost use Rattle.mg_model.specs.Volume.{bound_pages, volume};
 ghost use Rattle.mg_objects.specs.Held.{AreApart, objects_in};
+ghost use Rattle.mg_pages.specs.Meaning.{store_of};
 ghost use Rattle.mg_volume.specs.Meaning.{StandsOn, is_live, is_sound, now_of, staged_of};
+ghost use Rattle.mg_volume.specs.Numbered.{numbered};
 ghost use Rattle.mg_volume.specs.Opening.{Opens};
+ghost use Rattle.mg_volume.specs.PagesOver.{ArePagesOver};
 
 use crate::threads::Threads;
 use crate::volume::Volume;
@@ -16,22 +22,76 @@ use mg_check::VolumeRows;
 use mg_disk::Disk;
 use mg_journal::{Store, ViewFault};
 use mg_layout::Geometry;
-use mg_model::ObjRow;
+use mg_model::{ObjRow, ThrRow};
 use mg_pages::Pages;
 use mg_space::Space;
-use std::alloc::{AllocError, Global};
+use std::alloc::Global;
 
-// The objects of this table, of which no two share a page.
-fn objects_of(alloc: Global, table: Vec<Option<ObjRow>>) -> Result<Space, AllocError>
+// What a volume has in memory of its tables.
+#[derive(Drop)]
+struct Lists {
+    objects: Space,
+    accounts: Bank,
+    threads: Threads,
+}
+
+// These accounts, with the threads of these rows and the objects of a table, of which no two share a page. None where there is not enough memory.
+fn lists_of(
+    alloc: Global,
+    table: Vec<Option<ObjRow>>,
+    rows: Vec<(u64, ThrRow)>,
+    accounts: Bank,
+) -> Option<Lists>
     requires places { length table.items ≤ 4096 }
     requires room { 4096 ≤ vec_capacity table }
     requires apart { AreApart (objects_in table.items) }
-    ensures { IfOk result (λ objects. objects ≡ objects_in table.items) }
+    requires placed { ArePlaced thread_rows rows.items }
+    ensures objects { IfSome result (λ lists. lists.objects ≡ objects_in table.items) }
+    ensures accounts { IfSome result (λ lists. lists.accounts ≡ accounts) }
+    ensures threads { IfSome result (λ lists. lists.threads ≡ numbered rows.items) }
 {
+    let threads = match Threads::of(alloc, &rows) {
+        Ok(threads) => threads,
+        Err(_) => return None,
+    };
     match Space::of(alloc, table) {
-        Ok(Some(objects)) => Ok(objects),
+        Ok(Some(objects)) => Some(Lists {
+            objects,
+            accounts,
+            threads,
+        }),
         Ok(None) => unreachable!(),
-        Err(fault) => Err(fault),
+        Err(_) => None,
+    }
+}
+
+// Opens the journal of a volume of so many blocks, and then its pages, whose frame table has these entries.
+fn open_pages<D: Disk>(
+    alloc: Global,
+    entries: Vec<u64>,
+    total: u64,
+    disk: &mut D,
+) -> Result<Pages, ViewFault>
+    requires some { 16 ≤ length entries.items }
+    requires few { length entries.items ≤ 65536 }
+    requires total { total ≡ total_blocks (length entries.items) }
+    requires distinct { all_distinct (bound_pages entries.items) ≡ true }
+    requires room { total ≤ D.block_count disk.old }
+    ensures opened { IfOk result (λ p. ArePagesOver D.Disk (store_of p) entries.items total p disk.new) }
+    ensures contents { ForSome (D.seen disk.old) (λ image. IsSomeAnd (D.seen disk.new) (SameContents total image)) }
+    ensures came_from { ForSome (D.seen disk.new) (λ now. IsSomeAnd (D.seen disk.old) (λ image. SameContents total image now)) }
+    ensures any_moment { NothingPending D.Disk disk.old → ForSome (D.seen disk.old) (λ image. Leaves D.Disk disk.old disk.new (SameContents total image)) }
+    ensures damaged { result ≡ Err ViewFault.Damaged → ForSome (D.seen disk.old) (λ image. replay image total ≡ None) }
+    ensures untouched { result ≡ Err ViewFault.Damaged → WritesNothing D.Disk disk.old disk.new }
+    ensures calls { DiskCallsBy D.Disk disk.old disk.new (result ≡ Err ViewFault.Disk) }
+{
+    let store = match Store::open(alloc, disk, total) {
+        Ok(store) => store,
+        Err(fault) => return Err(fault),
+    };
+    match Pages::open(alloc, store, entries) {
+        Ok(pages) => Ok(pages),
+        Err(_) => Err(ViewFault::Memory),
     }
 }
 
@@ -55,30 +115,23 @@ pub(crate) fn open_rows<D: Disk>(
     ensures untouched { result ≡ Err ViewFault.Damaged → WritesNothing D.Disk disk.old disk.new }
     ensures calls { DiskCallsBy D.Disk disk.old disk.new (result ≡ Err ViewFault.Disk) }
 {
-    let objects = match objects_of(alloc, rows.objects) {
-        Ok(objects) => objects,
-        Err(_) => return Err(ViewFault::Memory),
-    };
-    let threads = match Threads::of(alloc, &rows.threads) {
-        Ok(threads) => threads,
-        Err(_) => return Err(ViewFault::Memory),
-    };
-    let store = match Store::open(alloc, disk, Geometry::of(rows.params.frames()).total) {
-        Ok(store) => store,
-        Err(fault) => return Err(fault),
-    };
+    let total = Geometry::of(rows.params.frames()).total;
     // It tells that the credits are in their range.
     let _credits = rows.params.credits();
     let accounts = Bank::of(rows.accounts);
-    match Pages::open(alloc, store, rows.table) {
+    let lists = match lists_of(alloc, rows.objects, rows.threads, accounts) {
+        Some(lists) => lists,
+        None => return Err(ViewFault::Memory),
+    };
+    match open_pages(alloc, rows.table, total, disk) {
         Ok(pages) => Ok(Volume {
             params: rows.params,
             globals: rows.globals,
-            objects,
-            accounts,
-            threads,
+            objects: lists.objects,
+            accounts: lists.accounts,
+            threads: lists.threads,
             pages,
         }),
-        Err(_) => Err(ViewFault::Memory),
+        Err(fault) => Err(fault),
     }
 }

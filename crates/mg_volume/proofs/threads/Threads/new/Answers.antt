@@ -1,4 +1,4 @@
-use Rattle.mg_volume.proofs.ByNumber.{none_held, none_is}
+use Rattle.mg_volume.proofs.ByNumber.{none_is}
 use Rattle.mg_volume.proofs.ThreadSearch.{none_listed}
 use Rattle.mg_volume.proofs.threads.Threads.new.Goals as goal
 

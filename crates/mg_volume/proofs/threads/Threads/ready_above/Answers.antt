@@ -1,4 +1,4 @@
-use Rattle.std.specs.Prelude.{◌+◌, ◌-◌, ◌≡◌, ◌&&◌, nat_lt, ℕ, Bool, List, drop, length, take, Option, Some, None, find, option_map}
+use Rattle.std.specs.Prelude.{◌+◌, ◌-◌, ◌≡◌, ◌&&◌, nat_lt, ℕ, Bool, List, drop, length, take, Some, None, find, option_map}
 use Rattle.std.specs.List.{position}
 use Rattle.std.proofs.lemmas.List.{take_rest}
 use Rattle.std.proofs.Common.{subst, sym, ap, ◌∙◌}
