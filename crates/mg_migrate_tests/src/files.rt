@@ -96,7 +96,16 @@ fn a_file_that_is_not_there_is_not_made(rt: HostRuntime) {
     let _ = removed(&rt, "missing");
     let _ = removed(&rt, "unmade");
     let line = "unmade migrate missing";
-    assert!(rt; tells(&rt, rt.alloc(), line, "unmade", "missing", (2, "open not\n")));
+    assert!(rt;
+        tells(
+            &rt,
+            rt.alloc(),
+            line,
+            "unmade",
+            "missing",
+            (2, "open not\n")
+        )
+    );
     assert!(rt; is_missing(&rt, "missing") && is_missing(&rt, "unmade"));
 }
 
