@@ -133,11 +133,15 @@ fn is_as_wanted(alloc: Global, row: &Row, outcome: Outcome) -> bool {
     let on_right = writes_to_make(alloc, &row.right).saturating_add(row.writes);
     let is_told = outcome.is_told;
     let disks = outcome.disks;
-    is_told && writes(disks.left) == on_left && writes(disks.right) == on_right
+    let found = writes(disks.left, disks.right);
+    is_told && found == (on_left, on_right)
 }
 
-fn writes(disk: Fuse<MemDisk>) -> u64 {
-    disk.into_inner().counts().writes
+fn writes(left: Fuse<MemDisk>, right: Fuse<MemDisk>) -> (u64, u64) {
+    (
+        left.into_inner().counts().writes,
+        right.into_inner().counts().writes,
+    )
 }
 
 /// How many rows, from the first on, are as they have to be.
