@@ -255,7 +255,7 @@ def stream_cases(folder):
     tell(ended.status in (0, 5) and ended.put == b"", "standard input is closed", str(ended))
 
     there = os.open(folder, os.O_RDONLY)
-    done = subprocess.run([PROGRAM, volume, "run"], stdin=there, stdout=subprocess.PIPE)
+    done = subprocess.run([PROGRAM, volume, "run"], stdin=there, stdout=subprocess.PIPE, stderr=subprocess.PIPE)
     os.close(there)
     tell((done.returncode, done.stdout) == (5, b""), "standard input is a folder", f"status {done.returncode}")
 
@@ -334,7 +334,7 @@ def migrate_cases(folder):
         if put == FRESH and held(path, 1, 300) != 300:
             put = b"words are lost"
         left[put] = left.get(put, 0) + 1
-        os.remove(path)
+        Path(path).unlink(missing_ok=True)
     if set(left) == {b"open not\n"}:
         not_tried("40 kills of a migration", "none had copied the volume when it was killed")
         return
