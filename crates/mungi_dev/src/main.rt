@@ -134,7 +134,28 @@ where
     let right = FileDisk::watched(rt, right_path, right_notes);
     let blank = Blank::new(1);
     let ended = mirror::<_, _, _, _, Brand>(rt.alloc(), words, left, right, source, sink, blank);
-    ended.status
+    side_told(rt, words, ended)
+}
+
+/// Tells what only the file on SIDE shows, and gives the status.
+fn side_told<R: Files + Eprint>(
+    rt: &R,
+    words: &[String],
+    ended: Mirrored<FileDisk<'_, R, Notes<'_, R>>, FileDisk<'_, R, Notes<'_, R>>>,
+) -> Status
+where
+    R::File: FileExt + OneHolder,
+{
+    let status = ended.status;
+    let mut left = ended.left;
+    let mut right = ended.right;
+    let is_refused = status == Status::NoVolume;
+    if word(words, 3) == "right" {
+        tell_volume(rt, NAME, word(words, 2), &mut right, is_refused);
+    } else {
+        tell_volume(rt, NAME, word(words, 0), &mut left, is_refused);
+    }
+    status
 }
 
 /// A device for each word that asks for one, in their order, with an empty tape; none where the words are no such.
