@@ -19,8 +19,8 @@ use Rattle.mg_migrate_session.specs.Headline.{GoesWith, HasPut, IfState1, Migrat
 use Rattle.mg_model.specs.State.{State}
 use Rattle.mg_model.specs.Volume.{NotVolume, volume}
 use Rattle.mg_session.specs.Headline.{small_line, summary_line}
-use Rattle.mg_session.specs.declared.status.Status.{Status}
-use Rattle.mg_session.specs.declared.status.Status.TheVariants as status
+use Rattle.mg_serve.specs.declared.status.Status.{Status}
+use Rattle.mg_serve.specs.declared.status.Status.TheVariants as status
 
 -- a promise on a state, from another one, and from one on every state
 if_state1_then : (v : Volume1Read) (P Q : State → Type 0) → ((s : State) → P s → Q s) → IfState1 v P → IfState1 v Q

@@ -17,8 +17,8 @@ use Rattle.mg_migrate_session.specs.Headline.{HasPut, MigrateKeeps}
 use Rattle.mg_migrate_session.specs.Told.{EndsWith, IsQuiet, fault_line}
 use Rattle.mg_migrate_session.proofs.Endings.{IsTold, disk_keeps, memory_keeps, told_keeps, too_small}
 use Rattle.mg_model.specs.Volume.{NotVolume, volume}
-use Rattle.mg_session.specs.declared.status.Status.{Status}
-use Rattle.mg_session.specs.declared.status.Status.TheVariants as status
+use Rattle.mg_serve.specs.declared.status.Status.{Status}
+use Rattle.mg_serve.specs.declared.status.Status.TheVariants as status
 
 -- what is told of the image, as it is this kind of none
 of_kind : {D : Type 0} (d : disks.Ghosts D) (line : List ℕ) (new new' : D) (v kind : Volume1Read) → IsTold d status.NoVolume line new new' kind → v ≡ kind → IsTold d status.NoVolume line new new' v

@@ -15,9 +15,10 @@ use Rattle.mg_migrate.specs.Migrated.{IsLiftOf, MayMigrate, needed}
 use Rattle.mg_migrate.specs.Version1.{Damaged1, Is1, NewVolume1, NotVolume1, OldVolume1, Volume1Read, lift, volume1}
 use Rattle.mg_model.specs.State.{State}
 use Rattle.mg_model.specs.Volume.{NotVolume, volume}
-use Rattle.mg_session.specs.Headline.{IsDoneOrMemory, small_line, summary_line, usage_line}
-use Rattle.mg_session.specs.declared.status.Status.{Status}
-use Rattle.mg_session.specs.declared.status.Status.TheVariants as status
+use Rattle.mg_serve.specs.Sessions.{IsDoneOrMemory}
+use Rattle.mg_session.specs.Headline.{small_line, summary_line, usage_line}
+use Rattle.mg_serve.specs.declared.status.Status.{Status}
+use Rattle.mg_serve.specs.declared.status.Status.TheVariants as status
 
 -- The line, and the status with it
 

@@ -10,9 +10,10 @@ use Rattle.mg_mirror_session.proofs.Through.{if_some_then}
 use Rattle.mg_mirror_session.specs.Headline.{EndsWith, last_line}
 use Rattle.mg_model.specs.State.{State}
 use Rattle.mg_model.specs.Print.{text}
-use Rattle.mg_session.specs.Headline.{Answers, EndsRun, IsDoneOrMemory, replies}
-use Rattle.mg_session.specs.declared.status.Status.{Status}
-use Rattle.mg_session.specs.declared.status.Status.TheVariants as status
+use Rattle.mg_serve.specs.Sessions.{Answers, IsDoneOrMemory, replies}
+use Rattle.mg_session.specs.Headline.{EndsRun}
+use Rattle.mg_serve.specs.declared.status.Status.{Status}
+use Rattle.mg_serve.specs.declared.status.Status.TheVariants as status
 
 is_done_or_not : (ran : Status) → (ran ≡ status.Done) ⊎ (ran ≢ status.Done)
 is_done_or_not status.Done = inl refl

@@ -19,9 +19,10 @@ use Rattle.mg_mirror_session.proofs.Through.{if_some_then, on_volume_then}
 use Rattle.mg_mirror_session.specs.Headline.{EndsWith, IsOpenedFrom, MirrorKeeps, RanOnMirror, seen_behind}
 use Rattle.mg_mirror_session.specs.Judged.{first_fault}
 use Rattle.mg_mirror_session.specs.Mirrored.{Two, mirror}
-use Rattle.mg_session.specs.Headline.{IsWithin, RunKeeps, input_limit}
-use Rattle.mg_session.specs.declared.status.Status.{Status}
-use Rattle.mg_session.specs.declared.status.Status.TheVariants as status
+use Rattle.mg_serve.specs.Sessions.{IsWithin, input_limit}
+use Rattle.mg_session.specs.Headline.{RunKeeps}
+use Rattle.mg_serve.specs.declared.status.Status.{Status}
+use Rattle.mg_serve.specs.declared.status.Status.TheVariants as status
 
 false_true : false ≡ true → ⊥
 false_true is = cc
@@ -67,7 +68,7 @@ module _ {D E S K : Type 0} (d : disks.Ghosts D) (e : disks.Ghosts E) (input : s
       (rose_from (d.faults left) (d.faults closed.left) (d.is_spent closed.left) b.left, rose_from (e.faults right) (e.faults closed.right) (e.is_spent closed.right) b.right)
 
   both_failed : result ≡ status.Disk → CountRose d left closed.left × CountRose e right closed.right
-  both_failed is = mirror_rose (keeps.disk_failed (disk_ran to ran closed.alone result replied sink' ends is))
+  both_failed is = mirror_rose (keeps.lines.disk_failed (disk_ran to ran closed.alone result replied sink' ends is))
 
   ran_on_mirror : ForSome (seen_behind d e from left right) (λ image. first_fault image ≡ None) → RanOnMirror d e input to from result closed.alone left closed.left right closed.right source source' sink sink' steps steps'
   ran_on_mirror no_fault = record {
@@ -81,8 +82,8 @@ module _ {D E S K : Type 0} (d : disks.Ghosts D) (e : disks.Ghosts E) (input : s
     replied = replied;
     keeps = keeps;
     ends = ends;
-    prefix = on_volume_then ((mirror d e).seen opened) _ _ (λ s a. put_prefix to ran closed.alone result replied sink' ends s (input.left source) (input.left source') (to.taken sink) a) keeps.answers;
-    done = λ is. on_volume_then ((mirror d e).seen opened) _ _ (λ s a. put_all to ran closed.alone result replied sink' ends s (input.left source) (input.left source') (to.taken sink) a is) keeps.answers;
+    prefix = on_volume_then ((mirror d e).seen opened) _ _ (λ s a. put_prefix to ran closed.alone result replied sink' ends s (input.left source) (input.left source') (to.taken sink) a) keeps.lines.answers;
+    done = λ is. on_volume_then ((mirror d e).seen opened) _ _ (λ s a. put_all to ran closed.alone result replied sink' ends s (input.left source) (input.left source') (to.taken sink) a is) keeps.lines.answers;
     left_held = λ used told c cut. left_stays closed.blocks closed.alone (d.tells_stops closed.left) (e.tells_stops closed.right) (d.moment closed.left) (e.moment closed.right) (d.left_since closed.left) (e.left_since closed.right) c used
         (and_true (d.tells_stops closed.left) (e.tells_stops closed.right) (left_told (d.moment closed.left) cut.whole cut.is_one) told) (subst (λ n. CutOf n (d.left_since closed.left (d.moment closed.left)) c) (sym blocks) cut);
     right_held = λ used told c cut. right_stays closed.blocks closed.alone (d.tells_stops closed.left) (e.tells_stops closed.right) (d.moment closed.left) (e.moment closed.right) (d.left_since closed.left) (e.left_since closed.right) c used
@@ -90,7 +91,7 @@ module _ {D E S K : Type 0} (d : disks.Ghosts D) (e : disks.Ghosts E) (input : s
     both_failed = both_failed;
     complete = on_volume_then ((mirror d e).seen opened) _ _ (λ s promise. λ not_both source_went sink_went.
         within_then input_limit (input.left source) _ _ (λ either. done_or_memory to ran closed.alone result replied sink' ends sink before sink_went either)
-        (promise (λ rose. not_both (mirror_rose rose)) source_went (λ rose. sink_went (rose_then _ _ _ _ _ rose after)))) keeps.complete;
+        (promise (λ rose. not_both (mirror_rose rose)) source_went (λ rose. sink_went (rose_then _ _ _ _ _ rose after)))) keeps.lines.complete;
   }
 
   pub mirror_keeps : ForSome (d.seen left) (λ image. length image ≡ d.block_count left) → ForSome (e.seen right) (λ image. length image ≡ e.block_count right)
@@ -101,11 +102,11 @@ module _ {D E S K : Type 0} (d : disks.Ghosts D) (e : disks.Ghosts E) (input : s
     how = inr (inr (ran_on_mirror no_fault));
     side_judged = of_side_too d e from left right (WritesNothing d left closed.left × WritesNothing e right closed.right) left_count right_count (λ image told some. absurd (some (no_fault image told)));
     judged = λ image told some. absurd (some (no_fault image told));
-    which = ends_run to ran closed.alone result replied sink' ends keeps.which;
+    which = ends_run to ran closed.alone result replied sink' ends keeps.lines.which;
     disk_failed = λ is. of_side from _ _ (λ _. (both_failed is).0) (λ _. (both_failed is).1);
     right_failed = λ is. rose_from (e.faults right) (e.faults closed.right) (e.is_spent closed.right) (dropped_right is);
     left_failed = λ is. rose_from (d.faults left) (d.faults closed.left) (d.is_spent closed.left) (dropped_left is);
-    sink_failed = sink_failed to ran closed.alone result replied sink' ends sink before keeps.ends.sink_failed;
+    sink_failed = sink_failed to ran closed.alone result replied sink' ends sink before keeps.lines.ends.sink_failed;
   }
 
 -- the same of what the calls gave back

@@ -23,8 +23,8 @@ use Rattle.mg_mirror_session.specs.Judged.{IsJudged, IsKind, first_fault}
 use Rattle.mg_model.specs.Volume.{Damaged, NotVolume, OldVolume, VolumeRead}
 use Rattle.mg_session.specs.Headline.{check_line}
 use Rattle.mg_session.specs.Unopened.{EndsWith, fault_line}
-use Rattle.mg_session.specs.declared.status.Status.{Status}
-use Rattle.mg_session.specs.declared.status.Status.TheVariants as status
+use Rattle.mg_serve.specs.declared.status.Status.{Status}
+use Rattle.mg_serve.specs.declared.status.Status.TheVariants as status
 
 -- what was read and judged of the disk on a side, the other one left alone
 pub record IsSideJudged {D E F : Type 0} (d : disks.Ghosts D) (e : disks.Ghosts E) (from : Side) (left left' : D) (right right' : E) (first : Image) (result : Result (Option OpenFault) F) : Type 0 where

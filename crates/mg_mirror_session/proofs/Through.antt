@@ -8,8 +8,9 @@ use Rattle.mg_io.specs.declared.traits.Source as sources
 use Rattle.mg_model.specs.State.{State}
 use Rattle.mg_model.specs.Volume.{Damaged, Is, NotVolume, OldVolume, VolumeRead, volume}
 use Rattle.mg_model.specs.Step.{after}
-use Rattle.mg_session.specs.Headline.{Holds, HoldsExactly, IfState, OnVolume, RunKeeps, TellsOfNone}
-use Rattle.mg_session.specs.declared.status.Status.{Status}
+use Rattle.mg_serve.specs.Sessions.{Holds, HoldsExactly}
+use Rattle.mg_session.specs.Headline.{IfState, OnVolume, RunKeeps, TellsOfNone}
+use Rattle.mg_serve.specs.declared.status.Status.{Status}
 
 pub if_some_then : {T : Type 0} (o : Option T) (P Q : T → Type 0) → ((x : T) → P x → Q x) → IfSome o P → IfSome o Q
 if_some_then None P Q then h = h
@@ -65,16 +66,18 @@ module _ {M N : Type 0} (facts : disks.Ghosts N) (view : M → N) where
   pub through : {S K : Type 0} (from : sources.Ghosts S) (to : sinks.Ghosts K) (batch : ℕ) (result : Status) (m m' : M) (source source' : S) (sink sink' : K) (steps steps' : ℕ)
       → RunKeeps seen_through from to batch result m m' source source' sink sink' steps steps' → RunKeeps facts from to batch result (view m) (view m') source source' sink sink' steps steps'
   through from to batch result m m' source source' sink sink' steps steps' h = record {
-    answers = h.answers;
-    kept = h.kept;
-    holds = λ settled. on_volume_then (facts.seen (view m)) _ _ (λ s k. holds s m m' _ _ _ _ k) (h.holds settled);
-    holds_exactly = on_volume_then (facts.seen (view m)) _ _ (λ s k. exactly s result m' _ _ _ _ k) h.holds_exactly;
+    lines = record {
+      answers = h.lines.answers;
+      kept = h.lines.kept;
+      holds = λ settled. on_volume_then (facts.seen (view m)) _ _ (λ s k. holds s m m' _ _ _ _ k) (h.lines.holds settled);
+      holds_exactly = on_volume_then (facts.seen (view m)) _ _ (λ s k. exactly s result m' _ _ _ _ k) h.lines.holds_exactly;
+      ends = h.lines.ends;
+      which = h.lines.which;
+      disk_failed = h.lines.disk_failed;
+      without = none to result m m' sink sink' h.lines.without;
+      none_source = h.lines.none_source;
+      not_opened_source = h.lines.not_opened_source;
+      complete = h.lines.complete;
+    };
     cost = h.cost;
-    ends = h.ends;
-    which = h.which;
-    disk_failed = h.disk_failed;
-    without = none to result m m' sink sink' h.without;
-    none_source = h.none_source;
-    not_opened_source = h.not_opened_source;
-    complete = h.complete;
   }

@@ -17,9 +17,10 @@ use Rattle.mg_mirror_session.specs.Judged.{first_fault}
 use Rattle.mg_mirror_session.specs.Mirrored.{Two, mirror}
 use Rattle.mg_model.specs.Print.{text}
 use Rattle.mg_model.specs.Volume.{VolumeRead, volume}
-use Rattle.mg_session.specs.Headline.{EndsRun, IsDoneOrMemory, IsWithin, OnVolume, RunKeeps, UsageKeeps, check_line, input_limit, replies}
-use Rattle.mg_session.specs.declared.status.Status.{Status}
-use Rattle.mg_session.specs.declared.status.Status.TheVariants as status
+use Rattle.mg_serve.specs.Sessions.{IsDoneOrMemory, IsWithin, input_limit, replies}
+use Rattle.mg_session.specs.Headline.{EndsRun, OnVolume, RunKeeps, UsageKeeps, check_line}
+use Rattle.mg_serve.specs.declared.status.Status.{Status}
+use Rattle.mg_serve.specs.declared.status.Status.TheVariants as status
 
 -- The side that the mirror is opened from
 

@@ -1,10 +1,8 @@
 // All that is done over a mirror.
 ghost use Rattle.std.specs.Prelude.{◌≡◌, IfSome, None};
-ghost use Rattle.mg_faults.specs.Faults.{CountGoesOn};
 ghost use Rattle.mg_mirror_session.specs.Commands.{mirror_of};
 ghost use Rattle.mg_mirror_session.specs.Headline.{MirrorKeeps, NoMirrorKeeps};
 ghost use Rattle.mg_session.specs.Commands.{words_of};
-ghost use Rattle.mg_session.specs.Headline.{RunKeeps};
 
 use crate::judging::read_first;
 use crate::telling::put_side;
@@ -91,9 +89,9 @@ fn run_on_mirror<D: Disk, E: Disk, S: Source, K: Sink, L: Ledger, O: Opened>(
         left result.left right result.right source.old source.new sink.old sink.new steps.old steps.new }
 {
     let (mut left, mut right) = (left, right);
-    let mut run = [[0; BLOCK_SIZE]; COPY_BLOCKS];
+    let mut buffer = [[0; BLOCK_SIZE]; COPY_BLOCKS];
     let count = left.blocks().min(right.blocks()).min(COPY_BLOCKS as u64);
-    let first = &mut run[..count as usize];
+    let first = &mut buffer[..count as usize];
     match read_first(&mut left, &mut right, from, first) {
         Ok(None) => {}
         Ok(Some(fault)) => {
@@ -125,7 +123,7 @@ fn run_on_mirror<D: Disk, E: Disk, S: Source, K: Sink, L: Ledger, O: Opened>(
             };
         }
     };
-    let ran = run_on(alloc, &mut mirror, source, sink, steps);
+    let ran = run(alloc, 1, &mut mirror, source, sink, steps);
     let alone = mirror.alone();
     let status = put_side(ran, alone, sink);
     let (left, right) = mirror.sides();
@@ -135,19 +133,4 @@ fn run_on_mirror<D: Disk, E: Disk, S: Source, K: Sink, L: Ledger, O: Opened>(
         left,
         right,
     }
-}
-
-/// Runs the source's lines on the volume of a disk, a reply a batch.
-fn run_on<D: Disk, S: Source, K: Sink, L: Ledger>(
-    alloc: Global,
-    disk: &mut D,
-    source: &mut S,
-    sink: &mut K,
-    steps: &mut Steps<L>,
-) -> Status
-    ensures keeps { RunKeeps D.Disk S.Source K.Sink 1 result disk.old disk.new source.old source.new sink.old sink.new steps.old steps.new }
-    ensures blocks { D.block_count disk.new ≡ D.block_count disk.old }
-    ensures sink_count { CountGoesOn (K.faults sink.old) (K.faults sink.new) (K.is_spent sink.old) (K.is_spent sink.new) }
-{
-    run(alloc, 1, disk, source, sink, steps)
 }

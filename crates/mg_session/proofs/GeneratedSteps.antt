@@ -22,12 +22,12 @@ use Rattle.mg_model.specs.Kept.{KeepsLine, KeepsWarm}
 use Rattle.mg_model.specs.State.{State}
 use Rattle.mg_model.specs.Step.{after, step}
 use Rattle.mg_model.specs.Warmth.{cost, events}
-use Rattle.mg_session.specs.declared.status.Status.{Status}
-use Rattle.mg_session.specs.declared.status.Status.TheVariants as status
+use Rattle.mg_serve.specs.declared.status.Status.{Status}
+use Rattle.mg_serve.specs.declared.status.Status.TheVariants as status
 use Rattle.mg_session.specs.Generating.{At, Counted, Counts}
 use Rattle.mg_session.specs.Headline.{GenKeeps, replies_from, run_lines, run_state}
-use Rattle.mg_session.proofs.Answered.{after-append}
-use Rattle.mg_session.proofs.Spending.{GoesOn, spent-line, warm-more, warm-same}
+use Rattle.mg_session.proofs.Texts.{after-append}
+use Rattle.mg_kernel.specs.SteppingLemmas.{GoesOn, spent-line, warm-more, warm-same}
 
 -- the replies to a line more
 replies-more : (s : State) (ls : List Line) (line : Line) → replies_from s (ls ++ line ∷ []) ≡ replies_from s ls ++ (step (after s ls) line).1 ∷ []

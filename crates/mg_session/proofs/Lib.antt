@@ -1,14 +1,5 @@
-mod Answered
-mod Cutting
-mod Endings
 mod GeneratedSteps
-mod IncomingSteps
-mod Openings
-mod Outcomes
-mod PartialLemmas
-mod ReadingSteps
 mod Results
 mod Seed
-mod SessionSteps
 mod Spelled
-mod Spending
+mod Texts

@@ -1,10 +1,11 @@
--- Facts of results.
-use Rattle.std.specs.Prelude.{IfErr, Result, Ok, Err, OnOk}
+-- A result and its status.
+use Rattle.std.specs.Prelude.{◌≡◌, Result, Ok, Err, OnOk}
+use Rattle.std.proofs.Common.{refl}
+use Rattle.mg_serve.specs.declared.ended.Ended.{Ended}
+use Rattle.mg_serve.specs.declared.status.Status.TheVariants as status
+use Rattle.mg_serve.specs.Sessions.{status_of}
 
-pub on_ok_both : {T E P Q R : Type 0} (r : Result T E) → (P → Q → R) → OnOk r P → OnOk r Q → OnOk r R
-on_ok_both (Ok x) f p q = f p q
-on_ok_both (Err e) f p q = tt
-
-pub if_err_both : {T E : Type 0} (r : Result T E) (P Q R : E → Type 0) → ((e : E) → P e → Q e → R e) → IfErr r P → IfErr r Q → IfErr r R
-if_err_both (Ok x) P Q R f p q = tt
-if_err_both (Err e) P Q R f p q = f e p q
+-- what holds at the status of a good end
+pub on_ok_at : {T P : Type 0} (r : Result T Ended) → (status_of r ≡ status.Done → P) → OnOk r P
+on_ok_at (Ok x) p = p refl
+on_ok_at (Err e) p = tt

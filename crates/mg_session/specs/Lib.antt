@@ -3,9 +3,5 @@ pub mod Commands
 pub mod Headline
 -- What the parts of a session do.
 pub mod Generating
-pub mod Machines
-pub mod Incoming
-pub mod Waiting
-pub mod Readings
-pub mod Sessions
 pub mod Unopened
+pub mod OpeningLemmas

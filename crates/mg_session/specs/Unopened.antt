@@ -5,8 +5,8 @@ use Rattle.mg_check.specs.declared.examining.OpenFault.{OpenFault}
 use Rattle.mg_check.specs.declared.examining.OpenFault.TheVariants as fault
 use Rattle.mg_disk.specs.Disk.{Image}
 use Rattle.mg_model.specs.Volume.{Damaged, NotVolume, OldVolume, volume}
-use Rattle.mg_session.specs.declared.status.Status.{Status}
-use Rattle.mg_session.specs.declared.status.Status.TheVariants as status
+use Rattle.mg_serve.specs.declared.status.Status.{Status}
+use Rattle.mg_serve.specs.declared.status.Status.TheVariants as status
 use Rattle.mg_session.specs.Headline.{check_line}
 
 -- the line of a fault of the opening, if it has one
@@ -40,7 +40,3 @@ EndsWith fault.Old result = (result ≡ status.NoVolume) ⊎ (result ≡ status.
 EndsWith fault.Damaged result = (result ≡ status.NoVolume) ⊎ (result ≡ status.Sink)
 EndsWith fault.Disk result = result ≡ status.Disk
 EndsWith fault.Memory result = result ≡ status.Memory
-
--- how a session on an opened volume may end
-abbrev pub EndsSession : Status → Type 0
-EndsSession result = (result ≡ status.Done) ⊎ ((result ≡ status.Memory) ⊎ ((result ≡ status.Disk) ⊎ ((result ≡ status.Source) ⊎ ((result ≡ status.Sink) ⊎ (result ≡ status.TooLong)))))

@@ -6,14 +6,15 @@ ghost use Rattle.mg_disk.specs.Stops.{CountRose, WritesNothing};
 ghost use Rattle.mg_faults.specs.Faults.{Rose};
 ghost use Rattle.mg_io.specs.Known.{AppendsPrefix};
 ghost use Rattle.mg_model.specs.Volume.{volume};
-ghost use Rattle.mg_session.specs.Headline.{EndsCheck, IsDoneOrMemory, MayTell, OnVolume, TellsOfNone, TellsVolume, check_line, summary_line};
+ghost use Rattle.mg_serve.specs.Sessions.{IsDoneOrMemory};
+ghost use Rattle.mg_session.specs.Headline.{EndsCheck, MayTell, OnVolume, TellsOfNone, TellsVolume, check_line, summary_line};
 
 use crate::fault_line::put_fault;
-use crate::status::Status;
 use arrayvec::ArrayVec;
 use mg_check::{Summary, examine};
 use mg_disk::Disk;
 use mg_io::{Sink, put_all};
+use mg_serve::Status;
 use mg_text::print_numbers;
 use std::alloc::Global;
 

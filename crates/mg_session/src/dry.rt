@@ -1,13 +1,12 @@
 // The command `dry`: a session on a fresh volume that is kept nowhere.
 ghost use Rattle.mg_session.specs.Headline.{DryKeeps};
 
-use crate::buffers::BATCH_LIMIT;
 use crate::running::run;
-use crate::status::Status;
 use mg_disk::ScratchDisk;
 use mg_io::{Sink, Source};
 use mg_layout::{Geometry, format};
 use mg_model::{Params, Steps};
+use mg_serve::{BATCH_LIMIT, Status};
 use std::alloc::Global;
 use std::sync::ledger::Ledger;
 

@@ -5,9 +5,9 @@ ghost use Rattle.mg_faults.specs.Faults.{CountGoesOn, Rose};
 ghost use Rattle.mg_io.specs.Known.{AppendsPrefix};
 ghost use Rattle.mg_session.specs.Unopened.{EndsWith, IsQuiet, fault_line};
 
-use crate::status::Status;
 use mg_check::OpenFault;
 use mg_io::{Sink, put_all};
+use mg_serve::Status;
 
 /// Puts the line of a fault of the opening; of a fault of the disk and of a want of memory nothing is put.
 pub fn put_fault<K: Sink>(fault: OpenFault, sink: &mut K) -> Status

@@ -5,13 +5,13 @@ ghost use Rattle.mg_faults.specs.Faults.{Rose};
 ghost use Rattle.mg_io.specs.Known.{AppendsPrefix};
 ghost use Rattle.mg_session.specs.Headline.{FormatKeeps, made_line, small_line};
 
-use crate::status::Status;
 use arrayvec::ArrayVec;
 use mg_disk::Disk;
 use mg_faults::Failed;
 use mg_io::{Sink, put_all};
 use mg_layout::{FormatFault, format};
 use mg_model::{Params, draw};
+use mg_serve::Status;
 use mg_text::{print_small, print_words};
 
 /// The base of the root object.

@@ -12,8 +12,6 @@ ghost use Rattle.mg_model.specs.Warmth.{cost};
 ghost use Rattle.mg_session.specs.Generating.{Counts, IsFresh};
 ghost use Rattle.mg_session.specs.Headline.{GenKeeps, replies_from, run_lines};
 
-use crate::batches::STAGED_LIMIT;
-use crate::status::Status;
 use arrayvec::ArrayVec;
 use mg_disk::{Disk, ScratchDisk};
 use mg_faults::Failed;
@@ -23,6 +21,7 @@ use mg_kernel::{Kernel, OpenFault};
 use mg_laws::{costs_add_up, warm_keys_are_kept};
 use mg_layout::{Geometry, format};
 use mg_model::{Line, Params, Steps};
+use mg_serve::{STAGED_LIMIT, Status};
 use mg_text::read_line;
 use std::alloc::Global;
 use std::sync::ledger::Ledger;

@@ -1,4 +1,4 @@
-// A whole session: the source is read to its end, and its lines are stepped and answered in batches.
+// A whole session of a kernel.
 ghost use Rattle.std.specs.Prelude.{◌≡◌, ◌≤◌, Err, IfSome, IsOk, IsTrue, OnOk};
 ghost use Rattle.std.specs.Option.{ForSome};
 ghost use Rattle.mg_disk.specs.Stops.{CountRose, DiskCallsBy};
@@ -7,16 +7,15 @@ ghost use Rattle.mg_kernel.specs.Meaning.{StandsOn, is_live, now_of, staged_of, 
 ghost use Rattle.mg_model.specs.Counts.{CountsAlike};
 ghost use Rattle.mg_model.specs.Print.{text};
 ghost use Rattle.mg_model.specs.Step.{after};
-ghost use Rattle.mg_session.specs.Headline.{Answers, Ends, Holds, HoldsExactly, IsWithin, IsWithinCost, KeepsExactly, SpellsAfter, UnlessDisk, status_of};
+ghost use Rattle.mg_serve.specs.Sessions.{Answers, Ends, Holds, HoldsExactly, IsWithin, KeepsExactly, SpellsAfter, UnlessDisk, status_of};
+ghost use Rattle.mg_session.specs.Headline.{IsWithinCost};
 
-use crate::batches::Ended;
-use crate::buffers::Buffers;
-use crate::reading::serve_lines;
 use mg_disk::Disk;
 use mg_io::{Sink, Source};
 use mg_kernel::Kernel;
 use mg_laws::costs_add_up;
 use mg_model::Steps;
+use mg_serve::{Buffers, Ended};
 use std::sync::ledger::Ledger;
 
 /// Reads lines to the end of the source, steps them and puts their replies in batches of at most 64, up to a limit on the
@@ -83,5 +82,5 @@ pub fn serve<D: Disk, S: Source, K: Sink, L: Ledger>(
     ensures sink_count { CountGoesOn (K.faults sink.old) (K.faults sink.new) (K.is_spent sink.old) (K.is_spent sink.new) }
 {
     costs_add_up();
-    serve_lines(kernel, disk, source, sink, owed, batch, limit, steps)
+    mg_serve::serve(kernel, disk, source, sink, owed, batch, limit, steps)
 }

@@ -11,11 +11,11 @@ use crate::dry::dry;
 use crate::formatting::make_volume;
 use crate::generating::count_run;
 use crate::running::run;
-use crate::status::Status;
 use crate::words::{Command, read_words};
 use mg_disk::Disk;
 use mg_io::{Sink, Source, put_all};
 use mg_model::Steps;
+use mg_serve::Status;
 use std::alloc::Global;
 use std::sync::ledger::Ledger;
 

@@ -1,11 +1,6 @@
 mod Answering
 mod Asked
 mod Lines
-mod Newlines
-mod SessionSteps
-mod Outcomes
-mod Endings
-mod Openings
-mod Ran
-mod Told
+mod DeviceSteps
 mod Staying
+mod Told

@@ -11,13 +11,17 @@ use Rattle.mg_io.specs.declared.traits.Source as sources
 use Rattle.mg_model.specs.Lines.{lines}
 use Rattle.mg_model.specs.State.{State}
 use Rattle.mg_model.specs.Volume.{Damaged, Is, NotVolume, OldVolume, VolumeRead, volume}
-use Rattle.mg_session.specs.Headline.{Answers, EndsRun, IfState, IsDoneOrMemory, OnVolume, input_limit, replies}
-use Rattle.mg_session.specs.declared.status.Status.{Status}
-use Rattle.mg_session.specs.declared.status.Status.TheVariants as status
+use Rattle.mg_serve.specs.Sessions.{Answers, IsDoneOrMemory, IsWithin, input_limit, replies}
+use Rattle.mg_session.specs.Headline.{EndsRun, IfState, OnVolume}
+use Rattle.mg_serve.specs.declared.status.Status.{Status}
+use Rattle.mg_serve.specs.declared.status.Status.TheVariants as status
 use Rattle.mg_window.specs.Attached.{Attached}
-use Rattle.mg_window_session.specs.Headline.{DevKeeps, EndsWith, LeavesDevices, LinesKeep, device_lines, equipped, whole_text}
+use Rattle.mg_window_session.specs.Headline.{DevKeeps, DevicesKeep, EndsWith, LeavesDevices, device_lines, equipped, whole_text}
 use Rattle.mg_window_session.specs.Machine.{Equipped, device_after, device_text}
-use Rattle.mg_window_session.proofs.Ran.{within_then}
+
+within_then : (limit : ℕ) (left : Option (List ℕ)) (P Q : Type 0) → (P → Q) → IsWithin limit left P → IsWithin limit left Q
+within_then limit None P Q then h = tt
+within_then limit (Some input) P Q then h = λ short. then (h short)
 
 if_some_both : {T : Type 0} (o : Option T) (P Q R : T → Type 0) → ((x : T) → P x → Q x → R x) → IfSome o P → IfSome o Q → IfSome o R
 if_some_both None P Q R then p q = p
@@ -134,7 +138,7 @@ module _ {K : Type 0} (to : sinks.Ghosts K) (ran : Status) (windows : Attached) 
 
 -- what is kept once the lines of the devices are put
 pub dev_keeps : {D S K : Type 0} (facts : disks.Ghosts D) (from : sources.Ghosts S) (to : sinks.Ghosts K) (ran result : Status) (windows windows' : Attached) (d d' : D) (source source' : S) (sink replied sink' : K)
-    → LinesKeep facts from to ran windows windows' d d' source source' sink replied → EndsWith to ran windows' result replied sink'
+    → DevicesKeep facts from to ran windows windows' d d' source source' sink replied → EndsWith to ran windows' result replied sink'
     → CountGoesOn (to.faults sink) (to.faults replied) (to.is_spent sink) (to.is_spent replied) → CountGoesOn (to.faults replied) (to.faults sink') (to.is_spent replied) (to.is_spent sink')
     → DevKeeps facts from to result windows windows' d d' source source' sink sink'
 dev_keeps facts from to ran result windows windows' d d' source source' sink replied sink' keeps ends before after = record {
@@ -143,14 +147,14 @@ dev_keeps facts from to ran result windows windows' d d' source source' sink rep
   keeps = keeps;
   ends = ends;
   prefix = on_volume_both (facts.seen d) _ _ _
-      (λ s answers devices. put_prefix to ran windows' result replied sink' ends (equipped windows s) (from.left source) (from.left source') (to.taken sink) answers devices) keeps.answers keeps.devices;
+      (λ s answers devices. put_prefix to ran windows' result replied sink' ends (equipped windows s) (from.left source) (from.left source') (to.taken sink) answers devices) keeps.lines.answers keeps.devices;
   done = λ is. on_volume_both (facts.seen d) _ _ _
-      (λ s answers devices. put_whole to ran windows' result replied sink' ends (equipped windows s) (from.left source) (from.left source') (to.taken sink) answers devices is) keeps.answers keeps.devices;
-  which = ends_run to ran windows' result replied sink' ends keeps.which;
-  disk_failed = λ is. keeps.disk_failed (disk_ran to ran windows' result replied sink' ends is);
-  sink_failed = sink_failed to ran windows' result replied sink' ends sink before keeps.ends.sink_failed;
+      (λ s answers devices. put_whole to ran windows' result replied sink' ends (equipped windows s) (from.left source) (from.left source') (to.taken sink) answers devices is) keeps.lines.answers keeps.devices;
+  which = ends_run to ran windows' result replied sink' ends keeps.lines.which;
+  disk_failed = λ is. keeps.lines.disk_failed (disk_ran to ran windows' result replied sink' ends is);
+  sink_failed = sink_failed to ran windows' result replied sink' ends sink before keeps.lines.ends.sink_failed;
   complete = on_volume_both (facts.seen d) _ _ _
       (λ s promise again. λ no_disk no_source no_sink.
       within_then input_limit (from.left source) (IsDoneOrMemory ran) (IsDoneOrMemory result) (λ either. done_or_memory to ran windows' result replied sink' ends sink before no_sink either)
-      (promise no_disk no_source (λ rose. no_sink (rose_then _ _ _ _ _ rose after)))) keeps.complete keeps.complete;
+      (promise no_disk no_source (λ rose. no_sink (rose_then _ _ _ _ _ rose after)))) keeps.lines.complete keeps.lines.complete;
 }

@@ -2,21 +2,19 @@
 use Rattle.std.specs.Prelude.{ℕ, ◌+◌, ◌≤◌, ◌≡◌, ◌≢◌, ◌⊎◌, List, [], ◌∷◌, ◌++◌, codes, drop, length, take, Option, Some, IfSome, IsSomeAnd}
 use Rattle.std.specs.Fmt.{decimal}
 use Rattle.std.specs.Io.KnownBytes.{Appends}
-use Rattle.std.specs.Option.{ForSome}
-use Rattle.mg_disk.specs.Stops.{CountRose, NothingPending}
+use Rattle.mg_disk.specs.Stops.{CountRose}
 use Rattle.mg_disk.specs.declared.disk.Disk as disks
 use Rattle.mg_faults.specs.Faults.{Rose}
 use Rattle.mg_io.specs.Known.{AppendsPrefix}
 use Rattle.mg_io.specs.declared.traits.Sink as sinks
 use Rattle.mg_io.specs.declared.traits.Source as sources
-use Rattle.mg_layout.specs.MayFormat.{IsNoState}
 use Rattle.mg_model.specs.Lines.{lines}
 use Rattle.mg_model.specs.Print.{answered, hex_text, spaced}
 use Rattle.mg_model.specs.State.{State}
-use Rattle.mg_model.specs.Volume.{volume}
-use Rattle.mg_session.specs.Headline.{Answers, Ends, EndsRun, Holds, HoldsExactly, IsDoneOrMemory, IsWithin, OnVolume, SpellsAfter, TellsOfNone, UsageKeeps, input_limit, replies}
-use Rattle.mg_session.specs.declared.status.Status.{Status}
-use Rattle.mg_session.specs.declared.status.Status.TheVariants as status
+use Rattle.mg_serve.specs.Sessions.{IsDoneOrMemory, IsWithin, input_limit, replies}
+use Rattle.mg_serve.specs.declared.status.Status.{Status}
+use Rattle.mg_serve.specs.declared.status.Status.TheVariants as status
+use Rattle.mg_session.specs.Headline.{EndsRun, LinesKeep, OnVolume, UsageKeeps}
 use Rattle.mg_window.specs.Attached.{Attached}
 use Rattle.mg_window.specs.Devices.{Held, number_of}
 use Rattle.mg_window_session.specs.Machine.{Equipped, device_after, device_state, device_text}
@@ -83,35 +81,21 @@ pub record EndsWith {K : Type 0} (to : sinks.Ghosts K) (ran : Status) (windows :
 
 -- What a command keeps that runs lines with device windows
 
--- What is kept as the lines run, a reply a batch. `s` is the state of the volume that reads give at entry; all that is put are replies.
-pub record LinesKeep {D S K : Type 0} (facts : disks.Ghosts D) (from : sources.Ghosts S) (to : sinks.Ghosts K) (result : Status) (windows windows' : Attached) (disk disk' : D) (source source' : S) (sink sink' : K) : Type 0 where
-  pub answers : OnVolume (facts.seen disk) (λ s. Answers (device_text (equipped windows s)) result (from.left source) (from.left source') (to.taken sink) (to.taken sink'))
-  -- At the end reads give the state after all lines.
-  pub kept : result ≡ status.Done → OnVolume (facts.seen disk) (λ s. IfSome (from.left source) (λ input. SpellsAfter (device_state (equipped windows s)) input (facts.seen disk')))
-  pub holds : NothingPending facts disk → OnVolume (facts.seen disk) (λ s. Holds facts (device_state (equipped windows s)) disk disk' (from.left source) (from.left source') (to.taken sink) (to.taken sink'))
-  pub holds_exactly : OnVolume (facts.seen disk) (λ s. HoldsExactly facts (device_state (equipped windows s)) result disk' (from.left source) (from.left source') (to.taken sink) (to.taken sink'))
+-- What is kept as the lines run, a reply a batch: what `run` keeps, of the machine with devices, and the devices. `s` is the
+-- state of the volume that reads give at entry.
+pub record DevicesKeep {D S K : Type 0} (facts : disks.Ghosts D) (from : sources.Ghosts S) (to : sinks.Ghosts K) (result : Status) (windows windows' : Attached) (disk disk' : D) (source source' : S) (sink sink' : K) : Type 0 where
+  pub lines : LinesKeep facts from to (λ s. device_text (equipped windows s)) (λ s. device_state (equipped windows s)) 1 result disk disk' source source' sink sink'
   pub devices : OnVolume (facts.seen disk) (λ s. LeavesDevices (equipped windows s) result windows' (from.left source) (to.taken sink) (to.taken sink'))
   -- Where there is no volume, or memory was wanting, the devices are as they were.
   pub none_devices : result ≡ status.NoVolume → windows' ≡ windows
   pub memory_devices : result ≡ status.Memory → windows' ≡ windows
-  pub ends : Ends from to 1 input_limit result source source' sink sink'
-  pub which : EndsRun result
-  -- The disk failed only where its count rose.
-  pub disk_failed : result ≡ status.Disk → CountRose facts disk disk'
-  pub without : TellsOfNone facts to result disk disk' sink sink'
-  -- Where there is no volume nothing is taken.
-  pub none_source : result ≡ status.NoVolume → source' ≡ source
-  pub not_opened_source : ForSome (facts.seen disk) (λ image. IsNoState (volume image) → source' ≡ source)
-  -- Where reads give a volume, no call failed and the input is not too long, all is done, or memory was wanting.
-  pub complete : OnVolume (facts.seen disk) (λ _. (CountRose facts disk disk' → ⊥) → (Rose (from.faults source) (from.faults source') (from.is_spent source') → ⊥)
-      → (Rose (to.faults sink) (to.faults sink') (to.is_spent sink') → ⊥) → IsWithin input_limit (from.left source) (IsDoneOrMemory result))
 
 -- What `VOLUME dev KIND:BASE ..` keeps, where the devices that were handed in are those that the words ask for.
 pub record DevKeeps {D S K : Type 0} (facts : disks.Ghosts D) (from : sources.Ghosts S) (to : sinks.Ghosts K) (result : Status) (windows windows' : Attached) (disk disk' : D) (source source' : S) (sink sink' : K) : Type 0 where
   -- How the lines ended, and the sink once all replies were put: what is answered are the replies alone.
   pub ran : Status
   pub replied : K
-  pub keeps : LinesKeep facts from to ran windows windows' disk disk' source source' sink replied
+  pub keeps : DevicesKeep facts from to ran windows windows' disk disk' source source' sink replied
   -- Then the lines of the devices are put that are left.
   pub ends : EndsWith to ran windows' result replied sink'
   -- What was put is a prefix of the replies to the whole input and those lines; at the end it is all of them.

@@ -2,6 +2,5 @@
 pub mod Commands
 pub mod Machine
 pub mod Headline
-pub mod Sessions
+pub mod DeviceKernels
 pub mod Stepping
-pub mod Running

@@ -4,15 +4,13 @@ ghost use Rattle.std.specs.Io.KnownBytes.{Appends};
 ghost use Rattle.arrayvec.specs.ArrayVec.{array_vec_len};
 ghost use Rattle.mg_faults.specs.Faults.{CountGoesOn, Rose};
 ghost use Rattle.mg_io.specs.Known.{AppendsPrefix};
-ghost use Rattle.mg_session.specs.Unopened.{EndsWith, IsQuiet, fault_line};
 ghost use Rattle.mg_window.specs.Attached.{window_at};
 ghost use Rattle.mg_window_session.specs.Headline.{device_line, device_lines};
 ghost use Rattle.mg_window_session.specs.Headline as headline;
 
 use arrayvec::ArrayVec;
-use mg_check::OpenFault;
 use mg_io::{Sink, put_all};
-use mg_session::Status;
+use mg_serve::Status;
 use mg_text::{push_number, push_text, push_word};
 use mg_window::Windows;
 
@@ -69,37 +67,4 @@ fn print_device(windows: &Windows, i: usize, out: &mut ArrayVec<u8, 256>)
     push_number(out, windows.kind_at(i));
     push_number(out, windows.length_at(i));
     push_text(out, b"\n");
-}
-
-/// Puts the line of a fault of the opening; of a fault of the disk and of a want of memory nothing is put.
-pub(crate) fn put_fault<K: Sink>(fault: OpenFault, sink: &mut K) -> Status
-    ensures ends { EndsWith fault result }
-    ensures put { result ≡ Status.NoVolume → Appends (K.taken sink.old) (K.taken sink.new) (fault_line fault) }
-    ensures prefix { AppendsPrefix (K.taken sink.old) (K.taken sink.new) (fault_line fault) }
-    ensures quiet { IsQuiet fault → sink.new ≡ sink.old }
-    ensures sink { result ≡ Status.Sink → Rose (K.faults sink.old) (K.faults sink.new) (K.is_spent sink.new) }
-    ensures sink_count { CountGoesOn (K.faults sink.old) (K.faults sink.new) (K.is_spent sink.old) (K.is_spent sink.new) }
-{
-    match fault {
-        OpenFault::Not => put_line(b"open not\n", Status::NoVolume, sink),
-        OpenFault::Old => put_line(b"open old\n", Status::NoVolume, sink),
-        OpenFault::Damaged => put_line(b"open damaged\n", Status::NoVolume, sink),
-        OpenFault::Disk => Status::Disk,
-        OpenFault::Memory => Status::Memory,
-    }
-}
-
-/// Puts a line, and ends so where the sink took it.
-fn put_line<K: Sink>(line: &[u8], end: Status, sink: &mut K) -> Status
-    requires other { end ≡ Status.Sink → ⊥ }
-    ensures ends { (result ≡ end) ⊎ (result ≡ Status.Sink) }
-    ensures put { result ≡ end → Appends (K.taken sink.old) (K.taken sink.new) line.now }
-    ensures prefix { AppendsPrefix (K.taken sink.old) (K.taken sink.new) line.now }
-    ensures sink { result ≡ Status.Sink → Rose (K.faults sink.old) (K.faults sink.new) (K.is_spent sink.new) }
-    ensures sink_count { CountGoesOn (K.faults sink.old) (K.faults sink.new) (K.is_spent sink.old) (K.is_spent sink.new) }
-{
-    match put_all(sink, line) {
-        Ok(()) => end,
-        Err(_) => Status::Sink,
-    }
 }

@@ -44,26 +44,26 @@ returns g c =
     let told = c.in-Ok-None.ensures in
     let opens = c.in-Ok.ensures in
     let opened = as_two d e g.O.Opened c.in-Ok.mirror in
-    let disk = c.run_on-ran.new.disk in
+    let disk = c.run-ran.new.disk in
     let closed = as_two d e g.O.Opened disk in
     let judged = side_judged d e c.args.from c.args.left read.left c.args.right read.right read.first c.in-Ok-None.field-0 None c.in-Ok-None.field-0-is told.left told.right told.left_alone told.right_alone in
     let room : length read.first ≡ min (min (d.block_count c.args.left) (e.block_count c.args.right)) 32 = search rules in
     let left_been = g.met.D.Disk.now_has_been c.args.left in
     let right_been = g.met.E.Disk.now_has_been c.args.right in
     given_back
-    (λ l r a. MirrorKeeps d e g.S.Source g.K.Sink c.args.from c.put_side-status.result a c.args.left l c.args.right r c.args.source.now c.run_on-ran.new.source c.args.sink.now c.put_side-status.new.sink c.args.steps.now c.run_on-ran.new.steps)
+    (λ l r a. MirrorKeeps d e g.S.Source g.K.Sink c.args.from c.put_side-status.result a c.args.left l c.args.right r c.args.source.now c.run-ran.new.source c.args.sink.now c.put_side-status.new.sink c.args.steps.now c.run-ran.new.steps)
     disk.left c.sides-left.result.0 disk.right c.sides-left.result.1 disk.alone c.alone-alone.result c.sides-left.ensures.left c.sides-left.ensures.right c.alone-alone.ensures.alone
-    (mirror_keeps d e g.S.Source g.K.Sink c.args.from c.args.left c.args.right opened closed c.run_on-ran.result c.put_side-status.result c.args.source.now c.run_on-ran.new.source
-    c.args.sink.now c.run_on-ran.new.sink c.put_side-status.new.sink c.args.steps.now c.run_on-ran.new.steps
+    (mirror_keeps d e g.S.Source g.K.Sink c.args.from c.args.left c.args.right opened closed c.run-ran.result c.put_side-status.result c.args.source.now c.run-ran.new.source
+    c.args.sink.now c.run-ran.new.sink c.put_side-status.new.sink c.args.steps.now c.run-ran.new.steps
     (opened_since d e c.args.left read.left c.args.right read.right
     (read_left d e c.args.left read.left c.args.right read.right read.first (Ok None) left_been right_been c.args.from judged) (read_right d e c.args.left read.left c.args.right read.right read.first (Ok None) left_been right_been c.args.from judged)
     c.args.from opened
     (opened_from d e g.met.D.Disk.seen_may_stay g.met.E.Disk.seen_may_stay c.args.from read.left read.right opened opens.left_reads opens.right_reads opens.left_settled opens.right_settled
     c.in-Ok.ensures.blocks opens.tells opens.left_serves opens.right_serves opens.left_kept opens.right_kept))
-    c.run_on-ran.ensures.blocks
-    (through (mirror d e) (as_two d e g.O.Opened) g.S.Source g.K.Sink 1 c.run_on-ran.result c.in-Ok.mirror disk c.args.source.now c.run_on-ran.new.source c.args.sink.now c.run_on-ran.new.sink c.args.steps.now c.run_on-ran.new.steps c.run_on-ran.ensures.keeps)
-    (subst (λ a. EndsWith g.K.Sink c.run_on-ran.result a c.put_side-status.result c.run_on-ran.new.sink c.put_side-status.new.sink) c.alone-alone.ensures.alone c.put_side-status.ensures.ends)
-    c.run_on-ran.ensures.sink_count c.put_side-status.ensures.sink_count
+    c.run-ran.ensures.disk_blocks
+    (through (mirror d e) (as_two d e g.O.Opened) g.S.Source g.K.Sink 1 c.run-ran.result c.in-Ok.mirror disk c.args.source.now c.run-ran.new.source c.args.sink.now c.run-ran.new.sink c.args.steps.now c.run-ran.new.steps c.run-ran.ensures.keeps)
+    (subst (λ a. EndsWith g.K.Sink c.run-ran.result a c.put_side-status.result c.run-ran.new.sink c.put_side-status.new.sink) c.alone-alone.ensures.alone c.put_side-status.ensures.ends)
+    c.run-ran.ensures.sink_count c.put_side-status.ensures.sink_count
     (λ some. both_rose_from d e g.O.Opened.left_faults g.O.Opened.right_faults c.args.left disk.left c.sides-left.result.0 c.args.right disk.right c.sides-left.result.1 c.requires.left_faults c.requires.right_faults
     c.sides-left.ensures.left c.sides-left.ensures.right (c.sides-left.ensures.cause some))
     (g.met.D.Disk.only_told disk.left) (g.met.E.Disk.only_told disk.right)

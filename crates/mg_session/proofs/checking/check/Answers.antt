@@ -1,6 +1,6 @@
 use Rattle.std.proofs.Common.{inl, refl}
 use Rattle.mg_session.specs.Headline.{summary_line}
-use Rattle.mg_session.proofs.Openings.{fault_may_tell, fault_tells, told_prefix, told_without, unopened_without}
+use Rattle.mg_session.specs.OpeningLemmas.{fault_may_tell, fault_tells, told_prefix, told_without, unopened_without}
 use Rattle.mg_session.proofs.checking.check.Goals as goal
 
 pub returns-in-Ok-clause-prefix : goal.returns-in-Ok-clause-prefix

@@ -1,0 +1,83 @@
+-- What a line adds to a session: the keys that are kept behind it, and what it cost.
+use Rattle.std.specs.Prelude.{ℕ, ◌≡◌, ◌≤◌, ◌+◌, Bool, List, [], ◌∷◌, ◌++◌, Option}
+use Rattle.std.proofs.Common.{refl, sym, ap, ◌∙◌, arith, subst}
+use Rattle.mg_disk.specs.Disk.{Image}
+use Rattle.mg_kernel.specs.declared.kernel.Kernel.{Kernel}
+use Rattle.mg_kernel.specs.Meaning.{keeps_key, now_of, same_keys, seats_in}
+use Rattle.mg_kernel.specs.Opening.{Holds}
+use Rattle.mg_laws.specs.Costs.{CostsGoOn, EventsGoOn, LimitsWithinCost, StaysWarm}
+use Rattle.mg_model.specs.declared.calls.Line.{Line}
+use Rattle.mg_model.specs.declared.replies.Reply.{Reply}
+use Rattle.mg_model.specs.Keys.{Key}
+use Rattle.mg_model.specs.Kept.{KeepsLine, KeepsWarm, line_limit}
+use Rattle.mg_model.specs.Print.{reply_line, text}
+use Rattle.mg_model.specs.State.{State}
+use Rattle.mg_model.specs.Step.{after, step}
+use Rattle.mg_model.specs.Warmth.{Event, cost, events, line_cost}
+use Rattle.mg_serve.specs.Machines.{Commits, Says}
+use Rattle.mg_kernel.specs.Stepping.{IsSpent, IsStepped}
+
+-- what the laws say of a line more
+pub record GoesOn : Type 0 where
+  pub stays : StaysWarm KeepsWarm
+  pub limit : LimitsWithinCost line_limit
+  pub events : EventsGoOn events
+  pub costs : CostsGoOn cost
+
+-- each key is kept that would be warm behind a line more
+pub warm-more : GoesOn → (s now : State) (ls : List Line) (line : Line) (kept kept' : Key → Bool) (n n' : ℕ) → KeepsWarm (events [] s ls) kept → now ≡ after s ls
+    → KeepsLine now line kept kept' n n' → KeepsWarm (events [] s (ls ++ line ∷ [])) kept'
+warm-more laws s now ls line kept kept' n n' warm is keeps =
+    let event : Event = record { state = after s ls; line = line } in
+    let line_keeps : KeepsLine (after s ls) line kept kept' n n' = subst (λ (v : State). KeepsLine v line kept kept' n n') is keeps in
+    subst (λ (v : List Event). KeepsWarm v kept') (sym (laws.events [] s ls line)) (laws.stays (events [] s ls) event kept kept' warm line_keeps.keys)
+
+-- the counter stays within the cost of the lines
+pub spent-line : GoesOn → (s now : State) (ls : List Line) (line : Line) (kept : Key → Bool) (first n n' : ℕ) → KeepsWarm (events [] s ls) kept → now ≡ after s ls → n ≤ first + cost s ls
+    → n' ≤ n + line_limit kept now line → n' ≤ first + cost s (ls ++ line ∷ [])
+spent-line laws s now ls line kept first n n' warm is spent few =
+    let within : line_limit kept now line ≤ line_cost (events [] s ls) (after s ls) line =
+    subst (λ (v : State). line_limit kept v line ≤ line_cost (events [] s ls) (after s ls) line) (sym is) (laws.limit (events [] s ls) kept (after s ls) line warm) in
+    let sum = laws.costs s ls line in
+    omega (arith, sum)
+
+-- a kernel with the same seats
+pub warm-same : (past : List Event) (k k' : Kernel) → seats_in k' ≡ seats_in k → KeepsWarm past (λ key. keeps_key k key) → KeepsWarm past (λ key. keeps_key k' key)
+warm-same past k k' same warm = record { each = λ key is. same_keys k k' same key ∙ warm.each key is }
+
+-- what is said from a line on, and what is kept
+pub says_line : (s now : State) (line : Line) (reply : Reply) → reply ≡ (step s line).1 → now ≡ (step s line).0 → Says (text s) (text now) line reply
+says_line s now line reply is state = record {
+  each = λ ls. ap (λ v. reply_line v ++ text (step s line).0 ls) (sym is) ∙ ap (λ v. reply_line reply ++ text v ls) (sym state);
+  none = refl;
+}
+
+pub keeps_line : (s now : State) (line : Line) → now ≡ (step s line).0 → (ls : List Line) → after s (line ∷ ls) ≡ after now ls
+keeps_line s now line state ls = ap (λ v. after v ls) (sym state)
+
+-- a kernel steps a line more, or fails in it
+pub stepped_line : GoesOn → (k k' : Kernel) (image : Image) (line : Line) (n' n'' : ℕ) → KeepsLine (now_of k image) line (λ key. keeps_key k key) (λ key. keeps_key k' key) n' n''
+    → (old : Kernel) (first : Image) (ls : List Line) (n : ℕ) → after (now_of old first) ls ≡ now_of k image → IsStepped old first ls n n' k → IsStepped old first (ls ++ line ∷ []) n n'' k'
+stepped_line laws k k' image line n' n'' keeps old first ls n now st = record {
+  warm = warm-more laws (now_of old first) (now_of k image) ls line (λ key. keeps_key k key) (λ key. keeps_key k' key) n' n'' st.warm (sym now) keeps;
+  spent = spent-line laws (now_of old first) (now_of k image) ls line (λ key. keeps_key k key) n n' n'' st.warm (sym now) st.spent keeps.most;
+}
+
+pub stopped_line : GoesOn → (k k' : Kernel) (image : Image) (line : Line) (n' n'' : ℕ) → n'' ≤ n' + line_limit (λ key. keeps_key k key) (now_of k image) line
+    → (old : Kernel) (first : Image) (ls : List Line) (n : ℕ) → after (now_of old first) ls ≡ now_of k image → IsStepped old first ls n n' k → IsSpent old first (ls ++ line ∷ []) n n'' k'
+stopped_line laws k k' image line n' n'' few old first ls n now st =
+    spent-line laws (now_of old first) (now_of k image) ls line (λ key. keeps_key k key) n n' n'' st.warm (sym now) st.spent few
+
+-- a commit leaves what was told of the lines
+pub stepped_same : (k k' : Kernel) → seats_in k' ≡ seats_in k → (old : Kernel) (first : Image) (ls : List Line) (n n' : ℕ) → IsStepped old first ls n n' k → IsStepped old first ls n n' k'
+stepped_same k k' seats old first ls n n' st = record { warm = warm-same (events [] (now_of old first) ls) k k' seats st.warm; spent = st.spent }
+
+-- a commit leaves what is said and kept
+pub commits : (s : State) (k' : Kernel) (told : Option Image) → Holds s k' told → Commits (text s) (after s) (λ image. text (now_of k' image)) (λ image. after (now_of k' image)) told
+commits s k' told h = record {
+  image = h.image;
+  seen = h.is;
+  spelled = h.kept;
+  says = λ ls. ap (λ v. text v ls) h.now;
+  keeps = λ ls. ap (λ v. after v ls) h.now;
+}

@@ -1,0 +1,127 @@
+-- How bytes that come one after another add up.
+use Rattle.std.specs.Prelude.{ℕ, ◌<◌, ◌+◌, ◌%◌, ◌^◌, ◌≡◌, false, length, take, drop, List, [], ◌∷◌, ◌++◌, Some, None}
+use Rattle.std.specs.Option.{option_to_list}
+use Rattle.std.specs.List.{list_any}
+use Rattle.std.proofs.Common.{refl, sym, ap, ◌∙◌, append_assoc, append-nil, arith, get_or, subst}
+use Rattle.std.proofs.lemmas.List.{take-append-drop, take_more}
+use Rattle.mg_model.specs.declared.calls.Line.{Line}
+use Rattle.mg_serve.proofs.Cutting.{lines-ended, lines-last}
+use Rattle.mg_model.specs.Lines.{line_of, lines}
+use Rattle.mg_model.specs.Words.{is_newline}
+use Rattle.mg_model.specs.Counts.{CountsAlike}
+use Rattle.mg_serve.specs.declared.ended.Ended.{Ended}
+use Rattle.mg_serve.specs.Incoming.{Breaks, Goes}
+use Rattle.mg_serve.specs.Machines.{Closes, Entry, FailsToClose, Halts, Point, Runs}
+
+-- two counts that rise by as much
+pub alike_none : (words steps : ℕ) → CountsAlike words words steps steps
+alike_none words steps = (0, omega arith, ap (λ v. v % 2 ^ 64) (omega arith))
+
+pub alike_then : (a b c x y z : ℕ) → CountsAlike a b x y → CountsAlike b c y z → CountsAlike a c x z
+alike_then a b c x y z (n, first, words) (m, second, more) = (n + m, omega arith, omega arith)
+
+-- how a newline cuts behind a part that spells a line
+line_cut : (part : List ℕ) (b : ℕ) (part' : List ℕ) (line : Line) → b ≡ 10 → part' ≡ [] → list_any is_newline part ≡ false → line_of part ≡ Some line
+    → (rest : List ℕ) → lines (part ++ b ∷ rest) ≡ line ∷ lines (part' ++ rest)
+line_cut part b part' line newline empty whole some rest =
+    ap (λ v. lines (part ++ v ∷ rest)) newline ∙ lines-ended part rest whole
+    ∙ ap (λ o. option_to_list o ++ lines rest) some ∙ ap (λ v. line ∷ lines (v ++ rest)) (sym empty)
+
+module _ {M D : Type 0} (Session : Entry M D → List Line → Point M D → Type 0) where
+  Runs-none : (p : Point M D) → Runs Session p [] p
+  Runs-none p = λ entry sofar a. subst (λ (v : List Line). Session entry v p) (sym (append-nil sofar)) a
+
+  Runs-then : (p : Point M D) (xs : List Line) (q : Point M D) (ys : List Line) (r : Point M D) → Runs Session p xs q → Runs Session q ys r → Runs Session p (xs ++ ys) r
+  Runs-then p xs q ys r g h = λ entry sofar a. subst (λ (v : List Line). Session entry v r) (append_assoc sofar xs ys) (h entry (sofar ++ xs) (g entry sofar a))
+
+  pub Goes-none : (p : Point M D) (part : List ℕ) → Goes Session p part [] p part
+  Goes-none p part = record { ls = []; cuts = λ rest. refl; steps = Runs-none p }
+
+  -- a byte that ends no line
+  pub Goes-byte : (p : Point M D) (part : List ℕ) (b : ℕ) (part' : List ℕ) → ((rest : List ℕ) → lines (part ++ b ∷ rest) ≡ lines (part' ++ rest)) → Goes Session p part (b ∷ []) p part'
+  Goes-byte p part b part' same = record { ls = []; cuts = same; steps = Runs-none p }
+
+  -- a newline behind a part that spells no line
+  pub Goes-note : (p : Point M D) (part : List ℕ) (b : ℕ) (part' : List ℕ) → b ≡ 10 → part' ≡ [] → list_any is_newline part ≡ false → line_of part ≡ None → Goes Session p part (b ∷ []) p part'
+  Goes-note p part b part' newline empty whole none =
+      Goes-byte p part b part' (λ rest. ap (λ v. lines (part ++ v ∷ rest)) newline ∙ lines-ended part rest whole
+      ∙ ap (λ o. option_to_list o ++ lines rest) none ∙ ap (λ v. lines (v ++ rest)) (sym empty))
+
+  -- a newline behind a part that spells a line
+  pub Goes-line : (p : Point M D) (part : List ℕ) (b : ℕ) (q : Point M D) (part' : List ℕ) (line : Line) → b ≡ 10 → part' ≡ [] → list_any is_newline part ≡ false → line_of part ≡ Some line
+      → Runs Session p (line ∷ []) q → Goes Session p part (b ∷ []) q part'
+  Goes-line p part b q part' line newline empty whole some g = record { ls = line ∷ []; cuts = line_cut part b part' line newline empty whole some; steps = g }
+
+  pub Goes-then : (p : Point M D) (part xs : List ℕ) (q : Point M D) (part' ys : List ℕ) (r : Point M D) (part'' : List ℕ) → Goes Session p part xs q part' → Goes Session q part' ys r part'' → Goes Session p part (xs ++ ys) r part''
+  Goes-then p part xs q part' ys r part'' g h = record {
+    ls = g.ls ++ h.ls;
+    cuts = λ rest. ap (λ v. lines (part ++ v)) (append_assoc xs ys rest) ∙ g.cuts (ys ++ rest) ∙ ap (λ v. g.ls ++ v) (h.cuts rest)
+        ∙ sym (append_assoc g.ls h.ls (lines (part'' ++ rest)));
+    steps = Runs-then p g.ls q h.ls r g.steps h.steps;
+  }
+
+  -- one byte more of a piece
+  pub Goes-next : (p : Point M D) (part bytes : List ℕ) (i : ℕ) (q : Point M D) (part' : List ℕ) (r : Point M D) (part'' : List ℕ) → i < length bytes
+      → Goes Session p part (take i bytes) q part' → Goes Session q part' (get_or bytes i 0 ∷ []) r part'' → Goes Session p part (take (i + 1) bytes) r part''
+  Goes-next p part bytes i q part' r part'' within g h =
+      subst (λ (v : List ℕ). Goes Session p part v r part'') (sym (take_more bytes i 0 within)) (Goes-then p part (take i bytes) q part' (get_or bytes i 0 ∷ []) r part'' g h)
+
+  -- the last part, which no newline ends
+  pub Runs-last : (p : Point M D) (part : List ℕ) (q : Point M D) (line : Line) → list_any is_newline part ≡ false → line_of part ≡ Some line → Runs Session p (line ∷ []) q → Runs Session p (lines part) q
+  Runs-last p part q line whole some g =
+      subst (λ (v : List Line). Runs Session p v q) (sym (lines-last part whole ∙ ap (λ o. option_to_list o) some)) g
+
+  pub Runs-note : (p : Point M D) (part : List ℕ) (q : Point M D) → list_any is_newline part ≡ false → line_of part ≡ None → Closes Session p q → Runs Session p (lines part) q
+  Runs-note p part q whole none g =
+      subst (λ (v : List Line). Runs Session p v q) (sym (lines-last part whole ∙ ap (λ o. option_to_list o) none))
+      (λ entry sofar a. subst (λ (v : List Line). Session entry v q) (sym (append-nil sofar)) (g entry sofar a))
+
+module _ {M D : Type 0} (Session : Entry M D → List Line → Point M D → Type 0) (Broken : Ended → Entry M D → List Line → List ℕ → Point M D → Type 0) where
+  Runs-halts : (e : Ended) (p : Point M D) (xs : List Line) (q : Point M D) (ys : List Line) (r : Point M D) → Runs Session p xs q → Halts Session Broken e q ys r → Halts Session Broken e p (xs ++ ys) r
+  Runs-halts e p xs q ys r g h = λ entry sofar a. subst (λ (v : List Line). (put : List ℕ) × Broken e entry v put r) (append_assoc sofar xs ys) (h entry (sofar ++ xs) (g entry sofar a))
+
+  pub Breaks-line : (e : Ended) (p : Point M D) (part : List ℕ) (b : ℕ) (part' : List ℕ) (line : Line) (q : Point M D) → b ≡ 10 → part' ≡ [] → list_any is_newline part ≡ false → line_of part ≡ Some line
+      → Halts Session Broken e p (line ∷ []) q → Breaks Session Broken e p part (b ∷ []) q
+  Breaks-line e p part b part' line q newline empty whole some h = record {
+    ls = line ∷ [];
+    cuts = λ rest. (lines (part' ++ rest), line_cut part b part' line newline empty whole some rest);
+    halts = h;
+  }
+
+  pub Goes-breaks : (e : Ended) (p : Point M D) (part xs : List ℕ) (q : Point M D) (part' ys : List ℕ) (r : Point M D) → Goes Session p part xs q part' → Breaks Session Broken e q part' ys r → Breaks Session Broken e p part (xs ++ ys) r
+  Goes-breaks e p part xs q part' ys r g h = record {
+    ls = g.ls ++ h.ls;
+    cuts = λ rest. later rest (h.cuts rest);
+    halts = Runs-halts e p g.ls q h.ls r g.steps h.halts;
+  }
+    where
+      later : (rest : List ℕ) → (more : List Line) × (lines (part' ++ (ys ++ rest)) ≡ h.ls ++ more) → (more : List Line) × (lines (part ++ ((xs ++ ys) ++ rest)) ≡ (g.ls ++ h.ls) ++ more)
+      later rest (more, is) = (
+        more,
+        ap (λ v. lines (part ++ v)) (append_assoc xs ys rest) ∙ g.cuts (ys ++ rest) ∙ ap (λ v. g.ls ++ v) is ∙ sym (append_assoc g.ls h.ls more),
+      )
+
+  -- more may come behind what broke
+  pub Breaks-more : (e : Ended) (p : Point M D) (part xs ys : List ℕ) (q : Point M D) → Breaks Session Broken e p part xs q → Breaks Session Broken e p part (xs ++ ys) q
+  Breaks-more e p part xs ys q h = record {
+    ls = h.ls;
+    cuts = λ rest. subst (λ (v : List ℕ). (more : List Line) × (lines (part ++ v) ≡ h.ls ++ more)) (sym (append_assoc xs ys rest)) (h.cuts (ys ++ rest));
+    halts = h.halts;
+  }
+
+  pub Breaks-next : (e : Ended) (p : Point M D) (part bytes : List ℕ) (i : ℕ) (q : Point M D) (part' : List ℕ) (r : Point M D) → i < length bytes
+      → Goes Session p part (take i bytes) q part' → Breaks Session Broken e q part' (get_or bytes i 0 ∷ []) r → Breaks Session Broken e p part bytes r
+  Breaks-next e p part bytes i q part' r within g h =
+      let front : Breaks Session Broken e p part (take (i + 1) bytes) r =
+      subst (λ (v : List ℕ). Breaks Session Broken e p part v r) (sym (take_more bytes i 0 within)) (Goes-breaks e p part (take i bytes) q part' (get_or bytes i 0 ∷ []) r g h) in
+      subst (λ (v : List ℕ). Breaks Session Broken e p part v r) (take-append-drop (i + 1) bytes) (Breaks-more e p part (take (i + 1) bytes) (drop (i + 1) bytes) r front)
+
+  pub Halts-last : (e : Ended) (p : Point M D) (part : List ℕ) (q : Point M D) (line : Line) → list_any is_newline part ≡ false → line_of part ≡ Some line → Halts Session Broken e p (line ∷ []) q
+      → Halts Session Broken e p (lines part) q
+  Halts-last e p part q line whole some h =
+      subst (λ (v : List Line). Halts Session Broken e p v q) (sym (lines-last part whole ∙ ap (λ o. option_to_list o) some)) h
+
+  pub Halts-note : (e : Ended) (p : Point M D) (part : List ℕ) (q : Point M D) → list_any is_newline part ≡ false → line_of part ≡ None → FailsToClose Session Broken e p q → Halts Session Broken e p (lines part) q
+  Halts-note e p part q whole none h =
+      subst (λ (v : List Line). Halts Session Broken e p v q) (sym (lines-last part whole ∙ ap (λ o. option_to_list o) none))
+      (λ entry sofar a. subst (λ (v : List Line). (put : List ℕ) × Broken e entry v put q) (sym (append-nil sofar)) (h entry sofar a))

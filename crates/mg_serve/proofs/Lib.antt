@@ -1,0 +1,9 @@
+mod Answered
+mod Cutting
+mod Endings
+mod IncomingSteps
+mod Outcomes
+mod PartialLemmas
+mod ReadingSteps
+mod Results
+mod SessionSteps

@@ -1,0 +1,15 @@
+use Rattle.std.proofs.Common.{ℕ, ◌≤◌, [], ◌∷◌, ◌++◌, arith}
+use Rattle.std.proofs.lemmas.Result.{IfErr-weaker}
+use Rattle.mg_serve.specs.Machines.{FailsToClose, Halts}
+use Rattle.mg_serve.specs.Serving.{Broken, Session}
+use Rattle.mg_serve.proofs.incoming.line_and_close.Goals as goal
+
+pub returns-clause-halts : goal.returns-clause-halts
+returns-clause-halts g c =
+    IfErr-weaker c.close.result
+    (λ e. (n batch : ℕ) → c.take_line.new.owed.count ≤ batch → FailsToClose (Session g.M.Machine g.D.Disk) (Broken g.M.Machine g.D.Disk batch) e (record { machine = c.take_line.new.machine; disk = c.take_line.new.disk; owed = c.take_line.new.owed; taken = g.K.Sink.taken c.take_line.new.sink; steps = n })
+    (record { machine = c.close.new.machine; disk = c.close.new.disk; owed = c.close.new.owed; taken = g.K.Sink.taken c.close.new.sink; steps = n }))
+    (λ e. Halts (Session g.M.Machine g.D.Disk) (Broken g.M.Machine g.D.Disk c.args.batch) e (record { machine = c.args.machine.now; disk = c.args.disk.now; owed = c.args.owed.now; taken = g.K.Sink.taken c.args.sink.now; steps = c.args.steps.now }) (c.args.line.now ∷ [])
+    (record { machine = c.close.new.machine; disk = c.close.new.disk; owed = c.close.new.owed; taken = g.K.Sink.taken c.close.new.sink; steps = c.take_line.new.steps }))
+    (λ e h. λ entry sofar a. h c.take_line.new.steps c.args.batch (let room = c.in_ok-take_line.ensures.open_batch in omega arith) entry (sofar ++ c.args.line.now ∷ []) (c.in_ok-take_line.ensures.steps entry sofar a))
+    c.close.ensures.halts

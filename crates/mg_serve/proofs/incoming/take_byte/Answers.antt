@@ -1,0 +1,30 @@
+use Rattle.std.proofs.Common.{[], ◌∷◌, sym}
+use Rattle.std.proofs.lemmas.Result.{IfErr-weaker, on_ok_weaker}
+use Rattle.mg_serve.specs.Incoming.{Breaks}
+use Rattle.mg_serve.specs.Machines.{Halts}
+use Rattle.mg_serve.specs.Serving.{Broken, Session}
+use Rattle.mg_serve.proofs.IncomingSteps.{Breaks-line, Goes-byte, Goes-line, Goes-note}
+use Rattle.mg_serve.proofs.incoming.take_byte.Goals as goal
+
+pub returns-then-b-ne10-clause-goes : goal.returns-then-b-ne10-clause-goes
+returns-then-b-ne10-clause-goes g c = Goes-byte (Session g.M.Machine g.D.Disk) (record { machine = c.args.machine.now; disk = c.args.disk.now; owed = c.args.owed.now; taken = g.K.Sink.taken c.args.sink.now; steps = c.args.steps.now }) c.args.part.now c.args.b c.add.new.self c.add.ensures.same
+
+pub returns-in-None-clause-goes : goal.returns-in-None-clause-goes
+returns-in-None-clause-goes g c =
+    Goes-note (Session g.M.Machine g.D.Disk) (record { machine = c.args.machine.now; disk = c.args.disk.now; owed = c.args.owed.now; taken = g.K.Sink.taken c.args.sink.now; steps = c.args.steps.now }) c.args.part.now c.args.b c.finish.new.self c.if-b-ne10.false c.in-None.ensures.empty c.in-None.ensures.whole (sym c.in-None.ensures.line)
+
+pub returns-in-Some-clause-goes : goal.returns-in-Some-clause-goes
+returns-in-Some-clause-goes g c =
+    on_ok_weaker c.take_line.result
+    (λ h. Goes-line (Session g.M.Machine g.D.Disk) (record { machine = c.args.machine.now; disk = c.args.disk.now; owed = c.args.owed.now; taken = g.K.Sink.taken c.args.sink.now; steps = c.args.steps.now }) c.args.part.now c.args.b (record { machine = c.take_line.new.machine; disk = c.take_line.new.disk; owed = c.take_line.new.owed; taken = g.K.Sink.taken c.take_line.new.sink; steps = c.take_line.new.steps }) c.finish.new.self c.in-Some.line
+    c.if-b-ne10.false c.in-Some.ensures.empty c.in-Some.ensures.whole (sym c.in-Some.ensures.line) h)
+    c.take_line.ensures.steps
+
+pub returns-in-Some-clause-breaks : goal.returns-in-Some-clause-breaks
+returns-in-Some-clause-breaks g c =
+    IfErr-weaker c.take_line.result
+    (λ e. Halts (Session g.M.Machine g.D.Disk) (Broken g.M.Machine g.D.Disk c.args.batch) e (record { machine = c.args.machine.now; disk = c.args.disk.now; owed = c.args.owed.now; taken = g.K.Sink.taken c.args.sink.now; steps = c.args.steps.now }) (c.in-Some.line ∷ []) (record { machine = c.take_line.new.machine; disk = c.take_line.new.disk; owed = c.take_line.new.owed; taken = g.K.Sink.taken c.take_line.new.sink; steps = c.take_line.new.steps }))
+    (λ e. Breaks (Session g.M.Machine g.D.Disk) (Broken g.M.Machine g.D.Disk c.args.batch) e (record { machine = c.args.machine.now; disk = c.args.disk.now; owed = c.args.owed.now; taken = g.K.Sink.taken c.args.sink.now; steps = c.args.steps.now }) c.args.part.now (c.args.b ∷ []) (record { machine = c.take_line.new.machine; disk = c.take_line.new.disk; owed = c.take_line.new.owed; taken = g.K.Sink.taken c.take_line.new.sink; steps = c.take_line.new.steps }))
+    (λ e h. Breaks-line (Session g.M.Machine g.D.Disk) (Broken g.M.Machine g.D.Disk c.args.batch) e (record { machine = c.args.machine.now; disk = c.args.disk.now; owed = c.args.owed.now; taken = g.K.Sink.taken c.args.sink.now; steps = c.args.steps.now }) c.args.part.now c.args.b c.finish.new.self c.in-Some.line (record { machine = c.take_line.new.machine; disk = c.take_line.new.disk; owed = c.take_line.new.owed; taken = g.K.Sink.taken c.take_line.new.sink; steps = c.take_line.new.steps })
+    c.if-b-ne10.false c.in-Some.ensures.empty c.in-Some.ensures.whole (sym c.in-Some.ensures.line) h)
+    c.take_line.ensures.halts

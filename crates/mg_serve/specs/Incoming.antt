@@ -1,0 +1,19 @@
+-- Bytes come, and the lines that they end are stepped. `rest` is whatever may still come, so nothing here depends on how
+-- the input is cut.
+use Rattle.std.specs.Prelude.{ℕ, ◌≡◌, List, ◌++◌}
+use Rattle.mg_model.specs.declared.calls.Line.{Line}
+use Rattle.mg_model.specs.Lines.{lines}
+use Rattle.mg_serve.specs.declared.ended.Ended.{Ended}
+use Rattle.mg_serve.specs.Machines.{Entry, Halts, Point, Runs}
+
+-- `bytes` came behind a part of a line, and the lines that they ended were stepped
+pub record Goes {M D : Type 0} (Session : Entry M D → List Line → Point M D → Type 0) (old : Point M D) (part bytes : List ℕ) (new : Point M D) (part' : List ℕ) : Type 0 where
+  pub ls : List Line
+  pub cuts : (rest : List ℕ) → lines (part ++ (bytes ++ rest)) ≡ ls ++ lines (part' ++ rest)
+  pub steps : Runs Session old ls new
+
+-- `bytes` came, and at one of them the session ended
+pub record Breaks {M D : Type 0} (Session : Entry M D → List Line → Point M D → Type 0) (Broken : Ended → Entry M D → List Line → List ℕ → Point M D → Type 0) (e : Ended) (old : Point M D) (part bytes : List ℕ) (new : Point M D) : Type 0 where
+  pub ls : List Line
+  pub cuts : (rest : List ℕ) → (more : List Line) × (lines (part ++ (bytes ++ rest)) ≡ ls ++ more)
+  pub halts : Halts Session Broken e old ls new

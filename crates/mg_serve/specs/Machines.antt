@@ -1,0 +1,68 @@
+-- A session of any machine that takes lines: where it began and where it stands, and what is said of the lines between.
+-- `Session` and `Broken` are any two words for this. The lines that are cut from the input and the lines that are stepped
+-- are told apart, so nothing here depends on how the input is cut.
+use Rattle.std.specs.Prelude.{ℕ, ◌≡◌, List, [], ◌∷◌, ◌++◌, Option, Some}
+use Rattle.mg_disk.specs.Disk.{Image}
+use Rattle.mg_model.specs.declared.calls.Line.{Line}
+use Rattle.mg_model.specs.declared.replies.Reply.{Reply}
+use Rattle.mg_model.specs.Print.{reply_line}
+use Rattle.mg_model.specs.State.{State}
+use Rattle.mg_model.specs.Volume.{Is, volume}
+use Rattle.mg_serve.specs.declared.ended.Ended.{Ended}
+use Rattle.mg_serve.specs.declared.ended.Ended.TheVariants as ended
+use Rattle.mg_serve.specs.Waiting.{Waiting}
+
+-- A machine is told by what it says to lines to come, and by the state that it keeps after them.
+
+-- a line was answered so: what was said from it on is its reply, and what is said behind it
+pub record Says (before after : List Line → List ℕ) (line : Line) (reply : Reply) : Type 0 where
+  pub each : (ls : List Line) → before (line ∷ ls) ≡ reply_line reply ++ after ls
+  pub none : after [] ≡ []
+
+-- reads give an image that spells the state of now, and over it the machine says and keeps what it did
+pub record Commits (said : List Line → List ℕ) (kept : List Line → State) (said' : Image → List Line → List ℕ) (kept' : Image → List Line → State) (told : Option Image) : Type 0 where
+  pub image : Image
+  pub seen : told ≡ Some image
+  pub spelled : volume image ≡ Is (kept [])
+  pub says : (ls : List Line) → said' image ls ≡ said ls
+  pub keeps : (ls : List Line) → kept' image ls ≡ kept ls
+
+-- where a session began
+pub record Entry (M D : Type 0) : Type 0 where
+  pub machine : M
+  pub disk : D
+  pub taken : Option (List ℕ)
+  pub steps : ℕ
+
+-- where it stands
+pub record Point (M D : Type 0) : Type 0 where
+  pub machine : M
+  pub disk : D
+  pub owed : Waiting
+  pub taken : Option (List ℕ)
+  pub steps : ℕ
+
+-- a line ends a session only by the disk or by the sink
+abbrev pub IsInside : Ended → Type 0
+IsInside ended.Disk = Unit {0}
+IsInside ended.Sink = Unit {0}
+IsInside ended.Source = ⊥
+IsInside ended.TooLong = ⊥
+
+module _ {M D : Type 0} (Session : Entry M D → List Line → Point M D → Type 0) where
+  -- whatever was stepped before, these lines were stepped from old to new
+  abbrev pub Runs : Point M D → List Line → Point M D → Type 0
+  Runs old ls new = (entry : Entry M D) (sofar : List Line) → Session entry sofar old → Session entry (sofar ++ ls) new
+
+  -- the same, with no line between them
+  abbrev pub Closes : Point M D → Point M D → Type 0
+  Closes old new = (entry : Entry M D) (ls : List Line) → Session entry ls old → Session entry ls new
+
+module _ {M D : Type 0} (Session : Entry M D → List Line → Point M D → Type 0) (Broken : Ended → Entry M D → List Line → List ℕ → Point M D → Type 0) where
+  -- the session ended between them, with some bytes put since it began
+  abbrev pub Halts : Ended → Point M D → List Line → Point M D → Type 0
+  Halts e old ls new = (entry : Entry M D) (sofar : List Line) → Session entry sofar old → (put : List ℕ) × Broken e entry (sofar ++ ls) put new
+
+  -- the same, with no line between them
+  abbrev pub FailsToClose : Ended → Point M D → Point M D → Type 0
+  FailsToClose e old new = (entry : Entry M D) (ls : List Line) → Session entry ls old → (put : List ℕ) × Broken e entry ls put new

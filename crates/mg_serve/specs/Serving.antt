@@ -1,0 +1,127 @@
+-- A session of a machine on a volume: which lines are kept and answered, which wait, and what a stop may leave.
+use Rattle.std.specs.Prelude.{ℕ, ◌≡◌, ◌≢◌, ◌⊎◌, ◌<◌, ◌≤◌, ◌+◌, Bool, false, true, List, ◌++◌, length, take, drop, Option, Some, IfSome, IsSomeAnd}
+use Rattle.std.specs.Io.KnownBytes.{Appends}
+use Rattle.std.specs.Option.{ForSome}
+use Rattle.mg_disk.specs.Disk.{Image}
+use Rattle.mg_disk.specs.Stops.{CountRose, Leaves}
+use Rattle.mg_disk.specs.declared.disk.Disk as disks
+use Rattle.mg_faults.specs.Faults.{Rose}
+use Rattle.mg_io.specs.declared.traits.Sink as sinks
+use Rattle.mg_io.specs.declared.traits.Source as sources
+use Rattle.mg_model.specs.declared.calls.Line.{Line}
+use Rattle.mg_model.specs.Lines.{lines}
+use Rattle.mg_model.specs.Print.{answered}
+use Rattle.mg_model.specs.State.{State}
+use Rattle.mg_model.specs.Volume.{Is, volume}
+use Rattle.mg_serve.specs.declared.ended.Ended.{Ended}
+use Rattle.mg_serve.specs.declared.ended.Ended.TheVariants as ended
+use Rattle.mg_serve.specs.declared.machine.Machine as machines
+use Rattle.mg_serve.specs.declared.status.Status.{Status}
+use Rattle.mg_serve.specs.declared.status.Status.TheVariants as status
+use Rattle.mg_serve.specs.Machines.{Entry, Point}
+use Rattle.mg_serve.specs.Sessions.{Answers, Ends, EndsSession, Holds, HoldsExactly, IsDoneOrMemory, IsPrefix, IsWithin, SpellsAfter, taken_of}
+
+-- the image spells the state after some first ones of the lines, and so many at least
+abbrev pub IsBetween : ℕ → (List Line → State) → List Line → Image → Type 0
+IsBetween low kept ls c = (k : ℕ) × (low ≤ k) × (k ≤ length ls) × (volume c ≡ Is (kept (take k ls)))
+
+-- where reads were told: `done` is kept and answered, `waiting` was stepped since; `first` is the image at the entry
+pub record Stands {M D : Type 0} (is : machines.Ghosts M) (facts : disks.Ghosts D) (entry : Entry M D) (first : Image) (done waiting : List Line) (put : List ℕ) (p : Point M D) : Type 0 where
+  pub image : Image
+  pub seen : facts.seen p.disk ≡ Some image
+  pub spelled : volume image ≡ Is (is.kept entry.machine first done)
+  -- what comes is said and kept as it would be behind these lines
+  pub says : (ls : List Line) → is.said entry.machine first ((done ++ waiting) ++ ls) ≡ (put ++ p.owed.text) ++ is.said p.machine image ls
+  pub keeps : (ls : List Line) → is.kept entry.machine first ((done ++ waiting) ++ ls) ≡ is.kept p.machine image ls
+  pub replies : put ≡ is.said entry.machine first done
+  pub owed : put ++ p.owed.text ≡ is.said entry.machine first (done ++ waiting)
+  pub leaves : Leaves facts entry.disk p.disk (IsPrefix (is.kept entry.machine first) (done ++ waiting))
+  pub stepped : is.Stepped entry.machine first (done ++ waiting) entry.steps p.steps p.machine
+
+-- since `entry` these lines were stepped
+pub record Session {M D : Type 0} (is : machines.Ghosts M) (facts : disks.Ghosts D) (entry : Entry M D) (ls : List Line) (p : Point M D) : Type 0 where
+  pub done : List Line
+  pub waiting : List Line
+  pub put : List ℕ
+  pub split : ls ≡ done ++ waiting
+  pub sink : Appends entry.taken p.taken put
+  pub answers : answered put ≡ length done
+  pub owes : answered p.owed.text ≡ length waiting
+  pub count : p.owed.count ≡ length waiting
+  pub told : ForSome (facts.seen entry.disk) (λ first. Stands is facts entry first done waiting put p)
+
+-- what a stop may leave where a session ended so, with so many lines answered; a disk that failed in a commit leaves a
+-- machine that is not live
+abbrev pub Held : Ended → Bool → ℕ → (List Line → State) → List Line → Image → Type 0
+Held ended.Disk false low kept ls c = IsBetween low kept ls c
+Held ended.Disk true low kept ls c = volume c ≡ Is (kept (take low ls))
+Held ended.Source alive low kept ls c = volume c ≡ Is (kept (take low ls))
+Held ended.TooLong alive low kept ls c = volume c ≡ Is (kept (take low ls))
+Held ended.Sink alive low kept ls c = volume c ≡ Is (kept ls)
+
+-- whole replies were put, but where the sink failed
+abbrev pub PutsWhole : Ended → (List Line → List ℕ) → List Line → List ℕ → Type 0
+PutsWhole ended.Disk said ls put = put ≡ said (take (answered put) ls)
+PutsWhole ended.Source said ls put = put ≡ said (take (answered put) ls)
+PutsWhole ended.TooLong said ls put = put ≡ said (take (answered put) ls)
+PutsWhole ended.Sink said ls put = Unit {0}
+
+-- what else is told of the lines, of which so many are answered: the disk may have failed in the last of them
+abbrev pub IsAfter : {M : Type 0} → machines.Ghosts M → Ended → ℕ → M → Image → List Line → ℕ → ℕ → M → Type 0
+IsAfter is ended.Disk count old first ls steps steps' new = is.Stepped old first ls steps steps' new ⊎ ((count < length ls) × is.StoppedIn old first ls steps steps' new)
+IsAfter is ended.Source count old first ls steps steps' new = is.Stepped old first ls steps steps' new
+IsAfter is ended.TooLong count old first ls steps steps' new = is.Stepped old first ls steps steps' new
+IsAfter is ended.Sink count old first ls steps steps' new = is.Stepped old first ls steps steps' new
+
+-- where reads were told: what is left of a session that ended so
+pub record Remains {M D : Type 0} (is : machines.Ghosts M) (facts : disks.Ghosts D) (e : Ended) (entry : Entry M D) (first : Image) (ls : List Line) (put : List ℕ) (p : Point M D) : Type 0 where
+  pub replies : (later : List Line) → (more : List ℕ) × (is.said entry.machine first (ls ++ later) ≡ put ++ more)
+  pub whole : PutsWhole e (is.said entry.machine first) ls put
+  pub leaves : Leaves facts entry.disk p.disk (IsPrefix (is.kept entry.machine first) ls)
+  pub held : (c : Image) → facts.left_since p.disk (facts.moment p.disk) c → Held e (is.is_live p.machine) (answered put) (is.kept entry.machine first) ls c
+  pub stepped : IsAfter is e (answered put) entry.machine first ls entry.steps p.steps p.machine
+
+-- the session in batches of so many replies ended so, with so much put, and had stepped these lines
+pub record Broken {M D : Type 0} (is : machines.Ghosts M) (facts : disks.Ghosts D) (batch : ℕ) (e : Ended) (entry : Entry M D) (ls : List Line) (put : List ℕ) (p : Point M D) : Type 0 where
+  pub sink : Appends entry.taken p.taken put
+  pub fewer : answered put ≤ length ls
+  pub near : length ls ≤ answered put + batch
+  pub told : ForSome (facts.seen entry.disk) (λ first. Remains is facts e entry first ls put p)
+
+-- so many first lines of the input were stepped, and so many are answered
+pub record IsTraced {M : Type 0} (is : machines.Ghosts M) (batch : ℕ) (result : Status) (old : M) (image : Image) (input rest : List ℕ) (taken taken' : Option (List ℕ)) (steps steps' : ℕ) (new : M) : Type 0 where
+  pub stepped : ℕ
+  pub count : ℕ
+  -- they are among the lines of the bytes that came
+  pub few : stepped ≤ length (lines input)
+  pub came : (more : List Line) × (lines (taken_of input rest) ≡ take stepped (lines input) ++ more)
+  pub answers : IfSome taken (λ before. IsSomeAnd taken' (λ now. answered (drop (length before) now) ≡ count))
+  -- all answered lines are among them, and at most a batch more: none at the end
+  pub least : count ≤ stepped
+  pub most : stepped ≤ count + batch
+  pub done : result ≡ status.Done → (stepped ≡ length (lines input)) × (count ≡ stepped)
+  pub source : result ≡ status.Source → stepped < count + batch
+  pub too_long : result ≡ status.TooLong → stepped < count + batch
+  -- what the machine tells of them; the disk may have failed in the last
+  pub at_disk : result ≡ status.Disk → is.Stepped old image (take stepped (lines input)) steps steps' new ⊎ ((count < stepped) × is.StoppedIn old image (take stepped (lines input)) steps steps' new)
+  pub after : result ≢ status.Disk → is.Stepped old image (take stepped (lines input)) steps steps' new
+
+-- the same, where the source tells what it gives
+abbrev pub Traces : {M : Type 0} → machines.Ghosts M → ℕ → Status → M → Image → Option (List ℕ) → Option (List ℕ) → Option (List ℕ) → Option (List ℕ) → ℕ → ℕ → M → Type 0
+Traces is batch result old image left left' taken taken' steps steps' new =
+    IfSome left (λ input. IsSomeAnd left' (λ rest. IsTraced is batch result old image input rest taken taken' steps steps' new))
+
+-- What is kept as lines run on a machine that stands on a disk, in batches of so many replies.
+pub record Serves {M D S K : Type 0} (is : machines.Ghosts M) (facts : disks.Ghosts D) (from : sources.Ghosts S) (to : sinks.Ghosts K) (batch limit : ℕ) (result : Status) (m m' : M) (disk disk' : D) (source source' : S) (sink sink' : K) (steps steps' : ℕ) : Type 0 where
+  pub which : EndsSession result
+  pub answers : ForSome (facts.seen disk) (λ image. Answers (is.said m image) result (from.left source) (from.left source') (to.taken sink) (to.taken sink'))
+  pub kept : result ≡ status.Done → ForSome (facts.seen disk) (λ image. IfSome (from.left source) (λ input. SpellsAfter (is.kept m image) input (facts.seen disk')))
+  pub holds : ForSome (facts.seen disk) (λ image. Holds facts (is.kept m image) disk disk' (from.left source) (from.left source') (to.taken sink) (to.taken sink'))
+  pub holds_exactly : ForSome (facts.seen disk) (λ image. HoldsExactly facts (is.kept m image) result disk' (from.left source) (from.left source') (to.taken sink) (to.taken sink'))
+  pub traces : ForSome (facts.seen disk) (λ image. Traces is batch result m image (from.left source) (from.left source') (to.taken sink) (to.taken sink') steps steps' m')
+  pub ends : Ends from to batch limit result source source' sink sink'
+  -- The disk failed only where its count rose.
+  pub disk_failed : result ≡ status.Disk → CountRose facts disk disk'
+  -- Where no call failed and the input is not too long, all is done, or memory was wanting.
+  pub complete : (CountRose facts disk disk' → ⊥) → (Rose (from.faults source) (from.faults source') (from.is_spent source') → ⊥)
+      → (Rose (to.faults sink) (to.faults sink') (to.is_spent sink') → ⊥) → IsWithin limit (from.left source) (IsDoneOrMemory result)

@@ -1,0 +1,183 @@
+// Bytes come, and the lines that they end are stepped.
+ghost use Rattle.std.specs.Prelude.{◌≡◌, ◌<◌, ◌≤◌, [], ◌∷◌, false, Err, IfErr, IsTrue, OnOk};
+ghost use Rattle.std.specs.List.{list_any};
+ghost use Rattle.mg_disk.specs.Stops.{DiskCallsBy, NothingPending};
+ghost use Rattle.mg_faults.specs.Faults.{CountGoesOn, Rose};
+ghost use Rattle.mg_model.specs.Lines.{lines};
+ghost use Rattle.mg_model.specs.Words.{is_newline};
+ghost use Rattle.mg_model.specs.Counts.{CountsAlike};
+ghost use Rattle.mg_serve.specs.Sessions.{UnlessDisk};
+ghost use Rattle.mg_serve.specs.Incoming.{Breaks, Goes};
+ghost use Rattle.mg_serve.specs.Machines.{Halts, IsInside, Runs};
+ghost use Rattle.mg_serve.specs.Serving.{Broken, Session};
+ghost use Rattle.mg_serve.specs.Waiting.{no_replies};
+
+use crate::batches::{close, take_line};
+use crate::buffers::Buffers;
+use crate::ended::Ended;
+use crate::machine::Machine;
+use crate::partial::PartialLine;
+use mg_disk::Disk;
+use mg_io::Sink;
+use mg_model::{Line, Steps};
+use std::sync::ledger::Ledger;
+
+/// One byte came.
+fn take_byte<M: Machine, D: Disk, K: Sink, L: Ledger>(
+    machine: &mut M,
+    disk: &mut D,
+    sink: &mut K,
+    owed: &mut Buffers,
+    part: &mut PartialLine,
+    b: u8,
+    batch: u64,
+    steps: &mut Steps<L>,
+) -> Result<(), Ended>
+    requires live { IsTrue (M.is_live machine.old) }
+    requires stands { M.StandsOn D D.Disk machine.old disk.old }
+    requires staged { M.staged_of machine.old ≤ 28 }
+    requires open_batch { owed.old.count < batch }
+    requires small { batch ≤ 64 }
+    ensures goes { OnOk result (Goes (Session M.Machine D.Disk)
+        (record { machine = machine.old; disk = disk.old; owed = owed.old; taken = K.taken sink.old; steps = steps.old }) part.old (b ∷ [])
+        (record { machine = machine.new; disk = disk.new; owed = owed.new; taken = K.taken sink.new; steps = steps.new }) part.new) }
+    ensures breaks { IfErr result (λ e. Breaks (Session M.Machine D.Disk) (Broken M.Machine D.Disk batch) e
+        (record { machine = machine.old; disk = disk.old; owed = owed.old; taken = K.taken sink.old; steps = steps.old }) part.old (b ∷ [])
+        (record { machine = machine.new; disk = disk.new; owed = owed.new; taken = K.taken sink.new; steps = steps.new })) }
+    ensures whole { list_any is_newline part.new ≡ false }
+    ensures live { UnlessDisk result (IsTrue (M.is_live machine.new)) }
+    ensures stands { UnlessDisk result (M.StandsOn D D.Disk machine.new disk.new) }
+    ensures staged { OnOk result (M.staged_of machine.new ≤ 28) }
+    ensures open_batch { OnOk result (owed.new.count < batch) }
+    ensures counted { CountsAlike (M.words_in machine.old) (M.words_in machine.new) steps.old steps.new }
+    ensures sink_count { CountGoesOn (K.faults sink.old) (K.faults sink.new) (K.is_spent sink.old) (K.is_spent sink.new) }
+    ensures disk { DiskCallsBy D.Disk disk.old disk.new (result ≡ Err Ended.Disk) }
+    ensures sink { result ≡ Err Ended.Sink → Rose (K.faults sink.old) (K.faults sink.new) (K.is_spent sink.new) }
+    ensures only { IfErr result IsInside }
+{
+    if b != b'\n' {
+        part.add(b);
+        return Ok(());
+    }
+    match part.finish() {
+        None => Ok(()),
+        Some(line) => take_line(machine, disk, sink, owed, &line, batch, steps),
+    }
+}
+
+/// Some bytes came.
+pub(crate) fn take_bytes<M: Machine, D: Disk, K: Sink, L: Ledger>(
+    machine: &mut M,
+    disk: &mut D,
+    sink: &mut K,
+    owed: &mut Buffers,
+    part: &mut PartialLine,
+    bytes: &[u8],
+    batch: u64,
+    steps: &mut Steps<L>,
+) -> Result<(), Ended>
+    requires live { IsTrue (M.is_live machine.old) }
+    requires stands { M.StandsOn D D.Disk machine.old disk.old }
+    requires staged { M.staged_of machine.old ≤ 28 }
+    requires open_batch { owed.old.count < batch }
+    requires small { batch ≤ 64 }
+    requires whole { list_any is_newline part.old ≡ false }
+    ensures goes { OnOk result (Goes (Session M.Machine D.Disk)
+        (record { machine = machine.old; disk = disk.old; owed = owed.old; taken = K.taken sink.old; steps = steps.old }) part.old bytes.now
+        (record { machine = machine.new; disk = disk.new; owed = owed.new; taken = K.taken sink.new; steps = steps.new }) part.new) }
+    ensures breaks { IfErr result (λ e. Breaks (Session M.Machine D.Disk) (Broken M.Machine D.Disk batch) e
+        (record { machine = machine.old; disk = disk.old; owed = owed.old; taken = K.taken sink.old; steps = steps.old }) part.old bytes.now
+        (record { machine = machine.new; disk = disk.new; owed = owed.new; taken = K.taken sink.new; steps = steps.new })) }
+    ensures whole { OnOk result (list_any is_newline part.new ≡ false) }
+    ensures live { UnlessDisk result (IsTrue (M.is_live machine.new)) }
+    ensures stands { UnlessDisk result (M.StandsOn D D.Disk machine.new disk.new) }
+    ensures staged { OnOk result (M.staged_of machine.new ≤ 28) }
+    ensures open_batch { OnOk result (owed.new.count < batch) }
+    ensures counted { CountsAlike (M.words_in machine.old) (M.words_in machine.new) steps.old steps.new }
+    ensures sink_count { CountGoesOn (K.faults sink.old) (K.faults sink.new) (K.is_spent sink.old) (K.is_spent sink.new) }
+    ensures disk { DiskCallsBy D.Disk disk.old disk.new (result ≡ Err Ended.Disk) }
+    ensures sink { result ≡ Err Ended.Sink → Rose (K.faults sink.old) (K.faults sink.new) (K.is_spent sink.new) }
+    ensures only { IfErr result IsInside }
+{
+    for b in bytes {
+        match take_byte(machine, disk, sink, owed, part, *b, batch, steps) {
+            Ok(()) => {}
+            Err(ended) => return Err(ended),
+        }
+    }
+    Ok(())
+}
+
+/// One line is stepped, and the batch closes with it.
+fn line_and_close<M: Machine, D: Disk, K: Sink, L: Ledger>(
+    machine: &mut M,
+    disk: &mut D,
+    sink: &mut K,
+    owed: &mut Buffers,
+    line: &Line,
+    batch: u64,
+    steps: &mut Steps<L>,
+) -> Result<(), Ended>
+    requires live { IsTrue (M.is_live machine.old) }
+    requires stands { M.StandsOn D D.Disk machine.old disk.old }
+    requires staged { M.staged_of machine.old ≤ 28 }
+    requires open_batch { owed.old.count < batch }
+    requires small { batch ≤ 64 }
+    ensures steps { OnOk result (Runs (Session M.Machine D.Disk)
+        (record { machine = machine.old; disk = disk.old; owed = owed.old; taken = K.taken sink.old; steps = steps.old }) (line.now ∷ [])
+        (record { machine = machine.new; disk = disk.new; owed = owed.new; taken = K.taken sink.new; steps = steps.new })) }
+    ensures halts { IfErr result (λ e. Halts (Session M.Machine D.Disk) (Broken M.Machine D.Disk batch) e
+        (record { machine = machine.old; disk = disk.old; owed = owed.old; taken = K.taken sink.old; steps = steps.old }) (line.now ∷ [])
+        (record { machine = machine.new; disk = disk.new; owed = owed.new; taken = K.taken sink.new; steps = steps.new })) }
+    ensures live { UnlessDisk result (IsTrue (M.is_live machine.new)) }
+    ensures stands { UnlessDisk result (M.StandsOn D D.Disk machine.new disk.new) }
+    ensures settled { OnOk result (NothingPending D.Disk disk.new) }
+    ensures staged { OnOk result (M.staged_of machine.new ≡ 0) }
+    ensures empty { OnOk result (owed.new ≡ no_replies) }
+    ensures counted { CountsAlike (M.words_in machine.old) (M.words_in machine.new) steps.old steps.new }
+    ensures sink_count { CountGoesOn (K.faults sink.old) (K.faults sink.new) (K.is_spent sink.old) (K.is_spent sink.new) }
+    ensures disk { DiskCallsBy D.Disk disk.old disk.new (result ≡ Err Ended.Disk) }
+    ensures sink { result ≡ Err Ended.Sink → Rose (K.faults sink.old) (K.faults sink.new) (K.is_spent sink.new) }
+    ensures only { IfErr result IsInside }
+{
+    take_line(machine, disk, sink, owed, line, batch, steps)?;
+    close(machine, disk, sink, owed)
+}
+
+/// The input ended: the last line, which may lack its newline, is stepped, and the batch closes.
+pub(crate) fn finish<M: Machine, D: Disk, K: Sink, L: Ledger>(
+    machine: &mut M,
+    disk: &mut D,
+    sink: &mut K,
+    owed: &mut Buffers,
+    part: &mut PartialLine,
+    batch: u64,
+    steps: &mut Steps<L>,
+) -> Result<(), Ended>
+    requires live { IsTrue (M.is_live machine.old) }
+    requires stands { M.StandsOn D D.Disk machine.old disk.old }
+    requires staged { M.staged_of machine.old ≤ 28 }
+    requires open_batch { owed.old.count < batch }
+    requires small { batch ≤ 64 }
+    ensures steps { OnOk result (Runs (Session M.Machine D.Disk)
+        (record { machine = machine.old; disk = disk.old; owed = owed.old; taken = K.taken sink.old; steps = steps.old }) (lines part.old)
+        (record { machine = machine.new; disk = disk.new; owed = owed.new; taken = K.taken sink.new; steps = steps.new })) }
+    ensures halts { IfErr result (λ e. Halts (Session M.Machine D.Disk) (Broken M.Machine D.Disk batch) e
+        (record { machine = machine.old; disk = disk.old; owed = owed.old; taken = K.taken sink.old; steps = steps.old }) (lines part.old)
+        (record { machine = machine.new; disk = disk.new; owed = owed.new; taken = K.taken sink.new; steps = steps.new })) }
+    ensures live { UnlessDisk result (IsTrue (M.is_live machine.new)) }
+    ensures stands { UnlessDisk result (M.StandsOn D D.Disk machine.new disk.new) }
+    ensures settled { OnOk result (NothingPending D.Disk disk.new) }
+    ensures staged { OnOk result (M.staged_of machine.new ≡ 0) }
+    ensures empty { OnOk result (owed.new ≡ no_replies) }
+    ensures counted { CountsAlike (M.words_in machine.old) (M.words_in machine.new) steps.old steps.new }
+    ensures sink_count { CountGoesOn (K.faults sink.old) (K.faults sink.new) (K.is_spent sink.old) (K.is_spent sink.new) }
+    ensures disk { DiskCallsBy D.Disk disk.old disk.new (result ≡ Err Ended.Disk) }
+    ensures sink { result ≡ Err Ended.Sink → Rose (K.faults sink.old) (K.faults sink.new) (K.is_spent sink.new) }
+    ensures only { IfErr result IsInside }
+{
+    match part.finish() {
+        None => close(machine, disk, sink, owed),
+        Some(line) => line_and_close(machine, disk, sink, owed, &line, batch, steps),
+    }
+}

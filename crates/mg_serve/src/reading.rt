@@ -1,0 +1,99 @@
+// The loop over the pieces of the input, for any machine.
+ghost use Rattle.std.specs.Prelude.{◌≡◌, ◌+◌, ◌≤◌, Err, IfErr, IsTrue, OnOk};
+ghost use Rattle.mg_disk.specs.Stops.{DiskCallsBy, NothingPending};
+ghost use Rattle.mg_faults.specs.Faults.{CountGoesOn, Rose};
+ghost use Rattle.mg_model.specs.Counts.{CountsAlike};
+ghost use Rattle.mg_serve.specs.Serving.{Broken, Session};
+ghost use Rattle.mg_serve.specs.Sessions.{UnlessDisk};
+ghost use Rattle.mg_serve.specs.Readings.{Finishes, Stops};
+
+use crate::buffers::Buffers;
+use crate::ended::Ended;
+use crate::incoming::{finish, take_bytes};
+use crate::machine::Machine;
+use crate::partial::PartialLine;
+use mg_disk::Disk;
+use mg_io::{Sink, Source};
+use mg_model::Steps;
+use std::sync::ledger::Ledger;
+
+/// The most bytes that are taken at once.
+const PIECE: usize = 4096;
+
+/// Reads lines to the end of the source, and has a machine step them and put their replies, up to a limit on the bytes. What
+/// waits in `owed` at first is dropped.
+///
+/// # Errors
+///
+/// [`Ended::Disk`], [`Ended::Source`] and [`Ended::Sink`] come only where a call of that object failed, and
+/// [`Ended::TooLong`] where more than `limit` bytes were taken. After a fault of the source and too long an input the open
+/// batch is left as it is. The machine is then live and stands on the disk, except after [`Ended::Disk`].
+pub(crate) fn serve_lines<M: Machine, D: Disk, S: Source, K: Sink, L: Ledger>(
+    machine: &mut M,
+    disk: &mut D,
+    source: &mut S,
+    sink: &mut K,
+    owed: &mut Buffers,
+    batch: u64,
+    limit: u64,
+    steps: &mut Steps<L>,
+) -> Result<(), Ended>
+    requires live { IsTrue (M.is_live machine.old) }
+    requires stands { M.StandsOn D D.Disk machine.old disk.old }
+    requires staged { M.staged_of machine.old ≡ 0 }
+    requires some { 1 ≤ batch }
+    requires small { batch ≤ 64 }
+    ensures finishes { OnOk result (Finishes (Session M.Machine D.Disk) (record { machine = machine.old; disk = disk.old; taken = K.taken sink.old; steps = steps.old }) (S.left source.old) limit
+        (record { machine = machine.new; disk = disk.new; owed = owed.new; taken = K.taken sink.new; steps = steps.new }) (S.left source.new)) }
+    ensures stops { IfErr result (λ e. Stops (Broken M.Machine D.Disk batch) e (record { machine = machine.old; disk = disk.old; taken = K.taken sink.old; steps = steps.old }) (S.left source.old)
+        limit batch (limit + 4096)
+        (record { machine = machine.new; disk = disk.new; owed = owed.new; taken = K.taken sink.new; steps = steps.new }) (S.left source.new)) }
+    ensures live { UnlessDisk result (IsTrue (M.is_live machine.new)) }
+    ensures stands { UnlessDisk result (M.StandsOn D D.Disk machine.new disk.new) }
+    ensures settled { OnOk result (NothingPending D.Disk disk.new) }
+    ensures staged { OnOk result (M.staged_of machine.new ≡ 0) }
+    ensures counted { CountsAlike (M.words_in machine.old) (M.words_in machine.new) steps.old steps.new }
+    ensures source_count { CountGoesOn (S.faults source.old) (S.faults source.new) (S.is_spent source.old) (S.is_spent source.new) }
+    ensures sink_count { CountGoesOn (K.faults sink.old) (K.faults sink.new) (K.is_spent sink.old) (K.is_spent sink.new) }
+    ensures disk { DiskCallsBy D.Disk disk.old disk.new (result ≡ Err Ended.Disk) }
+    ensures source { result ≡ Err Ended.Source → Rose (S.faults source.old) (S.faults source.new) (S.is_spent source.new) }
+    ensures sink { result ≡ Err Ended.Sink → Rose (K.faults sink.old) (K.faults sink.new) (K.is_spent sink.new) }
+{
+    machine.keep_rules(disk);
+    owed.clear();
+    let mut piece = [0; PIECE];
+    let mut part = PartialLine::new();
+    let mut total: u64 = 0;
+    'pieces: loop {
+        let count = match source.take(&mut piece) {
+            Ok(count) => count,
+            Err(_) => {
+                machine.keep_rules(disk);
+                return Err(Ended::Source);
+            }
+        };
+        if count == 0 {
+            return finish(machine, disk, sink, owed, &mut part, batch, steps);
+        }
+        let room = limit - total;
+        let within = (count as u64).min(room) as usize;
+        match take_bytes(
+            machine,
+            disk,
+            sink,
+            owed,
+            &mut part,
+            &piece[..within],
+            batch,
+            steps,
+        ) {
+            Ok(()) => {}
+            Err(ended) => return Err(ended),
+        }
+        if count as u64 > room {
+            machine.keep_rules(disk);
+            return Err(Ended::TooLong);
+        }
+        total += count as u64;
+    }
+}

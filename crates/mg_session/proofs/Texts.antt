@@ -1,0 +1,11 @@
+-- How states add up over lines.
+use Rattle.std.specs.Prelude.{◌≡◌, List, [], ◌∷◌, ◌++◌}
+use Rattle.std.proofs.Common.{refl}
+use Rattle.mg_model.specs.declared.calls.Line.{Line}
+use Rattle.mg_model.specs.State.{State}
+use Rattle.mg_model.specs.Step.{after, step}
+
+-- the state after some lines and then others
+pub after-append : (state : State) (ls more : List Line) → after state (ls ++ more) ≡ after (after state ls) more
+after-append state [] more = refl
+after-append state (line ∷ ls) more = after-append (step state line).0 ls more

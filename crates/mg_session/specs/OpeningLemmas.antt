@@ -1,0 +1,411 @@
+-- An opening and a session behind it: from what each of them keeps to the record of a command.
+use Rattle.std.specs.Prelude.{ℕ, ◌≡◌, ◌≢◌, ◌⊎◌, ◌<◌, ◌≤◌, ◌+◌, List, [], length, take, Option, Some, None, IfSome, Result, Err}
+use Rattle.std.specs.Io.KnownBytes.{Appends}
+use Rattle.std.specs.Option.{ForSome}
+use Rattle.std.proofs.Common.{refl, sym, ap, ◌∙◌, arith, inl, inr, subst, ⊎_elim}
+use Rattle.std.proofs.lemmas.List.{drop_all}
+use Rattle.mg_check.specs.declared.examining.OpenFault.{OpenFault}
+use Rattle.mg_check.specs.declared.examining.OpenFault.TheVariants as fault
+use Rattle.mg_check.specs.declared.examining.Summary.{Summary}
+use Rattle.mg_check.specs.Summaries.{Tells}
+use Rattle.mg_disk.specs.Disk.{Image}
+use Rattle.mg_disk.specs.Runs.{leaves_then, leaves_wider}
+use Rattle.mg_disk.specs.Stops.{CountGoes, CountRose, Leaves, NothingPending, WritesNothing}
+use Rattle.mg_disk.specs.declared.disk.Disk.{Ghosts}
+use Rattle.mg_faults.specs.Faults.{Rose, then_rose}
+use Rattle.mg_io.specs.Known.{Appends-none, AppendsPrefix, AppendsPrefix-longer, AppendsPrefix-none}
+use Rattle.mg_io.specs.declared.traits.Sink as sinks
+use Rattle.mg_io.specs.declared.traits.Source as sources
+use Rattle.mg_kernel.specs.declared.kernel.Kernel.{Kernel}
+use Rattle.mg_kernel.specs.Meaning.{now_of}
+use Rattle.mg_kernel.specs.Opening.{Opens}
+use Rattle.mg_laws.specs.Costs.{PrefixesCostLess}
+use Rattle.mg_layout.specs.MayFormat.{IsNoState}
+use Rattle.mg_model.specs.declared.calls.Line.{Line}
+use Rattle.mg_model.specs.Lines.{lines}
+use Rattle.mg_model.specs.Print.{answered}
+use Rattle.mg_model.specs.State.{State}
+use Rattle.mg_model.specs.Volume.{Damaged, Is, NotVolume, OldVolume, VolumeRead, volume}
+use Rattle.mg_model.specs.Warmth.{cost}
+use Rattle.mg_serve.specs.declared.machine.Machine as machines
+use Rattle.mg_serve.specs.declared.status.Status.{Status}
+use Rattle.mg_serve.specs.declared.status.Status.TheVariants as status
+use Rattle.mg_serve.specs.Serving.{Serves, Traces}
+use Rattle.mg_serve.specs.Sessions.{Answers, AnswersLines, AnswersPrefix, AreAnswered, EndsSession, Holds, HoldsExactly, IsDoneOrMemory, IsPrefix, IsWithin, KeepsAnswered, SpellsAfter, TakesAtMost, input_limit, replies}
+use Rattle.mg_session.specs.Headline.{EndsRun, EndsUnopened, IfState, IsWithinCost, LinesKeep, MayTell, OnVolume, TellsNone, TellsOfNone, check_line, summary_line}
+use Rattle.mg_session.specs.Unopened.{EndsWith, FaultTells, IsQuiet, fault_line}
+
+-- before the first call
+none_put : (said : List Line → List ℕ) (left taken : Option (List ℕ)) → AnswersPrefix said left taken taken
+none_put said None taken = tt
+none_put said (Some input) taken = AppendsPrefix-none taken (replies said input)
+
+none_lines : (said : List Line → List ℕ) → said [] ≡ [] → (left taken : Option (List ℕ)) → AnswersLines said left taken taken
+none_lines said none None taken = tt
+none_lines said none (Some input) taken = (0, omega arith, subst (λ (v : List ℕ). Appends taken taken v) (sym none) (Appends-none taken))
+
+none_taken : (left : Option (List ℕ)) (most : ℕ) → TakesAtMost most left left
+none_taken None most = tt
+none_taken (Some input) most = omega arith
+
+-- a command that ended before the first step
+pub none_spent : (s : State) (left : Option (List ℕ)) (steps : ℕ) → IsWithinCost s left left steps steps
+none_spent s None steps = tt
+none_spent s (Some input) steps = omega arith
+
+-- a command that ended before the first call of the source and of the sink
+first_answers : (said : List Line → List ℕ) → said [] ≡ [] → (result : Status) (left taken : Option (List ℕ)) → result ≢ status.Done → Answers said result left left taken taken
+first_answers said none result left taken early = record {
+  prefix = none_put said left taken;
+  done = λ ended. absurd (early ended);
+  lines_disk = λ ended. none_lines said none left taken;
+  lines_source = λ ended. none_lines said none left taken;
+  lines_too_long = λ ended. none_lines said none left taken;
+}
+
+quiet_early : (f : OpenFault) (result : Status) → IsQuiet f → EndsWith f result → result ≢ status.Done
+quiet_early fault.Not result quiet ends = absurd quiet
+quiet_early fault.Old result quiet ends = absurd quiet
+quiet_early fault.Damaged result quiet ends = absurd quiet
+quiet_early fault.Disk result quiet ends = λ ended. (let e : result ≡ status.Disk = ends in cc)
+quiet_early fault.Memory result quiet ends = λ ended. (let e : result ≡ status.Memory = ends in cc)
+
+-- the state that an image spells
+pub state_is : (read : VolumeRead) (s : State) (P : State → Type 0) → read ≡ Is s → P s → IfState read P
+state_is read s P is p = subst (λ (v : VolumeRead). IfState v P) (sym is) p
+
+any_state : (read : VolumeRead) (P : State → Type 0) → ((s : State) → read ≡ Is s → P s) → IfState read P
+any_state NotVolume P p = tt
+any_state OldVolume P p = tt
+any_state Damaged P p = tt
+any_state (Is s) P p = p s refl
+
+-- what holds of the state of an opened volume
+pub opened_then : (k : Kernel) (told told' : Option Image) (P : State → Type 0) → ForSome told (λ image. Opens (volume image) k told') → ForSome told' (λ image. P (now_of k image)) → OnVolume told P
+opened_then k told told' P opens p = λ image is.
+    let o = opens image is in
+    state_is (volume image) o.state P o.is (subst P o.holds.now (p o.holds.image o.holds.is))
+
+-- how a fault of an opening tells of the image
+pub fault_tells : {T : Type 0} (f : OpenFault) (told : Option Image)
+    → (◌≡◌ {A = Result T OpenFault} (Err f) (Err fault.Not) → ForSome told (λ image. volume image ≡ NotVolume))
+    → (◌≡◌ {A = Result T OpenFault} (Err f) (Err fault.Old) → ForSome told (λ image. volume image ≡ OldVolume))
+    → (◌≡◌ {A = Result T OpenFault} (Err f) (Err fault.Damaged) → ForSome told (λ image. volume image ≡ Damaged)) → FaultTells f told
+fault_tells fault.Not told n o d = n refl
+fault_tells fault.Old told n o d = o refl
+fault_tells fault.Damaged told n o d = d refl
+fault_tells fault.Disk told n o d = tt
+fault_tells fault.Memory told n o d = tt
+
+-- what holds of a state holds where a fault says that there is none
+pub unopened : (f : OpenFault) (told : Option Image) (P : State → Type 0) → FaultTells f told → (IsQuiet f → (image : Image) → told ≡ Some image → (s : State) → volume image ≡ Is s → P s) → OnVolume told P
+unopened fault.Not told P tells p = λ image is. subst (λ (v : VolumeRead). IfState v P) (sym (tells image is)) tt
+unopened fault.Old told P tells p = λ image is. subst (λ (v : VolumeRead). IfState v P) (sym (tells image is)) tt
+unopened fault.Damaged told P tells p = λ image is. subst (λ (v : VolumeRead). IfState v P) (sym (tells image is)) tt
+unopened fault.Disk told P tells p = λ image is. any_state (volume image) P (λ s spelled. p tt image is s spelled)
+unopened fault.Memory told P tells p = λ image is. any_state (volume image) P (λ s spelled. p tt image is s spelled)
+
+-- what the sink took where the volume was not opened
+unopened_answers : (said : State → List Line → List ℕ) → ((s : State) → said s [] ≡ []) → (f : OpenFault) (told : Option Image) (result : Status) (left taken taken' : Option (List ℕ)) → FaultTells f told → EndsWith f result → (IsQuiet f → taken' ≡ taken)
+    → OnVolume told (λ s. Answers (said s) result left left taken taken')
+unopened_answers said none f told result left taken taken' tells ends same =
+    unopened f told (λ s. Answers (said s) result left left taken taken') tells
+    (λ quiet image is s spelled. subst (λ (v : Option (List ℕ)). Answers (said s) result left left taken v) (sym (same quiet)) (first_answers (said s) (none s) result left taken (quiet_early f result quiet ends)))
+
+-- what a stop leaves of it
+unopened_exactly : {D : Type 0} (facts : Ghosts D) (kept : State → List Line → State) (f : OpenFault) (told : Option Image) (result : Status) (d' : D) (left taken taken' : Option (List ℕ)) → FaultTells f told → EndsWith f result
+    → OnVolume told (λ s. HoldsExactly facts (kept s) result d' left left taken taken')
+unopened_exactly facts kept f told result d' left taken taken' tells ends =
+    unopened f told (λ s. HoldsExactly facts (kept s) result d' left left taken taken') tells (λ quiet image is s spelled. by_fault f quiet ends s)
+  where
+    by_fault : (f : OpenFault) → IsQuiet f → EndsWith f result → (s : State) → HoldsExactly facts (kept s) result d' left left taken taken'
+    by_fault fault.Not quiet ends s = absurd quiet
+    by_fault fault.Old quiet ends s = absurd quiet
+    by_fault fault.Damaged quiet ends s = absurd quiet
+    by_fault fault.Disk quiet ends s = let e : result ≡ status.Disk = ends in record { held_source = λ h. absurd (cc); held_too_long = λ h. absurd (cc); held_sink = λ h. absurd (cc) }
+    by_fault fault.Memory quiet ends s = let e : result ≡ status.Memory = ends in record { held_source = λ h. absurd (cc); held_too_long = λ h. absurd (cc); held_sink = λ h. absurd (cc) }
+
+-- a prefix of a fault's line is one of a line that `check` may put
+pub fault_may_tell : (f : OpenFault) (taken taken' : Option (List ℕ)) → AppendsPrefix taken taken' (fault_line f) → (line : List ℕ) × MayTell line × AppendsPrefix taken taken' line
+fault_may_tell fault.Not taken taken' put = (check_line NotVolume, inr (inl refl), put)
+fault_may_tell fault.Old taken taken' put = (check_line OldVolume, inr (inr (inl refl)), put)
+fault_may_tell fault.Damaged taken taken' put = (check_line Damaged, inr (inr (inr refl)), put)
+fault_may_tell fault.Disk taken taken' put = (check_line NotVolume, inr (inl refl), AppendsPrefix-longer taken taken' [] (check_line NotVolume) put)
+fault_may_tell fault.Memory taken taken' put = (check_line NotVolume, inr (inl refl), AppendsPrefix-longer taken taken' [] (check_line NotVolume) put)
+
+-- what is told of a volume is told of the state that the image spells
+pub told_prefix : (summary : Summary) (told : Option Image) (taken taken' : Option (List ℕ)) → ForSome told (Tells summary) → AppendsPrefix taken taken' (summary_line summary)
+    → ForSome told (λ image. AppendsPrefix taken taken' (check_line (volume image)))
+told_prefix summary told taken taken' tells put = λ image is.
+    let t : Tells summary image = tells image is in
+    subst (λ (v : List ℕ). AppendsPrefix taken taken' v) (ap summary_line t.told ∙ sym (ap check_line t.is)) put
+
+-- a command that found a volume
+pub told_without : {D K : Type 0} (facts : Ghosts D) (to : sinks.Ghosts K) (summary : Summary) (result : Status) (d d' : D) (k k' : K) → ForSome (facts.seen d) (Tells summary)
+    → (result ≡ status.Done) ⊎ (result ≡ status.Sink) → TellsOfNone facts to result d d' k k'
+told_without facts to summary result d d' k k' tells ends = record {
+  none = λ h. absurd (found h);
+  none_writes = λ h. absurd (found h);
+  not_opened = λ image is none. absurd (subst IsNoState (tells image is).is none);
+  not_opened_prefix = λ image is none. absurd (subst IsNoState (tells image is).is none);
+}
+  where
+    found : result ≡ status.NoVolume → ⊥
+    found h = ⊎_elim (λ (e : result ≡ status.Done). cc) (λ (e : result ≡ status.Sink). cc) ends
+
+-- an opening that found no volume wrote nothing
+pub untouched : {T : Type 0} (f : OpenFault) (W : Type 0) → (◌≡◌ {A = Result T OpenFault} (Err f) (Err fault.Not) → W) → (◌≡◌ {A = Result T OpenFault} (Err f) (Err fault.Old) → W)
+    → (◌≡◌ {A = Result T OpenFault} (Err f) (Err fault.Damaged) → W) → (IsQuiet f → ⊥) → W
+untouched fault.Not W n o d loud = n refl
+untouched fault.Old W n o d loud = o refl
+untouched fault.Damaged W n o d loud = d refl
+untouched fault.Disk W n o d loud = absurd (loud tt)
+untouched fault.Memory W n o d loud = absurd (loud tt)
+
+-- what a session on a volume that was opened tells of none
+pub opened_without : {D K : Type 0} (facts : Ghosts D) (to : sinks.Ghosts K) (kernel : Kernel) (result : Status) (d mid d' : D) (k k' : K)
+    → ForSome (facts.seen d) (λ image. Opens (volume image) kernel (facts.seen mid)) → EndsSession result → TellsOfNone facts to result d d' k k'
+opened_without facts to kernel result d mid d' k k' opens ends = record {
+  none = λ h. absurd (never h);
+  none_writes = λ h. absurd (never h);
+  not_opened = λ image is no_state. absurd (gone image is no_state);
+  not_opened_prefix = λ image is no_state. absurd (gone image is no_state);
+}
+  where
+    gone : (image : Image) → facts.seen d ≡ Some image → IsNoState (volume image) → ⊥
+    gone image is no_state = let o = opens image is in subst IsNoState o.is no_state
+
+    never : result ≡ status.NoVolume → ⊥
+    never h =
+        ⊎_elim (λ (e : result ≡ status.Done). cc)
+        (⊎_elim (λ (e : result ≡ status.Memory). cc) (⊎_elim (λ (e : result ≡ status.Disk). cc) (⊎_elim (λ (e : result ≡ status.Source). cc) (⊎_elim (λ (e : result ≡ status.Sink). cc) (λ (e : result ≡ status.TooLong). cc)))))
+        ends
+
+-- a command that found no volume
+pub unopened_without : {D K : Type 0} (facts : Ghosts D) (to : sinks.Ghosts K) (f : OpenFault) (result : Status) (d d' : D) (k k' : K) → FaultTells f (facts.seen d) → EndsWith f result
+    → ((IsQuiet f → ⊥) → WritesNothing facts d d') → (result ≡ status.NoVolume → Appends (to.taken k) (to.taken k') (fault_line f)) → AppendsPrefix (to.taken k) (to.taken k') (fault_line f)
+    → TellsOfNone facts to result d d' k k'
+unopened_without facts to f result d d' k k' tells ends writes put prefix = record {
+  none = λ h. none f tells ends put h;
+  none_writes = λ h. loud f ends writes h;
+  not_opened = λ image is no_state. may_end f ends;
+  not_opened_prefix = λ image is no_state. line f tells prefix image is;
+}
+  where
+    none : (f : OpenFault) → FaultTells f (facts.seen d) → EndsWith f result → (result ≡ status.NoVolume → Appends (to.taken k) (to.taken k') (fault_line f)) → result ≡ status.NoVolume → TellsNone (facts.seen d) (to.taken k) (to.taken k')
+    none fault.Not tells ends put h = record { read = NotVolume; none = tt; is = tells; put = put h }
+    none fault.Old tells ends put h = record { read = OldVolume; none = tt; is = tells; put = put h }
+    none fault.Damaged tells ends put h = record { read = Damaged; none = tt; is = tells; put = put h }
+    none fault.Disk tells ends put h = let e : result ≡ status.Disk = ends in absurd (cc)
+    none fault.Memory tells ends put h = let e : result ≡ status.Memory = ends in absurd (cc)
+
+    loud : (f : OpenFault) → EndsWith f result → ((IsQuiet f → ⊥) → WritesNothing facts d d') → result ≡ status.NoVolume → WritesNothing facts d d'
+    loud fault.Not ends writes h = writes (λ quiet. quiet)
+    loud fault.Old ends writes h = writes (λ quiet. quiet)
+    loud fault.Damaged ends writes h = writes (λ quiet. quiet)
+    loud fault.Disk ends writes h = let e : result ≡ status.Disk = ends in absurd (cc)
+    loud fault.Memory ends writes h = let e : result ≡ status.Memory = ends in absurd (cc)
+
+    either : (result ≡ status.NoVolume) ⊎ (result ≡ status.Sink) → EndsUnopened result
+    either ends = ⊎_elim (λ none. inl none) (λ sink. inr (inr (inr sink))) ends
+
+    may_end : (f : OpenFault) → EndsWith f result → EndsUnopened result
+    may_end fault.Not ends = either ends
+    may_end fault.Old ends = either ends
+    may_end fault.Damaged ends = either ends
+    may_end fault.Disk ends = inr (inr (inl ends))
+    may_end fault.Memory ends = inr (inl ends)
+
+    of_kind : (read : VolumeRead) (image : Image) → volume image ≡ read → AppendsPrefix (to.taken k) (to.taken k') (check_line read) → AppendsPrefix (to.taken k) (to.taken k') (check_line (volume image))
+    of_kind read image is prefix = subst (λ v. AppendsPrefix (to.taken k) (to.taken k') (check_line v)) (sym is) prefix
+
+    line : (f : OpenFault) → FaultTells f (facts.seen d) → AppendsPrefix (to.taken k) (to.taken k') (fault_line f) → (image : Image) → facts.seen d ≡ Some image
+        → AppendsPrefix (to.taken k) (to.taken k') (check_line (volume image))
+    line fault.Not tells prefix image is = of_kind NotVolume image (tells image is) prefix
+    line fault.Old tells prefix image is = of_kind OldVolume image (tells image is) prefix
+    line fault.Damaged tells prefix image is = of_kind Damaged image (tells image is) prefix
+    line fault.Disk tells prefix image is = AppendsPrefix-longer (to.taken k) (to.taken k') [] (check_line (volume image)) prefix
+    line fault.Memory tells prefix image is = AppendsPrefix-longer (to.taken k) (to.taken k') [] (check_line (volume image)) prefix
+
+-- where nothing was taken or put, no line is answered
+none_answered : (taken : Option (List ℕ)) → AreAnswered taken taken 0
+none_answered None = tt
+none_answered (Some before) = omega (arith, ap answered (drop_all (length before) before (omega arith)))
+
+none_held : (left_now : Image → Type 0) (kept : List Line → State) (left taken : Option (List ℕ)) → ((c : Image) → left_now c → volume c ≡ Is (kept [])) → KeepsAnswered left_now kept left left taken taken
+none_held left_now kept None taken spelled = tt
+none_held left_now kept (Some input) taken spelled = λ c left. (0, record { all_answered = none_answered taken; came = omega arith }, spelled c left)
+
+no_lines : (kept : List Line → State) (ls : List Line) (c : Image) → volume c ≡ Is (kept []) → IsPrefix kept ls c
+no_lines kept ls c is = (0, omega arith, is)
+
+some_image : (a b : Image) → Some a ≡ Some b → b ≡ a
+some_image a b is = cc
+
+-- what an opening may leave, where the session then leaves this
+module _ {D : Type 0} (facts : Ghosts D) (d mid : D) where
+  prefix_yet : (left : Option (List ℕ)) (image : Image) (kept : List Line → State) → volume image ≡ Is (kept []) → Leaves facts d mid (λ c. volume c ≡ volume image)
+      → IfSome left (λ input. Leaves facts d mid (IsPrefix kept (lines input)))
+  prefix_yet None image kept spelled first = tt
+  prefix_yet (Some input) image kept spelled first =
+      leaves_wider facts d mid (λ c. volume c ≡ volume image) (IsPrefix kept (lines input)) first (λ c same. no_lines kept (lines input) c (same ∙ spelled))
+
+  prefix_then : (d' : D) (left : Option (List ℕ)) (kept : List Line → State) → IfSome left (λ input. Leaves facts d mid (IsPrefix kept (lines input)))
+      → IfSome left (λ input. Leaves facts mid d' (IsPrefix kept (lines input))) → IfSome left (λ input. Leaves facts d d' (IsPrefix kept (lines input)))
+  prefix_then d' None kept first second = tt
+  prefix_then d' (Some input) kept first second = leaves_then facts d mid d' (IsPrefix kept (lines input)) (IsPrefix kept (lines input)) first second (λ c f. f)
+
+  -- an opening, and then a session
+  opened_holds : (kept : State → List Line → State) → ((s : State) → kept s [] ≡ s) → (k : Kernel) (d' : D) (left left' taken taken' : Option (List ℕ)) → ForSome (facts.seen d) (λ image. Opens (volume image) k (facts.seen mid))
+      → ForSome (facts.seen d) (λ image. Leaves facts d mid (λ c. volume c ≡ volume image))
+      → ForSome (facts.seen mid) (λ image. Holds facts (kept (now_of k image)) mid d' left left' taken taken')
+      → OnVolume (facts.seen d) (λ s. Holds facts (kept s) d d' left left' taken taken')
+  opened_holds kept none k d' left left' taken taken' opens first second = λ image is.
+      let o : Opens (volume image) k (facts.seen mid) = opens image is in
+      let h : Holds facts (kept o.state) mid d' left left' taken taken' = subst (λ (s : State). Holds facts (kept s) mid d' left left' taken taken') o.holds.now (second o.holds.image o.holds.is) in
+      state_is (volume image) o.state (λ s. Holds facts (kept s) d d' left left' taken taken') o.is
+      record { moments = prefix_then d' left (kept o.state) (prefix_yet left image (kept o.state) (o.is ∙ ap (λ v. Is v) (sym (none o.state))) (first image is)) h.moments; held = h.held }
+
+  -- an opening that failed
+  unopened_holds : (kept : State → List Line → State) → ((s : State) → kept s [] ≡ s) → (f : OpenFault) (left taken taken' : Option (List ℕ)) → FaultTells f (facts.seen d) → (IsQuiet f → taken' ≡ taken) → NothingPending facts d
+      → ForSome (facts.seen d) (λ image. Leaves facts d mid (λ c. volume c ≡ volume image)) → OnVolume (facts.seen d) (λ s. Holds facts (kept s) d mid left left taken taken')
+  unopened_holds kept none f left taken taken' tells same only first =
+      unopened f (facts.seen d) (λ s. Holds facts (kept s) d mid left left taken taken') tells (λ quiet image is s spelled.
+      let here : volume image ≡ Is (kept s []) = spelled ∙ ap (λ v. Is v) (sym (none s)) in
+      subst (λ (v : Option (List ℕ)). Holds facts (kept s) d mid left left taken v) (sym (same quiet)) record {
+        moments = prefix_yet left image (kept s) here (first image is);
+        held = none_held (facts.left_since mid (facts.moment mid)) (kept s) left taken (λ c left. ⊎_elim
+            (λ (before : facts.left_since d (facts.moment d) c). ap volume (some_image image c (sym is ∙ only c before)) ∙ here)
+            (λ (same : volume c ≡ volume image). same ∙ here)
+            ((first image is).time.now c left));
+      })
+
+-- a session that ended so ended in one of the ways of `run`, and not for want of a volume
+pub no_volume : (result : Status) → EndsSession result → result ≡ status.NoVolume → ⊥
+no_volume result ends h =
+    ⊎_elim (λ (e : result ≡ status.Done). cc)
+    (⊎_elim (λ (e : result ≡ status.Memory). cc) (⊎_elim (λ (e : result ≡ status.Disk). cc) (⊎_elim (λ (e : result ≡ status.Source). cc) (⊎_elim (λ (e : result ≡ status.Sink). cc) (λ (e : result ≡ status.TooLong). cc)))))
+    ends
+
+within_any : (limit : ℕ) (left : Option (List ℕ)) (P : Type 0) → P → IsWithin limit left P
+within_any limit None P holds = tt
+within_any limit (Some input) P holds = λ short. holds
+
+-- how a command ends with a fault
+fault_ends : (f : OpenFault) (result : Status) → EndsWith f result → EndsUnopened result
+fault_ends fault.Not result ends = ⊎_elim (λ none. inl none) (λ sink. inr (inr (inr sink))) ends
+fault_ends fault.Old result ends = ⊎_elim (λ none. inl none) (λ sink. inr (inr (inr sink))) ends
+fault_ends fault.Damaged result ends = ⊎_elim (λ none. inl none) (λ sink. inr (inr (inr sink))) ends
+fault_ends fault.Disk result ends = inr (inr (inl ends))
+fault_ends fault.Memory result ends = inr (inl ends)
+
+-- of these four statuses it is no other
+other_end : (result other : Status) → EndsUnopened result → other ≢ status.NoVolume → other ≢ status.Memory → other ≢ status.Disk → other ≢ status.Sink → result ≡ other → ⊥
+other_end result other ends a b c d h = ⊎_elim (λ (e : result ≡ status.NoVolume). a (sym h ∙ e)) (⊎_elim (λ (e : result ≡ status.Memory). b (sym h ∙ e)) (⊎_elim (λ (e : result ≡ status.Disk). c (sym h ∙ e)) (λ (e : result ≡ status.Sink). d (sym h ∙ e)))) ends
+
+unopened_which : (result : Status) → EndsUnopened result → EndsRun result
+unopened_which result ends = ⊎_elim (λ none. inl none) (⊎_elim (λ memory. inr (inr (inl memory))) (⊎_elim (λ disk. inr (inr (inr (inl disk)))) (λ sink. inr (inr (inr (inr (inr (inl sink)))))))) ends
+
+-- want of memory and a fault of the disk are quiet
+fault_memory : (f : OpenFault) (result : Status) → EndsWith f result → result ≡ status.Memory → IsQuiet f
+fault_memory fault.Not result ends h = ⊎_elim (λ (e : result ≡ status.NoVolume). absurd (cc)) (λ (e : result ≡ status.Sink). absurd (cc)) ends
+fault_memory fault.Old result ends h = ⊎_elim (λ (e : result ≡ status.NoVolume). absurd (cc)) (λ (e : result ≡ status.Sink). absurd (cc)) ends
+fault_memory fault.Damaged result ends h = ⊎_elim (λ (e : result ≡ status.NoVolume). absurd (cc)) (λ (e : result ≡ status.Sink). absurd (cc)) ends
+fault_memory fault.Disk result ends h = tt
+fault_memory fault.Memory result ends h = tt
+
+fault_disk : {T : Type 0} (f : OpenFault) (result : Status) → EndsWith f result → result ≡ status.Disk → ◌≡◌ {A = Result T OpenFault} (Err f) (Err fault.Disk)
+fault_disk fault.Not result ends h = ⊎_elim (λ (e : result ≡ status.NoVolume). absurd (cc)) (λ (e : result ≡ status.Sink). absurd (cc)) ends
+fault_disk fault.Old result ends h = ⊎_elim (λ (e : result ≡ status.NoVolume). absurd (cc)) (λ (e : result ≡ status.Sink). absurd (cc)) ends
+fault_disk fault.Damaged result ends h = ⊎_elim (λ (e : result ≡ status.NoVolume). absurd (cc)) (λ (e : result ≡ status.Sink). absurd (cc)) ends
+fault_disk fault.Disk result ends h = refl
+fault_disk fault.Memory result ends h = let e : result ≡ status.Memory = ends in absurd (cc)
+
+module _ {D S K : Type 0} (facts : Ghosts D) (from : sources.Ghosts S) (to : sinks.Ghosts K) (said : State → List Line → List ℕ) (kept : State → List Line → State) (batch : ℕ) where
+  -- a volume was opened, and a machine over its kernel served the lines
+  pub lines_opened : {M : Type 0} (is : machines.Ghosts M) (k : Kernel) (m m' : M) (result : Status) (d mid d' : D) (source source' : S) (sink sink' : K) (steps steps' : ℕ)
+      → ForSome (facts.seen d) (λ image. Opens (volume image) k (facts.seen mid)) → (NothingPending facts d → ForSome (facts.seen d) (λ image. Leaves facts d mid (λ c. volume c ≡ volume image))) → CountGoes facts d mid
+      → ((image : Image) → is.said m image ≡ said (now_of k image)) → ((image : Image) → is.kept m image ≡ kept (now_of k image)) → ((s : State) → kept s [] ≡ s)
+      → Serves is facts from to batch input_limit result m m' mid d' source source' sink sink' steps steps' → LinesKeep facts from to said kept batch result d d' source source' sink sink'
+  lines_opened is k m m' result d mid d' source source' sink sink' steps steps' opens first count says keeps none serves = record {
+    answers = opened_then k (facts.seen d) (facts.seen mid) (λ s. Answers (said s) result (from.left source) (from.left source') (to.taken sink) (to.taken sink')) opens
+        (λ image seen. subst (λ (v : List Line → List ℕ). Answers v result (from.left source) (from.left source') (to.taken sink) (to.taken sink')) (says image) (serves.answers image seen));
+    kept = λ done. opened_then k (facts.seen d) (facts.seen mid) (λ s. IfSome (from.left source) (λ input. SpellsAfter (kept s) input (facts.seen d'))) opens
+        (λ image seen. subst (λ (v : List Line → State). IfSome (from.left source) (λ input. SpellsAfter v input (facts.seen d'))) (keeps image) (serves.kept done image seen));
+    holds = λ pending. opened_holds facts d mid kept none k d' (from.left source) (from.left source') (to.taken sink) (to.taken sink') opens (first pending)
+        (λ image seen. subst (λ (v : List Line → State). Holds facts v mid d' (from.left source) (from.left source') (to.taken sink) (to.taken sink')) (keeps image) (serves.holds image seen));
+    holds_exactly = opened_then k (facts.seen d) (facts.seen mid) (λ s. HoldsExactly facts (kept s) result d' (from.left source) (from.left source') (to.taken sink) (to.taken sink')) opens
+        (λ image seen. subst (λ (v : List Line → State). HoldsExactly facts v result d' (from.left source) (from.left source') (to.taken sink) (to.taken sink')) (keeps image) (serves.holds_exactly image seen));
+    ends = serves.ends;
+    which = inr serves.which;
+    disk_failed = λ h. then_rose _ _ _ _ _ _ count (serves.disk_failed h);
+    without = opened_without facts to k result d mid d' sink sink' opens serves.which;
+    none_source = λ h. absurd (no_volume result serves.which h);
+    not_opened_source = λ image seen no_state. absurd (let o = opens image seen in subst IsNoState o.is no_state);
+    complete = opened_then k (facts.seen d) (facts.seen mid) _ opens (λ image seen. λ no_disk no_source no_sink. serves.complete (λ rose. no_disk (then_rose _ _ _ _ _ _ count rose)) no_source no_sink);
+  }
+
+  -- no volume was opened, and the line of the fault was put, or a part of it
+  pub lines_unopened : (f : OpenFault) (result : Status) (d d' : D) (source : S) (sink sink' : K) → FaultTells f (facts.seen d) → EndsWith f result → ((IsQuiet f → ⊥) → WritesNothing facts d d') → (IsQuiet f → sink' ≡ sink)
+      → (result ≡ status.NoVolume → Appends (to.taken sink) (to.taken sink') (fault_line f)) → AppendsPrefix (to.taken sink) (to.taken sink') (fault_line f)
+      → (result ≡ status.Sink → Rose (to.faults sink) (to.faults sink') (to.is_spent sink')) → (◌≡◌ {A = Result Kernel OpenFault} (Err f) (Err fault.Disk) → CountRose facts d d')
+      → (NothingPending facts d → ForSome (facts.seen d) (λ image. Leaves facts d d' (λ c. volume c ≡ volume image))) → ((s : State) → said s [] ≡ []) → ((s : State) → kept s [] ≡ s)
+      → LinesKeep facts from to said kept batch result d d' source source sink sink'
+  lines_unopened f result d d' source sink sink' tells ends writes quiet put prefix sink_rose disk_rose first says none =
+      let un : EndsUnopened result = fault_ends f result ends in
+      let disk : result ≡ status.Disk → CountRose facts d d' = λ h. disk_rose (fault_disk f result ends h) in record {
+        answers = unopened_answers said says f (facts.seen d) result (from.left source) (to.taken sink) (to.taken sink') tells ends (λ q. ap (λ v. to.taken v) (quiet q));
+        kept = λ done. absurd (other_end result status.Done un (λ h. cc) (λ h. cc) (λ h. cc) (λ h. cc) done);
+        holds = λ pending. unopened_holds facts d d' kept none f (from.left source) (to.taken sink) (to.taken sink') tells (λ q. ap (λ v. to.taken v) (quiet q)) pending (first pending);
+        holds_exactly = unopened_exactly facts kept f (facts.seen d) result d' (from.left source) (to.taken sink) (to.taken sink') tells ends;
+        ends = record {
+          few_source = λ h. absurd (other_end result status.Source un (λ h. cc) (λ h. cc) (λ h. cc) (λ h. cc) h);
+          few_too_long = λ h. absurd (other_end result status.TooLong un (λ h. cc) (λ h. cc) (λ h. cc) (λ h. cc) h);
+          memory = λ h. (refl, quiet (fault_memory f result ends h));
+          source_failed = λ h. absurd (other_end result status.Source un (λ h. cc) (λ h. cc) (λ h. cc) (λ h. cc) h);
+          sink_failed = sink_rose;
+          too_long = λ h. absurd (other_end result status.TooLong un (λ h. cc) (λ h. cc) (λ h. cc) (λ h. cc) h);
+          within_done = λ h. none_taken (from.left source) input_limit;
+          within_source = λ h. none_taken (from.left source) input_limit;
+          bounded = none_taken (from.left source) (input_limit + 4096);
+        };
+        which = unopened_which result un;
+        disk_failed = disk;
+        without = unopened_without facts to f result d d' sink sink' tells ends writes put prefix;
+        none_source = λ h. refl;
+        not_opened_source = λ image seen no_state. refl;
+        complete = unopened f (facts.seen d) _ tells (λ q image seen s spelled. λ no_disk no_source no_sink. within_any input_limit (from.left source) (IsDoneOrMemory result) (⊎_elim
+            (λ (e : result ≡ status.NoVolume). absurd (quiet_volume f result q ends e))
+            (⊎_elim (λ (e : result ≡ status.Memory). inr e) (⊎_elim (λ (e : result ≡ status.Disk). absurd (no_disk (disk e))) (λ (e : result ≡ status.Sink). absurd (no_sink (sink_rose e)))))
+            un));
+      }
+    where
+      quiet_volume : (f : OpenFault) (result : Status) → IsQuiet f → EndsWith f result → result ≡ status.NoVolume → ⊥
+      quiet_volume fault.Not result q ends h = absurd q
+      quiet_volume fault.Old result q ends h = absurd q
+      quiet_volume fault.Damaged result q ends h = absurd q
+      quiet_volume fault.Disk result q ends h = let e : result ≡ status.Disk = ends in cc
+      quiet_volume fault.Memory result q ends h = let e : result ≡ status.Memory = ends in cc
+
+-- what a session costs, where each step counts what its line may cost
+pub traced_cost : {M : Type 0} (is : machines.Ghosts M) → PrefixesCostLess cost → (batch : ℕ) (result : Status) (m m' : M) (image : Image) (s : State) (left left' taken taken' : Option (List ℕ)) (steps steps' : ℕ)
+    → ((ls : List Line) → is.Stepped m image ls steps steps' m' → steps' ≤ steps + cost s ls) → ((ls : List Line) → is.StoppedIn m image ls steps steps' m' → steps' ≤ steps + cost s ls)
+    → Traces is batch result m image left left' taken taken' steps steps' m' → IsWithinCost s left left' steps steps'
+traced_cost is less batch result m m' image s None left' taken taken' steps steps' stepped stopped t = tt
+traced_cost is less batch result m m' image s (Some input) None taken taken' steps steps' stepped stopped t = absurd t
+traced_cost is less batch result m m' image s (Some input) (Some rest) taken taken' steps steps' stepped stopped t =
+    let spent : steps' ≤ steps + cost s (take t.stepped (lines input)) = by_status result t.at_disk t.after in
+    let first = less s (take t.stepped (lines input)) t.came.0 in
+    omega (arith, ap (λ v. cost s v) t.came.1, first)
+  where
+    by_status : (result : Status) → (result ≡ status.Disk → is.Stepped m image (take t.stepped (lines input)) steps steps' m' ⊎ ((t.count < t.stepped) × is.StoppedIn m image (take t.stepped (lines input)) steps steps' m'))
+        → (result ≢ status.Disk → is.Stepped m image (take t.stepped (lines input)) steps steps' m') → steps' ≤ steps + cost s (take t.stepped (lines input))
+    by_status status.Disk at_disk after = ⊎_elim (λ a. stepped (take t.stepped (lines input)) a) (λ (b : (t.count < t.stepped) × is.StoppedIn m image (take t.stepped (lines input)) steps steps' m'). stopped (take t.stepped (lines input)) b.1) (at_disk refl)
+    by_status status.Done at_disk after = stepped (take t.stepped (lines input)) (after (λ h. cc))
+    by_status status.Usage at_disk after = stepped (take t.stepped (lines input)) (after (λ h. cc))
+    by_status status.NoVolume at_disk after = stepped (take t.stepped (lines input)) (after (λ h. cc))
+    by_status status.Memory at_disk after = stepped (take t.stepped (lines input)) (after (λ h. cc))
+    by_status status.Source at_disk after = stepped (take t.stepped (lines input)) (after (λ h. cc))
+    by_status status.Sink at_disk after = stepped (take t.stepped (lines input)) (after (λ h. cc))
+    by_status status.TooLong at_disk after = stepped (take t.stepped (lines input)) (after (λ h. cc))
+    by_status status.TooSmall at_disk after = stepped (take t.stepped (lines input)) (after (λ h. cc))
