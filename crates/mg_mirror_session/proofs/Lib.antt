@@ -1,5 +1,4 @@
 pub mod Through
-pub mod Endings
 pub mod Opening
 pub mod FirstFault
 pub mod Refusing

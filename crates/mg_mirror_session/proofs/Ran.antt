@@ -1,5 +1,5 @@
 -- A run over a mirror: what it keeps of the two disks.
-use Rattle.std.specs.Prelude.{ℕ, ◌≡◌, ◌≢◌, ◌<◌, ◌&&◌, Bool, true, false, IsTrue, List, length, Option, Some, None}
+use Rattle.std.specs.Prelude.{ℕ, ◌≡◌, ◌≢◌, ◌<◌, ◌&&◌, Bool, true, false, IsTrue, List, length, Option, Some, None, IfSome}
 use Rattle.std.specs.Option.{ForSome}
 use Rattle.std.proofs.Common.{refl, sym, ap, subst, inl, inr, ⊎_elim, arith, zero, suc}
 use Rattle.mg_disk.specs.Disk.{Image, Moment}
@@ -12,15 +12,16 @@ use Rattle.mg_mirror.specs.Mirror.{CutOf, LeftSince, moment_of}
 use Rattle.mg_mirror.specs.Opened.{BothRose, RoseFrom}
 use Rattle.mg_mirror.specs.declared.mirror.Side.{Side}
 use Rattle.mg_mirror.specs.declared.mirror.Side.TheVariants.{Left, Right}
-use Rattle.mg_mirror_session.proofs.Endings.{disk_ran, done_or_memory, ends_run, put_all, put_prefix, sink_failed}
 use Rattle.mg_mirror_session.proofs.Opening.{and_true, of_side}
 use Rattle.mg_mirror_session.proofs.Refusing.{of_side_too}
 use Rattle.mg_mirror_session.proofs.Through.{if_some_then, on_volume_then}
-use Rattle.mg_mirror_session.specs.Headline.{EndsWith, IsOpenedFrom, MirrorKeeps, RanOnMirror, seen_behind}
+use Rattle.mg_mirror_session.specs.Headline.{EndsWith, IsOpenedFrom, MirrorKeeps, RanOnMirror, last_line, seen_behind}
+use Rattle.mg_model.specs.Print.{text}
 use Rattle.mg_mirror_session.specs.Judged.{first_fault}
 use Rattle.mg_mirror_session.specs.Mirrored.{Two, mirror}
 use Rattle.mg_serve.specs.Sessions.{IsWithin, input_limit}
 use Rattle.mg_session.specs.Headline.{RunKeeps}
+use Rattle.mg_session.specs.LastLemmas.{disk_ran, done_or_memory, ends_run, put_all, put_prefix, sink_failed}
 use Rattle.mg_serve.specs.declared.status.Status.{Status}
 use Rattle.mg_serve.specs.declared.status.Status.TheVariants as status
 
@@ -52,6 +53,11 @@ right_stays n None a b l r ls rs c used told cut = (told, inr cut)
 right_stays n (Some Right) a b l r ls rs c used told cut = (told, cut)
 right_stays n (Some Left) a b l r ls rs c used told cut = absurd (used refl)
 
+-- the last line is the same behind each input
+same_last : (left : Option (List ℕ)) (last : List ℕ) → IfSome left (λ bytes. last ≡ last)
+same_last None last = tt
+same_last (Some bytes) last = refl
+
 within_then : (limit : ℕ) (left : Option (List ℕ)) (P Q : Type 0) → (P → Q) → IsWithin limit left P → IsWithin limit left Q
 within_then limit left P Q then h = if_some_then left _ _ (λ input promise short. then (promise short)) h
 
@@ -68,7 +74,7 @@ module _ {D E S K : Type 0} (d : disks.Ghosts D) (e : disks.Ghosts E) (input : s
       (rose_from (d.faults left) (d.faults closed.left) (d.is_spent closed.left) b.left, rose_from (e.faults right) (e.faults closed.right) (e.is_spent closed.right) b.right)
 
   both_failed : result ≡ status.Disk → CountRose d left closed.left × CountRose e right closed.right
-  both_failed is = mirror_rose (keeps.lines.disk_failed (disk_ran to ran closed.alone result replied sink' ends is))
+  both_failed is = mirror_rose (keeps.lines.disk_failed (disk_ran to ran (last_line closed.alone) result replied sink' ends.last is))
 
   ran_on_mirror : ForSome (seen_behind d e from left right) (λ image. first_fault image ≡ None) → RanOnMirror d e input to from result closed.alone left closed.left right closed.right source source' sink sink' steps steps'
   ran_on_mirror no_fault = record {
@@ -82,15 +88,15 @@ module _ {D E S K : Type 0} (d : disks.Ghosts D) (e : disks.Ghosts E) (input : s
     replied = replied;
     keeps = keeps;
     ends = ends;
-    prefix = on_volume_then ((mirror d e).seen opened) _ _ (λ s a. put_prefix to ran closed.alone result replied sink' ends s (input.left source) (input.left source') (to.taken sink) a) keeps.lines.answers;
-    done = λ is. on_volume_then ((mirror d e).seen opened) _ _ (λ s a. put_all to ran closed.alone result replied sink' ends s (input.left source) (input.left source') (to.taken sink) a is) keeps.lines.answers;
+    prefix = on_volume_then ((mirror d e).seen opened) _ _ (λ s a. put_prefix to ran (last_line closed.alone) result replied sink' ends.last (text s) (input.left source) (input.left source') (to.taken sink) a (λ bytes. last_line closed.alone) (λ done. same_last (input.left source) (last_line closed.alone))) keeps.lines.answers;
+    done = λ is. on_volume_then ((mirror d e).seen opened) _ _ (λ s a. put_all to ran (last_line closed.alone) result replied sink' ends.last (text s) (input.left source) (input.left source') (to.taken sink) a (λ bytes. last_line closed.alone) (λ done. same_last (input.left source) (last_line closed.alone)) is) keeps.lines.answers;
     left_held = λ used told c cut. left_stays closed.blocks closed.alone (d.tells_stops closed.left) (e.tells_stops closed.right) (d.moment closed.left) (e.moment closed.right) (d.left_since closed.left) (e.left_since closed.right) c used
         (and_true (d.tells_stops closed.left) (e.tells_stops closed.right) (left_told (d.moment closed.left) cut.whole cut.is_one) told) (subst (λ n. CutOf n (d.left_since closed.left (d.moment closed.left)) c) (sym blocks) cut);
     right_held = λ used told c cut. right_stays closed.blocks closed.alone (d.tells_stops closed.left) (e.tells_stops closed.right) (d.moment closed.left) (e.moment closed.right) (d.left_since closed.left) (e.left_since closed.right) c used
         (and_true (d.tells_stops closed.left) (e.tells_stops closed.right) told (right_told (e.moment closed.right) cut.whole cut.is_one)) (subst (λ n. CutOf n (e.left_since closed.right (e.moment closed.right)) c) (sym blocks) cut);
     both_failed = both_failed;
     complete = on_volume_then ((mirror d e).seen opened) _ _ (λ s promise. λ not_both source_went sink_went.
-        within_then input_limit (input.left source) _ _ (λ either. done_or_memory to ran closed.alone result replied sink' ends sink before sink_went either)
+        within_then input_limit (input.left source) _ _ (λ either. done_or_memory to ran (last_line closed.alone) result replied sink' ends.last sink before sink_went either)
         (promise (λ rose. not_both (mirror_rose rose)) source_went (λ rose. sink_went (rose_then _ _ _ _ _ rose after)))) keeps.lines.complete;
   }
 
@@ -102,11 +108,11 @@ module _ {D E S K : Type 0} (d : disks.Ghosts D) (e : disks.Ghosts E) (input : s
     how = inr (inr (ran_on_mirror no_fault));
     side_judged = of_side_too d e from left right (WritesNothing d left closed.left × WritesNothing e right closed.right) left_count right_count (λ image told some. absurd (some (no_fault image told)));
     judged = λ image told some. absurd (some (no_fault image told));
-    which = ends_run to ran closed.alone result replied sink' ends keeps.lines.which;
+    which = ends_run to ran (last_line closed.alone) result replied sink' ends.last keeps.lines.which;
     disk_failed = λ is. of_side from _ _ (λ _. (both_failed is).0) (λ _. (both_failed is).1);
     right_failed = λ is. rose_from (e.faults right) (e.faults closed.right) (e.is_spent closed.right) (dropped_right is);
     left_failed = λ is. rose_from (d.faults left) (d.faults closed.left) (d.is_spent closed.left) (dropped_left is);
-    sink_failed = sink_failed to ran closed.alone result replied sink' ends sink before keeps.lines.ends.sink_failed;
+    sink_failed = sink_failed to ran (last_line closed.alone) result replied sink' ends.last sink before keeps.lines.ends.sink_failed;
   }
 
 -- the same of what the calls gave back

@@ -18,7 +18,7 @@ use Rattle.mg_mirror_session.specs.Mirrored.{Two, mirror}
 use Rattle.mg_model.specs.Print.{text}
 use Rattle.mg_model.specs.Volume.{VolumeRead, volume}
 use Rattle.mg_serve.specs.Sessions.{IsDoneOrMemory, IsWithin, input_limit, replies}
-use Rattle.mg_session.specs.Headline.{EndsRun, OnVolume, RunKeeps, UsageKeeps, check_line}
+use Rattle.mg_session.specs.Headline.{EndsRun, OnVolume, PutsLast, RunKeeps, UsageKeeps, check_line}
 use Rattle.mg_serve.specs.declared.status.Status.{Status}
 use Rattle.mg_serve.specs.declared.status.Status.TheVariants as status
 
@@ -62,12 +62,10 @@ last_line (Some Right) = codes "alone right" ++ 10 ∷ []
 
 -- What is put once a run has ended so, and how the whole ends.
 pub record EndsWith {K : Type 0} (to : sinks.Ghosts K) (ran : Status) (alone : Option Side) (result : Status) (replied sink' : K) : Type 0 where
-  -- After a run that is done the line of the side is put, or the sink fails in it.
-  pub done : ran ≡ status.Done → ((result ≡ status.Done) × Appends (to.taken replied) (to.taken sink') (last_line alone))
-      ⊎ ((result ≡ status.Sink) × AppendsPrefix (to.taken replied) (to.taken sink') (last_line alone) × Rose (to.faults replied) (to.faults sink') (to.is_spent sink'))
-  -- While both sides are in use, and after a run that ended early, nothing more is put.
+  -- After a run that is done the line of the side is put, or the sink fails in it; after one that ended early nothing more is put.
+  pub last : PutsLast to ran (last_line alone) result replied sink'
+  -- Nor while both sides are in use.
   pub both : alone ≡ None → (result ≡ ran) × (sink' ≡ replied)
-  pub early : ran ≢ status.Done → (result ≡ ran) × (sink' ≡ replied)
 
 -- What a command keeps that runs over a mirror
 

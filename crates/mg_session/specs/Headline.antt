@@ -245,6 +245,16 @@ pub record FormatKeeps {D K : Type 0} (facts : disks.Ghosts D) (to : sinks.Ghost
   -- Where no call failed and the disk has enough blocks, the volume is made.
   pub complete : total_blocks settings.frames ≤ facts.block_count disk → (CountRose facts disk disk' → ⊥) → (Rose (to.faults sink) (to.faults sink') (to.is_spent sink') → ⊥) → result ≡ status.Done
 
+-- Lines behind the replies
+
+-- What is put behind the replies once lines ran and ended so, and how the whole ends.
+pub record PutsLast {K : Type 0} (to : sinks.Ghosts K) (ran : Status) (last : List ℕ) (result : Status) (replied sink' : K) : Type 0 where
+  -- At the end the last lines are put, or the sink fails in them.
+  pub done : ran ≡ status.Done → ((result ≡ status.Done) × Appends (to.taken replied) (to.taken sink') last)
+      ⊎ ((result ≡ status.Sink) × AppendsPrefix (to.taken replied) (to.taken sink') last × Rose (to.faults replied) (to.faults sink') (to.is_spent sink'))
+  -- After lines that ended early nothing more is put.
+  pub early : ran ≢ status.Done → (result ≡ ran) × (sink' ≡ replied)
+
 -- Words that spell no command
 
 -- the line that is put

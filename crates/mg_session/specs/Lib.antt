@@ -5,3 +5,4 @@ pub mod Headline
 pub mod Generating
 pub mod Unopened
 pub mod OpeningLemmas
+pub mod LastLemmas

@@ -1,5 +1,5 @@
 -- What a run with device windows promises. An object that does not tell its content has None for it; a promise on content is then empty.
-use Rattle.std.specs.Prelude.{ℕ, ◌+◌, ◌≤◌, ◌≡◌, ◌≢◌, ◌⊎◌, List, [], ◌∷◌, ◌++◌, codes, drop, length, take, Option, Some, IfSome, IsSomeAnd}
+use Rattle.std.specs.Prelude.{ℕ, ◌+◌, ◌≤◌, ◌≡◌, List, [], ◌∷◌, ◌++◌, codes, drop, length, take, Option, Some, IfSome, IsSomeAnd}
 use Rattle.std.specs.Fmt.{decimal}
 use Rattle.std.specs.Io.KnownBytes.{Appends}
 use Rattle.mg_disk.specs.Stops.{CountRose}
@@ -14,7 +14,7 @@ use Rattle.mg_model.specs.State.{State}
 use Rattle.mg_serve.specs.Sessions.{IsDoneOrMemory, IsWithin, input_limit, replies}
 use Rattle.mg_serve.specs.declared.status.Status.{Status}
 use Rattle.mg_serve.specs.declared.status.Status.TheVariants as status
-use Rattle.mg_session.specs.Headline.{EndsRun, LinesKeep, OnVolume, UsageKeeps}
+use Rattle.mg_session.specs.Headline.{EndsRun, LinesKeep, OnVolume, PutsLast, UsageKeeps}
 use Rattle.mg_window.specs.Attached.{Attached}
 use Rattle.mg_window.specs.Devices.{Held, number_of}
 use Rattle.mg_window_session.specs.Machine.{Equipped, device_after, device_state, device_text}
@@ -71,14 +71,6 @@ device_lines (window ∷ windows) = device_line window ++ device_lines windows
 abbrev pub whole_text : Equipped → List ℕ → List ℕ
 whole_text m input = replies (device_text m) input ++ device_lines (device_after m (lines input)).windows
 
--- What is put once the lines ran and ended so, and how the whole ends.
-pub record EndsWith {K : Type 0} (to : sinks.Ghosts K) (ran : Status) (windows : Attached) (result : Status) (replied sink' : K) : Type 0 where
-  -- At the end the lines of the devices are put, or the sink fails in them.
-  pub done : ran ≡ status.Done → ((result ≡ status.Done) × Appends (to.taken replied) (to.taken sink') (device_lines windows))
-      ⊎ ((result ≡ status.Sink) × AppendsPrefix (to.taken replied) (to.taken sink') (device_lines windows) × Rose (to.faults replied) (to.faults sink') (to.is_spent sink'))
-  -- After lines that ended early nothing more is put.
-  pub early : ran ≢ status.Done → (result ≡ ran) × (sink' ≡ replied)
-
 -- What a command keeps that runs lines with device windows
 
 -- What is kept as the lines run, a reply a batch: what `run` keeps, of the machine with devices, and the devices. `s` is the
@@ -97,7 +89,7 @@ pub record DevKeeps {D S K : Type 0} (facts : disks.Ghosts D) (from : sources.Gh
   pub replied : K
   pub keeps : DevicesKeep facts from to ran windows windows' disk disk' source source' sink replied
   -- Then the lines of the devices are put that are left.
-  pub ends : EndsWith to ran windows' result replied sink'
+  pub ends : PutsLast to ran (device_lines windows') result replied sink'
   -- What was put is a prefix of the replies to the whole input and those lines; at the end it is all of them.
   pub prefix : OnVolume (facts.seen disk) (λ s. IfSome (from.left source) (λ input. AppendsPrefix (to.taken sink) (to.taken sink') (whole_text (equipped windows s) input)))
   pub done : result ≡ status.Done → OnVolume (facts.seen disk) (λ s. IfSome (from.left source) (λ input. (from.left source' ≡ Some []) × Appends (to.taken sink) (to.taken sink') (whole_text (equipped windows s) input)))

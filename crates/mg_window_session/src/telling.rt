@@ -4,9 +4,9 @@ ghost use Rattle.std.specs.Io.KnownBytes.{Appends};
 ghost use Rattle.arrayvec.specs.ArrayVec.{array_vec_len};
 ghost use Rattle.mg_faults.specs.Faults.{CountGoesOn, Rose};
 ghost use Rattle.mg_io.specs.Known.{AppendsPrefix};
+ghost use Rattle.mg_session.specs.Headline.{PutsLast};
 ghost use Rattle.mg_window.specs.Attached.{window_at};
 ghost use Rattle.mg_window_session.specs.Headline.{device_line, device_lines};
-ghost use Rattle.mg_window_session.specs.Headline as headline;
 
 use arrayvec::ArrayVec;
 use mg_io::{Sink, put_all};
@@ -19,7 +19,7 @@ const ROOM: usize = 16 * 72;
 
 /// Puts the lines of the devices in one call of `put_all`, if the lines that ran are done.
 pub(crate) fn put_devices<K: Sink>(ran: Status, windows: &Windows, sink: &mut K) -> Status
-    ensures ends { headline.EndsWith K.Sink ran windows.now result sink.old sink.new }
+    ensures ends { PutsLast K.Sink ran (device_lines windows.now) result sink.old sink.new }
     ensures sink_count { CountGoesOn (K.faults sink.old) (K.faults sink.new) (K.is_spent sink.old) (K.is_spent sink.new) }
 {
     match ran {
@@ -29,7 +29,7 @@ pub(crate) fn put_devices<K: Sink>(ran: Status, windows: &Windows, sink: &mut K)
 }
 
 fn put_lines<K: Sink>(windows: &Windows, sink: &mut K) -> Status
-    ensures ends { headline.EndsWith K.Sink Status.Done windows.now result sink.old sink.new }
+    ensures ends { PutsLast K.Sink Status.Done (device_lines windows.now) result sink.old sink.new }
     ensures sink_count { CountGoesOn (K.faults sink.old) (K.faults sink.new) (K.is_spent sink.old) (K.is_spent sink.new) }
 {
     let text = device_text(windows);

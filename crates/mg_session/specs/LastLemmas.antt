@@ -1,19 +1,23 @@
--- What follows of how a run ended, and of the line behind it.
-use Rattle.std.specs.Prelude.{ℕ, ◌≡◌, ◌≢◌, ◌⊎◌, List, [], ◌++◌, Option, Some, IfSome}
+-- What follows of how lines ended, and of the lines behind their replies.
+use Rattle.std.specs.Prelude.{ℕ, ◌≡◌, ◌≢◌, ◌⊎◌, List, [], ◌++◌, Option, Some, None, IfSome}
 use Rattle.std.specs.Io.KnownBytes.{Appends}
 use Rattle.std.proofs.Common.{refl, sym, ap, subst, ◌∙◌, inl, inr, ⊎_elim, append_assoc, append-nil}
 use Rattle.mg_faults.specs.Faults.{CountGoesOn, Rose, then_rose}
 use Rattle.mg_io.specs.Known.{Appends-then, AppendsPrefix, AppendsPrefix-longer}
 use Rattle.mg_io.specs.declared.traits.Sink as sinks
-use Rattle.mg_mirror.specs.declared.mirror.Side.{Side}
-use Rattle.mg_mirror_session.proofs.Through.{if_some_then}
-use Rattle.mg_mirror_session.specs.Headline.{EndsWith, last_line}
-use Rattle.mg_model.specs.State.{State}
-use Rattle.mg_model.specs.Print.{text}
+use Rattle.mg_model.specs.declared.calls.Line.{Line}
 use Rattle.mg_serve.specs.Sessions.{Answers, IsDoneOrMemory, replies}
-use Rattle.mg_session.specs.Headline.{EndsRun}
 use Rattle.mg_serve.specs.declared.status.Status.{Status}
 use Rattle.mg_serve.specs.declared.status.Status.TheVariants as status
+use Rattle.mg_session.specs.Headline.{EndsRun, PutsLast}
+
+if_some_then : {T : Type 0} (o : Option T) (P Q : T → Type 0) → ((x : T) → P x → Q x) → IfSome o P → IfSome o Q
+if_some_then None P Q then h = h
+if_some_then (Some x) P Q then h = then x h
+
+if_some_both : {T : Type 0} (o : Option T) (P Q R : T → Type 0) → ((x : T) → P x → Q x → R x) → IfSome o P → IfSome o Q → IfSome o R
+if_some_both None P Q R then p q = p
+if_some_both (Some x) P Q R then p q = then x p q
 
 is_done_or_not : (ran : Status) → (ran ≡ status.Done) ⊎ (ran ≢ status.Done)
 is_done_or_not status.Done = inl refl
@@ -35,7 +39,7 @@ done_is_no_disk result done disk = cc
 sink_is_no_disk : (result : Status) → result ≡ status.Sink → result ≡ status.Disk → ⊥
 sink_is_no_disk result sink disk = cc
 
-module _ {K : Type 0} (to : sinks.Ghosts K) (ran : Status) (alone : Option Side) (result : Status) (replied sink' : K) (ends : EndsWith to ran alone result replied sink') where
+module _ {K : Type 0} (to : sinks.Ghosts K) (ran : Status) (last : List ℕ) (result : Status) (replied sink' : K) (ends : PutsLast to ran last result replied sink') where
   -- the disk failed as the lines ran
   pub disk_ran : result ≡ status.Disk → ran ≡ status.Disk
   disk_ran is = ⊎_elim at_end early (is_done_or_not ran)
@@ -74,28 +78,39 @@ module _ {K : Type 0} (to : sinks.Ghosts K) (ran : Status) (alone : Option Side)
       at_end : ran ≡ status.Done → IsDoneOrMemory result
       at_end done = ⊎_elim (λ p. inl p.0) (λ p. absurd (none (then_rose _ _ _ _ _ _ goes p.2))) (ends.done done)
 
-  module _ (s : State) (left left' : Option (List ℕ)) (taken : Option (List ℕ)) (answers : Answers (text s) ran left left' taken (to.taken replied)) where
-    all_put : (bytes : List ℕ) → Appends taken (to.taken replied) (replies (text s) bytes) → Appends (to.taken replied) (to.taken sink') (last_line alone) → Appends taken (to.taken sink') (replies (text s) bytes ++ last_line alone)
-    all_put bytes first last = Appends-then taken (to.taken replied) (to.taken sink') (replies (text s) bytes) (last_line alone) first last
-
-    -- what was put is a prefix of the replies and the line
-    pub put_prefix : IfSome left (λ bytes. AppendsPrefix taken (to.taken sink') (replies (text s) bytes ++ last_line alone))
+  -- `tail` is what the last lines are behind a whole input
+  module _ (said : List Line → List ℕ) (left left' taken : Option (List ℕ)) (answers : Answers said ran left left' taken (to.taken replied)) (tail : List ℕ → List ℕ) (same : ran ≡ status.Done → IfSome left (λ bytes. last ≡ tail bytes)) where
+    -- what was put is a prefix of the replies and the last lines
+    pub put_prefix : IfSome left (λ bytes. AppendsPrefix taken (to.taken sink') (replies said bytes ++ tail bytes))
     put_prefix = ⊎_elim at_end early (is_done_or_not ran)
       where
-        at_end : ran ≡ status.Done → IfSome left (λ bytes. AppendsPrefix taken (to.taken sink') (replies (text s) bytes ++ last_line alone))
+        all : (bytes : List ℕ) → Appends taken (to.taken replied) (replies said bytes) → last ≡ tail bytes → Appends (to.taken replied) (to.taken sink') last → AppendsPrefix taken (to.taken sink') (replies said bytes ++ tail bytes)
+        all bytes first are put = subst (λ (v : List ℕ). AppendsPrefix taken (to.taken sink') (replies said bytes ++ v)) are
+            (replies said bytes ++ last, [], append-nil (replies said bytes ++ last), Appends-then taken (to.taken replied) (to.taken sink') (replies said bytes) last first put)
+
+        some : (bytes : List ℕ) → Appends taken (to.taken replied) (replies said bytes) → last ≡ tail bytes → AppendsPrefix (to.taken replied) (to.taken sink') last → AppendsPrefix taken (to.taken sink') (replies said bytes ++ tail bytes)
+        some bytes first are (line, more, parts, put) = subst (λ (v : List ℕ). AppendsPrefix taken (to.taken sink') (replies said bytes ++ v)) are (
+          replies said bytes ++ line,
+          more,
+          append_assoc (replies said bytes) line more ∙ ap (λ v. replies said bytes ++ v) parts,
+          Appends-then taken (to.taken replied) (to.taken sink') (replies said bytes) line first put,
+        )
+
+        at_end : ran ≡ status.Done → IfSome left (λ bytes. AppendsPrefix taken (to.taken sink') (replies said bytes ++ tail bytes))
         at_end done = ⊎_elim
-            (λ p. if_some_then left _ _ (λ bytes all. (replies (text s) bytes ++ last_line alone, [], append-nil _, all_put bytes all.1 p.1)) (answers.done done))
-            (λ p. if_some_then left _ _ (λ bytes all. let line = p.1 in (replies (text s) bytes ++ line.0, line.1, append_assoc (replies (text s) bytes) line.0 line.1 ∙ ap (λ v. replies (text s) bytes ++ v) line.2, Appends-then taken (to.taken replied) (to.taken sink') (replies (text s) bytes) line.0 all.1 line.3)) (answers.done done))
+            (λ p. if_some_both left _ _ _ (λ bytes a are. all bytes a.1 are p.1) (answers.done done) (same done))
+            (λ p. if_some_both left _ _ _ (λ bytes a are. some bytes a.1 are p.1) (answers.done done) (same done))
             (ends.done done)
 
-        early : ran ≢ status.Done → IfSome left (λ bytes. AppendsPrefix taken (to.taken sink') (replies (text s) bytes ++ last_line alone))
+        early : ran ≢ status.Done → IfSome left (λ bytes. AppendsPrefix taken (to.taken sink') (replies said bytes ++ tail bytes))
         early not = if_some_then left _ _
-            (λ bytes some. subst (λ k. AppendsPrefix taken (to.taken k) (replies (text s) bytes ++ last_line alone)) (sym (ends.early not).1) (AppendsPrefix-longer taken (to.taken replied) (replies (text s) bytes) (last_line alone) some))
+            (λ bytes some. subst (λ k. AppendsPrefix taken (to.taken k) (replies said bytes ++ tail bytes)) (sym (ends.early not).1) (AppendsPrefix-longer taken (to.taken replied) (replies said bytes) (tail bytes) some))
             answers.prefix
 
     -- and all of it at the end
-    pub put_all : result ≡ status.Done → IfSome left (λ bytes. (left' ≡ Some []) × Appends taken (to.taken sink') (replies (text s) bytes ++ last_line alone))
+    pub put_all : result ≡ status.Done → IfSome left (λ bytes. (left' ≡ Some []) × Appends taken (to.taken sink') (replies said bytes ++ tail bytes))
     put_all is = ⊎_elim
-        (λ p. if_some_then left _ _ (λ bytes all. (all.0, all_put bytes all.1 p.1)) (answers.done (done_ran is)))
+        (λ p. if_some_both left _ _ _ (λ bytes a are. (a.0, subst (λ (v : List ℕ). Appends taken (to.taken sink') (replies said bytes ++ v)) are (Appends-then taken (to.taken replied) (to.taken sink') (replies said bytes) last a.1 p.1)))
+        (answers.done (done_ran is)) (same (done_ran is)))
         (λ p. absurd (done_is_no_sink result is p.0))
         (ends.done (done_ran is))
