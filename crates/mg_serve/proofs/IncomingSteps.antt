@@ -1,16 +1,23 @@
 -- How bytes that come one after another add up.
-use Rattle.std.specs.Prelude.{ℕ, ◌<◌, ◌+◌, ◌%◌, ◌^◌, ◌≡◌, false, length, take, drop, List, [], ◌∷◌, ◌++◌, Some, None}
+use Rattle.std.specs.Prelude.{ℕ, ◌<◌, ◌+◌, ◌%◌, ◌^◌, ◌≡◌, false, length, take, drop, List, [], ◌∷◌, ◌++◌, Some, None, Result, Ok, Err}
 use Rattle.std.specs.Option.{option_to_list}
 use Rattle.std.specs.List.{list_any}
 use Rattle.std.proofs.Common.{refl, sym, ap, ◌∙◌, append_assoc, append-nil, arith, get_or, subst}
 use Rattle.std.proofs.lemmas.List.{take-append-drop, take_more}
+use Rattle.mg_disk.specs.Stops.{CountGoes}
+use Rattle.mg_disk.specs.declared.disk.Disk.{Ghosts}
+use Rattle.mg_faults.specs.Faults.{CountGoesOn, count_then, then_rose}
+use Rattle.mg_io.specs.declared.traits.Sink as sinks
 use Rattle.mg_model.specs.declared.calls.Line.{Line}
 use Rattle.mg_serve.proofs.Cutting.{lines-ended, lines-last}
 use Rattle.mg_model.specs.Lines.{line_of, lines}
 use Rattle.mg_model.specs.Words.{is_newline}
 use Rattle.mg_model.specs.Counts.{CountsAlike}
 use Rattle.mg_serve.specs.declared.ended.Ended.{Ended}
+use Rattle.mg_serve.specs.declared.ended.Ended.TheVariants as ended
+use Rattle.mg_serve.specs.declared.machine.Machine as machines
 use Rattle.mg_serve.specs.Incoming.{Breaks, Goes}
+use Rattle.mg_serve.specs.Serving.{Keeps}
 use Rattle.mg_serve.specs.Machines.{Closes, Entry, FailsToClose, Halts, Point, Runs}
 
 -- two counts that rise by as much
@@ -125,3 +132,31 @@ module _ {M D : Type 0} (Session : Entry M D → List Line → Point M D → Typ
   Halts-note e p part q whole none h =
       subst (λ (v : List Line). Halts Session Broken e p v q) (sym (lines-last part whole ∙ ap (λ o. option_to_list o) none))
       (λ entry sofar a. subst (λ (v : List Line). (put : List ℕ) × Broken e entry v put q) (sym (append-nil sofar)) (h entry sofar a))
+
+-- what a call keeps behind others that kept their counts
+pub keeps_then : {M D K T : Type 0} (is : machines.Ghosts M) (facts : Ghosts D) (to : sinks.Ghosts K) (m0 m1 m2 : M) (d0 d1 d2 : D) (k0 k1 k2 : K) (n0 n1 n2 : ℕ) (result : Result T Ended)
+    → CountsAlike (is.words_in m0) (is.words_in m1) n0 n1 → facts.block_count d1 ≡ facts.block_count d0 → CountGoes facts d0 d1 → CountGoesOn (to.faults k0) (to.faults k1) (to.is_spent k0) (to.is_spent k1)
+    → Keeps is facts to m1 d1 k1 n1 result m2 d2 k2 n2 → Keeps is facts to m0 d0 k0 n0 result m2 d2 k2 n2
+keeps_then is facts to m0 m1 m2 d0 d1 d2 k0 k1 k2 n0 n1 n2 result counted blocks disk_count sink_count keeps = record {
+  live = keeps.live;
+  stands = keeps.stands;
+  counted = alike_then (is.words_in m0) (is.words_in m1) (is.words_in m2) n0 n1 n2 counted keeps.counted;
+  calls = record {
+    count = count_then _ _ _ _ _ _ disk_count keeps.calls.count;
+    blocks = keeps.calls.blocks ∙ blocks;
+    cause = λ h. then_rose _ _ _ _ _ _ disk_count (keeps.calls.cause h);
+  };
+  sink_count = count_then _ _ _ _ _ _ sink_count keeps.sink_count;
+  sink_cause = λ h. then_rose _ _ _ _ _ _ sink_count (keeps.sink_cause h);
+}
+
+-- what a call kept is kept where the input ends the session behind it
+pub on_end : {M D K T U : Type 0} {is : machines.Ghosts M} {facts : Ghosts D} {to : sinks.Ghosts K} {m m' : M} {d d' : D} {k k' : K} {n n' : ℕ} {x : T} → Keeps is facts to m d k n (Ok x) m' d' k' n' → Keeps {T = U} is facts to m d k n (Err ended.TooLong) m' d' k' n'
+on_end keeps = record {
+  live = keeps.live;
+  stands = keeps.stands;
+  counted = keeps.counted;
+  calls = record { count = keeps.calls.count; blocks = keeps.calls.blocks; cause = λ h. absurd (cc) };
+  sink_count = keeps.sink_count;
+  sink_cause = λ h. absurd (cc);
+}

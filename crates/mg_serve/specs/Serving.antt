@@ -1,14 +1,15 @@
 -- A session of a machine on a volume: which lines are kept and answered, which wait, and what a stop may leave.
-use Rattle.std.specs.Prelude.{ℕ, ◌≡◌, ◌≢◌, ◌⊎◌, ◌<◌, ◌≤◌, ◌+◌, Bool, false, true, List, ◌++◌, length, take, drop, Option, Some, IfSome, IsSomeAnd}
+use Rattle.std.specs.Prelude.{ℕ, ◌≡◌, ◌≢◌, ◌⊎◌, ◌<◌, ◌≤◌, ◌+◌, Bool, false, true, List, ◌++◌, length, take, drop, Option, Some, IfSome, IsSomeAnd, IsTrue, Result, Err}
 use Rattle.std.specs.Io.KnownBytes.{Appends}
 use Rattle.std.specs.Option.{ForSome}
 use Rattle.mg_disk.specs.Disk.{Image}
-use Rattle.mg_disk.specs.Stops.{CountRose, Leaves}
+use Rattle.mg_disk.specs.Stops.{CountRose, DiskCallsBy, Leaves}
 use Rattle.mg_disk.specs.declared.disk.Disk as disks
-use Rattle.mg_faults.specs.Faults.{Rose}
+use Rattle.mg_faults.specs.Faults.{CountGoesOn, Rose}
 use Rattle.mg_io.specs.declared.traits.Sink as sinks
 use Rattle.mg_io.specs.declared.traits.Source as sources
 use Rattle.mg_model.specs.declared.calls.Line.{Line}
+use Rattle.mg_model.specs.Counts.{CountsAlike}
 use Rattle.mg_model.specs.Lines.{lines}
 use Rattle.mg_model.specs.Print.{answered}
 use Rattle.mg_model.specs.State.{State}
@@ -19,7 +20,17 @@ use Rattle.mg_serve.specs.declared.machine.Machine as machines
 use Rattle.mg_serve.specs.declared.status.Status.{Status}
 use Rattle.mg_serve.specs.declared.status.Status.TheVariants as status
 use Rattle.mg_serve.specs.Machines.{Entry, Point}
-use Rattle.mg_serve.specs.Sessions.{Answers, Ends, EndsSession, Holds, HoldsExactly, IsDoneOrMemory, IsPrefix, IsWithin, SpellsAfter, taken_of}
+use Rattle.mg_serve.specs.Sessions.{Answers, Ends, EndsSession, Holds, HoldsExactly, IsDoneOrMemory, IsPrefix, IsWithin, SpellsAfter, UnlessDisk, taken_of}
+
+-- What each call within a session keeps, whatever comes of it: unless the disk failed the machine is live and stands on the disk;
+-- the two counts of words rise by as much; and the disk and the sink failed only where their counts rose.
+pub record Keeps {M D K T : Type 0} (is : machines.Ghosts M) (facts : disks.Ghosts D) (to : sinks.Ghosts K) (m : M) (disk : D) (sink : K) (steps : ℕ) (result : Result T Ended) (m' : M) (disk' : D) (sink' : K) (steps' : ℕ) : Type 0 where
+  pub live : UnlessDisk result (IsTrue (is.is_live m'))
+  pub stands : UnlessDisk result (is.StandsOn D facts m' disk')
+  pub counted : CountsAlike (is.words_in m) (is.words_in m') steps steps'
+  pub calls : DiskCallsBy facts disk disk' (result ≡ Err ended.Disk)
+  pub sink_count : CountGoesOn (to.faults sink) (to.faults sink') (to.is_spent sink) (to.is_spent sink')
+  pub sink_cause : result ≡ Err ended.Sink → Rose (to.faults sink) (to.faults sink') (to.is_spent sink')
 
 -- the image spells the state after some first ones of the lines, and so many at least
 abbrev pub IsBetween : ℕ → (List Line → State) → List Line → Image → Type 0

@@ -1,11 +1,8 @@
 // Lines are stepped in batches: a batch is committed, and then its replies are put.
 ghost use Rattle.std.specs.Prelude.{ℕ, ◌≡◌, ◌<◌, ◌≤◌, [], ◌∷◌, Err, IfErr, IsTrue, OnOk};
-ghost use Rattle.mg_disk.specs.Stops.{DiskCallsBy, NothingPending};
-ghost use Rattle.mg_faults.specs.Faults.{CountGoesOn, Rose};
-ghost use Rattle.mg_model.specs.Counts.{CountsAlike};
+ghost use Rattle.mg_disk.specs.Stops.{NothingPending};
 ghost use Rattle.mg_serve.specs.Machines.{Closes, FailsToClose, Halts, IsInside, Runs};
-ghost use Rattle.mg_serve.specs.Serving.{Broken, Session};
-ghost use Rattle.mg_serve.specs.Sessions.{UnlessDisk};
+ghost use Rattle.mg_serve.specs.Serving.{Broken, Keeps, Session};
 ghost use Rattle.mg_serve.specs.Waiting.{no_replies};
 
 use crate::buffers::Buffers;
@@ -35,15 +32,10 @@ pub(crate) fn close<M: Machine, D: Disk, K: Sink>(
     ensures halts { IfErr result (λ e. (n batch : ℕ) → owed.old.count ≤ batch → FailsToClose (Session M.Machine D.Disk) (Broken M.Machine D.Disk batch) e
         (record { machine = machine.old; disk = disk.old; owed = owed.old; taken = K.taken sink.old; steps = n })
         (record { machine = machine.new; disk = disk.new; owed = owed.new; taken = K.taken sink.new; steps = n })) }
-    ensures live { UnlessDisk result (IsTrue (M.is_live machine.new)) }
-    ensures stands { UnlessDisk result (M.StandsOn D D.Disk machine.new disk.new) }
+    ensures keeps { (n : ℕ) → Keeps M.Machine D.Disk K.Sink machine.old disk.old sink.old n result machine.new disk.new sink.new n }
     ensures settled { OnOk result (NothingPending D.Disk disk.new) }
     ensures staged { OnOk result (M.staged_of machine.new ≡ 0) }
     ensures empty { OnOk result (owed.new ≡ no_replies) }
-    ensures words { M.words_in machine.new ≡ M.words_in machine.old }
-    ensures sink_count { CountGoesOn (K.faults sink.old) (K.faults sink.new) (K.is_spent sink.old) (K.is_spent sink.new) }
-    ensures disk { DiskCallsBy D.Disk disk.old disk.new (result ≡ Err Ended.Disk) }
-    ensures sink { result ≡ Err Ended.Sink → Rose (K.faults sink.old) (K.faults sink.new) (K.is_spent sink.new) }
     ensures only { IfErr result IsInside }
 {
     machine.keep_rules(disk);
@@ -82,14 +74,9 @@ pub(crate) fn take_line<M: Machine, D: Disk, K: Sink, L: Ledger>(
     ensures halts { IfErr result (λ e. Halts (Session M.Machine D.Disk) (Broken M.Machine D.Disk batch) e
         (record { machine = machine.old; disk = disk.old; owed = owed.old; taken = K.taken sink.old; steps = steps.old }) (line.now ∷ [])
         (record { machine = machine.new; disk = disk.new; owed = owed.new; taken = K.taken sink.new; steps = steps.new })) }
-    ensures live { UnlessDisk result (IsTrue (M.is_live machine.new)) }
-    ensures stands { UnlessDisk result (M.StandsOn D D.Disk machine.new disk.new) }
+    ensures keeps { Keeps M.Machine D.Disk K.Sink machine.old disk.old sink.old steps.old result machine.new disk.new sink.new steps.new }
     ensures staged { OnOk result (M.staged_of machine.new ≤ 28) }
     ensures open_batch { OnOk result (owed.new.count < batch) }
-    ensures counted { CountsAlike (M.words_in machine.old) (M.words_in machine.new) steps.old steps.new }
-    ensures sink_count { CountGoesOn (K.faults sink.old) (K.faults sink.new) (K.is_spent sink.old) (K.is_spent sink.new) }
-    ensures disk { DiskCallsBy D.Disk disk.old disk.new (result ≡ Err Ended.Disk) }
-    ensures sink { result ≡ Err Ended.Sink → Rose (K.faults sink.old) (K.faults sink.new) (K.is_spent sink.new) }
     ensures only { IfErr result IsInside }
 {
     let reply = match machine.step(disk, line, steps) {

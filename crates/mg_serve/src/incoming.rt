@@ -1,15 +1,12 @@
 // Bytes come, and the lines that they end are stepped.
 ghost use Rattle.std.specs.Prelude.{◌≡◌, ◌<◌, ◌≤◌, [], ◌∷◌, false, Err, IfErr, IsTrue, OnOk};
 ghost use Rattle.std.specs.List.{list_any};
-ghost use Rattle.mg_disk.specs.Stops.{DiskCallsBy, NothingPending};
-ghost use Rattle.mg_faults.specs.Faults.{CountGoesOn, Rose};
+ghost use Rattle.mg_disk.specs.Stops.{NothingPending};
 ghost use Rattle.mg_model.specs.Lines.{lines};
 ghost use Rattle.mg_model.specs.Words.{is_newline};
-ghost use Rattle.mg_model.specs.Counts.{CountsAlike};
-ghost use Rattle.mg_serve.specs.Sessions.{UnlessDisk};
 ghost use Rattle.mg_serve.specs.Incoming.{Breaks, Goes};
 ghost use Rattle.mg_serve.specs.Machines.{Halts, IsInside, Runs};
-ghost use Rattle.mg_serve.specs.Serving.{Broken, Session};
+ghost use Rattle.mg_serve.specs.Serving.{Broken, Keeps, Session};
 ghost use Rattle.mg_serve.specs.Waiting.{no_replies};
 
 use crate::batches::{close, take_line};
@@ -45,14 +42,9 @@ fn take_byte<M: Machine, D: Disk, K: Sink, L: Ledger>(
         (record { machine = machine.old; disk = disk.old; owed = owed.old; taken = K.taken sink.old; steps = steps.old }) part.old (b ∷ [])
         (record { machine = machine.new; disk = disk.new; owed = owed.new; taken = K.taken sink.new; steps = steps.new })) }
     ensures whole { list_any is_newline part.new ≡ false }
-    ensures live { UnlessDisk result (IsTrue (M.is_live machine.new)) }
-    ensures stands { UnlessDisk result (M.StandsOn D D.Disk machine.new disk.new) }
+    ensures keeps { Keeps M.Machine D.Disk K.Sink machine.old disk.old sink.old steps.old result machine.new disk.new sink.new steps.new }
     ensures staged { OnOk result (M.staged_of machine.new ≤ 28) }
     ensures open_batch { OnOk result (owed.new.count < batch) }
-    ensures counted { CountsAlike (M.words_in machine.old) (M.words_in machine.new) steps.old steps.new }
-    ensures sink_count { CountGoesOn (K.faults sink.old) (K.faults sink.new) (K.is_spent sink.old) (K.is_spent sink.new) }
-    ensures disk { DiskCallsBy D.Disk disk.old disk.new (result ≡ Err Ended.Disk) }
-    ensures sink { result ≡ Err Ended.Sink → Rose (K.faults sink.old) (K.faults sink.new) (K.is_spent sink.new) }
     ensures only { IfErr result IsInside }
 {
     if b != b'\n' {
@@ -89,14 +81,9 @@ pub(crate) fn take_bytes<M: Machine, D: Disk, K: Sink, L: Ledger>(
         (record { machine = machine.old; disk = disk.old; owed = owed.old; taken = K.taken sink.old; steps = steps.old }) part.old bytes.now
         (record { machine = machine.new; disk = disk.new; owed = owed.new; taken = K.taken sink.new; steps = steps.new })) }
     ensures whole { OnOk result (list_any is_newline part.new ≡ false) }
-    ensures live { UnlessDisk result (IsTrue (M.is_live machine.new)) }
-    ensures stands { UnlessDisk result (M.StandsOn D D.Disk machine.new disk.new) }
+    ensures keeps { Keeps M.Machine D.Disk K.Sink machine.old disk.old sink.old steps.old result machine.new disk.new sink.new steps.new }
     ensures staged { OnOk result (M.staged_of machine.new ≤ 28) }
     ensures open_batch { OnOk result (owed.new.count < batch) }
-    ensures counted { CountsAlike (M.words_in machine.old) (M.words_in machine.new) steps.old steps.new }
-    ensures sink_count { CountGoesOn (K.faults sink.old) (K.faults sink.new) (K.is_spent sink.old) (K.is_spent sink.new) }
-    ensures disk { DiskCallsBy D.Disk disk.old disk.new (result ≡ Err Ended.Disk) }
-    ensures sink { result ≡ Err Ended.Sink → Rose (K.faults sink.old) (K.faults sink.new) (K.is_spent sink.new) }
     ensures only { IfErr result IsInside }
 {
     for b in bytes {
@@ -129,15 +116,10 @@ fn line_and_close<M: Machine, D: Disk, K: Sink, L: Ledger>(
     ensures halts { IfErr result (λ e. Halts (Session M.Machine D.Disk) (Broken M.Machine D.Disk batch) e
         (record { machine = machine.old; disk = disk.old; owed = owed.old; taken = K.taken sink.old; steps = steps.old }) (line.now ∷ [])
         (record { machine = machine.new; disk = disk.new; owed = owed.new; taken = K.taken sink.new; steps = steps.new })) }
-    ensures live { UnlessDisk result (IsTrue (M.is_live machine.new)) }
-    ensures stands { UnlessDisk result (M.StandsOn D D.Disk machine.new disk.new) }
+    ensures keeps { Keeps M.Machine D.Disk K.Sink machine.old disk.old sink.old steps.old result machine.new disk.new sink.new steps.new }
     ensures settled { OnOk result (NothingPending D.Disk disk.new) }
     ensures staged { OnOk result (M.staged_of machine.new ≡ 0) }
     ensures empty { OnOk result (owed.new ≡ no_replies) }
-    ensures counted { CountsAlike (M.words_in machine.old) (M.words_in machine.new) steps.old steps.new }
-    ensures sink_count { CountGoesOn (K.faults sink.old) (K.faults sink.new) (K.is_spent sink.old) (K.is_spent sink.new) }
-    ensures disk { DiskCallsBy D.Disk disk.old disk.new (result ≡ Err Ended.Disk) }
-    ensures sink { result ≡ Err Ended.Sink → Rose (K.faults sink.old) (K.faults sink.new) (K.is_spent sink.new) }
     ensures only { IfErr result IsInside }
 {
     take_line(machine, disk, sink, owed, line, batch, steps)?;
@@ -165,15 +147,10 @@ pub(crate) fn finish<M: Machine, D: Disk, K: Sink, L: Ledger>(
     ensures halts { IfErr result (λ e. Halts (Session M.Machine D.Disk) (Broken M.Machine D.Disk batch) e
         (record { machine = machine.old; disk = disk.old; owed = owed.old; taken = K.taken sink.old; steps = steps.old }) (lines part.old)
         (record { machine = machine.new; disk = disk.new; owed = owed.new; taken = K.taken sink.new; steps = steps.new })) }
-    ensures live { UnlessDisk result (IsTrue (M.is_live machine.new)) }
-    ensures stands { UnlessDisk result (M.StandsOn D D.Disk machine.new disk.new) }
+    ensures keeps { Keeps M.Machine D.Disk K.Sink machine.old disk.old sink.old steps.old result machine.new disk.new sink.new steps.new }
     ensures settled { OnOk result (NothingPending D.Disk disk.new) }
     ensures staged { OnOk result (M.staged_of machine.new ≡ 0) }
     ensures empty { OnOk result (owed.new ≡ no_replies) }
-    ensures counted { CountsAlike (M.words_in machine.old) (M.words_in machine.new) steps.old steps.new }
-    ensures sink_count { CountGoesOn (K.faults sink.old) (K.faults sink.new) (K.is_spent sink.old) (K.is_spent sink.new) }
-    ensures disk { DiskCallsBy D.Disk disk.old disk.new (result ≡ Err Ended.Disk) }
-    ensures sink { result ≡ Err Ended.Sink → Rose (K.faults sink.old) (K.faults sink.new) (K.is_spent sink.new) }
     ensures only { IfErr result IsInside }
 {
     match part.finish() {

@@ -1,10 +1,8 @@
 // The loop over the pieces of the input, for any machine.
 ghost use Rattle.std.specs.Prelude.{◌≡◌, ◌+◌, ◌≤◌, Err, IfErr, IsTrue, OnOk};
-ghost use Rattle.mg_disk.specs.Stops.{DiskCallsBy, NothingPending};
+ghost use Rattle.mg_disk.specs.Stops.{NothingPending};
 ghost use Rattle.mg_faults.specs.Faults.{CountGoesOn, Rose};
-ghost use Rattle.mg_model.specs.Counts.{CountsAlike};
-ghost use Rattle.mg_serve.specs.Serving.{Broken, Session};
-ghost use Rattle.mg_serve.specs.Sessions.{UnlessDisk};
+ghost use Rattle.mg_serve.specs.Serving.{Broken, Keeps, Session};
 ghost use Rattle.mg_serve.specs.Readings.{Finishes, Stops};
 
 use crate::buffers::Buffers;
@@ -48,16 +46,11 @@ pub(crate) fn serve_lines<M: Machine, D: Disk, S: Source, K: Sink, L: Ledger>(
     ensures stops { IfErr result (λ e. Stops (Broken M.Machine D.Disk batch) e (record { machine = machine.old; disk = disk.old; taken = K.taken sink.old; steps = steps.old }) (S.left source.old)
         limit batch (limit + 4096)
         (record { machine = machine.new; disk = disk.new; owed = owed.new; taken = K.taken sink.new; steps = steps.new }) (S.left source.new)) }
-    ensures live { UnlessDisk result (IsTrue (M.is_live machine.new)) }
-    ensures stands { UnlessDisk result (M.StandsOn D D.Disk machine.new disk.new) }
+    ensures keeps { Keeps M.Machine D.Disk K.Sink machine.old disk.old sink.old steps.old result machine.new disk.new sink.new steps.new }
     ensures settled { OnOk result (NothingPending D.Disk disk.new) }
     ensures staged { OnOk result (M.staged_of machine.new ≡ 0) }
-    ensures counted { CountsAlike (M.words_in machine.old) (M.words_in machine.new) steps.old steps.new }
     ensures source_count { CountGoesOn (S.faults source.old) (S.faults source.new) (S.is_spent source.old) (S.is_spent source.new) }
-    ensures sink_count { CountGoesOn (K.faults sink.old) (K.faults sink.new) (K.is_spent sink.old) (K.is_spent sink.new) }
-    ensures disk { DiskCallsBy D.Disk disk.old disk.new (result ≡ Err Ended.Disk) }
     ensures source { result ≡ Err Ended.Source → Rose (S.faults source.old) (S.faults source.new) (S.is_spent source.new) }
-    ensures sink { result ≡ Err Ended.Sink → Rose (K.faults sink.old) (K.faults sink.new) (K.is_spent sink.new) }
 {
     machine.keep_rules(disk);
     owed.clear();

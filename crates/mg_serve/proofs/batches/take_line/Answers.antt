@@ -1,8 +1,10 @@
 use Rattle.std.proofs.Common.{ℕ, ◌≤◌, [], ◌∷◌, ◌++◌, ap, arith}
 use Rattle.std.proofs.lemmas.Result.{IfErr-weaker, on_ok_weaker}
+use Rattle.mg_faults.specs.Faults.{count_none}
 use Rattle.mg_serve.specs.Machines.{FailsToClose, Halts}
 use Rattle.mg_serve.specs.Serving.{Broken, Session}
 use Rattle.mg_serve.specs.Waiting.{Waiting}
+use Rattle.mg_serve.proofs.IncomingSteps.{keeps_then}
 use Rattle.mg_serve.proofs.SessionSteps.{Broken-step, Session-line}
 use Rattle.mg_serve.proofs.batches.take_line.Goals as goal
 
@@ -35,3 +37,8 @@ returns-clause-halts g c =
     (Session-line g.M.Machine g.D.Disk entry ls c.args.machine.now c.step.new.self c.args.disk.now c.step.new.disk c.args.owed.now c.add.new.self (g.K.Sink.taken c.args.sink.now) c.args.steps.now c.step.new.steps c.args.line.now c.in-Ok.reply a
     c.in-Ok.ensures.says c.in-Ok.ensures.keeps c.in-Ok.ensures.stepped c.in-Ok.ensures.writes c.add.ensures))
     c.close.ensures.halts
+
+pub returns-clause-keeps : goal.returns-clause-keeps
+returns-clause-keeps g c =
+    keeps_then g.M.Machine g.D.Disk g.K.Sink c.args.machine.now c.step.new.self c.close.new.machine c.args.disk.now c.step.new.disk c.close.new.disk c.args.sink.now c.args.sink.now c.close.new.sink c.args.steps.now c.step.new.steps c.step.new.steps _
+    c.in-Ok.ensures.counted c.in-Ok.ensures.calls.blocks c.in-Ok.ensures.calls.count (count_none _ _) (c.close.ensures.keeps c.step.new.steps)

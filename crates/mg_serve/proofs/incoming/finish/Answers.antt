@@ -33,3 +33,6 @@ returns-in-Some-clause-halts g c =
     (λ e. Halts (Session g.M.Machine g.D.Disk) (Broken g.M.Machine g.D.Disk c.args.batch) e (record { machine = c.args.machine.now; disk = c.args.disk.now; owed = c.args.owed.now; taken = g.K.Sink.taken c.args.sink.now; steps = c.args.steps.now }) (lines c.args.part.now) (record { machine = c.line_and_close.new.machine; disk = c.line_and_close.new.disk; owed = c.line_and_close.new.owed; taken = g.K.Sink.taken c.line_and_close.new.sink; steps = c.line_and_close.new.steps }))
     (λ e h. Halts-last (Session g.M.Machine g.D.Disk) (Broken g.M.Machine g.D.Disk c.args.batch) e (record { machine = c.args.machine.now; disk = c.args.disk.now; owed = c.args.owed.now; taken = g.K.Sink.taken c.args.sink.now; steps = c.args.steps.now }) c.args.part.now (record { machine = c.line_and_close.new.machine; disk = c.line_and_close.new.disk; owed = c.line_and_close.new.owed; taken = g.K.Sink.taken c.line_and_close.new.sink; steps = c.line_and_close.new.steps }) c.in-Some.line c.in-Some.ensures.whole (sym c.in-Some.ensures.line) h)
     c.line_and_close.ensures.halts
+
+pub returns-in-None-clause-keeps : goal.returns-in-None-clause-keeps
+returns-in-None-clause-keeps g c = c.close.ensures.keeps c.args.steps.now

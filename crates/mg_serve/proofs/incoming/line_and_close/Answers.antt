@@ -2,6 +2,7 @@ use Rattle.std.proofs.Common.{ℕ, ◌≤◌, [], ◌∷◌, ◌++◌, arith}
 use Rattle.std.proofs.lemmas.Result.{IfErr-weaker}
 use Rattle.mg_serve.specs.Machines.{FailsToClose, Halts}
 use Rattle.mg_serve.specs.Serving.{Broken, Session}
+use Rattle.mg_serve.proofs.IncomingSteps.{keeps_then}
 use Rattle.mg_serve.proofs.incoming.line_and_close.Goals as goal
 
 pub returns-clause-halts : goal.returns-clause-halts
@@ -13,3 +14,8 @@ returns-clause-halts g c =
     (record { machine = c.close.new.machine; disk = c.close.new.disk; owed = c.close.new.owed; taken = g.K.Sink.taken c.close.new.sink; steps = c.take_line.new.steps }))
     (λ e h. λ entry sofar a. h c.take_line.new.steps c.args.batch (let room = c.in_ok-take_line.ensures.open_batch in omega arith) entry (sofar ++ c.args.line.now ∷ []) (c.in_ok-take_line.ensures.steps entry sofar a))
     c.close.ensures.halts
+
+pub returns-clause-keeps : goal.returns-clause-keeps
+returns-clause-keeps g c =
+    keeps_then g.M.Machine g.D.Disk g.K.Sink c.args.machine.now c.take_line.new.machine c.close.new.machine c.args.disk.now c.take_line.new.disk c.close.new.disk c.args.sink.now c.take_line.new.sink c.close.new.sink c.args.steps.now c.take_line.new.steps c.take_line.new.steps _
+    c.in_ok-take_line.ensures.keeps.counted c.in_ok-take_line.ensures.keeps.calls.blocks c.in_ok-take_line.ensures.keeps.calls.count c.in_ok-take_line.ensures.keeps.sink_count (c.close.ensures.keeps c.take_line.new.steps)

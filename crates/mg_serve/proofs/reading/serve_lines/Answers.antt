@@ -1,11 +1,11 @@
-use Rattle.std.proofs.Common.{◌≡◌, ◌+◌, ◌-◌, ap, arith, refl, subst, take, ℕ}
+use Rattle.std.proofs.Common.{◌≡◌, ◌+◌, ◌-◌, ap, arith, refl, subst, take, ℕ, ◌∙◌}
 use Rattle.mg_faults.specs.Faults.{count_none, count_then}
 use Rattle.mg_model.specs.Lines.{lines}
 use Rattle.mg_serve.specs.Incoming.{Goes}
 use Rattle.mg_serve.specs.Readings.{Stops}
 use Rattle.mg_serve.specs.Machines.{Halts, IsInside}
 use Rattle.mg_serve.specs.Waiting.{Waiting}
-use Rattle.mg_serve.proofs.IncomingSteps.{alike_none, alike_then}
+use Rattle.mg_serve.proofs.IncomingSteps.{alike_none, alike_then, keeps_then, on_end}
 use Rattle.mg_serve.proofs.ReadingSteps.{Finishes-last, Reading-more, Reading-none, Stops-bytes, Stops-last, Stops-source, Stops-too_long}
 use Rattle.mg_serve.proofs.Results.{if_err_both, on_ok_both}
 use Rattle.mg_serve.specs.Serving.{Broken, Session}
@@ -79,25 +79,28 @@ pieces-preserved g c =
           c.in-Ok-take_bytes.ensures.whole;
       within = omega arith;
       size = omega arith;
-      live = c.in-Ok-take_bytes.ensures.live;
-      stands = c.in-Ok-take_bytes.ensures.stands;
+      live = c.in-Ok-take_bytes.ensures.keeps.live;
+      stands = c.in-Ok-take_bytes.ensures.keeps.stands;
       staged = c.in-Ok-take_bytes.ensures.staged;
       open_batch = c.in-Ok-take_bytes.ensures.open_batch;
-      counted = alike_then (g.M.Machine.words_in c.args.machine.now) (g.M.Machine.words_in c.pieces.machine) (g.M.Machine.words_in c.take_bytes.new.machine) c.args.steps.now c.pieces.steps c.take_bytes.new.steps c.pieces.invariant.counted c.in-Ok-take_bytes.ensures.counted;
-      blocks = omega arith;
-      disk_count = count_then _ _ _ _ _ _ c.pieces.invariant.disk_count c.in-Ok-take_bytes.ensures.disk.count;
+      counted = alike_then (g.M.Machine.words_in c.args.machine.now) (g.M.Machine.words_in c.pieces.machine) (g.M.Machine.words_in c.take_bytes.new.machine) c.args.steps.now c.pieces.steps c.take_bytes.new.steps c.pieces.invariant.counted c.in-Ok-take_bytes.ensures.keeps.counted;
+      blocks = c.in-Ok-take_bytes.ensures.keeps.calls.blocks ∙ c.pieces.invariant.blocks;
+      disk_count = count_then _ _ _ _ _ _ c.pieces.invariant.disk_count c.in-Ok-take_bytes.ensures.keeps.calls.count;
       source_count = count_then _ _ _ _ _ _ c.pieces.invariant.source_count c.in-Ok.ensures.cause.goes_on;
-      sink_count = count_then _ _ _ _ _ _ c.pieces.invariant.sink_count c.in-Ok-take_bytes.ensures.sink_count;
+      sink_count = count_then _ _ _ _ _ _ c.pieces.invariant.sink_count c.in-Ok-take_bytes.ensures.keeps.sink_count;
     }
 
-pub returns-then-count-eq0-clause-counted : goal.returns-then-count-eq0-clause-counted
-returns-then-count-eq0-clause-counted g c =
-    alike_then (g.M.Machine.words_in c.args.machine.now) (g.M.Machine.words_in c.pieces.machine) (g.M.Machine.words_in c.finish.new.machine) c.args.steps.now c.pieces.steps c.finish.new.steps c.pieces.invariant.counted c.finish.ensures.counted
+pub returns-then-count-eq0-clause-keeps : goal.returns-then-count-eq0-clause-keeps
+returns-then-count-eq0-clause-keeps g c =
+    keeps_then g.M.Machine g.D.Disk g.K.Sink c.args.machine.now c.pieces.machine c.finish.new.machine c.args.disk.now c.pieces.disk c.finish.new.disk c.args.sink.now c.pieces.sink c.finish.new.sink c.args.steps.now c.pieces.steps c.finish.new.steps _
+    c.pieces.invariant.counted c.pieces.invariant.blocks c.pieces.invariant.disk_count c.pieces.invariant.sink_count c.finish.ensures.keeps
 
-pub returns-in-Err-take_bytes-clause-counted : goal.returns-in-Err-take_bytes-clause-counted
-returns-in-Err-take_bytes-clause-counted g c =
-    alike_then (g.M.Machine.words_in c.args.machine.now) (g.M.Machine.words_in c.pieces.machine) (g.M.Machine.words_in c.take_bytes.new.machine) c.args.steps.now c.pieces.steps c.take_bytes.new.steps c.pieces.invariant.counted c.in-Err-take_bytes.ensures.counted
+pub returns-in-Err-take_bytes-clause-keeps : goal.returns-in-Err-take_bytes-clause-keeps
+returns-in-Err-take_bytes-clause-keeps g c =
+    keeps_then g.M.Machine g.D.Disk g.K.Sink c.args.machine.now c.pieces.machine c.take_bytes.new.machine c.args.disk.now c.pieces.disk c.take_bytes.new.disk c.args.sink.now c.pieces.sink c.take_bytes.new.sink c.args.steps.now c.pieces.steps c.take_bytes.new.steps _
+    c.pieces.invariant.counted c.pieces.invariant.blocks c.pieces.invariant.disk_count c.pieces.invariant.sink_count c.in-Err-take_bytes.ensures.keeps
 
-pub returns-then-count-room-clause-counted : goal.returns-then-count-room-clause-counted
-returns-then-count-room-clause-counted g c =
-    alike_then (g.M.Machine.words_in c.args.machine.now) (g.M.Machine.words_in c.pieces.machine) (g.M.Machine.words_in c.take_bytes.new.machine) c.args.steps.now c.pieces.steps c.take_bytes.new.steps c.pieces.invariant.counted c.in-Ok-take_bytes.ensures.counted
+pub returns-then-count-room-clause-keeps : goal.returns-then-count-room-clause-keeps
+returns-then-count-room-clause-keeps g c =
+    keeps_then g.M.Machine g.D.Disk g.K.Sink c.args.machine.now c.pieces.machine c.take_bytes.new.machine c.args.disk.now c.pieces.disk c.take_bytes.new.disk c.args.sink.now c.pieces.sink c.take_bytes.new.sink c.args.steps.now c.pieces.steps c.take_bytes.new.steps _
+    c.pieces.invariant.counted c.pieces.invariant.blocks c.pieces.invariant.disk_count c.pieces.invariant.sink_count (on_end c.in-Ok-take_bytes.ensures.keeps)
