@@ -5,7 +5,7 @@ ghost use Rattle.mg_check.specs.Reads.{OnlyRead};
 ghost use Rattle.mg_check.specs.RowsRead.{AreKept, IsReadAs};
 ghost use Rattle.mg_check.specs.Settled.{IsSettled};
 ghost use Rattle.mg_disk.specs.Stops.{CountRose, DiskCallsBy, WritesNothing};
-ghost use Rattle.mg_journal.specs.Places.{Fits};
+ghost use Rattle.mg_journal.specs.Looked.{Fits};
 ghost use Rattle.mg_model.specs.Layout.{globals_block, total_blocks};
 ghost use Rattle.mg_model.specs.Replay.{replay};
 ghost use Rattle.mg_model.specs.Volume.{Damaged, NotVolume, OldVolume, settled_volume, volume};

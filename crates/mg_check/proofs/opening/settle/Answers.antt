@@ -1,6 +1,6 @@
 use Rattle.std.proofs.Common.{◌≡◌, Some, ap, sym, ◌∙◌, arith}
 use Rattle.std.proofs.lemmas.Result.{IfOk-weaker}
-use Rattle.mg_journal.specs.Places.{Fits}
+use Rattle.mg_journal.specs.Looked.{Fits}
 use Rattle.mg_model.specs.Layout.{total_blocks}
 use Rattle.mg_model.specs.Replay.{replay}
 use Rattle.mg_model.specs.Words.{and_then}
