@@ -11,7 +11,6 @@ ghost use Rattle.mg_model.specs.Replay.{replay};
 ghost use Rattle.mg_model.specs.Volume.{Damaged, NotVolume, OldVolume, settled_volume, volume};
 
 use crate::examining::OpenFault;
-use crate::faults::RowFault;
 use crate::settings::read_settings;
 use crate::tables::read_rows;
 use crate::volume_rows::VolumeRows;
@@ -21,42 +20,23 @@ use mg_layout::Geometry;
 use mg_model::Params;
 use std::alloc::Global;
 
-// Looks through the journal of a volume of so many blocks.
-fn look_through<D: Disk>(alloc: Global, disk: &mut D, total: u64) -> Result<View, RowFault>
-    requires journal { globals_block ≤ total }
-    requires room { total ≤ D.block_count disk.old }
-    ensures fits { IfOk result (λ view. ForSome (D.seen disk.old) (λ image. Fits view image)) }
-    ensures total { IfOk result (λ view. view.total ≡ total) }
-    ensures replayed { IfOk result (λ _. ForSome (D.seen disk.old) (λ image. IsSome (replay image total))) }
-    ensures damaged { result ≡ Err RowFault.Damaged → ForSome (D.seen disk.old) (λ image. replay image total ≡ None) }
-    ensures cause { result ≡ Err RowFault.Disk → CountRose D.Disk disk.old disk.new }
-    ensures reads { OnlyRead D.Disk disk.old disk.new }
-{
-    match View::look(alloc, disk, total) {
-        Ok(view) => Ok(view),
-        Err(ViewFault::Damaged) => Err(RowFault::Damaged),
-        Err(ViewFault::Disk) => Err(RowFault::Disk),
-        Err(ViewFault::Memory) => Err(RowFault::Memory),
-    }
-}
-
 // Reads the rows of a volume with these settings, through a view of its journal.
-fn settle<D: Disk>(alloc: Global, disk: &mut D, p: &Params) -> Result<(View, VolumeRows), RowFault>
+fn settle<D: Disk>(alloc: Global, disk: &mut D, p: &Params) -> Result<(View, VolumeRows), ViewFault>
     ensures told { IfOk result (λ read. ForSome (D.seen disk.old) (IsSettled p.now read.1)) }
     ensures params { IfOk result (λ read. read.1.params ≡ p.now) }
     ensures kept { IfOk result (λ read. AreKept read.1) }
     ensures fits { IfOk result (λ read. ForSome (D.seen disk.old) (λ image. Fits read.0 image)) }
     ensures total { IfOk result (λ read. read.0.total ≡ total_blocks p.now.frames) }
     ensures room { OnOk result (total_blocks p.now.frames ≤ D.block_count disk.old) }
-    ensures damaged { result ≡ Err RowFault.Damaged → ForSome (D.seen disk.old) (λ image. settled_volume image p.now ≡ Damaged) }
-    ensures cause { result ≡ Err RowFault.Disk → CountRose D.Disk disk.old disk.new }
+    ensures damaged { result ≡ Err ViewFault.Damaged → ForSome (D.seen disk.old) (λ image. settled_volume image p.now ≡ Damaged) }
+    ensures cause { result ≡ Err ViewFault.Disk → CountRose D.Disk disk.old disk.new }
     ensures reads { OnlyRead D.Disk disk.old disk.new }
 {
     let total = Geometry::of(p.frames()).total;
     if disk.blocks() < total {
-        return Err(RowFault::Damaged);
+        return Err(ViewFault::Damaged);
     }
-    let view = look_through(alloc, disk, total)?;
+    let view = View::look(alloc, disk, total)?;
     match read_rows(alloc, &view, disk, p) {
         Ok(rows) => Ok((view, rows)),
         Err(fault) => Err(fault),
@@ -84,8 +64,8 @@ pub fn read_volume<D: Disk>(alloc: Global, disk: &mut D) -> Result<(View, Volume
     let p = read_settings(disk)?;
     match settle(alloc, disk, &p) {
         Ok(read) => Ok(read),
-        Err(RowFault::Damaged) => Err(OpenFault::Damaged),
-        Err(RowFault::Disk) => Err(OpenFault::Disk),
-        Err(RowFault::Memory) => Err(OpenFault::Memory),
+        Err(ViewFault::Damaged) => Err(OpenFault::Damaged),
+        Err(ViewFault::Disk) => Err(OpenFault::Disk),
+        Err(ViewFault::Memory) => Err(OpenFault::Memory),
     }
 }

@@ -314,7 +314,7 @@ module _ (rows : VolumeRows) (kept : AreKept rows) (store : Store) (p : PagesHel
           holds = record { image = now.0; is = now.1; kept = at.same ∙ is.is; now = now_is image now.0 is at (standing.fits now.0 now.1) };
         }
 
--- what a stop leaves, and where the journal is damaged
+-- what a stop leaves
 module _ (rows : VolumeRows) {D : Type 0} (facts : Ghosts D) (total : ℕ) (same : total ≡ total_blocks rows.params.frames) (old new : D) (read : ForSome (facts.seen old) (IsReadAs rows)) where
   pub leaves_still : ForSome (facts.seen old) (λ image. Leaves facts old new (SameContents total image)) → ForSome (facts.seen old) (λ image. Leaves facts old new (Still image))
   leaves_still each image told =
