@@ -1,5 +1,5 @@
 -- Lemmas on how runs of reads join.
-use Rattle.std.specs.Prelude.{◌≡◌, ℕ, length, Option}
+use Rattle.std.specs.Prelude.{◌≡◌, ℕ, length, Option, Some}
 use Rattle.std.specs.Option.{ForSome}
 use Rattle.std.proofs.Common.{refl, sym, ap, ◌∙◌, arith}
 use Rattle.mg_disk.specs.Disk.{Image}
@@ -29,6 +29,9 @@ module _ {D : Type 0} (facts : Ghosts D) where
 
   pub same_contents : (of : Image → Option Image) (old new : D) → OnlyRead facts old new → contents facts of new ≡ contents facts of old
   same_contents of old new only = ap (λ seen. and_then seen of) only.writes.same
+
+  pub told_contents : (of : Image → Option Image) (old new : D) (image r : Image) → OnlyRead facts old new → facts.seen old ≡ Some image → of image ≡ Some r → contents facts of new ≡ Some r
+  told_contents of old new image r only told is = same_contents of old new only ∙ ap (λ seen. and_then seen of) told ∙ is
 
 -- what lasts while blocks of contents are read one by one
 pub record AreRead {D : Type 0} (facts : Ghosts D) (of : Image → Option Image) (first : ℕ) (blocks : Image) (n count : ℕ) (old new : D) : Type 0 where

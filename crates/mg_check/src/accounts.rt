@@ -6,10 +6,10 @@ ghost use Rattle.mg_rows.specs.Blocks.{account_in};
 ghost use Rattle.mg_rows.specs.Laws.{IsAccountRow};
 ghost use Rattle.mg_check.specs.RowsRead.{placed_from};
 
-use crate::faults::RowFault;
 use crate::lists::{add, with_room};
 use crate::table_rows::TableRow;
 use mg_disk::Block;
+use mg_journal::ViewFault;
 use mg_layout::FIRST_ACCOUNT_BLOCK;
 use mg_model::AccRow;
 use mg_model::limits::ACCOUNT_LIMIT;
@@ -44,17 +44,20 @@ impl TableRow for AccRow {
 }
 
 /// These accounts without their places. They are damaged where these are not the first ones, one after another.
-pub(crate) fn without_places(alloc: Global, rows: &[(u64, AccRow)]) -> Result<Vec<AccRow>, RowFault>
+pub(crate) fn without_places(
+    alloc: Global,
+    rows: &[(u64, AccRow)],
+) -> Result<Vec<AccRow>, ViewFault>
     ensures same { IfOk result (λ accounts. placed_from 0 accounts.items ≡ rows.now) }
     ensures long { IfOk result (λ accounts. length accounts.items ≡ length rows.now) }
     ensures room { IfOk result (λ accounts. account_rows ≤ vec_capacity accounts) }
-    ensures damaged { result ≡ Err RowFault.Damaged → has_no_gap 0 rows.now ≡ false }
-    ensures no_disk { result ≢ Err RowFault.Disk }
+    ensures damaged { result ≡ Err ViewFault.Damaged → has_no_gap 0 rows.now ≡ false }
+    ensures no_disk { result ≢ Err ViewFault.Disk }
 {
     let mut accounts = with_room(alloc, ACCOUNT_LIMIT)?;
     for (place, row) in rows {
         if *place != accounts.len() as u64 {
-            return Err(RowFault::Damaged);
+            return Err(ViewFault::Damaged);
         }
         add(&mut accounts, *row)?;
     }

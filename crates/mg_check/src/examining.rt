@@ -72,7 +72,7 @@ pub fn examine<D: Disk>(alloc: Global, disk: &mut D) -> Result<Summary, OpenFaul
     ensures calls { DiskCallsBy D.Disk disk.old disk.new (result ≡ Err OpenFault.Disk) }
 {
     match read_volume(alloc, disk) {
-        Ok(rows) => Ok(summary_of(&rows)),
+        Ok((_, rows)) => Ok(summary_of(&rows)),
         Err(fault) => Err(fault),
     }
 }

@@ -9,7 +9,6 @@
 
 mod accounts;
 mod examining;
-mod faults;
 mod lists;
 mod objects;
 mod opening;
@@ -24,7 +23,6 @@ mod threads;
 mod volume_rows;
 
 pub use examining::{OpenFault, Summary, examine, summary_of};
-pub use faults::RowFault;
 pub use opening::read_volume;
 pub use reading::Contents;
 pub use tables::read_rows;

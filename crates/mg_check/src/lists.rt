@@ -1,31 +1,31 @@
 // Lists of rows that are being read.
 ghost use Rattle.std.specs.Prelude.{◌≡◌, ◌≢◌, ◌≤◌, ◌++◌, ◌∷◌, [], IfOk, OnOk, vec_capacity};
 
-use crate::faults::RowFault;
+use mg_journal::ViewFault;
 use std::alloc::Global;
 
 /// An empty list with room for so many.
-pub(crate) fn with_room<T>(alloc: Global, n: usize) -> Result<Vec<T>, RowFault>
+pub(crate) fn with_room<T>(alloc: Global, n: usize) -> Result<Vec<T>, ViewFault>
     ensures none { IfOk result (λ list. list.items ≡ []) }
     ensures room { IfOk result (λ list. n ≤ vec_capacity list) }
-    ensures memory { result ≢ Err RowFault.Damaged }
-    ensures no_disk { result ≢ Err RowFault.Disk }
+    ensures memory { result ≢ Err ViewFault.Damaged }
+    ensures no_disk { result ≢ Err ViewFault.Disk }
 {
     match Vec::with_capacity(alloc, n) {
         Ok(list) => Ok(list),
-        Err(_) => Err(RowFault::Memory),
+        Err(_) => Err(ViewFault::Memory),
     }
 }
 
 /// Adds one behind the others.
-pub(crate) fn add<T: Drop>(list: &mut Vec<T>, last: T) -> Result<(), RowFault>
+pub(crate) fn add<T: Drop>(list: &mut Vec<T>, last: T) -> Result<(), ViewFault>
     ensures more { OnOk result (list.new.items ≡ list.old.items ++ last ∷ []) }
     ensures room { vec_capacity list.old ≤ vec_capacity list.new }
-    ensures memory { result ≢ Err RowFault.Damaged }
-    ensures no_disk { result ≢ Err RowFault.Disk }
+    ensures memory { result ≢ Err ViewFault.Damaged }
+    ensures no_disk { result ≢ Err ViewFault.Disk }
 {
     match list.push(last) {
         Ok(()) => Ok(()),
-        Err(_) => Err(RowFault::Memory),
+        Err(_) => Err(ViewFault::Memory),
     }
 }

@@ -5,13 +5,12 @@ ghost use Rattle.mg_check.specs.Reads.{OnlyRead};
 ghost use Rattle.mg_check.specs.RowsRead.{AreKept, IsReadAs};
 ghost use Rattle.mg_check.specs.Settled.{IsSettled};
 ghost use Rattle.mg_disk.specs.Stops.{CountRose, DiskCallsBy, WritesNothing};
-ghost use Rattle.mg_journal.specs.Places.{Fits};
+ghost use Rattle.mg_journal.specs.Looked.{Fits};
 ghost use Rattle.mg_model.specs.Layout.{globals_block, total_blocks};
 ghost use Rattle.mg_model.specs.Replay.{replay};
 ghost use Rattle.mg_model.specs.Volume.{Damaged, NotVolume, OldVolume, settled_volume, volume};
 
 use crate::examining::OpenFault;
-use crate::faults::RowFault;
 use crate::settings::read_settings;
 use crate::tables::read_rows;
 use crate::volume_rows::VolumeRows;
@@ -21,53 +20,41 @@ use mg_layout::Geometry;
 use mg_model::Params;
 use std::alloc::Global;
 
-// Looks through the journal of a volume of so many blocks.
-fn look_through<D: Disk>(alloc: Global, disk: &mut D, total: u64) -> Result<View, RowFault>
-    requires journal { globals_block ≤ total }
-    requires room { total ≤ D.block_count disk.old }
-    ensures fits { IfOk result (λ view. ForSome (D.seen disk.old) (λ image. Fits view image)) }
-    ensures total { IfOk result (λ view. view.total ≡ total) }
-    ensures replayed { IfOk result (λ _. ForSome (D.seen disk.old) (λ image. IsSome (replay image total))) }
-    ensures damaged { result ≡ Err RowFault.Damaged → ForSome (D.seen disk.old) (λ image. replay image total ≡ None) }
-    ensures cause { result ≡ Err RowFault.Disk → CountRose D.Disk disk.old disk.new }
-    ensures reads { OnlyRead D.Disk disk.old disk.new }
-{
-    match View::look(alloc, disk, total) {
-        Ok(view) => Ok(view),
-        Err(ViewFault::Damaged) => Err(RowFault::Damaged),
-        Err(ViewFault::Disk) => Err(RowFault::Disk),
-        Err(ViewFault::Memory) => Err(RowFault::Memory),
-    }
-}
-
-// Reads the rows of a volume with these settings.
-fn settle<D: Disk>(alloc: Global, disk: &mut D, p: &Params) -> Result<VolumeRows, RowFault>
-    ensures told { IfOk result (λ rows. ForSome (D.seen disk.old) (IsSettled p.now rows)) }
-    ensures params { IfOk result (λ rows. rows.params ≡ p.now) }
-    ensures kept { IfOk result AreKept }
+// Reads the rows of a volume with these settings, through a view of its journal.
+fn settle<D: Disk>(alloc: Global, disk: &mut D, p: &Params) -> Result<(View, VolumeRows), ViewFault>
+    ensures told { IfOk result (λ read. ForSome (D.seen disk.old) (IsSettled p.now read.1)) }
+    ensures params { IfOk result (λ read. read.1.params ≡ p.now) }
+    ensures kept { IfOk result (λ read. AreKept read.1) }
+    ensures fits { IfOk result (λ read. ForSome (D.seen disk.old) (λ image. Fits read.0 image)) }
+    ensures total { IfOk result (λ read. read.0.total ≡ total_blocks p.now.frames) }
     ensures room { OnOk result (total_blocks p.now.frames ≤ D.block_count disk.old) }
-    ensures damaged { result ≡ Err RowFault.Damaged → ForSome (D.seen disk.old) (λ image. settled_volume image p.now ≡ Damaged) }
-    ensures cause { result ≡ Err RowFault.Disk → CountRose D.Disk disk.old disk.new }
+    ensures damaged { result ≡ Err ViewFault.Damaged → ForSome (D.seen disk.old) (λ image. settled_volume image p.now ≡ Damaged) }
+    ensures cause { result ≡ Err ViewFault.Disk → CountRose D.Disk disk.old disk.new }
     ensures reads { OnlyRead D.Disk disk.old disk.new }
 {
     let total = Geometry::of(p.frames()).total;
     if disk.blocks() < total {
-        return Err(RowFault::Damaged);
+        return Err(ViewFault::Damaged);
     }
-    let view = look_through(alloc, disk, total)?;
-    read_rows(alloc, &view, disk, p)
+    let view = View::look(alloc, disk, total)?;
+    match read_rows(alloc, &view, disk, p) {
+        Ok(rows) => Ok((view, rows)),
+        Err(fault) => Err(fault),
+    }
 }
 
-/// Reads the rows of a volume and its frame table. It writes nothing. Beside what the journal needs, the gate, the superblock
-/// and each block of a table are read once, and no block of a frame. The rows keep the rules of a volume, whatever the disk
-/// reads.
+/// Reads the rows of a volume and its frame table, and gives them with the view of the journal that they were read through.
+/// It writes nothing. Beside what the journal needs, the gate, the superblock and each block of a table are read once, and no
+/// block of a frame. The rows keep the rules of a volume, whatever the disk reads.
 ///
 /// [`OpenFault::Not`], [`OpenFault::Old`] and [`OpenFault::Damaged`] come exactly where the image that reads give is no
 /// volume, an older one, or a damaged one; [`OpenFault::Disk`] only where a call of the disk failed.
-pub fn read_volume<D: Disk>(alloc: Global, disk: &mut D) -> Result<VolumeRows, OpenFault>
-    ensures told { IfOk result (λ rows. ForSome (D.seen disk.old) (IsReadAs rows)) }
-    ensures kept { IfOk result AreKept }
-    ensures room { IfOk result (λ rows. total_blocks rows.params.frames ≤ D.block_count disk.old) }
+pub fn read_volume<D: Disk>(alloc: Global, disk: &mut D) -> Result<(View, VolumeRows), OpenFault>
+    ensures told { IfOk result (λ read. ForSome (D.seen disk.old) (IsReadAs read.1)) }
+    ensures kept { IfOk result (λ read. AreKept read.1) }
+    ensures fits { IfOk result (λ read. ForSome (D.seen disk.old) (λ image. Fits read.0 image)) }
+    ensures total { IfOk result (λ read. read.0.total ≡ total_blocks read.1.params.frames) }
+    ensures room { IfOk result (λ read. total_blocks read.1.params.frames ≤ D.block_count disk.old) }
     ensures not { result ≡ Err OpenFault.Not → ForSome (D.seen disk.old) (λ image. volume image ≡ NotVolume) }
     ensures old { result ≡ Err OpenFault.Old → ForSome (D.seen disk.old) (λ image. volume image ≡ OldVolume) }
     ensures damaged { result ≡ Err OpenFault.Damaged → ForSome (D.seen disk.old) (λ image. volume image ≡ Damaged) }
@@ -76,9 +63,9 @@ pub fn read_volume<D: Disk>(alloc: Global, disk: &mut D) -> Result<VolumeRows, O
 {
     let p = read_settings(disk)?;
     match settle(alloc, disk, &p) {
-        Ok(rows) => Ok(rows),
-        Err(RowFault::Damaged) => Err(OpenFault::Damaged),
-        Err(RowFault::Disk) => Err(OpenFault::Disk),
-        Err(RowFault::Memory) => Err(OpenFault::Memory),
+        Ok(read) => Ok(read),
+        Err(ViewFault::Damaged) => Err(OpenFault::Damaged),
+        Err(ViewFault::Disk) => Err(OpenFault::Disk),
+        Err(ViewFault::Memory) => Err(OpenFault::Memory),
     }
 }

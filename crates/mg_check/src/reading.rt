@@ -3,7 +3,7 @@ ghost use Rattle.std.specs.Prelude.{◌≡◌, ◌+◌, ◌^◌, ◌≤◌, ◌<
 ghost use Rattle.std.specs.Option.{ForSome};
 ghost use Rattle.mg_disk.specs.Disk.{HasBlocks, Image, block_at};
 ghost use Rattle.mg_disk.specs.Stops.{CountRose, DiskCalls, WritesNothing};
-ghost use Rattle.mg_journal.specs.Places.{Fits};
+ghost use Rattle.mg_journal.specs.Looked.{Fits};
 ghost use Rattle.mg_model.specs.Replay.{block_of, replay};
 ghost use Rattle.mg_check.specs.Reads.{CanRead, OnlyRead, contents};
 

@@ -7,11 +7,11 @@ ghost use Rattle.mg_model.specs.Layout.{first_frame};
 ghost use Rattle.mg_check.specs.Reads.{CanRead, OnlyRead, contents};
 ghost use Rattle.mg_check.specs.TableTold.{AreEntries, HasRest, IsTable, entry_in};
 
-use crate::faults::RowFault;
 use crate::lists::{add, with_room};
 use crate::reading::{Contents, turn_to};
 use mg_disk::{BLOCK_SIZE, Block, Disk};
 use mg_faults::Failed;
+use mg_journal::ViewFault;
 use mg_layout::TABLE_BLOCK;
 use std::alloc::Global;
 
@@ -29,12 +29,12 @@ fn number_at(b: &Block, at: usize) -> u64
 }
 
 // Takes entry `f` of the table out of its block; there are so many frames.
-fn take(table: &mut Vec<u64>, f: u64, block: &Block, frames: u64) -> Result<(), RowFault>
+fn take(table: &mut Vec<u64>, f: u64, block: &Block, frames: u64) -> Result<(), ViewFault>
     ensures told { OnOk result ((entry : ℕ → ℕ) → entry f ≡ entry_in block.now f → AreEntries entry f frames table.old.items → AreEntries entry (f + 1) frames table.new.items) }
     ensures long { OnOk result (length table.old.items ≡ min f frames → length table.new.items ≡ min (f + 1) frames) }
-    ensures damaged { result ≡ Err RowFault.Damaged → (entry_in block.now f == 0) ≡ false }
-    ensures behind { result ≡ Err RowFault.Damaged → frames ≤ f }
-    ensures no_disk { result ≢ Err RowFault.Disk }
+    ensures damaged { result ≡ Err ViewFault.Damaged → (entry_in block.now f == 0) ≡ false }
+    ensures behind { result ≡ Err ViewFault.Damaged → frames ≤ f }
+    ensures no_disk { result ≢ Err ViewFault.Disk }
 {
     let page = number_at(block, 8 * (f % IN_BLOCK) as usize);
     if f < frames {
@@ -43,7 +43,7 @@ fn take(table: &mut Vec<u64>, f: u64, block: &Block, frames: u64) -> Result<(), 
     if page == 0 {
         Ok(())
     } else {
-        Err(RowFault::Damaged)
+        Err(ViewFault::Damaged)
     }
 }
 
@@ -53,14 +53,14 @@ pub(crate) fn read_table<C: Contents, D: Disk>(
     view: &C,
     disk: &mut D,
     frames: u64,
-) -> Result<Vec<u64>, RowFault>
+) -> Result<Vec<u64>, ViewFault>
     requires few { frames ≤ 65536 }
     requires room { first_frame frames ≤ C.total view.now }
     requires can { CanRead D.Disk (C.need view.now) (C.Fits view.now) disk.old }
     ensures told { IfOk result (λ table. ForSome (contents D.Disk (C.of view.now) disk.old) (λ r. IsTable r frames table.items)) }
     ensures long { IfOk result (λ table. length table.items ≡ frames) }
-    ensures damaged { result ≡ Err RowFault.Damaged → ForSome (contents D.Disk (C.of view.now) disk.old) (λ r. HasRest r frames) }
-    ensures cause { result ≡ Err RowFault.Disk → CountRose D.Disk disk.old disk.new }
+    ensures damaged { result ≡ Err ViewFault.Damaged → ForSome (contents D.Disk (C.of view.now) disk.old) (λ r. HasRest r frames) }
+    ensures cause { result ≡ Err ViewFault.Disk → CountRose D.Disk disk.old disk.new }
     ensures reads { OnlyRead D.Disk disk.old disk.new }
 {
     let mut table = with_room(alloc, frames as usize)?;
@@ -75,7 +75,7 @@ pub(crate) fn read_table<C: Contents, D: Disk>(
             &mut block,
         ) {
             Ok(()) => {}
-            Err(Failed) => return Err(RowFault::Disk),
+            Err(Failed) => return Err(ViewFault::Disk),
         }
         take(&mut table, f, &block, frames)?;
     }

@@ -10,11 +10,11 @@ ghost use Rattle.mg_check.specs.Reads.{CanRead, OnlyRead, contents};
 ghost use Rattle.mg_check.specs.RowsRead.{ArePlaced, live_from};
 ghost use Rattle.mg_check.specs.Told.{AreLive, EachKeeps, NotSpelled};
 
-use crate::faults::RowFault;
 use crate::lists::{add, with_room};
 use crate::reading::{Contents, turn_to};
 use mg_disk::{BLOCK_SIZE, Block, Disk};
 use mg_faults::Failed;
+use mg_journal::ViewFault;
 use mg_rows::Spelled;
 use std::alloc::Global;
 
@@ -53,11 +53,11 @@ pub(crate) trait TableRow: Copy {
 }
 
 // Takes row `i` of the table out of its block.
-fn take<R: TableRow>(rows: &mut Vec<(u64, R)>, i: u64, block: &Block) -> Result<(), RowFault>
+fn take<R: TableRow>(rows: &mut Vec<(u64, R)>, i: u64, block: &Block) -> Result<(), ViewFault>
     requires place { i < R.ROWS }
     ensures told { OnOk result ((read : ℕ → Read R) → read i ≡ R.spelled block.now i → AreLive read i rows.old.items → AreLive read (i + 1) rows.new.items) }
-    ensures damaged { result ≡ Err RowFault.Damaged → R.spelled block.now i ≡ None }
-    ensures no_disk { result ≢ Err RowFault.Disk }
+    ensures damaged { result ≡ Err ViewFault.Damaged → R.spelled block.now i ≡ None }
+    ensures no_disk { result ≢ Err ViewFault.Disk }
     ensures placed { OnOk result (ArePlaced i rows.old.items → ArePlaced (i + 1) rows.new.items) }
     ensures kept { OnOk result (EachKeeps R.IsKept rows.old.items → EachKeeps R.IsKept rows.new.items) }
     ensures room { vec_capacity rows.old ≤ vec_capacity rows.new }
@@ -68,7 +68,7 @@ fn take<R: TableRow>(rows: &mut Vec<(u64, R)>, i: u64, block: &Block) -> Result<
             Spelled::Row(row) => add(rows, (i, *row)),
             Spelled::Free => Ok(()),
         },
-        None => Err(RowFault::Damaged),
+        None => Err(ViewFault::Damaged),
     }
 }
 
@@ -77,15 +77,15 @@ pub(crate) fn read_all<R: TableRow, C: Contents, D: Disk>(
     alloc: Global,
     view: &C,
     disk: &mut D,
-) -> Result<Vec<(u64, R)>, RowFault>
+) -> Result<Vec<(u64, R)>, ViewFault>
     requires room { table_block ≤ C.total view.now }
     requires can { CanRead D.Disk (C.need view.now) (C.Fits view.now) disk.old }
     ensures told { IfOk result (λ rows. ForSome (contents D.Disk (C.of view.now) disk.old) (λ r. AreLive (λ i. R.spelled (block_of r (R.block_at i)) i) R.ROWS rows.items)) }
-    ensures damaged { result ≡ Err RowFault.Damaged → ForSome (contents D.Disk (C.of view.now) disk.old) (λ r. NotSpelled (λ i. R.spelled (block_of r (R.block_at i)) i) R.ROWS) }
+    ensures damaged { result ≡ Err ViewFault.Damaged → ForSome (contents D.Disk (C.of view.now) disk.old) (λ r. NotSpelled (λ i. R.spelled (block_of r (R.block_at i)) i) R.ROWS) }
     ensures placed { IfOk result (λ rows. ArePlaced R.ROWS rows.items) }
     ensures kept { IfOk result (λ rows. EachKeeps R.IsKept rows.items) }
     ensures room { IfOk result (λ rows. R.ROWS ≤ vec_capacity rows) }
-    ensures cause { result ≡ Err RowFault.Disk → CountRose D.Disk disk.old disk.new }
+    ensures cause { result ≡ Err ViewFault.Disk → CountRose D.Disk disk.old disk.new }
     ensures reads { OnlyRead D.Disk disk.old disk.new }
 {
     let mut rows = with_room(alloc, R::ROWS as usize)?;
@@ -93,7 +93,7 @@ pub(crate) fn read_all<R: TableRow, C: Contents, D: Disk>(
     for i in 0..R::ROWS {
         match turn_to(view, disk, R::block_at(i), R::is_first(i), &mut block) {
             Ok(()) => {}
-            Err(Failed) => return Err(RowFault::Disk),
+            Err(Failed) => return Err(ViewFault::Disk),
         }
         take(&mut rows, i, &block)?;
     }
@@ -101,12 +101,12 @@ pub(crate) fn read_all<R: TableRow, C: Contents, D: Disk>(
 }
 
 // Puts free places behind the others, until there are so many.
-fn fill_to<R: TableRow>(rows: &mut Vec<Option<R>>, n: u64) -> Result<(), RowFault>
+fn fill_to<R: TableRow>(rows: &mut Vec<Option<R>>, n: u64) -> Result<(), ViewFault>
     requires within { length rows.old.items ≤ n }
     ensures long { OnOk result (length rows.new.items ≡ n) }
     ensures live { OnOk result (live_from 0 rows.new.items ≡ live_from 0 rows.old.items) }
-    ensures memory { result ≢ Err RowFault.Damaged }
-    ensures no_disk { result ≢ Err RowFault.Disk }
+    ensures memory { result ≢ Err ViewFault.Damaged }
+    ensures no_disk { result ≢ Err ViewFault.Disk }
     ensures room { vec_capacity rows.old ≤ vec_capacity rows.new }
 {
     for _ in rows.len() as u64..n {
@@ -116,12 +116,12 @@ fn fill_to<R: TableRow>(rows: &mut Vec<Option<R>>, n: u64) -> Result<(), RowFaul
 }
 
 // Puts row `i` of the table into its place. Where there is none, nothing is put.
-fn put<R: TableRow>(rows: &mut Vec<Option<R>>, i: u64, block: &Block) -> Result<(), RowFault>
+fn put<R: TableRow>(rows: &mut Vec<Option<R>>, i: u64, block: &Block) -> Result<(), ViewFault>
     requires place { i < R.ROWS }
     requires next { length rows.old.items ≤ i }
     ensures told { OnOk result ((read : ℕ → Read R) → read i ≡ R.spelled block.now i → AreLive read i (live_from 0 rows.old.items) → AreLive read (i + 1) (live_from 0 rows.new.items)) }
-    ensures damaged { result ≡ Err RowFault.Damaged → R.spelled block.now i ≡ None }
-    ensures no_disk { result ≢ Err RowFault.Disk }
+    ensures damaged { result ≡ Err ViewFault.Damaged → R.spelled block.now i ≡ None }
+    ensures no_disk { result ≢ Err ViewFault.Disk }
     ensures long { OnOk result (length rows.new.items ≤ i + 1) }
     ensures placed { OnOk result (ArePlaced i (live_from 0 rows.old.items) → ArePlaced (i + 1) (live_from 0 rows.new.items)) }
     ensures kept { OnOk result (EachKeeps R.IsKept (live_from 0 rows.old.items) → EachKeeps R.IsKept (live_from 0 rows.new.items)) }
@@ -136,7 +136,7 @@ fn put<R: TableRow>(rows: &mut Vec<Option<R>>, i: u64, block: &Block) -> Result<
             }
             Spelled::Free => Ok(()),
         },
-        None => Err(RowFault::Damaged),
+        None => Err(ViewFault::Damaged),
     }
 }
 
@@ -145,16 +145,16 @@ pub(crate) fn read_places<R: TableRow, C: Contents, D: Disk>(
     alloc: Global,
     view: &C,
     disk: &mut D,
-) -> Result<Vec<Option<R>>, RowFault>
+) -> Result<Vec<Option<R>>, ViewFault>
     requires room { table_block ≤ C.total view.now }
     requires can { CanRead D.Disk (C.need view.now) (C.Fits view.now) disk.old }
     ensures told { IfOk result (λ rows. ForSome (contents D.Disk (C.of view.now) disk.old) (λ r. AreLive (λ i. R.spelled (block_of r (R.block_at i)) i) R.ROWS (live_from 0 rows.items))) }
-    ensures damaged { result ≡ Err RowFault.Damaged → ForSome (contents D.Disk (C.of view.now) disk.old) (λ r. NotSpelled (λ i. R.spelled (block_of r (R.block_at i)) i) R.ROWS) }
+    ensures damaged { result ≡ Err ViewFault.Damaged → ForSome (contents D.Disk (C.of view.now) disk.old) (λ r. NotSpelled (λ i. R.spelled (block_of r (R.block_at i)) i) R.ROWS) }
     ensures long { IfOk result (λ rows. length rows.items ≤ R.ROWS) }
     ensures placed { IfOk result (λ rows. ArePlaced R.ROWS (live_from 0 rows.items)) }
     ensures kept { IfOk result (λ rows. EachKeeps R.IsKept (live_from 0 rows.items)) }
     ensures room { IfOk result (λ rows. R.ROWS ≤ vec_capacity rows) }
-    ensures cause { result ≡ Err RowFault.Disk → CountRose D.Disk disk.old disk.new }
+    ensures cause { result ≡ Err ViewFault.Disk → CountRose D.Disk disk.old disk.new }
     ensures reads { OnlyRead D.Disk disk.old disk.new }
 {
     let mut rows = with_room(alloc, R::ROWS as usize)?;
@@ -162,7 +162,7 @@ pub(crate) fn read_places<R: TableRow, C: Contents, D: Disk>(
     for i in 0..R::ROWS {
         match turn_to(view, disk, R::block_at(i), R::is_first(i), &mut block) {
             Ok(()) => {}
-            Err(Failed) => return Err(RowFault::Disk),
+            Err(Failed) => return Err(ViewFault::Disk),
         }
         put(&mut rows, i, &block)?;
     }

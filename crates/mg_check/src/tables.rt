@@ -10,34 +10,34 @@ ghost use Rattle.mg_model.specs.Replay.{block_of};
 ghost use Rattle.mg_model.specs.Spelling.{globals_read};
 
 use crate::accounts::without_places;
-use crate::faults::RowFault;
 use crate::reading::{Contents, read_block};
 use crate::table::read_table;
 use crate::table_rows::{read_all, read_places};
 use crate::volume_rows::VolumeRows;
 use mg_disk::{BLOCK_SIZE, Disk};
 use mg_faults::Failed;
+use mg_journal::ViewFault;
 use mg_layout::GLOBALS_BLOCK;
 use mg_model::{AccRow, Globals, Params};
 use mg_rows::read_globals;
 use std::alloc::Global;
 
 // Reads the globals.
-fn read_counters<C: Contents, D: Disk>(view: &C, disk: &mut D) -> Result<Globals, RowFault>
+fn read_counters<C: Contents, D: Disk>(view: &C, disk: &mut D) -> Result<Globals, ViewFault>
     requires room { table_block ≤ C.total view.now }
     requires can { CanRead D.Disk (C.need view.now) (C.Fits view.now) disk.old }
     ensures told { IfOk result (λ counters. ForSome (contents D.Disk (C.of view.now) disk.old) (λ r. globals_read (block_of r globals_block) ≡ Some counters)) }
-    ensures damaged { result ≡ Err RowFault.Damaged → ForSome (contents D.Disk (C.of view.now) disk.old) (λ r. NoCounters r) }
-    ensures cause { result ≡ Err RowFault.Disk → CountRose D.Disk disk.old disk.new }
+    ensures damaged { result ≡ Err ViewFault.Damaged → ForSome (contents D.Disk (C.of view.now) disk.old) (λ r. NoCounters r) }
+    ensures cause { result ≡ Err ViewFault.Disk → CountRose D.Disk disk.old disk.new }
     ensures reads { OnlyRead D.Disk disk.old disk.new }
 {
     let mut block = [0; BLOCK_SIZE];
     match read_block(view, disk, GLOBALS_BLOCK, &mut block) {
         Ok(()) => match read_globals(&block) {
             Some(globals) => Ok(globals),
-            None => Err(RowFault::Damaged),
+            None => Err(ViewFault::Damaged),
         },
-        Err(Failed) => Err(RowFault::Disk),
+        Err(Failed) => Err(ViewFault::Disk),
     }
 }
 
@@ -47,14 +47,14 @@ fn read_tables<C: Contents, D: Disk>(
     view: &C,
     disk: &mut D,
     p: &Params,
-) -> Result<VolumeRows, RowFault>
+) -> Result<VolumeRows, ViewFault>
     requires room { total_blocks p.now.frames ≤ C.total view.now }
     requires can { CanRead D.Disk (C.need view.now) (C.Fits view.now) disk.old }
     ensures told { IfOk result (λ rows. ForSome (contents D.Disk (C.of view.now) disk.old) (AreTold rows)) }
     ensures params { IfOk result (λ rows. rows.params ≡ p.now) }
     ensures held { IfOk result AreHeld }
-    ensures damaged { result ≡ Err RowFault.Damaged → ForSome (contents D.Disk (C.of view.now) disk.old) (HasNoState p.now) }
-    ensures cause { result ≡ Err RowFault.Disk → CountRose D.Disk disk.old disk.new }
+    ensures damaged { result ≡ Err ViewFault.Damaged → ForSome (contents D.Disk (C.of view.now) disk.old) (HasNoState p.now) }
+    ensures cause { result ≡ Err ViewFault.Disk → CountRose D.Disk disk.old disk.new }
     ensures reads { OnlyRead D.Disk disk.old disk.new }
 {
     let frames = p.frames();
@@ -77,27 +77,27 @@ fn read_tables<C: Contents, D: Disk>(
 /// Reads the tables of a volume with these settings out of its contents: the rows and the frame table, which keep the rules of a
 /// volume, whatever the disk reads. It writes nothing, and reads each block of a table once.
 ///
-/// [`RowFault::Damaged`] comes exactly where the contents that reads give spell no state with these settings;
-/// [`RowFault::Disk`] only where a call of the disk failed.
+/// [`ViewFault::Damaged`] comes exactly where the contents that reads give spell no state with these settings;
+/// [`ViewFault::Disk`] only where a call of the disk failed.
 pub fn read_rows<C: Contents, D: Disk>(
     alloc: Global,
     view: &C,
     disk: &mut D,
     p: &Params,
-) -> Result<VolumeRows, RowFault>
+) -> Result<VolumeRows, ViewFault>
     requires room { total_blocks p.now.frames ≤ C.total view.now }
     requires can { CanRead D.Disk (C.need view.now) (C.Fits view.now) disk.old }
     ensures told { IfOk result (λ rows. ForSome (contents D.Disk (C.of view.now) disk.old) (TellsRows p.now rows)) }
     ensures params { IfOk result (λ rows. rows.params ≡ p.now) }
     ensures kept { IfOk result AreKept }
-    ensures damaged { result ≡ Err RowFault.Damaged → ForSome (contents D.Disk (C.of view.now) disk.old) (HasNoState p.now) }
-    ensures cause { result ≡ Err RowFault.Disk → CountRose D.Disk disk.old disk.new }
+    ensures damaged { result ≡ Err ViewFault.Damaged → ForSome (contents D.Disk (C.of view.now) disk.old) (HasNoState p.now) }
+    ensures cause { result ≡ Err ViewFault.Disk → CountRose D.Disk disk.old disk.new }
     ensures reads { OnlyRead D.Disk disk.old disk.new }
 {
     let rows = read_tables(alloc, view, disk, p)?;
     match rows.fit(alloc) {
         Ok(true) => Ok(rows),
-        Ok(false) => Err(RowFault::Damaged),
-        Err(_) => Err(RowFault::Memory),
+        Ok(false) => Err(ViewFault::Damaged),
+        Err(_) => Err(ViewFault::Memory),
     }
 }

@@ -1,5 +1,5 @@
 -- Lemmas on the places of bodies: one more, and whether a segment fits.
-use Rattle.std.specs.Prelude.{◌≡◌, ◌+◌, ◌≤◌, ◌<◌, ◌&&◌, nat_le, nat_lt, ℕ, Bool, zero, suc, true, false, All, List, [], ◌∷◌, ◌++◌, if◌then◌else◌}
+use Rattle.std.specs.Prelude.{◌≡◌, ◌+◌, ◌≤◌, ◌<◌, ◌&&◌, nat_le, nat_lt, ℕ, Bool, zero, suc, true, false, All, [], ◌∷◌, ◌++◌, if◌then◌else◌}
 use Rattle.std.proofs.Common.{refl, sym, ap, ◌∙◌, ⊎_elim, arith, append_assoc}
 use Rattle.std.proofs.lemmas.Bool.{and_from, and_left, and_parts, and_right, both_ways, cases_Bool, cases_eq, le-leb, leb-true, lt-ltb, ltb-true}
 use Rattle.std.proofs.lemmas.List.{append-nil}
@@ -20,10 +20,6 @@ places_from-last image s j (suc n) =
     let at : j + 1 + n ≡ j + suc n = omega arith in
     ap (λ places. (home_of image s j, segment_body s j) ∷ places)
     (places_from-last image s (j + 1) n ∙ ap (λ k. places_from image s (j + 1) n ++ (home_of image s k, segment_body s k) ∷ []) at)
-
-pub All-right : {X : Type 0} (P : X → Type 0) (xs ys : List X) → All P (xs ++ ys) → All P ys
-All-right P [] ys all = all
-All-right P (x ∷ xs) ys all = All-right P xs ys (All-tail P x (xs ++ ys) all)
 
 -- homes fit where the places are places
 pub homes_are-fit : (total : ℕ) (image : Image) (s j n : ℕ) → All (IsPlace total) (places_from image s j n) → homes_fit total (writes_from image s j n) ≡ true

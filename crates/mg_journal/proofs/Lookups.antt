@@ -1,18 +1,17 @@
--- Why a block of the contents is read at the last body that belongs to it.
-use Rattle.std.specs.Prelude.{◌≡◌, ◌+◌, ◌<◌, ◌==◌, ℕ, Bool, zero, suc, true, false, All, List, [], ◌∷◌, ◌++◌, find, if◌then◌else◌, length, map, reverse, slice_set, Option, Some, None}
+-- Why a block of the contents is read at its newest body.
+use Rattle.std.specs.Prelude.{◌≡◌, ◌+◌, ◌<◌, ◌==◌, ℕ, Bool, zero, suc, true, false, List, [], ◌∷◌, ◌++◌, find, if◌then◌else◌, length, map, reverse, slice_set, Option, Some, None}
 use Rattle.std.specs.Option.{option_map_or, option_or}
-use Rattle.std.proofs.Common.{refl, sym, ap, subst, ◌∙◌, ⊎_elim, arith}
+use Rattle.std.proofs.Common.{refl, sym, ap, ◌∙◌, ⊎_elim, arith}
 use Rattle.std.proofs.lemmas.Bool.{cases_Bool, eqb-true, eqb-false}
 use Rattle.std.proofs.lemmas.List.{get_or-set_other, get_or-set_same, length-set, map-append, reverse-append}
-use Rattle.std.proofs.lemmas.List.Elements.{All-head, All-tail}
 use Rattle.std.proofs.lemmas.List.Folds.{find-append}
 use Rattle.mg_disk.specs.Disk.{Image, block_at}
 use Rattle.mg_model.specs.Layout.{segment_body, segment_count}
 use Rattle.mg_model.specs.Replay.{body_count, home_of, is_open, replay, writes_from, writes_of, writes_since, written}
 use Rattle.mg_journal.specs.Facts.{replayed-is}
-use Rattle.mg_journal.specs.Looked.{held_at}
-use Rattle.mg_journal.specs.Newest.{is_for}
-use Rattle.mg_journal.specs.Places.{Fits, IsPlace, Placed, places_from, places_of, places_since}
+use Rattle.mg_journal.specs.Looked.{Fits, Placed}
+use Rattle.mg_journal.specs.Newest.{is_for, newest_at}
+use Rattle.mg_journal.specs.Places.{places_from, places_of, places_since}
 
 -- what stands in block i after these writes, where x stood there
 abbrev pub value_at : List (ℕ × List ℕ) → ℕ → List ℕ → List ℕ
@@ -91,30 +90,10 @@ held_is ((home, body) ∷ places) i other =
     ∙ ap (λ o. found o other) (sym (find-append (is_for i) (reverse places) ((home, body) ∷ [])))
     ∙ ap (λ p. found (find (is_for i) p) other) (sym (reverse-append ((home, body) ∷ []) places))
 
--- it is on the volume
-held_below : (total : ℕ) (places : List (ℕ × ℕ)) (i other : ℕ) → All (IsPlace total) places → other < total → held_from places i other < total
-held_below total [] i other all below = below
-held_below total ((home, body) ∷ places) i other all below =
-    held_below total places i (if home == i then body else other) (All-tail (IsPlace total) (home, body) places all) (by_test (home == i))
-  where
-    by_test : (t : Bool) → (if t then body else other) < total
-    by_test true =
-        let place = All-head (IsPlace total) (home, body) places all in
-        let low = place.low in
-        let high = place.high in
-        let inside = place.body in
-        omega arith
-    by_test false = below
-
-pub held_at-below : (total : ℕ) (places : List (ℕ × ℕ)) (i : ℕ) → All (IsPlace total) places → i < total → held_at places i < total
-held_at-below total places i all below =
-    let P : ℕ → Type 0 = λ n. n < total in
-    subst P (held_is places i i) (held_below total places i i all below)
-
--- it holds the contents' block i
-pub held_at-reads : (view : Placed) (image r : Image) (i : ℕ) → Fits view image → i < length image → replay image view.total ≡ Some r → block_at image (held_at view.places i) ≡ block_at r i
-held_at-reads view image r i fits inside is =
-    ap (λ p. block_at image (held_at p i)) fits.places
+-- the newest body of a block holds what the contents have there
+pub newest_reads : (view : Placed) (image r : Image) (i : ℕ) → Fits view image → i < length image → replay image view.total ≡ Some r → block_at image (newest_at view.table i) ≡ block_at r i
+newest_reads view image r i fits inside is =
+    ap (λ o. block_at image (found o i)) (fits.newest i)
     ∙ ap (block_at image) (sym (held_is places i i))
     ∙ sym (value_held image places i i)
     ∙ ap (λ w. value_at w i (block_at image i)) (sym (all_writes_are image 0 segment_count))
@@ -123,9 +102,3 @@ held_at-reads view image r i fits inside is =
   where
     places : List (ℕ × ℕ)
     places = places_since image 0 segment_count
-
--- so is the last body that belongs to block i
-pub last-below : (total : ℕ) (places shown : List (ℕ × ℕ)) (i : ℕ) (place : ℕ × ℕ) → All (IsPlace total) places → i < total → shown ≡ places → Some place ≡ find (is_for i) (reverse shown) → place.1 < total
-last-below total places shown i place all below same is =
-    let P : ℕ → Type 0 = λ n. n < total in
-    subst P (ap (λ p. held_at p i) (sym same) ∙ ap (λ o. found o i) (sym is)) (held_at-below total places i all below)

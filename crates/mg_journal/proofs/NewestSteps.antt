@@ -8,15 +8,16 @@ use Rattle.std.proofs.lemmas.List.Folds.{find-append}
 use Rattle.mg_disk.specs.Disk.{Image, block_at}
 use Rattle.mg_model.specs.Bytes.{number_at}
 use Rattle.mg_model.specs.Layout.{body_limit, segment_body, segment_count, segment_gate, segment_index}
-use Rattle.mg_model.specs.Replay.{block_of, body_count, home_of, homes_fit, is_open, replay, segment_fits, segments_fit, writes_from, written}
+use Rattle.mg_model.specs.Replay.{block_of, body_count, home_of, homes_fit, is_open, segment_fits, segments_fit, writes_from, written}
 use Rattle.mg_journal.proofs.ApplySteps.{filled_since}
 use Rattle.mg_journal.proofs.Bodies.{places-closed, places-open}
-use Rattle.mg_journal.proofs.Lookups.{held_at-reads, held_is, value_held, written_at}
+use Rattle.mg_journal.proofs.Lookups.{held_is, value_held, written_at}
 use Rattle.mg_journal.proofs.Tables.{only-one}
 use Rattle.mg_journal.specs.Applied.{filled}
 use Rattle.mg_journal.specs.Contents.{InJournal, bodies_of, names}
 use Rattle.mg_journal.specs.Facts.{same_gate, same_wider}
-use Rattle.mg_journal.specs.Newest.{Adds, Ascends, HasLast, is_for, lying, newest_at}
+use Rattle.mg_journal.specs.Looked.{Fits, Placed}
+use Rattle.mg_journal.specs.Newest.{Adds, Ascends, HasLast, is_for, lying}
 use Rattle.mg_journal.specs.Phases.{IsIn, IsNext}
 use Rattle.mg_journal.specs.Places.{places_from, places_of, places_since}
 use Rattle.mg_journal.specs.Recovery.{Settles}
@@ -62,29 +63,22 @@ same_last a p q same =
         ∙ ap (λ o. block_at a (option_map_or (λ (place : ℕ × ℕ). place.1) o k)) (same k)
         ∙ sym (made q k inside)
 
-module _ (total opened : ℕ) (table : List (ℕ × ℕ)) (image : Image) (holds : HoldsOpen total opened table image) where
-  abbrev all_places : List (ℕ × ℕ)
-  all_places = places_since image 0 segment_count
-
-  -- written to their homes, they make the contents
-  pub table_settles : Ascends table → Settles total table image
-  table_settles up = record {
-    fit = holds.fit;
-    whole = same_last image table all_places (λ i. only-one i table up ∙ holds.newest i) ∙ ap (written image) (filled_since image 0 segment_count);
-    named = λ k named.
-        ap (λ w. names w k) (sym (filled_since image 0 segment_count))
-        ∙ named_is image all_places k
-        ∙ sym (turned k all_places)
-        ∙ ap is_some (sym (holds.newest k))
-        ∙ sym (named_is image table k)
-        ∙ named;
-  }
-
-  -- the newest body of a block holds the contents
-  pub newest_reads : (r : Image) (i : ℕ) → i < length image → replay image total ≡ Some r → block_at image (newest_at table i) ≡ block_at r i
-  newest_reads r i inside is =
-      ap (λ o. block_at image (option_map_or (λ (place : ℕ × ℕ). place.1) o i)) (holds.newest i)
-      ∙ held_at-reads (record { total = total; places = all_places }) image r i (record { fit = holds.fit; places = refl }) inside is
+-- the newest bodies, written to their homes, make the contents
+pub table_settles : (view : Placed) (image : Image) → Fits view image → Ascends view.table → Settles view.total view.table image
+table_settles view image fits up = record {
+  fit = fits.fit;
+  whole = same_last image view.table places (λ i. only-one i view.table up ∙ fits.newest i) ∙ ap (written image) (filled_since image 0 segment_count);
+  named = λ k named.
+      ap (λ w. names w k) (sym (filled_since image 0 segment_count))
+      ∙ named_is image places k
+      ∙ sym (turned k places)
+      ∙ ap is_some (sym (fits.newest k))
+      ∙ sym (named_is image view.table k)
+      ∙ named;
+}
+  where
+    places : List (ℕ × ℕ)
+    places = places_since image 0 segment_count
 
 -- places of the segments of two images that are alike
 places-all : (a b : Image) (from n : ℕ) → ((s : ℕ) → from ≤ s → s < from + n → places_of b s ≡ places_of a s) → places_since b from n ≡ places_since a from n
@@ -147,8 +141,10 @@ from_writes i s j (suc n) =
 pub closed_holds : (total : ℕ) (image : Image) → AllClosed image → HoldsOpen total 0 [] image
 closed_holds total image closed = record {
   gates = λ s below. closed s below ∙ sym (le-ltb s 0 (omega arith));
-  fit = fits-each total image 0 segment_count (λ s low high. fits-closed total image s (closed s (omega arith)));
-  newest = λ i. ap (λ p. find (is_for i) (reverse p)) (sym (places-none image 0 segment_count (λ s low high. closed s (omega arith))));
+  fits = record {
+    fit = fits-each total image 0 segment_count (λ s low high. fits-closed total image s (closed s (omega arith)));
+    newest = λ i. ap (λ p. find (is_for i) (reverse p)) (sym (places-none image 0 segment_count (λ s low high. closed s (omega arith))));
+  };
 }
 
 -- from segment n on none is open
@@ -179,7 +175,7 @@ module _ (total n : ℕ) (table more : List (ℕ × ℕ)) (writes : List (ℕ ×
   fits : segments_fit total b 0 segment_count ≡ true
   fits =
       fits-each total b 0 segment_count
-      (λ s low high. ⊎_elim (λ is. ap (segment_fits total b) is ∙ fits_here) (λ other. (alike-whole total a b s (elsewhere s other)).fits ∙ each-fits total a 0 segment_count s holds.fit low high) (cases_eq s n))
+      (λ s low high. ⊎_elim (λ is. ap (segment_fits total b) is ∙ fits_here) (λ other. (alike-whole total a b s (elsewhere s other)).fits ∙ each-fits total a 0 segment_count s holds.fits.fit low high) (cases_eq s n))
 
   behind : (t : ℕ) → n < t → t < segment_count → is_open b t ≡ false
   behind t low high = opens t high ∙ le-ltb t (n + 1) (omega arith)
@@ -199,8 +195,7 @@ module _ (total n : ℕ) (table more : List (ℕ × ℕ)) (writes : List (ℕ ×
   pub holds_next : HoldsOpen total (n + 1) more b
   holds_next = record {
     gates = opens;
-    fit = fits;
-    newest = subst (λ p. HasLast p more) (sym of_b) (adds.newest (places_since a 0 segment_count) holds.newest);
+    fits = record { fit = fits; newest = subst (λ p. HasLast p more) (sym of_b) (adds.newest (places_since a 0 segment_count) holds.fits.newest) };
   }
 
 -- how many segments are open

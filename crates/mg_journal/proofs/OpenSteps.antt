@@ -3,10 +3,10 @@ use Rattle.std.specs.Prelude.{◌≡◌, ℕ, Option, Some, Result, Err, IsSomeA
 use Rattle.std.specs.Option.{ForSome}
 use Rattle.std.proofs.Common.{sym, ap, subst, ◌∙◌}
 use Rattle.mg_disk.specs.Disk.{Image}
-use Rattle.mg_disk.specs.Runs.{leaves_quiet, leaves_then, leaves_yet, only_image, still_seen}
+use Rattle.mg_disk.specs.Runs.{leaves_quiet, leaves_then, still_seen}
 use Rattle.mg_disk.specs.Stops.{Leaves, NothingPending, WritesNothing}
 use Rattle.mg_disk.specs.declared.disk.Disk.{Ghosts}
-use Rattle.mg_journal.proofs.CommitRuns.{same_itself}
+use Rattle.mg_journal.proofs.CommitRuns.{same_itself, yet_same}
 use Rattle.mg_journal.specs.Contents.{SameContents}
 use Rattle.mg_journal.proofs.RecoverSteps.{came_back}
 
@@ -30,11 +30,7 @@ contents_still total told now still a is = subst (λ o. IsSomeAnd o (SameContent
 module _ {D : Type 0} (facts : Ghosts D) (total : ℕ) (old mid : D) (been : facts.has_been old (facts.moment old)) (look : WritesNothing facts old mid) (pending : NothingPending facts old) (a : Image) (told : facts.seen old ≡ Some a) where
   -- after the look
   pub looked : Leaves facts old mid (SameContents total a)
-  looked =
-      leaves_quiet facts old old mid (SameContents total a)
-      (leaves_yet facts old (SameContents total a) been
-      (λ c left. subst (SameContents total a) (sym (only_image facts old a c (record { told = told; settled = pending }) left)) (same_itself total a)))
-      look.stops
+  looked = leaves_quiet facts old old mid (SameContents total a) (yet_same facts total old a been told pending) look.stops
 
   -- after the recovery
   pub opened : (new : D) (n : ℕ) → n ≡ total → (NothingPending facts mid → ForSome (facts.seen mid) (λ i. Leaves facts mid new (SameContents n i))) → Leaves facts old new (SameContents total a)

@@ -10,9 +10,7 @@ use Rattle.mg_journal.specs.Applied.{filled}
 use Rattle.mg_journal.specs.Contents.{InJournal, SameContents, names}
 use Rattle.mg_journal.specs.Facts.{open_writes, replay-some, same_wider, seen_both}
 use Rattle.mg_journal.proofs.Homes.{homes_torn, homes_written}
-use Rattle.mg_journal.specs.Places.{Fits, Placed}
 use Rattle.mg_journal.specs.Recovery.{IsClosedUpTo, IsRecovered, IsStill, Settles}
-use Rattle.mg_journal.proofs.ApplySteps.{filled_since}
 
 pub told_map : (change : Image → Image) (told : Option Image) → is_some (option_map change told) ≡ is_some told
 told_map change None = refl
@@ -27,17 +25,6 @@ came_back P (Some a) now same each b is = subst (λ o. IsSomeAnd o (P a)) is (ea
 pub some_weaker : {T : Type 0} (P Q : T → Type 0) (told : Option T) → ((x : T) → P x → Q x) → IsSomeAnd told P → IsSomeAnd told Q
 some_weaker P Q None sub is = is
 some_weaker P Q (Some x) sub is = sub x is
-
--- the places that a view holds
-pub view_settles : (view : Placed) (a : Image) → Fits view a → Settles view.total view.places a
-view_settles view a fits = record {
-  fit = fits.fit;
-  whole = ap (written a) writes;
-  named = λ k named. ap (λ w. names w k) (sym writes) ∙ named;
-}
-  where
-    writes : filled a view.places ≡ open_writes a
-    writes = ap (filled a) fits.places ∙ filled_since a 0 segment_count
 
 module _ (total : ℕ) (places : List (ℕ × ℕ)) (a : Image) (settles : Settles total places a) where
   abbrev pub homed : Image

@@ -5,13 +5,13 @@ use Rattle.std.specs.List.Sorted.{IsNonDecreasingBy}
 use Rattle.std.specs.Option.{option_or}
 use Rattle.std.proofs.Common.{refl, sym, ap, subst, ◌∙◌, inl, inr, ⊎_elim, arith, get_or}
 use Rattle.std.proofs.lemmas.Bool.{cases_eq, cases_lt, and_parts, eq-eqb, leb-true, ltb-true, ne_eqb}
-use Rattle.std.proofs.lemmas.List.{get_or-take, length-take-le, reverse-append, take-append-drop, take_more}
+use Rattle.std.proofs.lemmas.List.{append-nil, get_or-take, length-take-le, reverse-append, take-append-drop, take_more}
 use Rattle.std.proofs.lemmas.List.Edits.{get_or-insert_above, get_or-insert_at, get_or-insert_below, length-insert}
 use Rattle.std.proofs.lemmas.List.Elements.{All-append, All-cons, All-drop, All-head, All-tail, All-take}
 use Rattle.std.proofs.lemmas.List.Folds.{find-append, find_past}
 use Rattle.mg_model.specs.Layout.{globals_block}
 use Rattle.mg_model.specs.Replay.{homes_fit}
-use Rattle.mg_journal.specs.Newest.{Ascends, HasLast, Puts, is_for, lying}
+use Rattle.mg_journal.specs.Newest.{Ascends, HasLast, Puts, TakesIn, is_for, lying}
 use Rattle.mg_journal.specs.Places.{IsPlace}
 use Rattle.mg_journal.specs.Staged.{home_at}
 
@@ -143,6 +143,10 @@ last-more places old new place last puts i =
     ∙ ap (λ o. if place.0 == i then Some place else o) (last i)
     ∙ sym (ap (find (is_for i)) (reverse-append places (place ∷ [])))
 
+-- where there are no more places
+pub takes-none : (more table : List (ℕ × ℕ)) → more ≡ [] → TakesIn more table table
+takes-none more table none places last i = last i ∙ ap (λ p. find (is_for i) (reverse p)) (sym (append-nil places) ∙ ap (λ m. places ++ m) (sym none))
+
 lying-last : (first : ℕ) (writes : List (ℕ × List ℕ)) (last : ℕ × List ℕ) → lying first (writes ++ last ∷ []) ≡ lying first writes ++ (last.0, first + length writes) ∷ []
 lying-last first [] last = let e : first ≡ first + 0 = omega arith in ap (λ n. (last.0, n) ∷ []) e
 lying-last first ((home, x) ∷ writes) last =
@@ -193,17 +197,23 @@ only-one i (place ∷ table) up =
         ∙ or_none (find (is_for i) table)
         ∙ sym (ap (λ t. if t then Some place else find (is_for i) table) (ne_eqb place.0 i other))
 
--- a body that is found lies in the journal
+-- a body that is found lies on the volume
 some_is : (x y : ℕ) → ◌≡◌ {A = Option ℕ} (Some x) (Some y) → x ≡ y
 some_is x y is = cc
 
-pub found-below : (total : ℕ) (table : List (ℕ × ℕ)) (i body : ℕ) → All (IsPlace total) table → option_map (λ (p : ℕ × ℕ). p.1) (find (is_for i) table) ≡ Some body → body < globals_block
+pub found-below : (total : ℕ) (table : List (ℕ × ℕ)) (i body : ℕ) → All (IsPlace total) table → option_map (λ (p : ℕ × ℕ). p.1) (find (is_for i) table) ≡ Some body → body < total
 found-below total [] i body all is = absurd (none_some body is)
   where
     none_some : (x : ℕ) → ◌≡◌ {A = Option ℕ} None (Some x) → ⊥
     none_some x is = cc
 found-below total (place ∷ table) i body all is = by_test (found-below total table i body (All-tail (IsPlace total) place table all)) (place.0 == i) is
   where
-    by_test : (option_map (λ (p : ℕ × ℕ). p.1) (find (is_for i) table) ≡ Some body → body < globals_block) → (t : Bool) → option_map (λ (p : ℕ × ℕ). p.1) (if t then Some place else find (is_for i) table) ≡ Some body → body < globals_block
-    by_test rest true e = let low = (All-head (IsPlace total) place table all).body in let same = some_is place.1 body e in omega arith
+    by_test : (option_map (λ (p : ℕ × ℕ). p.1) (find (is_for i) table) ≡ Some body → body < total) → (t : Bool) → option_map (λ (p : ℕ × ℕ). p.1) (if t then Some place else find (is_for i) table) ≡ Some body → body < total
+    by_test rest true e =
+        let here = All-head (IsPlace total) place table all in
+        let low = here.low in
+        let high = here.high in
+        let inside = here.body in
+        let same = some_is place.1 body e in
+        omega arith
     by_test rest false e = rest e

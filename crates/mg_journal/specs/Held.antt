@@ -1,7 +1,6 @@
 -- What a store holds in memory.
-use Rattle.std.specs.Prelude.{◌≤◌, ◌*◌, ℕ, Bool, List, All, length}
+use Rattle.std.specs.Prelude.{◌≤◌, ◌*◌, ℕ, Bool, List, length}
 use Rattle.mg_model.specs.Layout.{body_limit, segment_count}
-use Rattle.mg_journal.specs.Places.{IsPlace}
 
 -- how many blocks the volume has, whether it may still commit, how many segments are open, and where the newest body of each
 -- block lies that these have: pairs of the block that a body belongs to and the block that holds it
@@ -15,4 +14,3 @@ pub record Store : Type 0 where
 pub record IsKept (store : Store) : Type 0 where
   pub few : store.opened ≤ segment_count
   pub room : length store.table ≤ body_limit * store.opened
-  pub fit : All (IsPlace store.total) store.table

@@ -2,12 +2,12 @@
 pub mod Contents
 pub mod Places
 pub mod Newest
+pub mod Looked
 pub mod Held
 pub mod Standing
 pub mod Staged
 -- What the parts of a commit and of an opening do.
 pub mod Phases
-pub mod Looked
 pub mod Applied
 pub mod Recovery
 -- Lemmas that Standing or crates above cite. None of them is part of a statement.

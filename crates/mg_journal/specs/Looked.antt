@@ -1,7 +1,18 @@
--- What a view tells of the contents.
-use Rattle.std.specs.Prelude.{◌==◌, ℕ, List, find, reverse}
-use Rattle.std.specs.Option.{option_map_or}
+-- What a view holds, and when it fits an image.
+use Rattle.std.specs.Prelude.{◌≡◌, ℕ, true, List}
+use Rattle.mg_disk.specs.Disk.{Image}
+use Rattle.mg_model.specs.Layout.{segment_count}
+use Rattle.mg_model.specs.Replay.{segments_fit}
+use Rattle.mg_journal.specs.Newest.{HasLast}
+use Rattle.mg_journal.specs.Places.{places_since}
 
--- the block that holds block i: the last of these bodies that belongs to it, or that block itself
-abbrev pub held_at : List (ℕ × ℕ) → ℕ → ℕ
-held_at places i = option_map_or (λ (place : ℕ × ℕ). place.1) (find (λ (place : ℕ × ℕ). place.0 == i) (reverse places)) i
+-- the number of blocks of a volume, and where the newest body of each block lies that its open segments have: pairs of the block
+-- that a body belongs to and the block that holds it
+pub record Placed : Type 0 where
+  pub total : ℕ
+  pub table : List (ℕ × ℕ)
+
+-- the journal of the image can be replayed, and the table has the last of the bodies that its open segments have for a block
+pub record Fits (view : Placed) (image : Image) : Type 0 where
+  pub fit : segments_fit view.total image 0 segment_count ≡ true
+  pub newest : HasLast (places_since image 0 segment_count) view.table

@@ -17,6 +17,10 @@ Ascends table = AllPairs (λ (a b : ℕ × ℕ). a.0 < b.0) table
 abbrev pub HasLast : List (ℕ × ℕ) → List (ℕ × ℕ) → Type 0
 HasLast places table = (i : ℕ) → find (is_for i) table ≡ find (is_for i) (reverse places)
 
+-- where the old table has the last of some places, the new one has it of these and more behind them
+abbrev pub TakesIn : List (ℕ × ℕ) → List (ℕ × ℕ) → List (ℕ × ℕ) → Type 0
+TakesIn more old new = (places : List (ℕ × ℕ)) → HasLast places old → HasLast (places ++ more) new
+
 -- a table as it was, but with this place for its block
 abbrev pub Puts : List (ℕ × ℕ) → ℕ × ℕ → List (ℕ × ℕ) → Type 0
 Puts old place new = (i : ℕ) → find (is_for i) new ≡ (if place.0 == i then Some place else find (is_for i) old)
@@ -32,6 +36,6 @@ lying first ((home, bytes) ∷ writes) = (home, first) ∷ lying (first + 1) wri
 
 -- a table once these bodies are in it, which lie from this block on
 pub record Adds (first : ℕ) (writes : List (ℕ × List ℕ)) (old new : List (ℕ × ℕ)) : Type 0 where
-  pub newest : (places : List (ℕ × ℕ)) → HasLast places old → HasLast (places ++ lying first writes) new
+  pub newest : TakesIn (lying first writes) old new
   pub fit : (total : ℕ) → homes_fit total writes ≡ true → All (IsPlace total) old → All (IsPlace total) new
   pub few : length new ≤ length old + length writes

@@ -1,8 +1,8 @@
 -- Where the bodies of the open segments lie.
-use Rattle.std.specs.Prelude.{◌≡◌, ◌+◌, ◌≤◌, ◌<◌, ℕ, zero, suc, true, List, [], ◌∷◌, ◌++◌, if◌then◌else◌}
+use Rattle.std.specs.Prelude.{◌+◌, ◌≤◌, ◌<◌, ℕ, zero, suc, List, [], ◌∷◌, ◌++◌, if◌then◌else◌}
 use Rattle.mg_disk.specs.Disk.{Image}
-use Rattle.mg_model.specs.Layout.{globals_block, segment_body, segment_count}
-use Rattle.mg_model.specs.Replay.{body_count, home_of, is_open, segments_fit}
+use Rattle.mg_model.specs.Layout.{globals_block, segment_body}
+use Rattle.mg_model.specs.Replay.{body_count, home_of, is_open}
 
 -- of a segment from body j on, so many of them: pairs of the block that a body belongs to and the block that holds it
 abbrev pub places_from : Image → ℕ → ℕ → ℕ → List (ℕ × ℕ)
@@ -22,13 +22,3 @@ pub record IsPlace (total : ℕ) (place : ℕ × ℕ) : Type 0 where
   pub low : globals_block ≤ place.0
   pub high : place.0 < total
   pub body : place.1 < globals_block
-
--- what a view holds: the number of blocks of a volume, and where the bodies of its open segments lie
-pub record Placed : Type 0 where
-  pub total : ℕ
-  pub places : List (ℕ × ℕ)
-
--- the journal of the image can be replayed, and its open segments have their bodies there
-pub record Fits (view : Placed) (image : Image) : Type 0 where
-  pub fit : segments_fit view.total image 0 segment_count ≡ true
-  pub places : view.places ≡ places_since image 0 segment_count

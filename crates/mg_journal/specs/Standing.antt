@@ -1,16 +1,15 @@
 -- When a store stands on a disk, and what a commit may leave.
-use Rattle.std.specs.Prelude.{◌≡◌, ◌⊎◌, ◌+◌, ◌≤◌, ◌<◌, if◌then◌else◌, nat_lt, ℕ, zero, suc, Bool, true, false, List, Some}
+use Rattle.std.specs.Prelude.{◌≡◌, ◌⊎◌, ◌+◌, ◌≤◌, ◌<◌, if◌then◌else◌, nat_lt, ℕ, zero, suc, Bool, false, List, Some}
 use Rattle.std.specs.Option.{ForSome}
 use Rattle.mg_disk.specs.Disk.{Image, SameBut}
 use Rattle.mg_disk.specs.Stops.{NothingPending}
 use Rattle.mg_disk.specs.declared.disk.Disk.{Ghosts}
 use Rattle.mg_model.specs.Layout.{globals_block, segment_count}
-use Rattle.mg_model.specs.Replay.{is_open, replay, segments_fit, written}
+use Rattle.mg_model.specs.Replay.{is_open, replay, written}
 use Rattle.mg_journal.specs.Contents.{InJournal, NewContents, SameContents}
 use Rattle.mg_journal.specs.Facts.{open_writes, replay-some}
 use Rattle.mg_journal.specs.Held.{Store}
-use Rattle.mg_journal.specs.Newest.{HasLast}
-use Rattle.mg_journal.specs.Places.{places_since}
+use Rattle.mg_journal.specs.Looked.{Fits}
 
 -- how many blocks the volume has
 abbrev pub total_of : Store → ℕ
@@ -28,8 +27,7 @@ AllClosed image = (s : ℕ) → s < segment_count → is_open image s ≡ false
 -- each block that they name
 pub record HoldsOpen (total opened : ℕ) (table : List (ℕ × ℕ)) (image : Image) : Type 0 where
   pub gates : (s : ℕ) → s < segment_count → is_open image s ≡ nat_lt s opened
-  pub fit : segments_fit total image 0 segment_count ≡ true
-  pub newest : HasLast (places_since image 0 segment_count) table
+  pub fits : Fits (record { total = total; table = table }) image
 
 -- a store fits an image where the open segments are the ones that it holds
 unfoldable pub IsFitting : Store → Image → Type 0
@@ -38,7 +36,7 @@ IsFitting store image = HoldsOpen store.total store.opened store.table image
 -- where a store fits, the journal can be replayed
 pub fitting_replays : (store : Store) (image : Image) → IsFitting store image → (r : Image) × (replay image (total_of store) ≡ Some r)
 unfolding IsFitting
-fitting_replays store image fits = (written image (open_writes image), replay-some store.total image fits.fit)
+fitting_replays store image fits = (written image (open_writes image), replay-some store.total image fits.fits.fit)
 
 pub fits_held : (store : Store) (image : Image) → HoldsOpen store.total store.opened store.table image → IsFitting store image
 unfolding IsFitting

@@ -1,12 +1,13 @@
-// Why the journal of a disk could not be read.
+// Why the contents of a disk could not be read.
 
 use thiserror::Error;
 
-/// Why the journal of a disk could not be read or replayed.
+/// Why the contents of a disk could not be read: its journal, or rows that are read through it.
 #[derive(Debug, Drop, Error)]
 pub enum ViewFault {
-    /// An open segment has more than 160 bodies, or one that belongs to no block behind the journal.
-    #[error("the journal is damaged")]
+    /// They are not spelled as they should be. Of a journal: an open segment has more than 160 bodies, or one that belongs to no
+    /// block behind the journal.
+    #[error("damaged contents")]
     Damaged,
     /// A call of the disk failed.
     #[error("a call of the disk failed")]

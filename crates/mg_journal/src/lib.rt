@@ -3,9 +3,10 @@
 //! A layer above stages blocks in a [`Writes`] and hands them to [`Store::commit`]: at each moment of it a stop leaves the
 //! old contents or the new, and after Ok the new. The contents of an image are its blocks after replay (`replay` of
 //! `mg_model`), the segments' own blocks left aside. [`Store::open`] recovers what a stop left of a commit: the contents
-//! stay at each moment of it, and after Ok no segment is open.
+//! stay at each moment of it, and after Ok no segment is open. [`View::look`] finds where the newest body of each block lies,
+//! and writes nothing; who has read through the view hands it on to [`Store::recover`].
 //!
-//! A commit fills the next of eight segments, and homes wait: the store's table says where the newest body of each block
+//! A commit fills the next of eight segments, and homes wait: the store's view says where the newest body of each block
 //! lies. A commit that finds all eight open makes a checkpoint first, which writes the homes and closes the gates.
 //!
 //! `specs/Contents.antt` and `specs/Standing.antt` have the words of the contracts. What changes inside the journal do to
@@ -16,7 +17,6 @@
 mod committing;
 mod faults;
 mod index;
-mod opening;
 mod places;
 mod reading;
 mod recovering;

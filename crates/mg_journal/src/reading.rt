@@ -1,5 +1,5 @@
 // Reading the journal: where the bodies of its open segments lie.
-ghost use Rattle.std.specs.Prelude.{◌≡◌, ◌≤◌, ◌<◌, ◌+◌, ◌++◌, ◌∷◌, ◌&&◌, [], ℕ, All, IfOk, OnErr, OnOk, false, length, nat_le, nat_lt, true, vec_capacity};
+ghost use Rattle.std.specs.Prelude.{◌≡◌, ◌≤◌, ◌<◌, ◌+◌, ◌&&◌, All, IfOk, OnErr, OnOk, false, length, nat_le, nat_lt, true};
 ghost use Rattle.std.specs.Option.{ForSome};
 ghost use Rattle.mg_disk.specs.Disk.{Image, block_at};
 ghost use Rattle.mg_disk.specs.Stops.{DiskCalls, DiskCallsBy, WritesNothing};
@@ -7,10 +7,12 @@ ghost use Rattle.mg_model.specs.Bytes.{number_at};
 ghost use Rattle.mg_model.specs.Layout.{body_limit, globals_block, segment_count, segment_index};
 ghost use Rattle.mg_model.specs.Replay.{body_count, is_open, segment_fits};
 ghost use Rattle.mg_journal.specs.Contents.{bodies_fit};
+ghost use Rattle.mg_journal.specs.Newest.{TakesIn};
 ghost use Rattle.mg_journal.specs.Places.{IsPlace, places_from, places_of};
 
 use crate::faults::ViewFault;
 use crate::places::{gate_of, index_of, is_opened};
+use crate::table::Table;
 use mg_disk::{BLOCK_SIZE, Block, Disk};
 use mg_faults::Failed;
 
@@ -37,28 +39,15 @@ fn is_home(block: u64, total: u64) -> bool
     block >= FIRST_HOME && block < total
 }
 
-// Adds a place behind the others. It takes no memory.
-fn add(places: &mut Vec<(u64, u64)>, place: (u64, u64))
-    requires room { length places.old.items < vec_capacity places.old }
-    ensures added { places.new.items ≡ places.old.items ++ place ∷ [] }
-    ensures capacity { vec_capacity places.old ≤ vec_capacity places.new }
-{
-    if places.push(place).is_err() {
-        unreachable!()
-    }
-}
-
-// Adds the places of the bodies of a segment with this index, in order. False where the index does not fit: it has more
-// than 160 bodies, or one that belongs to no block behind the journal. It takes no memory.
-fn add_bodies(index: &Block, segment: u64, total: u64, places: &mut Vec<(u64, u64)>) -> bool
+// Puts the places of the bodies of a segment with this index into the table, in order. False where the index does not fit: it
+// has more than 160 bodies, or one that belongs to no block behind the journal.
+fn add_bodies(index: &Block, segment: u64, total: u64, table: &mut Table) -> bool
     requires segment { segment < segment_count }
-    requires room { length places.old.items + body_limit ≤ vec_capacity places.old }
-    requires fit { All (IsPlace total) places.old.items }
+    requires room { length table.old + body_limit ≤ 1280 }
     ensures fits { (image : Image) → block_at image (segment_index segment) ≡ index.now → bodies_fit total image segment ≡ result }
-    ensures added { result ≡ true → (image : Image) → block_at image (segment_index segment) ≡ index.now → places.new.items ≡ places.old.items ++ places_from image segment 0 (body_count image segment) }
-    ensures fit { All (IsPlace total) places.new.items }
-    ensures few { length places.new.items ≤ length places.old.items + body_limit }
-    ensures capacity { vec_capacity places.old ≤ vec_capacity places.new }
+    ensures newest { result ≡ true → (image : Image) → block_at image (segment_index segment) ≡ index.now → TakesIn (places_from image segment 0 (body_count image segment)) table.old table.new }
+    ensures fit { All (IsPlace total) table.old → All (IsPlace total) table.new }
+    ensures few { length table.new ≤ length table.old + body_limit }
 {
     let count = number_at(index, 0);
     if count > MOST_BODIES {
@@ -70,7 +59,7 @@ fn add_bodies(index: &Block, segment: u64, total: u64, places: &mut Vec<(u64, u6
         if !is_home(home, total) {
             return false;
         }
-        add(places, (home, first + k));
+        table.put((home, first + k));
     }
     true
 }
@@ -88,30 +77,28 @@ fn is_open<D: Disk>(disk: &mut D, segment: u64) -> Result<bool, Failed>
     Ok(is_opened(&gate))
 }
 
-// Adds the places of the bodies of a segment, whether it is open or not.
+// Puts the places of the bodies of a segment into the table, whether it is open or not.
 fn look_index<D: Disk>(
     disk: &mut D,
     segment: u64,
     total: u64,
-    places: &mut Vec<(u64, u64)>,
+    table: &mut Table,
 ) -> Result<(), ViewFault>
     requires segment { segment < segment_count }
     requires blocks { globals_block ≤ D.block_count disk.old }
-    requires room { length places.old.items + body_limit ≤ vec_capacity places.old }
-    requires fit { All (IsPlace total) places.old.items }
+    requires room { length table.old + body_limit ≤ 1280 }
     ensures fits { OnOk result (ForSome (D.seen disk.old) (λ image. bodies_fit total image segment ≡ true)) }
-    ensures added { OnOk result (ForSome (D.seen disk.old) (λ image. places.new.items ≡ places.old.items ++ places_from image segment 0 (body_count image segment))) }
+    ensures newest { OnOk result (ForSome (D.seen disk.old) (λ image. TakesIn (places_from image segment 0 (body_count image segment)) table.old table.new)) }
     ensures damaged { result ≡ Err ViewFault.Damaged → ForSome (D.seen disk.old) (λ image. bodies_fit total image segment ≡ false) }
-    ensures fit { All (IsPlace total) places.new.items }
-    ensures few { length places.new.items ≤ length places.old.items + body_limit }
-    ensures capacity { vec_capacity places.old ≤ vec_capacity places.new }
+    ensures fit { All (IsPlace total) table.old → All (IsPlace total) table.new }
+    ensures few { length table.new ≤ length table.old + body_limit }
     ensures writes { WritesNothing D.Disk disk.old disk.new }
     ensures calls { DiskCallsBy D.Disk disk.old disk.new (result ≡ Err ViewFault.Disk) }
 {
     let mut index = [0; BLOCK_SIZE];
     match disk.read(index_of(segment), &mut index) {
         Ok(()) => {
-            if add_bodies(&index, segment, total, places) {
+            if add_bodies(&index, segment, total, table) {
                 Ok(())
             } else {
                 Err(ViewFault::Damaged)
@@ -121,30 +108,28 @@ fn look_index<D: Disk>(
     }
 }
 
-/// Adds the places of the bodies of a segment, which has none where it is closed. It takes no memory.
+/// Puts the places of the bodies of a segment into the table, which has none where it is closed.
 ///
 /// [`ViewFault::Damaged`] comes exactly where it is open and does not fit, [`ViewFault::Disk`] only where a read failed.
 pub(crate) fn look_segment<D: Disk>(
     disk: &mut D,
     segment: u64,
     total: u64,
-    places: &mut Vec<(u64, u64)>,
+    table: &mut Table,
 ) -> Result<(), ViewFault>
     requires segment { segment < segment_count }
     requires blocks { globals_block ≤ D.block_count disk.old }
-    requires room { length places.old.items + body_limit ≤ vec_capacity places.old }
-    requires fit { All (IsPlace total) places.old.items }
+    requires room { length table.old + body_limit ≤ 1280 }
     ensures fits { OnOk result (ForSome (D.seen disk.old) (λ image. segment_fits total image segment ≡ true)) }
-    ensures added { OnOk result (ForSome (D.seen disk.old) (λ image. places.new.items ≡ places.old.items ++ places_of image segment)) }
+    ensures newest { OnOk result (ForSome (D.seen disk.old) (λ image. TakesIn (places_of image segment) table.old table.new)) }
     ensures damaged { result ≡ Err ViewFault.Damaged → ForSome (D.seen disk.old) (λ image. segment_fits total image segment ≡ false) }
-    ensures fit { All (IsPlace total) places.new.items }
-    ensures few { length places.new.items ≤ length places.old.items + body_limit }
-    ensures capacity { vec_capacity places.old ≤ vec_capacity places.new }
+    ensures fit { All (IsPlace total) table.old → All (IsPlace total) table.new }
+    ensures few { length table.new ≤ length table.old + body_limit }
     ensures writes { WritesNothing D.Disk disk.old disk.new }
     ensures calls { DiskCallsBy D.Disk disk.old disk.new (result ≡ Err ViewFault.Disk) }
 {
     match is_open(disk, segment) {
-        Ok(true) => look_index(disk, segment, total, places),
+        Ok(true) => look_index(disk, segment, total, table),
         Ok(false) => Ok(()),
         Err(Failed) => Err(ViewFault::Disk),
     }

@@ -6,16 +6,16 @@ ghost use Rattle.mg_disk.specs.Stops.{DiskCalls, DiskCallsBy, Leaves, NothingPen
 ghost use Rattle.mg_model.specs.Layout.{body_limit, globals_block, segment_body, segment_count};
 ghost use Rattle.mg_model.specs.Replay.{homes_fit, replay};
 ghost use Rattle.mg_journal.specs.Contents.{NewContents, SameContents};
-ghost use Rattle.mg_journal.specs.Newest.{Adds, newest_at};
+ghost use Rattle.mg_journal.specs.Looked.{Fits};
+ghost use Rattle.mg_journal.specs.Newest.{Adds};
 ghost use Rattle.mg_journal.specs.Phases.{IsNext};
 ghost use Rattle.mg_journal.specs.Standing.{IsLate, OldOrNew, Stands, is_live, total_of};
 
 use crate::committing::write_firmly;
 use crate::faults::ViewFault;
-use crate::opening::{recover, settle};
 use crate::places::{SEGMENTS, gate_of, index_of, opened_gate};
+use crate::recovering::recover;
 use crate::segment::write_segment;
-use crate::table::Table;
 use crate::view::View;
 use crate::writes::Writes;
 use mg_disk::{Block, Disk};
@@ -26,12 +26,11 @@ use std::marker::Model;
 /// The journal of a volume on a disk.
 #[derive(Drop)]
 pub struct Store {
-    total: u64,
+    // Where the newest body of each block lies.
+    view: View,
     live: bool,
     // How many segments are open: the first ones.
     opened: u64,
-    // Where the newest body of each block lies that they hold.
-    table: Table,
 }
 
 impl Model for Store {
@@ -39,16 +38,16 @@ impl Model for Store {
 
     ghost Value = { Store };
 
-    ghost view = { λ s. record { total = s.total; live = s.live; opened = s.opened; table = s.table } };
+    ghost view = { λ s. record { total = s.view.total; live = s.live; opened = s.opened; table = s.view.table } };
 
-    ghost invariant = { λ s. IsKept (record { total = s.total; live = s.live; opened = s.opened; table = s.table }) };
+    ghost invariant = { λ s. IsKept (record { total = s.view.total; live = s.live; opened = s.opened; table = s.view.table }) };
 }
 
 impl Store {
-    /// Opens the journal of a volume of `total` blocks, whatever a stop left of a commit: what open segments hold is written
-    /// to its homes and made sure of, and then the gates are closed first to last, with a sync after each. The contents
-    /// stay, whatever the answer: those of what reads give, and where nothing was pending those of what a stop leaves at any
-    /// moment. After Ok nothing is pending.
+    /// Opens the journal of a volume of `total` blocks, whatever a stop left of a commit: each home that open segments name is
+    /// written once, from its newest body, and made sure of, and then the gates are closed first to last, with a sync after
+    /// each. The contents stay, whatever the answer: those of what reads give, and where nothing was pending those of what a
+    /// stop leaves at any moment. After Ok nothing is pending.
     ///
     /// [`ViewFault::Damaged`] comes where the journal cannot be replayed, and then nothing was written,
     /// [`ViewFault::Disk`] only where a call of the disk failed, and [`ViewFault::Memory`] where there was not enough
@@ -67,22 +66,41 @@ impl Store {
         ensures untouched { result ≡ Err ViewFault.Damaged → WritesNothing D.Disk disk.old disk.new }
         ensures calls { DiskCallsBy D.Disk disk.old disk.new (result ≡ Err ViewFault.Disk) }
     {
-        let table = match Table::new(alloc) {
-            Ok(table) => table,
-            Err(_) => return Err(ViewFault::Memory),
-        };
         let view = match View::look(alloc, disk, total) {
             Ok(view) => view,
             Err(fault) => return Err(fault),
         };
-        match recover(disk, &view) {
-            Ok(()) => Ok(Store {
-                total,
-                live: true,
-                opened: 0,
-                table,
-            }),
+        match Store::recover(disk, view) {
+            Ok(store) => Ok(store),
             Err(Failed) => Err(ViewFault::Disk),
+        }
+    }
+
+    /// Opens the journal of a disk that this view fits, as [`Store::open`] does once it has looked through the journal. It
+    /// takes no memory. [`Failed`] comes only where a call of the disk failed.
+    pub fn recover<D: Disk>(disk: &mut D, mut view: View) -> Result<Store, Failed>
+        requires journal { globals_block ≤ view.total }
+        requires room { view.total ≤ D.block_count disk.old }
+        requires fits { ForSome (D.seen disk.old) (λ image. Fits view image) }
+        ensures any_moment { NothingPending D.Disk disk.old → ForSome (D.seen disk.old) (λ image. Leaves D.Disk disk.old disk.new (SameContents view.total image)) }
+        ensures contents { ForSome (D.seen disk.old) (λ image. IsSomeAnd (D.seen disk.new) (SameContents view.total image)) }
+        ensures came_from { ForSome (D.seen disk.new) (λ now. IsSomeAnd (D.seen disk.old) (λ image. SameContents view.total image now)) }
+        ensures tells { is_some (D.seen disk.new) ≡ is_some (D.seen disk.old) }
+        ensures stands { IfOk result (λ store. Stands D.Disk store disk.new) }
+        ensures live { IfOk result (λ store. is_live store ≡ true) }
+        ensures total { IfOk result (λ store. total_of store ≡ view.total) }
+        ensures calls { DiskCalls D.Disk disk.old disk.new result }
+    {
+        match recover(disk, &view) {
+            Ok(()) => {
+                view.clear();
+                Ok(Store {
+                    view,
+                    live: true,
+                    opened: 0,
+                })
+            }
+            Err(Failed) => Err(Failed),
         }
     }
 
@@ -133,20 +151,7 @@ impl Store {
         ensures writes { WritesNothing D.Disk disk.old disk.new }
         ensures calls { DiskCalls D.Disk disk.old disk.new result }
     {
-        disk.read(self.place_of(i), out)
-    }
-
-    // The block that holds block `i` of the contents.
-    fn place_of(&self, i: u64) -> u64
-        requires place { i < total_of self.now }
-        requires journal { globals_block ≤ total_of self.now }
-        ensures newest { result ≡ newest_at self.now.table i }
-        ensures below { result < total_of self.now }
-    {
-        match self.table.body_of(i) {
-            Some(body) => body,
-            None => i,
-        }
+        self.view.read(disk, i, out)
     }
 
     // Writes these blocks into the next segment, after a checkpoint where none is left.
@@ -191,8 +196,7 @@ impl Store {
         }
     }
 
-    // Writes each home once, from its newest body, in the order of blocks, and then closes the gates first to last, with a
-    // sync after each. The contents stay. The bodies are read from the journal.
+    // Recovers the disk as an opening does. The contents stay.
     fn checkpoint<D: Disk>(&mut self, disk: &mut D) -> Result<(), Failed>
         requires stands { Stands D.Disk self.old disk.old }
         ensures any_moment { ForSome (D.seen disk.old) (λ image. Leaves D.Disk disk.old disk.new (SameContents (total_of self.old) image)) }
@@ -204,8 +208,8 @@ impl Store {
         ensures total { total_of self.new ≡ total_of self.old }
         ensures calls { DiskCalls D.Disk disk.old disk.new result }
     {
-        settle(disk, self.table.as_slice())?;
-        self.table.clear();
+        recover(disk, &self.view)?;
+        self.view.clear();
         self.opened = 0;
         Ok(())
     }
@@ -236,7 +240,7 @@ impl Store {
         ensures live { is_live self.new ≡ is_live self.old }
         ensures total { total_of self.new ≡ total_of self.old }
     {
-        self.table.add(index_of(self.opened) + 1, writes);
+        self.view.add(index_of(self.opened) + 1, writes);
         self.opened += 1;
     }
 }

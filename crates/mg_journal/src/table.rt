@@ -5,10 +5,12 @@ ghost use Rattle.mg_model.specs.Layout.{globals_block};
 ghost use Rattle.mg_journal.specs.Newest.{Adds, Ascends, Puts, is_for};
 ghost use Rattle.mg_journal.specs.Places.{IsPlace};
 
-use crate::view::MOST_PLACES;
 use mg_disk::Block;
 use std::alloc::{AllocError, Global};
 use std::marker::Model;
+
+/// How many bodies all segments have at most.
+const MOST_PLACES: usize = 1280;
 
 /// Up to 1,280 places: the block that a body belongs to, and the block that holds the body. They ascend by the first, and
 /// no block has two.
@@ -59,8 +61,8 @@ impl Table {
         }
     }
 
-    // Puts a place in, instead of the one that its block has if there is one.
-    fn put(&mut self, place: (u64, u64))
+    /// Puts a place in, instead of the one that its block has if there is one. It takes no memory.
+    pub(crate) fn put(&mut self, place: (u64, u64))
         requires room { length self.old < 1280 }
         ensures puts { Puts self.old place self.new }
         ensures fit { (total : ℕ) → All (IsPlace total) self.old → IsPlace total place → All (IsPlace total) self.new }

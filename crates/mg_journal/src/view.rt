@@ -1,47 +1,41 @@
 // A journal that is looked through and left as it is.
-ghost use Rattle.std.specs.Prelude.{◌≡◌, ◌+◌, ◌≤◌, ◌<◌, ◌==◌, All, IfOk, IsSome, None, OnErr, OnOk, find, length, option_copied, reverse};
+ghost use Rattle.std.specs.Prelude.{◌≡◌, ◌+◌, ◌≤◌, ◌<◌, [], All, IfOk, IsSome, None, OnOk, length, true};
 ghost use Rattle.std.specs.Option.{ForSome};
 ghost use Rattle.mg_disk.specs.Disk.{HasBlocks, block_at};
 ghost use Rattle.mg_disk.specs.Stops.{DiskCalls, DiskCallsBy, WritesNothing};
 ghost use Rattle.mg_model.specs.Layout.{globals_block, segment_count};
-ghost use Rattle.mg_model.specs.Replay.{replay};
-ghost use Rattle.mg_journal.specs.Looked.{held_at};
-ghost use Rattle.mg_journal.specs.Places.{Fits, IsPlace};
+ghost use Rattle.mg_model.specs.Replay.{homes_fit, replay};
+ghost use Rattle.mg_journal.specs.Looked.{Fits};
+ghost use Rattle.mg_journal.specs.Newest.{Adds, Ascends, newest_at};
+ghost use Rattle.mg_journal.specs.Places.{IsPlace};
 
 use crate::faults::ViewFault;
 use crate::places::SEGMENTS;
 use crate::reading::look_segment;
+use crate::table::Table;
 use mg_disk::{Block, Disk};
 use mg_faults::Failed;
 use std::alloc::Global;
 use std::marker::Model;
 
-/// How many bodies all segments have at most.
-pub(crate) const MOST_PLACES: usize = 1280;
-
 /// The contents of a disk, seen through its journal: where a block was written to an open segment it is read there.
 #[derive(Drop)]
 pub struct View {
     total: u64,
-    places: Vec<(u64, u64)>,
+    // Where the newest body of each block lies that the open segments have.
+    table: Table,
 }
 
 impl Model for View {
     ghost use Rattle.std.specs.Prelude.{All};
-    ghost use Rattle.mg_journal.specs.Places.{Placed, IsPlace};
+    ghost use Rattle.mg_journal.specs.Looked.{Placed};
+    ghost use Rattle.mg_journal.specs.Places.{IsPlace};
 
     ghost Value = { Placed };
 
-    ghost view = { λ v. record { total = v.total; places = v.places.items } };
+    ghost view = { λ v. record { total = v.total; table = v.table } };
 
-    ghost invariant = { λ v. All (IsPlace v.total) v.places.items };
-}
-
-// The last body that belongs to block `i`.
-fn last_body(places: &[(u64, u64)], i: u64) -> Option<&(u64, u64)>
-    ensures { option_copied result ≡ find (λ place. place.0 == i) (reverse places.now) }
-{
-    places.iter().rev().find(|place| place.0 == i)
+    ghost invariant = { λ v. All (IsPlace v.total) v.table };
 }
 
 impl View {
@@ -60,26 +54,45 @@ impl View {
         ensures writes { WritesNothing D.Disk disk.old disk.new }
         ensures calls { DiskCallsBy D.Disk disk.old disk.new (result ≡ Err ViewFault.Disk) }
     {
-        let mut places = match Vec::with_capacity(alloc, MOST_PLACES) {
-            Ok(places) => places,
+        let mut table = match Table::new(alloc) {
+            Ok(table) => table,
             Err(_) => return Err(ViewFault::Memory),
         };
         for segment in 0..SEGMENTS {
-            match look_segment(disk, segment, total, &mut places) {
+            match look_segment(disk, segment, total, &mut table) {
                 Ok(()) => {}
                 Err(fault) => return Err(fault),
             }
         }
-        Ok(View { total, places })
+        Ok(View { total, table })
     }
 
-    /// Where the bodies of the open segments lie, in the order of replay: the block that a body belongs to, and the block
-    /// that holds it.
+    /// Where the newest body of each block lies that the open segments have, in the order of blocks.
     pub(crate) fn places(&self) -> &[(u64, u64)]
-        ensures same { result.now ≡ self.now.places }
+        ensures same { result.now ≡ self.now.table }
+        ensures ascends { Ascends result.now }
         ensures fit { All (IsPlace self.now.total) result.now }
     {
-        &self.places
+        self.table.as_slice()
+    }
+
+    /// Holds that these bodies are the newest, which lie from this block on.
+    pub(crate) fn add(&mut self, first: u64, writes: &[(u64, Block)])
+        requires room { length self.old.table + length writes.now ≤ 1280 }
+        requires within { first + length writes.now ≤ globals_block }
+        requires homes { homes_fit self.old.total writes.now ≡ true }
+        ensures added { Adds first writes.now self.old.table self.new.table }
+        ensures total { self.new.total ≡ self.old.total }
+    {
+        self.table.add(first, writes);
+    }
+
+    /// No segment is open any more.
+    pub(crate) fn clear(&mut self)
+        ensures none { self.new.table ≡ [] }
+        ensures total { self.new.total ≡ self.old.total }
+    {
+        self.table.clear();
     }
 
     /// How many blocks the volume has.
@@ -92,11 +105,11 @@ impl View {
     // The block that holds block `i` of the contents.
     fn place_of(&self, i: u64) -> u64
         requires below { i < self.now.total }
-        ensures last { result ≡ held_at self.now.places i }
+        ensures newest { result ≡ newest_at self.now.table i }
         ensures below { result < self.now.total }
     {
-        match last_body(&self.places, i) {
-            Some(place) => place.1,
+        match self.table.body_of(i) {
+            Some(body) => body,
             None => i,
         }
     }

@@ -49,7 +49,7 @@ fn counted_on(alloc: Global, disk: &mut MemDisk) -> Option<Numbers> {
         return None;
     }
     match read_volume(alloc, disk) {
-        Ok(rows) => Some(numbers_of(&rows)),
+        Ok((_, rows)) => Some(numbers_of(&rows)),
         Err(_) => None,
     }
 }

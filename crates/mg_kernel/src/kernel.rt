@@ -38,9 +38,8 @@ impl Kernel {
     /// Opens the volume of a disk, whatever a stop left of a commit. All memory that the machine will need is taken here.
     ///
     /// [`OpenFault::Not`], [`OpenFault::Old`] and [`OpenFault::Damaged`] come exactly where the image that reads give is no
-    /// volume, an older one, or a damaged one, and then nothing is written, on every disk; on a disk that does not tell its
-    /// reads, a journal that is another one when it is read again is damaged too. [`OpenFault::Disk`] comes only where a call
-    /// of the disk failed.
+    /// volume, an older one, or a damaged one, and then nothing is written, on every disk; [`OpenFault::Disk`] comes only where
+    /// a call of the disk failed.
     pub fn open<D: Disk>(alloc: Global, disk: &mut D) -> Result<Kernel, OpenFault>
         ensures opens { IfOk result (λ k. ForSome (D.seen disk.old) (λ image. Opens (volume image) k (D.seen disk.new))) }
         ensures stands { IfOk result (λ k. StandsOn D.Disk k disk.new) }

@@ -3,7 +3,7 @@ use Rattle.std.specs.Prelude.{◌≡◌, ℕ, ◌+◌, ◌-◌, ◌/◌, ◌%◌
 use Rattle.std.specs.Option.{ForSome}
 use Rattle.std.proofs.Common.{refl, sym, ap, subst, ◌∙◌, arith}
 use Rattle.mg_disk.specs.Disk.{HasBlocks, Image, block_at}
-use Rattle.mg_journal.specs.Places.{Fits, Placed}
+use Rattle.mg_journal.specs.Looked.{Fits, Placed}
 use Rattle.mg_model.specs.Layout.{first_object_block, globals_block, super_block, table_block, total_blocks}
 use Rattle.mg_model.specs.Replay.{block_of, replay}
 use Rattle.mg_model.specs.Settings.{Settings}

@@ -7,7 +7,7 @@ use Rattle.mg_check.specs.Reads.{contents}
 use Rattle.mg_check.specs.RowsTold.{HasNoState, TellsRows}
 use Rattle.mg_disk.specs.declared.disk.Disk.{Ghosts}
 use Rattle.mg_disk.specs.Disk.{Image}
-use Rattle.mg_journal.specs.Places.{Fits, Placed}
+use Rattle.mg_journal.specs.Looked.{Fits, Placed}
 use Rattle.mg_model.specs.Layout.{gate_open, super_block}
 use Rattle.mg_model.specs.Replay.{block_of, replay}
 use Rattle.mg_model.specs.Settings.{Settings}

@@ -3,7 +3,7 @@ ghost use Rattle.std.specs.Prelude.{◌≡◌, ◌≤◌, ◌<◌, ◌+◌, ◌/
 ghost use Rattle.std.specs.Option.{ForSome};
 ghost use Rattle.mg_disk.specs.Disk.{Image};
 ghost use Rattle.mg_disk.specs.Stops.{DiskCalls, WritesNothing};
-ghost use Rattle.mg_journal.specs.Places.{Fits};
+ghost use Rattle.mg_journal.specs.Looked.{Fits};
 ghost use Rattle.mg_migrate.specs.Layout1.{total1_blocks};
 ghost use Rattle.mg_migrate.specs.Lifted.{lifted, lifted_block, lifted_objects};
 ghost use Rattle.mg_model.specs.Layout.{first_object_block, globals_block, total_blocks};

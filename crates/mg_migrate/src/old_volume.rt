@@ -17,7 +17,7 @@ use crate::fresh::TABLE1_BLOCK;
 use crate::lifting::Lifting;
 use crate::migrating::MigrateFault;
 use crate::superblock::{Super1, read_super1};
-use mg_check::{RowFault, VolumeRows, read_rows};
+use mg_check::{VolumeRows, read_rows};
 use mg_disk::{BLOCK_SIZE, Disk};
 use mg_faults::Failed;
 use mg_journal::{View, ViewFault};
@@ -132,9 +132,9 @@ fn read_lifted<E: Disk>(
 {
     match read_rows(alloc, seen, old, p) {
         Ok(rows) => Ok(rows),
-        Err(RowFault::Damaged) => Err(MigrateFault::Damaged),
-        Err(RowFault::Disk) => Err(MigrateFault::OldDisk),
-        Err(RowFault::Memory) => Err(MigrateFault::Memory),
+        Err(ViewFault::Damaged) => Err(MigrateFault::Damaged),
+        Err(ViewFault::Disk) => Err(MigrateFault::OldDisk),
+        Err(ViewFault::Memory) => Err(MigrateFault::Memory),
     }
 }
 

@@ -302,7 +302,7 @@ fn rows_stand(rows: &VolumeRows) -> bool {
 
 fn reads(alloc: Global, disk: &mut MemDisk) -> bool {
     match read_volume(alloc, disk) {
-        Ok(rows) => rows_stand(&rows),
+        Ok((_, rows)) => rows_stand(&rows),
         Err(_) => false,
     }
 }

@@ -35,7 +35,7 @@ use Rattle.mg_volume.proofs.ObjectLists.{by_base_all}
 use Rattle.mg_volume.proofs.ObjectOrder.{into_length}
 use Rattle.mg_volume.proofs.ObjectRemoved.{apart_pairs}
 use Rattle.mg_volume.proofs.OpenRuns.{Still}
-use Rattle.mg_volume.proofs.Reread.{IsThere, replays, row_parts, there}
+use Rattle.mg_volume.proofs.Reread.{IsThere, row_parts, there}
 use Rattle.mg_volume.specs.Contents.{volume_of_replay}
 use Rattle.mg_volume.specs.Held.{VolumeHeld}
 use Rattle.mg_volume.specs.Meaning.{IsKept, IsSpelledBy, Spelled, StandsOn, has_page, is_live, is_sound, now_of, objects_in, rows_apart, staged_of, threads_in, total_of}
@@ -314,15 +314,12 @@ module _ (rows : VolumeRows) (kept : AreKept rows) (store : Store) (p : PagesHel
           holds = record { image = now.0; is = now.1; kept = at.same ∙ is.is; now = now_is image now.0 is at (standing.fits now.0 now.1) };
         }
 
--- what a stop leaves, and where the journal is damaged
+-- what a stop leaves
 module _ (rows : VolumeRows) {D : Type 0} (facts : Ghosts D) (total : ℕ) (same : total ≡ total_blocks rows.params.frames) (old new : D) (read : ForSome (facts.seen old) (IsReadAs rows)) where
   pub leaves_still : ForSome (facts.seen old) (λ image. Leaves facts old new (SameContents total image)) → ForSome (facts.seen old) (λ image. Leaves facts old new (Still image))
   leaves_still each image told =
       leaves_wider facts old new (SameContents total image) (Still image) (each image told)
       (λ c contents. (there rows image c (read image told) (let P : ℕ → Type 0 = λ n. SameContents n image c in subst P same contents)).same)
-
-  pub undamaged : ForSome (facts.seen old) (λ image. replay image total ≡ None) → ForSome (facts.seen old) (λ _. ⊥)
-  undamaged missing image told = replays rows image (read image told) (ap (replay image) (sym same) ∙ missing image told)
 
 -- the volume with the lists that were made of the rows
 pub made_is : (rows : VolumeRows) (p : PagesHeld) (objects : List (ℕ × ObjectRow)) (accounts : List AccRow) (threads : List (ℕ × ThreadRow)) → objects ≡ by_base (objects_of rows) → accounts ≡ rows.accounts.items → threads ≡ numbered rows.threads.items

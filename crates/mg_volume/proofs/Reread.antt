@@ -98,7 +98,3 @@ there rows image now read same = at (replay now total) refl (subst (λ o. SeenBu
           rows_are = sym (rows_behind rows.params.frames r s (same_behind (first_frame rows.params.frames) r s but)) ∙ read.rows_are;
           same = volume_contents rows.params image r now set read.replay_is same;
         }
-
--- so its journal can be replayed
-pub replays : (rows : VolumeRows) (image : Image) → IsReadAs rows image → replay image (total_blocks rows.params.frames) ≡ None → ⊥
-replays rows image read missing = let some = read.replay_is in cc

@@ -1,11 +1,11 @@
 // Opening a volume whose rows were read: its journal, and then its frame table.
-ghost use Rattle.std.specs.Prelude.{List, ℕ, ◌≡◌, ◌≤◌, true, IfOk, IfSome, IsSomeAnd, IsTrue, None, length, vec_capacity};
+ghost use Rattle.std.specs.Prelude.{List, ℕ, ◌≡◌, ◌≢◌, ◌≤◌, true, IfOk, IfSome, IsSomeAnd, IsTrue, length, vec_capacity};
 ghost use Rattle.std.specs.Option.{ForSome};
 ghost use Rattle.mg_check.specs.RowsRead.{AreKept, ArePlaced, IsReadAs};
-ghost use Rattle.mg_disk.specs.Stops.{DiskCallsBy, Leaves, NothingPending, WritesNothing};
+ghost use Rattle.mg_disk.specs.Stops.{DiskCallsBy, Leaves, NothingPending};
 ghost use Rattle.mg_journal.specs.Contents.{SameContents};
+ghost use Rattle.mg_journal.specs.Looked.{Fits};
 ghost use Rattle.mg_model.specs.Layout.{thread_rows, total_blocks};
-ghost use Rattle.mg_model.specs.Replay.{replay};
 ghost use Rattle.mg_model.specs.Tests.{all_distinct};
 ghost use Rattle.mg_model.specs.Volume.{bound_pages, volume};
 ghost use Rattle.mg_objects.specs.Held.{AreApart, objects_in};
@@ -18,10 +18,10 @@ ghost use Rattle.mg_volume.specs.PagesOver.{ArePagesOver};
 use crate::threads::Threads;
 use crate::volume::Volume;
 use mg_bank::Bank;
-use mg_check::VolumeRows;
+use mg_check::{OpenFault, VolumeRows};
 use mg_disk::Disk;
-use mg_journal::{Store, ViewFault};
-use mg_layout::Geometry;
+use mg_faults::Failed;
+use mg_journal::{Store, View};
 use mg_model::{ObjRow, ThrRow};
 use mg_pages::Pages;
 use mg_space::Space;
@@ -65,65 +65,70 @@ fn lists_of(
     }
 }
 
-// Opens the journal of a volume of so many blocks, and then its pages, whose frame table has these entries.
+// Opens the journal that is seen so, and then the pages of its volume, whose frame table has these entries.
 fn open_pages<D: Disk>(
     alloc: Global,
     entries: Vec<u64>,
-    total: u64,
+    view: View,
     disk: &mut D,
-) -> Result<Pages, ViewFault>
+) -> Result<Pages, OpenFault>
     requires some { 16 ≤ length entries.items }
     requires few { length entries.items ≤ 65536 }
-    requires total { total ≡ total_blocks (length entries.items) }
+    requires total { view.total ≡ total_blocks (length entries.items) }
     requires distinct { all_distinct (bound_pages entries.items) ≡ true }
-    requires room { total ≤ D.block_count disk.old }
-    ensures opened { IfOk result (λ p. ArePagesOver D.Disk (store_of p) entries.items total p disk.new) }
-    ensures contents { ForSome (D.seen disk.old) (λ image. IsSomeAnd (D.seen disk.new) (SameContents total image)) }
-    ensures came_from { ForSome (D.seen disk.new) (λ now. IsSomeAnd (D.seen disk.old) (λ image. SameContents total image now)) }
-    ensures any_moment { NothingPending D.Disk disk.old → ForSome (D.seen disk.old) (λ image. Leaves D.Disk disk.old disk.new (SameContents total image)) }
-    ensures damaged { result ≡ Err ViewFault.Damaged → ForSome (D.seen disk.old) (λ image. replay image total ≡ None) }
-    ensures untouched { result ≡ Err ViewFault.Damaged → WritesNothing D.Disk disk.old disk.new }
-    ensures calls { DiskCallsBy D.Disk disk.old disk.new (result ≡ Err ViewFault.Disk) }
+    requires room { view.total ≤ D.block_count disk.old }
+    requires fits { ForSome (D.seen disk.old) (λ image. Fits view image) }
+    ensures opened { IfOk result (λ p. ArePagesOver D.Disk (store_of p) entries.items view.total p disk.new) }
+    ensures contents { ForSome (D.seen disk.old) (λ image. IsSomeAnd (D.seen disk.new) (SameContents view.total image)) }
+    ensures came_from { ForSome (D.seen disk.new) (λ now. IsSomeAnd (D.seen disk.old) (λ image. SameContents view.total image now)) }
+    ensures any_moment { NothingPending D.Disk disk.old → ForSome (D.seen disk.old) (λ image. Leaves D.Disk disk.old disk.new (SameContents view.total image)) }
+    ensures no_not { result ≢ Err OpenFault.Not }
+    ensures no_old { result ≢ Err OpenFault.Old }
+    ensures no_damaged { result ≢ Err OpenFault.Damaged }
+    ensures calls { DiskCallsBy D.Disk disk.old disk.new (result ≡ Err OpenFault.Disk) }
 {
-    let store = match Store::open(alloc, disk, total) {
+    let store = match Store::recover(disk, view) {
         Ok(store) => store,
-        Err(fault) => return Err(fault),
+        Err(Failed) => return Err(OpenFault::Disk),
     };
     match Pages::open(alloc, store, entries) {
         Ok(pages) => Ok(pages),
-        Err(_) => Err(ViewFault::Memory),
+        Err(_) => Err(OpenFault::Memory),
     }
 }
 
-/// Opens the volume whose rows these are: they were read from the disk, and keep the rules of a volume. Memory for them is
-/// taken before anything is written. Where the disk tells its reads, nothing is damaged.
+/// Opens the volume whose rows these are: they were read from the disk through this view of its journal, and keep the rules of a
+/// volume. Memory for them is taken before anything is written.
 pub(crate) fn open_rows<D: Disk>(
     alloc: Global,
+    view: View,
     rows: VolumeRows,
     disk: &mut D,
-) -> Result<Volume, ViewFault>
+) -> Result<Volume, OpenFault>
     requires kept { AreKept rows }
     requires told { ForSome (D.seen disk.old) (IsReadAs rows) }
-    requires room { total_blocks rows.params.frames ≤ D.block_count disk.old }
+    requires fits { ForSome (D.seen disk.old) (λ image. Fits view image) }
+    requires total { view.total ≡ total_blocks rows.params.frames }
+    requires room { view.total ≤ D.block_count disk.old }
     ensures opens { IfOk result (λ v. ForSome (D.seen disk.old) (λ image. Opens (volume image) v (D.seen disk.new))) }
     ensures stands { IfOk result (λ v. StandsOn D.Disk v disk.new) }
     ensures sound { IfOk result (λ v. (image : List (List ℕ)) → is_sound (now_of v image) ≡ true) }
     ensures staged { IfOk result (λ v. staged_of v ≡ 0) }
     ensures live { IfOk result (λ v. IsTrue (is_live v)) }
     ensures any_moment { NothingPending D.Disk disk.old → ForSome (D.seen disk.old) (λ image. Leaves D.Disk disk.old disk.new (λ c. volume c ≡ volume image)) }
-    ensures damaged { result ≡ Err ViewFault.Damaged → ForSome (D.seen disk.old) (λ _. ⊥) }
-    ensures untouched { result ≡ Err ViewFault.Damaged → WritesNothing D.Disk disk.old disk.new }
-    ensures calls { DiskCallsBy D.Disk disk.old disk.new (result ≡ Err ViewFault.Disk) }
+    ensures no_not { result ≢ Err OpenFault.Not }
+    ensures no_old { result ≢ Err OpenFault.Old }
+    ensures no_damaged { result ≢ Err OpenFault.Damaged }
+    ensures calls { DiskCallsBy D.Disk disk.old disk.new (result ≡ Err OpenFault.Disk) }
 {
-    let total = Geometry::of(rows.params.frames()).total;
     // It tells that the credits are in their range.
     let _credits = rows.params.credits();
     let accounts = Bank::of(rows.accounts);
     let lists = match lists_of(alloc, rows.objects, rows.threads, accounts) {
         Some(lists) => lists,
-        None => return Err(ViewFault::Memory),
+        None => return Err(OpenFault::Memory),
     };
-    match open_pages(alloc, rows.table, total, disk) {
+    match open_pages(alloc, rows.table, view, disk) {
         Ok(pages) => Ok(Volume {
             params: rows.params,
             globals: rows.globals,

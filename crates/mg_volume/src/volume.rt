@@ -21,7 +21,6 @@ use crate::threads::Threads;
 use mg_bank::Bank;
 use mg_check::{OpenFault, read_volume};
 use mg_disk::Disk;
-use mg_journal::ViewFault;
 use mg_model::{AccRow, Frame, Globals, ObjRow, Params, ThrRow};
 use mg_objects::Objects;
 use mg_pages::Pages;
@@ -57,9 +56,8 @@ impl Volume {
     /// those that it holds. All memory that it will need is taken here.
     ///
     /// [`OpenFault::Not`], [`OpenFault::Old`] and [`OpenFault::Damaged`] come exactly where the image that reads give is no
-    /// volume, an older one, or a damaged one, and then nothing is written, on every disk; on a disk that does not tell its
-    /// reads, a journal that is another one when it is read again is damaged too. [`OpenFault::Disk`] comes only where a call
-    /// of the disk failed.
+    /// volume, an older one, or a damaged one, and then nothing is written, on every disk; [`OpenFault::Disk`] only where a
+    /// call of the disk failed.
     pub fn open<D: Disk>(alloc: Global, disk: &mut D) -> Result<Volume, OpenFault>
         ensures opens { IfOk result (λ v. ForSome (D.seen disk.old) (λ image. Opens (volume image) v (D.seen disk.new))) }
         ensures stands { IfOk result (λ v. StandsOn D.Disk v disk.new) }
@@ -75,16 +73,11 @@ impl Volume {
         ensures untouched_damaged { result ≡ Err OpenFault.Damaged → WritesNothing D.Disk disk.old disk.new }
         ensures calls { DiskCallsBy D.Disk disk.old disk.new (result ≡ Err OpenFault.Disk) }
     {
-        let rows = match read_volume(alloc, disk) {
-            Ok(rows) => rows,
+        let (view, rows) = match read_volume(alloc, disk) {
+            Ok(read) => read,
             Err(fault) => return Err(fault),
         };
-        match open_rows(alloc, rows, disk) {
-            Ok(volume) => Ok(volume),
-            Err(ViewFault::Damaged) => Err(OpenFault::Damaged),
-            Err(ViewFault::Disk) => Err(OpenFault::Disk),
-            Err(ViewFault::Memory) => Err(OpenFault::Memory),
-        }
+        open_rows(alloc, view, rows, disk)
     }
 
     /// What it was made with.

@@ -5,7 +5,10 @@ use Rattle.mg_check.proofs.opening.read_volume.Goals as goal
 pub returns-in-Ok-clause-told : goal.returns-in-Ok-clause-told
 returns-in-Ok-clause-told g c image told =
     let later = c.read_settings.ensures.reads.writes.same ∙ told in
-    volume-read c.in_ok-p.p image c.in-Ok.rows c.in-Ok.ensures.params (c.in_ok-p.ensures.told image told) (c.in-Ok.ensures.told image later)
+    volume-read c.in_ok-p.p image c.in-Ok.read.1 c.in-Ok.ensures.params (c.in_ok-p.ensures.told image told) (c.in-Ok.ensures.told image later)
+
+pub returns-in-Ok-clause-fits : goal.returns-in-Ok-clause-fits
+returns-in-Ok-clause-fits g c image told = c.in-Ok.ensures.fits image (c.read_settings.ensures.reads.writes.same ∙ told)
 
 pub returns-in-Err-Damaged-clause-damaged : goal.returns-in-Err-Damaged-clause-damaged
 returns-in-Err-Damaged-clause-damaged g c is image told =

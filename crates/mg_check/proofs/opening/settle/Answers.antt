@@ -1,14 +1,10 @@
-use Rattle.std.proofs.Common.{◌≡◌, Some, ap, sym, ◌∙◌, arith}
-use Rattle.std.proofs.lemmas.Result.{IfOk-weaker}
-use Rattle.mg_journal.specs.Places.{Fits}
+use Rattle.std.proofs.Common.{◌≡◌, Err, ap, sym, ◌∙◌, arith}
+use Rattle.mg_journal.specs.Looked.{Fits}
 use Rattle.mg_model.specs.Layout.{total_blocks}
 use Rattle.mg_model.specs.Replay.{replay}
-use Rattle.mg_model.specs.Words.{and_then}
-use Rattle.std.specs.Option.{ForSome}
-use Rattle.mg_check.specs.ReadRuns.{same_contents, still_read}
-use Rattle.mg_check.specs.Reads.{contents}
-use Rattle.mg_check.specs.RowsTold.{TellsRows}
-use Rattle.mg_check.specs.Settled.{IsSettled}
+use Rattle.mg_check.specs.ReadRuns.{still_read, told_contents}
+use Rattle.mg_check.specs.Reads.{OnlyRead}
+use Rattle.mg_journal.specs.declared.faults.ViewFault.TheVariants as fault
 use Rattle.mg_check.proofs.SettledVolume.{settled-damaged, settled-short, settled-tells, some_in}
 use Rattle.mg_check.proofs.opening.settle.Goals as goal
 
@@ -21,31 +17,28 @@ returns-then-blocks-total-clause-damaged g c is image told =
 pub read_rows-requires-clause-can : goal.read_rows-requires-clause-can
 read_rows-requires-clause-can g c =
     let view = c.in_ok-view.view in
-    still_read g.D.Disk view.total (Fits view) c.args.disk.now c.look_through.new.disk (record { room = let e = c.in_ok-view.ensures.total in omega arith; fits = c.in_ok-view.ensures.fits }) c.look_through.ensures.reads
+    let reads : OnlyRead g.D.Disk c.args.disk.now c.look.new.disk = record { writes = c.look.ensures.writes; count = c.look.ensures.calls.count; blocks = c.look.ensures.calls.blocks } in
+    still_read g.D.Disk view.total (Fits view) c.args.disk.now c.look.new.disk (record { room = let e = c.in_ok-view.ensures.total in omega arith; fits = c.in_ok-view.ensures.fits }) reads
 
-pub returns-clause-told : goal.returns-clause-told
-returns-clause-told g c =
-    IfOk-weaker c.read_rows.result (λ rows. ForSome (contents g.D.Disk (λ i. replay i c.in_ok-view.view.total) c.look_through.new.disk) (TellsRows c.args.p.now rows)) (λ rows. ForSome (g.D.Disk.seen c.args.disk.now) (IsSettled c.args.p.now rows))
-    (λ rows tells image told.
+pub returns-in-Ok-clause-told : goal.returns-in-Ok-clause-told
+returns-in-Ok-clause-told g c image told =
     let p = c.args.p.now in
+    let view = c.in_ok-view.view in
     let counted = g.met.D.Disk.seen_count c.args.disk.now image told in
     let needed : c.of-total.result.total ≡ total_blocks p.frames = c.of-total.ensures.total ∙ ap total_blocks c.frames.ensures.value in
-    let total : c.in_ok-view.view.total ≡ c.of-total.result.total = c.in_ok-view.ensures.total in
     let r = some_in (replay image c.of-total.result.total) (c.in_ok-view.ensures.replayed image told) in
-    let same : contents g.D.Disk (λ i. replay i c.in_ok-view.view.total) c.look_through.new.disk ≡ Some r.0 =
-    same_contents g.D.Disk (λ i. replay i c.in_ok-view.view.total) c.args.disk.now c.look_through.new.disk c.look_through.ensures.reads
-    ∙ ap (λ seen. and_then seen (λ i. replay i c.in_ok-view.view.total)) told ∙ ap (replay image) total ∙ r.1 in
-    settled-tells p image rows r.0 (omega arith) (ap (replay image) (sym needed) ∙ r.1) (tells r.0 same))
-    c.read_rows.ensures.told
+    let reads : OnlyRead g.D.Disk c.args.disk.now c.look.new.disk = record { writes = c.look.ensures.writes; count = c.look.ensures.calls.count; blocks = c.look.ensures.calls.blocks } in
+    let same = told_contents g.D.Disk (λ i. replay i view.total) c.args.disk.now c.look.new.disk image r.0 reads told (ap (replay image) c.in_ok-view.ensures.total ∙ r.1) in
+    settled-tells p image c.in-Ok.rows r.0 (omega arith) (ap (replay image) (sym needed) ∙ r.1) (c.in-Ok.ensures.told r.0 same)
 
-pub returns-clause-damaged : goal.returns-clause-damaged
-returns-clause-damaged g c is image told =
+pub returns-in-Err-clause-damaged : goal.returns-in-Err-clause-damaged
+returns-in-Err-clause-damaged g c is image told =
+    let e : c.in-Err.fault ≡ fault.Damaged = cc in
     let p = c.args.p.now in
+    let view = c.in_ok-view.view in
     let counted = g.met.D.Disk.seen_count c.args.disk.now image told in
     let needed : c.of-total.result.total ≡ total_blocks p.frames = c.of-total.ensures.total ∙ ap total_blocks c.frames.ensures.value in
-    let total : c.in_ok-view.view.total ≡ c.of-total.result.total = c.in_ok-view.ensures.total in
     let r = some_in (replay image c.of-total.result.total) (c.in_ok-view.ensures.replayed image told) in
-    let same : contents g.D.Disk (λ i. replay i c.in_ok-view.view.total) c.look_through.new.disk ≡ Some r.0 =
-    same_contents g.D.Disk (λ i. replay i c.in_ok-view.view.total) c.args.disk.now c.look_through.new.disk c.look_through.ensures.reads
-    ∙ ap (λ seen. and_then seen (λ i. replay i c.in_ok-view.view.total)) told ∙ ap (replay image) total ∙ r.1 in
-    settled-damaged p image r.0 (omega arith) (ap (replay image) (sym needed) ∙ r.1) ((c.read_rows.ensures.damaged is r.0 same).none)
+    let reads : OnlyRead g.D.Disk c.args.disk.now c.look.new.disk = record { writes = c.look.ensures.writes; count = c.look.ensures.calls.count; blocks = c.look.ensures.calls.blocks } in
+    let same = told_contents g.D.Disk (λ i. replay i view.total) c.args.disk.now c.look.new.disk image r.0 reads told (ap (replay image) c.in_ok-view.ensures.total ∙ r.1) in
+    settled-damaged p image r.0 (omega arith) (ap (replay image) (sym needed) ∙ r.1) ((c.read_rows.ensures.damaged (c.in-Err.is ∙ ap Err e) r.0 same).none)

@@ -6,7 +6,7 @@ use Rattle.mg_model.specs.Layout.{table_block, table_blocks}
 use Rattle.mg_model.specs.Replay.{block_of}
 use Rattle.mg_check.specs.Reads.{contents}
 use Rattle.mg_check.specs.TableTold.{entry_in, table_entry}
-use Rattle.mg_check.specs.declared.faults.RowFault.TheVariants as fault
+use Rattle.mg_journal.specs.declared.faults.ViewFault.TheVariants as fault
 use Rattle.mg_check.proofs.Entries.{table-rest, table-told}
 use Rattle.mg_check.specs.ReadRuns.{only_then, same_contents, still_read}
 use Rattle.mg_check.proofs.table.read_table.Goals as goal

@@ -6,7 +6,7 @@ use Rattle.mg_model.specs.Replay.{block_of}
 use Rattle.mg_check.specs.Reads.{contents}
 use Rattle.mg_check.specs.RowsRead.{ArePlaced, live_from}
 use Rattle.mg_check.specs.Told.{AreLive, EachKeeps}
-use Rattle.mg_check.specs.declared.faults.RowFault.TheVariants as fault
+use Rattle.mg_journal.specs.declared.faults.ViewFault.TheVariants as fault
 use Rattle.mg_check.proofs.LiveRows.{live_none, not_spelled}
 use Rattle.mg_check.proofs.Placed.{kept_none, placed_all, placed_none}
 use Rattle.mg_check.specs.ReadRuns.{only_none, only_then, same_contents, still_read}

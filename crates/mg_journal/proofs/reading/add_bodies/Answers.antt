@@ -1,12 +1,13 @@
-use Rattle.std.proofs.Common.{◌≡◌, ◌+◌, ◌*◌, ◌++◌, ◌∷◌, [], ℕ, suc, List, length, All, append_assoc, ap, arith, subst, sym, ◌∙◌}
-use Rattle.std.proofs.lemmas.List.{length_push}
+use Rattle.std.proofs.Common.{◌≡◌, ◌+◌, ◌*◌, ◌++◌, ◌∷◌, [], ℕ, suc, List, All, append_assoc, ap, arith, refl, subst, sym, ◌∙◌}
 use Rattle.std.proofs.lemmas.List.Elements.{All-push}
-use Rattle.mg_disk.specs.Disk.{Image}
+use Rattle.mg_disk.specs.Disk.{Image, block_at}
 use Rattle.mg_model.specs.Bytes.{number_at}
-use Rattle.mg_model.specs.Layout.{segment_body}
+use Rattle.mg_model.specs.Layout.{segment_body, segment_index}
 use Rattle.mg_model.specs.Replay.{body_count, home_of}
+use Rattle.mg_journal.specs.Newest.{HasLast, TakesIn}
 use Rattle.mg_journal.specs.Places.{IsPlace, places_from}
-use Rattle.mg_journal.proofs.Bodies.{All-right, bodies_are-fit, home-place, home-unfit, is_home, places_from-last, too_many-unfit}
+use Rattle.mg_journal.proofs.Tables.{last-more, takes-none}
+use Rattle.mg_journal.proofs.Bodies.{bodies_are-fit, home-place, home-unfit, is_home, places_from-last, too_many-unfit}
 use Rattle.mg_journal.proofs.reading.add_bodies.Goals as goal
 
 one_more : (items : List (ℕ × ℕ)) (image : Image) (s k home body : ℕ) → home ≡ home_of image s k → body ≡ segment_body s k → (items ++ places_from image s 0 k) ++ (home, body) ∷ [] ≡ items ++ places_from image s 0 (k + 1)
@@ -31,28 +32,34 @@ returns-then-not-is_home-clause-fits c image is =
     home-unfit c.args.total image c.args.segment k (let below = c.loop-k-test.true in omega arith)
     (ap (is_home c.args.total) (sym home) ∙ sym c.is_home.ensures ∙ c.if-not-is_home.true)
 
+pub loop-k-init : goal.loop-k-init
+loop-k-init c = record {
+  newest = λ image is. takes-none [] c.args.table.now refl;
+  places = λ image is k d below. absurd (omega arith);
+  fit = λ all. all;
+  few = omega arith;
+}
+
 pub loop-k-preserved : goal.loop-k-preserved
 loop-k-preserved c =
     let k = c.loop-k.k in
     let s = c.args.segment in
-    let place : ℕ × ℕ = (c.number_at-home.result, c.index_of-first.result + 1 + k) in
+    let inv = c.loop-k.invariant in
+    let home = c.number_at-home.result in
+    let body = c.index_of-first.result + 1 + k in
     let first = c.index_of-first.ensures in
     let segment = c.requires.segment in
     let count = c.if-count-gt-MOST_BODIES.false in
     let below = c.loop-k-test.true in
     let end = c.loop-k.auto.k-end in
+    let place = home-place c.args.total home body (sym c.is_home.ensures ∙ c.if-not-is_home.false) (omega arith) in
+    let more : (image : Image) → block_at image (segment_index s) ≡ c.args.index.now → (items : List (ℕ × ℕ)) → (items ++ places_from image s 0 k) ++ (home, body) ∷ [] ≡ items ++ places_from image s 0 (k + 1) =
+    λ image is items. one_more items image s k home body (c.number_at-home.ensures ∙ ap (λ b. number_at b (8 + 8 * k)) (sym is)) (omega arith) in
     record {
-      added = λ image is.
-          let home : c.number_at-home.result ≡ home_of image s k = c.number_at-home.ensures ∙ ap (λ b. number_at b (8 + 8 * k)) (sym is) in
-          let body : c.index_of-first.result + 1 + k ≡ segment_body s k = omega arith in
-          c.add.ensures.added
-          ∙ ap (λ items. items ++ place ∷ []) (c.loop-k.invariant.added image is)
-          ∙ one_more c.args.places.now.items image s k c.number_at-home.result (c.index_of-first.result + 1 + k) home body;
-      fit = subst (All (IsPlace c.args.total)) (sym c.add.ensures.added)
-          (All-push (IsPlace c.args.total) c.loop-k.places.items place c.loop-k.invariant.fit
-          (home-place c.args.total c.number_at-home.result (c.index_of-first.result + 1 + k) (sym c.is_home.ensures ∙ c.if-not-is_home.false) (omega arith)));
-      count = ap length c.add.ensures.added ∙ length_push c.loop-k.places.items place ∙ ap (λ n. n + 1) c.loop-k.invariant.count ∙ omega arith;
-      capacity = omega (arith, c.add.ensures.capacity, c.loop-k.invariant.capacity);
+      newest = λ image is places last. subst (λ p. HasLast p c.put.new.self) (more image is places) (last-more (places ++ places_from image s 0 k) c.loop-k.table c.put.new.self (home, body) (inv.newest image is places last) c.put.ensures.puts);
+      places = λ image is. subst (All (IsPlace c.args.total)) (more image is []) (All-push (IsPlace c.args.total) (places_from image s 0 k) (home, body) (inv.places image is) place);
+      fit = λ all. c.put.ensures.fit c.args.total (inv.fit all) place;
+      few = omega (arith, c.put.ensures.few, inv.few);
     }
 
 pub returns-clause-fits : goal.returns-clause-fits
@@ -60,7 +67,10 @@ returns-clause-fits c image is =
     let n = ap (λ b. number_at b 0) is in
     let few = c.if-count-gt-MOST_BODIES.false in
     let end : c.loop-k.k ≡ body_count image c.args.segment = let past = c.loop-k-test.false in let last = c.loop-k.auto.k-end in omega arith in
-    let P : ℕ → Type 0 = λ m. c.loop-k.places.items ≡ c.args.places.now.items ++ places_from image c.args.segment 0 m in
-    let added : P (body_count image c.args.segment) = subst P end (c.loop-k.invariant.added image is) in
-    bodies_are-fit c.args.total image c.args.segment (omega arith)
-    (All-right (IsPlace c.args.total) c.args.places.now.items (places_from image c.args.segment 0 (body_count image c.args.segment)) (subst (All (IsPlace c.args.total)) added c.loop-k.invariant.fit))
+    bodies_are-fit c.args.total image c.args.segment (omega arith) (subst (λ m. All (IsPlace c.args.total) (places_from image c.args.segment 0 m)) end (c.loop-k.invariant.places image is))
+
+pub returns-clause-newest : goal.returns-clause-newest
+returns-clause-newest c fits image is =
+    let n = ap (λ b. number_at b 0) is in
+    let end : c.loop-k.k ≡ body_count image c.args.segment = let past = c.loop-k-test.false in let last = c.loop-k.auto.k-end in omega arith in
+    subst (λ m. TakesIn (places_from image c.args.segment 0 m) c.args.table.now c.loop-k.table) end (c.loop-k.invariant.newest image is)

@@ -1,19 +1,13 @@
-use Rattle.std.proofs.Common.{◌≡◌, ◌∙◌, Err, ap, subst, sym}
+use Rattle.std.proofs.Common.{◌∙◌, subst, sym}
 use Rattle.mg_journal.specs.Held.{Store}
-use Rattle.mg_journal.specs.declared.faults.ViewFault.TheVariants as fault
 use Rattle.mg_volume.specs.PagesOver.{ArePagesOver}
 use Rattle.mg_volume.proofs.opening.open_pages.Goals as goal
-
-pub returns-in-Err-clause-damaged : goal.returns-in-Err-clause-damaged
-returns-in-Err-clause-damaged g c is =
-    let e : c.in-Err.fault ≡ fault.Damaged = cc in
-    c.open.ensures.damaged (c.in-Err.is ∙ ap Err e)
 
 pub returns-in-Ok-open-clause-opened : goal.returns-in-Ok-open-clause-opened
 returns-in-Ok-open-clause-opened g c =
     let p = c.in-Ok-open.pages in
     let said = c.in-Ok-open.ensures in
-    let P : Store → Type 0 = λ s. ArePagesOver g.D.Disk s c.args.entries.items c.args.total p c.open.new.disk in
+    let P : Store → Type 0 = λ s. ArePagesOver g.D.Disk s c.args.entries.items c.args.view.total p c.recover.new.disk in
     subst P (sym said.store)
     (record {
       stands = c.in-Ok.ensures.stands;

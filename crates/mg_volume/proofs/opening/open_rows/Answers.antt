@@ -1,8 +1,6 @@
-use Rattle.std.proofs.Common.{◌≡◌, ◌∙◌, ℕ, List, Err, ap, arith, refl, subst, sym, true}
+use Rattle.std.proofs.Common.{◌≡◌, ◌∙◌, ℕ, List, ap, arith, refl, subst, sym, true}
 use Rattle.std.specs.Option.{ForSome}
 use Rattle.mg_disk.specs.Disk.{Image}
-use Rattle.mg_journal.specs.declared.faults.ViewFault.TheVariants as fault
-use Rattle.mg_model.specs.Layout.{total_blocks}
 use Rattle.mg_model.specs.State.{ObjectRow}
 use Rattle.mg_model.specs.Volume.{volume}
 use Rattle.mg_objects.specs.Held.{AreApart}
@@ -10,7 +8,7 @@ use Rattle.mg_pages.specs.Meaning.{store_of}
 use Rattle.mg_volume.specs.Held.{VolumeHeld}
 use Rattle.mg_volume.specs.Meaning.{IsKept, StandsOn, is_live, is_sound, now_of, staged_of}
 use Rattle.mg_volume.specs.Opening.{Opens}
-use Rattle.mg_volume.proofs.Opened.{ArePages, apart_is, credits_is, distinct_is, held_is, leaves_still, live_is, made_is, opens_now, same_objects, sound_is, staged_none, stands_now, undamaged}
+use Rattle.mg_volume.proofs.Opened.{ArePages, apart_is, credits_is, distinct_is, held_is, leaves_still, live_is, made_is, opens_now, same_objects, sound_is, staged_none, stands_now}
 use Rattle.mg_volume.proofs.opening.open_rows.Goals as goal
 
 pub of-accounts-requires-clause-credits : goal.of-accounts-requires-clause-credits
@@ -44,10 +42,10 @@ returns-in-Ok-clause-opens g c =
     let held = c.in-Some.ensures in
     let made = made_is rows p l.objects l.accounts l.threads (held.objects ∙ same_objects rows) (held.accounts ∙ c.of-accounts.ensures) held.threads in
     let said = c.in-Ok.ensures.opened in
-    let same : c.of-total.result.total ≡ total_blocks rows.params.frames = c.of-total.ensures.total ∙ ap total_blocks c.frames.ensures.value in
+    let same = c.requires.total in
     let are : ArePages rows (store_of p) p = record { store_is = refl; total = said.total ∙ same; frames = said.frames; table = said.table; coming = said.coming; spelled = said.spelled } in
     let P : VolumeHeld → Type 0 = λ v. ForSome (g.D.Disk.seen c.args.disk.now) (λ image. Opens (volume image) v (g.D.Disk.seen c.open_pages.new.disk)) in
-    subst P (sym made) (opens_now rows c.requires.kept (store_of p) p are g.D.Disk c.of-total.result.total same c.args.disk.now c.open_pages.new.disk c.requires.told said.stands c.in-Ok.ensures.contents)
+    subst P (sym made) (opens_now rows c.requires.kept (store_of p) p are g.D.Disk c.args.view.total same c.args.disk.now c.open_pages.new.disk c.requires.told said.stands c.in-Ok.ensures.contents)
 
 pub returns-in-Ok-clause-stands : goal.returns-in-Ok-clause-stands
 returns-in-Ok-clause-stands g c =
@@ -57,10 +55,10 @@ returns-in-Ok-clause-stands g c =
     let held = c.in-Some.ensures in
     let made = made_is rows p l.objects l.accounts l.threads (held.objects ∙ same_objects rows) (held.accounts ∙ c.of-accounts.ensures) held.threads in
     let said = c.in-Ok.ensures.opened in
-    let same : c.of-total.result.total ≡ total_blocks rows.params.frames = c.of-total.ensures.total ∙ ap total_blocks c.frames.ensures.value in
+    let same = c.requires.total in
     let are : ArePages rows (store_of p) p = record { store_is = refl; total = said.total ∙ same; frames = said.frames; table = said.table; coming = said.coming; spelled = said.spelled } in
     let P : VolumeHeld → Type 0 = λ v. StandsOn g.D.Disk v c.open_pages.new.disk in
-    subst P (sym made) (stands_now rows c.requires.kept (store_of p) p are g.D.Disk c.of-total.result.total same c.args.disk.now c.open_pages.new.disk c.requires.told said.stands c.in-Ok.ensures.came_from)
+    subst P (sym made) (stands_now rows c.requires.kept (store_of p) p are g.D.Disk c.args.view.total same c.args.disk.now c.open_pages.new.disk c.requires.told said.stands c.in-Ok.ensures.came_from)
 
 pub returns-in-Ok-clause-sound : goal.returns-in-Ok-clause-sound
 returns-in-Ok-clause-sound g c =
@@ -96,18 +94,11 @@ returns-in-Ok-clause-live g c =
 pub returns-in-Ok-clause-any_moment : goal.returns-in-Ok-clause-any_moment
 returns-in-Ok-clause-any_moment g c pending =
     let rows = c.args.rows in
-    let same : c.of-total.result.total ≡ total_blocks rows.params.frames = c.of-total.ensures.total ∙ ap total_blocks c.frames.ensures.value in
-    leaves_still rows g.D.Disk c.of-total.result.total same c.args.disk.now c.open_pages.new.disk c.requires.told (c.open_pages.ensures.any_moment pending)
+    let same = c.requires.total in
+    leaves_still rows g.D.Disk c.args.view.total same c.args.disk.now c.open_pages.new.disk c.requires.told (c.open_pages.ensures.any_moment pending)
 
 pub returns-in-Err-clause-any_moment : goal.returns-in-Err-clause-any_moment
 returns-in-Err-clause-any_moment g c pending =
     let rows = c.args.rows in
-    let same : c.of-total.result.total ≡ total_blocks rows.params.frames = c.of-total.ensures.total ∙ ap total_blocks c.frames.ensures.value in
-    leaves_still rows g.D.Disk c.of-total.result.total same c.args.disk.now c.open_pages.new.disk c.requires.told (c.open_pages.ensures.any_moment pending)
-
-pub returns-in-Err-clause-damaged : goal.returns-in-Err-clause-damaged
-returns-in-Err-clause-damaged g c is =
-    let rows = c.args.rows in
-    let e : c.in-Err.fault ≡ fault.Damaged = cc in
-    let same : c.of-total.result.total ≡ total_blocks rows.params.frames = c.of-total.ensures.total ∙ ap total_blocks c.frames.ensures.value in
-    undamaged rows g.D.Disk c.of-total.result.total same c.args.disk.now c.open_pages.new.disk c.requires.told (c.open_pages.ensures.damaged (c.in-Err.is ∙ ap Err e))
+    let same = c.requires.total in
+    leaves_still rows g.D.Disk c.args.view.total same c.args.disk.now c.open_pages.new.disk c.requires.told (c.open_pages.ensures.any_moment pending)

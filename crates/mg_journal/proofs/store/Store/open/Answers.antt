@@ -1,10 +1,5 @@
-use Rattle.std.proofs.Common.{◌∙◌, ap, arith, is_some, refl, subst, sym, true}
-use Rattle.mg_journal.specs.ResultLemmas.{some_of}
+use Rattle.std.proofs.Common.{◌∙◌, ap, is_some, sym}
 use Rattle.mg_journal.specs.Contents.{SameContents}
-use Rattle.mg_journal.specs.Recovery.{IsRecovered}
-use Rattle.mg_journal.specs.Standing.{HoldsOpen, fits_held}
-use Rattle.mg_journal.proofs.CommitRuns.{yet_same}
-use Rattle.mg_journal.proofs.NewestSteps.{closed_holds}
 use Rattle.mg_journal.proofs.RecoverSteps.{came_back}
 use Rattle.mg_journal.proofs.OpenSteps.{contents_from, contents_kept, contents_still, looked, opened, same_error}
 use Rattle.mg_journal.proofs.store.Store.open.Goals as goal
@@ -12,72 +7,48 @@ use Rattle.mg_journal.proofs.store.Store.open.Goals as goal
 pub returns-in-Err-clause-any_moment : goal.returns-in-Err-clause-any_moment
 returns-in-Err-clause-any_moment g c pending image told =
     let disk = c.args.disk.now in
-    yet_same g.D.Disk c.args.total disk image (g.met.D.Disk.now_has_been disk) told pending
-
-pub returns-in-Err-clause-contents : goal.returns-in-Err-clause-contents
-returns-in-Err-clause-contents g c = contents_still c.args.total (g.D.Disk.seen c.args.disk.now) (g.D.Disk.seen c.args.disk.now) refl
-
-pub returns-in-Err-clause-came_from : goal.returns-in-Err-clause-came_from
-returns-in-Err-clause-came_from g c = came_back (SameContents c.args.total) (g.D.Disk.seen c.args.disk.now) (g.D.Disk.seen c.args.disk.now) refl (returns-in-Err-clause-contents g c)
-
-pub returns-in-Err-look-clause-any_moment : goal.returns-in-Err-look-clause-any_moment
-returns-in-Err-look-clause-any_moment g c pending image told =
-    let disk = c.args.disk.now in
     looked g.D.Disk c.args.total disk c.look.new.disk (g.met.D.Disk.now_has_been disk) c.look.ensures.writes pending image told
 
-pub returns-in-Err-look-clause-contents : goal.returns-in-Err-look-clause-contents
-returns-in-Err-look-clause-contents g c = contents_still c.args.total (g.D.Disk.seen c.args.disk.now) (g.D.Disk.seen c.look.new.disk) c.look.ensures.writes.same
+pub returns-in-Err-clause-contents : goal.returns-in-Err-clause-contents
+returns-in-Err-clause-contents g c = contents_still c.args.total (g.D.Disk.seen c.args.disk.now) (g.D.Disk.seen c.look.new.disk) c.look.ensures.writes.same
 
-pub returns-in-Err-look-clause-came_from : goal.returns-in-Err-look-clause-came_from
-returns-in-Err-look-clause-came_from g c =
+pub returns-in-Err-clause-came_from : goal.returns-in-Err-clause-came_from
+returns-in-Err-clause-came_from g c =
     came_back (SameContents c.args.total) (g.D.Disk.seen c.args.disk.now) (g.D.Disk.seen c.look.new.disk) (ap is_some c.look.ensures.writes.same)
-    (returns-in-Err-look-clause-contents g c)
+    (returns-in-Err-clause-contents g c)
 
-pub returns-in-Err-look-clause-damaged : goal.returns-in-Err-look-clause-damaged
-returns-in-Err-look-clause-damaged g c is = c.look.ensures.damaged (c.in-Err-look.is ∙ same_error _ _ is)
+pub returns-in-Err-clause-damaged : goal.returns-in-Err-clause-damaged
+returns-in-Err-clause-damaged g c is = c.look.ensures.damaged (c.in-Err.is ∙ same_error _ _ is)
 
 pub recover-requires-clause-fits : goal.recover-requires-clause-fits
-recover-requires-clause-fits g c image told = c.in-Ok-look.ensures.fits image (sym c.look.ensures.writes.same ∙ told)
+recover-requires-clause-fits g c image told = c.in-Ok.ensures.fits image (sym c.look.ensures.writes.same ∙ told)
 
 pub returns-in-Ok-recover-clause-any_moment : goal.returns-in-Ok-recover-clause-any_moment
 returns-in-Ok-recover-clause-any_moment g c pending image told =
     let disk = c.args.disk.now in
-    opened g.D.Disk c.args.total disk c.look.new.disk (g.met.D.Disk.now_has_been disk) c.look.ensures.writes pending image told c.recover.new.disk c.in-Ok-look.view.total c.in-Ok-look.ensures.total c.recover.ensures.any_moment
+    opened g.D.Disk c.args.total disk c.look.new.disk (g.met.D.Disk.now_has_been disk) c.look.ensures.writes pending image told c.recover.new.disk c.in-Ok.view.total c.in-Ok.ensures.total c.recover.ensures.any_moment
 
 pub returns-in-Ok-recover-clause-contents : goal.returns-in-Ok-recover-clause-contents
 returns-in-Ok-recover-clause-contents g c =
-    contents_kept c.in-Ok-look.view.total c.args.total c.in-Ok-look.ensures.total (g.D.Disk.seen c.args.disk.now) (g.D.Disk.seen c.look.new.disk) (g.D.Disk.seen c.recover.new.disk)
+    contents_kept c.in-Ok.view.total c.args.total c.in-Ok.ensures.total (g.D.Disk.seen c.args.disk.now) (g.D.Disk.seen c.look.new.disk) (g.D.Disk.seen c.recover.new.disk)
     c.look.ensures.writes.same c.recover.ensures.contents
 
 pub returns-in-Ok-recover-clause-came_from : goal.returns-in-Ok-recover-clause-came_from
 returns-in-Ok-recover-clause-came_from g c =
-    contents_from c.in-Ok-look.view.total c.args.total c.in-Ok-look.ensures.total (g.D.Disk.seen c.args.disk.now) (g.D.Disk.seen c.look.new.disk) (g.D.Disk.seen c.recover.new.disk)
+    contents_from c.in-Ok.view.total c.args.total c.in-Ok.ensures.total (g.D.Disk.seen c.args.disk.now) (g.D.Disk.seen c.look.new.disk) (g.D.Disk.seen c.recover.new.disk)
     c.look.ensures.writes.same c.recover.ensures.tells c.recover.ensures.contents
-
-pub returns-in-Ok-recover-clause-stands : goal.returns-in-Ok-recover-clause-stands
-returns-in-Ok-recover-clause-stands g c =
-    let total = c.in-Ok-look.view.total in
-    record {
-      journal = c.requires.journal;
-      room = let room = c.requires.room in omega (arith, c.recover.ensures.calls.blocks, c.look.ensures.calls.blocks);
-      settled = c.in-Ok-recover.ensures.settled;
-      fits = λ now told.
-          let from = some_of (λ image. IsRecovered total image now) (g.D.Disk.seen c.look.new.disk) (c.in-Ok-recover.ensures.came_from now told) in
-          fits_held (record { total = c.args.total; live = true; opened = 0; table = c.in-Ok.table }) now
-          (subst (λ t. HoldsOpen c.args.total 0 t now) (sym c.in-Ok.ensures.empty) (closed_holds c.args.total now from.2.closed));
-    }
 
 pub returns-in-Err-recover-clause-any_moment : goal.returns-in-Err-recover-clause-any_moment
 returns-in-Err-recover-clause-any_moment g c pending image told =
     let disk = c.args.disk.now in
-    opened g.D.Disk c.args.total disk c.look.new.disk (g.met.D.Disk.now_has_been disk) c.look.ensures.writes pending image told c.recover.new.disk c.in-Ok-look.view.total c.in-Ok-look.ensures.total c.recover.ensures.any_moment
+    opened g.D.Disk c.args.total disk c.look.new.disk (g.met.D.Disk.now_has_been disk) c.look.ensures.writes pending image told c.recover.new.disk c.in-Ok.view.total c.in-Ok.ensures.total c.recover.ensures.any_moment
 
 pub returns-in-Err-recover-clause-contents : goal.returns-in-Err-recover-clause-contents
 returns-in-Err-recover-clause-contents g c =
-    contents_kept c.in-Ok-look.view.total c.args.total c.in-Ok-look.ensures.total (g.D.Disk.seen c.args.disk.now) (g.D.Disk.seen c.look.new.disk) (g.D.Disk.seen c.recover.new.disk)
+    contents_kept c.in-Ok.view.total c.args.total c.in-Ok.ensures.total (g.D.Disk.seen c.args.disk.now) (g.D.Disk.seen c.look.new.disk) (g.D.Disk.seen c.recover.new.disk)
     c.look.ensures.writes.same c.recover.ensures.contents
 
 pub returns-in-Err-recover-clause-came_from : goal.returns-in-Err-recover-clause-came_from
 returns-in-Err-recover-clause-came_from g c =
-    contents_from c.in-Ok-look.view.total c.args.total c.in-Ok-look.ensures.total (g.D.Disk.seen c.args.disk.now) (g.D.Disk.seen c.look.new.disk) (g.D.Disk.seen c.recover.new.disk)
+    contents_from c.in-Ok.view.total c.args.total c.in-Ok.ensures.total (g.D.Disk.seen c.args.disk.now) (g.D.Disk.seen c.look.new.disk) (g.D.Disk.seen c.recover.new.disk)
     c.look.ensures.writes.same c.recover.ensures.tells c.recover.ensures.contents

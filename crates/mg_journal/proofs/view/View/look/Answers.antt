@@ -1,4 +1,4 @@
-use Rattle.std.proofs.Common.{◌≡◌, Result, Err, ◌+◌, ◌++◌, ◌∙◌, ℕ, List, suc, ap, arith, refl, subst, sym, rules}
+use Rattle.std.proofs.Common.{◌≡◌, Result, Err, ◌+◌, ◌++◌, ◌∙◌, ℕ, suc, ap, arith, refl, subst, sym, rules}
 use Rattle.mg_disk.specs.Disk.{Image}
 use Rattle.std.specs.Prelude.{IsSome}
 use Rattle.mg_model.specs.Layout.{segment_count}
@@ -6,6 +6,7 @@ use Rattle.mg_model.specs.Replay.{segments_fit}
 use Rattle.mg_disk.specs.Runs.{nothing_then}
 use Rattle.mg_journal.specs.declared.faults.ViewFault.TheVariants.{Damaged}
 use Rattle.mg_journal.specs.Facts.{replay-none, replay-some}
+use Rattle.mg_journal.specs.Newest.{HasLast}
 use Rattle.mg_journal.specs.Places.{places_of, places_since}
 use Rattle.mg_journal.proofs.Bodies.{places_since-last, segments_fit-more, segments_unfit}
 use Rattle.mg_journal.proofs.view.View.look.Goals as goal
@@ -16,13 +17,11 @@ fails T e = Err e
 same_fault : {S T E : Type 0} (e f : E) → fails S e ≡ fails S f → fails T e ≡ fails T f
 same_fault {S} {T} e f is = let same : e ≡ f = cc in ap (fails T) same
 
-one_more : (image : Image) (s : ℕ) (items now : List (ℕ × ℕ)) → items ≡ places_since image 0 s → now ≡ items ++ places_of image s → now ≡ places_since image 0 (s + 1)
-one_more image s items now so_far added =
+one_more : (image : Image) (s : ℕ) → places_since image 0 s ++ places_of image s ≡ places_since image 0 (s + 1)
+one_more image s =
     let at : s ≡ 0 + s = omega arith in
     let next : suc s ≡ s + 1 = omega arith in
-    added
-    ∙ ap (λ p. p ++ places_of image s) so_far
-    ∙ ap (λ t. places_since image 0 s ++ places_of image t) at
+    ap (λ t. places_since image 0 s ++ places_of image t) at
     ∙ sym (places_since-last image 0 s)
     ∙ ap (places_since image 0) next
 
@@ -38,10 +37,9 @@ loop-segment-preserved g c =
     let s = c.loop-segment.segment in
     record {
       fits = λ image told. segments_fit-more c.args.total image s (inv.fits image told) (look.fits image (inv.writes.same ∙ told));
-      places = λ image told. one_more image s c.loop-segment.places.items c.look_segment.new.places.items (inv.places image told) (look.added image (inv.writes.same ∙ told));
-      fit = look.fit;
+      newest = λ image told. subst (λ p. HasLast p c.look_segment.new.table) (one_more image s) (look.newest image (inv.writes.same ∙ told) (places_since image 0 s) (inv.newest image told));
+      fit = look.fit inv.fit;
       few = omega (arith, look.few, inv.few);
-      capacity = omega (arith, look.capacity, inv.capacity);
       writes = nothing_then g.D.Disk c.args.disk.now c.loop-segment.disk c.look_segment.new.disk inv.writes look.writes;
       count = search rules;
       blocks = look.calls.blocks ∙ inv.blocks;
@@ -53,7 +51,7 @@ returns-clause-fits g c image told =
     let end : c.loop-segment.segment ≡ segment_count = let past = c.loop-segment-test.false in let last = c.loop-segment.auto.segment-end in omega arith in
     record {
       fit = ap (segments_fit c.args.total image 0) (sym end) ∙ inv.fits image told;
-      places = inv.places image told ∙ ap (places_since image 0) end;
+      newest = subst (λ n. HasLast (places_since image 0 n) c.loop-segment.table) end (inv.newest image told);
     }
 
 pub returns-clause-replayed : goal.returns-clause-replayed

@@ -1,7 +1,7 @@
 use Rattle.std.proofs.Common.{◌<◌, ◌∙◌, ap, arith, length}
 use Rattle.std.proofs.lemmas.Result.{on_ok_weaker}
 use Rattle.mg_disk.specs.Disk.{block_at}
-use Rattle.mg_journal.proofs.Lookups.{held_at-reads}
+use Rattle.mg_journal.proofs.Lookups.{newest_reads}
 use Rattle.mg_journal.proofs.view.View.read.Goals as goal
 
 pub returns-clause-block : goal.returns-clause-block
@@ -13,5 +13,5 @@ returns-clause-block g c =
     let low = c.requires.place in
     let high = c.requires.room in
     let inside : c.args.i < length image = omega arith in
-    same image told ∙ ap (block_at image) c.place_of.ensures.last ∙ held_at-reads view image r c.args.i (c.requires.fits image told) inside is)
+    same image told ∙ ap (block_at image) c.place_of.ensures.newest ∙ newest_reads view image r c.args.i (c.requires.fits image told) inside is)
     c.read.ensures.block

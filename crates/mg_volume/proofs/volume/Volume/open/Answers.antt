@@ -5,7 +5,10 @@ use Rattle.mg_volume.proofs.volume.Volume.open.Goals as goal
 pub open_rows-requires-clause-told : goal.open_rows-requires-clause-told
 open_rows-requires-clause-told g c image told = c.in-Ok.ensures.told image (sym c.in-Ok.ensures.writes.same ∙ told)
 
-pub returns-in-Ok-open_rows-clause-any_moment : goal.returns-in-Ok-open_rows-clause-any_moment
-returns-in-Ok-open_rows-clause-any_moment g c pending =
+pub open_rows-requires-clause-fits : goal.open_rows-requires-clause-fits
+open_rows-requires-clause-fits g c image told = c.in-Ok.ensures.fits image (sym c.in-Ok.ensures.writes.same ∙ told)
+
+pub returns-clause-any_moment : goal.returns-clause-any_moment
+returns-clause-any_moment g c pending =
     let disk = c.args.disk.now in
     quiet_then g.D.Disk disk c.read_volume.new.disk c.open_rows.new.disk (g.met.D.Disk.now_has_been disk) c.in-Ok.ensures.writes pending c.open_rows.ensures.any_moment

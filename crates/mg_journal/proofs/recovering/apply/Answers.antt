@@ -4,7 +4,7 @@ use Rattle.mg_disk.specs.Runs.{quiet, torn}
 use Rattle.mg_journal.specs.Applied.{filled}
 use Rattle.mg_journal.specs.Contents.{names}
 use Rattle.mg_journal.proofs.ApplySteps.{apply_more, home_at, named_place, torn_more, torn_still, wrote_torn}
-use Rattle.mg_journal.proofs.opening.apply.Goals as goal
+use Rattle.mg_journal.proofs.recovering.apply.Goals as goal
 
 pub returns-in_err-write-clause-any_moment : goal.returns-in_err-write-clause-any_moment
 returns-in_err-write-clause-any_moment g c pending image told =

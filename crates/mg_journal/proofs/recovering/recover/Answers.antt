@@ -1,26 +1,36 @@
-use Rattle.std.proofs.Common.{◌≡◌, ◌∙◌, ap, sym, subst, option_map, true, Some}
+use Rattle.std.proofs.Common.{◌≡◌, ◌∙◌, ℕ, List, ap, sym, subst, option_map, true, Some}
 use Rattle.std.specs.Prelude.{IsSomeAnd}
 use Rattle.std.proofs.lemmas.Result.{on_ok_weaker}
-use Rattle.mg_disk.specs.Disk.{SameBut}
+use Rattle.mg_disk.specs.Disk.{Image, SameBut}
 use Rattle.mg_disk.specs.Runs.{leaves_then, leaves_wider}
 use Rattle.mg_model.specs.Layout.{segment_count}
 use Rattle.mg_model.specs.Replay.{written}
 use Rattle.mg_journal.specs.Applied.{filled}
 use Rattle.mg_journal.specs.ResultLemmas.{some_of}
 use Rattle.mg_journal.specs.Contents.{SameContents, names}
-use Rattle.mg_journal.specs.Recovery.{IsClosedUpTo, IsRecovered, IsStill}
-use Rattle.mg_journal.proofs.RecoverSteps.{own, recovered_to, some_weaker, while_applied, while_closed}
-use Rattle.mg_journal.proofs.opening.settle.Goals as goal
+use Rattle.mg_journal.specs.Looked.{Fits, Placed}
+use Rattle.mg_journal.specs.Newest.{Ascends}
+use Rattle.mg_journal.specs.Recovery.{IsClosedUpTo, IsRecovered, IsStill, Settles}
+use Rattle.mg_journal.proofs.NewestSteps.{table_settles}
+use Rattle.mg_journal.proofs.RecoverSteps.{came_back, own, recovered_to, some_weaker, while_applied, while_closed}
+use Rattle.mg_journal.proofs.recovering.recover.Goals as goal
+
+settles_so : (view : Placed) (places : List (ℕ × ℕ)) (image : Image) → places ≡ view.table → Ascends places → Fits view image → Settles view.total places image
+settles_so view places image same up fits = subst (λ p. Settles view.total p image) (sym same) (table_settles view image fits (subst Ascends same up))
 
 pub returns-in_err-apply-clause-any_moment : goal.returns-in_err-apply-clause-any_moment
-returns-in_err-apply-clause-any_moment g c pending image told total settles =
-    let places = c.args.places.now in
+returns-in_err-apply-clause-any_moment g c pending image told =
+    let places = c.places.result.now in
+    let total = c.args.view.now.total in
+    let settles = settles_so c.args.view.now places image c.places.ensures.same c.places.ensures.ascends (c.requires.fits image told) in
     leaves_wider g.D.Disk c.args.disk.now c.apply.new.disk (SameBut (λ k. names (filled image places) k ≡ true) image) (SameContents total image)
     (c.apply.ensures.any_moment pending image told) (while_applied total places image settles)
 
 pub returns-clause-any_moment : goal.returns-clause-any_moment
-returns-clause-any_moment g c pending image told total settles =
-    let places = c.args.places.now in
+returns-clause-any_moment g c pending image told =
+    let places = c.places.result.now in
+    let total = c.args.view.now.total in
+    let settles = settles_so c.args.view.now places image c.places.ensures.same c.places.ensures.ascends (c.requires.fits image told) in
     let homed = written image (filled image places) in
     let is : g.D.Disk.seen c.apply.new.disk ≡ Some homed = c.in_ok-apply.ensures.written ∙ ap (option_map (λ i. written i (filled i places))) told in
     leaves_then g.D.Disk c.args.disk.now c.apply.new.disk c.close_gates.new.disk (IsStill total homed) (SameContents total image)
@@ -31,8 +41,10 @@ returns-clause-any_moment g c pending image told total settles =
 pub returns-clause-recovered : goal.returns-clause-recovered
 returns-clause-recovered g c =
     on_ok_weaker c.close_gates.result
-    (λ closed image told total settles.
-    let places = c.args.places.now in
+    (λ closed image told.
+    let places = c.places.result.now in
+    let total = c.args.view.now.total in
+    let settles = settles_so c.args.view.now places image c.places.ensures.same c.places.ensures.ascends (c.requires.fits image told) in
     let homed = written image (filled image places) in
     let is : g.D.Disk.seen c.apply.new.disk ≡ Some homed = c.in_ok-apply.ensures.written ∙ ap (option_map (λ i. written i (filled i places))) told in
     let now = some_of (IsClosedUpTo segment_count total homed) (g.D.Disk.seen c.close_gates.new.disk) (closed homed is total (own total places image settles)) in
@@ -40,15 +52,25 @@ returns-clause-recovered g c =
     c.close_gates.ensures.closed
 
 pub returns-in_err-apply-clause-contents : goal.returns-in_err-apply-clause-contents
-returns-in_err-apply-clause-contents g c image told total settles =
-    let places = c.args.places.now in
+returns-in_err-apply-clause-contents g c image told =
+    let places = c.places.result.now in
+    let total = c.args.view.now.total in
+    let settles = settles_so c.args.view.now places image c.places.ensures.same c.places.ensures.ascends (c.requires.fits image told) in
     some_weaker (SameBut (λ k. names (filled image places) k ≡ true) image) (SameContents total image) (g.D.Disk.seen c.apply.new.disk)
     (while_applied total places image settles) (c.apply.ensures.torn image told)
 
 pub returns-clause-contents : goal.returns-clause-contents
-returns-clause-contents g c image told total settles =
-    let places = c.args.places.now in
+returns-clause-contents g c image told =
+    let places = c.places.result.now in
+    let total = c.args.view.now.total in
+    let settles = settles_so c.args.view.now places image c.places.ensures.same c.places.ensures.ascends (c.requires.fits image told) in
     let homed = written image (filled image places) in
     let is : g.D.Disk.seen c.apply.new.disk ≡ Some homed = c.in_ok-apply.ensures.written ∙ ap (option_map (λ i. written i (filled i places))) told in
     some_weaker (IsStill total homed) (SameContents total image) (g.D.Disk.seen c.close_gates.new.disk)
     (while_closed total places image settles) (c.close_gates.ensures.still homed is total (own total places image settles))
+
+pub returns-clause-came_from : goal.returns-clause-came_from
+returns-clause-came_from g c =
+    on_ok_weaker c.close_gates.result
+    (λ recovered. came_back (IsRecovered c.args.view.now.total) (g.D.Disk.seen c.args.disk.now) (g.D.Disk.seen c.close_gates.new.disk) (c.close_gates.ensures.tells ∙ c.apply.ensures.tells) recovered)
+    (returns-clause-recovered g c)
