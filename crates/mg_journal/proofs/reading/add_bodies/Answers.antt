@@ -20,8 +20,8 @@ one_more items image s k home body is_home is_body =
     ∙ ap (λ p. items ++ p) (sym (places_from-last image s 0 k))
     ∙ ap (λ n. items ++ places_from image s 0 n) next
 
-pub returns-then-count-gt-MOST_BODIES-clause-fits : goal.returns-then-count-gt-MOST_BODIES-clause-fits
-returns-then-count-gt-MOST_BODIES-clause-fits c image is = too_many-unfit c.args.total image c.args.segment (let many = c.if-count-gt-MOST_BODIES.true in let n = ap (λ b. number_at b 0) is in omega arith)
+pub returns-then-count-gt-BODY_LIMIT-clause-fits : goal.returns-then-count-gt-BODY_LIMIT-clause-fits
+returns-then-count-gt-BODY_LIMIT-clause-fits c image is = too_many-unfit c.args.total image c.args.segment (let many = c.if-count-gt-BODY_LIMIT.true in let n = ap (λ b. number_at b 0) is in omega arith)
 
 pub returns-then-not-is_home-clause-fits : goal.returns-then-not-is_home-clause-fits
 returns-then-not-is_home-clause-fits c image is =
@@ -38,7 +38,7 @@ loop-k-preserved c =
     let place : ℕ × ℕ = (c.number_at-home.result, c.index_of-first.result + 1 + k) in
     let first = c.index_of-first.ensures in
     let segment = c.requires.segment in
-    let count = c.if-count-gt-MOST_BODIES.false in
+    let count = c.if-count-gt-BODY_LIMIT.false in
     let below = c.loop-k-test.true in
     let end = c.loop-k.auto.k-end in
     record {
@@ -58,7 +58,7 @@ loop-k-preserved c =
 pub returns-clause-fits : goal.returns-clause-fits
 returns-clause-fits c image is =
     let n = ap (λ b. number_at b 0) is in
-    let few = c.if-count-gt-MOST_BODIES.false in
+    let few = c.if-count-gt-BODY_LIMIT.false in
     let end : c.loop-k.k ≡ body_count image c.args.segment = let past = c.loop-k-test.false in let last = c.loop-k.auto.k-end in omega arith in
     let P : ℕ → Type 0 = λ m. c.loop-k.places.items ≡ c.args.places.now.items ++ places_from image c.args.segment 0 m in
     let added : P (body_count image c.args.segment) = subst P end (c.loop-k.invariant.added image is) in
