@@ -39,7 +39,7 @@ impl OneHolder for File {
     }
 }
 
-/// A disk of [`FILE_BLOCKS`] blocks in a file, which is opened at the first read, write or sync. Past the end of the file it reads zeros.
+/// A disk of [`FILE_BLOCKS`] blocks in a file, opened at the first read, write or sync. Past the end of the file it reads zeros.
 ///
 /// A file that may be written is made empty where there is none, and is held for this run alone ([`OneHolder`]). One that is only
 /// read is shared with others that read it, and reads as zeros where there is none. A file that another run holds counts as one that
