@@ -11,10 +11,10 @@ use crate::operands::{
     distance, one, register, register_1_and_immediate, registers_2, registers_2_and_immediate,
     registers_3, two,
 };
-use crate::tokens::{cut, is_word, next_token};
+use crate::tokens::{cut, next_token};
 use mg_model::Instr;
 use mg_script::encode;
-use mg_text::read_number;
+use mg_text::{is_word, read_number};
 
 /// What a line asks for, given without its newline.
 pub fn read_line(line: &[u8]) -> Result<Item, AsmKind>

@@ -3,7 +3,7 @@ ghost use Rattle.std.specs.Prelude.{◌≡◌, ◌≤◌, ◌<◌, ◌==◌, ◌
 ghost use Rattle.std.specs.List.{prefix_len};
 ghost use Rattle.std.specs.Option.{option_map_or};
 ghost use Rattle.mg_asm.specs.Tokens.{is_gap, tokens};
-ghost use Rattle.mg_model.specs.Words.{same_bytes, split_at};
+ghost use Rattle.mg_model.specs.Words.{split_at};
 
 /// The first word of these bytes and what stands behind it; None where they have no word.
 pub fn next_token(bytes: &[u8]) -> Option<(&[u8], &[u8])>
@@ -60,11 +60,4 @@ fn before(bytes: &[u8], end: u8) -> usize
     ensures within { result ≤ length bytes.now }
 {
     bytes.iter().take_while(|b| **b != end).count()
-}
-
-/// Whether two words are the same.
-pub fn is_word(word: &[u8], known: &[u8]) -> bool
-    ensures { result ≡ same_bytes word.now known.now }
-{
-    word == known
 }

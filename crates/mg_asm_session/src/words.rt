@@ -1,10 +1,9 @@
 // The words of the command line.
 ghost use Rattle.std.specs.Prelude.{◌≡◌, IfSome};
 ghost use Rattle.mg_asm_session.specs.Commands.{IsStored, command_of, is_place, print_of, store_of, words_of};
-ghost use Rattle.mg_model.specs.Words.{same_bytes};
 
 use mg_model::limits::{PAGE_END, PAGE_SIZE};
-use mg_text::read_number;
+use mg_text::{is_word, read_number};
 
 /// What the program is asked to do.
 #[derive(Clone, Copy, Debug, PartialEq, Eq)]
@@ -59,11 +58,4 @@ fn is_place(address: u64) -> bool
     ensures { result ≡ is_place address }
 {
     address % 8 == 0 && address < PAGE_END * PAGE_SIZE
-}
-
-/// Whether a word is this one.
-fn is_word(word: &[u8], known: &[u8]) -> bool
-    ensures { result ≡ same_bytes word.now known.now }
-{
-    word == known
 }

@@ -143,7 +143,7 @@ pub fn word_object<D: Disk, L: Ledger>(
     requires backed { ForSome (D.seen disk.old) (λ image. AllBacked (now_of v.old image) c.old) }
     ensures refusal { IfOk result (λ object. ForSome (D.seen disk.old) (λ image. MatchResult object (λ _. access_refusal (now_of v.old image) t a right ≡ None) (λ word. access_refusal (now_of v.old image) t a right ≡ Some word))) }
     ensures row { IfOk result (λ answer. IfOk answer (λ object. ForSome (D.seen disk.old) (λ image. Some object ≡ allowed_row (now_of v.old image) t a right))) }
-    ensures place { IfOk result (λ answer. IfOk answer (λ object. (covers object a ≡ true) × (has_page v.new (a / 4096) ≡ true) × (a % 8 ≡ 0))) }
+    ensures place { IfOk result (λ answer. IfOk answer (λ object. (covers object a ≡ true) × (has_page v.new (a / page_size) ≡ true) × (a % 8 ≡ 0))) }
     ensures backed { ForSome (D.seen disk.old) (λ image. AllBacked (now_of v.new image) c.new) }
     ensures rules { OnOk result (ForSome (D.seen disk.old) (λ image. KeepsRules (now_of v.old image) (word_accesses (now_of v.old image) t a right) (λ key. is_kept c.old key) (λ key. is_kept c.new key) (steps.new - steps.old))) }
     ensures limit { ForSome (D.seen disk.old) (λ image. steps.new ≤ steps.old + searches_limit (λ key. is_kept c.old key) (now_of v.old image) (word_accesses (now_of v.old image) t a right)) }
@@ -166,7 +166,7 @@ pub fn word_object<D: Disk, L: Ledger>(
 // The page of an address of an object.
 fn page_of(object: &ObjRow, a: u64) -> u64
     requires { covers object.now a ≡ true }
-    ensures page { result ≡ a / 4096 }
+    ensures page { result ≡ a / page_size }
     ensures inside { is_page_in result object.now ≡ true }
 {
     let base = object.base();
@@ -175,7 +175,7 @@ fn page_of(object: &ObjRow, a: u64) -> u64
 
 // The place of a word in its page.
 fn index_of(a: u64) -> u64
-    ensures { result ≡ a % 4096 / 8 }
+    ensures { result ≡ a % page_size / 8 }
 {
     a % PAGE_SIZE / WORD
 }

@@ -6,6 +6,7 @@ ghost use Rattle.mg_check.specs.Summaries.{Tells, TellsOf};
 ghost use Rattle.mg_check.specs.Tables.{count_in, pages_in};
 ghost use Rattle.mg_disk.specs.Stops.{DiskCallsBy, WritesNothing};
 ghost use Rattle.mg_model.specs.Layout.{total_blocks};
+ghost use Rattle.mg_model.specs.Limits.{object_limit};
 ghost use Rattle.mg_model.specs.Volume.{Damaged, NotVolume, OldVolume, volume};
 
 use crate::opening::read_volume;
@@ -79,7 +80,7 @@ pub fn examine<D: Disk>(alloc: Global, disk: &mut D) -> Result<Summary, OpenFaul
 
 // How many pages the objects have together.
 fn used(objects: &[Option<ObjRow>]) -> u64
-    requires few { length objects.now ≤ 4096 }
+    requires few { length objects.now ≤ object_limit }
     ensures { result ≡ sum_by pages_in objects.now }
 {
     let mut used = 0;
@@ -91,7 +92,7 @@ fn used(objects: &[Option<ObjRow>]) -> u64
 
 // How many objects there are.
 fn count(objects: &[Option<ObjRow>]) -> u64
-    requires few { length objects.now ≤ 4096 }
+    requires few { length objects.now ≤ object_limit }
     ensures { result ≡ sum_by count_in objects.now }
 {
     let mut count = 0;

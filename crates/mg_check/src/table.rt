@@ -2,7 +2,6 @@
 ghost use Rattle.std.specs.Prelude.{◌≡◌, ◌≢◌, ◌≤◌, ◌+◌, ◌%◌, ◌==◌, ℕ, IfOk, OnOk, false, [], length, min};
 ghost use Rattle.std.specs.Option.{ForSome};
 ghost use Rattle.mg_disk.specs.Stops.{CountRose};
-ghost use Rattle.mg_model.specs.Bytes.{number_at};
 ghost use Rattle.mg_model.specs.Layout.{first_frame};
 ghost use Rattle.mg_check.specs.Reads.{CanRead, OnlyRead, contents};
 ghost use Rattle.mg_check.specs.TableTold.{AreEntries, HasRest, IsTable, entry_in};
@@ -12,21 +11,8 @@ use crate::reading::{Contents, turn_to};
 use mg_disk::{BLOCK_SIZE, Block, Disk};
 use mg_faults::Failed;
 use mg_journal::ViewFault;
-use mg_layout::TABLE_BLOCK;
+use mg_layout::{BLOCK_WORDS, TABLE_BLOCK, number_at};
 use std::alloc::Global;
-
-/// How many entries a block has.
-const IN_BLOCK: u64 = 512;
-
-// The number in the 8 bytes at this place.
-fn number_at(b: &Block, at: usize) -> u64
-    requires { at + 8 ≤ 4096 }
-    ensures { result ≡ number_at b.now at }
-{
-    let mut bytes = [0; 8];
-    bytes.copy_from_slice(&b[at..at + 8]);
-    u64::from_le_bytes(bytes)
-}
 
 // Takes entry `f` of the table out of its block; there are so many frames.
 fn take(table: &mut Vec<u64>, f: u64, block: &Block, frames: u64) -> Result<(), ViewFault>
@@ -36,7 +22,7 @@ fn take(table: &mut Vec<u64>, f: u64, block: &Block, frames: u64) -> Result<(), 
     ensures behind { result ≡ Err ViewFault.Damaged → frames ≤ f }
     ensures no_disk { result ≢ Err ViewFault.Disk }
 {
-    let page = number_at(block, 8 * (f % IN_BLOCK) as usize);
+    let page = number_at(block, 8 * (f % BLOCK_WORDS) as usize);
     if f < frames {
         return add(table, page);
     }
@@ -65,13 +51,13 @@ pub(crate) fn read_table<C: Contents, D: Disk>(
 {
     let mut table = with_room(alloc, frames as usize)?;
     let mut block = [0; BLOCK_SIZE];
-    let all = IN_BLOCK * ((frames + IN_BLOCK - 1) / IN_BLOCK);
+    let all = BLOCK_WORDS * ((frames + BLOCK_WORDS - 1) / BLOCK_WORDS);
     for f in 0..all {
         match turn_to(
             view,
             disk,
-            TABLE_BLOCK + f / IN_BLOCK,
-            f % IN_BLOCK == 0,
+            TABLE_BLOCK + f / BLOCK_WORDS,
+            f % BLOCK_WORDS == 0,
             &mut block,
         ) {
             Ok(()) => {}

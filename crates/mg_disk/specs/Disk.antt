@@ -9,6 +9,10 @@ Image = List (List ℕ)
 abbrev pub block_at : Image → ℕ → List ℕ
 block_at image k = slice_index_or image k []
 
+-- the blocks of a disk in a file
+abbrev pub file_blocks : ℕ
+file_blocks = 70000
+
 -- numbers that are bytes
 abbrev pub IsBytes : List ℕ → Type 0
 IsBytes block = All (λ byte. byte < 256) block

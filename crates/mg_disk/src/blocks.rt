@@ -3,11 +3,8 @@ ghost use Rattle.std.specs.Prelude.{◌≡◌, ◌<◌, ℕ, Contains, vec_len, 
 ghost use Rattle.mg_disk.specs.Disk.{SameBut, AreBytes};
 ghost use Rattle.mg_disk.specs.Blocks.{zeros_of, IsGated};
 
-use crate::{BLOCK_SIZE, Block};
+use crate::{BLOCK_SIZE, Block, GATE_OPEN};
 use std::alloc::{AllocError, Global};
-
-/// The byte that a stop leaves under `Left::Gates`.
-pub(crate) const GATE: u8 = 0xA5;
 
 /// That many blocks of zeros, in a vector that has room for no more.
 pub(crate) fn zeros(alloc: Global, blocks: u64) -> Result<Vec<Block>, AllocError>
@@ -30,7 +27,7 @@ pub(crate) fn put_gates(content: &mut Vec<Block>, places: &[u64])
     ensures bytes { AreBytes content.old.items → AreBytes content.new.items }
 {
     for &i in places {
-        content[i as usize] = [GATE; BLOCK_SIZE];
+        content[i as usize] = [GATE_OPEN; BLOCK_SIZE];
     }
 }
 

@@ -9,6 +9,9 @@ use mg_faults::Failed;
 /// The bytes of a block.
 pub const BLOCK_SIZE: usize = 4096;
 
+/// What byte 0 of a gate holds where it is open: the worst byte that a write which was not safe yet may leave.
+pub const GATE_OPEN: u8 = 0xA5;
+
 /// A block.
 pub type Block = [u8; BLOCK_SIZE];
 

@@ -2,7 +2,7 @@
 ghost use Rattle.std.specs.Prelude.{◌≡◌, ◌<◌, ◌≤◌, ◌^◌, false, None, IfOk, OnErr, OnOk, length};
 ghost use Rattle.std.proofs.Common.{rules};
 ghost use Rattle.mg_faults.specs.Faults.{CountGoesOn, Rose, is_last};
-ghost use Rattle.mg_disk.specs.Disk.{At};
+ghost use Rattle.mg_disk.specs.Disk.{At, file_blocks};
 
 use crate::watching::{FileFault, Unwatched, Watch};
 use crate::{BLOCK_SIZE, Block, Disk, Failed};
@@ -14,7 +14,7 @@ use std::rt::Files;
 use std::slice;
 
 /// How many blocks a [`FileDisk`] has.
-const BLOCKS: u64 = 70_000;
+pub const FILE_BLOCKS: u64 = 70_000;
 
 /// A file that a run holds, so that no other one changes it meanwhile.
 pub trait OneHolder {
@@ -39,7 +39,7 @@ impl OneHolder for File {
     }
 }
 
-/// A disk of 70,000 blocks in a file, which is opened at the first read, write or sync. Past the end of the file it reads zeros.
+/// A disk of [`FILE_BLOCKS`] blocks in a file, opened at the first read, write or sync. Past the end of the file it reads zeros.
 ///
 /// A file that may be written is made empty where there is none, and is held for this run alone ([`OneHolder`]). One that is only
 /// read is shared with others that read it, and reads as zeros where there is none. A file that another run holds counts as one that
@@ -280,7 +280,7 @@ impl<'a, R: Files, W: Watch> Disk for FileDisk<'a, R, W>
 where
     R::File: FileExt + OneHolder,
 {
-    ghost block_count = { λ _. 70000 };
+    ghost block_count = { λ _. file_blocks };
 
     ghost seen = { λ _. None };
 
@@ -309,7 +309,7 @@ where
     ghost seen_bytes = { λ _ image is. Prim.search rules };
 
     fn blocks(&self) -> u64 {
-        BLOCKS
+        FILE_BLOCKS
     }
 
     fn read(&mut self, i: u64, out: &mut Block) -> Result<(), Failed> {

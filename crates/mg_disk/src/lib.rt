@@ -5,6 +5,8 @@
 //! calls that fail and stops at will, [`Fuse`] lets a disk die after some calls, [`ScratchDisk`] is a disk for one
 //! session alone, and [`FileDisk`] is the file that a volume is kept in.
 //!
+//! [`write_firmly`] is the step that clients are chains of: a write and a sync.
+//!
 //! `specs/Disk.antt` has the words of the trait, `specs/Stops.antt` what the layers above say of a disk in one word,
 //! and `specs/Runs.antt` the steps by which what a stop may leave is followed over a run of calls.
 #![tactic(auto)]
@@ -16,12 +18,14 @@ mod file;
 mod fuse;
 mod memory;
 mod scratch;
+mod syncing;
 mod watching;
 
-pub use disk::{BLOCK_SIZE, Block, COPY_BLOCKS, Disk};
-pub use file::{FileDisk, OneHolder};
+pub use disk::{BLOCK_SIZE, Block, COPY_BLOCKS, Disk, GATE_OPEN};
+pub use file::{FILE_BLOCKS, FileDisk, OneHolder};
 pub use fuse::Fuse;
 pub use memory::{Counts, Left, MemDisk};
 pub use mg_faults::Failed;
 pub use scratch::ScratchDisk;
+pub use syncing::write_firmly;
 pub use watching::{FileFault, Unwatched, Watch};

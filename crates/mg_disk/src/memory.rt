@@ -6,8 +6,8 @@ ghost use Rattle.mg_disk.specs.Blocks.{told_count, told_bytes, zeros_of, gates_b
 ghost use Rattle.mg_disk.specs.Stops.{StandsAt};
 ghost use Rattle.mg_disk.specs.Held.{run, start, BeenIn, LeftIn, been_now, counted_now, seen_stays};
 
-use crate::blocks::{GATE, copy_at, put_gates, zeros};
-use crate::{BLOCK_SIZE, Block, Disk, Failed};
+use crate::blocks::{copy_at, put_gates, zeros};
+use crate::{BLOCK_SIZE, Block, Disk, Failed, GATE_OPEN};
 use mg_faults::FaultCount;
 use std::alloc::{AllocError, Global};
 
@@ -26,7 +26,7 @@ pub enum Left {
     Old,
     /// What was written last.
     New,
-    /// The byte `0xA5` throughout.
+    /// [`GATE_OPEN`] throughout.
     Gates,
 }
 
@@ -51,7 +51,7 @@ enum Turn {
 /// A disk in memory whose calls of read, write and sync are numbered from 0, and fail by their number.
 ///
 /// A call fails exactly where its number is among `fails`, or is `room` or more. A write that fails by its number leaves
-/// the byte `0xA5` throughout its block, and counts as written since the last good sync. A call past the room changes
+/// [`GATE_OPEN`] throughout its block, and counts as written since the last good sync. A call past the room changes
 /// nothing but the count of faults.
 #[derive(Drop)]
 pub struct MemDisk {
@@ -288,7 +288,7 @@ impl Disk for MemDisk {
         match self.turn() {
             Turn::Past => self.fail(),
             Turn::Fails => {
-                self.put(i, &[GATE; BLOCK_SIZE]);
+                self.put(i, &[GATE_OPEN; BLOCK_SIZE]);
                 self.fail()
             }
             Turn::Passes => {

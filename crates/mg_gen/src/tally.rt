@@ -2,7 +2,6 @@
 ghost use Rattle.std.specs.Prelude.{◌≡◌, ◌+◌, ◌-◌, ◌^◌, ◌<◌, ◌≤◌, ◌++◌, ◌∷◌, [], List, length};
 ghost use Rattle.arrayvec.specs.ArrayVec.{array_vec_len};
 ghost use Rattle.mg_model.specs.declared.replies.Reply.{Reply};
-ghost use Rattle.mg_model.specs.Turn.{refusal_number};
 ghost use Rattle.mg_gen.specs.Summary.{count_line, row_of, tally_of, tally_text};
 
 use arrayvec::ArrayVec;
@@ -86,39 +85,8 @@ fn row(reply: &Reply) -> usize
     ensures within { result < 23 }
 {
     match reply {
-        Reply::No(refusal) => number(*refusal),
+        Reply::No(refusal) => refusal.number() as usize,
         _ => 0,
-    }
-}
-
-/// The number of a refusal.
-fn number(word: Refusal) -> usize
-    ensures value { result ≡ refusal_number word }
-    ensures within { result < 23 }
-{
-    match word {
-        Refusal::Syntax => 1,
-        Refusal::NoThread => 2,
-        Refusal::Align => 3,
-        Refusal::Denied => 4,
-        Refusal::Size => 5,
-        Refusal::Account => 6,
-        Refusal::Debt => 7,
-        Refusal::Limit => 8,
-        Refusal::Full => 9,
-        Refusal::NoPassword => 10,
-        Refusal::Range => 11,
-        Refusal::SlotFull => 12,
-        Refusal::NoSlot => 13,
-        Refusal::NoEntry => 14,
-        Refusal::Depth => 15,
-        Refusal::NoFrame => 16,
-        Refusal::NotYours => 17,
-        Refusal::NotReady => 18,
-        Refusal::Idle => 19,
-        Refusal::Credit => 20,
-        Refusal::Calendar => 21,
-        Refusal::Past => 22,
     }
 }
 

@@ -11,6 +11,5 @@ mod OpenSteps
 mod PhaseSteps
 mod RecoverSteps
 mod ReadTogether
-mod Spliced
 mod Tables
 mod Waits

@@ -14,5 +14,4 @@ pub mod Recovery
 pub mod Facts
 pub mod ResultLemmas
 pub mod Segments
-pub mod Words
 pub mod WrittenOver

@@ -2,20 +2,18 @@
 ghost use Rattle.std.specs.Prelude.{◌≡◌, ◌<◌, ◌==◌, false, slice_index};
 ghost use Rattle.mg_model.specs.Layout.{gate_open, segment_count, segment_gate, segment_index};
 
-use mg_disk::{BLOCK_SIZE, Block};
+use mg_disk::{BLOCK_SIZE, Block, GATE_OPEN};
+use mg_layout::{FIRST_SEGMENT, SEGMENT_COUNT, SEGMENT_SIZE};
 
 /// How many segments there are.
-pub(crate) const SEGMENTS: u64 = 8;
-
-/// The byte that a gate begins with where it is open.
-const OPEN: u8 = 0xA5;
+pub(crate) const SEGMENTS: u64 = SEGMENT_COUNT;
 
 /// The block of a segment's gate.
 pub(crate) fn gate_of(segment: u64) -> u64
     requires few { segment < segment_count }
     ensures { result ≡ segment_gate segment }
 {
-    2 + 162 * segment
+    FIRST_SEGMENT + SEGMENT_SIZE * segment
 }
 
 /// The block of a segment's index.
@@ -31,7 +29,7 @@ pub(crate) fn opened_gate() -> Block
     ensures { slice_index result 0 ≡ gate_open }
 {
     let mut gate = [0; BLOCK_SIZE];
-    gate[0] = OPEN;
+    gate[0] = GATE_OPEN;
     gate
 }
 
@@ -46,5 +44,5 @@ pub(crate) fn closed_gate() -> Block
 pub(crate) fn is_opened(gate: &Block) -> bool
     ensures { result ≡ (slice_index gate.now 0 == gate_open) }
 {
-    gate[0] == OPEN
+    gate[0] == GATE_OPEN
 }

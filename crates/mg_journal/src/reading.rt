@@ -3,7 +3,6 @@ ghost use Rattle.std.specs.Prelude.{◌≡◌, ◌≤◌, ◌<◌, ◌+◌, ◌&
 ghost use Rattle.std.specs.Option.{ForSome};
 ghost use Rattle.mg_disk.specs.Disk.{Image, block_at};
 ghost use Rattle.mg_disk.specs.Stops.{DiskCalls, DiskCallsBy, WritesNothing};
-ghost use Rattle.mg_model.specs.Bytes.{number_at};
 ghost use Rattle.mg_model.specs.Layout.{body_limit, globals_block, segment_count, segment_index};
 ghost use Rattle.mg_model.specs.Replay.{body_count, is_open, segment_fits};
 ghost use Rattle.mg_journal.specs.Contents.{bodies_fit};
@@ -15,28 +14,13 @@ use crate::places::{gate_of, index_of, is_opened};
 use crate::table::Table;
 use mg_disk::{BLOCK_SIZE, Block, Disk};
 use mg_faults::Failed;
-
-/// The first block behind the journal.
-const FIRST_HOME: u64 = 1298;
-
-/// How many bodies a segment has at most.
-const MOST_BODIES: u64 = 160;
-
-// The number in the 8 bytes at this place.
-fn number_at(b: &Block, at: usize) -> u64
-    requires { at + 8 ≤ 4096 }
-    ensures { result ≡ number_at b.now at }
-{
-    let mut bytes = [0; 8];
-    bytes.copy_from_slice(&b[at..at + 8]);
-    u64::from_le_bytes(bytes)
-}
+use mg_layout::{BODY_LIMIT, GLOBALS_BLOCK, number_at};
 
 // Whether a body may belong to this block: it lies behind the journal and on the volume.
 fn is_home(block: u64, total: u64) -> bool
     ensures { result ≡ (nat_le globals_block block && nat_lt block total) }
 {
-    block >= FIRST_HOME && block < total
+    block >= GLOBALS_BLOCK && block < total
 }
 
 // Puts the places of the bodies of a segment with this index into the table, in order. False where the index does not fit: it
@@ -50,7 +34,7 @@ fn add_bodies(index: &Block, segment: u64, total: u64, table: &mut Table) -> boo
     ensures few { length table.new ≤ length table.old + body_limit }
 {
     let count = number_at(index, 0);
-    if count > MOST_BODIES {
+    if count > BODY_LIMIT {
         return false;
     }
     let first = index_of(segment) + 1;

@@ -1,15 +1,17 @@
 // Writes that wait for a commit.
 ghost use Rattle.std.specs.Prelude.{◌≡◌, ◌<◌, ◌≤◌, ◌⊎◌, ◌+◌, [], ◌∷◌, ◌++◌, IfOk, IfSome, IsSome, MatchOption, None, Some, find, is_some, length, option_copied, position, slice_set, true};
 ghost use Rattle.std.specs.List.{splice};
-ghost use Rattle.mg_model.specs.Layout.{body_limit};
+ghost use Rattle.mg_model.specs.Bytes.{word_bytes};
+ghost use Rattle.mg_model.specs.Layout.{block_size, body_limit};
 ghost use Rattle.mg_journal.specs.Staged.{are_once, bytes_of, goes_to, home_at, staged, waiting};
 
 use mg_disk::Block;
+use mg_layout::{BODY_LIMIT, put_number};
 use std::alloc::{AllocError, Global};
 use std::marker::Model;
 
 /// How many writes a commit takes at most.
-pub const MOST_WRITES: usize = 160;
+pub const MOST_WRITES: usize = BODY_LIMIT as usize;
 
 /// Up to 160 blocks that wait for a commit, each with what will be written there. No block is there twice.
 #[derive(Drop)]
@@ -19,13 +21,14 @@ pub struct Writes {
 
 impl Model for Writes {
     ghost use Rattle.std.specs.Prelude.{◌≡◌, ◌≤◌, ℕ, List, length, true, vec_capacity};
+    ghost use Rattle.mg_model.specs.Layout.{body_limit};
     ghost use Rattle.mg_journal.specs.Staged.{are_once};
 
     ghost Value = { List (ℕ × List ℕ) };
 
     ghost view = { λ w. w.items.items };
 
-    ghost invariant = { λ w. (160 ≤ vec_capacity w.items) × (length w.items.items ≤ 160) × (are_once w.items.items ≡ true) };
+    ghost invariant = { λ w. (body_limit ≤ vec_capacity w.items) × (length w.items.items ≤ body_limit) × (are_once w.items.items ≡ true) };
 }
 
 impl Writes {
@@ -91,12 +94,12 @@ impl Writes {
         }
     }
 
-    /// Puts 8 bytes at a byte offset, 0 to 4,088, into what waits for this block, and says whether anything does.
-    pub fn put(&mut self, block: u64, at: usize, word: &[u8; 8]) -> bool
-        requires within { at + 8 ≤ 4096 }
+    /// Puts a word at a byte offset, 0 to 4,088, into what waits for this block, and says whether anything does.
+    pub fn put(&mut self, block: u64, at: usize, word: u64) -> bool
+        requires within { at + 8 ≤ block_size }
         ensures waits { result ≡ is_some (waiting self.old block) }
-        ensures put { MatchOption (waiting self.old block) (self.new ≡ self.old) (λ bytes. self.new ≡ staged self.old block (splice bytes at (at + 8) word.now)) }
-        ensures whole { IfSome (waiting self.old block) (λ bytes. length bytes ≡ 4096) }
+        ensures put { MatchOption (waiting self.old block) (self.new ≡ self.old) (λ bytes. self.new ≡ staged self.old block (splice bytes at (at + 8) (word_bytes word))) }
+        ensures whole { IfSome (waiting self.old block) (λ bytes. length bytes ≡ block_size) }
     {
         match self.place_of(block) {
             Some(place) => {
@@ -107,14 +110,14 @@ impl Writes {
         }
     }
 
-    // Puts 8 bytes at an offset into the k-th write.
-    fn put_into(&mut self, k: usize, at: usize, word: &[u8; 8])
+    // Puts a word at an offset into the k-th write.
+    fn put_into(&mut self, k: usize, at: usize, word: u64)
         requires there { k < length self.old }
-        requires within { at + 8 ≤ 4096 }
-        ensures put { self.new ≡ slice_set self.old k (home_at self.old k, splice (bytes_of self.old k) at (at + 8) word.now) }
-        ensures whole { length (bytes_of self.old k) ≡ 4096 }
+        requires within { at + 8 ≤ block_size }
+        ensures put { self.new ≡ slice_set self.old k (home_at self.old k, splice (bytes_of self.old k) at (at + 8) (word_bytes word)) }
+        ensures whole { length (bytes_of self.old k) ≡ block_size }
     {
-        put_bytes(&mut self.items[k].1, at, word);
+        put_number(&mut self.items[k].1, at, word);
     }
 
     // Stages a write behind the others.
@@ -135,14 +138,4 @@ impl Writes {
     {
         self.items.clear();
     }
-}
-
-// Puts 8 bytes at an offset into a block.
-#[tactic(auto, using(crate::proofs::Spliced::spliced))]
-fn put_bytes(block: &mut Block, at: usize, bytes: &[u8; 8])
-    requires { at + 8 ≤ 4096 }
-    ensures put { block.new ≡ splice block.old at (at + 8) bytes.now }
-    ensures whole { length block.old ≡ 4096 }
-{
-    block[at..at + 8].copy_from_slice(bytes);
 }

@@ -7,6 +7,7 @@ ghost use Rattle.mg_laws.specs.Scripts.{at_cursor};
 ghost use Rattle.mg_model.specs.Domains.{with_thread};
 ghost use Rattle.mg_model.specs.FewSlots.{HasFewSlots};
 ghost use Rattle.mg_model.specs.Kept.{KeepsLine, line_limit};
+ghost use Rattle.mg_model.specs.Layout.{body_limit};
 ghost use Rattle.mg_model.specs.Refused.{IsRefusal};
 ghost use Rattle.mg_model.specs.Step.{of_thread, step};
 ghost use Rattle.mg_model.specs.Turn.{after_of, as_after, is_ready, thread_is_ready, turn_state};
@@ -157,7 +158,7 @@ fn run<D: Disk, L: Ledger>(
 // where it ended itself.
 fn go_on(v: &mut Volume, t: u64, action: &Action, reply: &Reply) -> After
     requires place { HasPlace action.now }
-    requires room { staged_of v.old < 160 }
+    requires room { staged_of v.old < body_limit }
     ensures now { (image : List (List ℕ)) → now_of v.new image ≡ with_thread (now_of v.old image) t (λ row. resumed action.now reply.now row) }
     ensures left { (image : List (List ℕ)) → result ≡ after_of (now_of v.new image) t }
     ensures stages { Stages 1 v.old v.new }
@@ -186,7 +187,7 @@ fn after(state: ThrState) -> After
 // The cursor becomes the number of the thread that had the turn, at most 256.
 fn move_cursor(v: &mut Volume, t: u64)
     requires few { t ≤ 256 }
-    requires room { staged_of v.old < 160 }
+    requires room { staged_of v.old < body_limit }
     ensures now { (image : List (List ℕ)) → now_of v.new image ≡ at_cursor (now_of v.old image) t }
     ensures stages { Stages 1 v.old v.new }
 {

@@ -3,3 +3,4 @@ pub mod ChangedImages
 pub mod FormatSteps
 pub mod FreshBlocks
 pub mod FreshVolume
+mod Spliced

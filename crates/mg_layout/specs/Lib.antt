@@ -4,3 +4,5 @@ pub mod FreshImage
 pub mod FreshBelow
 pub mod MayFormat
 pub mod Laws
+-- A lemma that crates above cite. It is part of no statement.
+pub mod Words

@@ -1,18 +1,18 @@
-// A block that is filled from its first byte on.
-ghost use Rattle.std.specs.Prelude.{◌≡◌, ◌≤◌, ◌<◌, ◌+◌, ◌*◌, [], ◌∷◌, ◌++◌, length};
+// Bytes that are filled from the first on.
+ghost use Rattle.std.specs.Prelude.{◌≡◌, ◌≤◌, ◌<◌, ◌+◌, ◌*◌, [], ◌∷◌, ◌++◌, length, replicate, All};
 ghost use Rattle.mg_model.specs.Bytes.{padded_to, words_bytes};
+ghost use Rattle.mg_model.specs.Ranges.{IsWord};
 
-use mg_disk::{BLOCK_SIZE, Block};
 use std::marker::Model;
 
-/// The bytes of a block so far. Behind them it has zeros.
+/// The first bytes of `N`. Behind them there are zeros.
 #[derive(Drop)]
-pub(crate) struct Filling {
-    bytes: Block,
+pub struct Filling<const N: usize> {
+    bytes: [u8; N],
     count: usize,
 }
 
-impl Model for Filling {
+impl<const N: usize> Model for Filling<N> {
     ghost use Rattle.std.specs.Prelude.{ℕ, List, take};
     ghost use Rattle.mg_model.specs.Filled.{IsFilled};
 
@@ -20,23 +20,23 @@ impl Model for Filling {
 
     ghost view = { λ filling. take filling.count filling.bytes };
 
-    ghost invariant = { λ filling. IsFilled 0 4096 filling.bytes filling.count };
+    ghost invariant = { λ filling. IsFilled 0 N filling.bytes filling.count };
 }
 
-impl Filling {
+impl<const N: usize> Filling<N> {
     /// No bytes yet.
-    pub(crate) fn new() -> Filling
+    pub fn new() -> Filling<N>
         ensures { result ≡ [] }
     {
         Filling {
-            bytes: [0; BLOCK_SIZE],
+            bytes: [0; N],
             count: 0,
         }
     }
 
     /// One byte more.
-    fn add_byte(&mut self, byte: u8)
-        requires { length self.old < 4096 }
+    pub fn add_byte(&mut self, byte: u8)
+        requires { length self.old < N }
         ensures { self.new ≡ self.old ++ byte ∷ [] }
     {
         self.bytes[self.count] = byte;
@@ -44,8 +44,8 @@ impl Filling {
     }
 
     /// These bytes too.
-    pub(crate) fn add(&mut self, bytes: &[u8])
-        requires { length self.old + length bytes.now ≤ 4096 }
+    pub fn add(&mut self, bytes: &[u8])
+        requires { length self.old + length bytes.now ≤ N }
         ensures value { self.new ≡ self.old ++ bytes.now }
         ensures long { length self.new ≡ length self.old + length bytes.now }
     {
@@ -54,20 +54,39 @@ impl Filling {
         }
     }
 
+    /// This word too, in 8 bytes.
+    pub fn add_word(&mut self, word: u64)
+        requires { length self.old + 8 ≤ N }
+        ensures value { self.new ≡ self.old ++ words_bytes (word ∷ []) }
+        ensures long { length self.new ≡ length self.old + 8 }
+    {
+        self.add(&word.to_le_bytes());
+    }
+
     /// These words too, 8 bytes each.
-    pub(crate) fn add_words(&mut self, words: &[u64])
-        requires { length self.old + 8 * length words.now ≤ 4096 }
+    pub fn add_words(&mut self, words: &[u64])
+        requires { length self.old + 8 * length words.now ≤ N }
         ensures value { self.new ≡ self.old ++ words_bytes words.now }
+        ensures fit { All IsWord words.now }
         ensures long { length self.new ≡ length self.old + 8 * length words.now }
     {
         for word in words {
-            self.add(&word.to_le_bytes());
+            self.add_word(*word);
         }
     }
 
-    /// The block.
-    pub(crate) fn whole(self) -> Block
-        ensures { result ≡ padded_to 4096 self }
+    /// So many zeros too.
+    pub fn skip(&mut self, n: usize)
+        requires { length self.old + n ≤ N }
+        ensures value { self.new ≡ self.old ++ replicate n 0 }
+        ensures long { length self.new ≡ length self.old + n }
+    {
+        self.count += n;
+    }
+
+    /// All the bytes.
+    pub fn whole(self) -> [u8; N]
+        ensures { result ≡ padded_to N self.entry }
     {
         self.bytes
     }

@@ -1,7 +1,7 @@
 // How a volume is made, so that a stop at any moment leaves what the blocks behind the gate spelled, no volume, or the fresh one.
-ghost use Rattle.std.specs.Prelude.{◌≡◌, ◌≤◌, ◌<◌, OnErr, OnOk, option_map, slice_set};
+ghost use Rattle.std.specs.Prelude.{◌≡◌, ◌≤◌, OnOk};
 ghost use Rattle.std.specs.Option.{ForSome};
-ghost use Rattle.mg_disk.specs.Disk.{Image, SameBut, only_place};
+ghost use Rattle.mg_disk.specs.Disk.{Image};
 ghost use Rattle.mg_disk.specs.Stops.{DiskCalls, DiskCallsBy, Leaves, NothingPending};
 ghost use Rattle.mg_model.specs.Fresh.{fresh};
 ghost use Rattle.mg_model.specs.Layout.{total_blocks};
@@ -12,7 +12,7 @@ use crate::behind::write_behind;
 use crate::fresh::fresh_block;
 use crate::geometry::{GATE_BLOCK, Geometry};
 use crate::superblock::settings_keep_rules;
-use mg_disk::{BLOCK_SIZE, Block, Disk};
+use mg_disk::{BLOCK_SIZE, Disk, write_firmly};
 use mg_faults::Failed;
 use mg_model::Params;
 use thiserror::Error;
@@ -67,16 +67,4 @@ fn make<D: Disk>(disk: &mut D, p: &Params) -> Result<(), Failed>
     write_behind(disk, p)?;
     fresh_block(p, GATE_BLOCK, &mut gate);
     write_firmly(disk, GATE_BLOCK, &gate)
-}
-
-/// Writes a block and makes sure of it.
-pub fn write_firmly<D: Disk>(disk: &mut D, i: u64, from: &Block) -> Result<(), Failed>
-    requires room { i < D.block_count disk.old }
-    ensures any_moment { NothingPending D.Disk disk.old → ForSome (D.seen disk.old) (λ image. Leaves D.Disk disk.old disk.new (SameBut (only_place i) image)) }
-    ensures written { OnOk result (D.seen disk.new ≡ option_map (λ image. slice_set image i from.now) (D.seen disk.old)) }
-    ensures settled { OnOk result (NothingPending D.Disk disk.new) }
-    ensures calls { DiskCalls D.Disk disk.old disk.new result }
-{
-    disk.write(i, from)?;
-    disk.sync()
 }

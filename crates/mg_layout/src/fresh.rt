@@ -2,21 +2,21 @@
 ghost use Rattle.std.specs.Prelude.{◌≡◌, ◌<◌, [], ◌∷◌};
 ghost use Rattle.mg_model.specs.Bytes.{padded_to, words_bytes};
 ghost use Rattle.mg_model.specs.Fresh.{fresh};
-ghost use Rattle.mg_model.specs.Layout.{total_blocks};
+ghost use Rattle.mg_model.specs.Layout.{block_size, total_blocks};
 ghost use Rattle.mg_layout.specs.FreshImage.{accounts_bytes, frame_bytes, fresh_bytes, gate_bytes, objects_bytes, table_bytes, threads_bytes};
 
 use crate::filling::Filling;
 use crate::geometry::{
-    FIRST_ACCOUNT_BLOCK, FIRST_OBJECT_BLOCK, FIRST_THREAD_BLOCK, GATE_BLOCK, GATE_OPEN,
-    GLOBALS_BLOCK, Geometry, SUPER_BLOCK, TABLE_BLOCK,
+    FIRST_ACCOUNT_BLOCK, FIRST_OBJECT_BLOCK, FIRST_THREAD_BLOCK, GATE_BLOCK, GLOBALS_BLOCK,
+    Geometry, SUPER_BLOCK, TABLE_BLOCK,
 };
 use crate::superblock::write_super;
-use mg_disk::{BLOCK_SIZE, Block};
+use mg_disk::{BLOCK_SIZE, Block, GATE_OPEN};
 use mg_model::limits::{ALL_RIGHTS, NEVER};
 use mg_model::{Params, draw};
 
 /// Where the root object lies.
-const ROOT_BASE: u64 = 0x0000_0001_0000_0000;
+pub const ROOT_BASE: u64 = 0x0000_0001_0000_0000;
 
 /// The page of that address.
 const ROOT_PAGE: u64 = 0x0010_0000;
@@ -59,7 +59,7 @@ fn gate() -> Block
 
 // Two passwords were drawn, and one thread was born.
 fn globals() -> Block
-    ensures { result ≡ padded_to 4096 (words_bytes (2 ∷ 0 ∷ 0 ∷ 1 ∷ [])) }
+    ensures { result ≡ padded_to block_size (words_bytes (2 ∷ 0 ∷ 0 ∷ 1 ∷ [])) }
 {
     let mut filling = Filling::new();
     filling.add_words(&[2, 0, 0, 1]);
@@ -103,7 +103,7 @@ fn root_row(p: &Params) -> Block
 
 // Frame 0 has the page of the root object.
 fn table() -> Block
-    ensures { result ≡ padded_to 4096 (words_bytes (0x100000 ∷ [])) }
+    ensures { result ≡ padded_to block_size (words_bytes (0x100000 ∷ [])) }
 {
     let mut filling = Filling::new();
     filling.add_words(&[ROOT_PAGE]);

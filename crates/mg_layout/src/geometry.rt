@@ -2,23 +2,28 @@
 ghost use Rattle.std.specs.Prelude.{◌≡◌, ◌≤◌};
 ghost use Rattle.mg_model.specs.Layout.{first_frame, table_blocks, total_blocks};
 
+use mg_disk::BLOCK_SIZE;
+
 /// The block of the volume's gate.
 pub const GATE_BLOCK: u64 = 0;
-
-/// What byte 0 of a gate holds where it is open.
-pub const GATE_OPEN: u8 = 0xA5;
 
 /// The superblock.
 pub const SUPER_BLOCK: u64 = 1;
 
-/// The blocks of a journal segment, of which the first is its gate.
-pub(crate) const SEGMENT_SIZE: u64 = 162;
+/// How many segments the journal has.
+pub const SEGMENT_COUNT: u64 = 8;
+
+/// How many bodies a segment has room for.
+pub const BODY_LIMIT: u64 = 160;
+
+/// The blocks of a segment: its gate, its index and the bodies.
+pub const SEGMENT_SIZE: u64 = 2 + BODY_LIMIT;
 
 /// The gate of the first segment.
-pub(crate) const FIRST_SEGMENT: u64 = 2;
+pub const FIRST_SEGMENT: u64 = 2;
 
 /// The block of the period and the other counters, the first one behind the journal.
-pub const GLOBALS_BLOCK: u64 = 1298;
+pub const GLOBALS_BLOCK: u64 = FIRST_SEGMENT + SEGMENT_COUNT * SEGMENT_SIZE;
 
 /// The first block of the table of accounts.
 pub const FIRST_ACCOUNT_BLOCK: u64 = 1299;
@@ -32,8 +37,8 @@ pub const FIRST_OBJECT_BLOCK: u64 = 1571;
 /// The first block of the frame table.
 pub const TABLE_BLOCK: u64 = 2595;
 
-/// How many entries of the frame table a block has.
-const ENTRIES: u64 = 512;
+/// How many words a block has. The frame table has an entry in each.
+pub const BLOCK_WORDS: u64 = BLOCK_SIZE as u64 / 8;
 
 /// What lies at different places on volumes of different sizes, in blocks.
 #[derive(Clone, Copy, Debug, PartialEq, Eq)]
@@ -55,7 +60,7 @@ impl Geometry {
         ensures table { result.table ≡ table_blocks frames }
         ensures first { result.first_frame ≡ first_frame frames }
     {
-        let table = (frames + ENTRIES - 1) / ENTRIES;
+        let table = (frames + BLOCK_WORDS - 1) / BLOCK_WORDS;
         let first_frame = TABLE_BLOCK + table;
         Geometry {
             total: first_frame + frames,

@@ -4,12 +4,16 @@
 //! volume with [`format`]. At each moment of `format` a stop leaves what the blocks behind the gate spelled before, no
 //! volume, or the fresh one.
 //!
+//! All bytes of a volume are read and written with what stands here: [`number_at`], [`put_number`], [`are_zeros`], and
+//! [`Filling`], bytes that are filled from the first on.
+//!
 //! What an image spells is defined in `mg_model`: `Layout` (where everything lies), `Spelling` (rows as bytes), `Replay`
 //! and `Volume`. Here `specs/FreshImage.antt` has the blocks of a fresh volume, and `specs/MayFormat.antt` what a stop may
 //! leave while one is made.
 #![tactic(auto)]
 
 mod behind;
+mod bytes;
 mod filling;
 mod formatting;
 mod fresh;
@@ -17,11 +21,15 @@ mod geometry;
 mod laws;
 mod superblock;
 
-pub use formatting::{FormatFault, format, write_firmly};
-pub use fresh::fresh_block;
+pub use bytes::{are_zeros, number_at, put_number};
+pub use filling::Filling;
+pub use formatting::{FormatFault, format};
+pub use fresh::{ROOT_BASE, fresh_block};
 pub use geometry::{
-    FIRST_ACCOUNT_BLOCK, FIRST_OBJECT_BLOCK, FIRST_THREAD_BLOCK, GATE_BLOCK, GATE_OPEN,
-    GLOBALS_BLOCK, Geometry, SUPER_BLOCK, TABLE_BLOCK,
+    BLOCK_WORDS, BODY_LIMIT, FIRST_ACCOUNT_BLOCK, FIRST_OBJECT_BLOCK, FIRST_SEGMENT,
+    FIRST_THREAD_BLOCK, GATE_BLOCK, GLOBALS_BLOCK, Geometry, SEGMENT_COUNT, SEGMENT_SIZE,
+    SUPER_BLOCK, TABLE_BLOCK,
 };
 pub use laws::images_are_read;
-pub use superblock::{Super, read_super, write_super};
+pub use mg_disk::GATE_OPEN;
+pub use superblock::{MAGIC, Super, read_super, write_super};

@@ -1,18 +1,19 @@
 // The superblock: what a volume was made with.
-ghost use Rattle.std.specs.Prelude.{◌≡◌, ◌≤◌, ◌+◌, if◌then◌else◌};
-ghost use Rattle.mg_model.specs.Bytes.{bytes_at, number_at};
+ghost use Rattle.std.specs.Prelude.{◌≡◌, if◌then◌else◌};
+ghost use Rattle.mg_model.specs.Bytes.{bytes_at};
 ghost use Rattle.mg_model.specs.Spelling.{are_settings, steps_at, super_bytes, super_fields, super_read, Spells};
 ghost use Rattle.mg_model.specs.Tariff.{is_tariff};
 ghost use Rattle.mg_model.specs.Words.{same_bytes};
 ghost use Rattle.mg_model.specs.WellFormed.{IsSettings};
 ghost use Rattle.mg_layout.specs.SuperBlock.{IsSuper};
 
+use crate::bytes::number_at;
 use crate::filling::Filling;
 use mg_disk::{BLOCK_SIZE, Block};
 use mg_model::{Params, Tariff};
 
 /// The eight bytes that a superblock begins with.
-const MAGIC: [u8; 8] = *b"MUNGIVOL";
+pub const MAGIC: [u8; 8] = *b"MUNGIVOL";
 
 /// The version of the layout that is written here.
 const VERSION: u64 = 2;
@@ -54,7 +55,7 @@ pub fn read_super(b: &Block) -> Super
     if MAGIC[..] != b[..8] {
         return Super::Not;
     }
-    if word_at(b, 8) < VERSION {
+    if number_at(b, 8) < VERSION {
         return Super::Old;
     }
     match fields(b) {
@@ -83,7 +84,7 @@ fn fields(b: &Block) -> Option<Params>
     ensures { result ≡ (if are_settings (super_fields b.now) then Some (super_fields b.now) else None) }
 {
     match tariff_in(b) {
-        Some(tariff) => Params::new(word_at(b, 16), seed_in(b), word_at(b, 24), tariff),
+        Some(tariff) => Params::new(number_at(b, 16), seed_in(b), number_at(b, 24), tariff),
         None => None,
     }
 }
@@ -92,10 +93,10 @@ fn tariff_in(b: &Block) -> Option<Tariff>
     ensures { result ≡ (if is_tariff (steps_at b.now 64 4) then Some (steps_at b.now 64 4) else None) }
 {
     Tariff::new([
-        (word_at(b, 64), word_at(b, 72)),
-        (word_at(b, 80), word_at(b, 88)),
-        (word_at(b, 96), word_at(b, 104)),
-        (word_at(b, 112), word_at(b, 120)),
+        (number_at(b, 64), number_at(b, 72)),
+        (number_at(b, 80), number_at(b, 88)),
+        (number_at(b, 96), number_at(b, 104)),
+        (number_at(b, 112), number_at(b, 120)),
     ])
 }
 
@@ -105,16 +106,6 @@ fn seed_in(b: &Block) -> [u8; 32]
     let mut seed = [0; 32];
     seed.copy_from_slice(&b[32..64]);
     seed
-}
-
-// The number in the 8 bytes at this place.
-fn word_at(b: &Block, at: usize) -> u64
-    requires { at + 8 ≤ 4096 }
-    ensures { result ≡ number_at b.now at }
-{
-    let mut bytes = [0; 8];
-    bytes.copy_from_slice(&b[at..at + 8]);
-    u64::from_le_bytes(bytes)
 }
 
 /// What the settings of every volume keep. It does nothing.

@@ -10,9 +10,9 @@ ghost use Rattle.mg_model.specs.Layout.{gate_block};
 ghost use Rattle.mg_model.specs.Volume.{NotVolume, gate_byte, volume};
 
 use mg_check::Contents;
-use mg_disk::{BLOCK_SIZE, Block, COPY_BLOCKS, Disk};
+use mg_disk::{BLOCK_SIZE, Block, COPY_BLOCKS, Disk, write_firmly};
 use mg_faults::Failed;
-use mg_layout::{GATE_BLOCK, GATE_OPEN, write_firmly};
+use mg_layout::{GATE_BLOCK, GATE_OPEN};
 
 /// Which disk failed while contents were copied.
 #[derive(Debug, Drop)]

@@ -5,13 +5,9 @@ ghost use Rattle.mg_migrate.specs.Layout1.{total1_blocks};
 
 use crate::superblock::write_super1;
 use mg_disk::Block;
-use mg_layout::{FIRST_OBJECT_BLOCK, SUPER_BLOCK, TABLE_BLOCK, fresh_block};
+use mg_layout::{FIRST_OBJECT_BLOCK, Filling, ROOT_BASE, SUPER_BLOCK, TABLE_BLOCK, fresh_block};
 use mg_model::limits::ALL_RIGHTS;
 use mg_model::{Params, draw};
-use mg_rows::Filling;
-
-/// Where the root object lies.
-const ROOT_BASE: u64 = 0x0000_0001_0000_0000;
 
 /// The first block of the frame table in version 1.
 pub(crate) const TABLE1_BLOCK: u64 = 2083;

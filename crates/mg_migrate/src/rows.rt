@@ -9,9 +9,10 @@ ghost use Rattle.mg_model.specs.Spelling.{object_bytes};
 ghost use Rattle.mg_rows.specs.Answers.{as_read, row_in};
 
 use mg_disk::Block;
+use mg_layout::{Filling, are_zeros, number_at};
 use mg_model::ObjRow;
 use mg_model::limits::NEVER;
-use mg_rows::{Filling, Spelled, are_zeros, number_at, read_object, write_object};
+use mg_rows::{Spelled, read_object, write_object};
 
 /// The bytes of an object's row of this version.
 const ROW: usize = 1024;

@@ -7,12 +7,8 @@ ghost use Rattle.mg_model.specs.Spelling.{are_settings, super_bytes, super_field
 ghost use Rattle.mg_model.specs.Words.{same_bytes};
 
 use mg_disk::Block;
-use mg_layout::{Super, read_super, write_super};
+use mg_layout::{MAGIC, Super, number_at, read_super, write_super};
 use mg_model::Params;
-use mg_rows::number_at;
-
-/// The eight bytes that a superblock begins with.
-const MAGIC: [u8; 8] = *b"MUNGIVOL";
 
 /// Where its version stands.
 const VERSION_AT: usize = 8;

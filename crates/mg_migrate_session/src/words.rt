@@ -1,7 +1,6 @@
 // The words of the command line.
 ghost use Rattle.std.specs.Prelude.{◌≡◌};
 ghost use Rattle.mg_migrate_session.specs.Commands.{is_migrate, migrate_words};
-ghost use Rattle.mg_model.specs.Words.{same_bytes};
 ghost use Rattle.mg_session.specs.Commands.{words_of};
 
 /// Whether the words, which are those behind the program's name, are `VOLUME migrate OLD`, and VOLUME and OLD differ.
@@ -17,12 +16,5 @@ pub fn is_migrate(words: &[String]) -> bool
 fn migrates(new: &[u8], word: &[u8], old: &[u8]) -> bool
     ensures { result ≡ migrate_words new.now word.now old.now }
 {
-    is_word(word, b"migrate") && !is_word(new, old)
-}
-
-/// Whether a word is this one.
-fn is_word(word: &[u8], known: &[u8]) -> bool
-    ensures { result ≡ same_bytes word.now known.now }
-{
-    word == known
+    word == b"migrate".as_slice() && new != old
 }

@@ -1,7 +1,6 @@
 // The words of the command line.
 ghost use Rattle.std.specs.Prelude.{◌≡◌};
 ghost use Rattle.mg_mirror_session.specs.Commands.{mirror_of, mirror_words, side_named};
-ghost use Rattle.mg_model.specs.Words.{same_bytes};
 ghost use Rattle.mg_session.specs.Commands.{words_of};
 
 use mg_mirror::Side;
@@ -25,7 +24,7 @@ pub fn read_words(words: &[String]) -> Option<Side>
 fn mirror(left: &[u8], word: &[u8], right: &[u8], side: &[u8]) -> Option<Side>
     ensures { result ≡ mirror_words left.now word.now right.now side.now }
 {
-    if is_word(word, b"mirror") && !is_word(left, right) {
+    if word == b"mirror".as_slice() && left != right {
         side_named(side)
     } else {
         None
@@ -35,18 +34,11 @@ fn mirror(left: &[u8], word: &[u8], right: &[u8], side: &[u8]) -> Option<Side>
 fn side_named(word: &[u8]) -> Option<Side>
     ensures { result ≡ side_named word.now }
 {
-    if is_word(word, b"left") {
+    if word == b"left".as_slice() {
         Some(Side::Left)
-    } else if is_word(word, b"right") {
+    } else if word == b"right".as_slice() {
         Some(Side::Right)
     } else {
         None
     }
-}
-
-/// Whether a word is this one.
-fn is_word(word: &[u8], known: &[u8]) -> bool
-    ensures { result ≡ same_bytes word.now known.now }
-{
-    word == known
 }

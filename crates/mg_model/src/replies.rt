@@ -1,4 +1,7 @@
 // What the machine answers.
+ghost use Rattle.std.specs.Prelude.{◌≡◌, ◌<◌};
+ghost use Rattle.mg_model.specs.Turn.{refusal_number};
+
 use crate::threads::Fault;
 
 /// Why a call is refused. A refused call changes nothing.
@@ -26,6 +29,39 @@ pub enum Refusal {
     Credit,
     Calendar,
     Past,
+}
+
+impl Refusal {
+    /// Its number as a script sees it, from 1 on.
+    pub fn number(self) -> u64
+        ensures value { result ≡ refusal_number self }
+        ensures few { result < 23 }
+    {
+        match self {
+            Refusal::Syntax => 1,
+            Refusal::NoThread => 2,
+            Refusal::Align => 3,
+            Refusal::Denied => 4,
+            Refusal::Size => 5,
+            Refusal::Account => 6,
+            Refusal::Debt => 7,
+            Refusal::Limit => 8,
+            Refusal::Full => 9,
+            Refusal::NoPassword => 10,
+            Refusal::Range => 11,
+            Refusal::SlotFull => 12,
+            Refusal::NoSlot => 13,
+            Refusal::NoEntry => 14,
+            Refusal::Depth => 15,
+            Refusal::NoFrame => 16,
+            Refusal::NotYours => 17,
+            Refusal::NotReady => 18,
+            Refusal::Idle => 19,
+            Refusal::Credit => 20,
+            Refusal::Calendar => 21,
+            Refusal::Past => 22,
+        }
+    }
 }
 
 /// What a thread is after its turn.

@@ -3,17 +3,19 @@ ghost use Rattle.std.specs.Prelude.{◌≡◌, ◌≤◌, ◌<◌, ◌==◌, [],
 ghost use Rattle.std.specs.List.{AllWithin, HoldsAt, list_any};
 ghost use Rattle.std.specs.Option.{option_copied, option_map};
 ghost use Rattle.mg_model.specs.Access.{covers};
+ghost use Rattle.mg_model.specs.Limits.{object_limit};
 ghost use Rattle.mg_model.specs.Ranges.{IsObjectRow};
 ghost use Rattle.mg_objects.specs.Held.{AreApart, IsLowestFree, MeetsNone, into_place, objects_in, with_row};
 
 use crate::table::{are_apart, bases_of, put_row, row_of};
 use mg_index::Index;
 use mg_model::ObjRow;
+use mg_model::limits::OBJECT_LIMIT;
 use std::alloc::{AllocError, Global};
 use std::marker::Model;
 
 /// How many objects a volume has room for.
-pub const MOST_OBJECTS: u64 = 4096;
+pub const MOST_OBJECTS: u64 = OBJECT_LIMIT as u64;
 
 /// The objects of a volume, no two of which share a page.
 #[derive(Drop)]
@@ -50,8 +52,8 @@ impl Objects {
     /// The objects of a table of at most 4,096 places, which has room for 4,096 and is kept as it is. There are none where
     /// two of its rows share a page. All memory that they will need beside it is taken here.
     pub fn of(alloc: Global, table: Vec<Option<ObjRow>>) -> Result<Option<Objects>, AllocError>
-        requires few { length table.items ≤ 4096 }
-        requires room { 4096 ≤ vec_capacity table }
+        requires few { length table.items ≤ object_limit }
+        requires room { object_limit ≤ vec_capacity table }
         ensures { IfOk result (λ made. MatchOption made (AreApart (objects_in table.items) → ⊥) (λ objects. objects ≡ objects_in table.items)) }
     {
         let numbers = bases_of(alloc, &table)?;
@@ -70,9 +72,9 @@ impl Objects {
     /// How many objects there are, 4,096 at most. No two share a page, and each has a place of its own.
     pub fn len(&self) -> usize
         ensures count { result ≡ length self.now }
-        ensures few { result ≤ 4096 }
+        ensures few { result ≤ object_limit }
         ensures apart { AreApart self.now }
-        ensures places { All (λ o. o.0 < 4096) self.now }
+        ensures places { All (λ o. o.0 < object_limit) self.now }
         ensures rows { All (λ o. IsObjectRow o.1) self.now }
     {
         self.bases.pairs().len()
@@ -134,7 +136,7 @@ impl Objects {
 
     /// One object more, in the lowest place that is free, and gives that place. It shares no page with another.
     pub fn insert(&mut self, row: ObjRow) -> u64
-        requires few { length self.old < 4096 }
+        requires few { length self.old < object_limit }
         requires apart { MeetsNone row self.old }
         ensures objects { self.new ≡ into_place (result, row) self.old }
         ensures place { IsLowestFree result self.old }

@@ -2,19 +2,18 @@
 ghost use Rattle.std.specs.Prelude.{◌≡◌, ◌<◌, ◌≤◌, ◌-◌, ◌++◌, [], All, IfOk, Some, false, length, map, replicate, slice_set, true, vec_capacity};
 ghost use Rattle.std.specs.List.{HoldsAt};
 ghost use Rattle.std.specs.Option.{ForSome};
+ghost use Rattle.mg_model.specs.Limits.{object_limit};
 ghost use Rattle.mg_model.specs.Ranges.{IsObjectRow};
 ghost use Rattle.mg_objects.specs.Held.{AreApart, base_of, key_of, objects_in, whole};
 
 use crate::objects::MOST_OBJECTS;
 use mg_model::ObjRow;
+use mg_model::limits::PAGE_SIZE;
 use std::alloc::{AllocError, Global};
-
-/// The bytes of a page.
-const PAGE: u64 = 4096;
 
 /// The base of the row in each of 4,096 places, 0 where there is none.
 pub(crate) fn bases_of(alloc: Global, table: &[Option<ObjRow>]) -> Result<Vec<u64>, AllocError>
-    requires { length table.now ≤ 4096 }
+    requires { length table.now ≤ object_limit }
     ensures bases { IfOk result (λ bases. bases.items ≡ map base_of (whole table.now)) }
     ensures ranges { IfOk result (λ _. All (λ row. ForSome row IsObjectRow) table.now) }
 {
@@ -50,12 +49,12 @@ fn pad(numbers: &mut Vec<u64>, places: u64) -> Result<(), AllocError>
 /// Puts a row into a place of the table, or behind its last place.
 pub(crate) fn put_row(table: &mut Vec<Option<ObjRow>>, place: u64, row: ObjRow)
     requires within { place ≤ length table.old.items }
-    requires place { place < 4096 }
-    requires few { length table.old.items ≤ 4096 }
-    requires room { 4096 ≤ vec_capacity table.old }
+    requires place { place < object_limit }
+    requires few { length table.old.items ≤ object_limit }
+    requires room { object_limit ≤ vec_capacity table.old }
     ensures put { whole table.new.items ≡ slice_set (whole table.old.items) place (Some row) }
-    ensures few { length table.new.items ≤ 4096 }
-    ensures room { 4096 ≤ vec_capacity table.new }
+    ensures few { length table.new.items ≤ object_limit }
+    ensures room { object_limit ≤ vec_capacity table.new }
 {
     if place < table.len() as u64 {
         table[place as usize] = Some(row);
@@ -80,7 +79,7 @@ fn base_of(row: &Option<ObjRow>) -> u64
 
 /// The row of this rank in the order of the bases, 0 for the first, where the pairs are those of all bases and places.
 pub(crate) fn row_of<'a>(table: &'a [Option<ObjRow>], pairs: &[(u64, u64)], i: usize) -> &'a ObjRow
-    requires few { length table.now ≤ 4096 }
+    requires few { length table.now ≤ object_limit }
     requires listed { map key_of (objects_in table.now) ≡ pairs.now }
     requires rank { i < length (objects_in table.now) }
     ensures { HoldsAt (λ o. result.now ≡ o.1) (objects_in table.now) i }
@@ -94,7 +93,7 @@ pub(crate) fn row_of<'a>(table: &'a [Option<ObjRow>], pairs: &[(u64, u64)], i: u
 
 /// Whether no two of the objects share a page, where the pairs are those of all bases and places.
 pub(crate) fn are_apart(table: &[Option<ObjRow>], pairs: &[(u64, u64)]) -> bool
-    requires few { length table.now ≤ 4096 }
+    requires few { length table.now ≤ object_limit }
     requires listed { map key_of (objects_in table.now) ≡ pairs.now }
     ensures apart { result ≡ true → AreApart (objects_in table.now) }
     ensures meet { result ≡ false → AreApart (objects_in table.now) → ⊥ }
@@ -102,7 +101,7 @@ pub(crate) fn are_apart(table: &[Option<ObjRow>], pairs: &[(u64, u64)]) -> bool
     for i in 1..pairs.len() {
         let last = row_of(table, pairs, i - 1);
         let next = row_of(table, pairs, i);
-        if next.base() / PAGE < last.base() / PAGE + last.pages() {
+        if next.base() / PAGE_SIZE < last.base() / PAGE_SIZE + last.pages() {
             return false;
         }
     }

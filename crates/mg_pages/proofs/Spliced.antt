@@ -1,36 +1,36 @@
 -- A word that is put in place of 8 bytes of a block.
 use Rattle.std.specs.Prelude.{◌≡◌, ◌≢◌, ◌+◌, ◌-◌, ◌*◌, ◌<◌, ◌^◌, ℕ, List, ◌++◌, drop, length, slice_set, take}
-use Rattle.std.specs.Int.{from_le_bytes, to_le_bytes, w64}
+use Rattle.std.specs.Int.{from_le_bytes, w64}
 use Rattle.std.specs.List.{splice}
-use Rattle.std.proofs.Common.{inl, inr, sym, ap, ◌∙◌, ⊎_elim, arith}
+use Rattle.std.proofs.Common.{refl, inl, inr, sym, ap, ◌∙◌, ⊎_elim, arith}
 use Rattle.std.proofs.lemmas.Bool.{cases_lt}
 use Rattle.std.proofs.lemmas.Nat.{from_le_bytes-to_le_bytes_8}
 use Rattle.std.proofs.lemmas.Slice.{between-put_mid}
-use Rattle.mg_journal.specs.Words.{beside}
-use Rattle.mg_model.specs.Bytes.{block_words, number_at}
+use Rattle.mg_layout.specs.Words.{beside}
+use Rattle.mg_model.specs.Bytes.{block_words, number_at, word_bytes}
 use Rattle.mg_pages.proofs.Numbers.{block-set}
 use borrow.Rule.Slice.PartMut.{Post-is, put_mid}
 
 put-splice : (old bytes : List ℕ) (at : ℕ) → splice old at (at + 8) bytes ≡ put_mid at (at + 8 - at) old bytes
 put-splice old bytes at = ap (λ rest. take at old ++ (bytes ++ rest)) (sym (Post-is at (at + 8) old (omega arith)))
 
-module _ (old bytes : List ℕ) (index value : ℕ) (whole : length old ≡ 4096) (below : index < 512) (low : value < 2 ^ 64) (is : bytes ≡ to_le_bytes w64 value) where
-  long : length bytes ≡ 8
-  long = ap (λ (b : List ℕ). length b) is
+module _ (old : List ℕ) (index value : ℕ) (whole : length old ≡ 4096) (below : index < 512) (low : value < 2 ^ 64) where
+  long : length (word_bytes value) ≡ 8
+  long = refl
 
-  here : number_at (splice old (8 * index) (8 * index + 8) bytes) (8 * index) ≡ value
+  here : number_at (splice old (8 * index) (8 * index + 8) (word_bytes value)) (8 * index) ≡ value
   here =
       let eight : 8 * index + 8 - 8 * index ≡ 8 = omega arith in
-      ap (λ b. number_at b (8 * index)) (put-splice old bytes (8 * index))
-      ∙ ap (λ n. from_le_bytes w64 (take n (drop (8 * index) (put_mid (8 * index) (8 * index + 8 - 8 * index) old bytes)))) (sym eight)
-      ∙ ap (from_le_bytes w64) (between-put_mid (8 * index) (8 * index + 8 - 8 * index) old bytes (8 * index + 8) (omega arith) (long ∙ sym eight) ∙ is)
+      ap (λ b. number_at b (8 * index)) (put-splice old (word_bytes value) (8 * index))
+      ∙ ap (λ n. from_le_bytes w64 (take n (drop (8 * index) (put_mid (8 * index) (8 * index + 8 - 8 * index) old (word_bytes value))))) (sym eight)
+      ∙ ap (from_le_bytes w64) (between-put_mid (8 * index) (8 * index + 8 - 8 * index) old (word_bytes value) (8 * index + 8) (omega arith) (long ∙ sym eight))
       ∙ from_le_bytes-to_le_bytes_8 value low
 
-  others : (j : ℕ) → j ≢ index → number_at (splice old (8 * index) (8 * index + 8) bytes) (8 * j) ≡ number_at old (8 * j)
+  others : (j : ℕ) → j ≢ index → number_at (splice old (8 * index) (8 * index + 8) (word_bytes value)) (8 * j) ≡ number_at old (8 * j)
   others j apart =
-      ap (λ b. number_at b (8 * j)) (put-splice old bytes (8 * index))
-      ∙ beside old bytes (8 * index) (8 * index + 8 - 8 * index) (8 * j) (omega arith) long (omega arith)
+      ap (λ b. number_at b (8 * j)) (put-splice old (word_bytes value) (8 * index))
+      ∙ beside old (word_bytes value) (8 * index) (8 * index + 8 - 8 * index) (8 * j) (omega arith) long (omega arith)
       (⊎_elim (λ before. inl (omega arith)) (λ behind. inr (omega arith)) (cases_lt j index))
 
-  pub words-spliced : block_words (splice old (8 * index) (8 * index + 8) bytes) ≡ slice_set (block_words old) index value
-  words-spliced = block-set old (splice old (8 * index) (8 * index + 8) bytes) index value below here others
+  pub words-spliced : block_words (splice old (8 * index) (8 * index + 8) (word_bytes value)) ≡ slice_set (block_words old) index value
+  words-spliced = block-set old (splice old (8 * index) (8 * index + 8) (word_bytes value)) index value below here others

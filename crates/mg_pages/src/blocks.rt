@@ -266,5 +266,5 @@ fn put_staged(writes: &mut Writes, block: u64, index: u64, value: u64) -> bool
     ensures put { MatchOption (waiting writes.old block) (writes.new ≡ writes.old) (λ old. StagesBlock writes.old writes.new block (λ bytes.
         block_words bytes ≡ slice_set (block_words old) index value)) }
 {
-    writes.put(block, 8 * index as usize, &value.to_le_bytes())
+    writes.put(block, 8 * index as usize, value)
 }

@@ -4,7 +4,7 @@ ghost use Rattle.std.specs.Option.{ForSome};
 ghost use Rattle.mg_disk.specs.Stops.{DiskCalls, Leaves, WritesNothing};
 ghost use Rattle.mg_journal.specs.Contents.{SameContents};
 ghost use Rattle.mg_journal.specs.Standing as journal;
-ghost use Rattle.mg_model.specs.Layout.{globals_block, table_block, total_blocks};
+ghost use Rattle.mg_model.specs.Layout.{body_limit, globals_block, table_block, total_blocks};
 ghost use Rattle.mg_model.specs.Tests.{all_distinct};
 ghost use Rattle.mg_model.specs.Volume.{bound_pages};
 ghost use Rattle.mg_pages.specs.Meaning.{BindsOnly, CountsNone, CountsOne, HasTable, IsKept, Keeps, Releases, SameShape, SetsWord, StagesMore, StandsOn, Unbinds, IsSpelledBy, coming, frame_count, is_bound, is_live, is_staged, page_now, replayed, staged_of, store_of, table_in, total_of, words_in};
@@ -163,7 +163,7 @@ impl Pages {
     pub fn stage(&mut self, block: u64, from: &Block)
         requires low { globals_block ≤ block }
         requires high { block < table_block }
-        requires room { (is_staged self.old block ≡ true) ⊎ (staged_of self.old < 160) }
+        requires room { (is_staged self.old block ≡ true) ⊎ (staged_of self.old < body_limit) }
         ensures coming { (image : List (List ℕ)) → coming self.new image ≡ slice_set (coming self.old image) block from.now }
         ensures table { table_in self.new ≡ table_in self.old }
         ensures shape { SameShape self.old self.new }
@@ -201,7 +201,7 @@ impl Pages {
     /// How many blocks are staged, 0 to 160.
     pub fn staged(&self) -> usize
         ensures staged { result ≡ staged_of self.now }
-        ensures few { result ≤ 160 }
+        ensures few { result ≤ body_limit }
         ensures kept { IsKept self.now }
     {
         self.blocks.staged()

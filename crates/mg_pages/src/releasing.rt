@@ -9,7 +9,7 @@ ghost use Rattle.mg_pages.specs.Parts.{StagesTable};
 use crate::blocks::Blocks;
 use crate::table::entries_block;
 use mg_frames::Frames;
-use mg_layout::{Geometry, TABLE_BLOCK};
+use mg_layout::{BLOCK_WORDS, Geometry, TABLE_BLOCK};
 
 /// The most blocks that a frame table has.
 const MOST_BLOCKS: usize = 128;
@@ -41,7 +41,7 @@ fn blocks_with(frames: &[u64], first: u64, pages: u64) -> [bool; MOST_BLOCKS]
     let mut found = [false; MOST_BLOCKS];
     for (i, page) in frames.iter().enumerate() {
         if lies_within(*page, first, pages) {
-            found[i / 512] = true;
+            found[i / BLOCK_WORDS as usize] = true;
         }
     }
     found

@@ -15,7 +15,7 @@ use crate::words::put_word;
 use mg_disk::{BLOCK_SIZE, Disk};
 use mg_faults::Failed;
 use mg_frames::Frames;
-use mg_layout::TABLE_BLOCK;
+use mg_layout::{BLOCK_WORDS, TABLE_BLOCK};
 
 /// Puts a word at an index of a page. [`Failed`] comes from a read, before anything is changed.
 pub(crate) fn store_word<D: Disk>(
@@ -65,6 +65,6 @@ fn begin(blocks: &mut Blocks, frames: &mut Frames, page: u64, index: u64, value:
     let mut fresh = [0; BLOCK_SIZE];
     put_word(&mut fresh, index, value);
     blocks.stage(frame_block(frames.len(), frame), &fresh);
-    let k = frame / 512;
+    let k = frame / BLOCK_WORDS;
     blocks.stage(TABLE_BLOCK + k, &entries_block(frames.as_slice(), k));
 }

@@ -5,10 +5,7 @@ ghost use Rattle.mg_pages.specs.Entries.{HoldsEntries};
 
 use crate::words::put_word;
 use mg_disk::{BLOCK_SIZE, Block};
-use mg_layout::{Geometry, TABLE_BLOCK};
-
-/// How many entries a block of the frame table has.
-const ENTRIES: usize = 512;
+use mg_layout::{BLOCK_WORDS, Geometry, TABLE_BLOCK};
 
 /// The block of a frame, on a volume of so many frames.
 pub(crate) fn frame_block(frames: u64, frame: u64) -> u64
@@ -34,9 +31,10 @@ pub(crate) fn entries_block(frames: &[u64], k: u64) -> Block
     requires { k < 128 }
     ensures { HoldsEntries frames.now k result }
 {
-    let first = ENTRIES * k as usize;
+    let entries = BLOCK_WORDS as usize;
+    let first = entries * k as usize;
     let mut block = [0; BLOCK_SIZE];
-    for j in 0..ENTRIES {
+    for j in 0..entries {
         put_word(&mut block, j as u64, entry_at(frames, first + j));
     }
     block

@@ -7,15 +7,15 @@ ghost use Rattle.mg_ranges.specs.Gaps.{AreGapsOf, AreTaken, spans_of};
 ghost use Rattle.mg_ranges.specs.Kept.{CanGive, CanTake, HasRoom, HasTaken};
 
 use crate::gaps::{count_to, first_fit, join_before, join_behind, put_piece};
-use mg_model::limits::{FIRST_PAGE, PAGE_END};
+use mg_model::limits::{FIRST_PAGE, OBJECT_LIMIT, PAGE_END};
 use std::alloc::{AllocError, Global};
 use std::marker::Model;
 
-/// How many ranges may be taken.
-pub const MOST_RANGES: u64 = 4096;
+/// How many ranges may be taken: one an object.
+pub const MOST_RANGES: u64 = OBJECT_LIMIT as u64;
 
 /// How many gaps they leave at most.
-const MOST_GAPS: usize = 4097;
+const MOST_GAPS: usize = OBJECT_LIMIT + 1;
 
 /// The free pages of a volume.
 #[derive(Drop)]

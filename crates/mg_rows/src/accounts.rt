@@ -4,9 +4,9 @@ ghost use Rattle.std.specs.Option.{option_map_or};
 ghost use Rattle.mg_model.specs.Spelling.{account_bytes, account_read};
 ghost use Rattle.mg_rows.specs.Answers.{as_read};
 
-use crate::bytes::{are_zeros, copy_to, number_at};
-use crate::filling::Filling;
+use crate::bytes::copy_to;
 use crate::spelled::Spelled;
+use mg_layout::{Filling, are_zeros, number_at};
 use mg_model::AccRow;
 
 /// The bytes of an account's row.

@@ -3,9 +3,8 @@ ghost use Rattle.std.specs.Prelude.{◌≡◌, ◌&&◌, if◌then◌else◌, So
 ghost use Rattle.mg_model.specs.Spelling.{globals_bytes, globals_fields, globals_read};
 ghost use Rattle.mg_model.specs.Tests.{are_counters};
 
-use crate::bytes::number_at;
-use crate::filling::Filling;
 use mg_disk::Block;
+use mg_layout::{Filling, number_at};
 use mg_model::Globals;
 
 /// What a block spells of the globals, which are never free.

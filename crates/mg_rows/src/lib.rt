@@ -7,9 +7,6 @@
 //! Objects stand four in a block, and accounts 64: [`object_in`], [`account_in`], [`put_object`] and [`put_account`] name a row
 //! by its place there, so that no layer above counts bytes.
 //!
-//! What rows are read and written with is there for other rows too: [`number_at`], [`are_zeros`], and [`Filling`], bytes that are
-//! filled from the first on.
-//!
 //! How each row is spelled is defined in `mg_model`, in `Spelling`; `specs/Answers.antt` says how a reader's answer stands
 //! for what is read there, and `specs/Blocks.antt` what a place of a block spells.
 #![tactic(auto)]
@@ -17,7 +14,6 @@
 mod accounts;
 mod blocks;
 mod bytes;
-mod filling;
 mod globals;
 mod laws;
 mod object_parts;
@@ -27,8 +23,6 @@ mod threads;
 
 pub use accounts::{read_account, write_account};
 pub use blocks::{account_in, object_in, put_account, put_object};
-pub use bytes::{are_zeros, number_at};
-pub use filling::Filling;
 pub use globals::{read_globals, write_globals};
 pub use laws::rows_are_spelled_in_one_way;
 pub use objects::{read_object, write_object};

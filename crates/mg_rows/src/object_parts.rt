@@ -5,7 +5,7 @@ ghost use Rattle.mg_model.specs.Spelling.{extension_at, object_fields};
 ghost use Rattle.mg_model.specs.Tests.{is_entry_of, is_object_row, is_password, is_place};
 ghost use Rattle.mg_rows.specs.ObjectParts.{are_entries, are_passwords, entries_in, is_extension, is_placed, password_at, passwords_in, placed_row, some_if};
 
-use crate::bytes::number_at;
+use mg_layout::number_at;
 use mg_model::limits::{FIRST_PAGE, OBJECT_PAGE_LIMIT, PAGE_END, PAGE_SIZE};
 use mg_model::{ObjRow, Pw, Rights, Slot};
 

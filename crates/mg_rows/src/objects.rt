@@ -7,10 +7,10 @@ ghost use Rattle.mg_model.specs.Spelling.{object_bytes, object_head, object_read
 ghost use Rattle.mg_model.specs.Words.{same_bytes};
 ghost use Rattle.mg_rows.specs.Answers.{as_read, extension_words};
 
-use crate::bytes::{are_zeros, copy_to};
-use crate::filling::Filling;
+use crate::bytes::copy_to;
 use crate::object_parts::fields;
 use crate::spelled::Spelled;
+use mg_layout::{Filling, are_zeros};
 use mg_model::{ObjRow, Pw, Slot};
 
 /// The bytes of an object's row.

@@ -3,6 +3,7 @@ ghost use Rattle.std.specs.Prelude.{◌≡◌, ◌≤◌, ◌+◌, ◌-◌, ◌*
 ghost use Rattle.std.specs.List.{list_all};
 ghost use Rattle.std.specs.Option.{option_map_or};
 ghost use Rattle.mg_model.specs.Bytes.{number_at, numbers_at, padded_to, words_bytes};
+ghost use Rattle.mg_model.specs.Layout.{block_size};
 ghost use Rattle.mg_model.specs.Ranges.{IsThreadRow};
 ghost use Rattle.mg_model.specs.Spelling.{frame_at, frame_bytes, frames_at, slot_words, slots_at, state_number, state_numbered, thread_bytes, thread_fields, thread_read};
 ghost use Rattle.mg_model.specs.Tests.{is_call_frame, is_thread_row};
@@ -10,10 +11,9 @@ ghost use Rattle.mg_model.specs.Words.{same_bytes};
 ghost use Rattle.mg_rows.specs.Answers.{as_read};
 ghost use Rattle.mg_rows.specs.ThreadParts.{begins, head_words, with_frames};
 
-use crate::bytes::{are_zeros, number_at};
-use crate::filling::Filling;
 use crate::spelled::Spelled;
 use mg_disk::{BLOCK_SIZE, Block};
+use mg_layout::{Filling, are_zeros, number_at};
 use mg_model::{Fault, Frame, Slot, ThrRow, ThrState};
 
 /// The bytes of a frame.
@@ -46,7 +46,7 @@ pub fn read_thread(b: &Block) -> Option<Spelled<ThrRow>>
 
 /// Spells a thread, or a free row, in a block. It is read back.
 pub fn write_thread(r: Option<&ThrRow>, out: &mut Block)
-    ensures spelled { out.new ≡ option_map_or (λ row. thread_bytes row.now) r.entry (replicate 4096 0) }
+    ensures spelled { out.new ≡ option_map_or (λ row. thread_bytes row.now) r.entry (replicate block_size 0) }
     ensures read_back { thread_read out.new ≡ Some (option_map_or (λ row. Some row.now) r.entry None) }
 {
     *out = thread_block(r);
@@ -54,7 +54,7 @@ pub fn write_thread(r: Option<&ThrRow>, out: &mut Block)
 
 /// The block that spells a thread, or a free row. It is read back.
 pub fn thread_block(r: Option<&ThrRow>) -> Block
-    ensures spelled { result ≡ option_map_or (λ row. thread_bytes row.now) r.entry (replicate 4096 0) }
+    ensures spelled { result ≡ option_map_or (λ row. thread_bytes row.now) r.entry (replicate block_size 0) }
     ensures read_back { thread_read result ≡ Some (option_map_or (λ row. Some row.now) r.entry None) }
 {
     match r {
@@ -113,7 +113,7 @@ fn state_number(state: ThrState) -> u64
 }
 
 fn add_frames(frames: &[Frame], filling: &mut Filling<BLOCK_SIZE>)
-    requires { length filling.old + 144 * length frames.now ≤ 4096 }
+    requires { length filling.old + 144 * length frames.now ≤ block_size }
     ensures value { filling.new ≡ filling.old ++ flat_map frame_bytes frames.now }
     ensures long { length filling.new ≡ length filling.old + 144 * length frames.now }
 {
@@ -124,7 +124,7 @@ fn add_frames(frames: &[Frame], filling: &mut Filling<BLOCK_SIZE>)
 
 // A frame, and zeros in place of the slots that it has not.
 fn add_frame(frame: &Frame, filling: &mut Filling<BLOCK_SIZE>)
-    requires { length filling.old + 144 ≤ 4096 }
+    requires { length filling.old + 144 ≤ block_size }
     ensures value { filling.new ≡ filling.old ++ frame_bytes frame.now }
     ensures long { length filling.new ≡ length filling.old + 144 }
 {
@@ -135,7 +135,7 @@ fn add_frame(frame: &Frame, filling: &mut Filling<BLOCK_SIZE>)
 }
 
 fn add_slots(slots: &[Slot], filling: &mut Filling<BLOCK_SIZE>)
-    requires { length filling.old + 16 * length slots.now ≤ 4096 }
+    requires { length filling.old + 16 * length slots.now ≤ block_size }
     ensures value { filling.new ≡ filling.old ++ words_bytes (flat_map slot_words slots.now) }
     ensures long { length filling.new ≡ length filling.old + 16 * length slots.now }
 {
@@ -230,7 +230,7 @@ fn with_frames(begun: ThrRow, b: &Block, count: usize) -> Option<ThrRow>
 
 // The frame that begins at this place, where it keeps its rule.
 fn frame_in(b: &Block, at: usize) -> Option<Frame>
-    requires { at + 144 ≤ 4096 }
+    requires { at + 144 ≤ block_size }
     ensures { result ≡ (if is_call_frame (frame_at b.now at) then Some (frame_at b.now at) else None) }
 {
     let back = number_at(b, at);
@@ -247,7 +247,7 @@ fn frame_in(b: &Block, at: usize) -> Option<Frame>
 fn add_slots_of(frame: &mut Frame, b: &Block, at: usize, count: usize)
     requires empty { frame.old.slots ≡ [] }
     requires few { count ≤ 8 }
-    requires within { at + 128 ≤ 4096 }
+    requires within { at + 128 ≤ block_size }
     ensures { frame.new ≡ record frame.old { slots = slots_at b.now at count } }
 {
     for place in 0..count {

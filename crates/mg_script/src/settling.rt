@@ -6,11 +6,11 @@ ghost use Rattle.mg_script.specs.Actions.{settled};
 
 use mg_model::{Refusal, Reply, ThrRow};
 
-/// Register 0 gets the number of a refusal, 1 to 23; the other registers stay.
+/// Register 0 gets the number of a refusal, 1 to 22; the other registers stay.
 pub fn refuse(r: &mut ThrRow, word: Refusal)
     ensures { r.new ≡ with_register r.old 0 (refusal_number word) }
 {
-    r.set_register(0, number(word));
+    r.set_register(0, word.number());
 }
 
 /// The registers after the reply to a call that they spelled. Register 0 gets a refusal's number, or 0, and then the registers
@@ -45,35 +45,5 @@ fn put(r: &mut ThrRow, values: &[u64])
 {
     for i in 0..values.len() {
         r.set_register(i, values[i]);
-    }
-}
-
-/// The number of a refusal.
-fn number(word: Refusal) -> u64
-    ensures { result ≡ refusal_number word }
-{
-    match word {
-        Refusal::Syntax => 1,
-        Refusal::NoThread => 2,
-        Refusal::Align => 3,
-        Refusal::Denied => 4,
-        Refusal::Size => 5,
-        Refusal::Account => 6,
-        Refusal::Debt => 7,
-        Refusal::Limit => 8,
-        Refusal::Full => 9,
-        Refusal::NoPassword => 10,
-        Refusal::Range => 11,
-        Refusal::SlotFull => 12,
-        Refusal::NoSlot => 13,
-        Refusal::NoEntry => 14,
-        Refusal::Depth => 15,
-        Refusal::NoFrame => 16,
-        Refusal::NotYours => 17,
-        Refusal::NotReady => 18,
-        Refusal::Idle => 19,
-        Refusal::Credit => 20,
-        Refusal::Calendar => 21,
-        Refusal::Past => 22,
     }
 }

@@ -1,18 +1,13 @@
 // Where images that a stop left are opened again.
 use crate::kept::Kept;
-use mg_disk::{BLOCK_SIZE, Counts, Disk, MemDisk, ScratchDisk};
+use mg_disk::{BLOCK_SIZE, Counts, Disk, GATE_OPEN, MemDisk, ScratchDisk};
+use mg_layout::{FIRST_SEGMENT, SEGMENT_COUNT, SEGMENT_SIZE};
 use mg_session::Status;
 use mg_testing::{Streams, command};
 use std::alloc::{AllocError, Global};
 
 /// Of the images with an open segment, those of these numbers, from 0, have their opening stopped.
 const CHOSEN: [u64; 3] = [4, 20, 60];
-
-/// The gates of the journal: the first one, how far the next one is, and how many there are.
-const GATES: (u64, u64, u64) = (2, 162, 8);
-
-/// The byte that an open gate begins with.
-const OPEN: u8 = 0xA5;
 
 /// A disk on which images are opened, and what was seen so far.
 #[derive(Drop)]
@@ -137,11 +132,10 @@ pub fn copy(from: &mut MemDisk, to: &mut ScratchDisk) {
 
 /// Whether a gate of the journal is open.
 fn has_open_segment(image: &mut MemDisk) -> bool {
-    let (first, step, count) = GATES;
     let mut block = [0; BLOCK_SIZE];
-    for i in 0..count {
-        let gate = first + step * i;
-        if gate < image.blocks() && image.read(gate, &mut block).is_ok() && block[0] == OPEN {
+    for i in 0..SEGMENT_COUNT {
+        let gate = FIRST_SEGMENT + SEGMENT_SIZE * i;
+        if gate < image.blocks() && image.read(gate, &mut block).is_ok() && block[0] == GATE_OPEN {
             return true;
         }
     }

@@ -3,7 +3,7 @@ ghost use Rattle.std.specs.Prelude.{◌≡◌, ◌≤◌, ◌<◌, ◌==◌, ◌
 ghost use Rattle.std.specs.List.{list_any};
 ghost use Rattle.std.specs.Option.{option_copied, option_map};
 ghost use Rattle.mg_model.specs.Access.{covers};
-ghost use Rattle.mg_model.specs.Limits.{first_page, page_end};
+ghost use Rattle.mg_model.specs.Limits.{first_page, object_limit, page_end};
 ghost use Rattle.mg_model.specs.Objects.{lowest_free, page_behind, page_of};
 ghost use Rattle.mg_model.specs.Ranges.{IsObjectRow};
 ghost use Rattle.mg_model.specs.State.{Object};
@@ -46,8 +46,8 @@ impl Space {
     /// The objects of a table of at most 4,096 places, which has room for 4,096 and is kept as it is. There are none where
     /// two of its rows share a page. All memory that they, and the gaps between them, will need beside it is taken here.
     pub fn of(alloc: Global, table: Vec<Option<ObjRow>>) -> Result<Option<Space>, AllocError>
-        requires few { length table.items ≤ 4096 }
-        requires room { 4096 ≤ vec_capacity table }
+        requires few { length table.items ≤ object_limit }
+        requires room { object_limit ≤ vec_capacity table }
         ensures { IfOk result (λ made. MatchOption made (AreApart (objects_in table.items) → ⊥) (λ space. space ≡ objects_in table.items)) }
     {
         match Objects::of(alloc, table)? {
@@ -77,9 +77,9 @@ impl Space {
     /// How many objects there are, 4,096 at most. No two share a page, and each has a place of its own.
     pub fn len(&self) -> usize
         ensures count { result ≡ length self.now }
-        ensures few { result ≤ 4096 }
+        ensures few { result ≤ object_limit }
         ensures apart { AreApart self.now }
-        ensures places { All (λ o. o.0 < 4096) self.now }
+        ensures places { All (λ o. o.0 < object_limit) self.now }
         ensures rows { All (λ o. IsObjectRow o.1) self.now }
     {
         self.objects.len()
@@ -137,7 +137,7 @@ impl Space {
 
     /// One object more, in the lowest place that is free, and gives that place. It shares no page with another.
     pub fn insert(&mut self, row: ObjRow) -> u64
-        requires few { length self.old < 4096 }
+        requires few { length self.old < object_limit }
         requires apart { MeetsNone row self.old }
         ensures objects { self.new ≡ into_place (result, row) self.old }
         ensures place { IsLowestFree result self.old }

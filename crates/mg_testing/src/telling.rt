@@ -1,6 +1,7 @@
 // What commands tell, as one text.
 use crate::{Outcome, Streams, command, volume};
 use mg_disk::{BLOCK_SIZE, Disk, MemDisk};
+use mg_layout::{BLOCK_WORDS, put_number};
 use mg_text::read_number;
 use std::alloc::{AllocError, Global};
 
@@ -156,8 +157,11 @@ pub fn put_words(disk: &mut MemDisk, words: &str) -> bool {
 
 fn put_word(disk: &mut MemDisk, block: u64, place: usize, word: u64) {
     let mut bytes = [0; BLOCK_SIZE];
-    if place < 512 && block < disk.blocks() && disk.read(block, &mut bytes).is_ok() {
-        bytes[8 * place..8 * place + 8].copy_from_slice(&word.to_le_bytes());
+    if place < BLOCK_WORDS as usize
+        && block < disk.blocks()
+        && disk.read(block, &mut bytes).is_ok()
+    {
+        put_number(&mut bytes, 8 * place, word);
         let _ = disk.write(block, &bytes);
     }
 }

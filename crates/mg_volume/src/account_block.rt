@@ -1,6 +1,7 @@
 // The blocks of 64 rows of accounts.
 ghost use Rattle.std.specs.Prelude.{◌≡◌, ◌≤◌, ◌<◌, ◌+◌, ◌*◌, ◌/◌, ◌==◌, ◌||◌, nat_lt, ℕ, length, slice_get, None, Some};
 ghost use Rattle.std.specs.Option.{option_map_or};
+ghost use Rattle.mg_model.specs.Layout.{body_limit};
 ghost use Rattle.mg_pages.specs.Meaning.{staged_of};
 ghost use Rattle.mg_rows.specs.Blocks.{account_in};
 ghost use Rattle.mg_volume.specs.StagesAccounts.{StagesAccounts};
@@ -33,7 +34,7 @@ pub(crate) fn account_block(rows: &[AccRow], k: u64) -> Block
 /// Stages block k of the table, k below 16, as the accounts are.
 pub(crate) fn stage_accounts(pages: &mut Pages, rows: &[AccRow], k: u64)
     requires block { k < 16 }
-    requires room { staged_of pages.old < 160 }
+    requires room { staged_of pages.old < body_limit }
     ensures { StagesAccounts 1 (λ i. i == k) rows.now pages.old pages.new }
 {
     let block = account_block(rows, k);

@@ -1,7 +1,8 @@
 // The block of four rows of objects.
 ghost use Rattle.std.specs.Prelude.{◌≡◌, ◌<◌, ◌+◌, ◌*◌, ◌/◌, ◌⊎◌, true, ℕ, List, None, Some};
 ghost use Rattle.std.specs.Option.{option_map_or};
-ghost use Rattle.mg_model.specs.Layout.{first_object_block};
+ghost use Rattle.mg_model.specs.Layout.{body_limit, first_object_block};
+ghost use Rattle.mg_model.specs.Limits.{object_limit};
 ghost use Rattle.mg_pages.specs.Meaning.{IsSpelledBy, SameShape, StagesMore, is_staged, staged_of, table_in, words_in};
 ghost use Rattle.mg_rows.specs.Blocks.{object_in};
 ghost use Rattle.mg_volume.specs.RowLists.{row_at};
@@ -39,8 +40,8 @@ pub(crate) fn object_block(objects: &Space, quad: u64) -> Block
 
 /// Stages the block of the row at a place, as the objects are held.
 pub(crate) fn stage_row(pages: &mut Pages, objects: &Space, place: u64)
-    requires place { place < 4096 }
-    requires room { (is_staged pages.old (first_object_block + place / 4) ≡ true) ⊎ (staged_of pages.old < 160) }
+    requires place { place < object_limit }
+    requires room { (is_staged pages.old (first_object_block + place / 4) ≡ true) ⊎ (staged_of pages.old < body_limit) }
     ensures rows { StagesRows objects.now place pages.old pages.new }
     ensures table { table_in pages.new ≡ table_in pages.old }
     ensures shape { SameShape pages.old pages.new }

@@ -1,22 +1,21 @@
 // An object goes: its row, and its pages.
 ghost use Rattle.std.specs.Prelude.{List, ◌≡◌, ◌≤◌, ◌<◌, ◌==◌, ℕ, Some, filter, find, not, true};
 ghost use Rattle.std.specs.List.{list_any};
+ghost use Rattle.mg_model.specs.Layout.{body_limit};
 ghost use Rattle.mg_model.specs.Objects.{page_of};
 ghost use Rattle.mg_pages.specs.Meaning.{IsSpelledBy, Releases, SameShape, StagesMore, Unbinds, staged_of, table_in, words_in};
 ghost use Rattle.mg_volume.specs.StagesRows.{StagesRows};
 
 use crate::object_block::stage_row;
 use mg_model::ObjRow;
+use mg_model::limits::PAGE_SIZE;
 use mg_pages::Pages;
 use mg_space::Space;
-
-/// The bytes of a page.
-const PAGE: u64 = 4096;
 
 /// Takes the object with this base out, and stages that its row is free. It gives that row, with its place.
 pub(crate) fn take_object(objects: &mut Space, pages: &mut Pages, base: u64) -> (u64, ObjRow)
     requires there { list_any (λ o. o.1.base == base) objects.old ≡ true }
-    requires few { staged_of pages.old < 160 }
+    requires few { staged_of pages.old < body_limit }
     ensures taken { find (λ o. o.1.base == base) objects.old ≡ Some result }
     ensures objects { objects.new ≡ filter (λ o. not (o.1.base == base)) objects.old }
     ensures rows { StagesRows objects.new result.0 pages.old pages.new }
@@ -43,5 +42,5 @@ pub(crate) fn release_object(pages: &mut Pages, row: &ObjRow)
     ensures words { words_in pages.new ≡ words_in pages.old }
     ensures spelled { (image : List (List ℕ)) → IsSpelledBy pages.old image → IsSpelledBy pages.new image }
 {
-    pages.release(row.base() / PAGE, row.pages());
+    pages.release(row.base() / PAGE_SIZE, row.pages());
 }

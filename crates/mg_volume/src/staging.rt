@@ -2,6 +2,7 @@
 ghost use Rattle.std.specs.Prelude.{List, ◌≡◌, ◌⊎◌, ◌≤◌, ◌<◌, ◌+◌, ◌^◌, ◌==◌, ℕ, true, find, IfSome, None, Some};
 ghost use Rattle.std.specs.Option.{option_map_or};
 ghost use Rattle.mg_model.specs.Domains.{with_thread};
+ghost use Rattle.mg_model.specs.Layout.{body_limit};
 ghost use Rattle.mg_model.specs.ObjectCalls.{drawn, next_password};
 ghost use Rattle.mg_model.specs.Spelling.{thread_read};
 ghost use Rattle.mg_model.specs.State.{ThreadRow};
@@ -22,7 +23,7 @@ impl Volume {
     /// already, or fewer than 160 blocks are; one more is at most.
     pub fn stage_globals(&mut self, g: Globals)
         requires period { (counters_in self.old).period ≤ g.period }
-        requires room { (are_counters_staged self.old ≡ true) ⊎ (staged_of self.old < 160) }
+        requires room { (are_counters_staged self.old ≡ true) ⊎ (staged_of self.old < body_limit) }
         ensures now { (image : List (List ℕ)) → now_of self.new image ≡ record (now_of self.old image) { counters = g } }
         ensures rows { objects_in self.new ≡ objects_in self.old }
         ensures stages { Stages 1 self.old self.new }
@@ -40,7 +41,7 @@ impl Volume {
     pub fn stage_thread(&mut self, t: u64, row: Option<ThrRow>)
         requires some { 1 ≤ t }
         requires few { t ≤ 256 }
-        requires room { (is_thread_staged self.old t ≡ true) ⊎ (staged_of self.old < 160) }
+        requires room { (is_thread_staged self.old t ≡ true) ⊎ (staged_of self.old < body_limit) }
         ensures now { (image : List (List ℕ)) → now_of self.new image ≡ record (now_of self.old image) { threads = threads_with t row (threads_in self.old) } }
         ensures rows { objects_in self.new ≡ objects_in self.old }
         ensures stages { Stages 1 self.old self.new }
@@ -64,7 +65,7 @@ impl Volume {
     /// state is the one that any change gives which makes this row of the old one.
     pub fn change_thread(&mut self, t: u64, row: ThrRow)
         requires lives { lives self.old t ≡ true }
-        requires room { (is_thread_staged self.old t ≡ true) ⊎ (staged_of self.old < 160) }
+        requires room { (is_thread_staged self.old t ≡ true) ⊎ (staged_of self.old < body_limit) }
         ensures now { (change : ThreadRow → ThreadRow) → IfSome (find (λ thread. thread.number == t) (threads_in self.old)) (λ thread. change thread.row ≡ row)
             → (image : List (List ℕ)) → now_of self.new image ≡ with_thread (now_of self.old image) t change }
         ensures rows { objects_in self.new ≡ objects_in self.old }
@@ -81,7 +82,7 @@ impl Volume {
     /// The next password that is drawn. The count of draws, below `2^32`, rises by one and is staged: the block of the
     /// counters is staged already, or fewer than 160 blocks are; one more is at most.
     pub fn next_password(&mut self) -> u64
-        requires room { (are_counters_staged self.old ≡ true) ⊎ (staged_of self.old < 160) }
+        requires room { (are_counters_staged self.old ≡ true) ⊎ (staged_of self.old < body_limit) }
         requires few { (counters_in self.old).draws < 2 ^ 32 }
         ensures drawn { (image : List (List ℕ)) → result ≡ next_password (now_of self.old image) }
         ensures now { (image : List (List ℕ)) → now_of self.new image ≡ drawn (now_of self.old image) }

@@ -5,6 +5,7 @@ ghost use Rattle.std.specs.Option.{ForSome};
 ghost use Rattle.mg_disk.specs.Stops.{DiskCallsBy, Leaves, NothingPending, WritesNothing};
 ghost use Rattle.mg_model.specs.Access.{covers};
 ghost use Rattle.mg_model.specs.Bank.{account_of, balance_of, opens, owed_by};
+ghost use Rattle.mg_model.specs.Limits.{page_size};
 ghost use Rattle.mg_model.specs.Objects.{lowest_free, page_behind, page_of};
 ghost use Rattle.mg_model.specs.Ranges.{IsPlace};
 ghost use Rattle.mg_model.specs.State.{Thread};
@@ -166,7 +167,7 @@ impl Volume {
         requires some { 1 ≤ pages }
         requires few { pages ≤ 1024 }
         ensures lowest { (image : List (List ℕ)) → result ≡ lowest_free (now_of self.now image).objects pages }
-        ensures place { IsPlace (4096 * result) pages }
+        ensures place { IsPlace (page_size * result) pages }
         ensures apart { list_all (λ other. nat_le (result + pages) (page_of other) || nat_le (page_behind other) result) (objects_in self.now) ≡ true }
     {
         let _frames = self.params.frames();

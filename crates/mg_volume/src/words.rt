@@ -2,6 +2,7 @@
 ghost use Rattle.std.specs.Prelude.{◌≡◌, ◌≤◌, ◌<◌, ◌+◌, ◌*◌, true, IfOk, OnErr, OnOk};
 ghost use Rattle.std.specs.Option.{ForSome};
 ghost use Rattle.mg_disk.specs.Stops.{CountRose};
+ghost use Rattle.mg_model.specs.Limits.{page_size};
 ghost use Rattle.mg_model.specs.Objects.{with_word, word_at};
 ghost use Rattle.mg_volume.specs.Calls.{Reads, Serves};
 ghost use Rattle.mg_volume.specs.Meaning.{Keeps, SameParts, StandsOn, has_page, is_sound, now_of, objects_in, staged_of, total_of};
@@ -26,7 +27,7 @@ impl Volume {
         requires stands { StandsOn D.Disk self.old disk.old }
         requires page { has_page self.old page ≡ true }
         requires index { index < 512 }
-        ensures word { IfOk result (λ word. ForSome (D.seen disk.old) (λ image. word ≡ word_at (now_of self.old image).objects (4096 * page + 8 * index))) }
+        ensures word { IfOk result (λ word. ForSome (D.seen disk.old) (λ image. word ≡ word_at (now_of self.old image).objects (page_size * page + 8 * index))) }
         ensures reads { Reads D.Disk self.old self.new disk.old disk.new steps.old steps.new }
         ensures objects { ObjectsStillStaged self.old self.new }
         ensures one { OnOk result (steps.new ≡ steps.old + 1) }
@@ -50,7 +51,7 @@ impl Volume {
         requires page { has_page self.old page ≡ true }
         requires index { index < 512 }
         requires few { staged_of self.old ≤ 158 }
-        ensures sets { OnOk result (ForSome (D.seen disk.old) (λ image. now_of self.new image ≡ record (now_of self.old image) { objects = with_word (now_of self.old image).objects (4096 * page + 8 * index) value })) }
+        ensures sets { OnOk result (ForSome (D.seen disk.old) (λ image. now_of self.new image ≡ record (now_of self.old image) { objects = with_word (now_of self.old image).objects (page_size * page + 8 * index) value })) }
         ensures failed { OnErr result (Keeps self.old self.new) }
         ensures rows { objects_in self.new ≡ objects_in self.old }
         ensures sound { ForSome (D.seen disk.old) (λ image. is_sound (now_of self.new image) ≡ is_sound (now_of self.old image)) }

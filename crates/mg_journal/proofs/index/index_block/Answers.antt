@@ -8,11 +8,11 @@ pub loop-k-preserved : goal.loop-k-preserved
 loop-k-preserved c =
     let k = c.loop-k.k in
     let inv = c.loop-k.invariant in
-    let put = c.put_word-in-loop-k.ensures in
-    let out = c.put_word-in-loop-k.new.out in
+    let put = c.put_number-in-loop-k.ensures in
+    let out = c.put_number-in-loop-k.new.out in
     record {
       count = put.others 0 (inl (omega arith)) ∙ inv.count;
       homes = λ j below.
-          ⊎_elim (λ is. ap (λ i. number_at out (8 + 8 * i)) is ∙ put.word ∙ ap (home_at c.args.writes.now) (sym is))
+          ⊎_elim (λ is. ap (λ i. number_at out (8 + 8 * i)) is ∙ put.number ∙ ap (home_at c.args.writes.now) (sym is))
           (λ other. put.others (8 + 8 * j) (inl (omega arith)) ∙ inv.homes j (omega arith)) (cases_eq j k);
     }

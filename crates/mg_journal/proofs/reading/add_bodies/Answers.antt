@@ -21,8 +21,8 @@ one_more items image s k home body is_home is_body =
     ∙ ap (λ p. items ++ p) (sym (places_from-last image s 0 k))
     ∙ ap (λ n. items ++ places_from image s 0 n) next
 
-pub returns-then-count-gt-MOST_BODIES-clause-fits : goal.returns-then-count-gt-MOST_BODIES-clause-fits
-returns-then-count-gt-MOST_BODIES-clause-fits c image is = too_many-unfit c.args.total image c.args.segment (let many = c.if-count-gt-MOST_BODIES.true in let n = ap (λ b. number_at b 0) is in omega arith)
+pub returns-then-count-gt-BODY_LIMIT-clause-fits : goal.returns-then-count-gt-BODY_LIMIT-clause-fits
+returns-then-count-gt-BODY_LIMIT-clause-fits c image is = too_many-unfit c.args.total image c.args.segment (let many = c.if-count-gt-BODY_LIMIT.true in let n = ap (λ b. number_at b 0) is in omega arith)
 
 pub returns-then-not-is_home-clause-fits : goal.returns-then-not-is_home-clause-fits
 returns-then-not-is_home-clause-fits c image is =
@@ -49,7 +49,7 @@ loop-k-preserved c =
     let body = c.index_of-first.result + 1 + k in
     let first = c.index_of-first.ensures in
     let segment = c.requires.segment in
-    let count = c.if-count-gt-MOST_BODIES.false in
+    let count = c.if-count-gt-BODY_LIMIT.false in
     let below = c.loop-k-test.true in
     let end = c.loop-k.auto.k-end in
     let place = home-place c.args.total home body (sym c.is_home.ensures ∙ c.if-not-is_home.false) (omega arith) in
@@ -65,7 +65,7 @@ loop-k-preserved c =
 pub returns-clause-fits : goal.returns-clause-fits
 returns-clause-fits c image is =
     let n = ap (λ b. number_at b 0) is in
-    let few = c.if-count-gt-MOST_BODIES.false in
+    let few = c.if-count-gt-BODY_LIMIT.false in
     let end : c.loop-k.k ≡ body_count image c.args.segment = let past = c.loop-k-test.false in let last = c.loop-k.auto.k-end in omega arith in
     bodies_are-fit c.args.total image c.args.segment (omega arith) (subst (λ m. All (IsPlace c.args.total) (places_from image c.args.segment 0 m)) end (c.loop-k.invariant.places image is))
 

@@ -1,7 +1,7 @@
 use Rattle.std.proofs.Common.{◌≡◌, ◌+◌, ◌*◌, List, ℕ, Option, Some, None, IfSome, MatchOption, length, slice_set}
 use Rattle.std.specs.List.{splice}
 use Rattle.mg_journal.specs.Staged.{staged, waiting}
-use Rattle.mg_model.specs.Bytes.{block_words}
+use Rattle.mg_model.specs.Bytes.{block_words, word_bytes}
 use Rattle.mg_pages.specs.Parts.{StagesBlock}
 use Rattle.mg_pages.proofs.Spliced.{words-spliced}
 use Rattle.mg_pages.proofs.blocks.put_staged.Goals as goal
@@ -14,8 +14,7 @@ stages old new block f is (Some bytes) more whole are = record { bytes = f bytes
 pub returns-clause-put : goal.returns-clause-put
 returns-clause-put c =
     let index = c.args.index in
-    let word = c.to_le_bytes.result in
-    stages c.args.writes.now c.put.new.self c.args.block (λ bytes. splice bytes (8 * index) (8 * index + 8) word)
+    stages c.args.writes.now c.put.new.self c.args.block (λ bytes. splice bytes (8 * index) (8 * index + 8) (word_bytes c.args.value))
     (λ old bytes. block_words bytes ≡ slice_set (block_words old) index c.args.value)
     (waiting c.args.writes.now c.args.block) c.put.ensures.put c.put.ensures.whole
-    (λ bytes whole. words-spliced bytes word index c.args.value whole c.requires c.ranges.value.fits c.to_le_bytes.ensures)
+    (λ bytes whole. words-spliced bytes index c.args.value whole c.requires c.ranges.value.fits)

@@ -8,7 +8,7 @@ pub invariant_of-self : goal.invariant_of-self
 invariant_of-self c =
     let writes = c.self.inside.items.items in
     let k = c.args.k in
-    let bytes = c.put_bytes.new.block in
+    let bytes = c.put_number.new.out in
     let few = c.self.invariant.1 in
     let long = length-set writes k (c.index_mut.result.now.0, bytes) in
     let P : List (ℕ × List ℕ) → Type 0 = λ ws. k < length ws in

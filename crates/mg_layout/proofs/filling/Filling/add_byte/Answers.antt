@@ -3,7 +3,7 @@ use Rattle.mg_model.specs.FilledLemmas.{IsFilled-add, length-filled}
 use Rattle.mg_layout.proofs.filling.Filling.add_byte.Goals as goal
 
 pub invariant_of-self : goal.invariant_of-self
-invariant_of-self c =
+invariant_of-self g c =
     let filled = c.self.invariant in
     let few = c.requires in
     let view = c.self.view_is in

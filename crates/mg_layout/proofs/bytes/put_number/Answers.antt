@@ -1,6 +1,13 @@
 use Rattle.std.proofs.Common.{rules, arith, ◌≡◌, ◌+◌, ◌-◌, length}
-use Rattle.mg_journal.specs.Words.{beside}
-use Rattle.mg_journal.proofs.index.put_word.Goals as goal
+use Rattle.mg_model.specs.Bytes.{word_bytes}
+use Rattle.mg_layout.proofs.Spliced.{spliced}
+use Rattle.mg_layout.specs.Words.{beside}
+use Rattle.mg_layout.proofs.bytes.put_number.Goals as goal
+
+pub returns-clause-put : goal.returns-clause-put
+returns-clause-put c =
+    let is : c.copy_from_slice.new.self ≡ word_bytes c.args.number = search rules in
+    spliced c.args.out.now (word_bytes c.args.number) c.copy_from_slice.new.self c.args.at is
 
 pub returns-clause-others : goal.returns-clause-others
 returns-clause-others c b apart =

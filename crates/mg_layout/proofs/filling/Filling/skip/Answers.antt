@@ -3,7 +3,7 @@ use Rattle.std.proofs.lemmas.List.{drop-drop, drop-replicate, take-replicate}
 use Rattle.std.proofs.Math.Seq.{take-append-add}
 use Rattle.mg_model.specs.Filled.{IsFilled}
 use Rattle.mg_model.specs.FilledLemmas.{filled-take, length-filled}
-use Rattle.mg_rows.proofs.filling.Filling.skip.Goals as goal
+use Rattle.mg_layout.proofs.filling.Filling.skip.Goals as goal
 
 module _ (size : ℕ) (items : List ℕ) (count n : ℕ) (is : IsFilled 0 size items count) (room : length (take count items) + n ≤ size) where
   more : take (count + n) items ≡ take count items ++ replicate n 0

@@ -1,0 +1,35 @@
+// Numbers in bytes.
+ghost use Rattle.std.specs.Prelude.{◌≡◌, ◌≤◌, ◌+◌, ◌⊎◌, ℕ, length};
+ghost use Rattle.std.specs.List.{splice};
+ghost use Rattle.mg_model.specs.Bytes.{are_zeros, number_at, word_bytes};
+ghost use Rattle.mg_model.specs.Layout.{block_size};
+
+use mg_disk::Block;
+
+/// The number in the 8 bytes at this place.
+pub fn number_at(b: &[u8], at: usize) -> u64
+    requires { at + 8 ≤ length b.now }
+    ensures { result ≡ number_at b.now at }
+{
+    let mut bytes = [0; 8];
+    bytes.copy_from_slice(&b[at..at + 8]);
+    u64::from_le_bytes(bytes)
+}
+
+/// Puts a number in the 8 bytes at this place of a block.
+pub fn put_number(out: &mut Block, at: usize, number: u64)
+    requires { at + 8 ≤ block_size }
+    ensures put { out.new ≡ splice out.old at (at + 8) (word_bytes number) }
+    ensures whole { length out.old ≡ block_size }
+    ensures number { number_at out.new at ≡ number }
+    ensures others { (b : ℕ) → (b + 8 ≤ at) ⊎ (at + 8 ≤ b) → number_at out.new b ≡ number_at out.old b }
+{
+    out[at..at + 8].copy_from_slice(&number.to_le_bytes());
+}
+
+/// Whether they are all zeros.
+pub fn are_zeros(b: &[u8]) -> bool
+    ensures { result ≡ are_zeros b.now }
+{
+    b.iter().all(|byte| *byte == 0)
+}
