@@ -3,6 +3,7 @@ pub mod Entering
 pub mod Searching
 pub mod Known
 pub mod Fetching
+pub mod Served
 -- Lemmas that crates above cite. None of them is part of a statement.
 pub mod KnownLemmas
 pub mod LineLemmas

@@ -2,7 +2,8 @@
 //! domain, and the objects that a thread enters and returns from.
 //!
 //! A layer above learns of each call that its reply and the state after it are those of its row of the definition, from the
-//! point where the thread is known; what it read and staged is said in the words of `mg_volume`'s `specs/Calls.antt`.
+//! point where the thread is known; what it read and staged is said in the words of `mg_volume`'s `specs/Calls.antt`. All that a
+//! call with the disk keeps is one record of `specs/Served.antt`.
 //! `reach` gives the row of the object that an address names where an access to it is allowed, which is what calls on an
 //! object begin with, and `validate` its base. Both ask the validation cache first, and search where it does not keep the right.
 //! `word_object` is what the calls on a word begin with, and `row_of` those on the row of a thread.

@@ -82,8 +82,8 @@ ends_backed (call.Recharge b account password) state new t object seats seats' r
 ends_backed other state new t object seats seats' reply on keeps at ends same all = cc
 
 -- what is said of the address and the right that were told
-pub at_door : (P : ℕ → Right → Type 0) (made : Call) (base : ℕ) (right : Right) → base ≡ named made → right ≡ asked made → P base right → P (named made) (asked made)
-at_door P made base right is_base is_right holds = subst (λ r. P (named made) r) is_right (subst (λ b. P b right) is_base holds)
+pub at_door : (P : ℕ → Right → Type 0) (made : Call) (place : ℕ × Right) → place ≡ (named made, asked made) → P place.0 place.1 → P (named made) (asked made)
+at_door P made place is holds = subst (λ (x : ℕ × Right). P x.0 x.1) is holds
 
 module _ (state : State) (t : ℕ) (made : Call) (on : is_on_object made ≡ true) (keep : SearchesKeepRules Searches) where
   abbrev line : Line
