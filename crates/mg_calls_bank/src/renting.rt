@@ -36,7 +36,7 @@ fn period(v: &Volume) -> u64
     ensures few { result ≤ period_limit }
 {
     let globals = v.globals();
-    let _kept = globals.draws();
+    globals.keep_rules();
     globals.period()
 }
 

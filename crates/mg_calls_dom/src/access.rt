@@ -102,7 +102,7 @@ pub fn fetch<D: Disk, L: Ledger>(
 {
     match reach(v, c, disk, t, a, Right::X, steps)? {
         Some(object) => {
-            let _kept = object.base();
+            object.keep_rules();
             let page = page_of(&object, a);
             Ok(Some(v.word(disk, page, index_of(a), steps)?))
         }
@@ -140,7 +140,7 @@ pub fn word_object<D: Disk, L: Ledger>(
     }
     match reach(v, c, disk, t, a, right, steps)? {
         Some(object) => {
-            let _kept = object.base();
+            object.keep_rules();
             Ok(Ok(object))
         }
         None => Ok(Err(Refusal::Denied)),

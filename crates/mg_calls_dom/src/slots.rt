@@ -63,8 +63,7 @@ pub fn apdlist(v: &Volume, t: u64) -> Reply
 {
     match v.frame(t) {
         Some(frame) => {
-            // It tells that there are 8 slots at most.
-            let _back = frame.back();
+            frame.keep_rules();
             listed(frame.slots())
         }
         None => unreachable!(),

@@ -64,8 +64,7 @@ pub fn recharge(v: &mut Volume, object: ObjRow, account: u64, password: u64) -> 
 fn is_outside(object: &ObjRow, off: u64) -> bool
     ensures { result ≡ is_outside object.now off }
 {
-    // It tells that the row keeps its ranges.
-    let _base = object.base();
+    object.keep_rules();
     off % 8 != 0 || off >= PAGE_SIZE * object.pages()
 }
 

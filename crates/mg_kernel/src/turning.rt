@@ -120,7 +120,7 @@ fn run<D: Disk, L: Ledger>(
     accesses_go_on();
     turns_are_calls();
     turns_search_as_calls();
-    let _kept = row.birth();
+    row.keep_rules();
     let fetched = match fetch(v, c, disk, t, row.pc(), steps) {
         Ok(fetched) => fetched,
         Err(Failed) => return Err(Failed),
