@@ -9,4 +9,5 @@ pub mod KnownLemmas
 pub mod LineLemmas
 pub mod ReachedLemmas
 pub mod RefusalLemmas
+pub mod ServedLemmas
 pub mod ThreadLemmas

@@ -14,8 +14,8 @@
 //! `specs/Searching.antt` has what a search asks of the words of capability lists, `specs/Known.antt` which rights are kept by
 //! the rows that are held, `specs/Entering.antt` why a thread may not enter an object, `specs/Fetching.antt` what a fetch keeps and
 //! counts. `specs/ReachedLemmas.antt` says what follows from what was reached, `specs/RefusalLemmas.antt` what from a refusal of
-//! `word_object`, `specs/LineLemmas.antt` what a line keeps and counts by its accesses, and `specs/ThreadLemmas.antt` what the
-//! state has of a row that is held.
+//! `word_object`, `specs/LineLemmas.antt` what a line keeps and counts by its accesses, `specs/ServedLemmas.antt` what a call keeps
+//! that was answered behind reads alone, and `specs/ThreadLemmas.antt` what the state has of a row that is held.
 #![tactic(auto)]
 
 mod access;

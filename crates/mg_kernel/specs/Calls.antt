@@ -1,5 +1,5 @@
 -- What a call of a thread keeps and costs, be it made by a line or by a script, and what a turn does.
-use Rattle.std.specs.Prelude.{ℕ, ◌≡◌, ◌≤◌, ◌+◌, ◌&&◌, Bool, true, false, if◌then◌else◌, Some}
+use Rattle.std.specs.Prelude.{ℕ, ◌≡◌, ◌≤◌, ◌+◌, ◌&&◌, Bool, true, false, Some}
 use Rattle.mg_calls_dom.specs.Served.{CallRow}
 use Rattle.mg_model.specs.declared.calls.Call.{Call}
 use Rattle.mg_model.specs.Accesses.{call_accesses, call_words, turn_accesses, turn_words}

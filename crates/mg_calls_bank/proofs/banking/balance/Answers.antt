@@ -2,6 +2,7 @@ use Rattle.std.proofs.Common.{sym, ◌∙◌, rules}
 use Rattle.mg_calls_bank.proofs.AccountRows.{balance-closed, balance-told}
 use Rattle.mg_volume.specs.Laws.{now_accounts, now_rows}
 use Rattle.mg_volume.specs.Meaning.{accounts_in, now_of, objects_in}
+use Rattle.mg_volume.specs.RunLemmas.{call_refused}
 use Rattle.mg_calls_bank.proofs.banking.balance.Goals as goal
 
 pub returns-then-opens : goal.returns-then-opens
@@ -15,11 +16,7 @@ returns-then-opens c = record {
 }
 
 pub returns-else-opens : goal.returns-else-opens
-returns-else-opens c = record {
-  answers = λ image spelled formed.
-      let v = c.args.v.now in
-      balance-closed (now_of v image) (accounts_in v) c.args.account c.args.password (now_accounts v image) (sym c.opens.ensures.opens ∙ c.if-opens.false);
-  stages = search rules;
-  refused = search rules;
-  slots = search rules;
-}
+returns-else-opens c =
+    call_refused _ _ _ _ (λ image spelled formed.
+    let v = c.args.v.now in
+    balance-closed (now_of v image) (accounts_in v) c.args.account c.args.password (now_accounts v image) (sym c.opens.ensures.opens ∙ c.if-opens.false))

@@ -3,6 +3,7 @@ use Rattle.std.proofs.Common.{◌≡◌, ◌+◌, ◌-◌, ◌*◌, arith, sym, 
 use Rattle.mg_calls_dom.proofs.Refusals.{word-address}
 use Rattle.mg_calls_dom.proofs.Words.{no-word, own-word}
 use Rattle.mg_calls_dom.specs.LineLemmas.{keeps_line, limit_line}
+use Rattle.mg_calls_dom.specs.ServedLemmas.{read_call}
 use Rattle.mg_model.specs.declared.calls.Call.TheVariants as call
 use Rattle.mg_model.specs.declared.calls.Line.{Line}
 use Rattle.mg_model.specs.declared.replies.Reply.TheVariants.{No, Value}
@@ -47,25 +48,13 @@ returns-in_ok-word-in-Ok g c =
     }
 
 pub returns-in-Err : goal.returns-in-Err
-returns-in-Err g c = record {
-  answers = λ image told.
-      let state = now_of c.args.v.now image in
-      let refusal = rw c.in-Err.is at (c.in_ok-object.ensures.refusal image told) in
-      ap (λ r. unless_refused r state (state, Value (word_at state.objects c.args.a))) refusal ∙ ap (λ s. (s, No c.in-Err.word)) (sym (c.word_object.ensures.reads.keeps.now image));
-  slots = search rules;
-  backed = search rules;
-  keeps = λ image told.
-      let state = now_of c.args.v.now image in
-      let line : Line = record { thread = c.args.t; call = call.Load c.args.a } in
-      let refusal = rw c.in-Err.is at (c.in_ok-object.ensures.refusal image told) in
-      let own : words_of state line ≡ 0 = no-word state c.args.t c.args.a R c.in-Err.word refusal in
-      let (n, rose, words) = c.word_object.ensures.reads.counted in
-      keeps_line state line (λ key. is_kept c.args.c.now key) (λ key. is_kept c.word_object.new.c key) c.args.steps.now c.word_object.new.steps (c.word_object.new.steps - c.args.steps.now) (c.in_ok-object.ensures.rules image told) (omega arith);
-  limit = λ image told.
-      limit_line (now_of c.args.v.now image) (record { thread = c.args.t; call = call.Load c.args.a }) (λ key. is_kept c.args.c.now key) c.args.steps.now c.word_object.new.steps (c.word_object.ensures.limit image told);
-  reads = search rules;
-  cause = search rules;
-}
+returns-in-Err g c =
+    read_call g.D.Disk c.args.v.now c.word_object.new.v c.args.c.now c.word_object.new.c c.args.disk.now c.word_object.new.disk c.args.steps.now c.word_object.new.steps c.args.t (call.Load c.args.a) (No c.in-Err.word) tt
+    (λ image told.
+    let state = now_of c.args.v.now image in
+    ap (λ r. unless_refused r state (state, Value (word_at state.objects c.args.a))) (rw c.in-Err.is at (c.in_ok-object.ensures.refusal image told)))
+    c.word_object.ensures.backed c.in_ok-object.ensures.rules
+    (λ image told. no-word (now_of c.args.v.now image) c.args.t c.args.a R c.in-Err.word (rw c.in-Err.is at (c.in_ok-object.ensures.refusal image told))) c.word_object.ensures.reads
 
 pub returns-in_err-word-in-Ok : goal.returns-in_err-word-in-Ok
 returns-in_err-word-in-Ok g c = record {

@@ -2,8 +2,10 @@ use Rattle.std.specs.Option.{ForSome}
 use Rattle.std.proofs.Common.{◌≡◌, ◌+◌, ◌-◌, ◌*◌, arith, sym, ap, subst, ◌∙◌, rules}
 use Rattle.mg_calls_dom.proofs.Refusals.{word-address}
 use Rattle.mg_calls_dom.proofs.Words.{dropped-keys, no-word, own-word, stored-backed}
-use Rattle.mg_calls_dom.specs.LineLemmas.{drops_line, keeps_line, limit_line}
+use Rattle.mg_calls_dom.specs.LineLemmas.{drops_line, limit_line}
 use Rattle.mg_calls_dom.specs.Searching.{word_accesses}
+use Rattle.mg_calls_dom.specs.ServedLemmas.{read_call, reads_serves}
+use Rattle.mg_calls_dom.specs.Served.{of_call}
 use Rattle.mg_model.specs.declared.calls.Call.TheVariants as call
 use Rattle.mg_model.specs.declared.calls.Line.{Line}
 use Rattle.mg_model.specs.declared.replies.Reply.TheVariants.{Done, No}
@@ -16,7 +18,7 @@ use Rattle.mg_model.specs.Refused.{unless_refused}
 use Rattle.mg_model.specs.State.{State}
 use Rattle.mg_vcache.specs.Seats.{AllBacked, is_kept}
 use Rattle.mg_volume.specs.Meaning.{now_of}
-use Rattle.mg_volume.specs.RunLemmas.{reads_serve, then_serves}
+use Rattle.mg_volume.specs.RunLemmas.{then_serves}
 use Rattle.mg_calls_dom.proofs.access.store.Goals as goal
 
 pub returns-in_ok-set_word-in-Ok : goal.returns-in_ok-set_word-in-Ok
@@ -61,27 +63,15 @@ returns-in_ok-set_word-in-Ok g c =
     }
 
 pub returns-in-Err : goal.returns-in-Err
-returns-in-Err g c = record {
-  answers = λ image told.
-      let state = now_of c.args.v.now image in
-      let refusal = rw c.in-Err.is at (c.in_ok-object.ensures.refusal image told) in
-      ap (λ r. unless_refused r state (record state { objects = with_word state.objects c.args.a c.args.value }, Done)) refusal ∙ ap (λ s. (s, No c.in-Err.word)) (sym (c.word_object.ensures.reads.keeps.now image));
-  refused = search rules;
-  failed = search rules;
-  slots = search rules;
-  backed = search rules;
-  keeps = λ image told.
-      let state = now_of c.args.v.now image in
-      let line : Line = record { thread = c.args.t; call = call.Store c.args.a c.args.value } in
-      let refusal = rw c.in-Err.is at (c.in_ok-object.ensures.refusal image told) in
-      let own : words_of state line ≡ 0 = no-word state c.args.t c.args.a W c.in-Err.word refusal in
-      let (n, rose, words) = c.word_object.ensures.reads.counted in
-      keeps_line state line (λ key. is_kept c.args.c.now key) (λ key. is_kept c.word_object.new.c key) c.args.steps.now c.word_object.new.steps (c.word_object.new.steps - c.args.steps.now) (c.in_ok-object.ensures.rules image told) (omega arith);
-  limit = λ image told.
-      limit_line (now_of c.args.v.now image) (record { thread = c.args.t; call = call.Store c.args.a c.args.value }) (λ key. is_kept c.args.c.now key) c.args.steps.now c.word_object.new.steps (c.word_object.ensures.limit image told);
-  serves = reads_serve g.D.Disk 2 c.args.v.now c.word_object.new.v c.args.disk.now c.word_object.new.disk c.args.steps.now c.word_object.new.steps c.word_object.ensures.reads;
-  cause = search rules;
-}
+returns-in-Err g c =
+    let made = call.Store c.args.a c.args.value in
+    reads_serves g.D.Disk c.args.v.now c.word_object.new.v c.args.c.now c.word_object.new.c c.args.disk.now c.word_object.new.disk c.args.steps.now c.word_object.new.steps 2 (of_call c.args.t made) _
+    (read_call g.D.Disk c.args.v.now c.word_object.new.v c.args.c.now c.word_object.new.c c.args.disk.now c.word_object.new.disk c.args.steps.now c.word_object.new.steps c.args.t made (No c.in-Err.word) tt
+    (λ image told.
+    let state = now_of c.args.v.now image in
+    ap (λ r. unless_refused r state (record state { objects = with_word state.objects c.args.a c.args.value }, Done)) (rw c.in-Err.is at (c.in_ok-object.ensures.refusal image told)))
+    c.word_object.ensures.backed c.in_ok-object.ensures.rules
+    (λ image told. no-word (now_of c.args.v.now image) c.args.t c.args.a W c.in-Err.word (rw c.in-Err.is at (c.in_ok-object.ensures.refusal image told))) c.word_object.ensures.reads)
 
 pub returns-in_err-set_word-in-Ok : goal.returns-in_err-set_word-in-Ok
 returns-in_err-set_word-in-Ok g c = record {

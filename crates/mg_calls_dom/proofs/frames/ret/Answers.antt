@@ -5,27 +5,20 @@ use Rattle.mg_calls_dom.specs.ThreadLemmas.{change-gives, told-row}
 use Rattle.mg_model.specs.declared.replies.Reply.TheVariants.{Count}
 use Rattle.mg_model.specs.State.{Thread}
 use Rattle.mg_volume.specs.Meaning.{now_of, threads_in}
+use Rattle.mg_volume.specs.RunLemmas.{call_made, call_refused}
 use Rattle.mg_calls_dom.proofs.frames.ret.Goals as goal
 
 pub returns-in-Ok-clause-does : goal.returns-in-Ok-clause-does
-returns-in-Ok-clause-does c = record {
-  answers = λ image spelled formed.
-      let v = c.args.v.now in
-      let row = c.row_of-row.result in
-      let now = c.change_frames.ensures.now leaving (change-gives (find (λ (thread : Thread). thread.number == c.args.t) (threads_in v)) row c.leave.new.r leaving c.row_of-row.ensures (sym c.in-Ok.ensures.row)) image in
-      ret-is (now_of v image) c.args.t row (told-row v image c.args.t row c.row_of-row.ensures) None (sym c.in-Ok.ensures.refusal)
-      ∙ ap (λ s. (s, Count (length row.frames - 1))) (sym now)
-      ∙ ap (λ n. (now_of c.change_frames.new.v image, Count n)) (sym c.in-Ok.ensures.number);
-  stages = search rules;
-  refused = search rules;
-  slots = search rules;
-}
+returns-in-Ok-clause-does c =
+    call_made _ _ _ _ _ (λ no. no) tt (λ image spelled formed.
+    let v = c.args.v.now in
+    let row = c.row_of-row.result in
+    let now = c.change_frames.ensures.now leaving (change-gives (find (λ (thread : Thread). thread.number == c.args.t) (threads_in v)) row c.leave.new.r leaving c.row_of-row.ensures (sym c.in-Ok.ensures.row)) image in
+    ret-is (now_of v image) c.args.t row (told-row v image c.args.t row c.row_of-row.ensures) None (sym c.in-Ok.ensures.refusal)
+    ∙ ap (λ s. (s, Count (length row.frames - 1))) (sym now)
+    ∙ ap (λ n. (now_of c.change_frames.new.v image, Count n)) (sym c.in-Ok.ensures.number)) (search rules)
 
 pub returns-in-Err-clause-does : goal.returns-in-Err-clause-does
-returns-in-Err-clause-does c = record {
-  answers = λ image spelled formed.
-      ret-is (now_of c.args.v.now image) c.args.t c.row_of-row.result (told-row c.args.v.now image c.args.t c.row_of-row.result c.row_of-row.ensures) (Some c.in-Err.word) (sym c.in-Err.ensures.refusal);
-  stages = search rules;
-  refused = search rules;
-  slots = search rules;
-}
+returns-in-Err-clause-does c =
+    call_refused _ _ _ _ (λ image spelled formed.
+    ret-is (now_of c.args.v.now image) c.args.t c.row_of-row.result (told-row c.args.v.now image c.args.t c.row_of-row.result c.row_of-row.ensures) (Some c.in-Err.word) (sym c.in-Err.ensures.refusal))

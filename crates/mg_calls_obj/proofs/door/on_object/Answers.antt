@@ -3,8 +3,10 @@ use Rattle.std.specs.Option.{ForSome}
 use Rattle.std.proofs.Common.{arith, sym, ap, subst, ◌∙◌, rules}
 use Rattle.mg_calls_dom.specs.ReachedLemmas.{gone_held, reached_allowed, reached_at, reached_lives}
 use Rattle.mg_calls_dom.specs.Searching.{allowed_row}
+use Rattle.mg_calls_dom.specs.ServedLemmas.{read_call, reads_serves}
+use Rattle.mg_calls_dom.specs.Served.{of_call}
+use Rattle.mg_calls_obj.proofs.Doors.{at_door, door-done, door-limit, door-rules, ends_backed, is-line}
 use Rattle.mg_calls_obj.specs.Door.{asked, named}
-use Rattle.mg_calls_obj.proofs.Doors.{at_door, door-denied, door-done, door-limit, door-rules, ends_backed}
 use Rattle.mg_model.specs.declared.rights.Right.{Right}
 use Rattle.mg_model.specs.Access.{allowed}
 use Rattle.mg_model.specs.Backed.{KeepsBacked, ended_by_call}
@@ -13,6 +15,8 @@ use Rattle.mg_model.specs.ObjectCalls.{row_at}
 use Rattle.mg_model.specs.Refused.{Answer}
 use Rattle.mg_model.specs.State.{State}
 use Rattle.mg_model.specs.Turn.{thread_call}
+use Rattle.mg_model.specs.declared.replies.Refusal.TheVariants.{Denied}
+use Rattle.mg_model.specs.declared.replies.Reply.TheVariants.{No}
 use Rattle.mg_vcache.specs.Seats.{AllBacked, is_kept}
 use Rattle.mg_volume.specs.Meaning.{now_of}
 use Rattle.mg_calls_obj.proofs.door.on_object.Goals as goal
@@ -36,32 +40,19 @@ returns-in_err-object g c = record {
 }
 
 pub returns-in-None : goal.returns-in-None
-returns-in-None g c = record {
-  answers = search rules;
-  refused = search rules;
-  failed = search rules;
-  slots = search rules;
-  backed = search rules;
-  keeps = λ image told.
-      let state = now_of c.args.v.now image in
-      let made = c.args.call.now in
-      let t = c.args.t in
-      let (n, rose, words) = c.reach.ensures.reads.counted in
-      let P : ℕ → Right → Type 0 = λ b r. Validates state (record { thread = t; address = b; right = r }) (λ key. is_kept c.args.c.now key) (λ key. is_kept c.reach.new.c key) (c.reach.new.steps - c.args.steps.now) in
-      let valid = at_door P made c.wanted-place.result c.wanted-place.ensures (c.in_ok-object.ensures.keeps image told) in
-      let same : c.reach.new.c ≡ c.args.c.now = c.in_ok-object.ensures.none c.in-None.is in
-      let rules = door-rules state t made c.requires.on c.accesses_keep_the_rules_of_a_line.ensures.kept (λ key. is_kept c.args.c.now key) (λ key. is_kept c.reach.new.c key) c.args.steps.now c.reach.new.steps valid
-      (λ gone key. ap (λ s. is_kept s key) same) (λ gone. c.reach.ensures.nobody (gone_held c.args.v.now image t gone)) in
-      door-denied state t made c.requires.on c.accesses_keep_the_rules_of_a_line.ensures.kept (λ key. is_kept c.args.c.now key) (λ key. is_kept c.reach.new.c key) c.args.steps.now c.reach.new.steps (omega arith) rules;
-  limit = λ image told.
-      let state = now_of c.args.v.now image in
-      let made = c.args.call.now in
-      let P : ℕ → Right → Type 0 = λ b r. c.reach.new.steps ≤ c.args.steps.now + access_limit (λ key. is_kept c.args.c.now key) state (record { thread = c.args.t; address = b; right = r }) in
-      let few = at_door P made c.wanted-place.result c.wanted-place.ensures (c.reach.ensures.limit image told) in
-      door-limit state c.args.t made c.requires.on c.accesses_keep_the_rules_of_a_line.ensures.kept (λ key. is_kept c.args.c.now key) c.args.steps.now c.reach.new.steps few (λ gone. c.reach.ensures.nobody (gone_held c.args.v.now image c.args.t gone));
-  serves = search rules;
-  cause = search rules;
-}
+returns-in-None g c =
+    let made = c.args.call.now in
+    let t = c.args.t in
+    reads_serves g.D.Disk c.args.v.now c.reach.new.v c.args.c.now c.reach.new.c c.args.disk.now c.reach.new.disk c.args.steps.now c.reach.new.steps 129 (of_call t made) _
+    (read_call g.D.Disk c.args.v.now c.reach.new.v c.args.c.now c.reach.new.c c.args.disk.now c.reach.new.disk c.args.steps.now c.reach.new.steps t made (No Denied) tt (search rules) c.reach.ensures.backed
+    (λ image told.
+    let state = now_of c.args.v.now image in
+    let P : ℕ → Right → Type 0 = λ b r. Validates state (record { thread = t; address = b; right = r }) (λ key. is_kept c.args.c.now key) (λ key. is_kept c.reach.new.c key) (c.reach.new.steps - c.args.steps.now) in
+    let valid = at_door P made c.wanted-place.result c.wanted-place.ensures (c.in_ok-object.ensures.keeps image told) in
+    let same : c.reach.new.c ≡ c.args.c.now = c.in_ok-object.ensures.none c.in-None.is in
+    door-rules state t made c.requires.on c.accesses_keep_the_rules_of_a_line.ensures.kept (λ key. is_kept c.args.c.now key) (λ key. is_kept c.reach.new.c key) c.args.steps.now c.reach.new.steps valid
+    (λ gone key. ap (λ s. is_kept s key) same) (λ gone. c.reach.ensures.nobody (gone_held c.args.v.now image t gone)))
+    (λ image told. (is-line made (now_of c.args.v.now image) t c.requires.on).words) c.reach.ensures.reads)
 
 pub returns-in-Some : goal.returns-in-Some
 returns-in-Some g c =

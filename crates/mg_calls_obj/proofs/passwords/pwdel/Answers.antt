@@ -8,6 +8,7 @@ use Rattle.mg_model.specs.declared.replies.Reply.TheVariants.{Done}
 use Rattle.mg_model.specs.ObjectCalls.{has_password}
 use Rattle.mg_model.specs.State.{ObjectRow}
 use Rattle.mg_volume.specs.Meaning.{now_of, objects_in}
+use Rattle.mg_volume.specs.RunLemmas.{call_made}
 use Rattle.mg_calls_obj.proofs.passwords.pwdel.Goals as goal
 
 -- what was removed was there
@@ -16,18 +17,14 @@ was_there true x is = refl
 was_there false x is = cc
 
 pub returns-in-Ok-clause-does : goal.returns-in-Ok-clause-does
-returns-in-Ok-clause-does c = record {
-  answers = λ image t a spelled formed named may.
-      let state = now_of c.args.v.now image in
-      let object : ObjectRow = c.args.object in
-      let new : ObjectRow = c.remove.new.r in
-      let password = c.args.password in
-      let has : list_any (λ pw. has_password password pw) object.passwords ≡ true = was_there (list_any (λ pw. has_password password pw) object.passwords) c.in-Ok.field-0 c.in-Ok.ensures.refused in
-      let base : new.base ≡ object.base = ap (λ (r : ObjectRow). r.base) c.remove.ensures.list in
-      let rows = objects_in c.args.v.now in
-      let now = c.change.ensures.now (without_password password) (change_gives rows rows object new refl c.requires.held base (without_password password) (sym c.remove.ensures.list)) image in
-      pwdel-is state t a object named may password true has ∙ staged-is state (now_of c.change.new.self image) object new (without_password password) Done base now;
-  stages = search rules;
-  refused = search rules;
-  slots = search rules;
-}
+returns-in-Ok-clause-does c =
+    call_made _ _ _ _ _ (λ no. no) tt (λ image t a spelled formed named may.
+    let state = now_of c.args.v.now image in
+    let object : ObjectRow = c.args.object in
+    let new : ObjectRow = c.remove.new.r in
+    let password = c.args.password in
+    let has : list_any (λ pw. has_password password pw) object.passwords ≡ true = was_there (list_any (λ pw. has_password password pw) object.passwords) c.in-Ok.field-0 c.in-Ok.ensures.refused in
+    let base : new.base ≡ object.base = ap (λ (r : ObjectRow). r.base) c.remove.ensures.list in
+    let rows = objects_in c.args.v.now in
+    let now = c.change.ensures.now (without_password password) (change_gives rows rows object new refl c.requires.held base (without_password password) (sym c.remove.ensures.list)) image in
+    pwdel-is state t a object named may password true has ∙ staged-is state (now_of c.change.new.self image) object new (without_password password) Done base now) (search rules)

@@ -5,6 +5,8 @@ use Rattle.std.specs.List.{list_any}
 use Rattle.mg_calls_dom.specs.LineLemmas.{keeps_line, limit_line}
 use Rattle.mg_calls_dom.specs.ReachedLemmas.{same_threads}
 use Rattle.mg_calls_dom.specs.Searching.{access_refusal}
+use Rattle.mg_calls_dom.specs.ServedLemmas.{read_call, reads_serves}
+use Rattle.mg_calls_dom.specs.Served.{of_call}
 use Rattle.mg_calls_thr.proofs.Made.{make-denied, making-backed, no-words}
 use Rattle.mg_model.specs.declared.calls.Call.TheVariants as call
 use Rattle.mg_model.specs.declared.calls.Line.{Line}
@@ -15,7 +17,7 @@ use Rattle.mg_model.specs.Threads.{make_thread}
 use Rattle.mg_model.specs.WellFormed.{IsWellFormed}
 use Rattle.mg_vcache.specs.Seats.{AllBacked, is_kept}
 use Rattle.mg_volume.specs.Meaning.{now_of}
-use Rattle.mg_volume.specs.RunLemmas.{reads_serve, then_stages}
+use Rattle.mg_volume.specs.RunLemmas.{then_stages}
 use Rattle.mg_calls_thr.proofs.making.make.Goals as goal
 
 pub begin-requires-clause-lives : goal.begin-requires-clause-lives
@@ -73,21 +75,9 @@ returns-in-None g c = record {
 }
 
 pub returns-in-Err : goal.returns-in-Err
-returns-in-Err g c = record {
-  answers = λ image told.
-      make-denied (now_of c.args.v.now image) c.args.t c.args.pc c.in-Err.word (rw c.in-Err.is at (c.in_ok-word_object.ensures.refusal image told)) ∙ ap (λ s. (s, No c.in-Err.word)) (sym (c.word_object.ensures.reads.keeps.now image));
-  refused = search rules;
-  failed = search rules;
-  slots = search rules;
-  backed = search rules;
-  keeps = λ image told.
-      let state = now_of c.args.v.now image in
-      let line : Line = record { thread = c.args.t; call = call.Thread c.args.pc } in
-      let own = no-words state c.args.t c.args.pc in
-      let (n, rose, words) = c.word_object.ensures.reads.counted in
-      keeps_line state line (λ key. is_kept c.args.c.now key) (λ key. is_kept c.word_object.new.c key) c.args.steps.now c.word_object.new.steps (c.word_object.new.steps - c.args.steps.now) (c.in_ok-word_object.ensures.rules image told) (omega arith);
-  limit = λ image told.
-      limit_line (now_of c.args.v.now image) (record { thread = c.args.t; call = call.Thread c.args.pc }) (λ key. is_kept c.args.c.now key) c.args.steps.now c.word_object.new.steps (c.word_object.ensures.limit image told);
-  serves = reads_serve g.D.Disk 2 c.args.v.now c.word_object.new.v c.args.disk.now c.word_object.new.disk c.args.steps.now c.word_object.new.steps c.word_object.ensures.reads;
-  cause = search rules;
-}
+returns-in-Err g c =
+    let made = call.Thread c.args.pc in
+    reads_serves g.D.Disk c.args.v.now c.word_object.new.v c.args.c.now c.word_object.new.c c.args.disk.now c.word_object.new.disk c.args.steps.now c.word_object.new.steps 2 (of_call c.args.t made) _
+    (read_call g.D.Disk c.args.v.now c.word_object.new.v c.args.c.now c.word_object.new.c c.args.disk.now c.word_object.new.disk c.args.steps.now c.word_object.new.steps c.args.t made (No c.in-Err.word) tt
+    (λ image told. make-denied (now_of c.args.v.now image) c.args.t c.args.pc c.in-Err.word (rw c.in-Err.is at (c.in_ok-word_object.ensures.refusal image told)))
+    c.word_object.ensures.backed c.in_ok-word_object.ensures.rules (λ image told. no-words (now_of c.args.v.now image) c.args.t c.args.pc) c.word_object.ensures.reads)
