@@ -2,9 +2,7 @@
 ghost use Rattle.std.specs.Prelude.{◌≡◌, ◌≤◌, ◌==◌, filter, sum_by};
 ghost use Rattle.mg_model.specs.Bank.{balance_of, owed_by};
 ghost use Rattle.mg_model.specs.BankCalls as calls;
-ghost use Rattle.mg_model.specs.FewSlots.{HasFewSlots};
-ghost use Rattle.mg_model.specs.Refused.{IsRefusal};
-ghost use Rattle.mg_volume.specs.Calls.{Answers, Stages};
+ghost use Rattle.mg_volume.specs.Calls.{Answers, CallStages};
 ghost use Rattle.mg_volume.specs.Meaning.{accounts_in, objects_in, staged_of};
 
 use crate::refusing::{opening, paying};
@@ -16,10 +14,7 @@ use mg_volume::Volume;
 /// fewer credits than these (Credit); 1,024 accounts, or no password left to draw (Limit).
 pub fn account(v: &mut Volume, account: u64, password: u64, amount: u64) -> Reply
     requires few { staged_of v.old ≤ 157 }
-    ensures answers { Answers (λ state. calls.open_account state account password amount) v.old v.new result }
-    ensures stages { Stages 3 v.old v.new }
-    ensures refused { IsRefusal result → v.new ≡ v.old }
-    ensures slots { HasFewSlots result }
+    ensures { CallStages (Answers (λ state. calls.open_account state account password amount)) 3 v.old v.new result }
 {
     match opening(v, account, password, amount) {
         Some(word) => Reply::No(word),
@@ -36,10 +31,7 @@ pub fn account(v: &mut Volume, account: u64, password: u64, amount: u64) -> Repl
 /// such account, another password than its own, or no account to pay to (Account); fewer credits than these (Credit).
 pub fn pay(v: &mut Volume, account: u64, password: u64, to: u64, amount: u64) -> Reply
     requires few { staged_of v.old ≤ 158 }
-    ensures answers { Answers (λ state. calls.pay state account password to amount) v.old v.new result }
-    ensures stages { Stages 2 v.old v.new }
-    ensures refused { IsRefusal result → v.new ≡ v.old }
-    ensures slots { HasFewSlots result }
+    ensures { CallStages (Answers (λ state. calls.pay state account password to amount)) 2 v.old v.new result }
 {
     match paying(v, account, password, to, amount) {
         Some(word) => Reply::No(word),
@@ -53,10 +45,7 @@ pub fn pay(v: &mut Volume, account: u64, password: u64, to: u64, amount: u64) ->
 /// The credits of an account that this password opens, what it owes, and for how many pages it pays; another account, or
 /// another password, is refused (Account). The state stays.
 pub fn balance(v: &mut Volume, account: u64, password: u64) -> Reply
-    ensures answers { Answers (λ state. calls.balance state account password) v.old v.new result }
-    ensures stages { Stages 0 v.old v.new }
-    ensures refused { IsRefusal result → v.new ≡ v.old }
-    ensures slots { HasFewSlots result }
+    ensures { CallStages (Answers (λ state. calls.balance state account password)) 0 v.old v.new result }
 {
     if v.opens(account, password) {
         funds(v, account)

@@ -2,11 +2,9 @@
 ghost use Rattle.std.specs.Prelude.{◌≡◌, ◌≤◌, ◌==◌};
 ghost use Rattle.mg_model.specs.Backed.{by_each};
 ghost use Rattle.mg_model.specs.BankCalls as calls;
-ghost use Rattle.mg_model.specs.FewSlots.{HasFewSlots};
 ghost use Rattle.mg_model.specs.Limits.{period_limit};
-ghost use Rattle.mg_model.specs.Refused.{IsRefusal};
 ghost use Rattle.mg_vcache.specs.Drops.{Drops};
-ghost use Rattle.mg_volume.specs.Calls.{Answers, Stages};
+ghost use Rattle.mg_volume.specs.Calls.{Answers, CallStages};
 ghost use Rattle.mg_volume.specs.Meaning.{counters_in, staged_of};
 
 use mg_model::limits::PERIOD_LIMIT;
@@ -19,11 +17,8 @@ use mg_volume::Volume;
 /// since passwords may end with the period.
 pub fn rent(v: &mut Volume, c: &mut VCache) -> Reply
     requires few { staged_of v.old ≤ 143 }
-    ensures answers { Answers (λ state. calls.rent state) v.old v.new result }
+    ensures does { CallStages (Answers (λ state. calls.rent state)) 17 v.old v.new result }
     ensures seats { Drops by_each c.old c.new result }
-    ensures stages { Stages 17 v.old v.new }
-    ensures refused { IsRefusal result → v.new ≡ v.old }
-    ensures slots { HasFewSlots result }
 {
     let period = period(v);
     if is_last(period) {
@@ -41,7 +36,7 @@ fn period(v: &Volume) -> u64
     ensures few { result ≤ period_limit }
 {
     let globals = v.globals();
-    let _kept = globals.draws();
+    globals.keep_rules();
     globals.period()
 }
 

@@ -3,9 +3,11 @@ pub mod Entering
 pub mod Searching
 pub mod Known
 pub mod Fetching
+pub mod Served
 -- Lemmas that crates above cite. None of them is part of a statement.
 pub mod KnownLemmas
 pub mod LineLemmas
 pub mod ReachedLemmas
 pub mod RefusalLemmas
+pub mod ServedLemmas
 pub mod ThreadLemmas

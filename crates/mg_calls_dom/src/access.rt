@@ -3,18 +3,16 @@ ghost use Rattle.std.specs.Prelude.{List, ◌≡◌, ◌≤◌, ◌<◌, ◌+◌
 ghost use Rattle.std.specs.Option.{ForSome};
 ghost use Rattle.mg_calls_dom.specs.Fetching.{Fetches, fetch_limit};
 ghost use Rattle.mg_calls_dom.specs.Searching.{access_refusal, allowed_row, word_accesses};
+ghost use Rattle.mg_calls_dom.specs.Served.{CallReads, CallServes, of_call};
 ghost use Rattle.mg_disk.specs.Stops.{CountRose};
 ghost use Rattle.mg_model.specs.Access.{allowed, covers};
 ghost use Rattle.mg_model.specs.Backed.{by_via};
-ghost use Rattle.mg_model.specs.FewSlots.{HasFewSlots};
-ghost use Rattle.mg_model.specs.Kept.{KeepsLine, KeepsRules, line_limit, searches_limit};
+ghost use Rattle.mg_model.specs.Kept.{KeepsRules, searches_limit};
 ghost use Rattle.mg_model.specs.Limits.{page_size};
-ghost use Rattle.mg_model.specs.ObjectCalls as calls;
 ghost use Rattle.mg_model.specs.Objects.{word_at};
-ghost use Rattle.mg_model.specs.Refused.{IsRefusal};
 ghost use Rattle.mg_vcache.specs.Seats.{AllBacked, is_kept, without};
-ghost use Rattle.mg_volume.specs.Calls.{IsSoundOn, Reads, Serves};
-ghost use Rattle.mg_volume.specs.Meaning.{Keeps, has_page, is_page_in, now_of, staged_of};
+ghost use Rattle.mg_volume.specs.Calls.{IsSoundOn, Reads};
+ghost use Rattle.mg_volume.specs.Meaning.{has_page, is_page_in, now_of, staged_of};
 
 use crate::validating::reach;
 use mg_disk::Disk;
@@ -41,13 +39,7 @@ pub fn load<D: Disk, L: Ledger>(
 ) -> Result<Reply, Failed>
     requires sound { IsSoundOn D.Disk v.old disk.old }
     requires backed { ForSome (D.seen disk.old) (λ image. AllBacked (now_of v.old image) c.old) }
-    ensures answers { IfOk result (λ reply. ForSome (D.seen disk.old) (λ image. calls.load (now_of v.old image) t a ≡ (now_of v.new image, reply))) }
-    ensures slots { IfOk result HasFewSlots }
-    ensures backed { ForSome (D.seen disk.old) (λ image. AllBacked (now_of v.new image) c.new) }
-    ensures keeps { OnOk result (ForSome (D.seen disk.old) (λ image. KeepsLine (now_of v.old image) (record { thread = t; call = Call.Load a }) (λ key. is_kept c.old key) (λ key. is_kept c.new key) steps.old steps.new)) }
-    ensures limit { ForSome (D.seen disk.old) (λ image. steps.new ≤ steps.old + line_limit (λ key. is_kept c.old key) (now_of v.old image) (record { thread = t; call = Call.Load a })) }
-    ensures reads { Reads D.Disk v.old v.new disk.old disk.new steps.old steps.new }
-    ensures cause { OnErr result (CountRose D.Disk disk.old disk.new) }
+    ensures { CallReads D.Disk (of_call t (Call.Load a)) result v.old v.new c.old c.new disk.old disk.new steps.old steps.new }
 {
     match word_object(v, c, disk, t, a, Right::R, steps)? {
         Ok(object) => {
@@ -73,15 +65,7 @@ pub fn store<D: Disk, L: Ledger>(
     requires sound { IsSoundOn D.Disk v.old disk.old }
     requires few { staged_of v.old ≤ 158 }
     requires backed { ForSome (D.seen disk.old) (λ image. AllBacked (now_of v.old image) c.old) }
-    ensures answers { IfOk result (λ reply. ForSome (D.seen disk.old) (λ image. calls.store (now_of v.old image) t a value ≡ (now_of v.new image, reply))) }
-    ensures refused { IfOk result (λ reply. IsRefusal reply → staged_of v.new ≡ staged_of v.old) }
-    ensures failed { OnErr result (Keeps v.old v.new) }
-    ensures slots { IfOk result HasFewSlots }
-    ensures backed { ForSome (D.seen disk.old) (λ image. AllBacked (now_of v.new image) c.new) }
-    ensures keeps { OnOk result (ForSome (D.seen disk.old) (λ image. KeepsLine (now_of v.old image) (record { thread = t; call = Call.Store a value }) (λ key. is_kept c.old key) (λ key. is_kept c.new key) steps.old steps.new)) }
-    ensures limit { ForSome (D.seen disk.old) (λ image. steps.new ≤ steps.old + line_limit (λ key. is_kept c.old key) (now_of v.old image) (record { thread = t; call = Call.Store a value })) }
-    ensures serves { Serves 2 D.Disk v.old v.new disk.old disk.new steps.old steps.new }
-    ensures cause { OnErr result (CountRose D.Disk disk.old disk.new) }
+    ensures { CallServes 2 D.Disk (of_call t (Call.Store a value)) result v.old v.new c.old c.new disk.old disk.new steps.old steps.new }
 {
     steps_keep_backing();
     stores_end_one_list();
@@ -118,7 +102,7 @@ pub fn fetch<D: Disk, L: Ledger>(
 {
     match reach(v, c, disk, t, a, Right::X, steps)? {
         Some(object) => {
-            let _kept = object.base();
+            object.keep_rules();
             let page = page_of(&object, a);
             Ok(Some(v.word(disk, page, index_of(a), steps)?))
         }
@@ -156,7 +140,7 @@ pub fn word_object<D: Disk, L: Ledger>(
     }
     match reach(v, c, disk, t, a, right, steps)? {
         Some(object) => {
-            let _kept = object.base();
+            object.keep_rules();
             Ok(Ok(object))
         }
         None => Ok(Err(Refusal::Denied)),

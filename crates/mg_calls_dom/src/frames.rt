@@ -4,18 +4,15 @@ ghost use Rattle.std.specs.Option.{ForSome};
 ghost use Rattle.mg_apd.specs.Refusals.{entered_slots};
 ghost use Rattle.mg_calls_dom.specs.Entering.{pdx_refusal};
 ghost use Rattle.mg_calls_dom.specs.Searching.{access_refusal};
-ghost use Rattle.mg_disk.specs.Stops.{CountRose};
+ghost use Rattle.mg_calls_dom.specs.Served.{CallServes, of_call};
 ghost use Rattle.mg_model.specs.Backed.{by_thread};
 ghost use Rattle.mg_model.specs.Domains as domains;
-ghost use Rattle.mg_model.specs.FewSlots.{HasFewSlots};
-ghost use Rattle.mg_model.specs.Kept.{KeepsLine, line_limit};
 ghost use Rattle.mg_model.specs.ObjectCalls.{row_at};
-ghost use Rattle.mg_model.specs.Refused.{IsRefusal};
 ghost use Rattle.mg_model.specs.State.{ThreadRow};
 ghost use Rattle.mg_vcache.specs.Drops.{Drops};
-ghost use Rattle.mg_vcache.specs.Seats.{AllBacked, is_kept, without};
-ghost use Rattle.mg_volume.specs.Calls.{Answers, IsSoundOn, Serves, Stages};
-ghost use Rattle.mg_volume.specs.Meaning.{Keeps, now_of, staged_of, threads_in};
+ghost use Rattle.mg_vcache.specs.Seats.{AllBacked, without};
+ghost use Rattle.mg_volume.specs.Calls.{Answers, CallStages, IsSoundOn, Stages};
+ghost use Rattle.mg_volume.specs.Meaning.{now_of, staged_of, threads_in};
 ghost use Rattle.mg_volume.specs.Staging.{lives};
 
 use crate::access::word_object;
@@ -50,15 +47,7 @@ pub fn pdx<D: Disk, L: Ledger>(
     requires lives { lives v.old t ≡ true }
     requires few { staged_of v.old ≤ 158 }
     requires backed { ForSome (D.seen disk.old) (λ image. AllBacked (now_of v.old image) c.old) }
-    ensures answers { IfOk result (λ reply. ForSome (D.seen disk.old) (λ image. domains.pdx (now_of v.old image) t a mask ≡ (now_of v.new image, reply))) }
-    ensures refused { IfOk result (λ reply. IsRefusal reply → staged_of v.new ≡ staged_of v.old) }
-    ensures failed { OnErr result (Keeps v.old v.new) }
-    ensures slots { IfOk result HasFewSlots }
-    ensures backed { ForSome (D.seen disk.old) (λ image. AllBacked (now_of v.new image) c.new) }
-    ensures keeps { OnOk result (ForSome (D.seen disk.old) (λ image. KeepsLine (now_of v.old image) (record { thread = t; call = Call.Pdx a mask }) (λ key. is_kept c.old key) (λ key. is_kept c.new key) steps.old steps.new)) }
-    ensures limit { ForSome (D.seen disk.old) (λ image. steps.new ≤ steps.old + line_limit (λ key. is_kept c.old key) (now_of v.old image) (record { thread = t; call = Call.Pdx a mask })) }
-    ensures serves { Serves 1 D.Disk v.old v.new disk.old disk.new steps.old steps.new }
-    ensures cause { OnErr result (CountRose D.Disk disk.old disk.new) }
+    ensures { CallServes 1 D.Disk (of_call t (Call.Pdx a mask)) result v.old v.new c.old c.new disk.old disk.new steps.old steps.new }
 {
     steps_keep_backing();
     match word_object(v, c, disk, t, a, Right::P, steps)? {
@@ -76,11 +65,8 @@ pub fn pdx<D: Disk, L: Ledger>(
 pub fn ret(v: &mut Volume, c: &mut VCache, t: u64) -> Reply
     requires lives { lives v.old t ≡ true }
     requires few { staged_of v.old ≤ 159 }
-    ensures answers { Answers (λ state. domains.ret state t) v.old v.new result }
+    ensures does { CallStages (Answers (λ state. domains.ret state t)) 1 v.old v.new result }
     ensures seats { Drops (by_thread t) c.old c.new result }
-    ensures stages { Stages 1 v.old v.new }
-    ensures refused { IsRefusal result → v.new ≡ v.old }
-    ensures slots { HasFewSlots result }
 {
     let mut row = row_of(v, t);
     match leave(&mut row) {

@@ -2,7 +2,8 @@
 //! domain, and the objects that a thread enters and returns from.
 //!
 //! A layer above learns of each call that its reply and the state after it are those of its row of the definition, from the
-//! point where the thread is known; what it read and staged is said in the words of `mg_volume`'s `specs/Calls.antt`.
+//! point where the thread is known; what it read and staged is said in the words of `mg_volume`'s `specs/Calls.antt`. All that a
+//! call with the disk keeps is one record of `specs/Served.antt`.
 //! `reach` gives the row of the object that an address names where an access to it is allowed, which is what calls on an
 //! object begin with, and `validate` its base. Both ask the validation cache first, and search where it does not keep the right.
 //! `word_object` is what the calls on a word begin with, and `row_of` those on the row of a thread.
@@ -13,8 +14,8 @@
 //! `specs/Searching.antt` has what a search asks of the words of capability lists, `specs/Known.antt` which rights are kept by
 //! the rows that are held, `specs/Entering.antt` why a thread may not enter an object, `specs/Fetching.antt` what a fetch keeps and
 //! counts. `specs/ReachedLemmas.antt` says what follows from what was reached, `specs/RefusalLemmas.antt` what from a refusal of
-//! `word_object`, `specs/LineLemmas.antt` what a line keeps and counts by its accesses, and `specs/ThreadLemmas.antt` what the
-//! state has of a row that is held.
+//! `word_object`, `specs/LineLemmas.antt` what a line keeps and counts by its accesses, `specs/ServedLemmas.antt` what a call keeps
+//! that was answered behind reads alone, and `specs/ThreadLemmas.antt` what the state has of a row that is held.
 #![tactic(auto)]
 
 mod access;

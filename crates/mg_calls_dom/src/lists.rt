@@ -158,7 +158,7 @@ pub(crate) fn list_of<D: Disk, L: Ledger>(
 {
     match v.frame(t) {
         Some(frame) => {
-            let _kept = frame.back();
+            frame.keep_rules();
             list_among(v, disk, frame.slots(), sought, steps)
         }
         None => Ok(None),

@@ -2,10 +2,8 @@
 ghost use Rattle.std.specs.Prelude.{◌≡◌, ◌≤◌, ◌-◌, ◌++◌, true, length, map, replicate};
 ghost use Rattle.mg_model.specs.Backed.{by_thread};
 ghost use Rattle.mg_model.specs.Domains as domains;
-ghost use Rattle.mg_model.specs.FewSlots.{HasFewSlots};
-ghost use Rattle.mg_model.specs.Refused.{IsRefusal};
 ghost use Rattle.mg_vcache.specs.Drops.{Drops};
-ghost use Rattle.mg_volume.specs.Calls.{Answers, Stages};
+ghost use Rattle.mg_volume.specs.Calls.{Answers, CallStages};
 ghost use Rattle.mg_volume.specs.Meaning.{staged_of};
 ghost use Rattle.mg_volume.specs.Staging.{lives};
 
@@ -22,10 +20,7 @@ use mg_volume::Volume;
 pub fn apdadd(v: &mut Volume, t: u64, clist: u64, password: u64) -> Reply
     requires lives { lives v.old t ≡ true }
     requires few { staged_of v.old ≤ 159 }
-    ensures answers { Answers (λ state. domains.apdadd state t clist password) v.old v.new result }
-    ensures stages { Stages 1 v.old v.new }
-    ensures refused { IsRefusal result → v.new ≡ v.old }
-    ensures slots { HasFewSlots result }
+    ensures { CallStages (Answers (λ state. domains.apdadd state t clist password)) 1 v.old v.new result }
 {
     let mut row = row_of(v, t);
     let slot = Slot {
@@ -46,11 +41,8 @@ pub fn apdadd(v: &mut Volume, t: u64, clist: u64, password: u64) -> Reply
 pub fn apddel(v: &mut Volume, c: &mut VCache, t: u64, index: u64) -> Reply
     requires lives { lives v.old t ≡ true }
     requires few { staged_of v.old ≤ 159 }
-    ensures answers { Answers (λ state. domains.apddel state t index) v.old v.new result }
+    ensures does { CallStages (Answers (λ state. domains.apddel state t index)) 1 v.old v.new result }
     ensures seats { Drops (by_thread t) c.old c.new result }
-    ensures stages { Stages 1 v.old v.new }
-    ensures refused { IsRefusal result → v.new ≡ v.old }
-    ensures slots { HasFewSlots result }
 {
     let mut row = row_of(v, t);
     match drop_slot(&mut row, index) {
@@ -67,13 +59,11 @@ pub fn apddel(v: &mut Volume, c: &mut VCache, t: u64, index: u64) -> Reply
 /// count. No password is shown.
 pub fn apdlist(v: &Volume, t: u64) -> Reply
     requires lives { lives v.now t ≡ true }
-    ensures answers { Answers (λ state. domains.apdlist state t) v.now v.now result }
-    ensures slots { HasFewSlots result }
+    ensures { CallStages (Answers (λ state. domains.apdlist state t)) 0 v.now v.now result }
 {
     match v.frame(t) {
         Some(frame) => {
-            // It tells that there are 8 slots at most.
-            let _back = frame.back();
+            frame.keep_rules();
             listed(frame.slots())
         }
         None => unreachable!(),

@@ -1,9 +1,8 @@
 -- What a call on an object keeps and costs, behind one search.
 use Rattle.std.specs.Prelude.{◌≡◌, ◌≤◌, ◌+◌, ◌-◌, ◌&&◌, ℕ, Bool, true, false, List, [], ◌∷◌, if◌then◌else◌, Option}
 use Rattle.std.proofs.Common.{refl, sym, ap, arith, subst, ◌∙◌}
-use Rattle.mg_calls_dom.specs.LineLemmas.{drops_line, keeps_line, limit_line, one_limit, thread_limit, thread_rules}
+use Rattle.mg_calls_dom.specs.LineLemmas.{drops_line, limit_line, one_limit, thread_limit, thread_rules}
 use Rattle.mg_calls_obj.specs.Door.{EndsBy, asked, is_on_object, named}
-use Rattle.mg_vcache.specs.Drops.{Drops}
 use Rattle.mg_laws.specs.Costs.{SearchesKeepRules}
 use Rattle.mg_model.specs.declared.calls.Call.{Call}
 use Rattle.mg_model.specs.declared.calls.Call.TheVariants as call
@@ -15,7 +14,7 @@ use Rattle.mg_model.specs.declared.rights.Right.{Right}
 use Rattle.mg_model.specs.declared.seats.Seat.{Seat}
 use Rattle.mg_model.specs.Access.{allowed}
 use Rattle.mg_model.specs.Accesses.{Access, accesses, words_of}
-use Rattle.mg_model.specs.Backed.{KeepsBacked, by_none, by_via, ended_by_call}
+use Rattle.mg_model.specs.Backed.{KeepsBacked, by_via, ended_by_call}
 use Rattle.mg_model.specs.Kept.{KeepsKeys, KeepsLine, KeepsRules, Searches, Validates, access_limit, line_limit, searches_limit}
 use Rattle.mg_model.specs.Keys.{Key}
 use Rattle.mg_model.specs.ObjectCalls.{row_at}
@@ -82,8 +81,8 @@ ends_backed (call.Recharge b account password) state new t object seats seats' r
 ends_backed other state new t object seats seats' reply on keeps at ends same all = cc
 
 -- what is said of the address and the right that were told
-pub at_door : (P : ℕ → Right → Type 0) (made : Call) (base : ℕ) (right : Right) → base ≡ named made → right ≡ asked made → P base right → P (named made) (asked made)
-at_door P made base right is_base is_right holds = subst (λ r. P (named made) r) is_right (subst (λ b. P b right) is_base holds)
+pub at_door : (P : ℕ → Right → Type 0) (made : Call) (place : ℕ × Right) → place ≡ (named made, asked made) → P place.0 place.1 → P (named made) (asked made)
+at_door P made place is holds = subst (λ (x : ℕ × Right). P x.0 x.1) is holds
 
 module _ (state : State) (t : ℕ) (made : Call) (on : is_on_object made ≡ true) (keep : SearchesKeepRules Searches) where
   abbrev line : Line
@@ -102,11 +101,7 @@ module _ (state : State) (t : ℕ) (made : Call) (on : is_on_object made ≡ tru
       (subst (λ those. steps' ≤ steps + searches_limit kept state those) (sym (is-line made state t on).those)
       (thread_limit state t (access_of t made ∷ []) kept steps steps' (one_limit state (access_of t made) kept (steps' - steps) (omega arith) keep) none))
 
-  -- a line that is denied
-  pub door-denied : (kept kept' : Key → Bool) (steps steps' : ℕ) → steps ≤ steps' → KeepsRules state (accesses state (record { thread = t; call = made })) kept kept' (steps' - steps) → KeepsLine state (record { thread = t; call = made }) kept kept' steps steps'
-  door-denied kept kept' steps steps' rose rules = let own = (is-line made state t on).words in keeps_line state line kept kept' steps steps' (steps' - steps) rules (omega arith)
-
-  -- and one that is not
+  -- a line that is not denied
   pub door-done :
       (new : State) (reply : Reply) (object : ObjectRow) (kept : Key → Bool) (middle after : List (Option Seat)) (steps steps' : ℕ) → steps ≤ steps' → is_thread state t ≡ true → thread_call state t made ≡ (new, reply) → EndsBy made object middle after reply
       → KeepsRules state (accesses state (record { thread = t; call = made })) kept (λ key. is_kept middle key) (steps' - steps) → KeepsLine state (record { thread = t; call = made }) kept (λ key. is_kept after key) steps steps'

@@ -3,7 +3,7 @@ use Rattle.std.proofs.Common.{ℕ, suc, ◌≡◌, ◌≤◌, ◌<◌, ◌+◌, 
 use Rattle.std.specs.Prelude.{◌==◌, find, map, Option, None}
 use Rattle.std.proofs.Math.Seq.{drop-cons, take-suc}
 use Rattle.std.proofs.lemmas.List.{append-nil, append_assoc, drop_all, map-append}
-use Rattle.mg_calls_dom.specs.LineLemmas.{as_if, failed_access, keeps_line, limit_append}
+use Rattle.mg_calls_dom.specs.LineLemmas.{as_if, failed_access, limit_append}
 use Rattle.mg_calls_dom.specs.ReachedLemmas.{same_threads}
 use Rattle.mg_laws.specs.Costs.{SearchesGoOn, SearchesKeepRules}
 use Rattle.mg_model.specs.declared.calls.Call.TheVariants as call
@@ -11,8 +11,8 @@ use Rattle.mg_model.specs.declared.calls.Line.{Line}
 use Rattle.mg_model.specs.declared.rights.Right.{Right}
 use Rattle.mg_model.specs.declared.seats.Seat.{Seat}
 use Rattle.mg_model.specs.Access.{allowed}
-use Rattle.mg_model.specs.Accesses.{Access, accesses, tried, words_of}
-use Rattle.mg_model.specs.Kept.{KeepsLine, KeepsRules, Searches, Validates, access_limit, searches_limit}
+use Rattle.mg_model.specs.Accesses.{Access, tried, words_of}
+use Rattle.mg_model.specs.Kept.{Searches, Validates, access_limit, searches_limit}
 use Rattle.mg_model.specs.Keys.{Key}
 use Rattle.mg_model.specs.State.{State, Thread}
 use Rattle.mg_model.specs.Threads.{is_thread}
@@ -103,13 +103,6 @@ no-words state t a = by_thread (is_thread state t)
     by_thread : (v : Bool) → (let n : ℕ = if v then 0 else 0 in n) ≡ 0
     by_thread true = refl
     by_thread false = refl
-
--- the line of an `info`, from what its accesses keep
-pub info_line : (state : State) (t a : ℕ) (kept kept' : Key → Bool) (s w : ℕ) → s ≤ w → KeepsRules state (accesses state (record { thread = t; call = call.Info a })) kept kept' (w - s)
-    → KeepsLine state (record { thread = t; call = call.Info a }) kept kept' s w
-info_line state t a kept kept' s w high rules =
-    let none = no-words state t a in
-    keeps_line state (record { thread = t; call = call.Info a }) kept kept' s w (w - s) rules (omega arith)
 
 pub taken_more : (rights : List Right) (i : ℕ) (d : Right) → i < length rights → take i rights ++ get_or rights i d ∷ [] ≡ take (i + 1) rights
 taken_more rights i d within = let next : suc i ≡ i + 1 = omega arith in sym (take-suc rights i d within) ∙ ap (λ k. take k rights) next

@@ -1,11 +1,9 @@
 // An object gets an entry, another extension, or another account.
 ghost use Rattle.std.specs.Prelude.{◌≡◌, ◌≢◌, ◌≤◌, ◌+◌, ◌==◌, ℕ, false, find, IfSome, MatchOption, Some};
 ghost use Rattle.mg_calls_obj.specs.Altering.{is_crowded, is_outside, paying_refusal};
-ghost use Rattle.mg_model.specs.FewSlots.{HasFewSlots};
 ghost use Rattle.mg_model.specs.ObjectCalls as calls;
 ghost use Rattle.mg_model.specs.Ranges.{IsEntryOf};
-ghost use Rattle.mg_model.specs.Refused.{IsRefusal};
-ghost use Rattle.mg_volume.specs.Calls.{Acts, Stages};
+ghost use Rattle.mg_volume.specs.Calls.{Acts, CallStages};
 ghost use Rattle.mg_volume.specs.Meaning.{objects_in, staged_of};
 
 use mg_model::limits::{ENTRY_POINT_LIMIT, PAGE_SIZE};
@@ -18,10 +16,7 @@ use mg_volume::Volume;
 pub fn entry(v: &mut Volume, object: ObjRow, off: u64) -> Reply
     requires held { find (λ row. row.base == object.base) (objects_in v.old) ≡ Some object }
     requires few { staged_of v.old ≤ 159 }
-    ensures acts { Acts (λ state t a. calls.entry state t a off) Right.O object v.old v.new result }
-    ensures stages { Stages 1 v.old v.new }
-    ensures refused { IsRefusal result → v.new ≡ v.old }
-    ensures slots { HasFewSlots result }
+    ensures { CallStages (Acts (λ state t a. calls.entry state t a off) Right.O object) 1 v.old v.new result }
 {
     if is_outside(&object, off) {
         return Reply::No(Refusal::Range);
@@ -39,10 +34,7 @@ pub fn entry(v: &mut Volume, object: ObjRow, off: u64) -> Reply
 pub fn ext(v: &mut Volume, object: ObjRow, clist: u64, password: u64) -> Reply
     requires held { find (λ row. row.base == object.base) (objects_in v.old) ≡ Some object }
     requires few { staged_of v.old ≤ 159 }
-    ensures acts { Acts (λ state t a. calls.ext state t a clist password) Right.O object v.old v.new result }
-    ensures stages { Stages 1 v.old v.new }
-    ensures refused { IsRefusal result → v.new ≡ v.old }
-    ensures slots { HasFewSlots result }
+    ensures { CallStages (Acts (λ state t a. calls.ext state t a clist password) Right.O object) 1 v.old v.new result }
 {
     let mut row = object;
     row.set_ext(extension(clist, password));
@@ -55,10 +47,7 @@ pub fn ext(v: &mut Volume, object: ObjRow, clist: u64, password: u64) -> Reply
 pub fn recharge(v: &mut Volume, object: ObjRow, account: u64, password: u64) -> Reply
     requires held { find (λ row. row.base == object.base) (objects_in v.old) ≡ Some object }
     requires few { staged_of v.old ≤ 159 }
-    ensures acts { Acts (λ state t a. calls.recharge state t a account password) Right.O object v.old v.new result }
-    ensures stages { Stages 1 v.old v.new }
-    ensures refused { IsRefusal result → v.new ≡ v.old }
-    ensures slots { HasFewSlots result }
+    ensures { CallStages (Acts (λ state t a. calls.recharge state t a account password) Right.O object) 1 v.old v.new result }
 {
     match paying_refusal(v, account, password) {
         Some(word) => Reply::No(word),
@@ -75,8 +64,7 @@ pub fn recharge(v: &mut Volume, object: ObjRow, account: u64, password: u64) -> 
 fn is_outside(object: &ObjRow, off: u64) -> bool
     ensures { result ≡ is_outside object.now off }
 {
-    // It tells that the row keeps its ranges.
-    let _base = object.base();
+    object.keep_rules();
     off % 8 != 0 || off >= PAGE_SIZE * object.pages()
 }
 

@@ -2,13 +2,11 @@
 ghost use Rattle.std.specs.Prelude.{List, ◌≡◌, ◌≤◌, ◌<◌, ◌+◌, ◌||◌, ℕ, nat_le, nat_lt, true, length, sum_by, MatchOption};
 ghost use Rattle.mg_calls_obj.specs.Creating.{IsRoom, creating_refusal, used_in};
 ghost use Rattle.mg_model.specs.Bank.{opens, owed_by};
-ghost use Rattle.mg_model.specs.FewSlots.{HasFewSlots};
 ghost use Rattle.mg_model.specs.Limits.{draw_limit, object_limit};
 ghost use Rattle.mg_model.specs.ObjectCalls as calls;
 ghost use Rattle.mg_model.specs.Objects.{new_object};
 ghost use Rattle.mg_model.specs.Ranges.{IsPlace};
-ghost use Rattle.mg_model.specs.Refused.{IsRefusal};
-ghost use Rattle.mg_volume.specs.Calls.{Answers, Stages};
+ghost use Rattle.mg_volume.specs.Calls.{Answers, CallStages};
 ghost use Rattle.mg_volume.specs.Meaning.{accounts_in, counters_in, objects_in, settings_in, staged_of};
 
 use mg_model::limits::{DRAW_LIMIT, OBJECT_LIMIT, OBJECT_PAGE_LIMIT, PAGE_SIZE};
@@ -22,10 +20,7 @@ use mg_volume::Volume;
 /// right that was found ends.
 pub fn create(v: &mut Volume, n: u64, account: u64, password: u64) -> Reply
     requires few { staged_of v.old ≤ 158 }
-    ensures answers { Answers (λ state. calls.create state n account password) v.old v.new result }
-    ensures stages { Stages 2 v.old v.new }
-    ensures refused { IsRefusal result → v.new ≡ v.old }
-    ensures slots { HasFewSlots result }
+    ensures { CallStages (Answers (λ state. calls.create state n account password)) 2 v.old v.new result }
 {
     match refusal(v, n, account, password) {
         Some(word) => Reply::No(word),

@@ -1,16 +1,11 @@
 // The calls on an object, behind one search for the right to it.
-ghost use Rattle.std.specs.Prelude.{List, ◌≡◌, ◌≤◌, ◌+◌, ◌==◌, ℕ, true, find, IfOk, OnErr, OnOk, Some};
+ghost use Rattle.std.specs.Prelude.{List, ◌≡◌, ◌≤◌, ◌==◌, ℕ, true, find, Some};
 ghost use Rattle.std.specs.Option.{ForSome};
-ghost use Rattle.mg_calls_obj.specs.Door as door;
-ghost use Rattle.mg_calls_obj.specs.Door.{ActsBy, EndsBy, is_on_object};
-ghost use Rattle.mg_disk.specs.Stops.{CountRose};
-ghost use Rattle.mg_model.specs.FewSlots.{HasFewSlots};
-ghost use Rattle.mg_model.specs.Kept.{KeepsLine, line_limit};
-ghost use Rattle.mg_model.specs.Refused.{IsRefusal};
-ghost use Rattle.mg_model.specs.Turn.{thread_call};
-ghost use Rattle.mg_vcache.specs.Seats.{AllBacked, is_kept};
-ghost use Rattle.mg_volume.specs.Calls.{IsSoundOn, Serves, Stages};
-ghost use Rattle.mg_volume.specs.Meaning.{Keeps, now_of, objects_in, staged_of};
+ghost use Rattle.mg_calls_dom.specs.Served.{CallServes, of_call};
+ghost use Rattle.mg_calls_obj.specs.Door.{ActsBy, EndsBy, asked, is_on_object, named};
+ghost use Rattle.mg_vcache.specs.Seats.{AllBacked};
+ghost use Rattle.mg_volume.specs.Calls.{CallStages, IsSoundOn};
+ghost use Rattle.mg_volume.specs.Meaning.{now_of, objects_in, staged_of};
 
 use crate::altering::{entry, ext, recharge};
 use crate::making::delete;
@@ -39,47 +34,30 @@ pub fn on_object<D: Disk, L: Ledger>(
     requires few { staged_of v.old ≤ 28 }
     requires backed { ForSome (D.seen disk.old) (λ image. AllBacked (now_of v.old image) c.old) }
     requires on { is_on_object call.now ≡ true }
-    ensures answers { IfOk result (λ reply. ForSome (D.seen disk.old) (λ image. thread_call (now_of v.old image) t call.now ≡ (now_of v.new image, reply))) }
-    ensures refused { IfOk result (λ reply. IsRefusal reply → staged_of v.new ≡ staged_of v.old) }
-    ensures failed { OnErr result (Keeps v.old v.new) }
-    ensures slots { IfOk result HasFewSlots }
-    ensures backed { ForSome (D.seen disk.old) (λ image. AllBacked (now_of v.new image) c.new) }
-    ensures keeps { OnOk result (ForSome (D.seen disk.old) (λ image. KeepsLine (now_of v.old image) (record { thread = t; call = call.now }) (λ key. is_kept c.old key) (λ key. is_kept c.new key) steps.old steps.new)) }
-    ensures limit { ForSome (D.seen disk.old) (λ image. steps.new ≤ steps.old + line_limit (λ key. is_kept c.old key) (now_of v.old image) (record { thread = t; call = call.now })) }
-    ensures serves { Serves 129 D.Disk v.old v.new disk.old disk.new steps.old steps.new }
-    ensures cause { OnErr result (CountRose D.Disk disk.old disk.new) }
+    ensures { CallServes 129 D.Disk (of_call t call.now) result v.old v.new c.old c.new disk.old disk.new steps.old steps.new }
 {
     steps_keep_backing();
     accesses_keep_the_rules_of_a_line();
-    match reach(v, c, disk, t, named(call), asked(call), steps)? {
+    let place = wanted(call);
+    match reach(v, c, disk, t, place.0, place.1, steps)? {
         Some(object) => Ok(act(v, c, object, call)),
         None => Ok(Reply::No(Refusal::Denied)),
     }
 }
 
-// The address that a call names.
-fn named(call: &Call) -> u64
+// The address that a call names, and the right that it wants there.
+fn wanted(call: &Call) -> (u64, Right)
     requires { is_on_object call.now ≡ true }
-    ensures { result ≡ door.named call.now }
+    ensures { result ≡ (named call.now, asked call.now) }
 {
     match *call {
-        Call::Delete { base } => base,
-        Call::Pwadd { base, .. } => base,
-        Call::Pwdel { base, .. } => base,
-        Call::Entry { base, .. } => base,
-        Call::Ext { base, .. } => base,
-        Call::Recharge { base, .. } => base,
+        Call::Delete { base } => (base, Right::D),
+        Call::Pwadd { base, .. }
+        | Call::Pwdel { base, .. }
+        | Call::Entry { base, .. }
+        | Call::Ext { base, .. }
+        | Call::Recharge { base, .. } => (base, Right::O),
         _ => unreachable!(),
-    }
-}
-
-// The right that a call wants there.
-fn asked(call: &Call) -> Right
-    ensures { result ≡ door.asked call.now }
-{
-    match call {
-        Call::Delete { .. } => Right::D,
-        _ => Right::O,
     }
 }
 
@@ -88,11 +66,8 @@ fn act(v: &mut Volume, c: &mut VCache, object: ObjRow, call: &Call) -> Reply
     requires on { is_on_object call.now ≡ true }
     requires held { find (λ row. row.base == object.base) (objects_in v.old) ≡ Some object }
     requires few { staged_of v.old ≤ 28 }
-    ensures acts { ActsBy call.now object v.old v.new result }
+    ensures does { CallStages (ActsBy call.now object) 129 v.old v.new result }
     ensures seats { EndsBy call.now object c.old c.new result }
-    ensures stages { Stages 129 v.old v.new }
-    ensures refused { IsRefusal result → v.new ≡ v.old }
-    ensures slots { HasFewSlots result }
 {
     match *call {
         Call::Delete { .. } => delete(v, c, object),

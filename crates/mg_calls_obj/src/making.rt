@@ -2,10 +2,8 @@
 ghost use Rattle.std.specs.Prelude.{◌≡◌, ◌≤◌, ◌==◌, find, Some};
 ghost use Rattle.mg_vcache.specs.Drops.{Drops};
 ghost use Rattle.mg_model.specs.Backed.{by_via};
-ghost use Rattle.mg_model.specs.FewSlots.{HasFewSlots};
 ghost use Rattle.mg_model.specs.ObjectCalls as calls;
-ghost use Rattle.mg_model.specs.Refused.{IsRefusal};
-ghost use Rattle.mg_volume.specs.Calls.{Acts, Stages};
+ghost use Rattle.mg_volume.specs.Calls.{Acts, CallStages};
 ghost use Rattle.mg_volume.specs.Meaning.{objects_in, staged_of};
 
 use mg_model::{ObjRow, Reply, Right};
@@ -17,11 +15,8 @@ use mg_volume::Volume;
 pub fn delete(v: &mut Volume, c: &mut VCache, object: ObjRow) -> Reply
     requires held { find (λ row. row.base == object.base) (objects_in v.old) ≡ Some object }
     requires few { staged_of v.old ≤ 30 }
-    ensures acts { Acts (λ state t a. calls.delete state t a) Right.D object v.old v.new result }
+    ensures does { CallStages (Acts (λ state t a. calls.delete state t a) Right.D object) 129 v.old v.new result }
     ensures seats { Drops (by_via object.base) c.old c.new result }
-    ensures stages { Stages 129 v.old v.new }
-    ensures refused { IsRefusal result → v.new ≡ v.old }
-    ensures slots { HasFewSlots result }
 {
     let base = object.base();
     v.remove(base);

@@ -2,12 +2,10 @@
 ghost use Rattle.std.specs.Prelude.{◌≡◌, ◌≤◌, ◌<◌, ◌==◌, ◌||◌, ◌++◌, ◌∷◌, [], nat_le, find, length, Some};
 ghost use Rattle.mg_vcache.specs.Drops.{Drops};
 ghost use Rattle.mg_model.specs.Backed.{by_via};
-ghost use Rattle.mg_model.specs.FewSlots.{HasFewSlots};
 ghost use Rattle.mg_model.specs.Limits.{draw_limit, never, password_limit};
 ghost use Rattle.mg_model.specs.ObjectCalls as calls;
 ghost use Rattle.mg_model.specs.Ranges.{IsObjectRow};
-ghost use Rattle.mg_model.specs.Refused.{IsRefusal};
-ghost use Rattle.mg_volume.specs.Calls.{Acts, Stages};
+ghost use Rattle.mg_volume.specs.Calls.{Acts, CallStages};
 ghost use Rattle.mg_volume.specs.Meaning.{objects_in, staged_of};
 
 use mg_model::limits::{DRAW_LIMIT, PASSWORD_LIMIT};
@@ -22,10 +20,7 @@ use mg_volume::Volume;
 pub fn pwadd(v: &mut Volume, object: ObjRow, rights: Rights, until: Option<u64>) -> Reply
     requires held { find (λ row. row.base == object.base) (objects_in v.old) ≡ Some object }
     requires few { staged_of v.old ≤ 158 }
-    ensures acts { Acts (λ state t a. calls.pwadd state t a rights until) Right.O object v.old v.new result }
-    ensures stages { Stages 2 v.old v.new }
-    ensures refused { IsRefusal result → v.new ≡ v.old }
-    ensures slots { HasFewSlots result }
+    ensures { CallStages (Acts (λ state t a. calls.pwadd state t a rights until) Right.O object) 2 v.old v.new result }
 {
     let globals = v.globals();
     if is_past(globals.period(), until) {
@@ -45,11 +40,8 @@ pub fn pwadd(v: &mut Volume, object: ObjRow, rights: Rights, until: Option<u64>)
 pub fn pwdel(v: &mut Volume, c: &mut VCache, object: ObjRow, password: u64) -> Reply
     requires held { find (λ row. row.base == object.base) (objects_in v.old) ≡ Some object }
     requires few { staged_of v.old ≤ 159 }
-    ensures acts { Acts (λ state t a. calls.pwdel state t a password) Right.O object v.old v.new result }
+    ensures does { CallStages (Acts (λ state t a. calls.pwdel state t a password) Right.O object) 1 v.old v.new result }
     ensures seats { Drops (by_via object.base) c.old c.new result }
-    ensures stages { Stages 1 v.old v.new }
-    ensures refused { IsRefusal result → v.new ≡ v.old }
-    ensures slots { HasFewSlots result }
 {
     let mut row = object;
     match remove(&mut row, password) {

@@ -1,12 +1,10 @@
 // What is told of an object.
-ghost use Rattle.std.specs.Prelude.{List, ◌≡◌, ◌≤◌, ◌+◌, ℕ, IfOk, OnErr, OnOk};
+ghost use Rattle.std.specs.Prelude.{List, ◌≡◌, ℕ};
 ghost use Rattle.std.specs.Option.{ForSome};
-ghost use Rattle.mg_disk.specs.Stops.{CountRose};
-ghost use Rattle.mg_model.specs.FewSlots.{HasFewSlots};
-ghost use Rattle.mg_model.specs.Kept.{KeepsLine, line_limit};
+ghost use Rattle.mg_calls_dom.specs.Served.{CallReads, of_call};
 ghost use Rattle.mg_model.specs.ObjectCalls as calls;
-ghost use Rattle.mg_vcache.specs.Seats.{AllBacked, is_kept};
-ghost use Rattle.mg_volume.specs.Calls.{IsSoundOn, Reads};
+ghost use Rattle.mg_vcache.specs.Seats.{AllBacked};
+ghost use Rattle.mg_volume.specs.Calls.{IsSoundOn};
 ghost use Rattle.mg_volume.specs.Meaning.{now_of};
 
 use mg_calls_dom::reach;
@@ -34,13 +32,7 @@ pub fn info<D: Disk, L: Ledger>(
 ) -> Result<Reply, Failed>
     requires sound { IsSoundOn D.Disk v.old disk.old }
     requires backed { ForSome (D.seen disk.old) (λ image. AllBacked (now_of v.old image) c.old) }
-    ensures answers { IfOk result (λ reply. ForSome (D.seen disk.old) (λ image. calls.info (now_of v.old image) t a ≡ (now_of v.new image, reply))) }
-    ensures slots { IfOk result HasFewSlots }
-    ensures backed { ForSome (D.seen disk.old) (λ image. AllBacked (now_of v.new image) c.new) }
-    ensures keeps { OnOk result (ForSome (D.seen disk.old) (λ image. KeepsLine (now_of v.old image) (record { thread = t; call = Call.Info a }) (λ key. is_kept c.old key) (λ key. is_kept c.new key) steps.old steps.new)) }
-    ensures limit { ForSome (D.seen disk.old) (λ image. steps.new ≤ steps.old + line_limit (λ key. is_kept c.old key) (now_of v.old image) (record { thread = t; call = Call.Info a })) }
-    ensures reads { Reads D.Disk v.old v.new disk.old disk.new steps.old steps.new }
-    ensures cause { OnErr result (CountRose D.Disk disk.old disk.new) }
+    ensures { CallReads D.Disk (of_call t (Call.Info a)) result v.old v.new c.old c.new disk.old disk.new steps.old steps.new }
 {
     accesses_keep_the_rules_of_a_line();
     for right in RIGHTS {

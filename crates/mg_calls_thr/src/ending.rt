@@ -1,11 +1,9 @@
 // Threads are ended, and resumed.
 ghost use Rattle.std.specs.Prelude.{◌≡◌, ◌≤◌, ◌==◌, true};
 ghost use Rattle.mg_model.specs.Backed.{by_thread};
-ghost use Rattle.mg_model.specs.FewSlots.{HasFewSlots};
-ghost use Rattle.mg_model.specs.Refused.{IsRefusal};
 ghost use Rattle.mg_model.specs.Threads as threads;
 ghost use Rattle.mg_vcache.specs.Drops.{Drops};
-ghost use Rattle.mg_volume.specs.Calls.{Answers, Stages};
+ghost use Rattle.mg_volume.specs.Calls.{Answers, CallStages};
 ghost use Rattle.mg_volume.specs.Meaning.{staged_of};
 ghost use Rattle.mg_volume.specs.Staging.{lives};
 
@@ -26,11 +24,8 @@ const FIRST_THREAD: u64 = 1;
 pub fn end(v: &mut Volume, c: &mut VCache, t: u64, i: u64) -> Reply
     requires lives { lives v.old t ≡ true }
     requires few { staged_of v.old ≤ 159 }
-    ensures answers { Answers (λ state. threads.end_thread state t i) v.old v.new result }
+    ensures does { CallStages (Answers (λ state. threads.end_thread state t i)) 1 v.old v.new result }
     ensures seats { Drops (by_thread i) c.old c.new result }
-    ensures stages { Stages 1 v.old v.new }
-    ensures refused { IsRefusal result → v.new ≡ v.old }
-    ensures slots { HasFewSlots result }
 {
     match not_own(v, t, i) {
         Some(word) => Reply::No(word),
@@ -53,10 +48,7 @@ pub fn end(v: &mut Volume, c: &mut VCache, t: u64, i: u64) -> Reply
 pub fn resume(v: &mut Volume, t: u64, i: u64) -> Reply
     requires lives { lives v.old t ≡ true }
     requires few { staged_of v.old ≤ 159 }
-    ensures answers { Answers (λ state. threads.resume state t i) v.old v.new result }
-    ensures stages { Stages 1 v.old v.new }
-    ensures refused { IsRefusal result → v.new ≡ v.old }
-    ensures slots { HasFewSlots result }
+    ensures { CallStages (Answers (λ state. threads.resume state t i)) 1 v.old v.new result }
 {
     match not_own(v, t, i) {
         Some(word) => Reply::No(word),

@@ -1,18 +1,15 @@
 // Threads are made.
-ghost use Rattle.std.specs.Prelude.{List, ◌≡◌, ◌≤◌, ◌<◌, ◌+◌, ◌%◌, ◌||◌, ℕ, true, false, nat_le, length, IfOk, IfSome, MatchOption, None, OnErr, OnOk};
+ghost use Rattle.std.specs.Prelude.{List, ◌≡◌, ◌≤◌, ◌<◌, ◌+◌, ◌%◌, ◌||◌, ℕ, true, false, nat_le, length, IfSome, MatchOption, None};
 ghost use Rattle.std.specs.Option.{ForSome};
 ghost use Rattle.mg_calls_dom.specs.Searching.{access_refusal};
+ghost use Rattle.mg_calls_dom.specs.Served.{CallServes, of_call};
 ghost use Rattle.mg_calls_thr.specs.Making.{first_frame, first_row};
-ghost use Rattle.mg_disk.specs.Stops.{CountRose};
-ghost use Rattle.mg_model.specs.FewSlots.{HasFewSlots};
-ghost use Rattle.mg_model.specs.Kept.{KeepsLine, line_limit};
 ghost use Rattle.mg_model.specs.Limits.{birth_limit, thread_limit};
-ghost use Rattle.mg_model.specs.Refused.{IsRefusal};
 ghost use Rattle.mg_model.specs.Threads as threads;
 ghost use Rattle.mg_model.specs.WellFormed.{IsWellFormed};
-ghost use Rattle.mg_vcache.specs.Seats.{AllBacked, is_kept};
-ghost use Rattle.mg_volume.specs.Calls.{IsSoundOn, Serves, Stages};
-ghost use Rattle.mg_volume.specs.Meaning.{Keeps, counters_in, now_of, staged_of, threads_in};
+ghost use Rattle.mg_vcache.specs.Seats.{AllBacked};
+ghost use Rattle.mg_volume.specs.Calls.{IsSoundOn, Stages};
+ghost use Rattle.mg_volume.specs.Meaning.{counters_in, now_of, staged_of, threads_in};
 ghost use Rattle.mg_volume.specs.Staging.{lives};
 
 use mg_calls_dom::{row_of, word_object};
@@ -44,15 +41,7 @@ pub fn make<D: Disk, L: Ledger>(
     requires lives { lives v.old t ≡ true }
     requires few { staged_of v.old ≤ 158 }
     requires backed { ForSome (D.seen disk.old) (λ image. AllBacked (now_of v.old image) c.old) }
-    ensures answers { IfOk result (λ reply. ForSome (D.seen disk.old) (λ image. threads.make_thread (now_of v.old image) t pc ≡ (now_of v.new image, reply))) }
-    ensures refused { IfOk result (λ reply. IsRefusal reply → staged_of v.new ≡ staged_of v.old) }
-    ensures failed { OnErr result (Keeps v.old v.new) }
-    ensures slots { IfOk result HasFewSlots }
-    ensures backed { ForSome (D.seen disk.old) (λ image. AllBacked (now_of v.new image) c.new) }
-    ensures keeps { OnOk result (ForSome (D.seen disk.old) (λ image. KeepsLine (now_of v.old image) (record { thread = t; call = Call.Thread pc }) (λ key. is_kept c.old key) (λ key. is_kept c.new key) steps.old steps.new)) }
-    ensures limit { ForSome (D.seen disk.old) (λ image. steps.new ≤ steps.old + line_limit (λ key. is_kept c.old key) (now_of v.old image) (record { thread = t; call = Call.Thread pc })) }
-    ensures serves { Serves 2 D.Disk v.old v.new disk.old disk.new steps.old steps.new }
-    ensures cause { OnErr result (CountRose D.Disk disk.old disk.new) }
+    ensures { CallServes 2 D.Disk (of_call t (Call.Thread pc)) result v.old v.new c.old c.new disk.old disk.new steps.old steps.new }
 {
     steps_keep_backing();
     match word_object(v, c, disk, t, pc, Right::X, steps)? {

@@ -42,7 +42,7 @@ fn owe_at_most(accounts: &[AccRow], most: u64) -> bool
 fn most_owed(globals: &Globals) -> u64
     ensures { result ≡ globals.now.period * 2 ^ 36 }
 {
-    let _kept = globals.draws();
+    globals.keep_rules();
     globals.period() * DEBT_LIMIT
 }
 
@@ -113,8 +113,7 @@ pub(crate) fn pages_in(row: &Option<ObjRow>) -> u64
 {
     match row {
         Some(row) => {
-            // It tells that the row keeps its ranges.
-            let _base = row.base();
+            row.keep_rules();
             row.pages()
         }
         None => 0,

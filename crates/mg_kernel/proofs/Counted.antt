@@ -2,7 +2,7 @@
 use Rattle.std.specs.Prelude.{ℕ, ◌≡◌, ◌≤◌, ◌+◌, ◌==◌, ◌&&◌, Bool, true, false, [], find, is_some, if◌then◌else◌, Some, None}
 use Rattle.std.proofs.Common.{arith, refl, sym, ap, subst, ◌∙◌}
 use Rattle.mg_disk.specs.Disk.{Image}
-use Rattle.mg_kernel.specs.Calls.{KeepsCall, KeepsThread, call_limit, thread_limit}
+use Rattle.mg_kernel.specs.Calls.{KeepsCall, call_limit}
 use Rattle.mg_model.specs.declared.calls.Call.{Call}
 use Rattle.mg_model.specs.declared.calls.Call.TheVariants as call
 use Rattle.mg_model.specs.declared.calls.Line.{Line}
@@ -80,44 +80,32 @@ module _ (state : State) (t : ℕ) (made : Call) (of : IsOfThread state t made) 
       ap (λ xs. searches_limit kept state xs) (of.accesses ∙ ap (λ v. if v then call_accesses state t made else []) lives) in
       omega arith
 
-  -- and the other way round, whether the thread lives or not
-  pub thread-line : (kept kept' : Key → Bool) (steps steps' : ℕ) → KeepsThread state t made kept kept' steps steps' → KeepsLine state line kept kept' steps steps'
-  thread-line kept kept' steps steps' keeps = by_thread (is_thread state t) refl
-    where
-      by_thread : (v : Bool) → is_thread state t ≡ v → KeepsLine state line kept kept' steps steps'
-      by_thread true lives =
-          let those : accesses state line ≡ call_accesses state t made = of.accesses ∙ ap (λ v. if v then call_accesses state t made else []) lives in
-          let own : words_of state line ≡ call_words state t made = of.words ∙ ap (λ v. if v then call_words state t made else 0) lives in
-          let answer : step_of state t made ≡ thread_call state t made = of.answer ∙ ap (λ v. if v then thread_call state t made else (state, No NoThread)) lives in
-          let limit : searches_limit kept state (accesses state line) ≡ searches_limit kept state (call_accesses state t made) = ap (λ xs. searches_limit kept state xs) those in
-          let called = keeps.lives lives in
-          let least = called.least in
-          let most = called.most in
-          record {
-            keys = λ quiet. subst (λ xs. KeepsKeys state xs kept kept') (sym those) (called.keys (sym (ap (λ (a : Answer). is_ok a.1 && disturbs state t made) answer) ∙ quiet));
-            least = omega arith;
-            most = omega arith;
-          }
-      by_thread false gone =
-          let those : accesses state line ≡ [] = of.accesses ∙ ap (λ v. if v then call_accesses state t made else []) gone in
-          let own : words_of state line ≡ 0 = of.words ∙ ap (λ v. if v then call_words state t made else 0) gone in
-          let none = keeps.none gone in
-          record {
-            keys = λ quiet. subst (λ xs. KeepsKeys state xs kept kept') (sym those) (no-keys state kept kept' (keeps.keys gone));
-            least = omega arith;
-            most = omega arith;
-          }
+  -- and the other way round
+  pub call-line : (kept kept' : Key → Bool) (steps steps' : ℕ) → is_thread state t ≡ true → KeepsCall state t made kept kept' steps steps' → KeepsLine state line kept kept' steps steps'
+  call-line kept kept' steps steps' lives called =
+      let those : accesses state line ≡ call_accesses state t made = of.accesses ∙ ap (λ v. if v then call_accesses state t made else []) lives in
+      let own : words_of state line ≡ call_words state t made = of.words ∙ ap (λ v. if v then call_words state t made else 0) lives in
+      let answer : step_of state t made ≡ thread_call state t made = of.answer ∙ ap (λ v. if v then thread_call state t made else (state, No NoThread)) lives in
+      let limit : searches_limit kept state (accesses state line) ≡ searches_limit kept state (call_accesses state t made) = ap (λ xs. searches_limit kept state xs) those in
+      let least = called.least in
+      let most = called.most in
+      record {
+        keys = λ quiet. subst (λ xs. KeepsKeys state xs kept kept') (sym those) (called.keys (sym (ap (λ (a : Answer). is_ok a.1 && disturbs state t made) answer) ∙ quiet));
+        least = omega arith;
+        most = omega arith;
+      }
 
-  pub thread-limit : (kept : Key → Bool) (steps steps' : ℕ) → steps' ≤ steps + thread_limit kept state t made → steps' ≤ steps + line_limit kept state line
-  thread-limit kept steps steps' few = by_thread (is_thread state t) refl few
-    where
-      by_thread : (v : Bool) → is_thread state t ≡ v → steps' ≤ steps + (if v then call_limit kept state t made else 0) → steps' ≤ steps + line_limit kept state line
-      by_thread true lives few =
-          let own : words_of state line ≡ call_words state t made = of.words ∙ ap (λ v. if v then call_words state t made else 0) lives in
-          let limit : searches_limit kept state (accesses state line) ≡ searches_limit kept state (call_accesses state t made) =
-          ap (λ xs. searches_limit kept state xs) (of.accesses ∙ ap (λ v. if v then call_accesses state t made else []) lives) in
-          omega arith
-      by_thread false gone few = omega arith
+  pub limit-line : (kept : Key → Bool) (steps steps' : ℕ) → is_thread state t ≡ true → steps' ≤ steps + call_limit kept state t made → steps' ≤ steps + line_limit kept state line
+  limit-line kept steps steps' lives few =
+      let own : words_of state line ≡ call_words state t made = of.words ∙ ap (λ v. if v then call_words state t made else 0) lives in
+      let limit : searches_limit kept state (accesses state line) ≡ searches_limit kept state (call_accesses state t made) =
+      ap (λ xs. searches_limit kept state xs) (of.accesses ∙ ap (λ v. if v then call_accesses state t made else []) lives) in
+      omega arith
+
+  -- a line of a thread that does not live
+  pub gone-line : (kept : Key → Bool) (steps : ℕ) → is_thread state t ≡ false → KeepsLine state line kept kept steps steps
+  gone-line kept steps gone =
+      still-line state line kept steps (of.accesses ∙ ap (λ v. if v then call_accesses state t made else []) gone) (of.words ∙ ap (λ v. if v then call_words state t made else 0) gone)
 
 -- whether the thread lives, by what is held
 module _ (v : VolumeHeld) (image : Image) (t : ℕ) where
@@ -126,13 +114,3 @@ module _ (v : VolumeHeld) (image : Image) (t : ℕ) where
 
   pub held-gone : find (λ (thread : Thread). thread.number == t) (threads_in v) ≡ None → is_thread (now_of v image) t ≡ false
   held-gone found = ap is_some (told_thread v image t None found)
-
--- what a call of a thread keeps, where the thread lives, and where it does not
-pub lives-thread : (state : State) (t : ℕ) (made : Call) (kept kept' : Key → Bool) (steps steps' : ℕ) → is_thread state t ≡ true → (is_thread state t ≡ true → KeepsCall state t made kept kept' steps steps') → KeepsThread state t made kept kept' steps steps'
-lives-thread state t made kept kept' steps steps' lives keeps = record { lives = keeps; keys = λ gone. cc; none = λ gone. cc }
-
-pub gone-thread : (state : State) (t : ℕ) (made : Call) (kept : Key → Bool) (steps : ℕ) → is_thread state t ≡ false → KeepsThread state t made kept kept steps steps
-gone-thread state t made kept steps gone = record { lives = λ lives. cc; keys = λ gone key. refl; none = λ gone. refl }
-
-pub lives-limit : (state : State) (t : ℕ) (made : Call) (kept : Key → Bool) (steps steps' : ℕ) → is_thread state t ≡ true → steps' ≤ steps + call_limit kept state t made → steps' ≤ steps + thread_limit kept state t made
-lives-limit state t made kept steps steps' lives few = subst (λ v. steps' ≤ steps + (if v then call_limit kept state t made else 0)) (sym lives) few

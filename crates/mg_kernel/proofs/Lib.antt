@@ -1,5 +1,6 @@
 mod Bases
 mod Counted
+mod Served
 mod TurnCounts
 mod Standing
 mod Threads

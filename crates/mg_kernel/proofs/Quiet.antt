@@ -1,9 +1,13 @@
 -- What a call that asks for no right keeps and costs.
-use Rattle.std.specs.Prelude.{◌≡◌, ◌&&◌, ℕ, Bool, true, false, List, [], Option}
+use Rattle.std.specs.Prelude.{◌≡◌, ◌&&◌, ℕ, Bool, true, false, List, [], Option, Ok}
+use Rattle.std.specs.Option.{ForSome}
 use Rattle.std.proofs.Common.{refl, sym, ap, arith, subst, ◌∙◌}
+use Rattle.mg_calls_dom.specs.Served.{CallServes}
+use Rattle.mg_disk.specs.declared.disk.Disk.{Ghosts}
 use Rattle.mg_kernel.proofs.Counted.{no-keys}
-use Rattle.mg_kernel.specs.Calls.{KeepsCall}
+use Rattle.mg_kernel.specs.Calls.{KeepsCall, of_living}
 use Rattle.mg_kernel.specs.Unasked.{EndsUnasked, asks_nothing}
+use Rattle.mg_laws.specs.Backing.{CallsKeepBacked}
 use Rattle.mg_model.specs.declared.calls.Call.{Call}
 use Rattle.mg_model.specs.declared.calls.Call.TheVariants as call
 use Rattle.mg_model.specs.declared.replies.Reply.{Reply}
@@ -17,6 +21,10 @@ use Rattle.mg_model.specs.Turn.{thread_call}
 use Rattle.mg_model.specs.Warmth.{disturbs, is_ok}
 use Rattle.mg_vcache.specs.Seats.{AllBacked, is_kept}
 use Rattle.mg_vcache.specs.SeatLemmas.{drops_backed, drops_none, same_backed}
+use Rattle.mg_volume.specs.Calls.{Answers, CallStages, IsSoundOn}
+use Rattle.mg_volume.specs.Held.{VolumeHeld}
+use Rattle.mg_volume.specs.Meaning.{now_of, staged_of}
+use Rattle.mg_volume.specs.RunLemmas.{serves_wider, stages_serve}
 
 -- it makes no access, and has no word
 pub record IsStill (state : State) (t : ℕ) (made : Call) : Type 0 where
@@ -82,3 +90,26 @@ module _ (state : State) (t : ℕ) (seats seats' : List (Option Seat)) (reply : 
         least = omega arith;
         most = omega arith;
       }
+
+-- what it keeps in all; the disk is not asked for anything
+pub unasked-serves :
+    {D E : Type 0} (facts : Ghosts D) (old new : VolumeHeld) (seats seats' : List (Option Seat)) (disk : D) (steps : ℕ) (reply : Reply) (t : ℕ) (made : Call) → asks_nothing made ≡ true → facts.has_been disk (facts.moment disk) → IsSoundOn facts old disk
+    → CallsKeepBacked (λ state t made. (thread_call state t made).0) → ForSome (facts.seen disk) (λ image. AllBacked (now_of old image) seats) → CallStages (Answers (λ state. thread_call state t made)) 3 old new reply → EndsUnasked t made seats seats' reply
+    → CallServes {E = E} 130 facts (of_living t made) (Ok reply) old new seats seats' disk disk steps steps
+unasked-serves facts old new seats seats' disk steps reply t made asks been sound keep backed does ends =
+    let answers : ForSome (facts.seen disk) (λ image. thread_call (now_of old image) t made ≡ (now_of new image, reply)) = λ image told. does.answers image (sound.stands.fits image told) (sound.formed image told) in
+    record {
+      answers = answers;
+      refused = λ refused. ap staged_of (does.refused refused);
+      failed = tt;
+      slots = does.slots;
+      backed = λ image told.
+          let state = now_of old image in
+          let keeps : KeepsBacked (ended_by_call state t made) state (now_of new image) =
+          subst (λ s. KeepsBacked (ended_by_call state t made) state s) (ap (λ (a : Answer). a.0) (answers image told)) (keep state t made (sound.formed image told)) in
+          unasked-backed state (now_of new image) t seats seats' reply made asks keeps ends (λ refused. ap (λ v. now_of v image) (does.refused refused)) (backed image told);
+      keeps = λ image told lives. unasked-keeps (now_of old image) t seats seats' reply made (now_of new image) steps asks (answers image told) ends;
+      limit = λ image told lives. omega arith;
+      serves = serves_wider facts 3 130 old new disk disk steps steps (omega arith) (stages_serve facts 3 old new disk steps been sound.stands does.stages);
+      cause = tt;
+    }

@@ -1,5 +1,6 @@
 -- What a call of a thread keeps and costs, be it made by a line or by a script, and what a turn does.
-use Rattle.std.specs.Prelude.{ℕ, ◌≡◌, ◌≤◌, ◌+◌, ◌&&◌, Bool, true, false, if◌then◌else◌, Some}
+use Rattle.std.specs.Prelude.{ℕ, ◌≡◌, ◌≤◌, ◌+◌, ◌&&◌, Bool, true, false, Some}
+use Rattle.mg_calls_dom.specs.Served.{CallRow}
 use Rattle.mg_model.specs.declared.calls.Call.{Call}
 use Rattle.mg_model.specs.Accesses.{call_accesses, call_words, turn_accesses, turn_words}
 use Rattle.mg_model.specs.Kept.{KeepsKeys, searches_limit}
@@ -19,14 +20,13 @@ pub record KeepsCall (state : State) (t : ℕ) (made : Call) (kept kept' : Key �
   pub least : steps + call_words state t made ≤ steps'
   pub most : steps' ≤ steps + call_limit kept state t made
 
--- the same where the thread may not live: then it makes no access, and nothing is read or kept
-abbrev pub thread_limit : (Key → Bool) → State → ℕ → Call → ℕ
-thread_limit kept state t made = if is_thread state t then call_limit kept state t made else 0
-
-pub record KeepsThread (state : State) (t : ℕ) (made : Call) (kept kept' : Key → Bool) (steps steps' : ℕ) : Type 0 where
-  pub lives : is_thread state t ≡ true → KeepsCall state t made kept kept' steps steps'
-  pub keys : is_thread state t ≡ false → (key : Key) → kept' key ≡ kept key
-  pub none : is_thread state t ≡ false → steps' ≡ steps
+-- a call of a thread that lives, as its contract speaks of it
+abbrev pub of_living : ℕ → Call → CallRow
+of_living t made = record {
+  row = λ state. thread_call state t made;
+  KeepsKeys = λ state kept kept' steps steps'. is_thread state t ≡ true → KeepsCall state t made kept kept' steps steps';
+  IsWithin = λ state kept steps steps'. is_thread state t ≡ true → steps' ≤ steps + call_limit kept state t made;
+}
 
 -- the most that a turn of a thread adds to the counter of words, be it made or not
 abbrev pub turn_limit : (Key → Bool) → State → Thread → ℕ

@@ -95,7 +95,7 @@ impl Kernel {
         ensures limit { ForSome (D.seen disk.old) (λ image. steps.new ≤ steps.old + line_limit (λ key. keeps_key self.old key) (now_of self.old image) line.now) }
         ensures calls { DiskCalls D.Disk disk.old disk.new result }
     {
-        keeps_ranges(line);
+        keeps_ranges(*line);
         steps_keep_states_well_formed();
         answer(&mut self.volume, &mut self.cache, disk, line, steps)
     }

@@ -1,17 +1,13 @@
 // Turns: a thread fetches a word of its script, makes the call that the word asks for, and goes on behind it.
 ghost use Rattle.std.specs.Prelude.{List, ◌≡◌, ◌≤◌, ◌<◌, ◌+◌, ◌==◌, ℕ, true, find, IfOk, IfSome, MatchOption, None, OnErr, OnOk, option_map, Some};
 ghost use Rattle.std.specs.Option.{ForSome};
+ghost use Rattle.mg_calls_dom.specs.Served.{CallServes, of_line};
 ghost use Rattle.mg_disk.specs.Stops.{CountRose};
 ghost use Rattle.mg_kernel.specs.Calls.{KeepsTurn, turn_limit};
 ghost use Rattle.mg_laws.specs.Scripts.{at_cursor};
 ghost use Rattle.mg_model.specs.Domains.{with_thread};
-ghost use Rattle.mg_model.specs.FewSlots.{HasFewSlots};
-ghost use Rattle.mg_model.specs.Kept.{KeepsLine, line_limit};
 ghost use Rattle.mg_model.specs.Layout.{body_limit};
-ghost use Rattle.mg_model.specs.Refused.{IsRefusal};
-ghost use Rattle.mg_model.specs.Step.{of_thread, step};
 ghost use Rattle.mg_model.specs.Turn.{after_of, as_after, is_ready, thread_is_ready, turn_state};
-ghost use Rattle.mg_model.specs.Turn as turns;
 ghost use Rattle.mg_script.specs.Actions.{HasPlace, resumed};
 ghost use Rattle.mg_vcache.specs.Seats.{AllBacked, is_kept};
 ghost use Rattle.mg_volume.specs.Calls.{IsSoundOn, Serves, Stages};
@@ -43,15 +39,7 @@ pub(crate) fn turn<D: Disk, L: Ledger>(
     requires sound { IsSoundOn D.Disk v.old disk.old }
     requires few { staged_of v.old ≤ 28 }
     requires backed { ForSome (D.seen disk.old) (λ image. AllBacked (now_of v.old image) c.old) }
-    ensures answers { IfOk result (λ reply. ForSome (D.seen disk.old) (λ image. of_thread (now_of v.old image) t (turns.turn (now_of v.old image) t) ≡ (now_of v.new image, reply))) }
-    ensures refused { IfOk result (λ reply. IsRefusal reply → staged_of v.new ≡ staged_of v.old) }
-    ensures failed { OnErr result (Keeps v.old v.new) }
-    ensures slots { IfOk result HasFewSlots }
-    ensures backed { ForSome (D.seen disk.old) (λ image. AllBacked (now_of v.new image) c.new) }
-    ensures keeps { OnOk result (ForSome (D.seen disk.old) (λ image. KeepsLine (now_of v.old image) (record { thread = t; call = Call.Turn }) (λ key. is_kept c.old key) (λ key. is_kept c.new key) steps.old steps.new)) }
-    ensures limit { ForSome (D.seen disk.old) (λ image. steps.new ≤ steps.old + line_limit (λ key. is_kept c.old key) (now_of v.old image) (record { thread = t; call = Call.Turn })) }
-    ensures serves { Serves 131 D.Disk v.old v.new disk.old disk.new steps.old steps.new }
-    ensures cause { OnErr result (CountRose D.Disk disk.old disk.new) }
+    ensures { CallServes 131 D.Disk (of_line (record { thread = t; call = Call.Turn })) result v.old v.new c.old c.new disk.old disk.new steps.old steps.new }
 {
     match v.thread(t) {
         Some(row) => {
@@ -79,15 +67,7 @@ pub(crate) fn next<D: Disk, L: Ledger>(
     requires sound { IsSoundOn D.Disk v.old disk.old }
     requires few { staged_of v.old ≤ 28 }
     requires backed { ForSome (D.seen disk.old) (λ image. AllBacked (now_of v.old image) c.old) }
-    ensures answers { IfOk result (λ reply. ForSome (D.seen disk.old) (λ image. turns.next (now_of v.old image) ≡ (now_of v.new image, reply))) }
-    ensures refused { IfOk result (λ reply. IsRefusal reply → staged_of v.new ≡ staged_of v.old) }
-    ensures failed { OnErr result (Keeps v.old v.new) }
-    ensures slots { IfOk result HasFewSlots }
-    ensures backed { ForSome (D.seen disk.old) (λ image. AllBacked (now_of v.new image) c.new) }
-    ensures keeps { OnOk result (ForSome (D.seen disk.old) (λ image. (t : ℕ) → KeepsLine (now_of v.old image) (record { thread = t; call = Call.Next }) (λ key. is_kept c.old key) (λ key. is_kept c.new key) steps.old steps.new)) }
-    ensures limit { ForSome (D.seen disk.old) (λ image. (t : ℕ) → steps.new ≤ steps.old + line_limit (λ key. is_kept c.old key) (now_of v.old image) (record { thread = t; call = Call.Next })) }
-    ensures serves { Serves 132 D.Disk v.old v.new disk.old disk.new steps.old steps.new }
-    ensures cause { OnErr result (CountRose D.Disk disk.old disk.new) }
+    ensures { (t : ℕ) → CallServes 132 D.Disk (of_line (record { thread = t; call = Call.Next })) result v.old v.new c.old c.new disk.old disk.new steps.old steps.new }
 {
     backing_rests_on_the_domain();
     next_runs_the_least_ready_thread();
@@ -141,7 +121,7 @@ fn run<D: Disk, L: Ledger>(
     accesses_go_on();
     turns_are_calls();
     turns_search_as_calls();
-    let _kept = row.birth();
+    row.keep_rules();
     let fetched = match fetch(v, c, disk, t, row.pc(), steps) {
         Ok(fetched) => fetched,
         Err(Failed) => return Err(Failed),

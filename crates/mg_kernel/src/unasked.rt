@@ -1,10 +1,8 @@
 // Calls of a thread that ask for no right.
 ghost use Rattle.std.specs.Prelude.{◌≡◌, ◌≤◌, true};
 ghost use Rattle.mg_kernel.specs.Unasked.{EndsUnasked, asks_nothing};
-ghost use Rattle.mg_model.specs.FewSlots.{HasFewSlots};
-ghost use Rattle.mg_model.specs.Refused.{IsRefusal};
 ghost use Rattle.mg_model.specs.Turn.{thread_call};
-ghost use Rattle.mg_volume.specs.Calls.{Answers, Stages};
+ghost use Rattle.mg_volume.specs.Calls.{Answers, CallStages};
 ghost use Rattle.mg_volume.specs.Meaning.{staged_of};
 ghost use Rattle.mg_volume.specs.Staging.{lives};
 
@@ -21,11 +19,8 @@ pub(crate) fn unasked(v: &mut Volume, c: &mut VCache, t: u64, call: &Call) -> Re
     requires asks { asks_nothing call.now ≡ true }
     requires lives { lives v.old t ≡ true }
     requires few { staged_of v.old ≤ 28 }
-    ensures answers { Answers (λ state. thread_call state t call.now) v.old v.new result }
+    ensures does { CallStages (Answers (λ state. thread_call state t call.now)) 3 v.old v.new result }
     ensures seats { EndsUnasked t call.now c.old c.new result }
-    ensures stages { Stages 3 v.old v.new }
-    ensures refused { IsRefusal result → v.new ≡ v.old }
-    ensures slots { HasFewSlots result }
 {
     match *call {
         Call::Create {

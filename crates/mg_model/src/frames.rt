@@ -50,6 +50,13 @@ impl Frame {
         }
     }
 
+    /// Tells that the frame keeps its rules. It does nothing when it runs.
+    pub fn keep_rules(&self)
+        ensures { IsCallFrame self.now }
+    {
+        let _back = self.back;
+    }
+
     /// The address that the call returns to, a multiple of 8.
     pub fn back(&self) -> u64
         ensures value { result ≡ self.now.back }

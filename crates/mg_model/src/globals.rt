@@ -40,6 +40,13 @@ impl Globals {
         }
     }
 
+    /// Tells that the row keeps its rules. It does nothing when it runs.
+    pub fn keep_rules(&self)
+        ensures { IsCounters self.now }
+    {
+        let _draws = self.draws;
+    }
+
     /// How many passwords were drawn.
     pub fn draws(&self) -> u64
         ensures value { result ≡ self.now.draws }

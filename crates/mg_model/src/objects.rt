@@ -78,6 +78,13 @@ impl ObjRow {
         }
     }
 
+    /// Tells that the row keeps its rules. It does nothing when it runs.
+    pub fn keep_rules(&self)
+        ensures { IsObjectRow self.now }
+    {
+        let _base = self.base;
+    }
+
     /// The address of its first byte.
     pub fn base(&self) -> u64
         ensures value { result ≡ self.now.base }

@@ -63,6 +63,13 @@ impl ThrRow {
         }
     }
 
+    /// Tells that the row keeps its rules. It does nothing when it runs.
+    pub fn keep_rules(&self)
+        ensures { IsThreadRow self.now }
+    {
+        let _birth = self.birth;
+    }
+
     /// Its birth number, which no other thread ever has.
     pub fn birth(&self) -> u64
         ensures value { result ≡ self.now.birth }

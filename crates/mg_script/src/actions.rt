@@ -30,7 +30,7 @@ pub enum Action {
 pub fn advance(row: &mut ThrRow)
     ensures { row.new ≡ advanced row.old }
 {
-    let _kept = row.birth();
+    row.keep_rules();
     row.set_pc(row.pc().wrapping_add(8));
 }
 
@@ -43,7 +43,7 @@ pub fn execute(i: &Instr, r: &ThrRow) -> Action
     ensures frames { HasFrames r.now result }
     ensures call { made_by r.now result ≡ call_of r.now i.now }
 {
-    let _kept = r.birth();
+    r.keep_rules();
     let here = r.pc();
     let mut row = *r;
     advance(&mut row);

@@ -144,7 +144,7 @@ fn in_frame(row: ThrRow) -> ThrRow
 fn returning(mut row: ThrRow) -> ThrRow
     ensures { result ≡ record row { frames = returning_on row.frames } }
 {
-    let _kept = row.birth();
+    row.keep_rules();
     let mut last = row.last();
     if row.frames().len() <= 1 {
         return row;

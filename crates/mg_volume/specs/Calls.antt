@@ -8,8 +8,9 @@ use Rattle.mg_model.specs.declared.replies.Reply.{Reply}
 use Rattle.mg_model.specs.declared.rights.Right.{Right}
 use Rattle.mg_model.specs.Access.{allowed}
 use Rattle.mg_model.specs.Counts.{CountsAlike}
+use Rattle.mg_model.specs.FewSlots.{HasFewSlots}
 use Rattle.mg_model.specs.ObjectCalls.{row_at}
-use Rattle.mg_model.specs.Refused.{Answer}
+use Rattle.mg_model.specs.Refused.{Answer, IsRefusal}
 use Rattle.mg_model.specs.State.{ObjectRow, State}
 use Rattle.mg_model.specs.WellFormed.{IsWellFormed}
 use Rattle.mg_volume.specs.Held.{VolumeHeld}
@@ -33,6 +34,14 @@ Answers call old new reply = (image : Image) → IsSpelledBy old image → IsWel
 abbrev pub Acts : (State → ℕ → ℕ → Answer) → Right → ObjectRow → VolumeHeld → VolumeHeld → Reply → Type 0
 Acts call right object old new reply =
     (image : Image) (t a : ℕ) → IsSpelledBy old image → IsWellFormed (now_of old image) → row_at (now_of old image) a ≡ object → allowed (now_of old image) t a right ≡ true → call (now_of old image) t a ≡ (now_of new image, reply)
+
+-- What a call without the disk does: the state and the reply are those of its row, at most so many blocks more are staged, and
+-- where it is refused the volume stays.
+pub record CallStages (Row : VolumeHeld → VolumeHeld → Reply → Type 0) (most : ℕ) (old new : VolumeHeld) (reply : Reply) : Type 0 where
+  pub answers : Row old new reply
+  pub stages : Stages most old new
+  pub refused : IsRefusal reply → new ≡ old
+  pub slots : HasFewSlots reply
 
 -- the volume stands on the disk, and its state is well formed
 pub record IsSoundOn {D : Type 0} (facts : Ghosts D) (v : VolumeHeld) (disk : D) : Type 0 where

@@ -8,11 +8,16 @@ use Rattle.mg_disk.specs.Runs.{nothing_none, nothing_then}
 use Rattle.mg_disk.specs.Stops.{CountGoes, CountRose, WritesNothing}
 use Rattle.mg_disk.specs.declared.disk.Disk.{Ghosts}
 use Rattle.mg_faults.specs.Faults.{count_none, count_then, then_rose}
+use Rattle.mg_model.specs.declared.replies.Refusal.{Refusal}
+use Rattle.mg_model.specs.declared.replies.Reply.{Reply}
+use Rattle.mg_model.specs.declared.replies.Reply.TheVariants.{No}
 use Rattle.mg_model.specs.Access.{thread_of}
 use Rattle.mg_model.specs.Counts.{CountsAlike}
+use Rattle.mg_model.specs.FewSlots.{HasFewSlots}
+use Rattle.mg_model.specs.Refused.{IsRefusal}
 use Rattle.mg_model.specs.State.{Counters, Object, ObjectRow, State, Thread}
 use Rattle.mg_model.specs.WellFormed.{IsWellFormed}
-use Rattle.mg_volume.specs.Calls.{IsSoundOn, Reads, Serves, Stages}
+use Rattle.mg_volume.specs.Calls.{CallStages, IsSoundOn, Reads, Serves, Stages}
 use Rattle.mg_volume.specs.Held.{VolumeHeld}
 use Rattle.mg_volume.specs.Laws.{now_counters, now_rows, now_threads, staged_stands}
 use Rattle.mg_volume.specs.Meaning.{Keeps, SameShape, StandsOn, counters_in, now_of, objects_in, threads_in, words_in}
@@ -72,6 +77,17 @@ stages_then n m a b c first second = record {
 -- fewer may be said to be staged
 pub stages_wider : (n m : ℕ) (a b : VolumeHeld) → n ≤ m → Stages n a b → Stages m a b
 stages_wider n m a b fewer run = record { shape = run.shape; spelled = run.spelled; least = run.least; staged = let some = run.staged in omega arith; still = run.still }
+
+-- of a call too, and what its row gives may be said in other words
+pub call_wider : (Row Row' : VolumeHeld → VolumeHeld → Reply → Type 0) (n m : ℕ) (a b : VolumeHeld) (reply : Reply) → n ≤ m → (Row a b reply → Row' a b reply) → CallStages Row n a b reply → CallStages Row' m a b reply
+call_wider Row Row' n m a b reply fewer said call = record { answers = said call.answers; stages = stages_wider n m a b fewer call.stages; refused = call.refused; slots = call.slots }
+
+-- a call that was made, and one that is refused
+pub call_made : (Row : VolumeHeld → VolumeHeld → Reply → Type 0) (most : ℕ) (old new : VolumeHeld) (reply : Reply) → (IsRefusal reply → ⊥) → HasFewSlots reply → Row old new reply → Stages most old new → CallStages Row most old new reply
+call_made Row most old new reply made slots answers stages = record { answers = answers; stages = stages; refused = λ refused. absurd (made refused); slots = slots }
+
+pub call_refused : (Row : VolumeHeld → VolumeHeld → Reply → Type 0) (most : ℕ) (v : VolumeHeld) (word : Refusal) → Row v v (No word) → CallStages Row most v v (No word)
+call_refused Row most v word answers = record { answers = answers; stages = stages_none most v; refused = λ refused. refl; slots = tt }
 
 module _ {D : Type 0} (facts : Ghosts D) where
   -- a state that stays is as well formed as it was

@@ -1,15 +1,22 @@
-use Rattle.std.proofs.Common.{sym, ◌∙◌}
+use Rattle.std.proofs.Common.{sym, ◌∙◌, rules}
 use Rattle.mg_calls_bank.proofs.AccountRows.{balance-closed, balance-told}
 use Rattle.mg_volume.specs.Laws.{now_accounts, now_rows}
 use Rattle.mg_volume.specs.Meaning.{accounts_in, now_of, objects_in}
+use Rattle.mg_volume.specs.RunLemmas.{call_refused}
 use Rattle.mg_calls_bank.proofs.banking.balance.Goals as goal
 
-pub returns-then-opens-clause-answers : goal.returns-then-opens-clause-answers
-returns-then-opens-clause-answers c image spelled formed =
-    let v = c.args.v.now in
-    balance-told (now_of v image) (accounts_in v) (objects_in v) c.args.account c.args.password c.funds.result (now_accounts v image) (now_rows v image) (sym c.opens.ensures.opens ∙ c.if-opens.true) c.funds.ensures
+pub returns-then-opens : goal.returns-then-opens
+returns-then-opens c = record {
+  answers = λ image spelled formed.
+      let v = c.args.v.now in
+      balance-told (now_of v image) (accounts_in v) (objects_in v) c.args.account c.args.password c.funds.result (now_accounts v image) (now_rows v image) (sym c.opens.ensures.opens ∙ c.if-opens.true) c.funds.ensures;
+  stages = search rules;
+  refused = search rules;
+  slots = search rules;
+}
 
-pub returns-else-opens-clause-answers : goal.returns-else-opens-clause-answers
-returns-else-opens-clause-answers c image spelled formed =
+pub returns-else-opens : goal.returns-else-opens
+returns-else-opens c =
+    call_refused _ _ _ _ (λ image spelled formed.
     let v = c.args.v.now in
-    balance-closed (now_of v image) (accounts_in v) c.args.account c.args.password (now_accounts v image) (sym c.opens.ensures.opens ∙ c.if-opens.false)
+    balance-closed (now_of v image) (accounts_in v) c.args.account c.args.password (now_accounts v image) (sym c.opens.ensures.opens ∙ c.if-opens.false))

@@ -19,7 +19,7 @@ word-requires-clause-page g c =
     let held = rw c.in-Some.is at c.in_ok-object.ensures.covers in
     let inside = found-passes (λ row. covers row c.args.a) (objects_in c.reach.new.v) c.in-Some.object held in
     subst (λ page. has_page c.reach.new.v page ≡ true) (sym c.page_of-page.ensures.page)
-    (found-any (λ row. covers row c.args.a) (λ row. is_page_in (c.args.a / 4096) row) (objects_in c.reach.new.v) c.in-Some.object held (page-in c.in-Some.object c.args.a inside c.base-kept.ensures.kept.place))
+    (found-any (λ row. covers row c.args.a) (λ row. is_page_in (c.args.a / 4096) row) (objects_in c.reach.new.v) c.in-Some.object held (page-in c.in-Some.object c.args.a inside c.keep_rules.ensures.place))
 
 pub returns-in_ok-word-in-Some-clause-word : goal.returns-in_ok-word-in-Some-clause-word
 returns-in_ok-word-in-Some-clause-word g c image told =

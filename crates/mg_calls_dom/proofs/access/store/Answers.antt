@@ -1,13 +1,18 @@
-use Rattle.std.proofs.Common.{◌≡◌, ◌+◌, ◌-◌, ◌*◌, arith, sym, ap, subst, ◌∙◌}
+use Rattle.std.specs.Option.{ForSome}
+use Rattle.std.proofs.Common.{◌≡◌, ◌+◌, ◌-◌, ◌*◌, arith, sym, ap, subst, ◌∙◌, rules}
 use Rattle.mg_calls_dom.proofs.Refusals.{word-address}
 use Rattle.mg_calls_dom.proofs.Words.{dropped-keys, no-word, own-word, stored-backed}
-use Rattle.mg_calls_dom.specs.LineLemmas.{drops_line, keeps_line, limit_line}
+use Rattle.mg_calls_dom.specs.LineLemmas.{drops_line, limit_line}
 use Rattle.mg_calls_dom.specs.Searching.{word_accesses}
+use Rattle.mg_calls_dom.specs.ServedLemmas.{read_call, reads_serves}
+use Rattle.mg_calls_dom.specs.Served.{of_call}
 use Rattle.mg_model.specs.declared.calls.Call.TheVariants as call
 use Rattle.mg_model.specs.declared.calls.Line.{Line}
 use Rattle.mg_model.specs.declared.replies.Reply.TheVariants.{Done, No}
 use Rattle.mg_model.specs.declared.rights.Right.TheVariants.{W}
 use Rattle.mg_model.specs.Accesses.{words_of}
+use Rattle.mg_model.specs.Kept.{KeepsLine}
+use Rattle.mg_model.specs.ObjectCalls.{store}
 use Rattle.mg_model.specs.Objects.{with_word}
 use Rattle.mg_model.specs.Refused.{unless_refused}
 use Rattle.mg_model.specs.State.{State}
@@ -16,77 +21,69 @@ use Rattle.mg_volume.specs.Meaning.{now_of}
 use Rattle.mg_volume.specs.RunLemmas.{then_serves}
 use Rattle.mg_calls_dom.proofs.access.store.Goals as goal
 
-pub returns-in_ok-set_word-in-Ok-clause-answers : goal.returns-in_ok-set_word-in-Ok-clause-answers
-returns-in_ok-set_word-in-Ok-clause-answers g c image told =
+pub returns-in_ok-set_word-in-Ok : goal.returns-in_ok-set_word-in-Ok
+returns-in_ok-set_word-in-Ok g c =
+    let line : Line = record { thread = c.args.t; call = call.Store c.args.a c.args.value } in
+    let reads = c.word_object.ensures.reads in
+    let answers : ForSome (g.D.Disk.seen c.args.disk.now) (λ image. store (now_of c.args.v.now image) c.args.t c.args.a c.args.value ≡ (now_of c.set_word.new.self image, Done)) = λ image told.
     let state = now_of c.args.v.now image in
     let refusal = rw c.in-Ok.is at (c.in_ok-object.ensures.refusal image told) in
     let (inside, there, aligned) = rw c.in-Ok.is at c.in_ok-object.ensures.place in
     let address = word-address c.args.a c.page_of-page.result c.index_of.result c.page_of-page.ensures.page c.index_of.ensures aligned in
-    let reads = c.word_object.ensures.reads in
     let sets = c.in_ok-set_word-in-Ok.ensures.sets image (reads.writes.same ∙ told)
     ∙ ap (λ (s : State). record s { objects = with_word s.objects (4096 * c.page_of-page.result + 8 * c.index_of.result) c.args.value }) (reads.keeps.now image) in
     ap (λ r. unless_refused r state (record state { objects = with_word state.objects c.args.a c.args.value }, Done)) refusal
     ∙ ap (λ a. (record state { objects = with_word state.objects a c.args.value }, Done)) (sym address)
-    ∙ ap (λ s. (s, Done)) (sym sets)
-
-pub returns-in_ok-set_word-in-Ok-clause-serves : goal.returns-in_ok-set_word-in-Ok-clause-serves
-returns-in_ok-set_word-in-Ok-clause-serves g c =
-    then_serves g.D.Disk 2 c.args.v.now c.word_object.new.v c.set_word.new.self c.args.disk.now c.word_object.new.disk c.set_word.new.disk c.args.steps.now c.word_object.new.steps c.set_word.new.steps
-    c.word_object.ensures.reads c.set_word.ensures.serves
-
-pub returns-in_ok-set_word-in-Ok-clause-keeps : goal.returns-in_ok-set_word-in-Ok-clause-keeps
-returns-in_ok-set_word-in-Ok-clause-keeps g c image told =
+    ∙ ap (λ s. (s, Done)) (sym sets) in
+    let keeps : ForSome (g.D.Disk.seen c.args.disk.now) (λ image. KeepsLine (now_of c.args.v.now image) line (λ key. is_kept c.args.c.now key) (λ key. is_kept c.drop_written.new.c key) c.args.steps.now c.set_word.new.steps) = λ image told.
     let state = now_of c.args.v.now image in
-    let line : Line = record { thread = c.args.t; call = call.Store c.args.a c.args.value } in
     let refusal = rw c.in-Ok.is at (c.in_ok-object.ensures.refusal image told) in
     let found = (rw c.in-Ok.is at c.in_ok-object.ensures.row) image told in
     let own : words_of state line ≡ 1 = own-word state c.args.t c.args.a W c.in-Ok.object found refusal in
-    let (n, rose, words) = c.word_object.ensures.reads.counted in
+    let (n, rose, words) = reads.counted in
     let one = c.in_ok-set_word-in-Ok.ensures.one in
     let rules = c.in_ok-object.ensures.rules image told in
     drops_line state line (λ key. is_kept c.args.c.now key) (λ key. is_kept c.drop_written.new.c key) c.args.steps.now c.set_word.new.steps (c.word_object.new.steps - c.args.steps.now)
     (dropped-keys state c.args.t c.args.a c.args.value c.in-Ok.object found (now_of c.set_word.new.self image) (word_accesses state c.args.t c.args.a W) (λ key. is_kept c.args.c.now key) c.word_object.new.c c.drop_written.new.c
-    (returns-in_ok-set_word-in-Ok-clause-answers g c image told) c.drop_written.ensures rules.keys) rules.few (omega arith)
+    (answers image told) c.drop_written.ensures rules.keys) rules.few (omega arith) in
+    record {
+      answers = answers;
+      refused = search rules;
+      failed = search rules;
+      slots = search rules;
+      backed = λ image told.
+          let state = now_of c.args.v.now image in
+          let found = (rw c.in-Ok.is at c.in_ok-object.ensures.row) image told in
+          stored-backed state c.args.t c.args.a c.args.value c.in-Ok.object found (now_of c.set_word.new.self image) c.word_object.new.c c.drop_written.new.c (c.requires.sound.formed image told) c.steps_keep_backing.ensures.calls c.stores_end_one_list.ensures
+          (answers image told) c.drop_written.ensures (subst (λ s. AllBacked s c.word_object.new.c) (reads.keeps.now image) (c.word_object.ensures.backed image told));
+      keeps = keeps;
+      limit = λ image told. (keeps image told).most;
+      serves = then_serves g.D.Disk 2 c.args.v.now c.word_object.new.v c.set_word.new.self c.args.disk.now c.word_object.new.disk c.set_word.new.disk c.args.steps.now c.word_object.new.steps c.set_word.new.steps reads c.set_word.ensures.serves;
+      cause = search rules;
+    }
 
-pub returns-in_ok-set_word-in-Ok-clause-limit : goal.returns-in_ok-set_word-in-Ok-clause-limit
-returns-in_ok-set_word-in-Ok-clause-limit g c image told = (returns-in_ok-set_word-in-Ok-clause-keeps g c image told).most
-
-pub returns-in_ok-set_word-in-Ok-clause-backed : goal.returns-in_ok-set_word-in-Ok-clause-backed
-returns-in_ok-set_word-in-Ok-clause-backed g c image told =
+pub returns-in-Err : goal.returns-in-Err
+returns-in-Err g c =
+    let made = call.Store c.args.a c.args.value in
+    reads_serves g.D.Disk c.args.v.now c.word_object.new.v c.args.c.now c.word_object.new.c c.args.disk.now c.word_object.new.disk c.args.steps.now c.word_object.new.steps 2 (of_call c.args.t made) _
+    (read_call g.D.Disk c.args.v.now c.word_object.new.v c.args.c.now c.word_object.new.c c.args.disk.now c.word_object.new.disk c.args.steps.now c.word_object.new.steps c.args.t made (No c.in-Err.word) tt
+    (λ image told.
     let state = now_of c.args.v.now image in
-    let found = (rw c.in-Ok.is at c.in_ok-object.ensures.row) image told in
-    stored-backed state c.args.t c.args.a c.args.value c.in-Ok.object found (now_of c.set_word.new.self image) c.word_object.new.c c.drop_written.new.c (c.requires.sound.formed image told) c.steps_keep_backing.ensures.calls c.stores_end_one_list.ensures
-    (returns-in_ok-set_word-in-Ok-clause-answers g c image told) c.drop_written.ensures (subst (λ s. AllBacked s c.word_object.new.c) (c.word_object.ensures.reads.keeps.now image) (c.word_object.ensures.backed image told))
+    ap (λ r. unless_refused r state (record state { objects = with_word state.objects c.args.a c.args.value }, Done)) (rw c.in-Err.is at (c.in_ok-object.ensures.refusal image told)))
+    c.word_object.ensures.backed c.in_ok-object.ensures.rules
+    (λ image told. no-word (now_of c.args.v.now image) c.args.t c.args.a W c.in-Err.word (rw c.in-Err.is at (c.in_ok-object.ensures.refusal image told))) c.word_object.ensures.reads)
 
-pub returns-in-Err-clause-answers : goal.returns-in-Err-clause-answers
-returns-in-Err-clause-answers g c image told =
-    let state = now_of c.args.v.now image in
-    let refusal = rw c.in-Err.is at (c.in_ok-object.ensures.refusal image told) in
-    ap (λ r. unless_refused r state (record state { objects = with_word state.objects c.args.a c.args.value }, Done)) refusal ∙ ap (λ s. (s, No c.in-Err.word)) (sym (c.word_object.ensures.reads.keeps.now image))
-
-pub returns-in-Err-clause-keeps : goal.returns-in-Err-clause-keeps
-returns-in-Err-clause-keeps g c image told =
-    let state = now_of c.args.v.now image in
-    let line : Line = record { thread = c.args.t; call = call.Store c.args.a c.args.value } in
-    let refusal = rw c.in-Err.is at (c.in_ok-object.ensures.refusal image told) in
-    let own : words_of state line ≡ 0 = no-word state c.args.t c.args.a W c.in-Err.word refusal in
-    let (n, rose, words) = c.word_object.ensures.reads.counted in
-    keeps_line state line (λ key. is_kept c.args.c.now key) (λ key. is_kept c.word_object.new.c key) c.args.steps.now c.word_object.new.steps (c.word_object.new.steps - c.args.steps.now) (c.in_ok-object.ensures.rules image told) (omega arith)
-
-pub returns-in-Err-clause-limit : goal.returns-in-Err-clause-limit
-returns-in-Err-clause-limit g c image told =
-    limit_line (now_of c.args.v.now image) (record { thread = c.args.t; call = call.Store c.args.a c.args.value }) (λ key. is_kept c.args.c.now key) c.args.steps.now c.word_object.new.steps (c.word_object.ensures.limit image told)
-
-pub returns-in_err-set_word-in-Ok-clause-serves : goal.returns-in_err-set_word-in-Ok-clause-serves
-returns-in_err-set_word-in-Ok-clause-serves g c =
-    then_serves g.D.Disk 2 c.args.v.now c.word_object.new.v c.set_word.new.self c.args.disk.now c.word_object.new.disk c.set_word.new.disk c.args.steps.now c.word_object.new.steps c.set_word.new.steps
-    c.word_object.ensures.reads c.set_word.ensures.serves
-
-pub returns-in_err-set_word-in-Ok-clause-backed : goal.returns-in_err-set_word-in-Ok-clause-backed
-returns-in_err-set_word-in-Ok-clause-backed g c image told =
-    subst (λ s. AllBacked s c.word_object.new.c) (sym (c.in_err-set_word-in-Ok.ensures.failed.now image)) (c.word_object.ensures.backed image told)
-
-pub returns-in_err-set_word-in-Ok-clause-limit : goal.returns-in_err-set_word-in-Ok-clause-limit
-returns-in_err-set_word-in-Ok-clause-limit g c image told =
-    let none = c.in_err-set_word-in-Ok.ensures.none in
-    limit_line (now_of c.args.v.now image) (record { thread = c.args.t; call = call.Store c.args.a c.args.value }) (λ key. is_kept c.args.c.now key) c.args.steps.now c.set_word.new.steps (let few = c.word_object.ensures.limit image told in omega arith)
+pub returns-in_err-set_word-in-Ok : goal.returns-in_err-set_word-in-Ok
+returns-in_err-set_word-in-Ok g c = record {
+  answers = search rules;
+  refused = search rules;
+  failed = search rules;
+  slots = search rules;
+  backed = λ image told. subst (λ s. AllBacked s c.word_object.new.c) (sym (c.in_err-set_word-in-Ok.ensures.failed.now image)) (c.word_object.ensures.backed image told);
+  keeps = search rules;
+  limit = λ image told.
+      let none = c.in_err-set_word-in-Ok.ensures.none in
+      limit_line (now_of c.args.v.now image) (record { thread = c.args.t; call = call.Store c.args.a c.args.value }) (λ key. is_kept c.args.c.now key) c.args.steps.now c.set_word.new.steps (let few = c.word_object.ensures.limit image told in omega arith);
+  serves = then_serves g.D.Disk 2 c.args.v.now c.word_object.new.v c.set_word.new.self c.args.disk.now c.word_object.new.disk c.set_word.new.disk c.args.steps.now c.word_object.new.steps c.set_word.new.steps c.word_object.ensures.reads c.set_word.ensures.serves;
+  cause = search rules;
+}

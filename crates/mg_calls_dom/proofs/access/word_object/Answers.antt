@@ -47,6 +47,6 @@ returns-in-Some-clause-place g c =
     let held = rw c.in-Some.is at c.in_ok-object.ensures.covers in
     let inside = found-passes (λ row. covers row c.args.a) (objects_in c.reach.new.v) c.in-Some.object held in (
       inside,
-      found-any (λ row. covers row c.args.a) (λ row. is_page_in (c.args.a / 4096) row) (objects_in c.reach.new.v) c.in-Some.object held (page-in c.in-Some.object c.args.a inside c.base-kept.ensures.kept.place),
+      found-any (λ row. covers row c.args.a) (λ row. is_page_in (c.args.a / 4096) row) (objects_in c.reach.new.v) c.in-Some.object held (page-in c.in-Some.object c.args.a inside c.keep_rules.ensures.place),
       c.if-a-ne0.false,
     )

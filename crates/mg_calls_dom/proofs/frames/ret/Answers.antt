@@ -1,21 +1,24 @@
 use Rattle.std.specs.Prelude.{◌-◌, ◌==◌, find, length, None, Some}
-use Rattle.std.proofs.Common.{sym, ap, ◌∙◌}
+use Rattle.std.proofs.Common.{sym, ap, ◌∙◌, rules}
 use Rattle.mg_calls_dom.proofs.Entered.{leaving, ret-is}
 use Rattle.mg_calls_dom.specs.ThreadLemmas.{change-gives, told-row}
 use Rattle.mg_model.specs.declared.replies.Reply.TheVariants.{Count}
 use Rattle.mg_model.specs.State.{Thread}
 use Rattle.mg_volume.specs.Meaning.{now_of, threads_in}
+use Rattle.mg_volume.specs.RunLemmas.{call_made, call_refused}
 use Rattle.mg_calls_dom.proofs.frames.ret.Goals as goal
 
-pub returns-in-Ok-clause-answers : goal.returns-in-Ok-clause-answers
-returns-in-Ok-clause-answers c image spelled formed =
+pub returns-in-Ok-clause-does : goal.returns-in-Ok-clause-does
+returns-in-Ok-clause-does c =
+    call_made _ _ _ _ _ (λ no. no) tt (λ image spelled formed.
     let v = c.args.v.now in
     let row = c.row_of-row.result in
     let now = c.change_frames.ensures.now leaving (change-gives (find (λ (thread : Thread). thread.number == c.args.t) (threads_in v)) row c.leave.new.r leaving c.row_of-row.ensures (sym c.in-Ok.ensures.row)) image in
     ret-is (now_of v image) c.args.t row (told-row v image c.args.t row c.row_of-row.ensures) None (sym c.in-Ok.ensures.refusal)
     ∙ ap (λ s. (s, Count (length row.frames - 1))) (sym now)
-    ∙ ap (λ n. (now_of c.change_frames.new.v image, Count n)) (sym c.in-Ok.ensures.number)
+    ∙ ap (λ n. (now_of c.change_frames.new.v image, Count n)) (sym c.in-Ok.ensures.number)) (search rules)
 
-pub returns-in-Err-clause-answers : goal.returns-in-Err-clause-answers
-returns-in-Err-clause-answers c image spelled formed =
-    ret-is (now_of c.args.v.now image) c.args.t c.row_of-row.result (told-row c.args.v.now image c.args.t c.row_of-row.result c.row_of-row.ensures) (Some c.in-Err.word) (sym c.in-Err.ensures.refusal)
+pub returns-in-Err-clause-does : goal.returns-in-Err-clause-does
+returns-in-Err-clause-does c =
+    call_refused _ _ _ _ (λ image spelled formed.
+    ret-is (now_of c.args.v.now image) c.args.t c.row_of-row.result (told-row c.args.v.now image c.args.t c.row_of-row.result c.row_of-row.ensures) (Some c.in-Err.word) (sym c.in-Err.ensures.refusal))

@@ -1,15 +1,17 @@
 use Rattle.std.specs.Prelude.{◌++◌, ◌∷◌, ◌==◌, [], find, length, None, Some}
-use Rattle.std.proofs.Common.{sym, ap, ◌∙◌}
+use Rattle.std.proofs.Common.{sym, ap, ◌∙◌, rules}
 use Rattle.mg_calls_dom.proofs.SlotCalls.{apdadd-is, slotted}
 use Rattle.mg_calls_dom.specs.ThreadLemmas.{change-gives, told-row}
 use Rattle.mg_model.specs.declared.replies.Reply.TheVariants.{Count}
 use Rattle.mg_model.specs.Access.{last_slots}
 use Rattle.mg_model.specs.State.{Thread}
 use Rattle.mg_volume.specs.Meaning.{now_of, threads_in}
+use Rattle.mg_volume.specs.RunLemmas.{call_made, call_refused}
 use Rattle.mg_calls_dom.proofs.slots.apdadd.Goals as goal
 
-pub returns-in-Ok-clause-answers : goal.returns-in-Ok-clause-answers
-returns-in-Ok-clause-answers c image spelled formed =
+pub returns-in-Ok : goal.returns-in-Ok
+returns-in-Ok c =
+    call_made _ _ _ _ _ (λ no. no) tt (λ image spelled formed.
     let v = c.args.v.now in
     let t = c.args.t in
     let row = c.row_of-row.result in
@@ -17,10 +19,11 @@ returns-in-Ok-clause-answers c image spelled formed =
     let now = c.change_thread.ensures.now (slotted slots) (change-gives (find (λ (thread : Thread). thread.number == t) (threads_in v)) row c.push_slot.new.r (slotted slots) c.row_of-row.ensures (sym c.in-Ok.ensures.row)) image in
     apdadd-is (now_of v image) t row (told-row v image t row c.row_of-row.ensures) c.args.clist c.args.password None c.in-Ok.ensures.refusal
     ∙ ap (λ s. (s, Count (length (last_slots row.frames)))) (sym now)
-    ∙ ap (λ n. (now_of c.change_thread.new.self image, Count n)) (sym c.in-Ok.ensures.number)
+    ∙ ap (λ n. (now_of c.change_thread.new.self image, Count n)) (sym c.in-Ok.ensures.number)) (search rules)
 
-pub returns-in-Err-clause-answers : goal.returns-in-Err-clause-answers
-returns-in-Err-clause-answers c image spelled formed =
+pub returns-in-Err : goal.returns-in-Err
+returns-in-Err c =
+    call_refused _ _ _ _ (λ image spelled formed.
     let v = c.args.v.now in
     let row = c.row_of-row.result in
-    apdadd-is (now_of v image) c.args.t row (told-row v image c.args.t row c.row_of-row.ensures) c.args.clist c.args.password (Some c.in-Err.word) c.in-Err.ensures.refusal
+    apdadd-is (now_of v image) c.args.t row (told-row v image c.args.t row c.row_of-row.ensures) c.args.clist c.args.password (Some c.in-Err.word) c.in-Err.ensures.refusal)

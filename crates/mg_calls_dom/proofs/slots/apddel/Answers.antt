@@ -1,25 +1,28 @@
 use Rattle.std.specs.Prelude.{◌++◌, ◌==◌, suc, drop, find, take, None, Some}
-use Rattle.std.proofs.Common.{sym, ap, ◌∙◌}
+use Rattle.std.proofs.Common.{sym, ap, ◌∙◌, rules}
 use Rattle.mg_calls_dom.proofs.SlotCalls.{apddel-is, slotted}
 use Rattle.mg_calls_dom.specs.ThreadLemmas.{change-gives, told-row}
 use Rattle.mg_model.specs.declared.replies.Reply.TheVariants.{Done}
 use Rattle.mg_model.specs.Access.{last_slots}
 use Rattle.mg_model.specs.State.{Thread}
 use Rattle.mg_volume.specs.Meaning.{now_of, threads_in}
+use Rattle.mg_volume.specs.RunLemmas.{call_made, call_refused}
 use Rattle.mg_calls_dom.proofs.slots.apddel.Goals as goal
 
-pub returns-in-Ok-clause-answers : goal.returns-in-Ok-clause-answers
-returns-in-Ok-clause-answers c image spelled formed =
+pub returns-in-Ok-clause-does : goal.returns-in-Ok-clause-does
+returns-in-Ok-clause-does c =
+    call_made _ _ _ _ _ (λ no. no) tt (λ image spelled formed.
     let v = c.args.v.now in
     let t = c.args.t in
     let row = c.row_of-row.result in
     let slots = take c.args.index (last_slots row.frames) ++ drop (suc c.args.index) (last_slots row.frames) in
     let now = c.change_thread.ensures.now (slotted slots) (change-gives (find (λ (thread : Thread). thread.number == t) (threads_in v)) row c.drop_slot.new.r (slotted slots) c.row_of-row.ensures (sym c.in-Ok.ensures.row)) image in
     apddel-is (now_of v image) t row (told-row v image t row c.row_of-row.ensures) c.args.index None c.in-Ok.ensures.refusal
-    ∙ ap (λ s. (s, Done)) (sym now)
+    ∙ ap (λ s. (s, Done)) (sym now)) (search rules)
 
-pub returns-in-Err-clause-answers : goal.returns-in-Err-clause-answers
-returns-in-Err-clause-answers c image spelled formed =
+pub returns-in-Err-clause-does : goal.returns-in-Err-clause-does
+returns-in-Err-clause-does c =
+    call_refused _ _ _ _ (λ image spelled formed.
     let v = c.args.v.now in
     let row = c.row_of-row.result in
-    apddel-is (now_of v image) c.args.t row (told-row v image c.args.t row c.row_of-row.ensures) c.args.index (Some c.in-Err.word) c.in-Err.ensures.refusal
+    apddel-is (now_of v image) c.args.t row (told-row v image c.args.t row c.row_of-row.ensures) c.args.index (Some c.in-Err.word) c.in-Err.ensures.refusal)

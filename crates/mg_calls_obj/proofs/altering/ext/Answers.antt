@@ -1,14 +1,16 @@
 use Rattle.std.specs.Prelude.{◌≡◌}
-use Rattle.std.proofs.Common.{refl, sym, ap, ◌∙◌}
+use Rattle.std.proofs.Common.{refl, sym, ap, ◌∙◌, rules}
 use Rattle.mg_calls_obj.proofs.Rows.{change_gives, ext-is, staged-is}
 use Rattle.mg_model.specs.declared.replies.Reply.TheVariants.{Done}
 use Rattle.mg_model.specs.ObjectCalls.{extension_of}
 use Rattle.mg_model.specs.State.{ObjectRow}
 use Rattle.mg_volume.specs.Meaning.{now_of, objects_in}
+use Rattle.mg_volume.specs.RunLemmas.{call_made}
 use Rattle.mg_calls_obj.proofs.altering.ext.Goals as goal
 
-pub returns-clause-acts : goal.returns-clause-acts
-returns-clause-acts c image t a spelled formed named may =
+pub returns : goal.returns
+returns c =
+    call_made _ _ _ _ _ (λ no. no) tt (λ image t a spelled formed named may.
     let state = now_of c.args.v.now image in
     let object : ObjectRow = c.args.object in
     let new : ObjectRow = c.set_ext.new.self in
@@ -17,4 +19,4 @@ returns-clause-acts c image t a spelled formed named may =
     let base : new.base ≡ object.base = ap (λ (r : ObjectRow). r.base) is in
     let rows = objects_in c.args.v.now in
     let now = c.change.ensures.now change (change_gives rows rows object new refl c.requires.held base change (sym is)) image in
-    ext-is state t a object named may c.args.clist c.args.password ∙ staged-is state (now_of c.change.new.self image) object new change Done base now
+    ext-is state t a object named may c.args.clist c.args.password ∙ staged-is state (now_of c.change.new.self image) object new change Done base now) (search rules)

@@ -1,5 +1,5 @@
 use Rattle.std.specs.Prelude.{◌≡◌, ◌||◌, nat_le, true, false, length, unwrap_or}
-use Rattle.std.proofs.Common.{refl, sym, ap, ◌∙◌}
+use Rattle.std.proofs.Common.{refl, sym, ap, ◌∙◌, rules}
 use Rattle.mg_calls_obj.proofs.Rows.{change_gives, changed, pwadd-is, staged-is, with_password}
 use Rattle.mg_model.specs.declared.replies.Reply.TheVariants.{Value}
 use Rattle.mg_model.specs.Limits.{draw_limit, never, password_limit}
@@ -7,19 +7,22 @@ use Rattle.mg_model.specs.ObjectCalls.{all_drawn, drawn, is_past}
 use Rattle.mg_model.specs.State.{Counters, ObjectRow}
 use Rattle.mg_volume.specs.Laws.{now_counters}
 use Rattle.mg_volume.specs.Meaning.{now_of, objects_in}
+use Rattle.mg_volume.specs.RunLemmas.{call_made, call_refused}
 use Rattle.mg_calls_obj.proofs.passwords.pwadd.Goals as goal
 
-pub returns-then-is_past-clause-acts : goal.returns-then-is_past-clause-acts
-returns-then-is_past-clause-acts c image t a spelled formed named may =
+pub returns-then-is_past : goal.returns-then-is_past
+returns-then-is_past c =
+    call_refused _ _ _ _ (λ image t a spelled formed named may.
     let state = now_of c.args.v.now image in
     let object : ObjectRow = c.args.object in
     let until = c.args.until in
     let counters = now_counters c.args.v.now image ∙ sym c.globals-globals.ensures in
     let past : is_past state.counters.period until ≡ true = ap (λ (k : Counters). is_past k.period until) counters ∙ ap (λ p. is_past p until) (sym c.period.ensures) ∙ sym c.is_past.ensures ∙ c.if-is_past.true in
-    pwadd-is state t a object named may c.args.rights until true (nat_le password_limit (length object.passwords) || all_drawn state) past refl
+    pwadd-is state t a object named may c.args.rights until true (nat_le password_limit (length object.passwords) || all_drawn state) past refl)
 
-pub returns-then-is_full-clause-acts : goal.returns-then-is_full-clause-acts
-returns-then-is_full-clause-acts c image t a spelled formed named may =
+pub returns-then-is_full : goal.returns-then-is_full
+returns-then-is_full c =
+    call_refused _ _ _ _ (λ image t a spelled formed named may.
     let state = now_of c.args.v.now image in
     let object : ObjectRow = c.args.object in
     let until = c.args.until in
@@ -27,10 +30,11 @@ returns-then-is_full-clause-acts c image t a spelled formed named may =
     let past : is_past state.counters.period until ≡ false = ap (λ (k : Counters). is_past k.period until) counters ∙ ap (λ p. is_past p until) (sym c.period.ensures) ∙ sym c.is_past.ensures ∙ c.if-is_past.false in
     let full : (nat_le password_limit (length object.passwords) || all_drawn state) ≡ true =
     ap (λ (k : Counters). nat_le password_limit (length object.passwords) || nat_le draw_limit k.draws) counters ∙ sym c.is_full.ensures ∙ c.if-is_full.true in
-    pwadd-is state t a object named may c.args.rights until false true past full
+    pwadd-is state t a object named may c.args.rights until false true past full)
 
-pub returns-clause-acts : goal.returns-clause-acts
-returns-clause-acts c image t a spelled formed named may =
+pub returns : goal.returns
+returns c =
+    call_made _ _ _ _ _ (λ no. no) tt (λ image t a spelled formed named may.
     let v = c.args.v.now in
     let mid = c.next_password-password.new.self in
     let state = now_of v image in
@@ -51,4 +55,4 @@ returns-clause-acts c image t a spelled formed named may =
     ∙ ap (λ p. (changed (drawn state) object (with_password p rights (unwrap_or until never)), Value p)) (sym (c.next_password-password.ensures.drawn image))
     ∙ ap (λ u. (changed (drawn state) object (with_password password rights u), Value password)) (sym c.unwrap_or.ensures)
     ∙ ap (λ s. (changed s object change, Value password)) (sym (c.next_password-password.ensures.now image))
-    ∙ staged-is (now_of mid image) (now_of c.change.new.self image) object new change (Value password) base now
+    ∙ staged-is (now_of mid image) (now_of c.change.new.self image) object new change (Value password) base now) (search rules)

@@ -1,6 +1,6 @@
 use Rattle.std.specs.Prelude.{◌≡◌, Bool, true, false, if◌then◌else◌, Result, Ok, Err}
 use Rattle.std.specs.List.{list_any}
-use Rattle.std.proofs.Common.{refl, sym, ap, ◌∙◌}
+use Rattle.std.proofs.Common.{refl, sym, ap, ◌∙◌, rules}
 use Rattle.mg_calls_obj.proofs.Rows.{change_gives, pwdel-is, staged-is, without_password}
 use Rattle.mg_model.specs.declared.replies.Refusal.{Refusal}
 use Rattle.mg_model.specs.declared.replies.Refusal.TheVariants.{NoPassword}
@@ -8,6 +8,7 @@ use Rattle.mg_model.specs.declared.replies.Reply.TheVariants.{Done}
 use Rattle.mg_model.specs.ObjectCalls.{has_password}
 use Rattle.mg_model.specs.State.{ObjectRow}
 use Rattle.mg_volume.specs.Meaning.{now_of, objects_in}
+use Rattle.mg_volume.specs.RunLemmas.{call_made}
 use Rattle.mg_calls_obj.proofs.passwords.pwdel.Goals as goal
 
 -- what was removed was there
@@ -15,8 +16,9 @@ was_there : (has : Bool) (x : Unit {0}) → ◌≡◌ {A = Result (Unit {0}) Ref
 was_there true x is = refl
 was_there false x is = cc
 
-pub returns-in-Ok-clause-acts : goal.returns-in-Ok-clause-acts
-returns-in-Ok-clause-acts c image t a spelled formed named may =
+pub returns-in-Ok-clause-does : goal.returns-in-Ok-clause-does
+returns-in-Ok-clause-does c =
+    call_made _ _ _ _ _ (λ no. no) tt (λ image t a spelled formed named may.
     let state = now_of c.args.v.now image in
     let object : ObjectRow = c.args.object in
     let new : ObjectRow = c.remove.new.r in
@@ -25,4 +27,4 @@ returns-in-Ok-clause-acts c image t a spelled formed named may =
     let base : new.base ≡ object.base = ap (λ (r : ObjectRow). r.base) c.remove.ensures.list in
     let rows = objects_in c.args.v.now in
     let now = c.change.ensures.now (without_password password) (change_gives rows rows object new refl c.requires.held base (without_password password) (sym c.remove.ensures.list)) image in
-    pwdel-is state t a object named may password true has ∙ staged-is state (now_of c.change.new.self image) object new (without_password password) Done base now
+    pwdel-is state t a object named may password true has ∙ staged-is state (now_of c.change.new.self image) object new (without_password password) Done base now) (search rules)

@@ -1,9 +1,10 @@
-use Rattle.std.proofs.Common.{◌≡◌, ◌-◌, arith, get_or, refl, sym, ap, subst, ◌∙◌}
+use Rattle.std.proofs.Common.{◌≡◌, ◌-◌, arith, get_or, refl, sym, ap, subst, ◌∙◌, rules}
 use Rattle.std.specs.Prelude.{map}
 use Rattle.mg_calls_dom.specs.LineLemmas.{limit_line, thread_limit, thread_rules}
 use Rattle.mg_calls_dom.specs.ReachedLemmas.{any_end, any_hit, any_miss, gone_held, reached_allowed, reached_lives, reached_none}
 use Rattle.mg_calls_dom.specs.Searching.{allowed_row}
-use Rattle.mg_calls_obj.proofs.Rights.{failed_limit, gone-since, info_line, limit-since, of, searched, taken_more, tries_end, tries_hit, tries_miss, valid-since}
+use Rattle.mg_calls_dom.specs.ServedLemmas.{read_call}
+use Rattle.mg_calls_obj.proofs.Rights.{failed_limit, gone-since, limit-since, no-words, of, searched, taken_more, tries_end, tries_hit, tries_miss, valid-since}
 use Rattle.mg_calls_obj.proofs.Told.{info-denied, info-known}
 use Rattle.mg_calls_obj.proofs.telling.info.Invariants.{rights}
 use Rattle.mg_model.specs.declared.calls.Call.TheVariants as call
@@ -11,30 +12,67 @@ use Rattle.mg_model.specs.declared.replies.Refusal.TheVariants.{Denied}
 use Rattle.mg_model.specs.declared.replies.Reply.TheVariants.{No}
 use Rattle.mg_model.specs.declared.rights.Right.TheVariants.{R}
 use Rattle.mg_model.specs.Access.{allowed}
-use Rattle.mg_model.specs.Accesses.{any_access}
-use Rattle.mg_model.specs.Kept.{KeepsLine, Searches, Validates}
+use Rattle.mg_model.specs.Accesses.{accesses, any_access}
+use Rattle.mg_model.specs.Kept.{KeepsRules, Searches, Validates}
 use Rattle.mg_vcache.specs.Seats.{is_kept}
 use Rattle.mg_volume.specs.Meaning.{now_of}
 use Rattle.mg_volume.specs.RunLemmas.{reads_then, told_since}
 use Rattle.mg_calls_obj.proofs.telling.info.Goals as goal
 
-pub returns-in_err-object-clause-reads : goal.returns-in_err-object-clause-reads
-returns-in_err-object-clause-reads g c =
-    reads_then g.D.Disk c.args.v.now c.loop-right.v c.reach.new.v c.args.disk.now c.loop-right.disk c.reach.new.disk c.args.steps.now c.loop-right.steps c.reach.new.steps c.loop-right.invariant.reads c.reach.ensures.reads
+pub returns-in_err-object : goal.returns-in_err-object
+returns-in_err-object g c = record {
+  answers = search rules;
+  slots = search rules;
+  backed = search rules;
+  keeps = search rules;
+  limit = λ image told.
+      let reads = c.loop-right.invariant.reads in
+      let (n, low, words) = reads.counted in
+      let (m, high, words') = c.reach.ensures.reads.counted in
+      let state = now_of c.args.v.now image in
+      let right = get_or rights c.loop-right.right-index R in
+      let few = limit-since state (now_of c.loop-right.v image) (of state c.args.t c.args.a right) c.args.c.now c.loop-right.c c.loop-right.steps c.reach.new.steps (reads.keeps.now image) c.loop-right.invariant.same
+      (c.reach.ensures.limit image (reads.writes.same ∙ told)) in
+      limit_line state (record { thread = c.args.t; call = call.Info c.args.a }) (λ key. is_kept c.args.c.now key) c.args.steps.now c.reach.new.steps
+      (thread_limit state c.args.t (any_access state c.args.t c.args.a) (λ key. is_kept c.args.c.now key) c.args.steps.now c.reach.new.steps
+      (failed_limit state c.args.t c.args.a (λ key. is_kept c.args.c.now key) rights c.loop-right.right-index R c.args.steps.now c.loop-right.steps c.reach.new.steps (omega arith) (omega arith) c.accesses_keep_the_rules_of_a_line.ensures.more
+      (c.loop-right.invariant.searches image told) c.loop-right-test.true (c.loop-right.invariant.tries image told) c.accesses_keep_the_rules_of_a_line.ensures.kept few)
+      (λ gone.
+      let none = gone_held c.args.v.now image c.args.t gone in
+      c.reach.ensures.nobody (gone-since c.args.v.now c.loop-right.v c.args.t reads.keeps none) ∙ c.loop-right.invariant.nobody none));
+  reads = reads_then g.D.Disk c.args.v.now c.loop-right.v c.reach.new.v c.args.disk.now c.loop-right.disk c.reach.new.disk c.args.steps.now c.loop-right.steps c.reach.new.steps c.loop-right.invariant.reads c.reach.ensures.reads;
+  cause = search rules;
+}
 
-pub returns-in-Some-clause-reads : goal.returns-in-Some-clause-reads
-returns-in-Some-clause-reads g c =
-    reads_then g.D.Disk c.args.v.now c.loop-right.v c.reach.new.v c.args.disk.now c.loop-right.disk c.reach.new.disk c.args.steps.now c.loop-right.steps c.reach.new.steps c.loop-right.invariant.reads c.reach.ensures.reads
-
-pub returns-in-Some-clause-answers : goal.returns-in-Some-clause-answers
-returns-in-Some-clause-answers g c image told =
+pub returns-in-Some : goal.returns-in-Some
+returns-in-Some g c =
+    let reads = c.loop-right.invariant.reads in
+    read_call g.D.Disk c.args.v.now c.reach.new.v c.args.c.now c.reach.new.c c.args.disk.now c.reach.new.disk c.args.steps.now c.reach.new.steps c.args.t (call.Info c.args.a) c.about.result (search rules)
+    (λ image told.
     let state = now_of c.args.v.now image in
     let right = get_or rights c.loop-right.right-index R in
-    let found = sym c.in-Some.is ∙ told_since g.D.Disk c.args.v.now c.loop-right.v c.args.disk.now c.loop-right.disk c.args.steps.now c.loop-right.steps c.in_ok-object.field-0 (λ s. allowed_row s c.args.t c.args.a right) c.loop-right.invariant.reads c.in_ok-object.ensures.row image told in
+    let found = sym c.in-Some.is ∙ told_since g.D.Disk c.args.v.now c.loop-right.v c.args.disk.now c.loop-right.disk c.args.steps.now c.loop-right.steps c.in_ok-object.field-0 (λ s. allowed_row s c.args.t c.args.a right) reads c.in_ok-object.ensures.row image told in
     let any = sym (any_hit (λ right. allowed state c.args.t c.args.a right) rights c.loop-right.right-index R c.loop-right-test.true (sym (reached_allowed state c.args.t c.args.a right c.in-Some.object found)) (c.loop-right.invariant.rest image told)) in
     info-known state c.args.t c.args.a right c.in-Some.object any found
-    ∙ ap (λ reply. (state, reply)) (sym c.about.ensures)
-    ∙ ap (λ s. (s, c.about.result)) (sym (c.reach.ensures.reads.keeps.now image ∙ c.loop-right.invariant.reads.keeps.now image))
+    ∙ ap (λ reply. (state, reply)) (sym c.about.ensures))
+    (search rules)
+    (λ image told.
+    let (n, low, words) = reads.counted in
+    let (m, high, words') = c.reach.ensures.reads.counted in
+    let state = now_of c.args.v.now image in
+    let right = get_or rights c.loop-right.right-index R in
+    let found = sym c.in-Some.is ∙ told_since g.D.Disk c.args.v.now c.loop-right.v c.args.disk.now c.loop-right.disk c.args.steps.now c.loop-right.steps c.in_ok-object.field-0 (λ s. allowed_row s c.args.t c.args.a right) reads c.in_ok-object.ensures.row image told in
+    let may = reached_allowed state c.args.t c.args.a right c.in-Some.object found in
+    let lives = reached_lives state c.args.t c.args.a right c.in-Some.object found in
+    let kept = c.in_ok-object.ensures.keeps image (reads.writes.same ∙ told) in
+    let valid = valid-since state (now_of c.loop-right.v image) (of state c.args.t c.args.a right) c.args.c.now c.loop-right.c (λ key. is_kept c.reach.new.c key) (c.reach.new.steps - c.loop-right.steps) (reads.keeps.now image) c.loop-right.invariant.same kept in
+    let more = searched state c.args.t c.args.a (λ key. is_kept c.args.c.now key) rights c.loop-right.right-index R c.args.steps.now c.loop-right.steps c.reach.new.steps (omega arith) (omega arith) c.accesses_keep_the_rules_of_a_line.ensures.more
+    (c.loop-right.invariant.searches image told) (λ key. is_kept c.reach.new.c key) valid in
+    let all = subst (λ xs. Searches state (λ key. is_kept c.args.c.now key) (map (of state c.args.t c.args.a) xs) (λ key. is_kept c.reach.new.c key) (c.reach.new.steps - c.args.steps.now))
+    (sym (tries_hit state c.args.t c.args.a rights c.loop-right.right-index R c.loop-right-test.true (c.loop-right.invariant.tries image told) may)) more in
+    thread_rules state c.args.t (any_access state c.args.t c.args.a) (λ key. is_kept c.args.c.now key) (λ key. is_kept c.reach.new.c key) c.args.steps.now c.reach.new.steps c.accesses_keep_the_rules_of_a_line.ensures.kept all (λ gone. cc) (λ gone. cc))
+    (λ image told. no-words (now_of c.args.v.now image) c.args.t c.args.a)
+    (reads_then g.D.Disk c.args.v.now c.loop-right.v c.reach.new.v c.args.disk.now c.loop-right.disk c.reach.new.disk c.args.steps.now c.loop-right.steps c.reach.new.steps reads c.reach.ensures.reads)
 
 pub loop-right-preserved : goal.loop-right-preserved
 loop-right-preserved g c =
@@ -68,62 +106,19 @@ loop-right-preserved g c =
           subst (λ xs. Searches state (λ key. is_kept c.args.c.now key) (map (of state c.args.t c.args.a) xs) (λ key. is_kept c.args.c.now key) (c.reach.new.steps - c.args.steps.now)) (taken_more rights c.loop-right.right-index R c.loop-right-test.true) more;
     }
 
-pub returns-in-Some-clause-keeps : goal.returns-in-Some-clause-keeps
-returns-in-Some-clause-keeps g c image told =
+pub returns : goal.returns
+returns g c =
     let reads = c.loop-right.invariant.reads in
-    let (n, low, words) = reads.counted in
-    let (m, high, words') = c.reach.ensures.reads.counted in
+    read_call g.D.Disk c.args.v.now c.loop-right.v c.args.c.now c.loop-right.c c.args.disk.now c.loop-right.disk c.args.steps.now c.loop-right.steps c.args.t (call.Info c.args.a) (No Denied) tt
+    (λ image told.
     let state = now_of c.args.v.now image in
-    let right = get_or rights c.loop-right.right-index R in
-    let found = sym c.in-Some.is ∙ told_since g.D.Disk c.args.v.now c.loop-right.v c.args.disk.now c.loop-right.disk c.args.steps.now c.loop-right.steps c.in_ok-object.field-0 (λ s. allowed_row s c.args.t c.args.a right) reads c.in_ok-object.ensures.row image told in
-    let may = reached_allowed state c.args.t c.args.a right c.in-Some.object found in
-    let lives = reached_lives state c.args.t c.args.a right c.in-Some.object found in
-    let kept = c.in_ok-object.ensures.keeps image (reads.writes.same ∙ told) in
-    let valid = valid-since state (now_of c.loop-right.v image) (of state c.args.t c.args.a right) c.args.c.now c.loop-right.c (λ key. is_kept c.reach.new.c key) (c.reach.new.steps - c.loop-right.steps) (reads.keeps.now image) c.loop-right.invariant.same kept in
-    let more = searched state c.args.t c.args.a (λ key. is_kept c.args.c.now key) rights c.loop-right.right-index R c.args.steps.now c.loop-right.steps c.reach.new.steps (omega arith) (omega arith) c.accesses_keep_the_rules_of_a_line.ensures.more
-    (c.loop-right.invariant.searches image told) (λ key. is_kept c.reach.new.c key) valid in
-    let all = subst (λ xs. Searches state (λ key. is_kept c.args.c.now key) (map (of state c.args.t c.args.a) xs) (λ key. is_kept c.reach.new.c key) (c.reach.new.steps - c.args.steps.now))
-    (sym (tries_hit state c.args.t c.args.a rights c.loop-right.right-index R c.loop-right-test.true (c.loop-right.invariant.tries image told) may)) more in
-    info_line state c.args.t c.args.a (λ key. is_kept c.args.c.now key) (λ key. is_kept c.reach.new.c key) c.args.steps.now c.reach.new.steps (omega arith)
-    (thread_rules state c.args.t (any_access state c.args.t c.args.a) (λ key. is_kept c.args.c.now key) (λ key. is_kept c.reach.new.c key) c.args.steps.now c.reach.new.steps c.accesses_keep_the_rules_of_a_line.ensures.kept all (λ gone. cc) (λ gone. cc))
-
-pub returns-in-Some-clause-limit : goal.returns-in-Some-clause-limit
-returns-in-Some-clause-limit g c image told = (returns-in-Some-clause-keeps g c image told).most
-
-pub returns-clause-keeps : goal.returns-clause-keeps
-returns-clause-keeps g c image told =
-    let reads = c.loop-right.invariant.reads in
-    let (n, low, words) = reads.counted in
+    info-denied state c.args.t c.args.a (sym (any_end (λ right. allowed state c.args.t c.args.a right) rights c.loop-right.right-index c.loop-right-test.false (c.loop-right.invariant.rest image told))))
+    (search rules)
+    (λ image told.
     let state = now_of c.args.v.now image in
     let all = subst (λ xs. Searches state (λ key. is_kept c.args.c.now key) (map (of state c.args.t c.args.a) xs) (λ key. is_kept c.args.c.now key) (c.loop-right.steps - c.args.steps.now))
     (sym (tries_end state c.args.t c.args.a rights c.loop-right.right-index c.loop-right-test.false (c.loop-right.invariant.tries image told))) (c.loop-right.invariant.searches image told) in
-    let rules = thread_rules state c.args.t (any_access state c.args.t c.args.a) (λ key. is_kept c.args.c.now key) (λ key. is_kept c.args.c.now key) c.args.steps.now c.loop-right.steps c.accesses_keep_the_rules_of_a_line.ensures.kept all (λ gone key. refl)
-    (λ gone. c.loop-right.invariant.nobody (gone_held c.args.v.now image c.args.t gone)) in
-    subst (λ s. KeepsLine state (record { thread = c.args.t; call = call.Info c.args.a }) (λ key. is_kept c.args.c.now key) (λ key. is_kept s key) c.args.steps.now c.loop-right.steps) (sym c.loop-right.invariant.same)
-    (info_line state c.args.t c.args.a (λ key. is_kept c.args.c.now key) (λ key. is_kept c.args.c.now key) c.args.steps.now c.loop-right.steps (omega arith) rules)
-
-pub returns-clause-limit : goal.returns-clause-limit
-returns-clause-limit g c image told = (returns-clause-keeps g c image told).most
-
-pub returns-in_err-object-clause-limit : goal.returns-in_err-object-clause-limit
-returns-in_err-object-clause-limit g c image told =
-    let reads = c.loop-right.invariant.reads in
-    let (n, low, words) = reads.counted in
-    let (m, high, words') = c.reach.ensures.reads.counted in
-    let state = now_of c.args.v.now image in
-    let right = get_or rights c.loop-right.right-index R in
-    let few = limit-since state (now_of c.loop-right.v image) (of state c.args.t c.args.a right) c.args.c.now c.loop-right.c c.loop-right.steps c.reach.new.steps (reads.keeps.now image) c.loop-right.invariant.same
-    (c.reach.ensures.limit image (reads.writes.same ∙ told)) in
-    limit_line state (record { thread = c.args.t; call = call.Info c.args.a }) (λ key. is_kept c.args.c.now key) c.args.steps.now c.reach.new.steps
-    (thread_limit state c.args.t (any_access state c.args.t c.args.a) (λ key. is_kept c.args.c.now key) c.args.steps.now c.reach.new.steps
-    (failed_limit state c.args.t c.args.a (λ key. is_kept c.args.c.now key) rights c.loop-right.right-index R c.args.steps.now c.loop-right.steps c.reach.new.steps (omega arith) (omega arith) c.accesses_keep_the_rules_of_a_line.ensures.more
-    (c.loop-right.invariant.searches image told) c.loop-right-test.true (c.loop-right.invariant.tries image told) c.accesses_keep_the_rules_of_a_line.ensures.kept few)
-    (λ gone.
-    let none = gone_held c.args.v.now image c.args.t gone in
-    c.reach.ensures.nobody (gone-since c.args.v.now c.loop-right.v c.args.t reads.keeps none) ∙ c.loop-right.invariant.nobody none))
-
-pub returns-clause-answers : goal.returns-clause-answers
-returns-clause-answers g c image told =
-    let state = now_of c.args.v.now image in
-    info-denied state c.args.t c.args.a (sym (any_end (λ right. allowed state c.args.t c.args.a right) rights c.loop-right.right-index c.loop-right-test.false (c.loop-right.invariant.rest image told)))
-    ∙ ap (λ s. (s, No Denied)) (sym (c.loop-right.invariant.reads.keeps.now image))
+    subst (λ s. KeepsRules state (accesses state (record { thread = c.args.t; call = call.Info c.args.a })) (λ key. is_kept c.args.c.now key) (λ key. is_kept s key) (c.loop-right.steps - c.args.steps.now)) (sym c.loop-right.invariant.same)
+    (thread_rules state c.args.t (any_access state c.args.t c.args.a) (λ key. is_kept c.args.c.now key) (λ key. is_kept c.args.c.now key) c.args.steps.now c.loop-right.steps c.accesses_keep_the_rules_of_a_line.ensures.kept all (λ gone key. refl)
+    (λ gone. c.loop-right.invariant.nobody (gone_held c.args.v.now image c.args.t gone))))
+    (λ image told. no-words (now_of c.args.v.now image) c.args.t c.args.a) reads

@@ -1,19 +1,24 @@
-use Rattle.std.proofs.Common.{sym, ap, ◌∙◌}
+use Rattle.std.proofs.Common.{sym, ap, ◌∙◌, rules}
 use Rattle.mg_calls_thr.proofs.Ended.{end-done, end-first, end-refused}
 use Rattle.mg_model.specs.declared.replies.Reply.TheVariants.{Done}
 use Rattle.mg_volume.specs.Laws.{now_threads}
 use Rattle.mg_volume.specs.Meaning.{now_of, threads_in}
+use Rattle.mg_volume.specs.RunLemmas.{call_made, call_refused}
 use Rattle.mg_calls_thr.proofs.ending.end.Goals as goal
 
-pub returns-in-Some-clause-answers : goal.returns-in-Some-clause-answers
-returns-in-Some-clause-answers c image spelled formed = let v = c.args.v.now in end-refused (now_of v image) (threads_in v) (now_threads v image) c.args.t c.args.i c.in-Some.word (sym c.in-Some.ensures.word)
+pub returns-in-Some-clause-does : goal.returns-in-Some-clause-does
+returns-in-Some-clause-does c =
+    call_refused _ _ _ _ (λ image spelled formed.
+    let v = c.args.v.now in end-refused (now_of v image) (threads_in v) (now_threads v image) c.args.t c.args.i c.in-Some.word (sym c.in-Some.ensures.word))
 
-pub returns-then-is_first-clause-answers : goal.returns-then-is_first-clause-answers
-returns-then-is_first-clause-answers c image spelled formed =
+pub returns-then-is_first-clause-does : goal.returns-then-is_first-clause-does
+returns-then-is_first-clause-does c =
+    call_refused _ _ _ _ (λ image spelled formed.
     let v = c.args.v.now in
-    end-first (now_of v image) (threads_in v) (now_threads v image) c.args.t c.args.i (sym c.is_first.ensures ∙ c.if-is_first.true) (sym c.in-None.ensures.word)
+    end-first (now_of v image) (threads_in v) (now_threads v image) c.args.t c.args.i (sym c.is_first.ensures ∙ c.if-is_first.true) (sym c.in-None.ensures.word))
 
-pub returns-else-is_first-clause-answers : goal.returns-else-is_first-clause-answers
-returns-else-is_first-clause-answers c image spelled formed =
+pub returns-else-is_first-clause-does : goal.returns-else-is_first-clause-does
+returns-else-is_first-clause-does c =
+    call_made _ _ _ _ _ (λ no. no) tt (λ image spelled formed.
     let v = c.args.v.now in
-    end-done (now_of v image) (threads_in v) (now_threads v image) c.args.t c.args.i (sym c.is_first.ensures ∙ c.if-is_first.false) (sym c.in-None.ensures.word) ∙ ap (λ s. (s, Done)) (sym (c.stage_thread.ensures.now image))
+    end-done (now_of v image) (threads_in v) (now_threads v image) c.args.t c.args.i (sym c.is_first.ensures ∙ c.if-is_first.false) (sym c.in-None.ensures.word) ∙ ap (λ s. (s, Done)) (sym (c.stage_thread.ensures.now image))) (search rules)

@@ -1,5 +1,5 @@
 use Rattle.std.specs.Prelude.{◌==◌, find, None, Some}
-use Rattle.std.proofs.Common.{sym, ap, ◌∙◌}
+use Rattle.std.proofs.Common.{sym, ap, ◌∙◌, rules}
 use Rattle.mg_calls_dom.specs.ThreadLemmas.{change-gives}
 use Rattle.mg_calls_thr.proofs.Ended.{resume-by}
 use Rattle.mg_model.specs.declared.replies.Reply.TheVariants.{Done}
@@ -7,15 +7,19 @@ use Rattle.mg_model.specs.declared.threads.ThrState.TheVariants.{Ready}
 use Rattle.mg_model.specs.State.{Thread, ThreadRow}
 use Rattle.mg_volume.specs.Laws.{now_threads}
 use Rattle.mg_volume.specs.Meaning.{now_of, threads_in}
+use Rattle.mg_volume.specs.RunLemmas.{call_made, call_refused}
 use Rattle.mg_calls_thr.proofs.ending.resume.Goals as goal
 
-pub returns-in-Some-clause-answers : goal.returns-in-Some-clause-answers
-returns-in-Some-clause-answers c image spelled formed = let v = c.args.v.now in resume-by (now_of v image) (threads_in v) (now_threads v image) c.args.t c.args.i (Some c.in-Some.word) (sym c.in-Some.ensures.word)
+pub returns-in-Some : goal.returns-in-Some
+returns-in-Some c =
+    call_refused _ _ _ _ (λ image spelled formed.
+    let v = c.args.v.now in resume-by (now_of v image) (threads_in v) (now_threads v image) c.args.t c.args.i (Some c.in-Some.word) (sym c.in-Some.ensures.word))
 
-pub returns-in-None-clause-answers : goal.returns-in-None-clause-answers
-returns-in-None-clause-answers c image spelled formed =
+pub returns-in-None : goal.returns-in-None
+returns-in-None c =
+    call_made _ _ _ _ _ (λ no. no) tt (λ image spelled formed.
     let v = c.args.v.now in
     let i = c.args.i in
     let change = λ (thread : ThreadRow). record thread { state = Ready } in
     let now = c.change_thread.ensures.now change (change-gives (find (λ (thread : Thread). thread.number == i) (threads_in v)) c.row_of.result c.ready-row.result change c.row_of.ensures (sym c.ready-row.ensures)) image in
-    resume-by (now_of v image) (threads_in v) (now_threads v image) c.args.t i None (sym c.in-None.ensures.word) ∙ ap (λ s. (s, Done)) (sym now)
+    resume-by (now_of v image) (threads_in v) (now_threads v image) c.args.t i None (sym c.in-None.ensures.word) ∙ ap (λ s. (s, Done)) (sym now)) (search rules)

@@ -1,3 +1,4 @@
+use Rattle.std.proofs.Common.{rules}
 use Rattle.mg_kernel.proofs.NextTurn.{cursor-backed, next-runs, picked-held, picked-row, picks}
 use Rattle.mg_kernel.proofs.TurnCounts.{next-line, next-within}
 use Rattle.mg_kernel.proofs.Turned.{row-told}
@@ -8,33 +9,44 @@ use Rattle.mg_kernel.proofs.turning.next.Goals as goal
 pub unreachable-requires : goal.unreachable-requires
 unreachable-requires g c = picked-held c.args.v.now c.in-Some.n (λ image. c.in-Some.ensures image) c.in-None.ensures.found
 
-pub returns-in-Ok-clause-answers : goal.returns-in-Ok-clause-answers
-returns-in-Ok-clause-answers g c image told =
-    let state = now_of c.args.v.now image in
-    next-runs state c.in-Some.n (picks state c.in-Some.n (c.in-Some.ensures image)) (now_of c.run.new.v image) (now_of c.move_cursor.new.v image) c.in-Ok.left c.turns_rest_on_no_cursor.ensures (c.in-Ok.ensures.state image told)
-    (c.in-Ok.ensures.left image told) (c.move_cursor.ensures.now image)
+pub returns-in-Ok : goal.returns-in-Ok
+returns-in-Ok g c t = record {
+  answers = λ image told.
+      let state = now_of c.args.v.now image in
+      next-runs state c.in-Some.n (picks state c.in-Some.n (c.in-Some.ensures image)) (now_of c.run.new.v image) (now_of c.move_cursor.new.v image) c.in-Ok.left c.turns_rest_on_no_cursor.ensures (c.in-Ok.ensures.state image told)
+      (c.in-Ok.ensures.left image told) (c.move_cursor.ensures.now image);
+  refused = search rules;
+  failed = search rules;
+  slots = search rules;
+  backed = λ image told.
+      cursor-backed (now_of c.run.new.v image) (now_of c.move_cursor.new.v image) c.in-Some.n c.run.new.c c.backing_rests_on_the_domain.ensures.rests (c.move_cursor.ensures.now image) (c.run.ensures.backed image told);
+  keeps = λ image told.
+      let state = now_of c.args.v.now image in
+      let there = row-told c.args.v.now c.in-Some.n c.in-Some-thread.row c.in-Some-thread.ensures.found image in
+      next-line state t (record { number = c.in-Some.n; row = c.in-Some-thread.row }) (picked-row state c.in-Some.n c.in-Some-thread.row (c.requires.sound.formed image told) (picks state c.in-Some.n (c.in-Some.ensures image)) there) (λ key. is_kept c.args.c.now key)
+      (λ key. is_kept c.run.new.c key) c.args.steps.now c.run.new.steps (c.in-Ok.ensures.keeps image told);
+  limit = λ image told.
+      let state = now_of c.args.v.now image in
+      let there = row-told c.args.v.now c.in-Some.n c.in-Some-thread.row c.in-Some-thread.ensures.found image in
+      next-within state t (record { number = c.in-Some.n; row = c.in-Some-thread.row }) (picked-row state c.in-Some.n c.in-Some-thread.row (c.requires.sound.formed image told) (picks state c.in-Some.n (c.in-Some.ensures image)) there) (λ key. is_kept c.args.c.now key)
+      c.args.steps.now c.run.new.steps (c.run.ensures.limit image told);
+  serves = search rules;
+  cause = search rules;
+}
 
-pub returns-in-Ok-clause-backed : goal.returns-in-Ok-clause-backed
-returns-in-Ok-clause-backed g c image told =
-    cursor-backed (now_of c.run.new.v image) (now_of c.move_cursor.new.v image) c.in-Some.n c.run.new.c c.backing_rests_on_the_domain.ensures.rests (c.move_cursor.ensures.now image) (c.run.ensures.backed image told)
-
-pub returns-in-Ok-clause-keeps : goal.returns-in-Ok-clause-keeps
-returns-in-Ok-clause-keeps g c image told t =
-    let state = now_of c.args.v.now image in
-    let there = row-told c.args.v.now c.in-Some.n c.in-Some-thread.row c.in-Some-thread.ensures.found image in
-    next-line state t (record { number = c.in-Some.n; row = c.in-Some-thread.row }) (picked-row state c.in-Some.n c.in-Some-thread.row (c.requires.sound.formed image told) (picks state c.in-Some.n (c.in-Some.ensures image)) there) (λ key. is_kept c.args.c.now key)
-    (λ key. is_kept c.run.new.c key) c.args.steps.now c.run.new.steps (c.in-Ok.ensures.keeps image told)
-
-pub returns-in-Ok-clause-limit : goal.returns-in-Ok-clause-limit
-returns-in-Ok-clause-limit g c image told t =
-    let state = now_of c.args.v.now image in
-    let there = row-told c.args.v.now c.in-Some.n c.in-Some-thread.row c.in-Some-thread.ensures.found image in
-    next-within state t (record { number = c.in-Some.n; row = c.in-Some-thread.row }) (picked-row state c.in-Some.n c.in-Some-thread.row (c.requires.sound.formed image told) (picks state c.in-Some.n (c.in-Some.ensures image)) there) (λ key. is_kept c.args.c.now key)
-    c.args.steps.now c.run.new.steps (c.run.ensures.limit image told)
-
-pub returns-in-Err-clause-limit : goal.returns-in-Err-clause-limit
-returns-in-Err-clause-limit g c image told t =
-    let state = now_of c.args.v.now image in
-    let there = row-told c.args.v.now c.in-Some.n c.in-Some-thread.row c.in-Some-thread.ensures.found image in
-    next-within state t (record { number = c.in-Some.n; row = c.in-Some-thread.row }) (picked-row state c.in-Some.n c.in-Some-thread.row (c.requires.sound.formed image told) (picks state c.in-Some.n (c.in-Some.ensures image)) there) (λ key. is_kept c.args.c.now key)
-    c.args.steps.now c.run.new.steps (c.run.ensures.limit image told)
+pub returns-in-Err : goal.returns-in-Err
+returns-in-Err g c t = record {
+  answers = search rules;
+  refused = search rules;
+  failed = search rules;
+  slots = search rules;
+  backed = search rules;
+  keeps = search rules;
+  limit = λ image told.
+      let state = now_of c.args.v.now image in
+      let there = row-told c.args.v.now c.in-Some.n c.in-Some-thread.row c.in-Some-thread.ensures.found image in
+      next-within state t (record { number = c.in-Some.n; row = c.in-Some-thread.row }) (picked-row state c.in-Some.n c.in-Some-thread.row (c.requires.sound.formed image told) (picks state c.in-Some.n (c.in-Some.ensures image)) there) (λ key. is_kept c.args.c.now key)
+      c.args.steps.now c.run.new.steps (c.run.ensures.limit image told);
+  serves = search rules;
+  cause = search rules;
+}

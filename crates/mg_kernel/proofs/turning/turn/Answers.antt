@@ -1,5 +1,5 @@
 use Rattle.std.specs.Prelude.{◌==◌, find}
-use Rattle.std.proofs.Common.{refl, sym, ◌∙◌}
+use Rattle.std.proofs.Common.{refl, sym, ◌∙◌, rules}
 use Rattle.mg_kernel.proofs.Threads.{gone}
 use Rattle.mg_kernel.proofs.TurnCounts.{gone-turn, row-found, turn-line, turn-within, unready-turn}
 use Rattle.mg_kernel.proofs.Turned.{row-ready, row-thread, row-told, turn-ready, turn-refused, unmapped}
@@ -10,56 +10,84 @@ use Rattle.mg_volume.specs.Meaning.{now_of, threads_in}
 use Rattle.mg_volume.specs.RunLemmas.{told_thread}
 use Rattle.mg_kernel.proofs.turning.turn.Goals as goal
 
-pub returns-then-not-takes_turns-clause-answers : goal.returns-then-not-takes_turns-clause-answers
-returns-then-not-takes_turns-clause-answers g c image told =
-    let state = now_of c.args.v.now image in
-    let there = row-told c.args.v.now c.args.t c.in-Some.row c.in-Some.ensures.found image in
-    turn-refused state c.args.t (row-thread c.args.v.now c.args.t c.in-Some.row c.in-Some.ensures.found image)
-    (row-ready state c.args.t c.in-Some.row c.in-Some.row.state there refl ∙ sym c.takes_turns.ensures ∙ c.if-not-takes_turns.true)
-
-pub returns-then-not-takes_turns-clause-keeps : goal.returns-then-not-takes_turns-clause-keeps
-returns-then-not-takes_turns-clause-keeps g c image told =
-    let state = now_of c.args.v.now image in
-    let there = row-told c.args.v.now c.args.t c.in-Some.row c.in-Some.ensures.found image in
-    unready-turn state c.args.t (λ key. is_kept c.args.c.now key) c.args.steps.now (row-ready state c.args.t c.in-Some.row c.in-Some.row.state there refl ∙ sym c.takes_turns.ensures ∙ c.if-not-takes_turns.true)
-
 pub run-requires-clause-ready : goal.run-requires-clause-ready
 run-requires-clause-ready g c image told =
     row-ready (now_of c.args.v.now image) c.args.t c.in-Some.row c.in-Some.row.state (row-told c.args.v.now c.args.t c.in-Some.row c.in-Some.ensures.found image) refl ∙ sym c.takes_turns.ensures ∙ c.if-not-takes_turns.false
 
-pub returns-in-Ok-clause-answers : goal.returns-in-Ok-clause-answers
-returns-in-Ok-clause-answers g c image told =
-    let state = now_of c.args.v.now image in
-    let there = row-told c.args.v.now c.args.t c.in-Some.row c.in-Some.ensures.found image in
-    turn-ready state c.args.t (row-thread c.args.v.now c.args.t c.in-Some.row c.in-Some.ensures.found image) (now_of c.run.new.v image) c.in-Ok.left (row-ready state c.args.t c.in-Some.row c.in-Some.row.state there refl ∙ sym c.takes_turns.ensures ∙ c.if-not-takes_turns.false)
-    (c.in-Ok.ensures.state image told) (c.in-Ok.ensures.left image told)
+pub returns-then-not-takes_turns : goal.returns-then-not-takes_turns
+returns-then-not-takes_turns g c = record {
+  answers = λ image told.
+      let state = now_of c.args.v.now image in
+      let there = row-told c.args.v.now c.args.t c.in-Some.row c.in-Some.ensures.found image in
+      turn-refused state c.args.t (row-thread c.args.v.now c.args.t c.in-Some.row c.in-Some.ensures.found image)
+      (row-ready state c.args.t c.in-Some.row c.in-Some.row.state there refl ∙ sym c.takes_turns.ensures ∙ c.if-not-takes_turns.true);
+  refused = search rules;
+  failed = search rules;
+  slots = search rules;
+  backed = search rules;
+  keeps = λ image told.
+      let state = now_of c.args.v.now image in
+      let there = row-told c.args.v.now c.args.t c.in-Some.row c.in-Some.ensures.found image in
+      unready-turn state c.args.t (λ key. is_kept c.args.c.now key) c.args.steps.now (row-ready state c.args.t c.in-Some.row c.in-Some.row.state there refl ∙ sym c.takes_turns.ensures ∙ c.if-not-takes_turns.true);
+  limit = search rules;
+  serves = search rules;
+  cause = search rules;
+}
 
-pub returns-in-Ok-clause-keeps : goal.returns-in-Ok-clause-keeps
-returns-in-Ok-clause-keeps g c image told =
-    let state = now_of c.args.v.now image in
-    let there = row-told c.args.v.now c.args.t c.in-Some.row c.in-Some.ensures.found image in
-    turn-line state c.args.t (record { number = c.args.t; row = c.in-Some.row }) (row-found state c.args.t c.in-Some.row there) (row-ready state c.args.t c.in-Some.row c.in-Some.row.state there refl ∙ sym c.takes_turns.ensures ∙ c.if-not-takes_turns.false) (λ key. is_kept c.args.c.now key) (λ key. is_kept c.run.new.c key) c.args.steps.now c.run.new.steps
-    (c.in-Ok.ensures.keeps image told)
+pub returns-in-Ok : goal.returns-in-Ok
+returns-in-Ok g c = record {
+  answers = λ image told.
+      let state = now_of c.args.v.now image in
+      let there = row-told c.args.v.now c.args.t c.in-Some.row c.in-Some.ensures.found image in
+      turn-ready state c.args.t (row-thread c.args.v.now c.args.t c.in-Some.row c.in-Some.ensures.found image) (now_of c.run.new.v image) c.in-Ok.left (row-ready state c.args.t c.in-Some.row c.in-Some.row.state there refl ∙ sym c.takes_turns.ensures ∙ c.if-not-takes_turns.false)
+      (c.in-Ok.ensures.state image told) (c.in-Ok.ensures.left image told);
+  refused = search rules;
+  failed = search rules;
+  slots = search rules;
+  backed = search rules;
+  keeps = λ image told.
+      let state = now_of c.args.v.now image in
+      let there = row-told c.args.v.now c.args.t c.in-Some.row c.in-Some.ensures.found image in
+      turn-line state c.args.t (record { number = c.args.t; row = c.in-Some.row }) (row-found state c.args.t c.in-Some.row there) (row-ready state c.args.t c.in-Some.row c.in-Some.row.state there refl ∙ sym c.takes_turns.ensures ∙ c.if-not-takes_turns.false) (λ key. is_kept c.args.c.now key) (λ key. is_kept c.run.new.c key) c.args.steps.now c.run.new.steps
+      (c.in-Ok.ensures.keeps image told);
+  limit = λ image told.
+      let state = now_of c.args.v.now image in
+      let there = row-told c.args.v.now c.args.t c.in-Some.row c.in-Some.ensures.found image in
+      turn-within state c.args.t (record { number = c.args.t; row = c.in-Some.row }) (row-found state c.args.t c.in-Some.row there) (row-ready state c.args.t c.in-Some.row c.in-Some.row.state there refl ∙ sym c.takes_turns.ensures ∙ c.if-not-takes_turns.false) (λ key. is_kept c.args.c.now key) c.args.steps.now c.run.new.steps
+      (c.run.ensures.limit image told);
+  serves = search rules;
+  cause = search rules;
+}
 
-pub returns-in-Ok-clause-limit : goal.returns-in-Ok-clause-limit
-returns-in-Ok-clause-limit g c image told =
-    let state = now_of c.args.v.now image in
-    let there = row-told c.args.v.now c.args.t c.in-Some.row c.in-Some.ensures.found image in
-    turn-within state c.args.t (record { number = c.args.t; row = c.in-Some.row }) (row-found state c.args.t c.in-Some.row there) (row-ready state c.args.t c.in-Some.row c.in-Some.row.state there refl ∙ sym c.takes_turns.ensures ∙ c.if-not-takes_turns.false) (λ key. is_kept c.args.c.now key) c.args.steps.now c.run.new.steps
-    (c.run.ensures.limit image told)
+pub returns-in-Err : goal.returns-in-Err
+returns-in-Err g c = record {
+  answers = search rules;
+  refused = search rules;
+  failed = search rules;
+  slots = search rules;
+  backed = search rules;
+  keeps = search rules;
+  limit = λ image told.
+      let state = now_of c.args.v.now image in
+      let there = row-told c.args.v.now c.args.t c.in-Some.row c.in-Some.ensures.found image in
+      turn-within state c.args.t (record { number = c.args.t; row = c.in-Some.row }) (row-found state c.args.t c.in-Some.row there) (row-ready state c.args.t c.in-Some.row c.in-Some.row.state there refl ∙ sym c.takes_turns.ensures ∙ c.if-not-takes_turns.false) (λ key. is_kept c.args.c.now key) c.args.steps.now c.run.new.steps
+      (c.run.ensures.limit image told);
+  serves = search rules;
+  cause = search rules;
+}
 
-pub returns-in-Err-clause-limit : goal.returns-in-Err-clause-limit
-returns-in-Err-clause-limit g c image told =
-    let state = now_of c.args.v.now image in
-    let there = row-told c.args.v.now c.args.t c.in-Some.row c.in-Some.ensures.found image in
-    turn-within state c.args.t (record { number = c.args.t; row = c.in-Some.row }) (row-found state c.args.t c.in-Some.row there) (row-ready state c.args.t c.in-Some.row c.in-Some.row.state there refl ∙ sym c.takes_turns.ensures ∙ c.if-not-takes_turns.false) (λ key. is_kept c.args.c.now key) c.args.steps.now c.run.new.steps
-    (c.run.ensures.limit image told)
-
-pub returns-in-None-clause-answers : goal.returns-in-None-clause-answers
-returns-in-None-clause-answers g c image told =
-    gone c.args.v.now image c.args.t (turn (now_of c.args.v.now image) c.args.t) (unmapped (find (λ (thread : Thread). thread.number == c.args.t) (threads_in c.args.v.now)) c.in-None.ensures.found)
-
-pub returns-in-None-clause-keeps : goal.returns-in-None-clause-keeps
-returns-in-None-clause-keeps g c image told =
-    gone-turn (now_of c.args.v.now image) c.args.t (λ key. is_kept c.args.c.now key) c.args.steps.now
-    (told_thread c.args.v.now image c.args.t _ (unmapped (find (λ (thread : Thread). thread.number == c.args.t) (threads_in c.args.v.now)) c.in-None.ensures.found))
+pub returns-in-None : goal.returns-in-None
+returns-in-None g c = record {
+  answers = λ image told.
+      gone c.args.v.now image c.args.t (turn (now_of c.args.v.now image) c.args.t) (unmapped (find (λ (thread : Thread). thread.number == c.args.t) (threads_in c.args.v.now)) c.in-None.ensures.found);
+  refused = search rules;
+  failed = search rules;
+  slots = search rules;
+  backed = search rules;
+  keeps = λ image told.
+      gone-turn (now_of c.args.v.now image) c.args.t (λ key. is_kept c.args.c.now key) c.args.steps.now
+      (told_thread c.args.v.now image c.args.t _ (unmapped (find (λ (thread : Thread). thread.number == c.args.t) (threads_in c.args.v.now)) c.in-None.ensures.found));
+  limit = search rules;
+  serves = search rules;
+  cause = search rules;
+}

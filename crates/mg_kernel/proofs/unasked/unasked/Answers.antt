@@ -1,83 +1,45 @@
-use Rattle.std.proofs.Common.{arith, sym, subst}
+use Rattle.std.specs.Prelude.{◌≡◌, ◌≤◌, ℕ}
+use Rattle.std.proofs.Common.{arith, subst, sym}
 use Rattle.mg_model.specs.declared.calls.Call.{Call}
+use Rattle.mg_model.specs.declared.replies.Reply.{Reply}
 use Rattle.mg_model.specs.Turn.{thread_call}
-use Rattle.mg_volume.specs.Calls.{Answers}
-use Rattle.mg_volume.specs.RunLemmas.{stages_none, stages_wider}
+use Rattle.mg_volume.specs.Calls.{Answers, CallStages}
+use Rattle.mg_volume.specs.Held.{VolumeHeld}
+use Rattle.mg_volume.specs.RunLemmas.{call_wider}
 use Rattle.mg_kernel.proofs.unasked.unasked.Goals as goal
 
-pub returns-in-Create-clause-answers : goal.returns-in-Create-clause-answers
-returns-in-Create-clause-answers c =
-    let P : Call → Type 0 = λ made. Answers (λ state. thread_call state c.args.t made) c.args.v.now c.create.new.v c.create.result in
-    subst P (sym c.in-Create.is) c.create.ensures.answers
+-- the call that was made
+made-by : (t n : ℕ) (old new : VolumeHeld) (reply : Reply) (now made : Call) → now ≡ made → n ≤ 3 → CallStages (Answers (λ state. thread_call state t made)) n old new reply → CallStages (Answers (λ state. thread_call state t now)) 3 old new reply
+made-by t n old new reply now made is few does =
+    let P : Call → Type 0 = λ made. Answers (λ state. thread_call state t made) old new reply in
+    call_wider (Answers (λ state. thread_call state t made)) (Answers (λ state. thread_call state t now)) n 3 old new reply few (λ answers. subst P (sym is) answers) does
 
-pub returns-in-Create-clause-stages : goal.returns-in-Create-clause-stages
-returns-in-Create-clause-stages c = stages_wider 2 3 c.args.v.now c.create.new.v (omega arith) c.create.ensures.stages
+pub returns-in-Create-clause-does : goal.returns-in-Create-clause-does
+returns-in-Create-clause-does c = made-by c.args.t 2 c.args.v.now c.create.new.v c.create.result c.args.call.now _ c.in-Create.is (omega arith) c.create.ensures
 
-pub returns-in-Apdadd-clause-answers : goal.returns-in-Apdadd-clause-answers
-returns-in-Apdadd-clause-answers c =
-    let P : Call → Type 0 = λ made. Answers (λ state. thread_call state c.args.t made) c.args.v.now c.apdadd.new.v c.apdadd.result in
-    subst P (sym c.in-Apdadd.is) c.apdadd.ensures.answers
+pub returns-in-Apdadd-clause-does : goal.returns-in-Apdadd-clause-does
+returns-in-Apdadd-clause-does c = made-by c.args.t 1 c.args.v.now c.apdadd.new.v c.apdadd.result c.args.call.now _ c.in-Apdadd.is (omega arith) c.apdadd.ensures
 
-pub returns-in-Apdadd-clause-stages : goal.returns-in-Apdadd-clause-stages
-returns-in-Apdadd-clause-stages c = stages_wider 1 3 c.args.v.now c.apdadd.new.v (omega arith) c.apdadd.ensures.stages
+pub returns-in-Apddel-clause-does : goal.returns-in-Apddel-clause-does
+returns-in-Apddel-clause-does c = made-by c.args.t 1 c.args.v.now c.apddel.new.v c.apddel.result c.args.call.now _ c.in-Apddel.is (omega arith) c.apddel.ensures.does
 
-pub returns-in-Apddel-clause-answers : goal.returns-in-Apddel-clause-answers
-returns-in-Apddel-clause-answers c =
-    let P : Call → Type 0 = λ made. Answers (λ state. thread_call state c.args.t made) c.args.v.now c.apddel.new.v c.apddel.result in
-    subst P (sym c.in-Apddel.is) c.apddel.ensures.answers
+pub returns-in-Apdlist-clause-does : goal.returns-in-Apdlist-clause-does
+returns-in-Apdlist-clause-does c = made-by c.args.t 0 c.args.v.now c.args.v.now c.apdlist.result c.args.call.now _ c.in-Apdlist.is (omega arith) c.apdlist.ensures
 
-pub returns-in-Apddel-clause-stages : goal.returns-in-Apddel-clause-stages
-returns-in-Apddel-clause-stages c = stages_wider 1 3 c.args.v.now c.apddel.new.v (omega arith) c.apddel.ensures.stages
+pub returns-in-Ret-clause-does : goal.returns-in-Ret-clause-does
+returns-in-Ret-clause-does c = made-by c.args.t 1 c.args.v.now c.ret.new.v c.ret.result c.args.call.now _ c.in-Ret.is (omega arith) c.ret.ensures.does
 
-pub returns-in-Apdlist-clause-answers : goal.returns-in-Apdlist-clause-answers
-returns-in-Apdlist-clause-answers c =
-    let P : Call → Type 0 = λ made. Answers (λ state. thread_call state c.args.t made) c.args.v.now c.args.v.now c.apdlist.result in
-    subst P (sym c.in-Apdlist.is) c.apdlist.ensures.answers
+pub returns-in-End-clause-does : goal.returns-in-End-clause-does
+returns-in-End-clause-does c = made-by c.args.t 1 c.args.v.now c.end.new.v c.end.result c.args.call.now _ c.in-End.is (omega arith) c.end.ensures.does
 
-pub returns-in-Apdlist-clause-stages : goal.returns-in-Apdlist-clause-stages
-returns-in-Apdlist-clause-stages c = stages_none 3 c.args.v.now
+pub returns-in-Resume-clause-does : goal.returns-in-Resume-clause-does
+returns-in-Resume-clause-does c = made-by c.args.t 1 c.args.v.now c.resume.new.v c.resume.result c.args.call.now _ c.in-Resume.is (omega arith) c.resume.ensures
 
-pub returns-in-Ret-clause-answers : goal.returns-in-Ret-clause-answers
-returns-in-Ret-clause-answers c =
-    let P : Call → Type 0 = λ made. Answers (λ state. thread_call state c.args.t made) c.args.v.now c.ret.new.v c.ret.result in
-    subst P (sym c.in-Ret.is) c.ret.ensures.answers
+pub returns-in-Account-clause-does : goal.returns-in-Account-clause-does
+returns-in-Account-clause-does c = made-by c.args.t 3 c.args.v.now c.account.new.v c.account.result c.args.call.now _ c.in-Account.is (omega arith) c.account.ensures
 
-pub returns-in-Ret-clause-stages : goal.returns-in-Ret-clause-stages
-returns-in-Ret-clause-stages c = stages_wider 1 3 c.args.v.now c.ret.new.v (omega arith) c.ret.ensures.stages
+pub returns-in-Pay-clause-does : goal.returns-in-Pay-clause-does
+returns-in-Pay-clause-does c = made-by c.args.t 2 c.args.v.now c.pay.new.v c.pay.result c.args.call.now _ c.in-Pay.is (omega arith) c.pay.ensures
 
-pub returns-in-Account-clause-answers : goal.returns-in-Account-clause-answers
-returns-in-Account-clause-answers c =
-    let P : Call → Type 0 = λ made. Answers (λ state. thread_call state c.args.t made) c.args.v.now c.account.new.v c.account.result in
-    subst P (sym c.in-Account.is) c.account.ensures.answers
-
-pub returns-in-Pay-clause-answers : goal.returns-in-Pay-clause-answers
-returns-in-Pay-clause-answers c =
-    let P : Call → Type 0 = λ made. Answers (λ state. thread_call state c.args.t made) c.args.v.now c.pay.new.v c.pay.result in
-    subst P (sym c.in-Pay.is) c.pay.ensures.answers
-
-pub returns-in-Pay-clause-stages : goal.returns-in-Pay-clause-stages
-returns-in-Pay-clause-stages c = stages_wider 2 3 c.args.v.now c.pay.new.v (omega arith) c.pay.ensures.stages
-
-pub returns-in-Balance-clause-answers : goal.returns-in-Balance-clause-answers
-returns-in-Balance-clause-answers c =
-    let P : Call → Type 0 = λ made. Answers (λ state. thread_call state c.args.t made) c.args.v.now c.balance.new.v c.balance.result in
-    subst P (sym c.in-Balance.is) c.balance.ensures.answers
-
-pub returns-in-Balance-clause-stages : goal.returns-in-Balance-clause-stages
-returns-in-Balance-clause-stages c = stages_wider 0 3 c.args.v.now c.balance.new.v (omega arith) c.balance.ensures.stages
-
-pub returns-in-End-clause-answers : goal.returns-in-End-clause-answers
-returns-in-End-clause-answers c =
-    let P : Call → Type 0 = λ made. Answers (λ state. thread_call state c.args.t made) c.args.v.now c.end.new.v c.end.result in
-    subst P (sym c.in-End.is) c.end.ensures.answers
-
-pub returns-in-End-clause-stages : goal.returns-in-End-clause-stages
-returns-in-End-clause-stages c = stages_wider 1 3 c.args.v.now c.end.new.v (omega arith) c.end.ensures.stages
-
-pub returns-in-Resume-clause-answers : goal.returns-in-Resume-clause-answers
-returns-in-Resume-clause-answers c =
-    let P : Call → Type 0 = λ made. Answers (λ state. thread_call state c.args.t made) c.args.v.now c.resume.new.v c.resume.result in
-    subst P (sym c.in-Resume.is) c.resume.ensures.answers
-
-pub returns-in-Resume-clause-stages : goal.returns-in-Resume-clause-stages
-returns-in-Resume-clause-stages c = stages_wider 1 3 c.args.v.now c.resume.new.v (omega arith) c.resume.ensures.stages
+pub returns-in-Balance-clause-does : goal.returns-in-Balance-clause-does
+returns-in-Balance-clause-does c = made-by c.args.t 0 c.args.v.now c.balance.new.v c.balance.result c.args.call.now _ c.in-Balance.is (omega arith) c.balance.ensures
