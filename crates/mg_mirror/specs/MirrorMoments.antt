@@ -35,7 +35,7 @@ is_some : (o : Option Image) (P : Image → Type 0) → IsSomeAnd o P → (x : I
 is_some (Some x) P p = (x, refl)
 is_some None P p = absurd p
 
--- a side is in used
+-- a side is in use
 abbrev pub IsLeftInUse : Option Side → Type 0
 IsLeftInUse None = Unit {0}
 IsLeftInUse (Some Left) = Unit {0}
@@ -50,7 +50,7 @@ still_cut : (n : ℕ) (old new : Image → Type 0) (c : Image) → ((d : Image) 
 still_cut n old new c keep left = record { whole = left.whole; is_one = keep left.whole left.is_one; cut = left.cut }
 
 module _ (n : ℕ) (told : Bool) (l l' r r' : Moment) (lb lb' rb rb' : Moment → Type 0) (ls ls' rs rs' : Moment → Image → Type 0) (F G H : Image → Type 0) where
-  -- the sides that are in used stay the same
+  -- the sides that are in use stay the same
   pub goes_same : (alone : Option Side) → GoesOn l l' lb lb' ls ls' F → GoesOn r r' rb rb' rs rs' G → Cuts n told F H → Cuts n told G H
       → GoesOn (moment_of alone l r) (moment_of alone l' r') (Been alone lb rb) (Been alone lb' rb') (LeftSince n alone told ls rs) (LeftSince n alone told ls' rs') H
   goes_same alone a b f g = record { begins = begins alone; past = past alone; keeps = keeps alone; nothing_else = nothing_else alone; now = now alone }
@@ -158,7 +158,7 @@ module _ (n : ℕ) (told : Bool) (l r : Moment) (lb rb : Moment → Type 0) (ls 
       stays alone None sr p q = absurd p
       stays alone (Some x) None p q = absurd q
 
-  -- after a good sync of the sides in used a stop leaves what reads give
+  -- after a good sync of the sides in use a stop leaves what reads give
   pub only_both : (sl sr : Option Image) → told_cut n sl sr ≡ told_cut n sr sl → (IsTrue told → IsSomeAnd sl (ls l)) → (IsTrue told → IsSomeAnd sr (rs r))
       → OnlySeen sl (ls l) → OnlySeen sr (rs r) → OnlySeen (told_cut n sl sr) (LeftSince n None told ls rs (Both l r))
   only_both sl sr same a b p q c left =

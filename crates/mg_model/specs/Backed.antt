@@ -91,6 +91,6 @@ ended_of state t call.Turn = ended_by_turn state (turning state t)
 ended_of state t call.Next = ended_by_turn state (picked state)
 ended_of state t other = ended_by_call state t other
 
--- which seats a line may end: one that is refused ends none of them, and so does a turn that faults
+-- the seats that a line may end, whatever it is answered; all others stay
 abbrev pub ended_by : State → Line → Seat → Bool
 ended_by state line = ended_of state line.thread line.call

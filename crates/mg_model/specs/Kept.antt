@@ -1,6 +1,6 @@
 -- What accesses and lines do to the keys that are kept, and to a counter of words.
 --
--- Which keys are kept is a test: no seat and no list of seats is named here. A key that is kept spares a search.
+-- Which keys are kept is a test on keys, and no list of seats is named here. A key that is kept spares a search.
 use Rattle.std.specs.Prelude.{ℕ, ◌≡◌, ◌≤◌, ◌+◌, ◌*◌, ◌&&◌, Bool, true, false, List, [], ◌∷◌, if◌then◌else◌, Some}
 use Rattle.std.specs.Option.{option_map_or}
 use Rattle.mg_model.specs.declared.calls.Line.{Line}

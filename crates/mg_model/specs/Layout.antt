@@ -87,7 +87,7 @@ first_frame frames = table_block + table_blocks frames
 abbrev pub total_blocks : ℕ → ℕ
 total_blocks frames = first_frame frames + frames
 
--- Within a row every number has 8 bytes, and word 0 of a live row is 1. An account's words behind it:
+-- Within a row a number has 8 bytes, but for the rights of passwords, a byte each; word 0 of a live row is 1. An account's words behind it:
 abbrev pub account_password : ℕ
 account_password = 8
 

@@ -27,10 +27,11 @@ writes_from image s j (suc n) = (home_of image s j, block_of image (segment_body
 abbrev pub writes_of : List (List ℕ) → ℕ → List (ℕ × List ℕ)
 writes_of image s = if is_open image s then writes_from image s 0 (body_count image s) else []
 
--- a closed segment is ignored; an open one has at most 160 bodies, each of a block behind the journal and below the total
+-- whether each is of a block behind the journal and below the total
 abbrev pub homes_fit : ℕ → List (ℕ × List ℕ) → Bool
 homes_fit total writes = list_all (λ (write : ℕ × List ℕ). nat_le globals_block write.0 && nat_lt write.0 total) writes
 
+-- a closed segment is ignored; an open one has at most 160 bodies, and their homes fit
 abbrev pub segment_fits : ℕ → List (List ℕ) → ℕ → Bool
 segment_fits total image s = if is_open image s then nat_le (body_count image s) body_limit && homes_fit total (writes_of image s) else true
 

@@ -1,4 +1,4 @@
--- What the fields of a live row keep, as tests that compute; `Ranges` says the same as facts.
+-- What the fields of a live row and the counters keep, as tests that compute; `Ranges` says the same as facts.
 use Rattle.std.specs.Prelude.{ℕ, ◌+◌, ◌*◌, ◌/◌, ◌%◌, ◌==◌, ◌&&◌, nat_le, nat_lt, Bool, true, not, List, [], ◌∷◌, length}
 use Rattle.std.specs.Option.{option_map_or}
 use Rattle.std.specs.List.{list_all, list_any}

@@ -27,8 +27,8 @@ use Rattle.mg_model.specs.Script.{decoded, jumped, operand, register, with_regis
 use Rattle.mg_model.specs.State.{State, Thread, ThreadRow}
 use Rattle.mg_model.specs.Threads.{end_thread, make_thread, resume}
 
--- The calls of a thread that lives, but for its turn: a line makes them, and a script too. None of the other five comes
--- here but Bad, which a script makes by registers that spell no call: `step` has rows of its own for them.
+-- The calls of a thread that lives: a line makes them, and a script too. Of the other four, `turn`, `next`, `rent` and Bad, only Bad
+-- comes here, which a script makes by registers that spell no call; a line of theirs has a row of its own in `step`.
 abbrev pub thread_call : State → ℕ → Call → Answer
 thread_call state t (call.Load a) = load state t a
 thread_call state t (call.Store a value) = store state t a value
@@ -107,7 +107,7 @@ spelled thread =
     else if r 0 == 19 then spelled_pwadd (r 1) (r 2) (Some (r 3))
     else call.Bad
 
--- the values of an ok reply, in order
+-- the values that an ok reply leaves in registers, in order; the bases of slots, and what a turn came to, are none
 abbrev pub values_of : Reply → List ℕ
 values_of (reply.No word) = []
 values_of reply.Done = []

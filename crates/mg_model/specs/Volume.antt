@@ -142,13 +142,15 @@ threads_fit births threads =
     && all_distinct (map (λ (thread : Thread). thread.row.birth) threads)
     && list_all (λ (thread : Thread). nat_le thread.row.birth births) threads
 
--- each page in the frame table lies in an object, and none stands there twice
+-- whether a page is one of the object's
 abbrev pub is_page_of : ℕ → Object → Bool
 is_page_of page object = nat_le (page_of object.row) page && nat_lt page (page_behind object.row)
 
+-- the pages in the frame table
 abbrev pub bound_pages : List ℕ → List ℕ
 bound_pages table = filter (λ page. not (page == 0)) table
 
+-- each of them lies in an object, and none stands there twice
 abbrev pub table_fits : List Object → List ℕ → Bool
 table_fits objects table = list_all (λ page. list_any (λ object. is_page_of page object) objects) (bound_pages table) && all_distinct (bound_pages table)
 
@@ -184,7 +186,7 @@ volume_behind image (Spells settings) = settled_volume image settings
 abbrev pub gate_byte : List (List ℕ) → ℕ
 gate_byte image = slice_index (block_of image gate_block) 0
 
--- an image has a superblock, and its gate is open: as a test, and as facts
+-- an image has the gate's block and the one behind it, and its gate is open: as a test, and as facts
 abbrev pub is_gated : List (List ℕ) → Bool
 is_gated image = nat_le 2 (length image) && gate_byte image == gate_open
 

@@ -15,8 +15,9 @@
 //!    `WellFormed`: what every state keeps.
 //! 6. `Layout`, `Spelling`, `Replay` and `Volume`: which state an image of a disk spells.
 //!
-//! The files behind these are lemmas that crates above cite; no statement rests on them. Laws on the definitions are the
-//! contracts of `mg_laws`, and sessions that are computed by them stand in `mg_worked`.
+//! The other files have words that these rest on, as `Settings`, `Tariff`, `Rights`, `Ranges`, `Tests`, `Bytes` and `Ended`, and
+//! lemmas that crates above cite. Laws on the definitions are the contracts of `mg_laws`, and sessions that are computed by them
+//! stand in `mg_worked`.
 #![tactic(auto)]
 
 mod accounts;

@@ -1,4 +1,4 @@
-// All that the program does.
+// The top call: every command of `mungi` but `migrate`.
 ghost use Rattle.std.specs.Prelude.{◌≡◌, ◌⊎◌, IfSome, IsSome, None};
 ghost use Rattle.std.specs.Io.KnownBytes.{Appends};
 ghost use Rattle.mg_faults.specs.Faults.{Rose};
@@ -32,7 +32,8 @@ pub fn put_usage<K: Sink>(sink: &mut K) -> Status
     }
 }
 
-/// All that the program does. The words are those behind its name.
+/// Carries out a command of `mungi`, every one but `migrate`, which stands in `mg_migrate_session`. The words are those behind the
+/// program's name.
 ///
 /// - `VOLUME dry FRAMES SEED CREDITS` runs the source's lines on a fresh machine that is kept nowhere, and puts the reply to
 ///   each; the disk is not called.
