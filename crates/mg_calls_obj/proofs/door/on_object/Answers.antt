@@ -15,8 +15,6 @@ use Rattle.mg_model.specs.ObjectCalls.{row_at}
 use Rattle.mg_model.specs.Refused.{Answer}
 use Rattle.mg_model.specs.State.{State}
 use Rattle.mg_model.specs.Turn.{thread_call}
-use Rattle.mg_model.specs.declared.replies.Refusal.TheVariants.{Denied}
-use Rattle.mg_model.specs.declared.replies.Reply.TheVariants.{No}
 use Rattle.mg_vcache.specs.Seats.{AllBacked, is_kept}
 use Rattle.mg_volume.specs.Meaning.{now_of}
 use Rattle.mg_calls_obj.proofs.door.on_object.Goals as goal
@@ -44,7 +42,7 @@ returns-in-None g c =
     let made = c.args.call.now in
     let t = c.args.t in
     reads_serves g.D.Disk c.args.v.now c.reach.new.v c.args.c.now c.reach.new.c c.args.disk.now c.reach.new.disk c.args.steps.now c.reach.new.steps 129 (of_call t made) _
-    (read_call g.D.Disk c.args.v.now c.reach.new.v c.args.c.now c.reach.new.c c.args.disk.now c.reach.new.disk c.args.steps.now c.reach.new.steps t made (No Denied) tt (search rules) c.reach.ensures.backed
+    (read_call g.D.Disk c.args.v.now c.reach.new.v c.args.c.now c.reach.new.c c.args.disk.now c.reach.new.disk c.args.steps.now c.reach.new.steps t made _ tt (search rules) c.reach.ensures.backed
     (λ image told.
     let state = now_of c.args.v.now image in
     let P : ℕ → Right → Type 0 = λ b r. Validates state (record { thread = t; address = b; right = r }) (λ key. is_kept c.args.c.now key) (λ key. is_kept c.reach.new.c key) (c.reach.new.steps - c.args.steps.now) in
