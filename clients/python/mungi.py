@@ -574,8 +574,8 @@ class Machine:
 
         In the block a method of one call returns an `Answer`, whose `value` is there behind the block. A method that makes several calls
         and needs their answers to go on (`create` of a Home, `grant`, `add`, `remove`, `get`, `new_thread`) waits for them in the block
-        too. Behind the block the first refusal is raised, unless `check` is false; the lines behind a refused one were sent all the same.
-        A block keeps all its answers, so it should have some thousand lines at most.
+        too, and `put` waits for the object's size. Behind the block the first refusal is raised, unless `check` is false; the lines
+        behind a refused one were sent all the same. A block keeps all its answers, so it should have some thousand lines at most.
 
         The block saves waiting for each answer. How many lines become durable together is another matter, and is set as the machine is
         opened: with `Machine(volume, batch=64)` up to 64 lines of a block cost one commit; with `batch=1` each has a commit of its own. A

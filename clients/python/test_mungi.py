@@ -338,6 +338,72 @@ class Calls(OnVolumes):
         self.assertEqual(root.info().passwords, 1)
 
 
+class Pipes(OnVolumes):
+    """What docs/CLIENT.md says of lines and replies, without the client."""
+
+    def put_by(self, path, text, *batch):
+        done = subprocess.run([PROGRAM, path, "run", *batch], input=text, capture_output=True, text=True, timeout=PATIENCE, check=True)
+        return done.stdout
+
+    def test_comments_and_blank_lines_have_no_reply(self):
+        path, _ = self.new()
+        put = self.put_by(path, "# 1 next\n\n \t\r\n  #\n1 load 0x100000000\n" + "#" * 257 + "\nlaod\n")
+        self.assertEqual(put, "ok 0x0000000000000001\nno Syntax\nno Syntax\n")
+
+    def test_a_last_line_without_newline_is_run(self):
+        path, _ = self.new()
+        self.assertEqual(self.put_by(path, "1 store 0x100000020 12"), "ok\n")
+        self.assertEqual(self.put_by(path, "1 load 0x100000020"), "ok 0x000000000000000c\n")
+
+    def test_replies_wait_for_a_full_batch(self):
+        path, _ = self.new()
+        run = subprocess.Popen([PROGRAM, path, "run", "64"], stdin=subprocess.PIPE, stdout=subprocess.PIPE, bufsize=0)
+        with run:
+            os.set_blocking(run.stdout.fileno(), False)
+            run.stdin.write(b"1 load 0x100000000\n" + b"# a comment fills no batch\n\n" * 5 + mungi.FILL * 62)
+            time.sleep(0.3)
+            self.assertIsNone(run.stdout.read(1))
+            run.stdin.write(mungi.FILL)
+            os.set_blocking(run.stdout.fileno(), True)
+            replies = b""
+            while replies.count(b"\n") < 64:
+                replies += run.stdout.read(4096)
+            self.assertEqual(replies, b"ok 0x0000000000000001\n" + b"no Syntax\n" * 63)
+            run.stdin.write(b"1 load 0x100000000\n")
+            run.stdin.close()
+            self.assertEqual((run.stdout.read(4096), run.wait()), (b"ok 0x0000000000000001\n", 0))
+
+    def test_calls_that_are_sent_twice(self):
+        machine, root = self.begin()
+        thread, purse = machine.thread(1), root.purse
+        made = root.create()
+        harmless = (
+            lambda: thread.load(made.base),
+            lambda: thread.store(made.base, 5),
+            lambda: thread.info(made.base),
+            lambda: thread.entry(made.base, 8),
+            lambda: thread.ext(made.base, mungi.ROOT, 5),
+            lambda: thread.recharge(made.base, 1, purse.password),
+            lambda: thread.apdlist(),
+            lambda: thread.balance(1, purse.password),
+        )
+        for call in harmless:
+            call()
+        before = (made.info(), purse.balance(), [made.load(8 * place) for place in range(4)])
+        for call in harmless:
+            call()
+        self.assertEqual((made.info(), purse.balance(), [made.load(8 * place) for place in range(4)]), before)
+        password, number = made.grant("R").password, thread.thread(made.base)
+        for refusal, call in (
+            (mungi.NoPassword, lambda: thread.pwdel(made.base, password)),
+            (mungi.NoThread, lambda: thread.end(number)),
+            (mungi.Denied, lambda: thread.delete(made.base)),
+        ):
+            call()
+            with self.assertRaises(refusal):
+                call()
+
+
 class Documents(OnVolumes):
     SIZES = (0, 1, 7, 8, 9, 4095, 4096, 4097, 9000)
 
@@ -646,8 +712,11 @@ class Stops(OnVolumes):
             killer.start()
             try:
                 machine.thread(1).object(document.base).put(data[turn % 2])
-            except mungi.Ended:
+            except mungi.Ended as ended:
                 cut += 1
+                lines = [line for line, _ in ended.answered] + ended.unanswered + ended.unsent
+                self.assertEqual(lines[:2], [f"1 info {document.base:#x}", f"1 store {document.base:#x} 0"][: len(lines)])
+                self.assertLessEqual(len(lines), 1 + 1 + 188 + 1)
             killer.join()
             self.quit(machine)
             with self.open(path) as machine:
@@ -810,6 +879,22 @@ class Examples(OnVolumes):
         """What the head of an example says that it prints."""
         text = (HERE / "examples" / name).read_text().split("It prints\n\n")[1].split('\n"""')[0]
         return "".join(line[4:] + "\n" for line in text.splitlines())
+
+    def test_the_examples_of_the_pages(self):
+        # These find the program on the path.
+        (self.folder / "mungi").symlink_to(Path(PROGRAM).resolve())
+        path = f"{self.folder}:{os.environ['PATH']}"
+        for page, put in ((TOP / "docs/CLIENT.md", "Hello\nHello\n2 info 0x100001000 -> no Denied\n"), (HERE / "mungi.py", "")):
+            lines = page.read_text().splitlines()
+            first = lines.index("    import mungi")
+            last = next(at for at in range(first, len(lines)) if lines[at] and not lines[at].startswith("    "))
+            source = "\n".join(line[4:] for line in lines[first:last])
+            environment = dict(os.environ, PATH=path, PYTHONPATH=str(HERE), PYTHONDONTWRITEBYTECODE="1")
+            command = [sys.executable, "-c", source]
+            done = subprocess.run(command, cwd=self.folder, env=environment, capture_output=True, text=True, timeout=PATIENCE, check=False)
+            self.assertEqual((done.returncode, done.stderr, done.stdout), (0, "", put))
+        self.assertEqual(mungi.check(self.folder / "documents", PROGRAM).objects, 4)
+        self.assertEqual(mungi.check(self.folder / "vol", PROGRAM).objects, 2)
 
     def test_shared_documents(self):
         put = self.put_by("shared_documents.py")
