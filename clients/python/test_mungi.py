@@ -42,6 +42,12 @@ PATIENCE = 30
 @unittest.skipIf(PROGRAM is None, "there is no program: set MUNGI, or build it with the script mungi")
 class OnVolumes(unittest.TestCase):
     def setUp(self):
+        def hangs(_signal, _frame):
+            raise TimeoutError("the test hangs")
+
+        signal.signal(signal.SIGALRM, hangs)
+        signal.alarm(2 * PATIENCE)
+        self.addCleanup(signal.alarm, 0)
         folder = tempfile.TemporaryDirectory(prefix="mungi-test-")
         self.addCleanup(folder.cleanup)
         self.folder = Path(folder.name)
@@ -243,7 +249,7 @@ class Calls(OnVolumes):
             thread.pdx(door, 1)
 
     def test_threads_and_turns(self):
-        machine, root = self.begin()
+        machine, root = self.begin(64)
         thread = machine.thread(1)
         with self.assertRaises(mungi.Idle):
             machine.next()
@@ -554,11 +560,11 @@ class Batches(OnVolumes):
             for lines in (1, 10, 4096):
                 machine, root = self.begin(batch)
                 with machine.batch(lines) as block:
-                    stored = [root.store(8 * place, 3 * place) for place in range(8, 108)]
-                    loaded = [root.load(8 * place) for place in range(8, 108)]
-                self.assertEqual([answer.value for answer in stored], [None] * 100)
-                self.assertEqual([answer.value for answer in loaded], [3 * place for place in range(8, 108)])
-                self.assertEqual(len(block.answers), 200)
+                    stored = [root.store(8 * place, 3 * place) for place in range(8, 58)]
+                    loaded = [root.load(8 * place) for place in range(8, 58)]
+                self.assertEqual([answer.value for answer in stored], [None] * 50)
+                self.assertEqual([answer.value for answer in loaded], [3 * place for place in range(8, 58)])
+                self.assertEqual(len(block.answers), 100)
                 self.assertEqual(machine.close(), 0)
 
     def test_lines_wait_for_each_other(self):
@@ -572,7 +578,7 @@ class Batches(OnVolumes):
     def test_one_call_at_a_time_is_answered_at_once_in_any_batch(self):
         for batch in (2, 63, 64):
             machine, root = self.begin(batch)
-            for number in range(130):
+            for number in range(70):
                 root.store(8, number)
                 self.assertEqual(root.load(8), number)
 
@@ -601,6 +607,11 @@ class Batches(OnVolumes):
             with self.assertRaises(RuntimeError):
                 machine.batch().__enter__()
         self.assertEqual(root.load(8), 9)
+        with self.assertRaises(ZeroDivisionError):
+            with machine.batch():
+                root.store(8, 10)
+                machine.kill()
+                _ = 1 // 0
 
     def test_methods_of_several_calls_in_a_block(self):
         machine, root = self.begin(64)
@@ -615,10 +626,16 @@ class Batches(OnVolumes):
     def test_more_lines_than_the_pipes_hold(self):
         machine, root = self.begin(64)
         count = 40_000
+        in_flight = 0
         with machine.batch(4096):
-            answers = [machine.thread(1).apdlist() for _ in range(count)]
-            self.assertLessEqual(len(machine._owed) + len(machine._unsent), mungi.MOST_IN_FLIGHT)
-        self.assertEqual(sum(answer.value == [mungi.ROOT] for answer in answers), count)
+            answers = []
+            for _ in range(count):
+                answers.append(root.load(0))
+                in_flight = max(in_flight, len(machine._owed) + len(machine._unsent))
+        self.assertEqual(sum(answer.value == 1 for answer in answers), count)
+        self.assertLessEqual(in_flight, mungi.MOST_IN_FLIGHT)
+        # More than a pipe holds at once.
+        self.assertGreater(4096 * (len(answers[0].line) + 1), 1 << 16)
 
     def test_a_run_that_has_read_all_it_may(self):
         path, fresh = self.new()
@@ -772,6 +789,24 @@ class Stops(OnVolumes):
             machine.root(fresh.treasury).store(8, 4)
         self.assertEqual((caught.exception.status, caught.exception.unanswered), (-signal.SIGKILL, ["1 store 0x100000008 4"]))
         self.assertLess(time.monotonic() - begun, 10)
+
+    def test_an_interrupt_in_a_wait_ends_the_run(self):
+        path, fresh = self.new()
+        machine = self.open(path, 64)
+        root = machine.root(fresh.treasury)
+        root.store(8, 4)
+        os.kill(machine._process.pid, signal.SIGSTOP)
+        timer = threading.Timer(0.2, signal.pthread_kill, [threading.main_thread().ident, signal.SIGINT])
+        begun = time.monotonic()
+        timer.start()
+        with self.assertRaises(KeyboardInterrupt):
+            root.store(8, 5)
+        self.assertLess(time.monotonic() - begun, 10)
+        timer.join()
+        with self.assertRaises(mungi.Ended) as caught:
+            root.load(8)
+        self.assertEqual((caught.exception.status, caught.exception.unsent), (-signal.SIGKILL, ["1 load 0x100000008"]))
+        self.assertIn(self.open(path).thread(1).load(mungi.ROOT + 8), (4, 5))
 
     def test_the_disk_fails_in_the_middle(self):
         # A limit on the size of files lies below the pages' places, so the journal can't be emptied into them.
