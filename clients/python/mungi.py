@@ -551,7 +551,7 @@ class Machine:
 
     def call(self, line: str) -> str:
         """Sends a line as it is, and returns its answer as it is, such as "ok" or "no Denied": no refusal is raised. In a batch it returns
-        an Answer, whose `text` this is.
+        an Answer, whose `text` this is; a refusal is then raised at the end of the block, unless its `check` is false.
 
         The line has no newline and at most 256 bytes. A blank line, or one that begins with #, has no answer; these raise ValueError.
         """
