@@ -1,0 +1,1117 @@
+"""A client of mungi: the calls of the machine as Python methods, over the pipes of one run.
+
+    import mungi
+
+    fresh = mungi.new_volume("vol", frames=64, credits=1000)
+    with mungi.Machine("vol") as machine:
+        root = machine.root(fresh.treasury)
+        document = root.create(pages=1)
+        document.put(b"Hello")
+        reader = document.grant("R", until=3)
+        reader.revoke()
+
+A `Machine` runs `mungi VOLUME run BATCH` and holds the volume until it is closed. Every value that a method returns was durable before it
+was returned. A refused call raises the exception of its refusal, such as `Denied`, and has changed nothing. A program that ended early
+raises `Ended`, which tells which lines were answered.
+
+Three things to know:
+
+- **Threads are no logins.** Whoever has the file may send lines of any thread, and has every password. What the machine keeps apart is
+  what threads may do to each other's objects.
+- **A method that makes several calls is not one step.** `put`, `add`, `remove`, `create` of a `Home` and `new_thread` send several lines.
+  A stop between two of them leaves the first ones done. Each method says what can be left then.
+- **One Python thread at a time** uses a machine.
+
+Numbers are whole, from 0 to 2**64 - 1. A word is 8 bytes and a page 4,096. Addresses are bytes. All calls with their refusals are in
+docs/MACHINE.md, and docs/CLIENT.md tells how lines and replies go over the pipes. Linux and Python 3.11 or later; no other package.
+"""
+
+from __future__ import annotations
+
+import collections
+import contextlib
+import functools
+import os
+import secrets
+import select
+import selectors
+import shutil
+import subprocess
+import tempfile
+from pathlib import Path
+from typing import Callable, Iterable, NamedTuple
+
+WORD_BYTES = 8
+PAGE_BYTES = 4096
+# The most pages of an object.
+MOST_PAGES = 1024
+# The base of the root, the object that a fresh volume has.
+ROOT = 0x100000000
+# The most lines that become durable together.
+MOST_BATCH = 64
+# The most bytes of a line, its newline not counted.
+MOST_LINE_BYTES = 256
+# The most entries of a capability list.
+MOST_ENTRIES = 255
+# The most bytes that one run reads: some hours of lines that are sent one after the other.
+MOST_INPUT_BYTES = 1 << 32
+# The most lines that wait for their answers. It is more than a batch, so the program always has a full one to answer.
+MOST_IN_FLIGHT = 4096
+
+# A line that is refused with Syntax, and so changes nothing. It fills a batch whose answers are wanted now.
+FILL = b".\n"
+
+STATUSES = {
+    0: "done",
+    1: "the words spell no command",
+    2: "the file is no volume",
+    3: "not enough memory",
+    4: "a call of the disk failed, or another run has the file",
+    5: "standard input failed",
+    6: "standard output failed",
+    7: "more than 2**32 bytes came",
+    8: "the disk is too small",
+    9: "the program could not have its words",
+}
+
+
+class Refused(Exception):
+    """The machine refused a call, which changed nothing. `word` is the refusal and `line` the call; each refusal has a subclass."""
+
+    def __init__(self, word: str, line: str):
+        super().__init__(f"{line} -> no {word}")
+        self.word = word
+        self.line = line
+
+
+class Syntax(Refused):
+    """The line is no call."""
+
+
+class NoThread(Refused):
+    """No such thread lives."""
+
+
+class Align(Refused):
+    """The address is no multiple of 8."""
+
+
+class Denied(Refused):
+    """No password that the thread's present domain names gives the right there now, or no object is there."""
+
+
+class Size(Refused):
+    """The number of pages is 0 or above 1024."""
+
+
+class Account(Refused):
+    """There is no such account, or the password is not its own."""
+
+
+class Debt(Refused):
+    """The account owes something."""
+
+
+class Limit(Refused):
+    """A table is full: objects, passwords or entries of an object, threads, accounts, or all passwords or births."""
+
+
+class Full(Refused):
+    """The pages in use and the new ones are more than the volume's frames."""
+
+
+class NoPassword(Refused):
+    """No row of the object has this password."""
+
+
+class Range(Refused):
+    """The offset is no multiple of 8, or not below the object's size."""
+
+
+class SlotFull(Refused):
+    """A frame would have more than 8 slots."""
+
+
+class NoSlot(Refused):
+    """There is no such slot."""
+
+
+class NoEntry(Refused):
+    """The address is no entry of the object."""
+
+
+class Depth(Refused):
+    """The thread has 16 frames."""
+
+
+class NoFrame(Refused):
+    """The thread has one frame alone."""
+
+
+class NotYours(Refused):
+    """The thread is another one's, or is thread 1."""
+
+
+class NotReady(Refused):
+    """The thread is not Ready."""
+
+
+class Idle(Refused):
+    """No thread is Ready."""
+
+
+class Credit(Refused):
+    """The balance is less than the sum."""
+
+
+class Calendar(Refused):
+    """The period is the last one, 2**24 - 1."""
+
+
+class Past(Refused):
+    """The period given is not above the present one, or is above 2**24 - 1."""
+
+
+REFUSALS = {kind.__name__: kind for kind in Refused.__subclasses__()}
+
+
+class Ended(Exception):
+    """The program ended before it had answered all lines.
+
+    - `status`: the exit status, or minus the number of the signal that killed it.
+    - `said`: what it wrote on standard error, which names the file and the error of the system.
+    - `put`: lines on standard output that answer no call, such as "open not" of a file that is no volume.
+    - `answered`: of the call or block that was under way, the lines that were answered, each with its answer. **They are kept**, as all
+      lines are that were answered before.
+    - `unanswered`: the lines that were sent and not answered, in order. A first part of them may be kept: see `some_may_be_kept`.
+    - `unsent`: the lines that were not sent. They are not kept.
+
+    Open the volume again to go on: it then has the state after a first part of the lines that holds every answered one.
+    """
+
+    def __init__(self, status: int, said: str, put: list[str], answered: list[tuple[str, str]], unanswered: list[str], unsent: list[str]):
+        self.status = status
+        self.said = said
+        self.put = put
+        self.answered = answered
+        self.unanswered = unanswered
+        self.unsent = unsent
+        reason = STATUSES.get(status, f"killed by signal {-status}" if status < 0 else "no status of mungi")
+        told = "".join(f"; {text}" for text in (*put, said.strip()) if text)
+        super().__init__(
+            f"mungi ended with status {status}, {reason}{told}; "
+            f"{len(answered)} lines answered, {len(unanswered)} sent and not answered, {len(unsent)} not sent"
+        )
+
+    @property
+    def some_may_be_kept(self) -> bool:
+        """Whether first ones of `unanswered` may be kept.
+
+        - At statuses 5 and 7 the answered lines are kept and no others.
+        - At statuses 1, 2, 3 and 9 nothing was read.
+        - At statuses 4 and 6, and after a signal, the volume holds the state after the answered lines and none, some or all of the
+          unanswered ones, in their order. As the program is built these are at most one batch; tests look for this, no proof does.
+        """
+        return self.status not in (1, 2, 3, 5, 7, 9)
+
+
+class InputIsFull(Exception):
+    """The line was not sent, since a run reads at most 2**32 bytes. Close the machine and open it again."""
+
+
+class ListIsFull(Exception):
+    """The capability list has 255 entries. Nothing was changed."""
+
+
+class Capability(NamedTuple):
+    """The base of an object and a password of it. Both together, in a list that a thread uses, give the thread a right."""
+
+    base: int
+    password: int
+
+
+class Info(NamedTuple):
+    """What `info` tells of an object: its base, pages, the account that pays, password rows (ended ones too), entries, and whether it has
+    an extension."""
+
+    base: int
+    pages: int
+    account: int
+    passwords: int
+    entries: int
+    has_extension: bool
+
+
+class Balance(NamedTuple):
+    """Credits that an account has, credits that it owes, and pages that it pays for."""
+
+    credits: int
+    debt: int
+    pages: int
+
+
+class NewAccount(NamedTuple):
+    """The number of a new account, and its password."""
+
+    number: int
+    password: int
+
+
+class Rent(NamedTuple):
+    """The period that begins, what a page cost in the one that ended, and what all accounts paid together, in credits."""
+
+    period: int
+    rate: int
+    paid: int
+
+
+class Turn(NamedTuple):
+    """What a thread is after a turn: "Ready", "Stopped", "Faulted" or "Ended". `cause` is "Align", "Denied" or "Opcode" of a faulted one,
+    else None."""
+
+    state: str
+    cause: str | None
+
+
+class Next(NamedTuple):
+    """The thread that had the turn, and what it is then."""
+
+    thread: int
+    turn: Turn
+
+
+class Check(NamedTuple):
+    """What `check` tells of a volume: its frames, how many objects, pages, accounts and threads there are, the period, the credits."""
+
+    frames: int
+    objects: int
+    pages: int
+    accounts: int
+    threads: int
+    period: int
+    credits: int
+
+
+class Fresh(NamedTuple):
+    """Of a fresh volume: the base of the root, the root's password, and the password of account 1, the treasury."""
+
+    root: int
+    password: int
+    treasury: int
+
+
+# Starting the program
+
+
+def default_program() -> str:
+    """The program `mungi` of the path, or else the script `mungi` two folders above this file, which builds the program if it is not built:
+    that takes long, so build it before. Raises FileNotFoundError where there is neither."""
+    found = shutil.which("mungi")
+    if found is not None:
+        return found
+    script = Path(__file__).resolve().parents[2] / "mungi"
+    if script.is_file():
+        return str(script)
+    raise FileNotFoundError("there is no program mungi on the path, and no script mungi two folders above mungi.py")
+
+
+def _put_by(words: list[str], program: str | os.PathLike | None) -> str:
+    """What a command puts that reads no input. Raises Ended where its status is not 0."""
+    done = subprocess.run([program or default_program(), *words], stdin=subprocess.DEVNULL, capture_output=True, text=True, check=False)
+    if done.returncode != 0:
+        raise Ended(done.returncode, done.stderr, done.stdout.splitlines(), [], [], [])
+    return done.stdout
+
+
+def new_volume(
+    path: str | os.PathLike,
+    frames: int,
+    credits: int,
+    tariff: Iterable[tuple[int, int]] = (),
+    seed: str | None = None,
+    program: str | os.PathLike | None = None,
+) -> Fresh:
+    """Makes the file `path` a fresh volume. A file that is there is never written over: that raises FileExistsError.
+
+    `frames` is how many pages all objects may have together, 16 to 65,536, and `credits` what all accounts have together, at most 2**62.
+    `tariff` is none, for the usual one, or four pairs of a number of pages and the rate from it on. `seed` is 64 hexadecimal digits, from
+    which all passwords follow; without it 32 random bytes are drawn. The file gets the mode 0600, since who reads it has every password.
+    The seed is a word of the command line, which the system shows to others while the command runs.
+
+    Raises Ended where the program refuses the words or the disk fails; no file is left then.
+    """
+    seed = secrets.token_hex(32) if seed is None else seed
+    steps = [f"{_number(pages)}:{_number(rate)}" for pages, rate in tariff]
+    os.close(os.open(path, os.O_WRONLY | os.O_CREAT | os.O_EXCL, 0o600))
+    try:
+        put = _put_by([os.fspath(path), "format", _number(frames), seed, _number(credits), *steps], program)
+    except BaseException:
+        os.unlink(path)
+        raise
+    return Fresh(*(int(word, 16) for word in put.split()[1:]))
+
+
+def check(path: str | os.PathLike, program: str | os.PathLike | None = None) -> Check:
+    """Tells what the volume in the file `path` holds. It only reads. Raises Ended with status 2 where the file is no volume."""
+    return Check(*(int(word) for word in _put_by([os.fspath(path), "check"], program).split()[1:]))
+
+
+# Lines and answers
+
+
+def _number(value: int) -> str:
+    """A number of a line, decimal. Raises ValueError outside 0 to 2**64 - 1."""
+    if not isinstance(value, int) or not 0 <= value < 1 << 64:
+        raise ValueError(f"{value!r} is no whole number from 0 to 2**64 - 1")
+    return str(int(value))
+
+
+def _hex(value: int) -> str:
+    """An address or a password of a line."""
+    return hex(int(_number(value)))
+
+
+def _rights(letters: str) -> str:
+    """The rights of a line. Which letters there are is left to the machine."""
+    if not letters.isascii() or not letters.isalpha():
+        raise ValueError(f"rights are letters of RWXDPO, and {letters!r} has others")
+    return letters
+
+
+def _nothing(_words: list[str]) -> None:
+    return None
+
+
+def _first(words: list[str]) -> int:
+    return int(words[0], 0)
+
+
+def _numbers(words: list[str]) -> list[int]:
+    return [int(word, 0) for word in words]
+
+
+def _turn(words: list[str]) -> Turn:
+    return Turn(words[0], words[1] if len(words) > 1 else None)
+
+
+class Answer:
+    """The answer of one line, which may still be on its way. `line` is the line. `text` is the answer, or None until it is there."""
+
+    __slots__ = ("line", "text", "_machine", "_read")
+
+    def __init__(self, machine: Machine, line: str, read: Callable):
+        self.line = line
+        self.text: str | None = None
+        self._machine = machine
+        self._read = read
+
+    @property
+    def value(self):
+        """What the call gives, once it is durable; an answer that is not there is waited for. Raises the refusal of a refused call, and
+        Ended where the answer will not come."""
+        if self.text is None:
+            self._machine._wait()
+        if self.text is None:
+            raise self._machine._ended()
+        verdict, *words = self.text.split()
+        if verdict == "no":
+            raise REFUSALS.get(words[0], Refused)(words[0], self.line)
+        return self._read(words)
+
+    def __repr__(self):
+        return f"<Answer {self.line} -> {self.text or 'on its way'}>"
+
+
+class Batch:
+    """The block of `Machine.batch`. `answers` has the answers of its lines, in order."""
+
+    def __init__(self, machine: Machine, lines: int, check: bool):
+        if not 1 <= lines <= MOST_IN_FLIGHT:
+            raise ValueError(f"lines is {lines}, and has to be from 1 to {MOST_IN_FLIGHT}")
+        self.answers: list[Answer] = []
+        self._machine = machine
+        self._lines = lines
+        self._check = check
+
+    def __enter__(self) -> Batch:
+        if self._machine._block is not None:
+            raise RuntimeError("a batch is open already")
+        self._machine._wait()
+        self._machine._block = self
+        self._machine._asked = self.answers
+        self._machine._at_once = self._lines
+        return self
+
+    def __exit__(self, kind, error, trace) -> None:
+        machine = self._machine
+        try:
+            # After an error too: what was asked may be sent already, and the next call must not find answers that are not its own.
+            machine._wait()
+        except Ended:
+            if error is None:
+                raise
+        finally:
+            machine._block = None
+            machine._asked = []
+            machine._at_once = 1
+        if error is None and self._check:
+            for answer in self.answers:
+                _ = answer.value
+
+
+def _waits(method):
+    """Makes a method get values in a batch too: it waits for each answer that it needs."""
+
+    @functools.wraps(method)
+    def waiting(self, *words, **more):
+        with self._machine._values():
+            return method(self, *words, **more)
+
+    return waiting
+
+
+class Machine:
+    """A volume that is open, by a run of `mungi VOLUME run BATCH`. No other run can have the volume meanwhile.
+
+    `volume` is the file. `batch`, 1 to 64, is how many lines become durable together: 1 makes each line durable by itself; 64 is faster for
+    lines of a `with machine.batch():` block. `program` is the program, else that of `default_program`. `timeout`, in seconds, is how long
+    the program may neither take nor put anything while it is waited for; then it is killed, and Ended is raised with status -9. Without it
+    a wait lasts as long as the program runs.
+
+    Raises Ended where the volume can't be opened: status 2 where the file is no volume, 4 where another run has it.
+
+    Used in a `with` block the machine is closed behind it.
+    """
+
+    def __init__(
+        self,
+        volume: str | os.PathLike,
+        batch: int = 1,
+        program: str | os.PathLike | None = None,
+        timeout: float | None = None,
+    ):
+        if not 1 <= batch <= MOST_BATCH:
+            raise ValueError(f"batch is {batch}, and has to be from 1 to {MOST_BATCH}")
+        self.volume = os.fspath(volume)
+        self._batch = batch
+        self._timeout = timeout
+        # The lines that are not sent yet, and the answers that the program owes, in order; None stands for that of a line that fills.
+        self._unsent: collections.deque[tuple[bytes, Answer | None]] = collections.deque()
+        self._owed: collections.deque[Answer | None] = collections.deque()
+        # The answers of the call or block that is under way.
+        self._asked: list[Answer] = []
+        self._block: Batch | None = None
+        self._needs_values = False
+        self._at_once = 1
+        self._begun_line = b""
+        self._put: list[str] = []
+        self._sent_bytes = 0
+        self._status: int | None = None
+        self._said = ""
+        self._errors = tempfile.TemporaryFile()
+        try:
+            self._process = subprocess.Popen(
+                [program or default_program(), self.volume, "run", str(batch)],
+                bufsize=0,
+                stdin=subprocess.PIPE,
+                stdout=subprocess.PIPE,
+                stderr=self._errors,
+                # An interrupt from the keyboard then reaches this program alone, which closes the run in order.
+                process_group=0,
+            )
+        except BaseException:
+            self._errors.close()
+            raise
+        self._input = self._process.stdin.fileno()
+        self._output = self._process.stdout.fileno()
+        os.set_blocking(self._input, False)
+        os.set_blocking(self._output, False)
+        self._selector = selectors.DefaultSelector()
+        self._selector.register(self._output, selectors.EVENT_READ)
+        self._takes_input = True
+        # A batch of lines that change nothing: once they are answered the volume is open.
+        self._fill(batch)
+        self._pump(lambda: not self._unsent and not self._owed)
+
+    def thread(self, number: int) -> Thread:
+        """The thread with this number, 1 to 256. Nothing is asked of the machine; a fresh volume has thread 1."""
+        return Thread(self, number)
+
+    def root(self, treasury: int) -> Home:
+        """The root as the home of thread 1, paid from account 1, whose password is `treasury`. Nothing is asked of the machine."""
+        return Home(self.thread(1), ROOT, Purse(self.thread(1), 1, treasury))
+
+    def next(self) -> Next:
+        """`next`: the next Ready thread does one word of its script. Raises Idle."""
+        return self._call("next", lambda words: Next(int(words[0]), _turn(words[1:])))
+
+    def rent(self) -> Rent:
+        """`rent`: collects the rent of a period and begins the next one. Raises Calendar."""
+        return self._call("rent", lambda words: Rent(*_numbers(words)))
+
+    def call(self, line: str) -> str:
+        """Sends a line as it is, and returns its answer as it is, such as "ok" or "no Denied": no refusal is raised. In a batch it returns
+        an Answer, whose `text` this is; a refusal is then raised at the end of the block, unless its `check` is false.
+
+        The line has no newline and at most 256 bytes. A blank line, or one that begins with #, has no answer; these raise ValueError.
+        """
+        words = line.strip(" \t\r")
+        if not words or words.startswith("#"):
+            raise ValueError("a blank line or a comment is never answered")
+        self._begin()
+        answer = self._ask(line, _nothing)
+        if self._gives_answers():
+            return answer
+        self._wait()
+        return answer.text
+
+    def batch(self, lines: int = MOST_BATCH, check: bool = True) -> Batch:
+        """A block whose lines are sent together, `lines` at a time, 1 to 4096, and whose answers are read at its end:
+
+            with machine.batch():
+                for place in range(512):
+                    document.store(8 * place, place)
+
+        In the block a method of one call returns an `Answer`, whose `value` is there behind the block. A method that makes several calls
+        and needs their answers to go on (`create` of a Home, `grant`, `add`, `remove`, `get`, `new_thread`) waits for them in the block
+        too, and `put` waits for the object's size. Behind the block the first refusal is raised, unless `check` is false; the lines
+        behind a refused one were sent all the same. A block keeps all its answers, so it should have some thousand lines at most.
+
+        The block saves waiting for each answer. How many lines become durable together is another matter, and is set as the machine is
+        opened: with `Machine(volume, batch=64)` up to 64 lines of a block cost one commit; with `batch=1` each has a commit of its own. A
+        block is not one step in either case: after a stop a first part of its lines is kept.
+
+        The program holds answers back until a batch is full. Where they are wanted earlier, here at the end of the block and behind
+        every call outside of one, up to 63 lines are sent that are refused with Syntax and change nothing, and so fill the batch.
+        """
+        return Batch(self, lines, check)
+
+    def close(self) -> int:
+        """Sends what is unsent, ends the input, and returns the status of the program once it has ended; 0 says that every line is
+        answered and kept. Raises Ended where a line was not answered. Closing again returns the same status."""
+        if self._status is None:
+            with contextlib.suppress(Ended):
+                self._pump(lambda: not self._unsent)
+            self._end_input()
+            with contextlib.suppress(Ended):
+                self._pump(lambda: self._status is not None)
+        if any(answer is not None for answer in self._owed) or any(answer is not None for _, answer in self._unsent):
+            raise self._ended()
+        return self._status
+
+    def kill(self) -> None:
+        """Kills the program. All that was answered is kept. The next call, or `close`, tells what was not answered."""
+        if self._status is None:
+            self._process.kill()
+
+    def __enter__(self) -> Machine:
+        return self
+
+    def __exit__(self, kind, error, trace) -> None:
+        if error is not None:
+            with contextlib.suppress(Ended):
+                self.close()
+        elif self.close() != 0:
+            raise self._ended()
+
+    # Within
+
+    def _ask(self, line: str, read: Callable) -> Answer:
+        """Puts a line behind the others, to be sent. `read` makes the value of the words behind "ok"."""
+        data = line.encode() + b"\n"
+        if len(data) > MOST_LINE_BYTES + 1 or b"\n" in data[:-1]:
+            raise ValueError(f"a line has at most {MOST_LINE_BYTES} bytes, and no newline")
+        if self._status is not None:
+            raise self._ended([line])
+        if self._sent_bytes + len(data) + len(FILL) * MOST_BATCH > MOST_INPUT_BYTES:
+            raise InputIsFull(line)
+        self._sent_bytes += len(data)
+        answer = Answer(self, line, read)
+        self._unsent.append((data, answer))
+        self._asked.append(answer)
+        if len(self._unsent) >= self._at_once:
+            self._pump(lambda: not self._unsent)
+        if len(self._unsent) + len(self._owed) >= MOST_IN_FLIGHT:
+            self._pump(lambda: len(self._unsent) + len(self._owed) < MOST_IN_FLIGHT)
+        return answer
+
+    def _call(self, line: str, read: Callable):
+        """Asks one line: its answer in a block, and its value elsewhere."""
+        self._begin()
+        answer = self._ask(line, read)
+        return answer if self._gives_answers() else answer.value
+
+    def _gives_answers(self) -> bool:
+        """Whether a call gives its answer, and not its value."""
+        return self._block is not None and not self._needs_values
+
+    def _begin(self) -> None:
+        """A method of a user begins, unless it is part of a block or of another method: `Ended` then tells of its lines alone."""
+        if self._block is None and not self._needs_values:
+            self._asked = []
+
+    def _settle(self, answers: list[Answer]) -> None:
+        """Waits for answers that have no values, and raises the first refusal; in a block its end does both."""
+        if not self._gives_answers():
+            for answer in answers:
+                _ = answer.value
+
+    @contextlib.contextmanager
+    def _values(self):
+        """Makes methods return values, in a block too."""
+        self._begin()
+        before, self._needs_values = self._needs_values, True
+        try:
+            yield
+        finally:
+            self._needs_values = before
+
+    def _fill(self, count: int) -> None:
+        self._unsent.extend([(FILL, None)] * count)
+        self._sent_bytes += count * len(FILL)
+
+    def _wait(self) -> None:
+        """Waits until every line is answered."""
+        last = self._asked[-1] if self._asked else None
+        if last is not None and last.text is None:
+            # However the program cut its batches, the one that has the last line is full behind these.
+            self._fill(self._batch - 1)
+            self._pump(lambda: last.text is not None)
+
+    def _pump(self, is_done: Callable[[], bool]) -> None:
+        """Sends and reads, whichever is possible, until `is_done`. Raises Ended where that will not be."""
+        while not is_done():
+            if self._status is not None:
+                raise self._ended()
+            try:
+                self._move()
+            except BaseException:
+                # What was read in this moment may be lost, and no later answer could be told apart: the run ends here.
+                self._process.kill()
+                self._finish()
+                raise
+
+    def _move(self) -> None:
+        """Waits until the program takes or puts something, and sends or reads it."""
+        wants_to_send = self._takes_input and bool(self._unsent)
+        is_registered = self._takes_input and self._input in self._selector.get_map()
+        if wants_to_send and not is_registered:
+            self._selector.register(self._input, selectors.EVENT_WRITE)
+        elif is_registered and not wants_to_send:
+            self._selector.unregister(self._input)
+        ready = self._selector.select(self._timeout)
+        if not ready:
+            self._process.kill()
+        for key, _ in ready:
+            if key.fd == self._output:
+                self._take()
+            elif self._takes_input:
+                self._send()
+
+    def _send(self) -> None:
+        """Sends lines, as many as the pipe is sure to take whole or not at all: so no line is ever cut in two."""
+        data = []
+        room = select.PIPE_BUF
+        for line, _ in self._unsent:
+            if len(line) > room:
+                break
+            data.append(line)
+            room -= len(line)
+        try:
+            os.write(self._input, b"".join(data))
+        except BlockingIOError:
+            return
+        except BrokenPipeError:
+            self._end_input()
+            return
+        for _ in data:
+            self._owed.append(self._unsent.popleft()[1])
+
+    def _take(self) -> None:
+        """Reads answers, and gives each to its line."""
+        try:
+            data = os.read(self._output, 1 << 16)
+        except BlockingIOError:
+            return
+        if not data:
+            self._finish()
+            return
+        *lines, self._begun_line = (self._begun_line + data).split(b"\n")
+        for line in lines:
+            text = line.decode("utf-8", "backslashreplace")
+            if self._owed and text.split(" ", 1)[0] in ("ok", "no"):
+                answer = self._owed.popleft()
+                if answer is not None:
+                    answer.text = text
+            else:
+                self._put.append(text)
+
+    def _end_input(self) -> None:
+        if self._takes_input:
+            self._takes_input = False
+            if self._input in self._selector.get_map():
+                self._selector.unregister(self._input)
+            self._process.stdin.close()
+
+    def _finish(self) -> None:
+        """Has the status of a program that put its last line, or was killed."""
+        self._end_input()
+        try:
+            self._status = self._process.wait(self._timeout)
+        except subprocess.TimeoutExpired:
+            self._process.kill()
+            self._status = self._process.wait()
+        self._selector.close()
+        self._process.stdout.close()
+        with self._errors as errors:
+            errors.seek(0)
+            self._said = errors.read(1 << 16).decode("utf-8", "backslashreplace")
+
+    def _ended(self, more: list[str] | None = None) -> Ended:
+        """The report on a program that has ended; `more` are lines that came too late."""
+        answered = [(answer.line, answer.text) for answer in self._asked if answer.text is not None]
+        unanswered = [answer.line for answer in self._owed if answer is not None]
+        unsent = [answer.line for _, answer in self._unsent if answer is not None]
+        return Ended(self._status, self._said, self._put, answered, unanswered, unsent + (more or []))
+
+
+class Thread:
+    """A thread of the machine, and its calls under their own names. Each needs what docs/MACHINE.md says, and raises NoThread where the
+    thread does not live. In a batch each returns an Answer instead of its value."""
+
+    def __init__(self, machine: Machine, number: int):
+        if not 1 <= number <= 256:
+            raise ValueError(f"the thread is {number}, and has to be from 1 to 256")
+        self.number = number
+        self._machine = machine
+
+    def __repr__(self):
+        return f"<Thread {self.number}>"
+
+    def object(self, base: int | Object) -> Object:
+        """The object at this base, or the same object as another thread uses, as this thread uses it. Nothing is asked."""
+        return Object(self, base.base if isinstance(base, Object) else base)
+
+    def load(self, address: int) -> int:
+        """The word at an address. Raises Align, or Denied without R."""
+        return self._call(f"load {_hex(address)}", _first)
+
+    def store(self, address: int, value: int) -> None:
+        """The word at an address becomes `value`. Raises Align, or Denied without W."""
+        return self._call(f"store {_hex(address)} {_number(value)}", _nothing)
+
+    def create(self, pages: int, account: int, password: int) -> Capability:
+        """Makes an object of 1 to 1,024 pages, all zeros, which this account pays for: its base, and a password with all rights. No list
+        names it yet, so no thread can use it: see `Home.create`. Raises Size, Account, Debt, Limit, Full."""
+        words = f"create {_number(pages)} {_number(account)} {_hex(password)}"
+        return self._call(words, lambda words: Capability(*_numbers(words)))
+
+    def delete(self, base: int) -> None:
+        """The object is gone. Raises Denied without D."""
+        return self._call(f"delete {_hex(base)}", _nothing)
+
+    def info(self, base: int) -> Info:
+        """Tells of an object. Raises Denied without any right."""
+        return self._call(f"info {_hex(base)}", lambda words: Info(*_numbers(words[:5]), words[5] == "1"))
+
+    def pwadd(self, base: int, rights: str, until: int | None = None) -> int:
+        """Adds a password with these rights, letters of RWXDPO, which holds while the period is below `until`, or always. Raises Denied
+        without O, Past, Limit."""
+        end = "" if until is None else f" {_number(until)}"
+        return self._call(f"pwadd {_hex(base)} {_rights(rights)}{end}", _first)
+
+    def pwdel(self, base: int, password: int) -> None:
+        """Removes this password. Raises Denied without O, NoPassword."""
+        return self._call(f"pwdel {_hex(base)} {_hex(password)}", _nothing)
+
+    def entry(self, base: int, offset: int) -> int:
+        """The object may be entered at `offset` bytes from its base: the address. Raises Denied without O, Range, Limit."""
+        return self._call(f"entry {_hex(base)} {_number(offset)}", _first)
+
+    def ext(self, base: int, list_base: int, list_password: int) -> None:
+        """The object's extension, which a domain gets as it is entered, is this list; with `list_base` 0 there is none. Raises Denied
+        without O."""
+        return self._call(f"ext {_hex(base)} {_hex(list_base)} {_hex(list_password)}", _nothing)
+
+    def recharge(self, base: int, account: int, password: int) -> None:
+        """The account pays for the object from now on. Raises Denied without O, Account, Debt."""
+        return self._call(f"recharge {_hex(base)} {_number(account)} {_hex(password)}", _nothing)
+
+    def apdadd(self, list_base: int, list_password: int) -> int:
+        """Adds a slot to the thread's domain, which is not tested: its place, from 0. Raises SlotFull."""
+        return self._call(f"apdadd {_hex(list_base)} {_hex(list_password)}", _first)
+
+    def apddel(self, slot: int) -> None:
+        """Removes a slot, from 0; later ones close up. Raises NoSlot."""
+        return self._call(f"apddel {_number(slot)}", _nothing)
+
+    def apdlist(self) -> list[int]:
+        """The bases of the slots' lists."""
+        return self._call("apdlist", lambda words: _numbers(words[1:]))
+
+    def pdx(self, address: int, mask: int) -> int:
+        """Enters an object at an entry, keeping slot j where bit j of `mask` is 1, 0 to 255: the number of frames. Raises Align, Denied
+        without P, NoEntry, Depth, SlotFull."""
+        return self._call(f"pdx {_hex(address)} {_number(mask)}", _first)
+
+    def ret(self) -> int:
+        """Leaves the last frame: the number of frames left. Raises NoFrame."""
+        return self._call("ret", _first)
+
+    def thread(self, address: int) -> int:
+        """Makes a thread that begins at an address, with the present slots: its number. Raises Align, Denied without X, Limit."""
+        return self._call(f"thread {_hex(address)}", _first)
+
+    def end(self, number: int) -> None:
+        """A thread is gone: this one, or one that it made. Raises NoThread, NotYours."""
+        return self._call(f"end {_number(number)}", _nothing)
+
+    def resume(self, number: int) -> None:
+        """A thread is Ready again: this one, or one that it made. Raises NoThread, NotYours."""
+        return self._call(f"resume {_number(number)}", _nothing)
+
+    def turn(self) -> Turn:
+        """The thread does one word of its script: what it is then. Raises NotReady."""
+        return self._call("turn", _turn)
+
+    def account(self, account: int, password: int, credits: int) -> NewAccount:
+        """Makes an account with credits of this one. Raises Account, Credit, Limit."""
+        words = f"account {_number(account)} {_hex(password)} {_number(credits)}"
+        return self._call(words, lambda words: NewAccount(*_numbers(words)))
+
+    def pay(self, account: int, password: int, to: int, credits: int) -> None:
+        """Credits go from this account to the account `to`. Raises Account, Credit."""
+        return self._call(f"pay {_number(account)} {_hex(password)} {_number(to)} {_number(credits)}", _nothing)
+
+    def balance(self, account: int, password: int) -> Balance:
+        """Tells of an account. Raises Account."""
+        return self._call(f"balance {_number(account)} {_hex(password)}", lambda words: Balance(*_numbers(words)))
+
+    @contextlib.contextmanager
+    def inside(self, address: int, mask: int):
+        """A block in which the thread is inside an object, entered by `pdx`; behind it the thread leaves by `ret`.
+
+        After a stop in the block the thread is still inside: `ret` leads out."""
+        with self._machine._values():
+            self.pdx(address, mask)
+        try:
+            yield
+        finally:
+            with self._machine._values():
+                self.ret()
+
+    def _ask(self, words: str, read: Callable) -> Answer:
+        return self._machine._ask(f"{self.number} {words}", read)
+
+    def _call(self, words: str, read: Callable):
+        return self._machine._call(f"{self.number} {words}", read)
+
+
+class Purse:
+    """An account with its password, as a thread uses it."""
+
+    def __init__(self, thread: Thread, number: int, password: int):
+        self.thread = thread
+        self.number = number
+        self.password = password
+        self._machine = thread._machine
+
+    def balance(self) -> Balance:
+        """Credits, debt, and pages paid for. Raises Account."""
+        return self.thread.balance(self.number, self.password)
+
+    def pay(self, to: int | Purse, credits: int) -> None:
+        """Pays credits to an account. Raises Account, Credit."""
+        return self.thread.pay(self.number, self.password, to.number if isinstance(to, Purse) else to, credits)
+
+    @_waits
+    def open(self, credits: int) -> Purse:
+        """Makes a new account with credits of this one. Raises Account, Credit, Limit."""
+        return Purse(self.thread, *self.thread.account(self.number, self.password, credits))
+
+
+class Object:
+    """An object, as a thread uses it. `base` is its address. `password` is the one with all rights that `create` gave, or None."""
+
+    def __init__(self, thread: Thread, base: int, password: int | None = None):
+        self.thread = thread
+        self.base = base
+        self.password = password
+        self._machine = thread._machine
+
+    def __repr__(self):
+        return f"<{type(self).__name__} {self.base:#x} of {self.thread!r}>"
+
+    def load(self, offset: int) -> int:
+        """The word at `offset` bytes from the base, a multiple of 8. Raises Align, Denied."""
+        return self.thread.load(self.base + offset)
+
+    def store(self, offset: int, value: int) -> None:
+        """The word at `offset` bytes from the base becomes `value`. Raises Align, Denied."""
+        return self.thread.store(self.base + offset, value)
+
+    def info(self) -> Info:
+        """Tells of the object. Raises Denied."""
+        return self.thread.info(self.base)
+
+    def delete(self) -> None:
+        """The object is gone. Lists that name it keep an entry that gives nothing. Raises Denied."""
+        return self.thread.delete(self.base)
+
+    @_waits
+    def grant(self, rights: str, until: int | None = None) -> Grant:
+        """A new password with these rights, letters of RWXDPO, until a period begins, or for ever. It gives nothing until it is in a list
+        that a thread uses. Raises Denied, Past, Limit."""
+        return Grant(self, self.thread.pwadd(self.base, rights, until), rights, until)
+
+    def entry(self, offset: int) -> int:
+        """The object may be entered at `offset`: the address. Raises Denied, Range, Limit."""
+        return self.thread.entry(self.base, offset)
+
+    def extend(self, grant: Grant | None) -> None:
+        """Who enters the object gets the list of this grant, of R on the list; with None there is none. Raises Denied."""
+        base, password = (0, 0) if grant is None else (grant.base, grant.password)
+        return self.thread.ext(self.base, base, password)
+
+    def recharge(self, purse: Purse) -> None:
+        """The account pays for the object from now on. Raises Denied, Account, Debt."""
+        return self.thread.recharge(self.base, purse.number, purse.password)
+
+    def put(self, data: bytes) -> None:
+        """The object holds these bytes, as `get` reads them: their number is its first word, and they follow it, 8 a word, the first byte
+        the lowest, with zeros behind the last. An object of n pages has room for 4096 n - 8 bytes; more raise ValueError.
+
+        The first word is 0 meanwhile, and becomes the number last. So after a stop in `put` the object holds what it held, nothing
+        (`get` returns b""), or all of the new bytes. Raises Denied without W."""
+        data = bytes(data)
+        with self._machine._values():
+            room = self.info().pages * PAGE_BYTES - WORD_BYTES
+        if len(data) > room:
+            raise ValueError(f"the object has room for {room} bytes, and there are {len(data)}")
+        words = [int.from_bytes(data[at : at + WORD_BYTES], "little") for at in range(0, len(data), WORD_BYTES)]
+        places = [(0, 0), *((WORD_BYTES * (index + 1), word) for index, word in enumerate(words)), (0, len(data))]
+        self._machine._settle([self._store(place, word) for place, word in places])
+
+    @_waits
+    def get(self) -> bytes:
+        """The bytes that `put` put; none of an object of zeros. Raises Denied without R, and ValueError where the first word is no number
+        of bytes that fit."""
+        room = self.info().pages * PAGE_BYTES - WORD_BYTES
+        count = self.load(0)
+        if count > room:
+            raise ValueError(f"the object holds no bytes of put: its first word is {count}, and it has room for {room} bytes")
+        answers = [self._load(WORD_BYTES + at) for at in range(0, count, WORD_BYTES)]
+        return b"".join(answer.value.to_bytes(WORD_BYTES, "little") for answer in answers)[:count]
+
+    def _load(self, offset: int) -> Answer:
+        return self.thread._ask(f"load {_hex(self.base + offset)}", _first)
+
+    def _store(self, offset: int, value: int) -> Answer:
+        return self.thread._ask(f"store {_hex(self.base + offset)} {_number(value)}", _nothing)
+
+
+class Grant:
+    """A password of an object with some rights: `base`, `password`, `rights`, and `until`, the period with which it ends, or None."""
+
+    def __init__(self, target: Object, password: int, rights: str, until: int | None):
+        self.object = target
+        self.base = target.base
+        self.password = password
+        self.rights = rights
+        self.until = until
+
+    def revoke(self) -> None:
+        """Takes the password back: from the next line on it gives nothing, whoever holds it. Raises Denied, NoPassword."""
+        return self.object.thread.pwdel(self.base, self.password)
+
+
+class CapabilityList(Object):
+    """An object whose first page is a capability list: a count, a word not used, and up to 255 pairs of a base and a password.
+
+    A thread that has the list in its domain may use what the list names. To change it a thread needs W on the object, to read it R."""
+
+    @_waits
+    def entries(self) -> list[Capability]:
+        """What the list names, in order. Raises Denied."""
+        answers = [self._load(8 * (2 + index)) for index in range(2 * self._count())]
+        words = [answer.value for answer in answers]
+        return [Capability(*pair) for pair in zip(words[::2], words[1::2])]
+
+    @_waits
+    def add(self, capability: Capability | Grant | Object) -> None:
+        """Adds a capability, a grant, or an object with the password that `create` gave. Raises Denied, ListIsFull.
+
+        The count is stored last: after a stop in `add` the list names what it named, or that and the new one."""
+        if capability.password is None:
+            raise ValueError("the password of the object is not known: add a grant of it")
+        count = self._count()
+        if count == MOST_ENTRIES:
+            raise ListIsFull
+        base, password = capability.base, capability.password
+        self._machine._settle([self._store(16 + 16 * count, base), self._store(24 + 16 * count, password), self._store(0, count + 1)])
+
+    @_waits
+    def remove(self, capability: Capability | Grant | Object) -> None:
+        """Removes every entry with this base and password; the last entries take their places. Raises Denied, and KeyError where there is
+        none. After a stop in `remove` an entry may be there twice, or be still there."""
+        wanted = (capability.base, capability.password)
+        entries = self.entries()
+        if wanted not in entries:
+            raise KeyError(f"the list does not name {wanted[0]:#x} by this password")
+        answers = []
+        while wanted in entries:
+            place = entries.index(wanted)
+            last = entries.pop()
+            if place < len(entries):
+                entries[place] = last
+                answers += [self._store(16 + 16 * place, last.base), self._store(24 + 16 * place, last.password)]
+            answers.append(self._store(0, len(entries)))
+        self._machine._settle(answers)
+
+    def _count(self) -> int:
+        return min(self.load(0), MOST_ENTRIES)
+
+
+class Home(CapabilityList):
+    """What an owner has: a thread, the capability list that it uses, and an account that pays. `Machine.root` gives the first one."""
+
+    def __init__(self, thread: Thread, base: int, purse: Purse, password: int | None = None):
+        super().__init__(thread, base, password)
+        self.purse = purse
+
+    @_waits
+    def create(self, pages: int = 1) -> Object:
+        """Makes an object of 1 to 1,024 pages, all zeros, that the purse pays for, and adds it to the list. Raises Size, Account, Debt,
+        Limit, Full, and ListIsFull before anything is made.
+
+        After a stop between the two the object is there and no list names it: it costs rent, and only who noted its password can use it."""
+        if self._count() == MOST_ENTRIES:
+            raise ListIsFull
+        made = Object(self.thread, *self.thread.create(pages, self.purse.number, self.purse.password))
+        self.add(made)
+        return made
+
+    @_waits
+    def create_list(self) -> CapabilityList:
+        """Makes an object of one page that is an empty capability list, as `create` does."""
+        made = self.create(1)
+        return CapabilityList(self.thread, made.base, made.password)
+
+    @_waits
+    def new_thread(self, used: CapabilityList, start: int) -> Thread:
+        """Makes a thread that has this list in its domain, and no other; it begins at the address `start`, where the list has to give X.
+
+        The list gets a password with R, under which the thread uses it. For a moment this thread enters its home with the new list
+        alone: the home needs P and O on itself, which the root has, and may have no extension. After a stop meanwhile `ret` leads this
+        thread back, and `apddel` takes the slot away. Raises Denied, Limit, SlotFull, Depth."""
+        if self.info().has_extension:
+            raise ValueError("the home has an extension, which the new thread would get too")
+        self.entry(0)
+        grant = used.grant("R")
+        slot = self.thread.apdadd(grant.base, grant.password)
+        try:
+            with self.thread.inside(self.base, 1 << slot):
+                number = self.thread.thread(start)
+        finally:
+            self.thread.apddel(slot)
+        return self._machine.thread(number)
