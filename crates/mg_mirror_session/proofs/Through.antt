@@ -77,6 +77,9 @@ module _ {M N : Type 0} (facts : disks.Ghosts N) (view : M → N) where
       without = none to result m m' sink sink' h.lines.without;
       none_source = h.lines.none_source;
       not_opened_source = h.lines.not_opened_source;
+      not_opened_disk = h.lines.not_opened_disk;
+      not_opened_sink = λ image seen no_state failed. writes_nothing m m' (h.lines.not_opened_sink image seen no_state failed);
+      not_opened_leaves = λ settled image seen no_state. leaves m m' _ (h.lines.not_opened_leaves settled image seen no_state);
       complete = h.lines.complete;
     };
     cost = h.cost;

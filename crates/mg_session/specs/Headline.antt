@@ -108,6 +108,11 @@ pub record LinesKeep {D S K : Type 0} (facts : disks.Ghosts D) (from : sources.G
   -- Where there is no volume nothing is taken.
   pub none_source : result ≡ status.NoVolume → source' ≡ source
   pub not_opened_source : ForSome (facts.seen disk) (λ image. IsNoState (volume image) → source' ≡ source)
+  -- Nothing is put there where the disk failed, and nothing is written where the sink failed. At each status, where nothing was
+  -- pending, each image that a stop may leave spells what the image at entry spelled.
+  pub not_opened_disk : ForSome (facts.seen disk) (λ image. IsNoState (volume image) → result ≡ status.Disk → sink' ≡ sink)
+  pub not_opened_sink : ForSome (facts.seen disk) (λ image. IsNoState (volume image) → result ≡ status.Sink → WritesNothing facts disk disk')
+  pub not_opened_leaves : NothingPending facts disk → ForSome (facts.seen disk) (λ image. IsNoState (volume image) → Leaves facts disk disk' (λ c. volume c ≡ volume image))
   -- Where reads give a volume, no call failed and the input is not too long, all is done, or memory was wanting.
   pub complete : OnVolume (facts.seen disk) (λ _. (CountRose facts disk disk' → ⊥) → (Rose (from.faults source) (from.faults source') (from.is_spent source') → ⊥)
       → (Rose (to.faults sink) (to.faults sink') (to.is_spent sink') → ⊥) → IsWithin input_limit (from.left source) (IsDoneOrMemory result))

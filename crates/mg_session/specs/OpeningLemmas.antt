@@ -306,13 +306,21 @@ other_end result other ends a b c d h = ⊎_elim (λ (e : result ≡ status.NoVo
 unopened_which : (result : Status) → EndsUnopened result → EndsRun result
 unopened_which result ends = ⊎_elim (λ none. inl none) (⊎_elim (λ memory. inr (inr (inl memory))) (⊎_elim (λ disk. inr (inr (inr (inl disk)))) (λ sink. inr (inr (inr (inr (inr (inl sink)))))))) ends
 
--- want of memory and a fault of the disk are quiet
-fault_memory : (f : OpenFault) (result : Status) → EndsWith f result → result ≡ status.Memory → IsQuiet f
-fault_memory fault.Not result ends h = ⊎_elim (λ (e : result ≡ status.NoVolume). absurd (cc)) (λ (e : result ≡ status.Sink). absurd (cc)) ends
-fault_memory fault.Old result ends h = ⊎_elim (λ (e : result ≡ status.NoVolume). absurd (cc)) (λ (e : result ≡ status.Sink). absurd (cc)) ends
-fault_memory fault.Damaged result ends h = ⊎_elim (λ (e : result ≡ status.NoVolume). absurd (cc)) (λ (e : result ≡ status.Sink). absurd (cc)) ends
-fault_memory fault.Disk result ends h = tt
-fault_memory fault.Memory result ends h = tt
+-- a command that ended with no line of a fault, and not because the sink failed, had a fault that is quiet
+fault_quiet : (f : OpenFault) (result : Status) → EndsWith f result → (result ≡ status.NoVolume → ⊥) → (result ≡ status.Sink → ⊥) → IsQuiet f
+fault_quiet fault.Not result ends no_line no_sink = ⊎_elim no_line no_sink ends
+fault_quiet fault.Old result ends no_line no_sink = ⊎_elim no_line no_sink ends
+fault_quiet fault.Damaged result ends no_line no_sink = ⊎_elim no_line no_sink ends
+fault_quiet fault.Disk result ends no_line no_sink = tt
+fault_quiet fault.Memory result ends no_line no_sink = tt
+
+-- one that ended because the sink failed had another
+sink_is_loud : (f : OpenFault) (result : Status) → EndsWith f result → result ≡ status.Sink → IsQuiet f → ⊥
+sink_is_loud fault.Not result ends h quiet = quiet
+sink_is_loud fault.Old result ends h quiet = quiet
+sink_is_loud fault.Damaged result ends h quiet = quiet
+sink_is_loud fault.Disk result ends h quiet = let e : result ≡ status.Disk = ends in cc
+sink_is_loud fault.Memory result ends h quiet = let e : result ≡ status.Memory = ends in cc
 
 fault_disk : {T : Type 0} (f : OpenFault) (result : Status) → EndsWith f result → result ≡ status.Disk → ◌≡◌ {A = Result T OpenFault} (Err f) (Err fault.Disk)
 fault_disk fault.Not result ends h = ⊎_elim (λ (e : result ≡ status.NoVolume). absurd (cc)) (λ (e : result ≡ status.Sink). absurd (cc)) ends
@@ -341,9 +349,15 @@ module _ {D S K : Type 0} (facts : Ghosts D) (from : sources.Ghosts S) (to : sin
     disk_failed = λ h. then_rose _ _ _ _ _ _ count (serves.disk_failed h);
     without = opened_without facts to k result d mid d' sink sink' opens serves.which;
     none_source = λ h. absurd (no_volume result serves.which h);
-    not_opened_source = λ image seen no_state. absurd (let o = opens image seen in subst IsNoState o.is no_state);
+    not_opened_source = λ image seen no_state. absurd (gone image seen no_state);
+    not_opened_disk = λ image seen no_state. absurd (gone image seen no_state);
+    not_opened_sink = λ image seen no_state. absurd (gone image seen no_state);
+    not_opened_leaves = λ pending image seen no_state. absurd (gone image seen no_state);
     complete = opened_then k (facts.seen d) (facts.seen mid) _ opens (λ image seen. λ no_disk no_source no_sink. serves.complete (λ rose. no_disk (then_rose _ _ _ _ _ _ count rose)) no_source no_sink);
   }
+    where
+      gone : (image : Image) → facts.seen d ≡ Some image → IsNoState (volume image) → ⊥
+      gone image seen no_state = let o = opens image seen in subst IsNoState o.is no_state
 
   -- no volume was opened, and the line of the fault was put, or a part of it
   pub lines_unopened : (f : OpenFault) (result : Status) (d d' : D) (source : S) (sink sink' : K) → FaultTells f (facts.seen d) → EndsWith f result → ((IsQuiet f → ⊥) → WritesNothing facts d d') → (IsQuiet f → sink' ≡ sink)
@@ -361,7 +375,7 @@ module _ {D S K : Type 0} (facts : Ghosts D) (from : sources.Ghosts S) (to : sin
         ends = record {
           few_source = λ h. absurd (other_end result status.Source un (λ h. cc) (λ h. cc) (λ h. cc) (λ h. cc) h);
           few_too_long = λ h. absurd (other_end result status.TooLong un (λ h. cc) (λ h. cc) (λ h. cc) (λ h. cc) h);
-          memory = λ h. (refl, quiet (fault_memory f result ends h));
+          memory = λ h. (refl, quiet (fault_quiet f result ends (λ line. cc) (λ sink. cc)));
           source_failed = λ h. absurd (other_end result status.Source un (λ h. cc) (λ h. cc) (λ h. cc) (λ h. cc) h);
           sink_failed = sink_rose;
           too_long = λ h. absurd (other_end result status.TooLong un (λ h. cc) (λ h. cc) (λ h. cc) (λ h. cc) h);
@@ -374,6 +388,9 @@ module _ {D S K : Type 0} (facts : Ghosts D) (from : sources.Ghosts S) (to : sin
         without = unopened_without facts to f result d d' sink sink' tells ends writes put prefix;
         none_source = λ h. refl;
         not_opened_source = λ image seen no_state. refl;
+        not_opened_disk = λ image seen no_state failed. quiet (fault_quiet f result ends (λ line. cc) (λ sink. cc));
+        not_opened_sink = λ image seen no_state failed. writes (λ q. sink_is_loud f result ends failed q);
+        not_opened_leaves = λ pending image seen no_state. first pending image seen;
         complete = unopened f (facts.seen d) _ tells (λ q image seen s spelled. λ no_disk no_source no_sink. within_any input_limit (from.left source) (IsDoneOrMemory result) (⊎_elim
             (λ (e : result ≡ status.NoVolume). absurd (quiet_volume f result q ends e))
             (⊎_elim (λ (e : result ≡ status.Memory). inr e) (⊎_elim (λ (e : result ≡ status.Disk). absurd (no_disk (disk e))) (λ (e : result ≡ status.Sink). absurd (no_sink (sink_rose e)))))

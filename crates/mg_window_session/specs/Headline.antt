@@ -2,15 +2,18 @@
 use Rattle.std.specs.Prelude.{ℕ, ◌+◌, ◌≤◌, ◌≡◌, List, [], ◌∷◌, ◌++◌, codes, drop, length, take, Option, Some, IfSome, IsSomeAnd}
 use Rattle.std.specs.Fmt.{decimal}
 use Rattle.std.specs.Io.KnownBytes.{Appends}
+use Rattle.std.specs.Option.{ForSome}
 use Rattle.mg_disk.specs.Stops.{CountRose}
 use Rattle.mg_disk.specs.declared.disk.Disk as disks
 use Rattle.mg_faults.specs.Faults.{Rose}
 use Rattle.mg_io.specs.Known.{AppendsPrefix}
 use Rattle.mg_io.specs.declared.traits.Sink as sinks
 use Rattle.mg_io.specs.declared.traits.Source as sources
+use Rattle.mg_layout.specs.MayFormat.{IsNoState}
 use Rattle.mg_model.specs.Lines.{lines}
 use Rattle.mg_model.specs.Print.{answered, hex_text, spaced}
 use Rattle.mg_model.specs.State.{State}
+use Rattle.mg_model.specs.Volume.{volume}
 use Rattle.mg_serve.specs.Sessions.{IsDoneOrMemory, IsWithin, input_limit, replies}
 use Rattle.mg_serve.specs.declared.status.Status.{Status}
 use Rattle.mg_serve.specs.declared.status.Status.TheVariants as status
@@ -78,8 +81,9 @@ whole_text m input = replies (device_text m) input ++ device_lines (device_after
 pub record DevicesKeep {D S K : Type 0} (facts : disks.Ghosts D) (from : sources.Ghosts S) (to : sinks.Ghosts K) (result : Status) (windows windows' : Attached) (disk disk' : D) (source source' : S) (sink sink' : K) : Type 0 where
   pub lines : LinesKeep facts from to (λ s. device_text (equipped windows s)) (λ s. device_state (equipped windows s)) 1 result disk disk' source source' sink sink'
   pub devices : OnVolume (facts.seen disk) (λ s. LeavesDevices (equipped windows s) result windows' (from.left source) (to.taken sink) (to.taken sink'))
-  -- Where there is no volume, or memory was wanting, the devices are as they were.
+  -- Where there is no volume, whatever the status, or memory was wanting, the devices are as they were.
   pub none_devices : result ≡ status.NoVolume → windows' ≡ windows
+  pub not_opened_devices : ForSome (facts.seen disk) (λ image. IsNoState (volume image) → windows' ≡ windows)
   pub memory_devices : result ≡ status.Memory → windows' ≡ windows
 
 -- What `VOLUME dev KIND:BASE ..` keeps, where the devices that were handed in are those that the words ask for.

@@ -1,6 +1,7 @@
 use Rattle.std.proofs.Common.{refl, sym, ap, ◌∙◌, subst}
 use Rattle.mg_disk.specs.Stops.{WritesNothing}
 use Rattle.mg_kernel.specs.Meaning.{now_of}
+use Rattle.mg_layout.specs.MayFormat.{IsNoState}
 use Rattle.mg_session.specs.OpeningLemmas.{fault_tells, lines_opened, lines_unopened, no_volume, opened_then, unopened, untouched}
 use Rattle.mg_window_session.specs.declared.device_kernel.DeviceKernel.{DeviceKernel}
 use Rattle.mg_window.specs.Attached.{Attached}
@@ -20,6 +21,7 @@ returns-in-Ok-clause-keeps g c = record {
       (leaves_devices _ c.run-status.result c.new-machine.result c.run-status.new.machine image c.args.steps.now c.run-status.new.steps (λ ls a. a) (λ ls b. b) (g.S.Source.left c.args.source.now) (g.S.Source.left c.run-status.new.source) (g.K.Sink.taken c.args.sink.now) (g.K.Sink.taken c.run-status.new.sink)
       (c.run-status.ensures.serves.traces image seen))));
   none_devices = λ h. absurd (no_volume c.run-status.result c.run-status.ensures.serves.which h);
+  not_opened_devices = λ image seen no_state. absurd (subst IsNoState (c.in-Ok.ensures.opens image seen).is no_state);
   memory_devices = λ h. c.into_windows.ensures ∙ ap (λ (k : DeviceKernel). k.windows) (c.run-status.ensures.memory h ∙ c.new-machine.ensures);
 }
 
@@ -33,5 +35,6 @@ returns-in-Err-clause-keeps g c = record {
       (fault_tells c.in-Err.fault (g.D.Disk.seen c.args.disk.now) c.in-Err.ensures.not c.in-Err.ensures.old c.in-Err.ensures.damaged)
       (λ quiet image seen s spelled. fault_devices (equipped c.args.windows s) c.in-Err.fault c.put_fault.result (g.S.Source.left c.args.source.now) (g.K.Sink.taken c.args.sink.now) (g.K.Sink.taken c.put_fault.new.sink) quiet c.put_fault.ensures.ends (ap (λ v. g.K.Sink.taken v) (c.put_fault.ensures.quiet quiet)));
   none_devices = λ h. refl;
+  not_opened_devices = λ image seen no_state. refl;
   memory_devices = λ h. refl;
 }
