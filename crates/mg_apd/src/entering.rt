@@ -68,7 +68,7 @@ fn frame_entered(r: &ThrRow, mask: u8, ext: Option<Slot>) -> Option<Frame>
 
 // A frame with these slots, without those whose bit of the mask is 0.
 fn frame_kept(slots: &[Slot], mask: u8, back: u64) -> Frame
-    requires few { length slots.now ≤ 8 }
+    requires at_most_8_slots { length slots.now ≤ 8 }
     requires aligned { back % 8 ≡ 0 }
     ensures { result ≡ record { back = back; slots = kept_from mask 0 slots.now } }
 {
@@ -82,8 +82,8 @@ fn frame_kept(slots: &[Slot], mask: u8, back: u64) -> Frame
 // The slot with this number is kept too, where its bit of the mask is 1.
 fn keep(frame: &mut Frame, slots: &[Slot], mask: u8, place: usize)
     requires place { place < length slots.now }
-    requires few { place < 8 }
-    requires room { length frame.old.slots ≤ place }
+    requires place_below_8 { place < 8 }
+    requires place_behind_slots { length frame.old.slots ≤ place }
     ensures { frame.new ≡ (if mask / 2 ^ place % 2 == 1 then record frame.old { slots = frame.old.slots ++ slice_index_or slots.now place (record { base = 0; password = 0 }) ∷ [] } else frame.old) }
 {
     if is_kept(mask, place) {

@@ -16,7 +16,8 @@ use Rattle.mg_asm.specs.Printed.{instruction_words, printed, printed_words, sign
 use Rattle.mg_asm.specs.Reading.{as_word, from, jump_to, line_reading, on_ok, reading, register_1_and_immediate, registers_2, registers_2_and_immediate, registers_3}
 use Rattle.mg_asm.specs.Tokens.{begins_note, distance_of, first_piece, immediate_of, is_gap, line_tokens, register_of, tokens}
 use Rattle.mg_asm.proofs.Loops.{words_in-more}
-use Rattle.mg_asm.proofs.Numbers.{decimal-digits, distance_of-back, hex-high, hex-some, immediate_of-back, name_of-signed, number_of-hex, register_of-back, signed-high, High, digits-high}
+use Rattle.mg_asm.proofs.Numbers.{distance_of-back, immediate_of-back, name_of-signed, register_of-back, signed-high}
+use Rattle.mg_text.specs.NumberLemmas.{High, decimal-digits, digits-high, hex-high, hex-some, number_of-hex}
 use Rattle.mg_model.specs.declared.instructions.Instr.{Instr}
 use Rattle.mg_model.specs.declared.instructions.Instr.TheVariants as op
 use Rattle.mg_model.specs.Print.{hex_text, spaced}

@@ -8,7 +8,7 @@ use Rattle.std.proofs.lemmas.Fmt.{length-decimal-le}
 use Rattle.std.proofs.lemmas.List.Elements.{All-head, All-tail}
 use Rattle.mg_asm.specs.Stored.{store_calls, store_line, store_lines}
 use Rattle.mg_asm.proofs.Back.{AreWords, all-words, line-misses, newline_low, number-word, split-before, split-spaced}
-use Rattle.mg_asm.proofs.Numbers.{Digits, High, decimal-digits, hex-high, hex-some, length-hex, number_of-back, number_of-hex}
+use Rattle.mg_text.specs.NumberLemmas.{Digits, High, decimal-digits, hex-high, hex-some, length-hex, number_of-back, number_of-hex}
 use Rattle.mg_model.specs.declared.calls.Call.TheVariants as call
 use Rattle.mg_model.specs.declared.calls.Line.{Line}
 use Rattle.mg_model.specs.Lines.{bad_line, call_line, is_among, is_note, line_limit, line_of, line_of_words, line_with, lines, lone_words, spelled_line, thread_line, two}

@@ -5,7 +5,7 @@ pub mod Tokens
 pub mod Reading
 pub mod Assembled
 pub mod Printed
-pub mod Told
+pub mod FaultText
 pub mod Listed
 pub mod Stored
 pub mod Labels

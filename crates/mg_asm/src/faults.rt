@@ -1,6 +1,6 @@
 // Why a text does not assemble.
 ghost use Rattle.std.specs.Prelude.{◌≡◌, ◌≤◌, length};
-ghost use Rattle.mg_asm.specs.Told.{kind_name};
+ghost use Rattle.mg_asm.specs.FaultText.{kind_name};
 
 use thiserror::Error;
 

@@ -15,7 +15,7 @@ use std::alloc::Global;
 /// tried in this order. Memory comes only where an allocation failed.
 pub fn read_list(alloc: Global, text: &[u8]) -> Result<Vec<u64>, AsmFault>
     ensures words { IfOk result (λ words. listed text.now ≡ Ok words.items) }
-    ensures few { IfOk result (λ words. length words.items ≤ 524288) }
+    ensures at_most_524288_words { IfOk result (λ words. length words.items ≤ 524288) }
     ensures fault { IfErr result (λ fault. fault ≢ AsmFault.Memory → listed text.now ≡ Err fault) }
 {
     let mut words = Vec::new(alloc);

@@ -8,7 +8,7 @@ ghost use Rattle.mg_model.specs.Words.{split_at};
 /// The first word of these bytes and what stands behind it; None where they have no word.
 pub fn next_token(bytes: &[u8]) -> Option<(&[u8], &[u8])>
     ensures none { IfNone result (tokens bytes.now ≡ []) }
-    ensures some { IfSome result (λ p. tokens bytes.now ≡ p.0.now ∷ tokens p.1.now) }
+    ensures split { IfSome result (λ p. tokens bytes.now ≡ p.0.now ∷ tokens p.1.now) }
 {
     let (_, rest) = bytes.split_at(gaps(bytes));
     let (word, more) = rest.split_at(letters(rest));

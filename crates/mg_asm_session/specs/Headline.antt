@@ -5,7 +5,7 @@ use Rattle.mg_asm.specs.Assembled.{assembled}
 use Rattle.mg_asm.specs.Listed.{listed}
 use Rattle.mg_asm.specs.Printed.{printed}
 use Rattle.mg_asm.specs.Stored.{store_lines}
-use Rattle.mg_asm.specs.Told.{fault_line}
+use Rattle.mg_asm.specs.FaultText.{fault_line}
 use Rattle.mg_asm.specs.declared.faults.AsmFault.{AsmFault}
 use Rattle.mg_asm_session.specs.declared.status.Status.{Status}
 use Rattle.mg_asm_session.specs.declared.status.Status.TheVariants as status

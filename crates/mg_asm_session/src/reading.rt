@@ -3,14 +3,11 @@ ghost use Rattle.std.specs.Prelude.{◌≡◌, ◌≢◌, Err, IfOk};
 ghost use Rattle.mg_asm_session.specs.Headline.{OfWhole, TakesAtMost, TakesMore, text_limit};
 ghost use Rattle.mg_faults.specs.Faults.{Rose};
 
-use mg_io::Source;
+use mg_io::{PIECE, Source};
 use std::alloc::Global;
 
 /// The most bytes that a text may have.
 pub const TEXT_LIMIT: usize = 1 << 24;
-
-/// The most bytes that are taken at once.
-const PIECE: usize = 4096;
 
 /// Why a text was not read.
 #[derive(Clone, Copy, Debug, PartialEq, Eq)]

@@ -31,8 +31,8 @@ impl Model for Bank {
 impl Bank {
     /// The bank of these accounts, in their order. There is room for 1,024.
     pub fn of(rows: Vec<AccRow>) -> Bank
-        requires few { length rows.items ≤ account_limit }
-        requires room { account_limit ≤ vec_capacity rows }
+        requires at_most_1024_rows { length rows.items ≤ account_limit }
+        requires has_capacity { account_limit ≤ vec_capacity rows }
         requires credits { credits_of rows.items ≤ credit_limit }
         ensures { result ≡ rows.items }
     {
@@ -42,7 +42,7 @@ impl Bank {
     /// How many accounts there are, 1,024 at most; they have at most `2^62` credits together.
     pub fn len(&self) -> u64
         ensures count { result ≡ length self.now }
-        ensures few { result ≤ account_limit }
+        ensures at_most_1024 { result ≤ account_limit }
         ensures credits { credits_of self.now ≤ credit_limit }
     {
         self.rows.len() as u64
@@ -58,7 +58,7 @@ impl Bank {
     /// Account n, 1 to 1,024.
     pub fn row(&self, n: u64) -> Option<AccRow>
         ensures found { result ≡ account_of self.now n }
-        ensures few { IfSome result (λ _. (1 ≤ n) × (n ≤ 1024)) }
+        ensures within_1_and_1024 { IfSome result (λ _. (1 ≤ n) × (n ≤ 1024)) }
     {
         row_of(&self.rows, n)
     }
@@ -66,8 +66,8 @@ impl Bank {
     /// Whether this password opens account n. It opens none that is not there.
     pub fn opens(&self, n: u64, password: u64) -> bool
         ensures opens { result ≡ opens self.now n password }
-        ensures some { result ≡ true → 1 ≤ n }
-        ensures few { result ≡ true → n ≤ 1024 }
+        ensures n_at_least_1 { result ≡ true → 1 ≤ n }
+        ensures n_at_most_1024 { result ≡ true → n ≤ 1024 }
     {
         match self.row(n) {
             Some(row) => row.password == password,
@@ -121,7 +121,7 @@ impl Bank {
     pub fn open_account(&mut self, payer: u64, amount: u64, password: u64)
         requires payer { is_some (account_of self.old payer) ≡ true }
         requires enough { amount ≤ balance_of self.old payer }
-        requires few { length self.old < account_limit }
+        requires fewer_than_1024 { length self.old < account_limit }
         ensures accounts { self.new ≡ taken_from self.old payer amount ++ record { password = password; balance = amount; owed = 0 } ∷ [] }
         ensures count { length self.new ≡ length self.old + 1 }
         ensures sum { credits_of self.new ≡ credits_of self.old }

@@ -9,7 +9,7 @@ use mg_model::AccRow;
 /// Account n.
 pub(crate) fn row_of(rows: &[AccRow], n: u64) -> Option<AccRow>
     ensures found { result ≡ account_of rows.now n }
-    ensures few { IfSome result (λ _. (1 ≤ n) × (n ≤ length rows.now)) }
+    ensures within_1_and_rows { IfSome result (λ _. (1 ≤ n) × (n ≤ length rows.now)) }
 {
     if n == 0 || n > rows.len() as u64 {
         return None;

@@ -13,7 +13,7 @@ use mg_volume::Volume;
 /// drawn, and it owes nothing. The refusals come in this order: no such account, or another password than its own (Account);
 /// fewer credits than these (Credit); 1,024 accounts, or no password left to draw (Limit).
 pub fn account(v: &mut Volume, account: u64, password: u64, amount: u64) -> Reply
-    requires few { staged_of v.old ≤ 157 }
+    requires at_most_157_staged { staged_of v.old ≤ 157 }
     ensures { CallStages (Answers (λ state. calls.open_account state account password amount)) 3 v.old v.new result }
 {
     match opening(v, account, password, amount) {
@@ -30,7 +30,7 @@ pub fn account(v: &mut Volume, account: u64, password: u64, amount: u64) -> Repl
 /// Credits of an account that this password opens go to another account, or to itself. The refusals come in this order: no
 /// such account, another password than its own, or no account to pay to (Account); fewer credits than these (Credit).
 pub fn pay(v: &mut Volume, account: u64, password: u64, to: u64, amount: u64) -> Reply
-    requires few { staged_of v.old ≤ 158 }
+    requires at_most_158_staged { staged_of v.old ≤ 158 }
     ensures { CallStages (Answers (λ state. calls.pay state account password to amount)) 2 v.old v.new result }
 {
     match paying(v, account, password, to, amount) {

@@ -16,7 +16,7 @@ use mg_volume::Volume;
 /// and the treasury, account 1, gets the sum. In the last period it is refused (Calendar). All rights that were found end,
 /// since passwords may end with the period.
 pub fn rent(v: &mut Volume, c: &mut VCache) -> Reply
-    requires few { staged_of v.old ≤ 143 }
+    requires at_most_143_staged { staged_of v.old ≤ 143 }
     ensures does { CallStages (Answers (λ state. calls.rent state)) 17 v.old v.new result }
     ensures seats { Drops by_each c.old c.new result }
 {
@@ -33,7 +33,7 @@ pub fn rent(v: &mut Volume, c: &mut VCache) -> Reply
 // The period, at most `2^24 - 1`.
 fn period(v: &Volume) -> u64
     ensures period { result ≡ (counters_in v.now).period }
-    ensures few { result ≤ period_limit }
+    ensures at_most_period_limit { result ≤ period_limit }
 {
     let globals = v.globals();
     globals.keep_rules();

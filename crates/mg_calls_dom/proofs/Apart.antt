@@ -12,7 +12,7 @@ use Rattle.mg_model.specs.Objects.{page_behind, page_of, word_at, word_in}
 use Rattle.mg_model.specs.Ranges.{IsPlace}
 use Rattle.mg_model.specs.State.{Object, ObjectRow}
 use Rattle.mg_model.specs.Tests.{all_distinct, is_entry_of, is_object_row, is_password, is_place}
-use Rattle.mg_model.specs.TestsTell.{place-tells}
+use Rattle.mg_model.specs.RowTestLemmas.{place-tells}
 use Rattle.mg_model.specs.Volume.{are_apart}
 use Rattle.mg_volume.specs.Meaning.{is_page_in}
 

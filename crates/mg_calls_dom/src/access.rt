@@ -63,7 +63,7 @@ pub fn store<D: Disk, L: Ledger>(
     steps: &mut Steps<L>,
 ) -> Result<Reply, Failed>
     requires sound { IsSoundOn D.Disk v.old disk.old }
-    requires few { staged_of v.old ≤ 158 }
+    requires at_most_158_staged { staged_of v.old ≤ 158 }
     requires backed { ForSome (D.seen disk.old) (λ image. AllBacked (now_of v.old image) c.old) }
     ensures { CallServes 2 D.Disk (of_call t (Call.Store a value)) result v.old v.new c.old c.new disk.old disk.new steps.old steps.new }
 {

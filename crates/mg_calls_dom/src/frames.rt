@@ -45,7 +45,7 @@ pub fn pdx<D: Disk, L: Ledger>(
 ) -> Result<Reply, Failed>
     requires sound { IsSoundOn D.Disk v.old disk.old }
     requires lives { lives v.old t ≡ true }
-    requires few { staged_of v.old ≤ 158 }
+    requires at_most_158_staged { staged_of v.old ≤ 158 }
     requires backed { ForSome (D.seen disk.old) (λ image. AllBacked (now_of v.old image) c.old) }
     ensures { CallServes 1 D.Disk (of_call t (Call.Pdx a mask)) result v.old v.new c.old c.new disk.old disk.new steps.old steps.new }
 {
@@ -64,7 +64,7 @@ pub fn pdx<D: Disk, L: Ledger>(
 /// refused (NoFrame).
 pub fn ret(v: &mut Volume, c: &mut VCache, t: u64) -> Reply
     requires lives { lives v.old t ≡ true }
-    requires few { staged_of v.old ≤ 159 }
+    requires at_most_159_staged { staged_of v.old ≤ 159 }
     ensures does { CallStages (Answers (λ state. domains.ret state t)) 1 v.old v.new result }
     ensures seats { Drops (by_thread t) c.old c.new result }
 {
@@ -88,7 +88,7 @@ fn step_in(
     object: &ObjRow,
 ) -> Result<u64, Refusal>
     requires lives { lives v.old t ≡ true }
-    requires few { staged_of v.old ≤ 158 }
+    requires at_most_158_staged { staged_of v.old ≤ 158 }
     requires aligned { a % 8 ≡ 0 }
     ensures answers { (image : List (List ℕ)) → access_refusal (now_of v.old image) t a Right.P ≡ None → row_at (now_of v.old image) a ≡ object.now
         → MatchResult result (λ count. domains.pdx (now_of v.old image) t a mask ≡ (now_of v.new image, Reply.Count count)) (λ word. domains.pdx (now_of v.old image) t a mask ≡ (now_of v.new image, Reply.No word)) }
@@ -123,7 +123,7 @@ fn enter_object(row: &mut ThrRow, a: u64, mask: u8, object: &ObjRow) -> Result<u
 // Another row for a thread, with other frames: all that is kept of its rights is dropped.
 fn change_frames(v: &mut Volume, c: &mut VCache, t: u64, row: ThrRow)
     requires lives { lives v.old t ≡ true }
-    requires few { staged_of v.old ≤ 159 }
+    requires at_most_159_staged { staged_of v.old ≤ 159 }
     ensures now { (change : ThreadRow → ThreadRow) → IfSome (find (λ thread. thread.number == t) (threads_in v.old)) (λ thread. change thread.row ≡ row)
         → (image : List (List ℕ)) → now_of v.new image ≡ domains.with_thread (now_of v.old image) t change }
     ensures seats { c.new ≡ without (by_thread t) c.old }

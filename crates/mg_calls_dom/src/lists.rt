@@ -59,7 +59,7 @@ fn entry_opens<D: Disk, L: Ledger>(
     requires held { find (λ row. row.base == clist.now.base) (objects_in v.old) ≡ Some clist.now }
     requires place { j < 255 }
     ensures opens { IfOk result (λ found. ForSome (D.seen disk.old) (λ image. found ≡ searching.opens sought.now (searching.entry_at (searching.words_based (now_of v.old image).objects clist.now.base) j))) }
-    ensures few { steps.new ≤ steps.old + 2 }
+    ensures at_most_2_read { steps.new ≤ steps.old + 2 }
     ensures reads { Reads D.Disk v.old v.new disk.old disk.new steps.old steps.new }
     ensures cause { OnErr result (CountRose D.Disk disk.old disk.new) }
 {
@@ -82,7 +82,7 @@ fn list_opens<D: Disk, L: Ledger>(
     requires sound { IsSoundOn D.Disk v.old disk.old }
     requires held { find (λ row. row.base == clist.now.base) (objects_in v.old) ≡ Some clist.now }
     ensures opens { IfOk result (λ found. ForSome (D.seen disk.old) (λ image. found ≡ list_any (λ entry. searching.opens sought.now entry) (entries_of (searching.words_based (now_of v.old image).objects clist.now.base)))) }
-    ensures few { steps.new ≤ steps.old + 511 }
+    ensures at_most_511_read { steps.new ≤ steps.old + 511 }
     ensures reads { Reads D.Disk v.old v.new disk.old disk.new steps.old steps.new }
     ensures cause { OnErr result (CountRose D.Disk disk.old disk.new) }
 {
@@ -105,7 +105,7 @@ fn slot_opens<D: Disk, L: Ledger>(
 ) -> Result<bool, Failed>
     requires sound { IsSoundOn D.Disk v.old disk.old }
     ensures opens { IfOk result (λ found. ForSome (D.seen disk.old) (λ image. found ≡ searching.slot_opens (now_of v.old image) sought.now slot.now)) }
-    ensures few { steps.new ≤ steps.old + 511 }
+    ensures at_most_511_read { steps.new ≤ steps.old + 511 }
     ensures reads { Reads D.Disk v.old v.new disk.old disk.new steps.old steps.new }
     ensures cause { OnErr result (CountRose D.Disk disk.old disk.new) }
 {
@@ -128,7 +128,7 @@ fn list_among<D: Disk, L: Ledger>(
 ) -> Result<Option<u64>, Failed>
     requires sound { IsSoundOn D.Disk v.old disk.old }
     ensures via { IfOk result (λ via. ForSome (D.seen disk.old) (λ image. MatchOption via (list_any (λ slot. searching.slot_opens (now_of v.old image) sought.now slot) slots.now ≡ false) (λ via. IsOpenedBy (now_of v.old image) sought.now slots.now via))) }
-    ensures few { steps.new ≤ steps.old + 511 * length slots.now }
+    ensures at_most_511_a_slot_read { steps.new ≤ steps.old + 511 * length slots.now }
     ensures reads { Reads D.Disk v.old v.new disk.old disk.new steps.old steps.new }
     ensures cause { OnErr result (CountRose D.Disk disk.old disk.new) }
 {
@@ -151,7 +151,7 @@ pub(crate) fn list_of<D: Disk, L: Ledger>(
 ) -> Result<Option<u64>, Failed>
     requires sound { IsSoundOn D.Disk v.old disk.old }
     ensures via { IfOk result (λ via. ForSome (D.seen disk.old) (λ image. MatchOption via (list_any (λ slot. searching.slot_opens (now_of v.old image) sought.now slot) (domain_of (now_of v.old image) t) ≡ false) (λ via. IsOpenedBy (now_of v.old image) sought.now (domain_of (now_of v.old image) t) via))) }
-    ensures few { steps.new ≤ steps.old + search_limit }
+    ensures at_most_search_limit_read { steps.new ≤ steps.old + search_limit }
     ensures nobody { find (λ thread. thread.number == t) (threads_in v.old) ≡ None → steps.new ≡ steps.old }
     ensures reads { Reads D.Disk v.old v.new disk.old disk.new steps.old steps.new }
     ensures cause { OnErr result (CountRose D.Disk disk.old disk.new) }

@@ -19,7 +19,7 @@ use mg_volume::Volume;
 /// right that was found ends.
 pub fn apdadd(v: &mut Volume, t: u64, clist: u64, password: u64) -> Reply
     requires lives { lives v.old t ≡ true }
-    requires few { staged_of v.old ≤ 159 }
+    requires at_most_159_staged { staged_of v.old ≤ 159 }
     ensures { CallStages (Answers (λ state. domains.apdadd state t clist password)) 1 v.old v.new result }
 {
     let mut row = row_of(v, t);
@@ -40,7 +40,7 @@ pub fn apdadd(v: &mut Volume, t: u64, clist: u64, password: u64) -> Reply
 /// the thread end. A number that no slot has is refused (NoSlot).
 pub fn apddel(v: &mut Volume, c: &mut VCache, t: u64, index: u64) -> Reply
     requires lives { lives v.old t ≡ true }
-    requires few { staged_of v.old ≤ 159 }
+    requires at_most_159_staged { staged_of v.old ≤ 159 }
     ensures does { CallStages (Answers (λ state. domains.apddel state t index)) 1 v.old v.new result }
     ensures seats { Drops (by_thread t) c.old c.new result }
 {

@@ -44,7 +44,7 @@ fn found<D: Disk, L: Ledger>(
     ensures failed { OnErr result (c.new ≡ c.old) }
     ensures known { rows_know (objects_in v.old) c.old t a right ≡ true → (disk.new ≡ disk.old) × (steps.new ≡ steps.old) }
     ensures nobody { find (λ thread. thread.number == t) (threads_in v.old) ≡ None → steps.new ≡ steps.old }
-    ensures few { steps.new ≤ steps.old + search_limit }
+    ensures at_most_search_limit_read { steps.new ≤ steps.old + search_limit }
     ensures reads { Reads D.Disk v.old v.new disk.old disk.new steps.old steps.new }
     ensures cause { OnErr result (CountRose D.Disk disk.old disk.new) }
 {
@@ -96,7 +96,7 @@ pub fn reach<D: Disk, L: Ledger>(
     ensures failed { OnErr result (c.new ≡ c.old) }
     ensures known { rows_know (objects_in v.old) c.old t a right ≡ true → (disk.new ≡ disk.old) × (steps.new ≡ steps.old) }
     ensures nobody { find (λ thread. thread.number == t) (threads_in v.old) ≡ None → steps.new ≡ steps.old }
-    ensures few { steps.new ≤ steps.old + search_limit }
+    ensures at_most_search_limit_read { steps.new ≤ steps.old + search_limit }
     ensures reads { Reads D.Disk v.old v.new disk.old disk.new steps.old steps.new }
     ensures cause { OnErr result (CountRose D.Disk disk.old disk.new) }
 {
@@ -127,7 +127,7 @@ pub fn validate<D: Disk, L: Ledger>(
     ensures none { IfOk result (λ base. base ≡ None → c.new ≡ c.old) }
     ensures failed { OnErr result (c.new ≡ c.old) }
     ensures known { rows_know (objects_in v.old) c.old t a right ≡ true → (disk.new ≡ disk.old) × (steps.new ≡ steps.old) }
-    ensures few { steps.new ≤ steps.old + search_limit }
+    ensures at_most_search_limit_read { steps.new ≤ steps.old + search_limit }
     ensures reads { Reads D.Disk v.old v.new disk.old disk.new steps.old steps.new }
     ensures cause { OnErr result (CountRose D.Disk disk.old disk.new) }
 {

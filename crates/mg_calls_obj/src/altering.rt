@@ -15,7 +15,7 @@ use mg_volume::Volume;
 /// which this address is none (Limit). No right that was found ends.
 pub fn entry(v: &mut Volume, object: ObjRow, off: u64) -> Reply
     requires held { find (λ row. row.base == object.base) (objects_in v.old) ≡ Some object }
-    requires few { staged_of v.old ≤ 159 }
+    requires at_most_159_staged { staged_of v.old ≤ 159 }
     ensures { CallStages (Acts (λ state t a. calls.entry state t a off) Right.O object) 1 v.old v.new result }
 {
     if is_outside(&object, off) {
@@ -33,7 +33,7 @@ pub fn entry(v: &mut Volume, object: ObjRow, off: u64) -> Reply
 /// The object's extension is the slot of this list and password, or none where the list is 0. No right that was found ends.
 pub fn ext(v: &mut Volume, object: ObjRow, clist: u64, password: u64) -> Reply
     requires held { find (λ row. row.base == object.base) (objects_in v.old) ≡ Some object }
-    requires few { staged_of v.old ≤ 159 }
+    requires at_most_159_staged { staged_of v.old ≤ 159 }
     ensures { CallStages (Acts (λ state t a. calls.ext state t a clist password) Right.O object) 1 v.old v.new result }
 {
     let mut row = object;
@@ -46,7 +46,7 @@ pub fn ext(v: &mut Volume, object: ObjRow, clist: u64, password: u64) -> Reply
 /// than its own (Account); an account that owes something (Debt). No right that was found ends.
 pub fn recharge(v: &mut Volume, object: ObjRow, account: u64, password: u64) -> Reply
     requires held { find (λ row. row.base == object.base) (objects_in v.old) ≡ Some object }
-    requires few { staged_of v.old ≤ 159 }
+    requires at_most_159_staged { staged_of v.old ≤ 159 }
     ensures { CallStages (Acts (λ state t a. calls.recharge state t a account password) Right.O object) 1 v.old v.new result }
 {
     match paying_refusal(v, account, password) {
@@ -87,7 +87,7 @@ fn is_crowded(object: &ObjRow, address: u64) -> bool
 // The object with an entry more, unless it is there.
 fn with_entry(object: ObjRow, address: u64) -> ObjRow
     requires place { IsEntryOf object.base object.pages address }
-    requires room { is_crowded object address ≡ false }
+    requires not_crowded { is_crowded object address ≡ false }
     ensures { result ≡ calls.with_entry object address }
 {
     let mut row = object;
@@ -100,7 +100,7 @@ fn with_entry(object: ObjRow, address: u64) -> ObjRow
 // The extension that a list and a password make.
 fn extension(clist: u64, password: u64) -> Option<Slot>
     ensures slot { result ≡ calls.extension_of clist password }
-    ensures some { IfSome result (λ slot. slot.base ≢ 0) }
+    ensures base_not_0 { IfSome result (λ slot. slot.base ≢ 0) }
 {
     if clist == 0 {
         return None;

@@ -19,7 +19,7 @@ use mg_volume::Volume;
 /// something (Debt); 4,096 objects, or no password left to draw (Limit); more pages in use than there are frames (Full). No
 /// right that was found ends.
 pub fn create(v: &mut Volume, n: u64, account: u64, password: u64) -> Reply
-    requires few { staged_of v.old ≤ 158 }
+    requires at_most_158_staged { staged_of v.old ≤ 158 }
     ensures { CallStages (Answers (λ state. calls.create state n account password)) 2 v.old v.new result }
 {
     match refusal(v, n, account, password) {
@@ -36,7 +36,7 @@ pub fn create(v: &mut Volume, n: u64, account: u64, password: u64) -> Reply
 // Why no object of so many pages may be made, or what holds where one may.
 fn refusal(v: &Volume, n: u64, account: u64, password: u64) -> Option<Refusal>
     ensures word { result ≡ creating_refusal v.now n account password }
-    ensures room { MatchOption result (IsRoom v.now n account) (λ _. Unit {0}) }
+    ensures is_room { MatchOption result (IsRoom v.now n account) (λ _. Unit {0}) }
 {
     if n == 0 || n > OBJECT_PAGE_LIMIT {
         return Some(Refusal::Size);
@@ -75,8 +75,8 @@ fn is_over(v: &Volume, n: u64) -> bool
 // The row of a new object, with its first password.
 fn first_row(base: u64, n: u64, account: u64, password: u64) -> ObjRow
     requires place { IsPlace base n }
-    requires some { 1 ≤ account }
-    requires few { account ≤ 1024 }
+    requires account_at_least_1 { 1 ≤ account }
+    requires account_at_most_1024 { account ≤ 1024 }
     ensures { result ≡ (new_object base n account password).row }
 {
     let mut row = ObjRow::new(base, n, account);

@@ -31,7 +31,7 @@ pub fn on_object<D: Disk, L: Ledger>(
     steps: &mut Steps<L>,
 ) -> Result<Reply, Failed>
     requires sound { IsSoundOn D.Disk v.old disk.old }
-    requires few { staged_of v.old ≤ 28 }
+    requires at_most_28_staged { staged_of v.old ≤ 28 }
     requires backed { ForSome (D.seen disk.old) (λ image. AllBacked (now_of v.old image) c.old) }
     requires on { is_on_object call.now ≡ true }
     ensures { CallServes 129 D.Disk (of_call t call.now) result v.old v.new c.old c.new disk.old disk.new steps.old steps.new }
@@ -65,7 +65,7 @@ fn wanted(call: &Call) -> (u64, Right)
 fn act(v: &mut Volume, c: &mut VCache, object: ObjRow, call: &Call) -> Reply
     requires on { is_on_object call.now ≡ true }
     requires held { find (λ row. row.base == object.base) (objects_in v.old) ≡ Some object }
-    requires few { staged_of v.old ≤ 28 }
+    requires at_most_28_staged { staged_of v.old ≤ 28 }
     ensures does { CallStages (ActsBy call.now object) 129 v.old v.new result }
     ensures seats { EndsBy call.now object c.old c.new result }
 {

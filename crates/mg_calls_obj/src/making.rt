@@ -14,7 +14,7 @@ use mg_volume::Volume;
 /// end.
 pub fn delete(v: &mut Volume, c: &mut VCache, object: ObjRow) -> Reply
     requires held { find (λ row. row.base == object.base) (objects_in v.old) ≡ Some object }
-    requires few { staged_of v.old ≤ 30 }
+    requires at_most_30_staged { staged_of v.old ≤ 30 }
     ensures does { CallStages (Acts (λ state t a. calls.delete state t a) Right.D object) 129 v.old v.new result }
     ensures seats { Drops (by_via object.base) c.old c.new result }
 {

@@ -19,7 +19,7 @@ use mg_volume::Volume;
 /// password rows, or no password left to draw (Limit). No right that was found ends.
 pub fn pwadd(v: &mut Volume, object: ObjRow, rights: Rights, until: Option<u64>) -> Reply
     requires held { find (λ row. row.base == object.base) (objects_in v.old) ≡ Some object }
-    requires few { staged_of v.old ≤ 158 }
+    requires at_most_158_staged { staged_of v.old ≤ 158 }
     ensures { CallStages (Acts (λ state t a. calls.pwadd state t a rights until) Right.O object) 2 v.old v.new result }
 {
     let globals = v.globals();
@@ -39,7 +39,7 @@ pub fn pwadd(v: &mut Volume, object: ObjRow, rights: Rights, until: Option<u64>)
 /// for the object or in it. An object without one is refused (NoPassword).
 pub fn pwdel(v: &mut Volume, c: &mut VCache, object: ObjRow, password: u64) -> Reply
     requires held { find (λ row. row.base == object.base) (objects_in v.old) ≡ Some object }
-    requires few { staged_of v.old ≤ 159 }
+    requires at_most_159_staged { staged_of v.old ≤ 159 }
     ensures does { CallStages (Acts (λ state t a. calls.pwdel state t a password) Right.O object) 1 v.old v.new result }
     ensures seats { Drops (by_via object.base) c.old c.new result }
 {
@@ -73,7 +73,7 @@ fn is_full(object: &ObjRow, globals: &Globals) -> bool
 
 // The object with one password row more.
 fn with_password(object: ObjRow, password: u64, rights: Rights, until: u64) -> ObjRow
-    requires room { length object.passwords < 32 }
+    requires fewer_than_32_passwords { length object.passwords < 32 }
     requires begins { 1 ≤ until }
     requires ends { until ≤ never }
     ensures { result ≡ record object { passwords = object.passwords ++ record { password = password; rights = rights; until = until } ∷ [] } }

@@ -23,7 +23,7 @@ const FIRST_THREAD: u64 = 1;
 /// Both the state and what is kept of rights then stay.
 pub fn end(v: &mut Volume, c: &mut VCache, t: u64, i: u64) -> Reply
     requires lives { lives v.old t ≡ true }
-    requires few { staged_of v.old ≤ 159 }
+    requires at_most_159_staged { staged_of v.old ≤ 159 }
     ensures does { CallStages (Answers (λ state. threads.end_thread state t i)) 1 v.old v.new result }
     ensures seats { Drops (by_thread i) c.old c.new result }
 {
@@ -47,7 +47,7 @@ pub fn end(v: &mut Volume, c: &mut VCache, t: u64, i: u64) -> Reply
 /// stays.
 pub fn resume(v: &mut Volume, t: u64, i: u64) -> Reply
     requires lives { lives v.old t ≡ true }
-    requires few { staged_of v.old ≤ 159 }
+    requires at_most_159_staged { staged_of v.old ≤ 159 }
     ensures { CallStages (Answers (λ state. threads.resume state t i)) 1 v.old v.new result }
 {
     match not_own(v, t, i) {

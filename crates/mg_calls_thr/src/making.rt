@@ -39,7 +39,7 @@ pub fn make<D: Disk, L: Ledger>(
 ) -> Result<Reply, Failed>
     requires sound { IsSoundOn D.Disk v.old disk.old }
     requires lives { lives v.old t ≡ true }
-    requires few { staged_of v.old ≤ 158 }
+    requires at_most_158_staged { staged_of v.old ≤ 158 }
     requires backed { ForSome (D.seen disk.old) (λ image. AllBacked (now_of v.old image) c.old) }
     ensures { CallServes 2 D.Disk (of_call t (Call.Thread pc)) result v.old v.new c.old c.new disk.old disk.new steps.old steps.new }
 {
@@ -57,7 +57,7 @@ pub fn make<D: Disk, L: Ledger>(
 // more threads.
 fn begin(v: &mut Volume, t: u64, pc: u64) -> Option<u64>
     requires lives { lives v.old t ≡ true }
-    requires few { staged_of v.old ≤ 158 }
+    requires at_most_158_staged { staged_of v.old ≤ 158 }
     requires aligned { pc % 8 ≡ 0 }
     ensures answers { (image : List (List ℕ)) → IsWellFormed (now_of v.old image) → access_refusal (now_of v.old image) t pc Right.X ≡ None
         → MatchOption result (threads.make_thread (now_of v.old image) t pc ≡ (now_of v.new image, Reply.No Refusal.Limit)) (λ number. threads.make_thread (now_of v.old image) t pc ≡ (now_of v.new image, Reply.Count number)) }
@@ -103,7 +103,7 @@ fn counted(v: &Volume) -> Globals
 // The row of a new thread, made by the one with this row, behind so many births. No thread was born later than the last, so
 // its creator is the one with this row.
 fn first_row(maker: &ThrRow, births: u64, pc: u64) -> ThrRow
-    requires few { births < birth_limit }
+    requires births_below_birth_limit { births < birth_limit }
     requires aligned { pc % 8 ≡ 0 }
     ensures { result ≡ first_row maker.now births pc }
 {

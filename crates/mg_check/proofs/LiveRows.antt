@@ -6,7 +6,7 @@ use Rattle.std.proofs.lemmas.List.{append-nil}
 use Rattle.mg_model.specs.Spelling.{Read}
 use Rattle.mg_model.specs.Volume.{live_rows, with_live}
 use Rattle.mg_model.specs.Words.{and_then}
-use Rattle.mg_check.specs.Told.{AreLive, NotSpelled}
+use Rattle.mg_check.specs.TableRows.{AreLive, NotSpelled}
 
 pub and_then_some : {X Y : Type 0} (o : Option X) (f : X → Option Y) (y : Y) → and_then o f ≡ Some y → (x : X) × (o ≡ Some x) × (f x ≡ Some y)
 and_then_some None f y is = absurd (cc)

@@ -11,10 +11,10 @@ use Rattle.mg_model.specs.Settings.{Settings}
 use Rattle.mg_model.specs.Spelling.{account_read, globals_read, object_read, thread_read}
 use Rattle.mg_model.specs.State.{Counters, ObjectRow, ThreadRow}
 use Rattle.mg_model.specs.Volume.{Damaged, Is, Rows, VolumeRead, account_row_bytes, accounts_fit, fitting, has_no_gap, live_rows, object_row_bytes, objects_fit, rows_of, state_spelled, table_fits, thread_row_bytes, threads_fit, whole_table}
-use Rattle.mg_model.specs.VolumeReads.{rows_from, rows_with}
+use Rattle.mg_model.specs.VolumeLemmas.{rows_from, rows_with}
 use Rattle.mg_check.specs.RowsTold.{HasNoState, NoCounters}
 use Rattle.mg_check.specs.TableTold.{HasRest}
-use Rattle.mg_check.specs.Told.{AreLive, NotSpelled}
+use Rattle.mg_check.specs.TableRows.{AreLive, NotSpelled}
 
 -- over what is read, whatever it is
 module _ (frames : ℕ) (whole : List ℕ) where

@@ -3,9 +3,9 @@ use Rattle.std.specs.Prelude.{◌≡◌, ℕ, ◌+◌, ◌<◌, ◌≤◌, All, 
 use Rattle.std.proofs.Common.{subst, sym, arith, length-append}
 use Rattle.std.proofs.lemmas.List.Elements.{All-append, All-cons, All-head, All-nil, All-tail}
 use Rattle.std.proofs.lemmas.List.Kept.{AllPairs-cons}
-use Rattle.mg_model.specs.KeptLists.{AllPairs-head, AllPairs-nil, AllPairs-tail}
+use Rattle.mg_model.specs.KeptListLemmas.{AllPairs-head, AllPairs-nil, AllPairs-tail}
 use Rattle.mg_check.specs.RowsRead.{ArePlaced}
-use Rattle.mg_check.specs.Told.{EachKeeps}
+use Rattle.mg_check.specs.TableRows.{EachKeeps}
 
 module _ {R : Type 0} where
   abbrev Before : ℕ × R → ℕ × R → Type 0

@@ -12,7 +12,7 @@ use Rattle.mg_model.specs.Replay.{block_of, replay}
 use Rattle.mg_model.specs.Settings.{Settings}
 use Rattle.mg_model.specs.Spelling.{Spells, SuperRead, super_read}
 use Rattle.mg_model.specs.Volume.{Damaged, VolumeRead, replayed_volume, rows_of, settled_volume, volume, volume_behind, IsOpened, gate_byte}
-use Rattle.mg_model.specs.VolumeReads.{volume-opened}
+use Rattle.mg_model.specs.VolumeLemmas.{volume-opened}
 
 pub some_in : {X : Type 0} (o : Option X) → IsSome o → (x : X) × (o ≡ Some x)
 some_in None is = absurd (cc)

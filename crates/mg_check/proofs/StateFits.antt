@@ -12,7 +12,7 @@ use Rattle.mg_check.proofs.ObjectOrder.{spelled-apart, spelled-covered, spelled-
 use Rattle.mg_check.specs.RowsRead.{live_from, objects_of, placed_from, rows_in, state_in}
 use Rattle.mg_check.specs.RowsTold.{AreTold, HasNoState, TellsRows}
 use Rattle.mg_check.specs.TableTold.{IsTable}
-use Rattle.mg_check.specs.Told.{AreLive}
+use Rattle.mg_check.specs.TableRows.{AreLive}
 use Rattle.mg_check.specs.Rules.{AreSpans, Decides, births_of}
 use Rattle.mg_check.specs.Spans.{apart_from, is_in}
 use Rattle.mg_check.specs.Tables.{is_paid, pages_in}
@@ -26,7 +26,7 @@ use Rattle.mg_model.specs.Spelling.{account_read, globals_read, object_read, thr
 use Rattle.mg_model.specs.State.{Object, ObjectRow, Thread, ThreadRow}
 use Rattle.mg_model.specs.Tests.{all_distinct}
 use Rattle.mg_model.specs.Volume.{Damaged, Is, account_row_bytes, accounts_fit, accounts_spelled, begins_with_first, bound_pages, fitting, has_no_gap, is_page_of, object_row_bytes, objects_fit, objects_spelled, replayed_volume, rows_of, state_fits, state_spelled, table_fits, thread_row_bytes, threads_fit, threads_spelled, whole_table}
-use Rattle.mg_model.specs.VolumeReads.{rows-read, rows_with}
+use Rattle.mg_model.specs.VolumeLemmas.{rows-read, rows_with}
 
 all_same : {X : Type 0} (p q : X → Bool) → ((x : X) → p x ≡ q x) → (xs : List X) → list_all p xs ≡ list_all q xs
 all_same p q same [] = refl

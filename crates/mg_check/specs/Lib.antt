@@ -3,7 +3,7 @@ pub mod RowsRead
 pub mod Summaries
 -- What was read, and which rows are live.
 pub mod Reads
-pub mod Told
+pub mod TableRows
 -- What each table tells, and the rules between rows.
 pub mod TableTold
 pub mod RowsTold

@@ -4,7 +4,7 @@ use Rattle.std.specs.Option.{ForSome}
 use Rattle.std.proofs.Common.{refl, sym, ap, ◌∙◌, arith}
 use Rattle.mg_disk.specs.Disk.{Image}
 use Rattle.mg_disk.specs.declared.disk.Disk.{Ghosts}
-use Rattle.mg_disk.specs.Places.{HasFirst}
+use Rattle.mg_disk.specs.PlaceLemmas.{HasFirst}
 use Rattle.mg_disk.specs.Runs.{nothing_none, nothing_then}
 use Rattle.mg_faults.specs.Faults.{count_none, count_then}
 use Rattle.mg_model.specs.Words.{and_then}

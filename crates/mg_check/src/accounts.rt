@@ -50,7 +50,7 @@ pub(crate) fn without_places(
 ) -> Result<Vec<AccRow>, ViewFault>
     ensures same { IfOk result (λ accounts. placed_from 0 accounts.items ≡ rows.now) }
     ensures long { IfOk result (λ accounts. length accounts.items ≡ length rows.now) }
-    ensures room { IfOk result (λ accounts. account_rows ≤ vec_capacity accounts) }
+    ensures has_capacity { IfOk result (λ accounts. account_rows ≤ vec_capacity accounts) }
     ensures damaged { result ≡ Err ViewFault.Damaged → has_no_gap 0 rows.now ≡ false }
     ensures no_disk { result ≢ Err ViewFault.Disk }
 {

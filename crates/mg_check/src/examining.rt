@@ -66,9 +66,9 @@ pub fn examine<D: Disk>(alloc: Global, disk: &mut D) -> Result<Summary, OpenFaul
     ensures not { result ≡ Err OpenFault.Not → ForSome (D.seen disk.old) (λ image. volume image ≡ NotVolume) }
     ensures old { result ≡ Err OpenFault.Old → ForSome (D.seen disk.old) (λ image. volume image ≡ OldVolume) }
     ensures damaged { result ≡ Err OpenFault.Damaged → ForSome (D.seen disk.old) (λ image. volume image ≡ Damaged) }
-    ensures some { IfOk result (λ summary. 16 ≤ summary.frames) }
-    ensures few { IfOk result (λ summary. summary.frames ≤ 65536) }
-    ensures room { IfOk result (λ summary. total_blocks summary.frames ≤ D.block_count disk.old) }
+    ensures at_least_16_frames { IfOk result (λ summary. 16 ≤ summary.frames) }
+    ensures at_most_65536_frames { IfOk result (λ summary. summary.frames ≤ 65536) }
+    ensures within_disk { IfOk result (λ summary. total_blocks summary.frames ≤ D.block_count disk.old) }
     ensures writes { WritesNothing D.Disk disk.old disk.new }
     ensures calls { DiskCallsBy D.Disk disk.old disk.new (result ≡ Err OpenFault.Disk) }
 {
@@ -80,7 +80,7 @@ pub fn examine<D: Disk>(alloc: Global, disk: &mut D) -> Result<Summary, OpenFaul
 
 // How many pages the objects have together.
 fn used(objects: &[Option<ObjRow>]) -> u64
-    requires few { length objects.now ≤ object_limit }
+    requires at_most_4096_objects { length objects.now ≤ object_limit }
     ensures { result ≡ sum_by pages_in objects.now }
 {
     let mut used = 0;
@@ -92,7 +92,7 @@ fn used(objects: &[Option<ObjRow>]) -> u64
 
 // How many objects there are.
 fn count(objects: &[Option<ObjRow>]) -> u64
-    requires few { length objects.now ≤ object_limit }
+    requires at_most_4096_objects { length objects.now ≤ object_limit }
     ensures { result ≡ sum_by count_in objects.now }
 {
     let mut count = 0;

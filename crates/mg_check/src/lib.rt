@@ -25,5 +25,6 @@ mod volume_rows;
 pub use examining::{OpenFault, Summary, examine, summary_of};
 pub use opening::read_volume;
 pub use reading::Contents;
+pub use settings::is_gate_open;
 pub use tables::read_rows;
 pub use volume_rows::VolumeRows;

@@ -7,7 +7,7 @@ use std::alloc::Global;
 /// An empty list with room for so many.
 pub(crate) fn with_room<T>(alloc: Global, n: usize) -> Result<Vec<T>, ViewFault>
     ensures none { IfOk result (λ list. list.items ≡ []) }
-    ensures room { IfOk result (λ list. n ≤ vec_capacity list) }
+    ensures has_capacity { IfOk result (λ list. n ≤ vec_capacity list) }
     ensures memory { result ≢ Err ViewFault.Damaged }
     ensures no_disk { result ≢ Err ViewFault.Disk }
 {
@@ -20,7 +20,7 @@ pub(crate) fn with_room<T>(alloc: Global, n: usize) -> Result<Vec<T>, ViewFault>
 /// Adds one behind the others.
 pub(crate) fn add<T: Drop>(list: &mut Vec<T>, last: T) -> Result<(), ViewFault>
     ensures more { OnOk result (list.new.items ≡ list.old.items ++ last ∷ []) }
-    ensures room { vec_capacity list.old ≤ vec_capacity list.new }
+    ensures keeps_capacity { vec_capacity list.old ≤ vec_capacity list.new }
     ensures memory { result ≢ Err ViewFault.Damaged }
     ensures no_disk { result ≢ Err ViewFault.Disk }
 {

@@ -27,7 +27,7 @@ fn settle<D: Disk>(alloc: Global, disk: &mut D, p: &Params) -> Result<(View, Vol
     ensures kept { IfOk result (λ read. AreKept read.1) }
     ensures fits { IfOk result (λ read. ForSome (D.seen disk.old) (λ image. Fits read.0 image)) }
     ensures total { IfOk result (λ read. read.0.total ≡ total_blocks p.now.frames) }
-    ensures room { OnOk result (total_blocks p.now.frames ≤ D.block_count disk.old) }
+    ensures within_disk { OnOk result (total_blocks p.now.frames ≤ D.block_count disk.old) }
     ensures damaged { result ≡ Err ViewFault.Damaged → ForSome (D.seen disk.old) (λ image. settled_volume image p.now ≡ Damaged) }
     ensures cause { result ≡ Err ViewFault.Disk → CountRose D.Disk disk.old disk.new }
     ensures reads { OnlyRead D.Disk disk.old disk.new }
@@ -54,7 +54,7 @@ pub fn read_volume<D: Disk>(alloc: Global, disk: &mut D) -> Result<(View, Volume
     ensures kept { IfOk result (λ read. AreKept read.1) }
     ensures fits { IfOk result (λ read. ForSome (D.seen disk.old) (λ image. Fits read.0 image)) }
     ensures total { IfOk result (λ read. read.0.total ≡ total_blocks read.1.params.frames) }
-    ensures room { IfOk result (λ read. total_blocks read.1.params.frames ≤ D.block_count disk.old) }
+    ensures within_disk { IfOk result (λ read. total_blocks read.1.params.frames ≤ D.block_count disk.old) }
     ensures not { result ≡ Err OpenFault.Not → ForSome (D.seen disk.old) (λ image. volume image ≡ NotVolume) }
     ensures old { result ≡ Err OpenFault.Old → ForSome (D.seen disk.old) (λ image. volume image ≡ OldVolume) }
     ensures damaged { result ≡ Err OpenFault.Damaged → ForSome (D.seen disk.old) (λ image. volume image ≡ Damaged) }

@@ -30,7 +30,7 @@ pub trait Contents {
     /// Gives block `i` of the contents. It writes nothing. A read that fails leaves any bytes in `out`.
     fn read<D: Disk>(&self, disk: &mut D, i: u64, out: &mut Block) -> Result<(), Failed>
         requires place { i < total self.now }
-        requires room { need self.now ≤ D.block_count disk.old }
+        requires within_disk { need self.now ≤ D.block_count disk.old }
         requires fits { ForSome (D.seen disk.old) (λ image. Fits self.now image) }
         ensures block { OnOk result (ForSome (D.seen disk.old) (λ image. ForSome (of self.now image) (λ r. out.new ≡ block_at r i))) }
         ensures writes { WritesNothing D.Disk disk.old disk.new }
@@ -48,7 +48,7 @@ pub trait Contents {
     ) -> Result<(), Failed>
         requires place { first + length out.old ≤ total self.now }
         requires total { total self.now < 2 ^ 64 }
-        requires room { need self.now ≤ D.block_count disk.old }
+        requires within_disk { need self.now ≤ D.block_count disk.old }
         requires fits { ForSome (D.seen disk.old) (λ image. Fits self.now image) }
         ensures read { OnOk result (ForSome (D.seen disk.old) (λ image. ForSome (of self.now image) (HasBlocks first out.new))) }
         ensures count { length out.new ≡ length out.old }

@@ -16,9 +16,10 @@ use mg_faults::Failed;
 use mg_layout::{GATE_BLOCK, GATE_OPEN, SUPER_BLOCK, Super, read_super};
 use mg_model::Params;
 
-// Whether the gate of the volume is open.
-fn is_gate_open<D: Disk>(disk: &mut D) -> Result<bool, Failed>
-    requires room { 2 ≤ D.block_count disk.old }
+/// Whether the gate of a volume, block 0, is open, that is whether its first byte is the open gate's. It fails only where a call of
+/// the disk fails.
+pub fn is_gate_open<D: Disk>(disk: &mut D) -> Result<bool, Failed>
+    requires at_least_2_blocks { 2 ≤ D.block_count disk.old }
     ensures opened { IfOk result (λ opened. ForSome (D.seen disk.old) (λ image. (gate_byte image == gate_open) ≡ opened)) }
     ensures cause { OnErr result (CountRose D.Disk disk.old disk.new) }
     ensures reads { OnlyRead D.Disk disk.old disk.new }
@@ -32,7 +33,7 @@ fn is_gate_open<D: Disk>(disk: &mut D) -> Result<bool, Failed>
 
 // What the superblock spells.
 fn read_second<D: Disk>(disk: &mut D) -> Result<Super, Failed>
-    requires room { 2 ≤ D.block_count disk.old }
+    requires at_least_2_blocks { 2 ≤ D.block_count disk.old }
     ensures spelled { IfOk result (λ spelled. ForSome (D.seen disk.old) (λ image. IsSuper spelled (super_read (block_of image super_block)))) }
     ensures cause { OnErr result (CountRose D.Disk disk.old disk.new) }
     ensures reads { OnlyRead D.Disk disk.old disk.new }

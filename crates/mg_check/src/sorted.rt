@@ -43,7 +43,7 @@ fn is_in(number: u64, run: (u64, u64)) -> bool
 // The one of these runs, which are apart, that a number lies in.
 fn run_of(spans: &[(u64, u64)], number: u64) -> Option<(u64, u64)>
     requires apart { apart_from 0 spans.now ≡ true }
-    requires some { All IsSome spans.now }
+    requires no_empty_span { All IsSome spans.now }
     ensures { MatchOption result (list_any (is_in number) spans.now ≡ false) (λ run. (list_any (is_in number) spans.now ≡ true) × IsWithin run spans.now) }
 {
     let place = spans.partition_point(|span| span.0 <= number);
@@ -58,7 +58,7 @@ fn run_of(spans: &[(u64, u64)], number: u64) -> Option<(u64, u64)>
 // number lies in: of numbers in order, few need more.
 fn lies_in(spans: &[(u64, u64)], last: &mut (u64, u64), number: u64) -> bool
     requires apart { apart_from 0 spans.now ≡ true }
-    requires some { All IsSome spans.now }
+    requires no_empty_span { All IsSome spans.now }
     requires within { IsWithin last.old spans.now }
     ensures lies { result ≡ list_any (is_in number) spans.now }
     ensures within { IsWithin last.new spans.now }
@@ -86,7 +86,7 @@ pub(crate) fn are_distinct(mut numbers: Vec<u64>) -> bool
 // Whether each of these numbers lies in one of these runs, which are apart.
 fn all_lie_in(spans: &[(u64, u64)], numbers: &[u64]) -> bool
     requires apart { apart_from 0 spans.now ≡ true }
-    requires some { All IsSome spans.now }
+    requires no_empty_span { All IsSome spans.now }
     ensures { result ≡ list_all (λ number. list_any (is_in number) spans.now) numbers.now }
 {
     let mut last = (0, 0);
@@ -101,7 +101,7 @@ fn all_lie_in(spans: &[(u64, u64)], numbers: &[u64]) -> bool
 /// Whether each of these numbers lies in one of these runs, which are apart, and no two of them are the same.
 pub(crate) fn are_distinct_within(spans: &[(u64, u64)], mut numbers: Vec<u64>) -> bool
     requires apart { apart_from 0 spans.now ≡ true }
-    requires some { All IsSome spans.now }
+    requires no_empty_span { All IsSome spans.now }
     ensures { result ≡ (list_all (λ number. list_any (is_in number) spans.now) numbers.items && all_distinct numbers.items) }
 {
     numbers.sort_unstable();

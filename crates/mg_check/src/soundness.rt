@@ -109,7 +109,7 @@ fn are_paid(objects: &[Option<ObjRow>], accounts: u64) -> bool
 /// How many pages an object has.
 pub(crate) fn pages_in(row: &Option<ObjRow>) -> u64
     ensures pages { result ≡ pages_in row.now }
-    ensures few { result ≤ 1024 }
+    ensures at_most_1024 { result ≤ 1024 }
 {
     match row {
         Some(row) => {
@@ -215,7 +215,7 @@ pub(crate) fn table_fits(
     spans: &[(u64, u64)],
 ) -> Result<bool, AllocError>
     requires apart { apart_from 0 spans.now ≡ true }
-    requires some { All IsSome spans.now }
+    requires no_empty_span { All IsSome spans.now }
     ensures { IfOk result (λ fit. fit ≡ (list_all (λ page. list_any (is_in page) spans.now) (bound_pages table.now) && all_distinct (bound_pages table.now))) }
 {
     Ok(are_distinct_within(spans, bound_pages(alloc, table)?))

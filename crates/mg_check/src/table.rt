@@ -40,8 +40,8 @@ pub(crate) fn read_table<C: Contents, D: Disk>(
     disk: &mut D,
     frames: u64,
 ) -> Result<Vec<u64>, ViewFault>
-    requires few { frames ≤ 65536 }
-    requires room { first_frame frames ≤ C.total view.now }
+    requires at_most_65536_frames { frames ≤ 65536 }
+    requires within_view { first_frame frames ≤ C.total view.now }
     requires can { CanRead D.Disk (C.need view.now) (C.Fits view.now) disk.old }
     ensures told { IfOk result (λ table. ForSome (contents D.Disk (C.of view.now) disk.old) (λ r. IsTable r frames table.items)) }
     ensures long { IfOk result (λ table. length table.items ≡ frames) }

@@ -8,7 +8,7 @@ ghost use Rattle.mg_model.specs.Spelling.{Read};
 ghost use Rattle.mg_rows.specs.Answers.{as_read};
 ghost use Rattle.mg_check.specs.Reads.{CanRead, OnlyRead, contents};
 ghost use Rattle.mg_check.specs.RowsRead.{ArePlaced, live_from};
-ghost use Rattle.mg_check.specs.Told.{AreLive, EachKeeps, NotSpelled};
+ghost use Rattle.mg_check.specs.TableRows.{AreLive, EachKeeps, NotSpelled};
 
 use crate::lists::{add, with_room};
 use crate::reading::{Contents, turn_to};
@@ -60,7 +60,7 @@ fn take<R: TableRow>(rows: &mut Vec<(u64, R)>, i: u64, block: &Block) -> Result<
     ensures no_disk { result ≢ Err ViewFault.Disk }
     ensures placed { OnOk result (ArePlaced i rows.old.items → ArePlaced (i + 1) rows.new.items) }
     ensures kept { OnOk result (EachKeeps R.IsKept rows.old.items → EachKeeps R.IsKept rows.new.items) }
-    ensures room { vec_capacity rows.old ≤ vec_capacity rows.new }
+    ensures keeps_capacity { vec_capacity rows.old ≤ vec_capacity rows.new }
 {
     let found = R::read(block, i);
     match &found {
@@ -78,13 +78,13 @@ pub(crate) fn read_all<R: TableRow, C: Contents, D: Disk>(
     view: &C,
     disk: &mut D,
 ) -> Result<Vec<(u64, R)>, ViewFault>
-    requires room { table_block ≤ C.total view.now }
+    requires within_view { table_block ≤ C.total view.now }
     requires can { CanRead D.Disk (C.need view.now) (C.Fits view.now) disk.old }
     ensures told { IfOk result (λ rows. ForSome (contents D.Disk (C.of view.now) disk.old) (λ r. AreLive (λ i. R.spelled (block_of r (R.block_at i)) i) R.ROWS rows.items)) }
     ensures damaged { result ≡ Err ViewFault.Damaged → ForSome (contents D.Disk (C.of view.now) disk.old) (λ r. NotSpelled (λ i. R.spelled (block_of r (R.block_at i)) i) R.ROWS) }
     ensures placed { IfOk result (λ rows. ArePlaced R.ROWS rows.items) }
     ensures kept { IfOk result (λ rows. EachKeeps R.IsKept rows.items) }
-    ensures room { IfOk result (λ rows. R.ROWS ≤ vec_capacity rows) }
+    ensures has_capacity { IfOk result (λ rows. R.ROWS ≤ vec_capacity rows) }
     ensures cause { result ≡ Err ViewFault.Disk → CountRose D.Disk disk.old disk.new }
     ensures reads { OnlyRead D.Disk disk.old disk.new }
 {
@@ -107,7 +107,7 @@ fn fill_to<R: TableRow>(rows: &mut Vec<Option<R>>, n: u64) -> Result<(), ViewFau
     ensures live { OnOk result (live_from 0 rows.new.items ≡ live_from 0 rows.old.items) }
     ensures memory { result ≢ Err ViewFault.Damaged }
     ensures no_disk { result ≢ Err ViewFault.Disk }
-    ensures room { vec_capacity rows.old ≤ vec_capacity rows.new }
+    ensures keeps_capacity { vec_capacity rows.old ≤ vec_capacity rows.new }
 {
     for _ in rows.len() as u64..n {
         add(rows, None)?;
@@ -125,7 +125,7 @@ fn put<R: TableRow>(rows: &mut Vec<Option<R>>, i: u64, block: &Block) -> Result<
     ensures long { OnOk result (length rows.new.items ≤ i + 1) }
     ensures placed { OnOk result (ArePlaced i (live_from 0 rows.old.items) → ArePlaced (i + 1) (live_from 0 rows.new.items)) }
     ensures kept { OnOk result (EachKeeps R.IsKept (live_from 0 rows.old.items) → EachKeeps R.IsKept (live_from 0 rows.new.items)) }
-    ensures room { vec_capacity rows.old ≤ vec_capacity rows.new }
+    ensures keeps_capacity { vec_capacity rows.old ≤ vec_capacity rows.new }
 {
     let found = R::read(block, i);
     match &found {
@@ -146,14 +146,14 @@ pub(crate) fn read_places<R: TableRow, C: Contents, D: Disk>(
     view: &C,
     disk: &mut D,
 ) -> Result<Vec<Option<R>>, ViewFault>
-    requires room { table_block ≤ C.total view.now }
+    requires within_view { table_block ≤ C.total view.now }
     requires can { CanRead D.Disk (C.need view.now) (C.Fits view.now) disk.old }
     ensures told { IfOk result (λ rows. ForSome (contents D.Disk (C.of view.now) disk.old) (λ r. AreLive (λ i. R.spelled (block_of r (R.block_at i)) i) R.ROWS (live_from 0 rows.items))) }
     ensures damaged { result ≡ Err ViewFault.Damaged → ForSome (contents D.Disk (C.of view.now) disk.old) (λ r. NotSpelled (λ i. R.spelled (block_of r (R.block_at i)) i) R.ROWS) }
     ensures long { IfOk result (λ rows. length rows.items ≤ R.ROWS) }
     ensures placed { IfOk result (λ rows. ArePlaced R.ROWS (live_from 0 rows.items)) }
     ensures kept { IfOk result (λ rows. EachKeeps R.IsKept (live_from 0 rows.items)) }
-    ensures room { IfOk result (λ rows. R.ROWS ≤ vec_capacity rows) }
+    ensures has_capacity { IfOk result (λ rows. R.ROWS ≤ vec_capacity rows) }
     ensures cause { result ≡ Err ViewFault.Disk → CountRose D.Disk disk.old disk.new }
     ensures reads { OnlyRead D.Disk disk.old disk.new }
 {

@@ -24,7 +24,7 @@ use std::alloc::Global;
 
 // Reads the globals.
 fn read_counters<C: Contents, D: Disk>(view: &C, disk: &mut D) -> Result<Globals, ViewFault>
-    requires room { table_block ≤ C.total view.now }
+    requires within_view { table_block ≤ C.total view.now }
     requires can { CanRead D.Disk (C.need view.now) (C.Fits view.now) disk.old }
     ensures told { IfOk result (λ counters. ForSome (contents D.Disk (C.of view.now) disk.old) (λ r. globals_read (block_of r globals_block) ≡ Some counters)) }
     ensures damaged { result ≡ Err ViewFault.Damaged → ForSome (contents D.Disk (C.of view.now) disk.old) (λ r. NoCounters r) }
@@ -48,7 +48,7 @@ fn read_tables<C: Contents, D: Disk>(
     disk: &mut D,
     p: &Params,
 ) -> Result<VolumeRows, ViewFault>
-    requires room { total_blocks p.now.frames ≤ C.total view.now }
+    requires within_view { total_blocks p.now.frames ≤ C.total view.now }
     requires can { CanRead D.Disk (C.need view.now) (C.Fits view.now) disk.old }
     ensures told { IfOk result (λ rows. ForSome (contents D.Disk (C.of view.now) disk.old) (AreTold rows)) }
     ensures params { IfOk result (λ rows. rows.params ≡ p.now) }
@@ -85,7 +85,7 @@ pub fn read_rows<C: Contents, D: Disk>(
     disk: &mut D,
     p: &Params,
 ) -> Result<VolumeRows, ViewFault>
-    requires room { total_blocks p.now.frames ≤ C.total view.now }
+    requires within_view { total_blocks p.now.frames ≤ C.total view.now }
     requires can { CanRead D.Disk (C.need view.now) (C.Fits view.now) disk.old }
     ensures told { IfOk result (λ rows. ForSome (contents D.Disk (C.of view.now) disk.old) (TellsRows p.now rows)) }
     ensures params { IfOk result (λ rows. rows.params ≡ p.now) }

@@ -2,7 +2,7 @@
 use Rattle.std.specs.Prelude.{◌≡◌, ℕ, length}
 use Rattle.std.specs.Option.{ForSome}
 use Rattle.mg_disk.specs.Disk.{Image, InRange, SeenBut, TornAt, no_image}
-use Rattle.mg_disk.specs.Places.{HasFirst}
+use Rattle.mg_disk.specs.PlaceLemmas.{HasFirst}
 use Rattle.mg_disk.specs.Stops.{CountGoes, TimeGoes}
 use Rattle.mg_disk.specs.declared.disk.Disk.{Ghosts}
 

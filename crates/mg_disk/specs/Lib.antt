@@ -9,6 +9,7 @@ pub mod MemoryTurn
 pub mod Held
 pub mod Fuse
 pub use Rattle.mg_faults.specs.Faults
--- Lemmas that Held or crates above cite. None of them is part of a statement.
-pub mod Places
+-- Lemmas that these or crates above cite. None of them is part of a statement.
+pub mod HeldLemmas
+pub mod PlaceLemmas
 pub mod Runs

@@ -3,8 +3,9 @@ use Rattle.std.specs.Prelude.{◌≡◌, ◌⊎◌, ◌↔◌, ◌+◌, ◌<◌,
 use Rattle.std.proofs.Common.{sym, subst, arith}
 use Rattle.mg_disk.specs.Blocks.{IsGated}
 use Rattle.mg_disk.specs.Disk.{Image, SameBut, At}
-use Rattle.mg_disk.specs.Held.{MayLeave, LeftIn, since}
-use Rattle.mg_disk.specs.Places.{same_as}
+use Rattle.mg_disk.specs.Held.{MayLeave, LeftIn}
+use Rattle.mg_disk.specs.HeldLemmas.{since}
+use Rattle.mg_disk.specs.PlaceLemmas.{same_as}
 use Rattle.mg_disk.specs.declared.memory.Counts.{Counts}
 use Rattle.mg_disk.specs.declared.memory.Left.{Left}
 use Rattle.mg_disk.specs.declared.memory.Left.TheVariants.{Old, New, Gates}

@@ -2,7 +2,7 @@
 use Rattle.std.specs.Prelude.{◌≡◌, ◌⊎◌, ℕ, Some}
 use Rattle.std.proofs.Common.{refl, inl, inr, ⊎_elim, sym, subst, ◌∙◌}
 use Rattle.mg_disk.specs.Disk.{Image, SameBut, no_image, only_place, Torn, TornAt}
-use Rattle.mg_disk.specs.Places.{same_as, same_after}
+use Rattle.mg_disk.specs.PlaceLemmas.{same_as, same_after}
 use Rattle.mg_disk.specs.Stops.{NothingPending, StandsAt, TimeGoes, Leaves, WritesNothing}
 use Rattle.mg_disk.specs.declared.disk.Disk.{Ghosts}
 

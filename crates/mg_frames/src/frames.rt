@@ -40,7 +40,7 @@ impl Frames {
     /// How many frames there are.
     pub fn len(&self) -> u64
         ensures count { result ≡ length self.now }
-        ensures few { result ≤ 65536 }
+        ensures at_most_65536 { result ≤ 65536 }
         ensures kept { all_distinct (bound_pages self.now) ≡ true }
     {
         self.pages.len()

@@ -11,7 +11,8 @@ use Rattle.mg_model.specs.Print.{hex_text}
 use Rattle.mg_model.specs.Words.{and_then, is_some_word, number_of, numbers_of, rights_of}
 use Rattle.mg_gen.specs.Asked.{LinesAreCalls, asked, drawn_line, entry_line, kind_line, line_asked, prepared_line}
 use Rattle.mg_gen.specs.Generated.{address_of, call_text, drawn_text, drawn_word, entry_text, kind_of, kind_text, line_text, object_base, object_password, prepared_text, root, stored, thread_of, treasury_password, value_of}
-use Rattle.mg_gen.proofs.Numbers.{High, IsWord, decimal-word, hex-word, number_of-back, number_of-hex}
+use Rattle.mg_gen.proofs.Numbers.{IsWord, decimal-word, hex-word}
+use Rattle.mg_text.specs.NumberLemmas.{High, number_of-back, number_of-hex}
 use Rattle.mg_gen.proofs.Spelled.{Spells, call-spells}
 
 -- call words

@@ -10,7 +10,8 @@ use Rattle.mg_model.specs.Lines.{bad_line, call_line, is_among, is_note, line_li
 use Rattle.mg_model.specs.Print.{spaced}
 use Rattle.mg_model.specs.Words.{is_blank, is_some_word, number_of, split_at, words}
 use Rattle.mg_gen.specs.Generated.{call_text}
-use Rattle.mg_gen.proofs.Numbers.{Digits, High, IsWord, decimal-digits, decimal-word, number_of-back}
+use Rattle.mg_gen.proofs.Numbers.{IsWord, decimal-word}
+use Rattle.mg_text.specs.NumberLemmas.{Digits, High, decimal-digits, number_of-back}
 
 blank_low : (b : ℕ) → 45 ≤ b → is_blank b ≡ false
 blank_low b h = grind (arith, nat_tests)

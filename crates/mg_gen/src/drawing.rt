@@ -2,10 +2,7 @@
 ghost use Rattle.std.specs.Prelude.{◌≡◌, ◌^◌, ◌<◌, ◌≤◌};
 ghost use Rattle.mg_gen.specs.Generated.{address_of, drawn_word, generator_state, kind_of, object_base, shifted_in, thread_of, value_of};
 
-use mg_model::limits::PAGE_SIZE;
-
-/// The first address of the root object.
-pub const ROOT: u64 = 0x0000_0001_0000_0000;
+use mg_model::limits::{PAGE_SIZE, ROOT_BASE};
 
 /// The word of line k in the run of a number: that of SplitMix64.
 #[tactic(auto, unfolding(crate::specs::Generated::drawn_word))]
@@ -68,5 +65,5 @@ pub fn object_base(j: u64) -> u64
     ensures value { result ≡ object_base j }
     ensures low { result < 2 ^ 33 }
 {
-    ROOT + PAGE_SIZE + (j - 1) * (16 * PAGE_SIZE)
+    ROOT_BASE + PAGE_SIZE + (j - 1) * (16 * PAGE_SIZE)
 }

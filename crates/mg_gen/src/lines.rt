@@ -3,9 +3,10 @@ ghost use Rattle.std.specs.Prelude.{◌≡◌, ◌++◌, ◌∷◌, ◌<◌, ◌
 ghost use Rattle.mg_gen.specs.Generated.{drawn_text, entry_text, kind_text, line_text, object_password, prepared_text, stored};
 ghost use Rattle.arrayvec.specs.ArrayVec.{array_vec_len};
 
-use crate::drawing::{ROOT, address, draw, kind, object_base, thread, value};
+use crate::drawing::{address, draw, kind, object_base, thread, value};
 use crate::writing::push_call;
 use arrayvec::ArrayVec;
+use mg_model::limits::ROOT_BASE;
 use mg_text::{push_number, push_text, push_word};
 
 /// From which place on the lines are drawn.
@@ -37,7 +38,7 @@ fn push_prepared(k: u64, out: &mut ArrayVec<u8, 256>)
 {
     if k < 31 {
         push_call(1, b"thread", out);
-        push_word(out, ROOT);
+        push_word(out, ROOT_BASE);
     } else if k < 35 {
         push_call(1, b"create", out);
         push_number(out, 16);
@@ -46,22 +47,22 @@ fn push_prepared(k: u64, out: &mut ArrayVec<u8, 256>)
     } else if k < 43 {
         push_entry(k - 35, out);
     } else {
-        push_store(ROOT, 5, out);
+        push_store(ROOT_BASE, 5, out);
     }
 }
 
 /// The store of a base, for an even `m`, or of a password, for an odd one.
 fn push_entry(m: u64, out: &mut ArrayVec<u8, 256>)
     requires empty { out.old.items ≡ [] }
-    requires few { m < 8 }
+    requires m_below_8 { m < 8 }
     ensures text { out.new.items ≡ entry_text m }
     ensures short { array_vec_len out.new ≤ 200 }
 {
     let j = 1 + m / 2;
     if m % 2 == 0 {
-        push_store(ROOT + 8 * (2 + 2 * j), object_base(j), out);
+        push_store(ROOT_BASE + 8 * (2 + 2 * j), object_base(j), out);
     } else {
-        push_store(ROOT + 8 * (3 + 2 * j), object_password(j), out);
+        push_store(ROOT_BASE + 8 * (3 + 2 * j), object_password(j), out);
     }
 }
 

@@ -103,8 +103,8 @@ fn push_counts(counts: &[u64; ROWS], out: &mut ArrayVec<u8, 1024>)
 
 /// The line of a word and its count.
 fn push_row(word: &[u8], n: u64, out: &mut ArrayVec<u8, 1024>)
-    requires few { length word.now ≤ 10 }
-    requires room { array_vec_len out.old ≤ 992 }
+    requires at_most_10_bytes { length word.now ≤ 10 }
+    requires at_most_992_bytes { array_vec_len out.old ≤ 992 }
     ensures text { out.new.items ≡ out.old.items ++ count_line word.now n }
     ensures short { array_vec_len out.new ≤ array_vec_len out.old + 32 }
 {

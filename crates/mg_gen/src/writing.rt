@@ -10,7 +10,7 @@ use mg_text::push_text;
 /// Writes the number of a thread and a call word into an empty buffer.
 pub fn push_call(thread: u64, word: &[u8], out: &mut ArrayVec<u8, 256>)
     requires empty { out.old.items ≡ [] }
-    requires few { length word.now ≤ 10 }
+    requires at_most_10_bytes { length word.now ≤ 10 }
     ensures text { out.new.items ≡ decimal thread ++ spaced (word.now ∷ []) }
     ensures short { array_vec_len out.new ≤ 31 }
 {

@@ -8,8 +8,8 @@ use Rattle.std.proofs.lemmas.List.{get_or-drop, get_or-replicate, get_or_default
 use Rattle.std.proofs.lemmas.List.Edits.{length-insert}
 use Rattle.std.proofs.lemmas.List.Quantifiers.{position-Some}
 use Rattle.std.proofs.lemmas.List.Sums.{position_or_len_is, sum_by-cons, sum_by-set}
-use Rattle.mg_index.specs.Distinct.{distinct-free, distinct-put}
-use Rattle.mg_index.specs.Places.{nowhere_any}
+use Rattle.mg_index.specs.DistinctLemmas.{distinct-free, distinct-put}
+use Rattle.mg_index.specs.PlaceLemmas.{nowhere_any}
 use Rattle.mg_index.specs.Pairs.{IsIndexed, Ascends, IsBound, IsExact, NoneFree, free_count}
 use Rattle.mg_index.proofs.Lists.{contains-at, insert-cases, insert-has, insert-keeps, insert-pairs}
 

@@ -6,7 +6,7 @@ use Rattle.std.proofs.lemmas.Bool.{and_from, and_parts, cases_Bool, cases_eq, ca
 use Rattle.std.proofs.lemmas.List.{ext_get_or, get_or-map, length-map}
 use Rattle.std.proofs.lemmas.List.Edits.{get_or-between, length-between}
 use Rattle.std.proofs.lemmas.List.Elements.{All-head, All-tail}
-use Rattle.mg_index.specs.Distinct.{distinct-released, within_or_not}
+use Rattle.mg_index.specs.DistinctLemmas.{distinct-released, within_or_not}
 use Rattle.mg_index.specs.Pairs.{IsIndexed, Ascends, IsPart, IsBound, IsExact, NoneFree, free_count, freed}
 use Rattle.mg_index.specs.Words.{is_within, unless_within}
 use Rattle.mg_index.proofs.Bound.{free-count}

@@ -2,5 +2,5 @@
 pub mod Words
 pub mod Pairs
 -- Lemmas that crates above cite. None of them is part of a statement.
-pub mod Distinct
-pub mod Places
+pub mod DistinctLemmas
+pub mod PlaceLemmas

@@ -68,7 +68,7 @@ impl Index {
     /// How many places there are.
     pub fn len(&self) -> u64
         ensures count { result ≡ length self.now }
-        ensures few { result ≤ 65536 }
+        ensures at_most_65536 { result ≤ 65536 }
         ensures kept { all_distinct (numbers_in self.now) ≡ true }
     {
         self.numbers.len() as u64
@@ -152,7 +152,7 @@ impl Index {
     fn lowest_free(&self) -> u64
         requires { list_any (λ entry. entry == 0) self.now ≡ true }
         ensures lowest { position (λ entry. entry == 0) self.now ≡ Some result }
-        ensures few { result < 65536 }
+        ensures below_65536 { result < 65536 }
     {
         match first_free(&self.numbers[self.low as usize..]) {
             Some(at) => self.low + at as u64,

@@ -35,10 +35,10 @@ pub(crate) fn rise(pairs: &[(u64, u64)]) -> bool
 // Lists the numbers of a table with their places, place by place.
 fn list_pairs(numbers: &[u64], pairs: &mut Vec<(u64, u64)>)
     requires none { pairs.old.items ≡ [] }
-    requires room { length numbers.now ≤ vec_capacity pairs.old }
+    requires has_capacity { length numbers.now ≤ vec_capacity pairs.old }
     ensures numbers { map (λ pair. pair.0) pairs.new.items ≡ numbers_in numbers.now }
     ensures exact { IsExact numbers.now pairs.new.items }
-    ensures room { length numbers.now ≤ vec_capacity pairs.new }
+    ensures has_capacity { length numbers.now ≤ vec_capacity pairs.new }
 {
     for (place, number) in numbers.iter().enumerate() {
         if *number != 0 {

@@ -11,6 +11,9 @@
 //! of the count of faults are passed on from `mg_faults`.
 #![tactic(auto)]
 
+/// The most bytes that who reads an input whole takes at once.
+pub const PIECE: usize = 4096;
+
 mod mem_sink;
 mod mem_source;
 mod numbers;

@@ -103,7 +103,7 @@ impl Sink for MemSink {
     fn put(&mut self, from: &[u8]) -> Result<usize, Failed>
         // As every sink.
         ensures bound { WritesAtMost result from.now }
-        ensures some { TakesSome result from.now }
+        ensures takes_some { TakesSome result from.now }
         ensures bytes { WriteAppends (Some self.old.bytes) (Some self.new.bytes) result from.now }
         ensures cause { HasCause self.old.faults self.new.faults
             (is_last self.old.faults) (is_last self.new.faults) result }

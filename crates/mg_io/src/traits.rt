@@ -53,7 +53,7 @@ pub trait Sink {
     /// last value.
     fn put(&mut self, from: &[u8]) -> Result<usize, Failed>
         ensures bound { WritesAtMost result from.now }
-        ensures some { TakesSome result from.now }
+        ensures takes_some { TakesSome result from.now }
         ensures bytes { WriteAppends (taken self.old) (taken self.new) result from.now }
         ensures cause { HasCause (faults self.old) (faults self.new)
             (is_spent self.old) (is_spent self.new) result };

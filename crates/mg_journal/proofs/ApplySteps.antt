@@ -6,13 +6,13 @@ use Rattle.std.proofs.lemmas.Bool.{both_ways, eq-eqb, eqb-true, or_cases, or_lef
 use Rattle.std.proofs.lemmas.List.{map-append, take_more}
 use Rattle.std.proofs.lemmas.List.Elements.{All-head, All-tail, All-take, All-weaker}
 use Rattle.mg_disk.specs.Disk.{Image, SameBut, SeenBut, block_at, only_place}
-use Rattle.mg_disk.specs.Places.{same_set, same_still}
+use Rattle.mg_disk.specs.PlaceLemmas.{same_set, same_still}
 use Rattle.mg_model.specs.Layout.{globals_block, segment_body}
 use Rattle.mg_model.specs.Replay.{body_count, home_of, is_open, writes_from, writes_of, writes_since, written}
 use Rattle.mg_journal.specs.Applied.{filled}
 use Rattle.mg_journal.specs.Contents.{names}
 use Rattle.mg_journal.specs.Places.{IsPlace, places_from, places_of, places_since}
-use Rattle.mg_journal.specs.WrittenOver.{written-append, written_elsewhere}
+use Rattle.mg_journal.specs.WrittenLemmas.{written-append, written_elsewhere}
 
 -- the home and the body of place k
 abbrev pub home_at : List (ℕ × ℕ) → ℕ → ℕ

@@ -9,7 +9,7 @@ use Rattle.mg_model.specs.Layout.{body_limit, globals_block, segment_body}
 use Rattle.mg_model.specs.Replay.{body_count, home_of, homes_fit, is_open, segment_fits, segments_fit, writes_from}
 use Rattle.mg_journal.specs.Contents.{bodies_fit, bodies_of}
 use Rattle.mg_journal.specs.Places.{IsPlace, places_from, places_of, places_since}
-use Rattle.mg_journal.specs.Segments.{each-fits, fits-each}
+use Rattle.mg_journal.specs.SegmentLemmas.{each-fits, fits-each}
 
 not_le : (a b : ℕ) → b < a → nat_le a b ≡ false
 not_le a b more = ⊎_elim (λ is. let le = leb-true a b is in absurd (omega arith)) (λ no. no) (cases_Bool (nat_le a b))

@@ -4,7 +4,7 @@ use Rattle.std.specs.Option.{ForSome}
 use Rattle.std.proofs.Common.{refl, sym, ap, subst, ◌∙◌, ⊎_elim, arith}
 use Rattle.std.proofs.lemmas.Bool.{cases_eq}
 use Rattle.mg_disk.specs.Disk.{Image, only_place}
-use Rattle.mg_disk.specs.Places.{same_as}
+use Rattle.mg_disk.specs.PlaceLemmas.{same_as}
 use Rattle.mg_disk.specs.Runs.{leaves_then, leaves_yet, only_image}
 use Rattle.mg_disk.specs.Stops.{Leaves, NothingPending}
 use Rattle.mg_disk.specs.declared.disk.Disk.{Ghosts}
@@ -13,7 +13,7 @@ use Rattle.mg_model.specs.Replay.{is_open, replay}
 use Rattle.mg_journal.specs.ResultLemmas.{some_of}
 use Rattle.mg_journal.proofs.CommitSteps.{same_then}
 use Rattle.mg_journal.specs.Contents.{InJournal}
-use Rattle.mg_journal.specs.Facts.{same_gate, same_wider}
+use Rattle.mg_journal.specs.JournalLemmas.{same_gate, same_wider}
 use Rattle.mg_journal.proofs.Homes.{first_gate_torn}
 use Rattle.mg_journal.specs.Recovery.{ClosedOne, IsClosedUpTo, IsStill, MayCloseOne}
 

@@ -7,9 +7,9 @@ use Rattle.mg_disk.specs.Disk.{Image, SameBut, block_at, only_place}
 use Rattle.mg_model.specs.Layout.{body_limit, globals_block, segment_count, segment_gate}
 use Rattle.mg_model.specs.Replay.{body_count, homes_fit, is_open, replay, segment_fits, segments_fit, writes_of, writes_since, written}
 use Rattle.mg_journal.specs.Contents.{ClosedBelow, InJournal, SameContents, bodies_of, names}
-use Rattle.mg_journal.specs.Facts.{open_writes, replay-some, replayed-fits, replayed-is, same_gate, same_wider, seen_both}
-use Rattle.mg_journal.specs.Segments.{IsAlike, all-write, alike-gates, alike-whole, each-fits, fits-closed, fits-each, fits-open, writes-closed, writes-open, writes_since-none, writes_since-split}
-use Rattle.mg_journal.specs.WrittenOver.{last_change_nothing, written_elsewhere, written_over, written_same}
+use Rattle.mg_journal.specs.JournalLemmas.{open_writes, replay-some, replayed-fits, replayed-is, same_gate, same_wider, seen_both}
+use Rattle.mg_journal.specs.SegmentLemmas.{IsAlike, all-write, alike-gates, alike-whole, each-fits, fits-closed, fits-each, fits-open, writes-closed, writes-open, writes_since-none, writes_since-split}
+use Rattle.mg_journal.specs.WrittenLemmas.{last_change_nothing, written_elsewhere, written_over, written_same}
 
 -- a home that fits lies behind the journal
 pub fit-behind : (total : ℕ) (writes : List (ℕ × List ℕ)) (k : ℕ) → homes_fit total writes ≡ true → names writes k ≡ true → globals_block ≤ k

@@ -8,7 +8,7 @@ use Rattle.std.proofs.lemmas.List.Folds.{find-append}
 use Rattle.mg_disk.specs.Disk.{Image, block_at}
 use Rattle.mg_model.specs.Layout.{segment_body, segment_count}
 use Rattle.mg_model.specs.Replay.{body_count, home_of, is_open, replay, writes_from, writes_of, writes_since, written}
-use Rattle.mg_journal.specs.Facts.{replayed-is}
+use Rattle.mg_journal.specs.JournalLemmas.{replayed-is}
 use Rattle.mg_journal.specs.Looked.{Fits, Placed}
 use Rattle.mg_journal.specs.Newest.{is_for, newest_at}
 use Rattle.mg_journal.specs.Places.{places_from, places_of, places_since}

@@ -15,15 +15,15 @@ use Rattle.mg_journal.proofs.Lookups.{held_is, value_held, written_at}
 use Rattle.mg_journal.proofs.Tables.{only-one}
 use Rattle.mg_journal.specs.Applied.{filled}
 use Rattle.mg_journal.specs.Contents.{InJournal, bodies_of, names}
-use Rattle.mg_journal.specs.Facts.{same_gate, same_wider}
+use Rattle.mg_journal.specs.JournalLemmas.{same_gate, same_wider}
 use Rattle.mg_journal.specs.Looked.{Fits, Placed}
 use Rattle.mg_journal.specs.Newest.{Adds, Ascends, HasLast, is_for, lying}
 use Rattle.mg_journal.specs.Phases.{IsIn, IsNext}
 use Rattle.mg_journal.specs.Places.{places_from, places_of, places_since}
 use Rattle.mg_journal.specs.Recovery.{Settles}
-use Rattle.mg_journal.specs.Segments.{alike-whole, each-fits, fits-closed, fits-each, fits-open}
+use Rattle.mg_journal.specs.SegmentLemmas.{alike-whole, each-fits, fits-closed, fits-each, fits-open}
 use Rattle.mg_journal.specs.Standing.{AllClosed, HoldsOpen, IsLate, open_count, open_since}
-use Rattle.mg_journal.specs.WrittenOver.{written_elsewhere}
+use Rattle.mg_journal.specs.WrittenLemmas.{written_elsewhere}
 
 -- a block is named where one of the places belongs to it
 named_is : (a : Image) (places : List (ℕ × ℕ)) (k : ℕ) → names (filled a places) k ≡ is_some (find (is_for k) places)

@@ -3,12 +3,12 @@ use Rattle.std.specs.Prelude.{◌≡◌, ℕ, true, List, Option, Some, None, Is
 use Rattle.std.specs.Option.{ForSome}
 use Rattle.std.proofs.Common.{refl, sym, ap, subst, ◌∙◌}
 use Rattle.mg_disk.specs.Disk.{Image, SameBut}
-use Rattle.mg_disk.specs.Places.{same_as}
+use Rattle.mg_disk.specs.PlaceLemmas.{same_as}
 use Rattle.mg_model.specs.Layout.{segment_count}
 use Rattle.mg_model.specs.Replay.{replay, written}
 use Rattle.mg_journal.specs.Applied.{filled}
 use Rattle.mg_journal.specs.Contents.{InJournal, SameContents, names}
-use Rattle.mg_journal.specs.Facts.{open_writes, replay-some, same_wider, seen_both}
+use Rattle.mg_journal.specs.JournalLemmas.{open_writes, replay-some, same_wider, seen_both}
 use Rattle.mg_journal.proofs.Homes.{homes_torn, homes_written}
 use Rattle.mg_journal.specs.Recovery.{IsClosedUpTo, IsRecovered, IsStill, Settles}
 

@@ -11,7 +11,7 @@ pub mod Phases
 pub mod Applied
 pub mod Recovery
 -- Lemmas that Standing or crates above cite. None of them is part of a statement.
-pub mod Facts
+pub mod JournalLemmas
 pub mod ResultLemmas
-pub mod Segments
-pub mod WrittenOver
+pub mod SegmentLemmas
+pub mod WrittenLemmas

@@ -4,6 +4,10 @@ use Rattle.mg_disk.specs.Disk.{Image}
 use Rattle.mg_model.specs.Layout.{globals_block, segment_body}
 use Rattle.mg_model.specs.Replay.{body_count, home_of, is_open}
 
+-- how many bodies all segments have at most
+abbrev pub place_limit : ℕ
+place_limit = 1280
+
 -- of a segment from body j on, so many of them: pairs of the block that a body belongs to and the block that holds it
 abbrev pub places_from : Image → ℕ → ℕ → ℕ → List (ℕ × ℕ)
 places_from image s j zero = []

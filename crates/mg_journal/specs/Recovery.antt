@@ -5,7 +5,7 @@ use Rattle.mg_model.specs.Layout.{segment_count, segment_gate}
 use Rattle.mg_model.specs.Replay.{is_open, replay, segments_fit, written}
 use Rattle.mg_journal.specs.Applied.{filled}
 use Rattle.mg_journal.specs.Contents.{InJournal, SameContents, names}
-use Rattle.mg_journal.specs.Facts.{open_writes}
+use Rattle.mg_journal.specs.JournalLemmas.{open_writes}
 use Rattle.mg_journal.specs.Standing.{AllClosed}
 
 -- the journal can be replayed, and the bodies at these places, written to their homes in order, make the homes that open

@@ -7,7 +7,7 @@ use Rattle.mg_disk.specs.declared.disk.Disk.{Ghosts}
 use Rattle.mg_model.specs.Layout.{globals_block, segment_count}
 use Rattle.mg_model.specs.Replay.{is_open, replay, written}
 use Rattle.mg_journal.specs.Contents.{InJournal, NewContents, SameContents}
-use Rattle.mg_journal.specs.Facts.{open_writes, replay-some}
+use Rattle.mg_journal.specs.JournalLemmas.{open_writes, replay-some}
 use Rattle.mg_journal.specs.Held.{Store}
 use Rattle.mg_journal.specs.Looked.{Fits}
 

@@ -9,7 +9,7 @@ use mg_layout::put_number;
 
 /// The index block of these writes.
 pub(crate) fn index_block(writes: &[(u64, Block)]) -> Block
-    requires few { length writes.now ≤ body_limit }
+    requires at_most_160_writes { length writes.now ≤ body_limit }
     ensures count { number_at result 0 ≡ length writes.now }
     ensures homes { (j : ℕ) → j < length writes.now → number_at result (8 + 8 * j) ≡ home_at writes.now j }
 {

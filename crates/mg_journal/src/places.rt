@@ -10,7 +10,7 @@ pub(crate) const SEGMENTS: u64 = SEGMENT_COUNT;
 
 /// The block of a segment's gate.
 pub(crate) fn gate_of(segment: u64) -> u64
-    requires few { segment < segment_count }
+    requires segment_below_8 { segment < segment_count }
     ensures { result ≡ segment_gate segment }
 {
     FIRST_SEGMENT + SEGMENT_SIZE * segment
@@ -18,7 +18,7 @@ pub(crate) fn gate_of(segment: u64) -> u64
 
 /// The block of a segment's index.
 pub(crate) fn index_of(segment: u64) -> u64
-    requires few { segment < segment_count }
+    requires segment_below_8 { segment < segment_count }
     ensures { result ≡ segment_index segment }
 {
     gate_of(segment) + 1

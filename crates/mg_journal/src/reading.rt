@@ -7,7 +7,7 @@ ghost use Rattle.mg_model.specs.Layout.{body_limit, globals_block, segment_count
 ghost use Rattle.mg_model.specs.Replay.{body_count, is_open, segment_fits};
 ghost use Rattle.mg_journal.specs.Contents.{bodies_fit};
 ghost use Rattle.mg_journal.specs.Newest.{TakesIn};
-ghost use Rattle.mg_journal.specs.Places.{IsPlace, places_from, places_of};
+ghost use Rattle.mg_journal.specs.Places.{IsPlace, place_limit, places_from, places_of};
 
 use crate::faults::ViewFault;
 use crate::places::{gate_of, index_of, is_opened};
@@ -27,11 +27,11 @@ fn is_home(block: u64, total: u64) -> bool
 // has more than 160 bodies, or one that belongs to no block behind the journal.
 fn add_bodies(index: &Block, segment: u64, total: u64, table: &mut Table) -> bool
     requires segment { segment < segment_count }
-    requires room { length table.old + body_limit ≤ 1280 }
+    requires fits_in_table { length table.old + body_limit ≤ place_limit }
     ensures fits { (image : Image) → block_at image (segment_index segment) ≡ index.now → bodies_fit total image segment ≡ result }
     ensures newest { result ≡ true → (image : Image) → block_at image (segment_index segment) ≡ index.now → TakesIn (places_from image segment 0 (body_count image segment)) table.old table.new }
     ensures fit { All (IsPlace total) table.old → All (IsPlace total) table.new }
-    ensures few { length table.new ≤ length table.old + body_limit }
+    ensures at_most_160_more { length table.new ≤ length table.old + body_limit }
 {
     let count = number_at(index, 0);
     if count > BODY_LIMIT {
@@ -51,7 +51,7 @@ fn add_bodies(index: &Block, segment: u64, total: u64, table: &mut Table) -> boo
 // Whether a segment is open.
 fn is_open<D: Disk>(disk: &mut D, segment: u64) -> Result<bool, Failed>
     requires segment { segment < segment_count }
-    requires room { globals_block ≤ D.block_count disk.old }
+    requires within_disk { globals_block ≤ D.block_count disk.old }
     ensures open_now { IfOk result (λ opened. ForSome (D.seen disk.old) (λ image. is_open image segment ≡ opened)) }
     ensures writes { WritesNothing D.Disk disk.old disk.new }
     ensures calls { DiskCalls D.Disk disk.old disk.new result }
@@ -70,12 +70,12 @@ fn look_index<D: Disk>(
 ) -> Result<(), ViewFault>
     requires segment { segment < segment_count }
     requires blocks { globals_block ≤ D.block_count disk.old }
-    requires room { length table.old + body_limit ≤ 1280 }
+    requires fits_in_table { length table.old + body_limit ≤ place_limit }
     ensures fits { OnOk result (ForSome (D.seen disk.old) (λ image. bodies_fit total image segment ≡ true)) }
     ensures newest { OnOk result (ForSome (D.seen disk.old) (λ image. TakesIn (places_from image segment 0 (body_count image segment)) table.old table.new)) }
     ensures damaged { result ≡ Err ViewFault.Damaged → ForSome (D.seen disk.old) (λ image. bodies_fit total image segment ≡ false) }
     ensures fit { All (IsPlace total) table.old → All (IsPlace total) table.new }
-    ensures few { length table.new ≤ length table.old + body_limit }
+    ensures at_most_160_more { length table.new ≤ length table.old + body_limit }
     ensures writes { WritesNothing D.Disk disk.old disk.new }
     ensures calls { DiskCallsBy D.Disk disk.old disk.new (result ≡ Err ViewFault.Disk) }
 {
@@ -103,12 +103,12 @@ pub(crate) fn look_segment<D: Disk>(
 ) -> Result<(), ViewFault>
     requires segment { segment < segment_count }
     requires blocks { globals_block ≤ D.block_count disk.old }
-    requires room { length table.old + body_limit ≤ 1280 }
+    requires fits_in_table { length table.old + body_limit ≤ place_limit }
     ensures fits { OnOk result (ForSome (D.seen disk.old) (λ image. segment_fits total image segment ≡ true)) }
     ensures newest { OnOk result (ForSome (D.seen disk.old) (λ image. TakesIn (places_of image segment) table.old table.new)) }
     ensures damaged { result ≡ Err ViewFault.Damaged → ForSome (D.seen disk.old) (λ image. segment_fits total image segment ≡ false) }
     ensures fit { All (IsPlace total) table.old → All (IsPlace total) table.new }
-    ensures few { length table.new ≤ length table.old + body_limit }
+    ensures at_most_160_more { length table.new ≤ length table.old + body_limit }
     ensures writes { WritesNothing D.Disk disk.old disk.new }
     ensures calls { DiskCallsBy D.Disk disk.old disk.new (result ≡ Err ViewFault.Disk) }
 {

@@ -20,7 +20,7 @@ use mg_faults::Failed;
 // Writes the bodies at these places to their homes, in order, and makes sure of them: also where there are none, so that
 // nothing is pending afterwards.
 fn apply<D: Disk>(disk: &mut D, places: &[(u64, u64)]) -> Result<(), Failed>
-    requires room { All (IsPlace (D.block_count disk.old)) places.now }
+    requires all_on_disk { All (IsPlace (D.block_count disk.old)) places.now }
     ensures any_moment { NothingPending D.Disk disk.old → ForSome (D.seen disk.old) (λ image. Leaves D.Disk disk.old disk.new (SameBut (λ k. names (filled image places.now) k ≡ true) image)) }
     ensures written { OnOk result (D.seen disk.new ≡ option_map (λ image. written image (filled image places.now)) (D.seen disk.old)) }
     ensures torn { ForSome (D.seen disk.old) (λ image. IsSomeAnd (D.seen disk.new) (SameBut (λ k. names (filled image places.now) k ≡ true) image)) }
@@ -39,7 +39,7 @@ fn apply<D: Disk>(disk: &mut D, places: &[(u64, u64)]) -> Result<(), Failed>
 // Closes a segment's gate where it is open, and makes sure of it.
 fn close_gate<D: Disk>(disk: &mut D, segment: u64) -> Result<(), Failed>
     requires place { segment < segment_count }
-    requires room { globals_block ≤ D.block_count disk.old }
+    requires within_disk { globals_block ≤ D.block_count disk.old }
     requires settled { NothingPending D.Disk disk.old }
     ensures any_moment { ForSome (D.seen disk.old) (λ image. Leaves D.Disk disk.old disk.new (MayCloseOne segment image)) }
     ensures may { ForSome (D.seen disk.old) (λ image. IsSomeAnd (D.seen disk.new) (MayCloseOne segment image)) }
@@ -60,7 +60,7 @@ fn close_gate<D: Disk>(disk: &mut D, segment: u64) -> Result<(), Failed>
 // Closes the gates that are open, first to last, with a sync after each. It is for an image that is its own replay:
 // that one's homes are written.
 fn close_gates<D: Disk>(disk: &mut D) -> Result<(), Failed>
-    requires room { globals_block ≤ D.block_count disk.old }
+    requires within_disk { globals_block ≤ D.block_count disk.old }
     requires settled { NothingPending D.Disk disk.old }
     ensures any_moment { ForSome (D.seen disk.old) (λ image. (total : ℕ) → replay image total ≡ Some image → Leaves D.Disk disk.old disk.new (IsStill total image)) }
     ensures closed { OnOk result (ForSome (D.seen disk.old) (λ image. (total : ℕ) → replay image total ≡ Some image → IsSomeAnd (D.seen disk.new) (IsClosedUpTo segment_count total image))) }
@@ -79,7 +79,7 @@ fn close_gates<D: Disk>(disk: &mut D) -> Result<(), Failed>
 /// sure of; then the gates are closed, first to last. The bodies are read from the journal.
 pub(crate) fn recover<D: Disk>(disk: &mut D, view: &View) -> Result<(), Failed>
     requires journal { globals_block ≤ view.now.total }
-    requires room { view.now.total ≤ D.block_count disk.old }
+    requires within_disk { view.now.total ≤ D.block_count disk.old }
     requires fits { ForSome (D.seen disk.old) (λ image. Fits view.now image) }
     ensures any_moment { NothingPending D.Disk disk.old → ForSome (D.seen disk.old) (λ image. Leaves D.Disk disk.old disk.new (SameContents view.now.total image)) }
     ensures contents { ForSome (D.seen disk.old) (λ image. IsSomeAnd (D.seen disk.new) (SameContents view.now.total image)) }

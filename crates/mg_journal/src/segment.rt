@@ -18,8 +18,8 @@ pub(crate) fn write_segment<D: Disk>(
     writes: &[(u64, Block)],
 ) -> Result<(), Failed>
     requires place { segment < segment_count }
-    requires few { length writes.now ≤ body_limit }
-    requires room { globals_block ≤ D.block_count disk.old }
+    requires at_most_160_writes { length writes.now ≤ body_limit }
+    requires within_disk { globals_block ≤ D.block_count disk.old }
     ensures any_moment { NothingPending D.Disk disk.old → ForSome (D.seen disk.old) (λ image. Leaves D.Disk disk.old disk.new (SameBut (IsBehind segment) image)) }
     ensures written { OnOk result (ForSome (D.seen disk.old) (λ image. IsSomeAnd (D.seen disk.new) (HoldsWrites segment writes.now image))) }
     ensures tells { OnOk result (is_some (D.seen disk.new) ≡ is_some (D.seen disk.old)) }

@@ -9,7 +9,7 @@ ghost use Rattle.mg_journal.specs.Contents.{NewContents, SameContents};
 ghost use Rattle.mg_journal.specs.Looked.{Fits};
 ghost use Rattle.mg_journal.specs.Newest.{Adds};
 ghost use Rattle.mg_journal.specs.Phases.{IsNext};
-ghost use Rattle.mg_journal.specs.Standing.{IsLate, OldOrNew, Stands, is_live, total_of};
+ghost use Rattle.mg_journal.specs.Standing.{AllClosed, IsLate, OldOrNew, Stands, is_live, total_of};
 
 use crate::committing::write_firmly;
 use crate::faults::ViewFault;
@@ -47,14 +47,14 @@ impl Store {
     /// Opens the journal of a volume of `total` blocks, whatever a stop left of a commit: each home that open segments name is
     /// written once, from its newest body, and made sure of, and then the gates are closed first to last, with a sync after
     /// each. The contents stay, whatever the answer: those of what reads give, and where nothing was pending those of what a
-    /// stop leaves at any moment. After Ok nothing is pending.
+    /// stop leaves at any moment. After Ok nothing is pending, and no segment is open.
     ///
     /// [`ViewFault::Damaged`] comes where the journal cannot be replayed, and then nothing was written,
     /// [`ViewFault::Disk`] only where a call of the disk failed, and [`ViewFault::Memory`] where there was not enough
     /// memory.
     pub fn open<D: Disk>(alloc: Global, disk: &mut D, total: u64) -> Result<Store, ViewFault>
         requires journal { globals_block ≤ total }
-        requires room { total ≤ D.block_count disk.old }
+        requires within_disk { total ≤ D.block_count disk.old }
         ensures any_moment { NothingPending D.Disk disk.old → ForSome (D.seen disk.old) (λ image. Leaves D.Disk disk.old disk.new (SameContents total image)) }
         ensures contents { ForSome (D.seen disk.old) (λ image. IsSomeAnd (D.seen disk.new) (SameContents total image)) }
         ensures came_from { ForSome (D.seen disk.new) (λ now. IsSomeAnd (D.seen disk.old) (λ image. SameContents total image now)) }
@@ -62,6 +62,7 @@ impl Store {
         ensures live { IfOk result (λ store. is_live store ≡ true) }
         ensures total { IfOk result (λ store. total_of store ≡ total) }
         ensures replayed { IfOk result (λ _. ForSome (D.seen disk.old) (λ image. IsSome (replay image total))) }
+        ensures closed { IfOk result (λ _. ForSome (D.seen disk.new) AllClosed) }
         ensures damaged { result ≡ Err ViewFault.Damaged → ForSome (D.seen disk.old) (λ image. replay image total ≡ None) }
         ensures untouched { result ≡ Err ViewFault.Damaged → WritesNothing D.Disk disk.old disk.new }
         ensures calls { DiskCallsBy D.Disk disk.old disk.new (result ≡ Err ViewFault.Disk) }
@@ -80,7 +81,7 @@ impl Store {
     /// takes no memory. [`Failed`] comes only where a call of the disk failed.
     pub fn recover<D: Disk>(disk: &mut D, mut view: View) -> Result<Store, Failed>
         requires journal { globals_block ≤ view.total }
-        requires room { view.total ≤ D.block_count disk.old }
+        requires within_disk { view.total ≤ D.block_count disk.old }
         requires fits { ForSome (D.seen disk.old) (λ image. Fits view image) }
         ensures any_moment { NothingPending D.Disk disk.old → ForSome (D.seen disk.old) (λ image. Leaves D.Disk disk.old disk.new (SameContents view.total image)) }
         ensures contents { ForSome (D.seen disk.old) (λ image. IsSomeAnd (D.seen disk.new) (SameContents view.total image)) }
@@ -89,6 +90,7 @@ impl Store {
         ensures stands { IfOk result (λ store. Stands D.Disk store disk.new) }
         ensures live { IfOk result (λ store. is_live store ≡ true) }
         ensures total { IfOk result (λ store. total_of store ≡ view.total) }
+        ensures closed { IfOk result (λ _. ForSome (D.seen disk.new) AllClosed) }
         ensures calls { DiskCalls D.Disk disk.old disk.new result }
     {
         match recover(disk, &view) {
@@ -133,7 +135,7 @@ impl Store {
         if writes.is_empty() {
             return Ok(());
         }
-        match self.make(disk, writes) {
+        match self.commit_segment(disk, writes) {
             Ok(()) => Ok(()),
             Err(Failed) => {
                 self.live = false;
@@ -155,10 +157,14 @@ impl Store {
     }
 
     // Writes these blocks into the next segment, after a checkpoint where none is left.
-    fn make<D: Disk>(&mut self, disk: &mut D, writes: &[(u64, Block)]) -> Result<(), Failed>
+    fn commit_segment<D: Disk>(
+        &mut self,
+        disk: &mut D,
+        writes: &[(u64, Block)],
+    ) -> Result<(), Failed>
         requires stands { Stands D.Disk self.old disk.old }
         requires homes { homes_fit (total_of self.old) writes.now ≡ true }
-        requires few { length writes.now ≤ body_limit }
+        requires at_most_160_writes { length writes.now ≤ body_limit }
         ensures any_moment { ForSome (D.seen disk.old) (λ image. Leaves D.Disk disk.old disk.new (OldOrNew (total_of self.old) writes.now image)) }
         ensures done { OnOk result (ForSome (D.seen disk.old) (λ image. IsSomeAnd (D.seen disk.new) (NewContents (total_of self.old) image writes.now))) }
         ensures tells { OnOk result (is_some (D.seen disk.new) ≡ is_some (D.seen disk.old)) }
@@ -181,8 +187,8 @@ impl Store {
         ensures contents { OnOk result (ForSome (D.seen disk.old) (λ image. IsSomeAnd (D.seen disk.new) (SameContents (total_of self.old) image))) }
         ensures tells { OnOk result (is_some (D.seen disk.new) ≡ is_some (D.seen disk.old)) }
         ensures stands { OnOk result (Stands D.Disk self.new disk.new) }
-        ensures room { OnOk result (self.new.opened < segment_count) }
-        ensures few { self.old.opened ≤ segment_count }
+        ensures fewer_than_8_open { OnOk result (self.new.opened < segment_count) }
+        ensures at_most_8_open { self.old.opened ≤ segment_count }
         ensures kept { self.old.opened < segment_count → (D.seen disk.new ≡ D.seen disk.old) × (self.new.opened ≡ self.old.opened) }
         ensures first { OnOk result (self.old.opened ≡ segment_count → self.new.opened ≡ 0) }
         ensures live { is_live self.new ≡ is_live self.old }
@@ -192,18 +198,42 @@ impl Store {
         if self.opened < SEGMENTS {
             Ok(())
         } else {
-            self.checkpoint(disk)
+            self.close_segments(disk)
+        }
+    }
+
+    /// Writes the newest body of each block that an open segment names to its home, once, and makes sure of it, and then closes
+    /// the gates first to last, with a sync after each, so that no segment is open. The contents stay, whatever the answer. After
+    /// [`Failed`], which comes only where a call of the disk failed, it is not live.
+    pub fn checkpoint<D: Disk>(&mut self, disk: &mut D) -> Result<(), Failed>
+        requires live { is_live self.old ≡ true }
+        requires stands { Stands D.Disk self.old disk.old }
+        ensures any_moment { ForSome (D.seen disk.old) (λ image. Leaves D.Disk disk.old disk.new (SameContents (total_of self.old) image)) }
+        ensures contents { ForSome (D.seen disk.old) (λ image. IsSomeAnd (D.seen disk.new) (SameContents (total_of self.old) image)) }
+        ensures closed { OnOk result (ForSome (D.seen disk.new) AllClosed) }
+        ensures stands { OnOk result (Stands D.Disk self.new disk.new) }
+        ensures live { is_live self.new ≡ is_ok result }
+        ensures total { total_of self.new ≡ total_of self.old }
+        ensures calls { DiskCalls D.Disk disk.old disk.new result }
+    {
+        match self.close_segments(disk) {
+            Ok(()) => Ok(()),
+            Err(Failed) => {
+                self.live = false;
+                Err(Failed)
+            }
         }
     }
 
     // Recovers the disk as an opening does. The contents stay.
-    fn checkpoint<D: Disk>(&mut self, disk: &mut D) -> Result<(), Failed>
+    fn close_segments<D: Disk>(&mut self, disk: &mut D) -> Result<(), Failed>
         requires stands { Stands D.Disk self.old disk.old }
         ensures any_moment { ForSome (D.seen disk.old) (λ image. Leaves D.Disk disk.old disk.new (SameContents (total_of self.old) image)) }
         ensures contents { ForSome (D.seen disk.old) (λ image. IsSomeAnd (D.seen disk.new) (SameContents (total_of self.old) image)) }
         ensures tells { is_some (D.seen disk.new) ≡ is_some (D.seen disk.old) }
         ensures stands { OnOk result (Stands D.Disk self.new disk.new) }
         ensures none { OnOk result (self.new.opened ≡ 0) }
+        ensures closed { OnOk result (ForSome (D.seen disk.new) AllClosed) }
         ensures live { is_live self.new ≡ is_live self.old }
         ensures total { total_of self.new ≡ total_of self.old }
         ensures calls { DiskCalls D.Disk disk.old disk.new result }
@@ -217,9 +247,9 @@ impl Store {
     // Writes the index and the bodies of the next segment, and then opens its gate, with a sync after each.
     fn write_next<D: Disk>(&self, disk: &mut D, writes: &[(u64, Block)]) -> Result<(), Failed>
         requires stands { Stands D.Disk self.now disk.old }
-        requires room { self.now.opened < segment_count }
+        requires fewer_than_8_open { self.now.opened < segment_count }
         requires homes { homes_fit (total_of self.now) writes.now ≡ true }
-        requires few { length writes.now ≤ body_limit }
+        requires at_most_160_writes { length writes.now ≤ body_limit }
         ensures any_moment { ForSome (D.seen disk.old) (λ image. Leaves D.Disk disk.old disk.new (OldOrNew (total_of self.now) writes.now image)) }
         ensures next { OnOk result (ForSome (D.seen disk.old) (λ image. IsSomeAnd (D.seen disk.new) (IsNext (total_of self.now) self.now.opened writes.now image))) }
         ensures tells { OnOk result (is_some (D.seen disk.new) ≡ is_some (D.seen disk.old)) }
@@ -232,9 +262,9 @@ impl Store {
 
     // Holds that the next segment is open with these bodies.
     fn note(&mut self, writes: &[(u64, Block)])
-        requires room { self.old.opened < segment_count }
+        requires fewer_than_8_open { self.old.opened < segment_count }
         requires homes { homes_fit (total_of self.old) writes.now ≡ true }
-        requires few { length writes.now ≤ body_limit }
+        requires at_most_160_writes { length writes.now ≤ body_limit }
         ensures opened { self.new.opened ≡ self.old.opened + 1 }
         ensures added { Adds (segment_body self.old.opened 0) writes.now self.old.table self.new.table }
         ensures live { is_live self.new ≡ is_live self.old }

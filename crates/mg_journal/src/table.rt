@@ -3,7 +3,7 @@ ghost use Rattle.std.specs.Prelude.{◌≡◌, ◌≤◌, ◌<◌, ◌+◌, [], 
 ghost use Rattle.std.specs.List.{AllWithin};
 ghost use Rattle.mg_model.specs.Layout.{globals_block};
 ghost use Rattle.mg_journal.specs.Newest.{Adds, Ascends, Puts, is_for};
-ghost use Rattle.mg_journal.specs.Places.{IsPlace};
+ghost use Rattle.mg_journal.specs.Places.{IsPlace, place_limit};
 
 use mg_disk::Block;
 use std::alloc::{AllocError, Global};
@@ -23,12 +23,13 @@ impl Model for Table {
     ghost use Rattle.std.specs.Prelude.{◌≤◌, ℕ, List};
     ghost use Rattle.std.specs.Vec.{vec_capacity};
     ghost use Rattle.mg_journal.specs.Newest.{Ascends};
+    ghost use Rattle.mg_journal.specs.Places.{place_limit};
 
     ghost Value = { List (ℕ × ℕ) };
 
     ghost view = { λ table. table.places.items };
 
-    ghost invariant = { λ table. (1280 ≤ vec_capacity table.places) × Ascends table.places.items };
+    ghost invariant = { λ table. (place_limit ≤ vec_capacity table.places) × Ascends table.places.items };
 }
 
 impl Table {
@@ -63,10 +64,10 @@ impl Table {
 
     /// Puts a place in, instead of the one that its block has if there is one. It takes no memory.
     pub(crate) fn put(&mut self, place: (u64, u64))
-        requires room { length self.old < 1280 }
+        requires fits_in_table { length self.old < place_limit }
         ensures puts { Puts self.old place self.new }
         ensures fit { (total : ℕ) → All (IsPlace total) self.old → IsPlace total place → All (IsPlace total) self.new }
-        ensures few { length self.new ≤ length self.old + 1 }
+        ensures at_most_one_more { length self.new ≤ length self.old + 1 }
     {
         let at = count_below(&self.places, place.0);
         if at < self.places.len() && self.places[at].0 == place.0 {
@@ -79,7 +80,7 @@ impl Table {
 
     /// Puts the places of these writes in, whose bodies lie from this block on.
     pub(crate) fn add(&mut self, first: u64, writes: &[(u64, Block)])
-        requires room { length self.old + length writes.now ≤ 1280 }
+        requires fits_in_table { length self.old + length writes.now ≤ place_limit }
         requires within { first + length writes.now ≤ globals_block }
         ensures added { Adds first writes.now self.old self.new }
     {

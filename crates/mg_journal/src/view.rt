@@ -7,7 +7,7 @@ ghost use Rattle.mg_model.specs.Layout.{globals_block, segment_count};
 ghost use Rattle.mg_model.specs.Replay.{homes_fit, replay};
 ghost use Rattle.mg_journal.specs.Looked.{Fits};
 ghost use Rattle.mg_journal.specs.Newest.{Adds, Ascends, newest_at};
-ghost use Rattle.mg_journal.specs.Places.{IsPlace};
+ghost use Rattle.mg_journal.specs.Places.{IsPlace, place_limit};
 
 use crate::faults::ViewFault;
 use crate::places::SEGMENTS;
@@ -46,7 +46,7 @@ impl View {
     /// the disk failed.
     pub fn look<D: Disk>(alloc: Global, disk: &mut D, total: u64) -> Result<View, ViewFault>
         requires journal { globals_block ≤ total }
-        requires room { total ≤ D.block_count disk.old }
+        requires within_disk { total ≤ D.block_count disk.old }
         ensures fits { IfOk result (λ view. ForSome (D.seen disk.old) (λ image. Fits view image)) }
         ensures total { IfOk result (λ view. view.total ≡ total) }
         ensures damaged { result ≡ Err ViewFault.Damaged → ForSome (D.seen disk.old) (λ image. replay image total ≡ None) }
@@ -78,7 +78,7 @@ impl View {
 
     /// Holds that these bodies are the newest, which lie from this block on.
     pub(crate) fn add(&mut self, first: u64, writes: &[(u64, Block)])
-        requires room { length self.old.table + length writes.now ≤ 1280 }
+        requires fits_in_table { length self.old.table + length writes.now ≤ place_limit }
         requires within { first + length writes.now ≤ globals_block }
         requires homes { homes_fit self.old.total writes.now ≡ true }
         ensures added { Adds first writes.now self.old.table self.new.table }
@@ -117,7 +117,7 @@ impl View {
     /// Gives block `i` of the contents. A read that fails leaves any bytes in `out`.
     pub fn read<D: Disk>(&self, disk: &mut D, i: u64, out: &mut Block) -> Result<(), Failed>
         requires place { i < self.now.total }
-        requires room { self.now.total ≤ D.block_count disk.old }
+        requires within_disk { self.now.total ≤ D.block_count disk.old }
         requires fits { ForSome (D.seen disk.old) (λ image. Fits self.now image) }
         ensures block { OnOk result (ForSome (D.seen disk.old) (λ image. ForSome (replay image self.now.total) (λ r. out.new ≡ block_at r i))) }
         ensures writes { WritesNothing D.Disk disk.old disk.new }
@@ -134,7 +134,7 @@ impl View {
         out: &mut [Block],
     ) -> Result<(), Failed>
         requires place { first + length out.old ≤ self.now.total }
-        requires room { self.now.total ≤ D.block_count disk.old }
+        requires within_disk { self.now.total ≤ D.block_count disk.old }
         requires fits { ForSome (D.seen disk.old) (λ image. Fits self.now image) }
         ensures read { OnOk result (ForSome (D.seen disk.old) (λ image. ForSome (replay image self.now.total) (HasBlocks first out.new))) }
         ensures count { length out.new ≡ length out.old }
@@ -152,7 +152,7 @@ impl View {
     // Reads block `i` again where an open segment has it. `block` is the one at its home.
     fn read_newer<D: Disk>(&self, disk: &mut D, i: u64, block: &mut Block) -> Result<(), Failed>
         requires place { i < self.now.total }
-        requires room { self.now.total ≤ D.block_count disk.old }
+        requires within_disk { self.now.total ≤ D.block_count disk.old }
         requires fits { ForSome (D.seen disk.old) (λ image. Fits self.now image) }
         requires home { ForSome (D.seen disk.old) (λ image. block.old ≡ block_at image i) }
         ensures block { OnOk result (ForSome (D.seen disk.old) (λ image. ForSome (replay image self.now.total) (λ r. block.new ≡ block_at r i))) }

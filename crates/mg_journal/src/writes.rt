@@ -44,7 +44,7 @@ impl Writes {
     /// How many blocks wait, 0 to 160.
     pub fn len(&self) -> usize
         ensures count { result ≡ length self.now }
-        ensures few { result ≤ body_limit }
+        ensures at_most_160 { result ≤ body_limit }
         ensures once { are_once self.now ≡ true }
     {
         self.items.len()
@@ -67,7 +67,7 @@ impl Writes {
     /// The writes, in the order in which their blocks were first staged.
     pub fn as_slice(&self) -> &[(u64, Block)]
         ensures same { result.now ≡ self.now }
-        ensures few { length result.now ≤ body_limit }
+        ensures at_most_160_result { length result.now ≤ body_limit }
     {
         &self.items
     }
@@ -85,7 +85,7 @@ impl Writes {
     /// Stages a write, in place of the one to that block if there is one. It takes no memory.
     #[tactic(auto, using(crate::proofs::Waits::waits_none))]
     pub fn stage(&mut self, block: u64, from: &Block)
-        requires room { IsSome (position (goes_to block) self.old) ⊎ (length self.old < body_limit) }
+        requires there_or_fewer_than_160 { IsSome (position (goes_to block) self.old) ⊎ (length self.old < body_limit) }
         ensures { self.new ≡ staged self.old block from.now }
     {
         match self.place_of(block) {
@@ -123,7 +123,7 @@ impl Writes {
     // Stages a write behind the others.
     #[tactic(auto, using(crate::proofs::Once::once_more))]
     fn add(&mut self, block: u64, from: &Block)
-        requires room { length self.old < body_limit }
+        requires fewer_than_160 { length self.old < body_limit }
         requires new { waiting self.old block ≡ None }
         ensures { self.new ≡ self.old ++ (block, from.now) ∷ [] }
     {

@@ -104,7 +104,7 @@ fn commits_by<D: Disk>(store: &mut Store, disk: &mut D, writes: &mut Writes, wor
 
 /// Opens the journal and makes the commits, and says whether that was done.
 fn commits_on<D: Disk>(alloc: Global, disk: &mut D, writes: &mut Writes, work: Work) -> bool
-    requires room { 1311 ≤ D.block_count disk.old }
+    requires at_least_1311_blocks { 1311 ≤ D.block_count disk.old }
     ensures blocks { D.block_count disk.new ≡ D.block_count disk.old }
 {
     match Store::open(alloc, disk, BLOCKS) {
@@ -114,7 +114,7 @@ fn commits_on<D: Disk>(alloc: Global, disk: &mut D, writes: &mut Writes, work: W
 }
 
 fn commits<D: Disk>(alloc: Global, disk: &mut D, work: Work) -> bool
-    requires room { 1311 ≤ D.block_count disk.old }
+    requires at_least_1311_blocks { 1311 ≤ D.block_count disk.old }
     ensures blocks { D.block_count disk.new ≡ D.block_count disk.old }
 {
     match Writes::new(alloc) {
@@ -144,7 +144,7 @@ fn whole(parts: [Option<u8>; 4]) -> Option<Contents> {
 
 /// Opens the journal and gives the contents.
 fn held(alloc: Global, mut disk: MemDisk) -> Option<Contents>
-    requires room { ⟦<MemDisk as Disk>⟧.block_count disk ≡ 1311 }
+    requires has_1311_blocks { ⟦<MemDisk as Disk>⟧.block_count disk ≡ 1311 }
 {
     match Store::open(alloc, &mut disk, BLOCKS) {
         Ok(store) => contents(&store, &mut disk),
@@ -208,7 +208,7 @@ fn is_right(store: &mut Store, disk: &mut MemDisk, writes: &mut Writes, row: &Ro
 }
 
 fn is_right_opened(alloc: Global, disk: &mut MemDisk, writes: &mut Writes, row: &Row) -> bool
-    requires room { ⟦<MemDisk as Disk>⟧.block_count disk.old ≡ 1311 }
+    requires has_1311_blocks { ⟦<MemDisk as Disk>⟧.block_count disk.old ≡ 1311 }
 {
     match Store::open(alloc, disk, BLOCKS) {
         Ok(mut store) => is_right(&mut store, disk, writes, row),
@@ -217,7 +217,7 @@ fn is_right_opened(alloc: Global, disk: &mut MemDisk, writes: &mut Writes, row: 
 }
 
 fn is_right_on(alloc: Global, disk: &mut MemDisk, row: &Row) -> bool
-    requires room { ⟦<MemDisk as Disk>⟧.block_count disk.old ≡ 1311 }
+    requires has_1311_blocks { ⟦<MemDisk as Disk>⟧.block_count disk.old ≡ 1311 }
 {
     match Writes::new(alloc) {
         Ok(mut writes) => is_right_opened(alloc, disk, &mut writes, row),
@@ -271,7 +271,7 @@ fn calls_of_commits(rt: HostRuntime) {
 
 /// What is held after a stop of this kind.
 fn stops(alloc: Global, disk: &MemDisk, left: Left) -> Option<Contents>
-    requires room { ⟦<MemDisk as Disk>⟧.block_count disk.now ≡ 1311 }
+    requires has_1311_blocks { ⟦<MemDisk as Disk>⟧.block_count disk.now ≡ 1311 }
 {
     match disk.stopped(alloc, left) {
         Ok(disk) => held(alloc, disk),
@@ -283,7 +283,7 @@ fn stops(alloc: Global, disk: &MemDisk, left: Left) -> Option<Contents>
 type Held = [Option<Contents>; 3];
 
 fn held_after(alloc: Global, disk: &MemDisk) -> Held
-    requires room { ⟦<MemDisk as Disk>⟧.block_count disk.now ≡ 1311 }
+    requires has_1311_blocks { ⟦<MemDisk as Disk>⟧.block_count disk.now ≡ 1311 }
 {
     [
         stops(alloc, disk, Left::Old),
@@ -294,7 +294,7 @@ fn held_after(alloc: Global, disk: &MemDisk) -> Held
 
 /// The disk behind this one, where that is committed on.
 fn burnt(alloc: Global, mut fuse: Fuse<MemDisk>, work: Work) -> MemDisk
-    requires room { ⟦<Fuse<MemDisk> as Disk>⟧.block_count fuse ≡ 1311 }
+    requires has_1311_blocks { ⟦<Fuse<MemDisk> as Disk>⟧.block_count fuse ≡ 1311 }
     ensures blocks { ⟦<MemDisk as Disk>⟧.block_count result ≡ 1311 }
 {
     commits(alloc, &mut fuse, work);
@@ -375,7 +375,7 @@ fn wrong_calls(alloc: Global) -> [Option<u64>; 2] {
 
 /// Whether the journal is opened on this disk, and what is held then.
 fn opened_on(alloc: Global, mut fuse: Fuse<MemDisk>) -> (bool, Held)
-    requires room { ⟦<Fuse<MemDisk> as Disk>⟧.block_count fuse ≡ 1311 }
+    requires has_1311_blocks { ⟦<Fuse<MemDisk> as Disk>⟧.block_count fuse ≡ 1311 }
 {
     let is_open = Store::open(alloc, &mut fuse, BLOCKS).is_ok();
     (is_open, held_after(alloc, &fuse.into_inner()))
@@ -383,7 +383,7 @@ fn opened_on(alloc: Global, mut fuse: Fuse<MemDisk>) -> (bool, Held)
 
 /// The same on what a stop leaves of a disk, where that dies after so many calls.
 fn opened_behind(alloc: Global, disk: &MemDisk, left: Left, calls: u64) -> Option<(bool, Held)>
-    requires room { ⟦<MemDisk as Disk>⟧.block_count disk.now ≡ 1311 }
+    requires has_1311_blocks { ⟦<MemDisk as Disk>⟧.block_count disk.now ≡ 1311 }
 {
     match disk.stopped(alloc, left) {
         Ok(disk) => Some(opened_on(alloc, Fuse::new(disk, calls))),

@@ -72,7 +72,7 @@ fn nine_of<D: Disk>(store: &mut Store, disk: &mut D, writes: &mut Writes) -> boo
 
 /// Opens the journal, and makes the nine commits.
 fn nine_on<D: Disk>(alloc: Global, disk: &mut D, writes: &mut Writes) -> bool
-    requires room { 2578 ≤ D.block_count disk.old }
+    requires at_least_2578_blocks { 2578 ≤ D.block_count disk.old }
     ensures blocks { D.block_count disk.new ≡ D.block_count disk.old }
 {
     match Store::open(alloc, disk, BLOCKS) {
@@ -82,7 +82,7 @@ fn nine_on<D: Disk>(alloc: Global, disk: &mut D, writes: &mut Writes) -> bool
 }
 
 fn nine<D: Disk>(alloc: Global, disk: &mut D) -> bool
-    requires room { 2578 ≤ D.block_count disk.old }
+    requires at_least_2578_blocks { 2578 ≤ D.block_count disk.old }
     ensures blocks { D.block_count disk.new ≡ D.block_count disk.old }
 {
     match Writes::new(alloc) {
@@ -119,7 +119,7 @@ fn first<D: Disk>(store: &Store, disk: &mut D) -> Option<u8>
 
 /// The same once the journal is opened.
 fn held(alloc: Global, mut disk: MemDisk) -> Option<u8>
-    requires room { ⟦<MemDisk as Disk>⟧.block_count disk ≡ 2578 }
+    requires has_2578_blocks { ⟦<MemDisk as Disk>⟧.block_count disk ≡ 2578 }
 {
     match Store::open(alloc, &mut disk, BLOCKS) {
         Ok(store) => first(&store, &mut disk),
@@ -129,7 +129,7 @@ fn held(alloc: Global, mut disk: MemDisk) -> Option<u8>
 
 /// The same after this stop.
 fn stops(alloc: Global, disk: &MemDisk, left: Left) -> Option<u8>
-    requires room { ⟦<MemDisk as Disk>⟧.block_count disk.now ≡ 2578 }
+    requires has_2578_blocks { ⟦<MemDisk as Disk>⟧.block_count disk.now ≡ 2578 }
 {
     match disk.stopped(alloc, left) {
         Ok(disk) => held(alloc, disk),
@@ -141,14 +141,14 @@ fn stops(alloc: Global, disk: &MemDisk, left: Left) -> Option<u8>
 type Found = (bool, [Option<u8>; 3]);
 
 fn burnt(alloc: Global, mut fuse: Fuse<MemDisk>) -> Found
-    requires room { ⟦<Fuse<MemDisk> as Disk>⟧.block_count fuse ≡ 2578 }
+    requires has_2578_blocks { ⟦<Fuse<MemDisk> as Disk>⟧.block_count fuse ≡ 2578 }
 {
     let done = nine(alloc, &mut fuse);
     (done, held_after(alloc, &fuse.into_inner()))
 }
 
 fn held_after(alloc: Global, disk: &MemDisk) -> [Option<u8>; 3]
-    requires room { ⟦<MemDisk as Disk>⟧.block_count disk.now ≡ 2578 }
+    requires has_2578_blocks { ⟦<MemDisk as Disk>⟧.block_count disk.now ≡ 2578 }
 {
     [
         stops(alloc, disk, Left::Old),

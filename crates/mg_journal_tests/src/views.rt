@@ -18,7 +18,7 @@ fn index(count: u64, home: u64) -> Block {
 /// Opens a segment, from 0 to 7, whose index has this count and this first home, with a body of this byte.
 fn open_segment(disk: &mut MemDisk, segment: u64, count: u64, home: u64, byte: u8) -> bool
     requires segment { segment < 8 }
-    requires room { 1298 ≤ ⟦<MemDisk as Disk>⟧.block_count disk.old }
+    requires at_least_1298_blocks { 1298 ≤ ⟦<MemDisk as Disk>⟧.block_count disk.old }
     ensures { ⟦<MemDisk as Disk>⟧.block_count disk.new ≡ ⟦<MemDisk as Disk>⟧.block_count disk.old }
 {
     let gate = 2 + 162 * segment;
@@ -38,7 +38,7 @@ enum Seen {
 
 fn begins(alloc: Global, disk: &mut MemDisk, i: u64) -> Seen
     requires place { i < 1400 }
-    requires room { 1400 ≤ ⟦<MemDisk as Disk>⟧.block_count disk.old }
+    requires at_least_1400_blocks { 1400 ≤ ⟦<MemDisk as Disk>⟧.block_count disk.old }
     ensures { ⟦<MemDisk as Disk>⟧.block_count disk.new ≡ ⟦<MemDisk as Disk>⟧.block_count disk.old }
 {
     let mut out: Block = [0; BLOCK_SIZE];
@@ -61,7 +61,7 @@ fn disk_of_zeros(alloc: Global) -> Option<MemDisk>
 
 // The last two blocks, where segments 2 and 5 are opened and each has a body for the last.
 fn both_on(alloc: Global, disk: &mut MemDisk) -> [Seen; 2]
-    requires room { ⟦<MemDisk as Disk>⟧.block_count disk.old ≡ 1400 }
+    requires has_1400_blocks { ⟦<MemDisk as Disk>⟧.block_count disk.old ≡ 1400 }
 {
     if !open_segment(disk, 2, 1, 1399, 7) || !open_segment(disk, 5, 1, 1399, 9) {
         return [Seen::Failed; 2];
@@ -78,7 +78,7 @@ fn in_two_segments(alloc: Global) -> [Seen; 2] {
 
 // The last block where segment 7 is opened, and how often the disk was written to.
 fn one_on(alloc: Global, disk: &mut MemDisk, count: u64, home: u64) -> (Seen, u64)
-    requires room { ⟦<MemDisk as Disk>⟧.block_count disk.old ≡ 1400 }
+    requires has_1400_blocks { ⟦<MemDisk as Disk>⟧.block_count disk.old ≡ 1400 }
 {
     if !open_segment(disk, 7, count, home, 1) {
         return (Seen::Failed, 0);

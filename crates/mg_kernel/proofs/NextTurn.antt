@@ -16,7 +16,7 @@ use Rattle.mg_model.specs.declared.seats.Seat.{Seat}
 use Rattle.mg_model.specs.Backed.{KeepsBacked, by_none}
 use Rattle.mg_model.specs.Access.{thread_of}
 use Rattle.mg_model.specs.Domains.{row_of}
-use Rattle.mg_model.specs.KeptLists.{AllPairs-head, AllPairs-tail}
+use Rattle.mg_model.specs.KeptListLemmas.{AllPairs-head, AllPairs-tail}
 use Rattle.mg_model.specs.State.{State, Thread, ThreadRow}
 use Rattle.mg_model.specs.Turn.{after_of, is_ready, next, picked, ready_above, run_next, thread_is_ready, turn_state}
 use Rattle.mg_model.specs.WellFormed.{IsWellFormed}

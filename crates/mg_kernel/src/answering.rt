@@ -31,7 +31,7 @@ pub(crate) fn answer<D: Disk, L: Ledger>(
     steps: &mut Steps<L>,
 ) -> Result<Reply, Failed>
     requires sound { IsSoundOn D.Disk v.old disk.old }
-    requires few { staged_of v.old ≤ 28 }
+    requires at_most_28_staged { staged_of v.old ≤ 28 }
     requires backed { ForSome (D.seen disk.old) (λ image. AllBacked (now_of v.old image) c.old) }
     ensures { CallServes 132 D.Disk (of_line line.now) result v.old v.new c.old c.new disk.old disk.new steps.old steps.new }
 {
@@ -42,7 +42,7 @@ pub(crate) fn answer<D: Disk, L: Ledger>(
         Call::Next => next(v, c, disk, steps),
         Call::Rent => Ok(rent(v, c)),
         _ => match v.frame(line.thread) {
-            Some(_) => called(v, c, disk, line.thread, &line.call, steps),
+            Some(_) => dispatch(v, c, disk, line.thread, &line.call, steps),
             None => Ok(Reply::No(Refusal::NoThread)),
         },
     }
@@ -50,7 +50,7 @@ pub(crate) fn answer<D: Disk, L: Ledger>(
 
 /// The call, of a thread that lives. One that is no call of a thread, as Bad, is refused (Syntax). [`Failed`] comes only where a
 /// call of the disk failed, and the state then stays.
-pub(crate) fn called<D: Disk, L: Ledger>(
+pub(crate) fn dispatch<D: Disk, L: Ledger>(
     v: &mut Volume,
     c: &mut VCache,
     disk: &mut D,
@@ -59,7 +59,7 @@ pub(crate) fn called<D: Disk, L: Ledger>(
     steps: &mut Steps<L>,
 ) -> Result<Reply, Failed>
     requires sound { IsSoundOn D.Disk v.old disk.old }
-    requires few { staged_of v.old ≤ 28 }
+    requires at_most_28_staged { staged_of v.old ≤ 28 }
     requires backed { ForSome (D.seen disk.old) (λ image. AllBacked (now_of v.old image) c.old) }
     requires lives { lives v.old t ≡ true }
     ensures { CallServes 130 D.Disk (of_living t call.now) result v.old v.new c.old c.new disk.old disk.new steps.old steps.new }

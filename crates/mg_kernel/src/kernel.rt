@@ -78,7 +78,7 @@ impl Kernel {
         steps: &mut Steps<L>,
     ) -> Result<Reply, Failed>
         requires live { IsTrue (is_live self.old) }
-        requires few { staged_of self.old ≤ 28 }
+        requires at_most_28_staged { staged_of self.old ≤ 28 }
         requires stands { StandsOn D.Disk self.old disk.old }
         ensures replies { IfOk result (λ reply. ForSome (D.seen disk.old) (λ image. reply ≡ (step (now_of self.old image) line.now).1)) }
         ensures state { OnOk result (ForSome (D.seen disk.old) (λ image. now_of self.new image ≡ (step (now_of self.old image) line.now).0)) }
@@ -114,7 +114,7 @@ impl Kernel {
         steps: &mut Steps<L>,
     ) -> Result<Option<u64>, Failed>
         requires live { IsTrue (is_live self.old) }
-        requires few { staged_of self.old ≤ 30 }
+        requires at_most_30_staged { staged_of self.old ≤ 30 }
         requires stands { StandsOn D.Disk self.old disk.old }
         ensures base { IfOk result (λ base. ForSome (D.seen disk.old) (λ image. base ≡ (if allowed (now_of self.old image) t a r then option_map (λ object. object.row.base) (at (now_of self.old image).objects a) else None))) }
         ensures same { ForSome (D.seen disk.old) (λ image. now_of self.new image ≡ now_of self.old image) }

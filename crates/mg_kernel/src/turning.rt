@@ -13,7 +13,7 @@ ghost use Rattle.mg_vcache.specs.Seats.{AllBacked, is_kept};
 ghost use Rattle.mg_volume.specs.Calls.{IsSoundOn, Serves, Stages};
 ghost use Rattle.mg_volume.specs.Meaning.{Keeps, now_of, staged_of, threads_in};
 
-use crate::answering::called;
+use crate::answering::dispatch;
 use mg_calls_dom::fetch;
 use mg_disk::Disk;
 use mg_faults::Failed;
@@ -37,7 +37,7 @@ pub(crate) fn turn<D: Disk, L: Ledger>(
     steps: &mut Steps<L>,
 ) -> Result<Reply, Failed>
     requires sound { IsSoundOn D.Disk v.old disk.old }
-    requires few { staged_of v.old ≤ 28 }
+    requires at_most_28_staged { staged_of v.old ≤ 28 }
     requires backed { ForSome (D.seen disk.old) (λ image. AllBacked (now_of v.old image) c.old) }
     ensures { CallServes 131 D.Disk (of_line (record { thread = t; call = Call.Turn })) result v.old v.new c.old c.new disk.old disk.new steps.old steps.new }
 {
@@ -65,7 +65,7 @@ pub(crate) fn next<D: Disk, L: Ledger>(
     steps: &mut Steps<L>,
 ) -> Result<Reply, Failed>
     requires sound { IsSoundOn D.Disk v.old disk.old }
-    requires few { staged_of v.old ≤ 28 }
+    requires at_most_28_staged { staged_of v.old ≤ 28 }
     requires backed { ForSome (D.seen disk.old) (λ image. AllBacked (now_of v.old image) c.old) }
     ensures { (t : ℕ) → CallServes 132 D.Disk (of_line (record { thread = t; call = Call.Next })) result v.old v.new c.old c.new disk.old disk.new steps.old steps.new }
 {
@@ -105,7 +105,7 @@ fn run<D: Disk, L: Ledger>(
     steps: &mut Steps<L>,
 ) -> Result<After, Failed>
     requires sound { IsSoundOn D.Disk v.old disk.old }
-    requires few { staged_of v.old ≤ 28 }
+    requires at_most_28_staged { staged_of v.old ≤ 28 }
     requires backed { ForSome (D.seen disk.old) (λ image. AllBacked (now_of v.old image) c.old) }
     requires row { option_map (λ thread. thread.row) (find (λ thread. thread.number == t) (threads_in v.old)) ≡ Some row.now }
     requires ready { ForSome (D.seen disk.old) (λ image. thread_is_ready (now_of v.old image) t ≡ true) }
@@ -128,7 +128,7 @@ fn run<D: Disk, L: Ledger>(
     };
     let action = begin(row, fetched);
     let made = call(row, &action);
-    match called(v, c, disk, t, &made, steps) {
+    match dispatch(v, c, disk, t, &made, steps) {
         Ok(reply) => Ok(go_on(v, t, &action, &reply)),
         Err(Failed) => Err(Failed),
     }
@@ -138,7 +138,7 @@ fn run<D: Disk, L: Ledger>(
 // where it ended itself.
 fn go_on(v: &mut Volume, t: u64, action: &Action, reply: &Reply) -> After
     requires place { HasPlace action.now }
-    requires room { staged_of v.old < body_limit }
+    requires fewer_than_160_staged { staged_of v.old < body_limit }
     ensures now { (image : List (List ℕ)) → now_of v.new image ≡ with_thread (now_of v.old image) t (λ row. resumed action.now reply.now row) }
     ensures left { (image : List (List ℕ)) → result ≡ after_of (now_of v.new image) t }
     ensures stages { Stages 1 v.old v.new }
@@ -166,8 +166,8 @@ fn after(state: ThrState) -> After
 
 // The cursor becomes the number of the thread that had the turn, at most 256.
 fn move_cursor(v: &mut Volume, t: u64)
-    requires few { t ≤ 256 }
-    requires room { staged_of v.old < body_limit }
+    requires t_at_most_256 { t ≤ 256 }
+    requires fewer_than_160_staged { staged_of v.old < body_limit }
     ensures now { (image : List (List ℕ)) → now_of v.new image ≡ at_cursor (now_of v.old image) t }
     ensures stages { Stages 1 v.old v.new }
 {

@@ -18,7 +18,7 @@ use mg_volume::Volume;
 pub(crate) fn unasked(v: &mut Volume, c: &mut VCache, t: u64, call: &Call) -> Reply
     requires asks { asks_nothing call.now ≡ true }
     requires lives { lives v.old t ≡ true }
-    requires few { staged_of v.old ≤ 28 }
+    requires at_most_28_staged { staged_of v.old ≤ 28 }
     ensures does { CallStages (Answers (λ state. thread_call state t call.now)) 3 v.old v.new result }
     ensures seats { EndsUnasked t call.now c.old c.new result }
 {

@@ -15,7 +15,7 @@ use Rattle.mg_model.specs.declared.rights.Right.TheVariants.{R}
 use Rattle.mg_model.specs.declared.slots.Pw.{Pw}
 use Rattle.mg_model.specs.Access.{based_at, gives, holds}
 use Rattle.mg_model.specs.Backed.{KeepsBacked, by_none, by_via, by_word, held_at}
-use Rattle.mg_model.specs.KeptLists.{All-both}
+use Rattle.mg_model.specs.KeptListLemmas.{All-both}
 use Rattle.mg_model.specs.Limits.{never}
 use Rattle.mg_model.specs.ObjectCalls.{create, delete, drawn, entry, ext, extension_of, has_password, is_entry, next_password, pwadd, pwdel, recharge, row_at, store, with_entry, with_row_at}
 use Rattle.mg_model.specs.Objects.{lowest_free, new_object, with_object, with_word, without_object}

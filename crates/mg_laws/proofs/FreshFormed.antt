@@ -6,11 +6,11 @@ use Rattle.std.proofs.lemmas.List.Elements.{All-cons, All-nil, All-replicate}
 use Rattle.std.proofs.lemmas.List.Kept.{AllPairs-cons}
 use Rattle.mg_model.specs.declared.accounts.AccRow.{AccRow}
 use Rattle.mg_model.specs.Draw.{password_drawn}
-use Rattle.mg_model.specs.DrawnWords.{drawn-IsWord}
+use Rattle.mg_model.specs.DrawnLemmas.{drawn-IsWord}
 use Rattle.mg_model.specs.Fresh.{first_thread, fresh, root_base, root_object, root_words}
 use Rattle.mg_laws.proofs.KeepsThreads.{HasOtherBirth}
 use Rattle.mg_laws.proofs.KeepsRows.{IsBelow}
-use Rattle.mg_model.specs.KeptLists.{AllPairs-nil}
+use Rattle.mg_model.specs.KeptListLemmas.{AllPairs-nil}
 use Rattle.mg_model.specs.Ranges.{IsCallFrame, IsEntryOf, IsPassword, IsSlot, IsWord}
 use Rattle.mg_model.specs.Settings.{Settings}
 use Rattle.mg_model.specs.State.{Object, Thread}

@@ -8,7 +8,7 @@ use Rattle.mg_model.specs.declared.accounts.AccRow.{AccRow}
 use Rattle.mg_model.specs.Bank.{account_of, all_charged, balance_of, given_to, opens, pages_of, rate_now, rent_accounts, rent_paid, taken_from, used}
 use Rattle.mg_model.specs.Limits.{account_limit, period_limit}
 use Rattle.mg_model.specs.BankCalls.{balance, open_account, pay, rent}
-use Rattle.mg_model.specs.DrawnWords.{drawn-IsWord}
+use Rattle.mg_model.specs.DrawnLemmas.{drawn-IsWord}
 use Rattle.mg_laws.proofs.Keeps.{unless_refused-keeps}
 use Rattle.mg_laws.proofs.KeepsCreate.{frames-few}
 use Rattle.mg_laws.proofs.KeepsObjects.{drawn-keeps}

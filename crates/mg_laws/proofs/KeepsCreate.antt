@@ -4,11 +4,11 @@ use Rattle.std.proofs.lemmas.Bool.{and_parts, eqb-false, leb-false, leb-true, lt
 use Rattle.std.proofs.lemmas.List.{length-replicate}
 use Rattle.std.proofs.lemmas.List.Elements.{All-nil, All-push, All-replicate}
 use Rattle.mg_model.specs.Bank.{opens, owed_by, used}
-use Rattle.mg_model.specs.DrawnWords.{drawn-IsWord}
+use Rattle.mg_model.specs.DrawnLemmas.{drawn-IsWord}
 use Rattle.mg_laws.proofs.Keeps.{unless_refused-keeps}
 use Rattle.mg_laws.proofs.KeepsObjects.{drawn-keeps, objects-keep}
 use Rattle.mg_laws.proofs.KeptAccounts.{opens-number}
-use Rattle.mg_model.specs.KeptLists.{AllPairs-nil}
+use Rattle.mg_model.specs.KeptListLemmas.{AllPairs-nil}
 use Rattle.mg_laws.proofs.KeptObjects.{AreObjects-with_object}
 use Rattle.mg_laws.proofs.Lowest.{lowest_free-exists}
 use Rattle.mg_laws.specs.Laws.{IsLowest}

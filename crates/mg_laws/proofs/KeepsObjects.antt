@@ -11,10 +11,10 @@ use Rattle.mg_model.specs.declared.rights.Right.TheVariants.{O}
 use Rattle.mg_model.specs.declared.slots.Pw.{Pw}
 use Rattle.mg_model.specs.Access.{allowed}
 use Rattle.mg_model.specs.Bank.{opens}
-use Rattle.mg_model.specs.DrawnWords.{drawn-IsWord}
+use Rattle.mg_model.specs.DrawnLemmas.{drawn-IsWord}
 use Rattle.mg_laws.proofs.Keeps.{unless_refused-keeps}
 use Rattle.mg_laws.proofs.KeptAccounts.{opens-number}
-use Rattle.mg_model.specs.KeptLists.{length-filter-le}
+use Rattle.mg_model.specs.KeptListLemmas.{length-filter-le}
 use Rattle.mg_laws.proofs.KeptObjects.{AreObjects-with_word, AreObjects-without_object, HasPlaceOf, IsPaidRow}
 use Rattle.mg_laws.proofs.KeptRowAt.{AreObjects-with_row_at}
 use Rattle.mg_model.specs.Limits.{entry_point_limit, password_limit, never}

@@ -8,7 +8,7 @@ use Rattle.std.specs.Prelude.{AllPairs, find}
 use Rattle.std.specs.Option.{option_map_or}
 use Rattle.mg_model.specs.Access.{domain_of, last_slots, thread_of}
 use Rattle.mg_model.specs.Domains.{frames_of, row_of, with_thread}
-use Rattle.mg_model.specs.KeptLists.{AllPairs-head, AllPairs-tail}
+use Rattle.mg_model.specs.KeptListLemmas.{AllPairs-head, AllPairs-tail}
 use Rattle.mg_model.specs.Ranges.{IsThreadRow}
 use Rattle.mg_model.specs.State.{State, Thread, ThreadRow}
 use Rattle.mg_model.specs.WellFormed.{AreThreads, IsFirst, IsThread, IsWellFormed}

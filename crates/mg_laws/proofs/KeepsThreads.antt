@@ -12,7 +12,7 @@ use Rattle.mg_model.specs.Domains.{row_of, with_thread}
 use Rattle.mg_laws.proofs.Keeps.{unless_refused-keeps}
 use Rattle.mg_laws.proofs.KeepsDomains.{AreSlots, aligned_from, domain_of-formed}
 use Rattle.mg_laws.proofs.KeepsRows.{IsBelow, found, thread-formed, thread_with_row, with_thread-keeps}
-use Rattle.mg_model.specs.KeptLists.{AllPairs-head, AllPairs-nil, AllPairs-tail}
+use Rattle.mg_model.specs.KeptListLemmas.{AllPairs-head, AllPairs-nil, AllPairs-tail}
 use Rattle.mg_model.specs.ObjectCalls.{is_aligned}
 use Rattle.mg_laws.proofs.Passed.{unrefused}
 use Rattle.mg_model.specs.Ranges.{IsCallFrame, IsThreadRow, IsWord}

@@ -7,7 +7,7 @@ use Rattle.std.proofs.lemmas.List.Kept.{AllPairs-cons, AllPairs-filter}
 use Rattle.std.proofs.lemmas.List.Sums.{sum_by-cons}
 use Rattle.mg_model.specs.Access.{covers}
 use Rattle.mg_model.specs.Bank.{used}
-use Rattle.mg_model.specs.KeptLists.{All-both, All-change, AllPairs-change, AllPairs-head, AllPairs-tail, length-filter-le, sum_by-change, sum_by-filter-le}
+use Rattle.mg_model.specs.KeptListLemmas.{All-both, All-change, AllPairs-change, AllPairs-head, AllPairs-tail, length-filter-le, sum_by-change, sum_by-filter-le}
 use Rattle.mg_laws.proofs.Lowest.{IsApart, is_free-true}
 use Rattle.mg_model.specs.Objects.{is_free, page_of, with_object, with_row, with_word, without_object}
 use Rattle.mg_model.specs.Ranges.{IsObjectRow, IsWord}

@@ -7,7 +7,7 @@ use Rattle.std.proofs.lemmas.Nat.{mul-le}
 use Rattle.mg_model.specs.declared.accounts.AccRow.{AccRow}
 use Rattle.mg_model.specs.Bank.{all_charged, all_paid, charged, paid, pages_of, rate_from, rate_of, used}
 use Rattle.mg_laws.proofs.KeptAccounts.{total}
-use Rattle.mg_model.specs.KeptLists.{sum_by-filter-le}
+use Rattle.mg_model.specs.KeptListLemmas.{sum_by-filter-le}
 use Rattle.mg_model.specs.State.{Object}
 use Rattle.mg_model.specs.Limits.{step_limit}
 use Rattle.mg_model.specs.Tariff.{from_at, is_tariff, rate_at}

@@ -4,7 +4,7 @@ use Rattle.std.proofs.lemmas.Bool.{cond_both}
 use Rattle.std.proofs.lemmas.List.Elements.{All-cons, All-head, All-nil, All-tail, All-weaker}
 use Rattle.std.specs.Option.{option_map_or}
 use Rattle.mg_model.specs.Access.{at, covers}
-use Rattle.mg_model.specs.KeptLists.{All-both, AllPairs-head, AllPairs-tail}
+use Rattle.mg_model.specs.KeptListLemmas.{All-both, AllPairs-head, AllPairs-tail}
 use Rattle.mg_laws.proofs.KeptObjects.{AreObjects-with_row, HasPlaceOf, IsPaidRow, are-IsPaidRow}
 use Rattle.mg_model.specs.ObjectCalls.{no_row, row_at, with_row_at}
 use Rattle.mg_model.specs.State.{Object, ObjectRow, State}

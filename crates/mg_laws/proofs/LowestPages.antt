@@ -4,7 +4,7 @@ use Rattle.std.proofs.lemmas.Bool.{and_from, and_left, and_right, cases_lt, cond
 use Rattle.std.proofs.lemmas.List.Elements.{All-cons, All-head, All-nil, All-tail}
 use Rattle.mg_model.specs.Access.{at, covers}
 use Rattle.mg_laws.proofs.KeepsCreate.{frames-few}
-use Rattle.mg_model.specs.KeptLists.{All-both}
+use Rattle.mg_model.specs.KeptListLemmas.{All-both}
 use Rattle.mg_laws.specs.Laws.{MeetsNone, TakesLowest}
 use Rattle.mg_laws.proofs.Lowest.{IsApart, apart-is_free, is_free-true, lowest_free-exists}
 use Rattle.mg_model.specs.Objects.{is_free, lowest_free, page_behind, page_of}

@@ -7,7 +7,7 @@ use Rattle.std.specs.Option.{option_map_or, option_or}
 use Rattle.mg_laws.proofs.KeepsRows.{IsBelow}
 use Rattle.mg_laws.specs.Laws.{RanNext, RunsNextReady}
 use Rattle.mg_model.specs.Access.{thread_of}
-use Rattle.mg_model.specs.KeptLists.{AllPairs-head, AllPairs-tail}
+use Rattle.mg_model.specs.KeptListLemmas.{AllPairs-head, AllPairs-tail}
 use Rattle.mg_model.specs.State.{State, Thread, ThreadRow}
 use Rattle.mg_model.specs.Turn.{is_ready, next, ready_above, run_next, thread_is_ready}
 use Rattle.mg_model.specs.WellFormed.{IsWellFormed}

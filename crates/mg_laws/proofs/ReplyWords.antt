@@ -17,11 +17,11 @@ use Rattle.mg_model.specs.Access.{allowed, at, covers, domain_of, thread_of}
 use Rattle.mg_model.specs.Bank.{balance_of, owed_by, pages_of, used}
 use Rattle.mg_model.specs.BankCalls.{balance}
 use Rattle.mg_model.specs.Domains.{frames_of}
-use Rattle.mg_model.specs.DrawnWords.{drawn-IsWord}
+use Rattle.mg_model.specs.DrawnLemmas.{drawn-IsWord}
 use Rattle.mg_laws.proofs.KeepsDomains.{domain_of-formed, find-All}
 use Rattle.mg_laws.proofs.KeepsRows.{thread-formed}
 use Rattle.mg_laws.proofs.KeepsThreads.{free_number-free}
-use Rattle.mg_model.specs.KeptLists.{sum_by-filter-le}
+use Rattle.mg_model.specs.KeptListLemmas.{sum_by-filter-le}
 use Rattle.mg_laws.proofs.KeptRegisters.{word-in_list}
 use Rattle.mg_model.specs.ObjectCalls.{about, create, entry, info, is_aligned, next_password, no_row, row_at}
 use Rattle.mg_model.specs.Limits.{first_page, page_end}

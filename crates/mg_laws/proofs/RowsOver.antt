@@ -22,7 +22,7 @@ use Rattle.mg_model.specs.Limits.{never}
 use Rattle.mg_model.specs.ObjectCalls.{about, drawn, extension_of, has_password, next_password, row_at, with_entry, with_row_at}
 use Rattle.mg_model.specs.Objects.{lowest_free, new_object, with_object, with_word, without_object, word_at}
 use Rattle.mg_model.specs.Domains.{row_of, with_last_slots, with_slots, with_thread}
-use Rattle.mg_model.specs.KeptLists.{AllPairs-head, AllPairs-tail}
+use Rattle.mg_model.specs.KeptListLemmas.{AllPairs-head, AllPairs-tail}
 use Rattle.mg_model.specs.Refused.{Answer, unless_refused}
 use Rattle.mg_model.specs.State.{State, Thread, ThreadRow}
 use Rattle.mg_model.specs.Threads.{birth_of, born, creator_of, free_number, free_number_from, is_thread, new_thread, with_new_thread}

@@ -9,9 +9,9 @@ use Rattle.mg_model.specs.Layout.{body_limit, magic, segment_count, super_block,
 use Rattle.mg_model.specs.Replay.{block_of, body_count, homes_fit, is_open, replay, segment_fits, segments_fit, writes_of, writes_since, written}
 use Rattle.mg_model.specs.Settings.{Settings}
 use Rattle.mg_model.specs.Spelling.{are_settings, super_bytes, super_fields, super_read, Spells}
-use Rattle.mg_model.specs.SuperReads.{super_read-bad, super_read-old}
+use Rattle.mg_model.specs.SuperblockLemmas.{super_read-bad, super_read-old}
 use Rattle.mg_model.specs.Volume.{Damaged, OldVolume, replayed_volume, volume, volume_behind, IsOpened}
-use Rattle.mg_model.specs.VolumeReads.{volume-opened}
+use Rattle.mg_model.specs.VolumeLemmas.{volume-opened}
 use Rattle.mg_model.specs.Words.{same_bytes}
 
 pub old_version : (image : List (List ℕ)) → IsOpened image → same_bytes magic (bytes_at (block_of image super_block) 0 8) ≡ true → number_at (block_of image super_block) 8 < version → volume image ≡ OldVolume

@@ -13,7 +13,7 @@ use Rattle.mg_model.specs.Layout.{first_frame, gate_block, gate_open, total_bloc
 use Rattle.mg_model.specs.Replay.{block_of}
 use Rattle.mg_model.specs.Settings.{Settings, within_limits}
 use Rattle.mg_model.specs.Volume.{Is, NotVolume, VolumeRead, volume, gate_byte}
-use Rattle.mg_model.specs.VolumeReads.{volume-closed, volume-same_behind, volume-short}
+use Rattle.mg_model.specs.VolumeLemmas.{volume-closed, volume-same_behind, volume-short}
 use Rattle.mg_model.specs.WellFormed.{IsSettings}
 use Rattle.mg_layout.proofs.BlocksBelow.{length-until, until-block, until-more, until-none, written-low}
 use Rattle.mg_layout.specs.FreshBelow.{fresh_until, with_block}

@@ -9,20 +9,20 @@ use Rattle.std.proofs.lemmas.List.Elements.{All-cons, All-replicate}
 use Rattle.std.proofs.lemmas.Nat.{from_le_bytes-to_le_bytes_8}
 use Rattle.mg_model.specs.declared.accounts.AccRow.{AccRow}
 use Rattle.mg_model.specs.Bytes.{are_zeros, block_words, padded_to, word_bytes, words_bytes}
-use Rattle.mg_model.specs.BytesReads.{length-words_bytes, padded_to-full}
+use Rattle.mg_model.specs.BytesLemmas.{length-words_bytes, padded_to-full}
 use Rattle.mg_model.specs.Draw.{password_drawn}
-use Rattle.mg_model.specs.DrawnWords.{drawn-IsWord}
+use Rattle.mg_model.specs.DrawnLemmas.{drawn-IsWord}
 use Rattle.mg_model.specs.Fresh.{first_thread, fresh, root_base, root_object, root_words}
 use Rattle.mg_model.specs.Layout.{account_rows, first_account_block, first_frame, first_object_block, first_thread_block, gate_open, globals_block, object_rows, segment_count, segment_gate, super_block, table_block, table_blocks, thread_rows}
 use Rattle.mg_model.specs.Limits.{first_page}
 use Rattle.mg_model.specs.Ranges.{IsWord}
 use Rattle.mg_model.specs.Replay.{block_of, is_open}
-use Rattle.mg_model.specs.RowReads.{account-live, account_fields-written, are_zeros-drop, are_zeros-replicate, block_words-words, globals-read, live_rows-first, object-live, read-free, table_entries-zeros, thread-live, words_bytes-zeros, zeros-behind, zeros-in}
+use Rattle.mg_model.specs.RowLemmas.{account-live, account_fields-written, are_zeros-drop, are_zeros-replicate, block_words-words, globals-read, live_rows-first, object-live, read-free, table_entries-zeros, thread-live, words_bytes-zeros, zeros-behind, zeros-in}
 use Rattle.mg_model.specs.Settings.{Settings}
 use Rattle.mg_model.specs.Spelling.{account_bytes, account_fields, account_read, globals_bytes, globals_fields, globals_read, object_bytes, object_fields, object_read, super_read, Spells, thread_bytes, thread_fields, thread_read}
-use Rattle.mg_model.specs.SuperReads.{super_read-written}
+use Rattle.mg_model.specs.SuperblockLemmas.{super_read-written}
 use Rattle.mg_model.specs.Volume.{Damaged, Is, account_row_bytes, fitting, live_rows, object_row_bytes, page_words, replayed_volume, rows_of, state_fits, state_spelled, table_entries, thread_row_bytes, volume, volume_behind, whole_table}
-use Rattle.mg_model.specs.VolumeReads.{rows-read, rows_with, settled-closed, state_with, volume-opened}
+use Rattle.mg_model.specs.VolumeLemmas.{rows-read, rows_with, settled-closed, state_with, volume-opened}
 use Rattle.mg_model.specs.WellFormed.{IsSettings}
 use Rattle.mg_layout.proofs.FreshBlocks.{IsOther, at_accounts, at_frame, at_globals, at_objects, at_other, at_super, at_table, at_threads}
 use Rattle.mg_layout.specs.FreshImage.{IsFreshImage, accounts_bytes, frame_bytes, fresh_bytes, is_written, objects_bytes, table_bytes}

@@ -15,7 +15,7 @@ use mg_model::Params;
 
 /// Writes the blocks behind the gate and makes sure of them.
 pub(crate) fn write_behind<D: Disk>(disk: &mut D, p: &Params) -> Result<(), Failed>
-    requires room { total_blocks p.now.frames ≤ D.block_count disk.old }
+    requires within_disk { total_blocks p.now.frames ≤ D.block_count disk.old }
     ensures any_moment { NothingPending D.Disk disk.old → ForSome (D.seen disk.old) (λ image. Leaves D.Disk disk.old disk.new (SameBut (λ i. 1 ≤ i) image)) }
     ensures written { OnOk result (D.seen disk.new ≡ option_map (fresh_until p.now (first_frame p.now.frames)) (D.seen disk.old)) }
     ensures settled { OnOk result (NothingPending D.Disk disk.new) }
@@ -30,7 +30,7 @@ pub(crate) fn write_behind<D: Disk>(disk: &mut D, p: &Params) -> Result<(), Fail
 
 // Writes a block of a fresh volume, where it is one of those that are written.
 fn write_fresh<D: Disk>(disk: &mut D, p: &Params, i: u64) -> Result<(), Failed>
-    requires room { total_blocks p.now.frames ≤ D.block_count disk.old }
+    requires within_disk { total_blocks p.now.frames ≤ D.block_count disk.old }
     requires in_range { i < total_blocks p.now.frames }
     ensures stops { TimeGoes D.Disk disk.old disk.new (Torn i (D.left_since disk.old (D.moment disk.old))) }
     ensures written { OnOk result (D.seen disk.new ≡ option_map (with_block p.now i) (D.seen disk.old)) }
@@ -46,8 +46,8 @@ fn write_fresh<D: Disk>(disk: &mut D, p: &Params, i: u64) -> Result<(), Failed>
 
 /// Whether block `i` is one of those that are written where a volume is made.
 pub(crate) fn is_written(frames: u64, i: u64) -> bool
-    requires some { 16 ≤ frames }
-    requires few { frames ≤ 65536 }
+    requires at_least_16_frames { 16 ≤ frames }
+    requires at_most_65536_frames { frames ≤ 65536 }
     ensures { result ≡ is_written frames i }
 {
     let last = Geometry::of(frames).first_frame;

@@ -55,7 +55,7 @@ pub fn format<D: Disk>(disk: &mut D, p: &Params) -> Result<(), FormatFault>
 
 // Closes the gate, writes the blocks behind it, and opens it.
 fn make<D: Disk>(disk: &mut D, p: &Params) -> Result<(), Failed>
-    requires room { total_blocks p.now.frames ≤ D.block_count disk.old }
+    requires within_disk { total_blocks p.now.frames ≤ D.block_count disk.old }
     ensures any_moment { NothingPending D.Disk disk.old → ForSome (D.seen disk.old) (λ image. Leaves D.Disk disk.old disk.new (MayFormat image p.now)) }
     ensures made { OnOk result (ReadsFresh p.now (D.seen disk.old) (D.seen disk.new)) }
     ensures settled { OnOk result (NothingPending D.Disk disk.new) }

@@ -12,11 +12,8 @@ use crate::geometry::{
 };
 use crate::superblock::write_super;
 use mg_disk::{BLOCK_SIZE, Block, GATE_OPEN};
-use mg_model::limits::{ALL_RIGHTS, NEVER};
+use mg_model::limits::{ALL_RIGHTS, NEVER, ROOT_BASE};
 use mg_model::{Params, draw};
-
-/// Where the root object lies.
-pub const ROOT_BASE: u64 = 0x0000_0001_0000_0000;
 
 /// The page of that address.
 const ROOT_PAGE: u64 = 0x0010_0000;

@@ -54,8 +54,8 @@ pub struct Geometry {
 impl Geometry {
     /// The places of a volume of so many frames, from 16 to 65,536.
     pub fn of(frames: u64) -> Geometry
-        requires some { 16 ≤ frames }
-        requires few { frames ≤ 65536 }
+        requires at_least_16_frames { 16 ≤ frames }
+        requires at_most_65536_frames { frames ≤ 65536 }
         ensures total { result.total ≡ total_blocks frames }
         ensures table { result.table ≡ table_blocks frames }
         ensures first { result.first_frame ≡ first_frame frames }

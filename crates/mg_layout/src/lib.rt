@@ -24,7 +24,7 @@ mod superblock;
 pub use bytes::{are_zeros, number_at, put_number};
 pub use filling::Filling;
 pub use formatting::{FormatFault, format};
-pub use fresh::{ROOT_BASE, fresh_block};
+pub use fresh::fresh_block;
 pub use geometry::{
     BLOCK_WORDS, BODY_LIMIT, FIRST_ACCOUNT_BLOCK, FIRST_OBJECT_BLOCK, FIRST_SEGMENT,
     FIRST_THREAD_BLOCK, GATE_BLOCK, GLOBALS_BLOCK, Geometry, SEGMENT_COUNT, SEGMENT_SIZE,

@@ -12,7 +12,7 @@ use Rattle.mg_migrate.specs.Copied.{AreCopied, AreSame, IsCopy, MayCopy, ReadsNo
 use Rattle.mg_model.specs.Layout.{gate_block, gate_open}
 use Rattle.mg_model.specs.Replay.{block_of}
 use Rattle.mg_model.specs.Volume.{NotVolume, gate_byte, volume}
-use Rattle.mg_model.specs.VolumeReads.{volume-closed}
+use Rattle.mg_model.specs.VolumeLemmas.{volume-closed}
 use Rattle.mg_model.specs.Words.{and_then}
 
 -- an image with the same blocks but at these places is told

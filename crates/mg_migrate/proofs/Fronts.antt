@@ -8,9 +8,9 @@ use Rattle.std.proofs.lemmas.List.{drop-append-le, get_or-append-add, length-dro
 use Rattle.std.proofs.lemmas.List.Folds.{list_all-append}
 use Rattle.std.proofs.Math.Bool.{and-true}
 use Rattle.mg_model.specs.Bytes.{are_zeros, number_at, numbers_at, padded_to, word_bytes, words_bytes}
-use Rattle.mg_model.specs.BytesReads.{number_at-behind, number_at-first}
+use Rattle.mg_model.specs.BytesLemmas.{number_at-behind, number_at-first}
 use Rattle.mg_model.specs.Ranges.{IsWord}
-use Rattle.mg_model.specs.RowReads.{are_zeros-replicate}
+use Rattle.mg_model.specs.RowLemmas.{are_zeros-replicate}
 use Rattle.mg_model.specs.Words.{same_bytes}
 
 -- what lies in the first of two lists

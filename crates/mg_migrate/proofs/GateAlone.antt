@@ -8,7 +8,7 @@ use Rattle.mg_layout.specs.MayFormat.{opened}
 use Rattle.mg_model.specs.Layout.{gate_block, gate_open}
 use Rattle.mg_model.specs.Replay.{block_of}
 use Rattle.mg_model.specs.Volume.{NotVolume, gate_byte, volume}
-use Rattle.mg_model.specs.VolumeReads.{volume-closed, volume-same_behind, volume-short}
+use Rattle.mg_model.specs.VolumeLemmas.{volume-closed, volume-same_behind, volume-short}
 
 pub gate_alone : (image c : Image) → SameBut (only_place gate_block) image c → (volume c ≡ NotVolume) ⊎ (volume c ≡ volume (opened image))
 gate_alone image c same = ⊎_elim opens (λ not. inl (volume-closed c not)) (cases_eq (gate_byte c) gate_open)

@@ -5,13 +5,13 @@ use Rattle.std.proofs.lemmas.Bool.{le-ltb, lt-ltb, ne_eqb}
 use Rattle.std.proofs.lemmas.List.{append-nil, take_at}
 use Rattle.std.proofs.lemmas.List.FromFn.{get_or-map-range_with_len, length-map-range_with_len}
 use Rattle.mg_model.specs.Bytes.{bytes_at, padded_to}
-use Rattle.mg_model.specs.BytesReads.{bytes_at-behind, padded_to-full}
+use Rattle.mg_model.specs.BytesLemmas.{bytes_at-behind, padded_to-full}
 use Rattle.mg_model.specs.Layout.{first_object_block, gate_open, globals_block, object_rows, segment_count, segment_gate, super_block, table_block, total_blocks}
 use Rattle.mg_model.specs.Replay.{block_of, is_open, replay}
 use Rattle.mg_model.specs.Settings.{Settings}
 use Rattle.mg_model.specs.Spelling.{super_bytes}
 use Rattle.mg_model.specs.Volume.{object_row_bytes}
-use Rattle.mg_model.specs.VolumeReads.{replay-closed}
+use Rattle.mg_model.specs.VolumeLemmas.{replay-closed}
 use Rattle.mg_migrate.proofs.LiftedRows.{length-lifted_row}
 use Rattle.mg_migrate.specs.Layout1.{table1_block}
 use Rattle.mg_migrate.specs.Lifted.{lifted, lifted_block, lifted_objects, lifted_row, object1_bytes_in}

@@ -7,7 +7,7 @@ use Rattle.mg_check.specs.Summaries.{TellsOf, summary_of}
 use Rattle.mg_check.specs.declared.examining.Summary.{Summary}
 use Rattle.mg_check.specs.declared.volume_rows.VolumeRows.{VolumeRows}
 use Rattle.mg_disk.specs.Disk.{Image, only_place}
-use Rattle.mg_disk.specs.Places.{same_as}
+use Rattle.mg_disk.specs.PlaceLemmas.{same_as}
 use Rattle.mg_disk.specs.Runs.{leaves_yet, only_image}
 use Rattle.mg_disk.specs.Stops.{Leaves, NothingPending}
 use Rattle.mg_disk.specs.declared.disk.Disk.{Ghosts}

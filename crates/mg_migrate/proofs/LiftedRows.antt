@@ -6,9 +6,9 @@ use Rattle.std.proofs.lemmas.Bool.{and_from, le-leb, and_left, and_parts, and_ri
 use Rattle.std.proofs.lemmas.List.{drop-drop, length-append, length-drop, length-replicate, length-take, take-append-drop}
 use Rattle.std.proofs.lemmas.Option.{same_Some}
 use Rattle.mg_model.specs.Bytes.{are_zeros, bytes_at, number_at, words_bytes}
-use Rattle.mg_model.specs.BytesReads.{length-padded_to, length-words_bytes}
+use Rattle.mg_model.specs.BytesLemmas.{length-padded_to, length-words_bytes}
 use Rattle.mg_model.specs.Limits.{never}
-use Rattle.mg_model.specs.RowReads.{are_zeros-replicate, read-free}
+use Rattle.mg_model.specs.RowLemmas.{are_zeros-replicate, read-free}
 use Rattle.mg_model.specs.Spelling.{Read, live_if, object_bytes, object_fields, object_read}
 use Rattle.mg_model.specs.State.{ObjectRow}
 use Rattle.mg_model.specs.Tests.{is_object_row}

@@ -17,7 +17,7 @@ use Rattle.mg_model.specs.Spelling.{Read, account_read, globals_read, object_rea
 use Rattle.mg_model.specs.State.{Counters, Object, ObjectRow, State, ThreadRow}
 use Rattle.mg_model.specs.Tests.{all_distinct}
 use Rattle.mg_model.specs.Volume.{Damaged, Is, Rows, account_row_bytes, accounts_fit, are_apart, bound_pages, fitting, has_no_gap, is_page_of, live_rows, object_row_bytes, objects_fit, objects_spelled, page_words, pages_words, replayed_volume, rows_of, state_fits, state_spelled, table_entries, table_fits, thread_row_bytes, threads_fit, whole_table, with_live}
-use Rattle.mg_model.specs.VolumeReads.{live_rows-same, rows_from, rows_with, state_with}
+use Rattle.mg_model.specs.VolumeLemmas.{live_rows-same, rows_from, rows_with, state_with}
 use Rattle.mg_model.specs.Words.{and_then}
 use Rattle.mg_migrate.proofs.LiftedBlocks.{at_behind, at_row, block-of-lifted, object-row-lifted}
 use Rattle.mg_migrate.proofs.LiftedRows.{lifted-read}

@@ -8,10 +8,10 @@ use Rattle.mg_model.specs.Layout.{magic, super_block, total_blocks}
 use Rattle.mg_model.specs.Replay.{block_of}
 use Rattle.mg_model.specs.Settings.{Settings, within_limits}
 use Rattle.mg_model.specs.Spelling.{Spells, are_settings, step_words, super_bytes, super_fields, super_read}
-use Rattle.mg_model.specs.SuperReads.{super_read-back}
+use Rattle.mg_model.specs.SuperblockLemmas.{super_read-back}
 use Rattle.mg_model.specs.Tariff.{is_tariff}
 use Rattle.mg_model.specs.Volume.{volume, volume_behind}
-use Rattle.mg_model.specs.VolumeReads.{settled-closed, settled-same, volume-opened}
+use Rattle.mg_model.specs.VolumeLemmas.{settled-closed, settled-same, volume-opened}
 use Rattle.mg_model.specs.Words.{same_bytes}
 use Rattle.mg_migrate.proofs.Fronts.{same_bytes-tells}
 use Rattle.mg_migrate.proofs.LiftedBlocks.{at_super, block-of-lifted, closed, length-lifted}

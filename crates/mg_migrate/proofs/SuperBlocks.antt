@@ -6,11 +6,11 @@ use Rattle.std.proofs.Math.ListN.{set}
 use Rattle.std.proofs.lemmas.Bool.{and_parts, cases_Bool, cond_both, le-ltb, lt-ltb}
 use Rattle.std.proofs.lemmas.List.{drop-set-lt, get_or-drop, get_or-take, set-get_or}
 use Rattle.mg_model.specs.Bytes.{bytes_at, number_at}
-use Rattle.mg_model.specs.BytesReads.{same_bytes-refl}
+use Rattle.mg_model.specs.BytesLemmas.{same_bytes-refl}
 use Rattle.mg_model.specs.Layout.{magic}
 use Rattle.mg_model.specs.Settings.{Settings, within_limits}
 use Rattle.mg_model.specs.Spelling.{BadSuper, NotSuper, OldSuper, Spells, SuperRead, are_settings, steps_at, super_bytes, super_fields, super_read}
-use Rattle.mg_model.specs.SuperReads.{super_read-back}
+use Rattle.mg_model.specs.SuperblockLemmas.{super_read-back}
 use Rattle.mg_model.specs.Tariff.{is_tariff}
 use Rattle.mg_model.specs.Words.{same_bytes}
 use Rattle.mg_migrate.proofs.Fronts.{same_bytes-tells}

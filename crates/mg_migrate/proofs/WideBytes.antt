@@ -9,9 +9,9 @@ use Rattle.std.proofs.lemmas.List.Folds.{list_all-append}
 use Rattle.mg_model.specs.declared.slots.Pw.{Pw}
 use Rattle.mg_model.specs.declared.slots.Slot.{Slot}
 use Rattle.mg_model.specs.Bytes.{are_zeros, number_at, numbers_at, padded_to, words_bytes}
-use Rattle.mg_model.specs.BytesReads.{length-padded_to, length-words_bytes, same_bytes-refl}
+use Rattle.mg_model.specs.BytesLemmas.{length-padded_to, length-words_bytes, same_bytes-refl}
 use Rattle.mg_model.specs.Limits.{never}
-use Rattle.mg_model.specs.RowReads.{are_zeros-replicate}
+use Rattle.mg_model.specs.RowLemmas.{are_zeros-replicate}
 use Rattle.mg_model.specs.Spelling.{Read, live_if, object_bytes, object_fields, object_head, object_read}
 use Rattle.mg_model.specs.State.{ObjectRow}
 use Rattle.mg_model.specs.Tests.{is_object_row}

@@ -4,7 +4,7 @@ use Rattle.std.proofs.Common.{refl, sym, ap, ◌∙◌, arith, append_assoc}
 use Rattle.std.proofs.Math.ListN.{get_or-append}
 use Rattle.std.proofs.lemmas.List.{length-replicate, length-append}
 use Rattle.mg_model.specs.Bytes.{number_at, numbers_at, words_bytes}
-use Rattle.mg_model.specs.BytesReads.{number_at-behind, numbers_at-behind}
+use Rattle.mg_model.specs.BytesLemmas.{number_at-behind, numbers_at-behind}
 use Rattle.mg_model.specs.Limits.{never}
 use Rattle.mg_model.specs.Ranges.{IsWord}
 use Rattle.mg_model.specs.Spelling.{extension_at, object_fields, passwords_at}

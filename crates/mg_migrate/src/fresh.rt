@@ -5,8 +5,8 @@ ghost use Rattle.mg_migrate.specs.Layout1.{total1_blocks};
 
 use crate::superblock::write_super1;
 use mg_disk::Block;
-use mg_layout::{FIRST_OBJECT_BLOCK, Filling, ROOT_BASE, SUPER_BLOCK, TABLE_BLOCK, fresh_block};
-use mg_model::limits::ALL_RIGHTS;
+use mg_layout::{FIRST_OBJECT_BLOCK, Filling, SUPER_BLOCK, TABLE_BLOCK, fresh_block};
+use mg_model::limits::{ALL_RIGHTS, ROOT_BASE};
 use mg_model::{Params, draw};
 
 /// The first block of the frame table in version 1.

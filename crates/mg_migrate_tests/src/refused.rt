@@ -4,6 +4,7 @@ use crate::images::{
 };
 use crate::telling::{Told, is_told, line_tells, migrates, outcome};
 use mg_disk::{Counts, Fuse, Left, MemDisk};
+use mg_model::limits::ROOT_BASE as ROOT;
 use mg_testing::{SEED, volume};
 use std::alloc::Global;
 use std::process::Abort;
@@ -18,8 +19,6 @@ const DAMAGED: Told = (2, "open damaged\n");
 
 // The word that a superblock begins with, the bytes MUNGIVOL.
 const MAGIC: u64 = 0x4c4f_5649_474e_554d;
-
-const ROOT: u64 = 0x1_0000_0000;
 
 const ROOT_PAGE: u64 = 0x10_0000;
 

@@ -45,11 +45,11 @@ pub mod Volume
 pub mod Filled
 pub mod Counts
 -- Lemmas that crates above cite. None of them is part of a statement.
-pub mod BytesReads
-pub mod DrawnWords
+pub mod BytesLemmas
+pub mod DrawnLemmas
 pub mod FilledLemmas
-pub mod KeptLists
-pub mod RowReads
-pub mod SuperReads
-pub mod TestsTell
-pub mod VolumeReads
+pub mod KeptListLemmas
+pub mod RowLemmas
+pub mod SuperblockLemmas
+pub mod RowTestLemmas
+pub mod VolumeLemmas

@@ -1,5 +1,5 @@
 -- One line is one step.
-use Rattle.std.specs.Prelude.{List, [], ◌∷◌, ℕ, if◌then◌else◌, take}
+use Rattle.std.specs.Prelude.{List, [], ◌∷◌, ℕ, if◌then◌else◌}
 use Rattle.mg_model.specs.declared.calls.Call.{Call}
 use Rattle.mg_model.specs.declared.calls.Call.TheVariants as call
 use Rattle.mg_model.specs.declared.calls.Line.{Line}
@@ -31,7 +31,3 @@ step state line = step_of state line.thread line.call
 abbrev pub after : State → List Line → State
 after state [] = state
 after state (line ∷ more) = after (step state line).0 more
-
--- the state after the first k of these lines
-abbrev pub prefix : State → List Line → ℕ → State
-prefix state lines k = after state (take k lines)

@@ -62,7 +62,7 @@ impl<T: Filler, const N: usize> Few<T, N> {
     /// The items.
     pub fn as_slice(&self) -> &[T]
         ensures value { result.now ≡ self.now }
-        ensures few { length self.now ≤ N }
+        ensures at_most_ { length self.now ≤ N }
     {
         &self.items[..self.count]
     }

@@ -78,8 +78,8 @@ impl Globals {
 
     /// Another number of passwords drawn, from 2 to `2^32`.
     pub fn set_draws(&mut self, draws: u64)
-        requires some { 2 ≤ draws }
-        requires few { draws ≤ 2 ^ 32 }
+        requires at_least_2_draws { 2 ≤ draws }
+        requires draws_at_most_2_32 { draws ≤ 2 ^ 32 }
         ensures { self.new ≡ record self.old { draws = draws } }
     {
         self.draws = draws;
@@ -103,8 +103,8 @@ impl Globals {
 
     /// Another last birth number, from 1 to `2^32 - 1`.
     pub fn set_births(&mut self, births: u64)
-        requires some { 1 ≤ births }
-        requires few { births ≤ 2 ^ 32 - 1 }
+        requires births_at_least_1 { 1 ≤ births }
+        requires births_below_2_32 { births ≤ 2 ^ 32 - 1 }
         ensures { self.new ≡ record self.old { births = births } }
     {
         self.births = births;

@@ -3,6 +3,9 @@
 /// The bytes of a page.
 pub const PAGE_SIZE: u64 = 4096;
 
+/// The base of the root object of a fresh machine.
+pub const ROOT_BASE: u64 = 0x0000_0001_0000_0000;
+
 /// The first page that an object may have.
 pub const FIRST_PAGE: u64 = 1 << 20;
 

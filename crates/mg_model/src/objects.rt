@@ -161,7 +161,7 @@ impl ObjRow {
 
     /// One password row more, the last; its until is from 1 to `2^24`.
     pub fn add_password(&mut self, pw: Pw)
-        requires room { length self.old.passwords < 32 }
+        requires fewer_than_32_passwords { length self.old.passwords < 32 }
         requires begins { 1 ≤ pw.until }
         requires ends { pw.until ≤ never }
         ensures { self.new ≡ record self.old { passwords = self.old.passwords ++ pw ∷ [] } }
@@ -178,7 +178,7 @@ impl ObjRow {
 
     /// One entry more, the last: the address of a word of the object that is no entry yet.
     pub fn add_entry(&mut self, a: u64)
-        requires room { length self.old.entries < 16 }
+        requires fewer_than_16_entries { length self.old.entries < 16 }
         requires place { IsEntryOf self.old.base self.old.pages a }
         requires once { is_entry self.old a ≡ false }
         ensures { self.new ≡ record self.old { entries = self.old.entries ++ a ∷ [] } }
@@ -196,8 +196,8 @@ impl ObjRow {
 
     /// Another account that pays for it, from 1 to 1024.
     pub fn set_account(&mut self, n: u64)
-        requires some { 1 ≤ n }
-        requires few { n ≤ 1024 }
+        requires n_at_least_1 { 1 ≤ n }
+        requires n_at_most_1024 { n ≤ 1024 }
         ensures { self.new ≡ record self.old { account = n } }
     {
         self.account = n;

@@ -35,7 +35,7 @@ impl Refusal {
     /// Its number as a script sees it, from 1 on.
     pub fn number(self) -> u64
         ensures value { result ≡ refusal_number self }
-        ensures few { result < 23 }
+        ensures below_23 { result < 23 }
     {
         match self {
             Refusal::Syntax => 1,

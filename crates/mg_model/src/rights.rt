@@ -52,7 +52,7 @@ impl Rights {
     /// The set with these bits, if they are from 1 to 63.
     pub fn new(bits: u8) -> Option<Rights>
         ensures given { IfSome result (λ rights. rights ≡ bits) }
-        ensures some { IsSome result ↔ IsRights bits }
+        ensures is_some { IsSome result ↔ IsRights bits }
     {
         if bits >= 1 && bits <= ALL_RIGHTS {
             Some(Rights { bits })

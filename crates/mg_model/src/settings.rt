@@ -48,8 +48,8 @@ impl Params {
     /// How many frames the volume has: the most pages that its objects may have together.
     pub fn frames(&self) -> u64
         ensures value { result ≡ self.now.frames }
-        ensures some { 16 ≤ result }
-        ensures few { result ≤ 65536 }
+        ensures at_least_16 { 16 ≤ result }
+        ensures at_most_65536 { result ≤ 65536 }
     {
         self.frames
     }
@@ -64,7 +64,7 @@ impl Params {
     /// The credits that all balances sum to.
     pub fn credits(&self) -> u64
         ensures value { result ≡ self.now.credits }
-        ensures few { result ≤ 4611686018427387904 }
+        ensures at_most_2_62 { result ≤ 4611686018427387904 }
     {
         self.credits
     }

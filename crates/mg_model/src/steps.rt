@@ -24,7 +24,7 @@ impl<L: Ledger> Steps<L> {
     pub fn new(blank: Blank) -> Self
         requires name { blank.name ≡ L.name }
         requires parts { blank.parts ≡ L.parts }
-        requires some { 0 < blank.parts }
+        requires has_parts { 0 < blank.parts }
         ensures { result ≡ 0 }
     {
         let (book, share) = blank.open::<L>();

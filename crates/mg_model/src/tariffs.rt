@@ -48,8 +48,8 @@ impl Tariff {
 
     /// The tariff that a volume of so many frames has where none is given.
     pub fn usual(frames: u64) -> Tariff
-        requires some { 16 ≤ frames }
-        requires few { frames ≤ 65536 }
+        requires at_least_16_frames { 16 ≤ frames }
+        requires at_most_65536_frames { frames ≤ 65536 }
         ensures { result ≡ usual_tariff frames }
     {
         Tariff {

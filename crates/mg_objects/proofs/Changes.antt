@@ -5,7 +5,7 @@ use Rattle.std.proofs.Common.{refl, sym, ap, ◌∙◌, subst, ⊎_elim, arith}
 use Rattle.std.proofs.lemmas.Bool.{cases_Bool, cases_lt, cases_eq, eq-eqb, le-ltb, lt-ltb, ltb-false, ltb-true, ne_eqb}
 use Rattle.std.proofs.lemmas.List.Elements.{All-cons, All-filter, All-head, All-tail}
 use Rattle.std.proofs.lemmas.List.Kept.{AllPairs-cons}
-use Rattle.mg_model.specs.KeptLists.{AllPairs-head, AllPairs-nil, AllPairs-tail}
+use Rattle.mg_model.specs.KeptListLemmas.{AllPairs-head, AllPairs-nil, AllPairs-tail}
 use Rattle.mg_model.specs.State.{ObjectRow}
 use Rattle.mg_objects.specs.Held.{by_base, into_place, live_from, objects_in, with_row}
 use Rattle.mg_objects.proofs.Lists.{filter-all, map-same}

@@ -10,7 +10,7 @@ use Rattle.std.proofs.lemmas.List.Kept.{AllPairs-filter}
 use Rattle.std.proofs.lemmas.List.Elements.{All-replicate, All-set}
 use Rattle.std.proofs.lemmas.List.Quantifiers.{position-Some}
 use Rattle.mg_index.specs.Pairs.{Ascends, IsExact}
-use Rattle.mg_index.specs.Places.{nowhere_any}
+use Rattle.mg_index.specs.PlaceLemmas.{nowhere_any}
 use Rattle.mg_index.specs.Words.{numbers_in, unless_within}
 use Rattle.mg_model.specs.Objects.{page_behind, page_of}
 use Rattle.mg_model.specs.Ranges.{IsObjectRow}

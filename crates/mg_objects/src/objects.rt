@@ -52,8 +52,8 @@ impl Objects {
     /// The objects of a table of at most 4,096 places, which has room for 4,096 and is kept as it is. There are none where
     /// two of its rows share a page. All memory that they will need beside it is taken here.
     pub fn of(alloc: Global, table: Vec<Option<ObjRow>>) -> Result<Option<Objects>, AllocError>
-        requires few { length table.items ≤ object_limit }
-        requires room { object_limit ≤ vec_capacity table }
+        requires at_most_4096_rows { length table.items ≤ object_limit }
+        requires has_capacity { object_limit ≤ vec_capacity table }
         ensures { IfOk result (λ made. MatchOption made (AreApart (objects_in table.items) → ⊥) (λ objects. objects ≡ objects_in table.items)) }
     {
         let numbers = bases_of(alloc, &table)?;
@@ -72,7 +72,7 @@ impl Objects {
     /// How many objects there are, 4,096 at most. No two share a page, and each has a place of its own.
     pub fn len(&self) -> usize
         ensures count { result ≡ length self.now }
-        ensures few { result ≤ object_limit }
+        ensures at_most_4096 { result ≤ object_limit }
         ensures apart { AreApart self.now }
         ensures places { All (λ o. o.0 < object_limit) self.now }
         ensures rows { All (λ o. IsObjectRow o.1) self.now }
@@ -136,7 +136,7 @@ impl Objects {
 
     /// One object more, in the lowest place that is free, and gives that place. It shares no page with another.
     pub fn insert(&mut self, row: ObjRow) -> u64
-        requires few { length self.old < object_limit }
+        requires fewer_than_4096 { length self.old < object_limit }
         requires apart { MeetsNone row self.old }
         ensures objects { self.new ≡ into_place (result, row) self.old }
         ensures place { IsLowestFree result self.old }

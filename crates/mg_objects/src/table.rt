@@ -50,11 +50,11 @@ fn pad(numbers: &mut Vec<u64>, places: u64) -> Result<(), AllocError>
 pub(crate) fn put_row(table: &mut Vec<Option<ObjRow>>, place: u64, row: ObjRow)
     requires within { place ≤ length table.old.items }
     requires place { place < object_limit }
-    requires few { length table.old.items ≤ object_limit }
-    requires room { object_limit ≤ vec_capacity table.old }
+    requires at_most_4096_rows { length table.old.items ≤ object_limit }
+    requires has_capacity { object_limit ≤ vec_capacity table.old }
     ensures put { whole table.new.items ≡ slice_set (whole table.old.items) place (Some row) }
-    ensures few { length table.new.items ≤ object_limit }
-    ensures room { object_limit ≤ vec_capacity table.new }
+    ensures at_most_4096_rows { length table.new.items ≤ object_limit }
+    ensures has_capacity { object_limit ≤ vec_capacity table.new }
 {
     if place < table.len() as u64 {
         table[place as usize] = Some(row);
@@ -79,7 +79,7 @@ fn base_of(row: &Option<ObjRow>) -> u64
 
 /// The row of this rank in the order of the bases, 0 for the first, where the pairs are those of all bases and places.
 pub(crate) fn row_of<'a>(table: &'a [Option<ObjRow>], pairs: &[(u64, u64)], i: usize) -> &'a ObjRow
-    requires few { length table.now ≤ object_limit }
+    requires at_most_4096_rows { length table.now ≤ object_limit }
     requires listed { map key_of (objects_in table.now) ≡ pairs.now }
     requires rank { i < length (objects_in table.now) }
     ensures { HoldsAt (λ o. result.now ≡ o.1) (objects_in table.now) i }
@@ -93,7 +93,7 @@ pub(crate) fn row_of<'a>(table: &'a [Option<ObjRow>], pairs: &[(u64, u64)], i: u
 
 /// Whether no two of the objects share a page, where the pairs are those of all bases and places.
 pub(crate) fn are_apart(table: &[Option<ObjRow>], pairs: &[(u64, u64)]) -> bool
-    requires few { length table.now ≤ object_limit }
+    requires at_most_4096_rows { length table.now ≤ object_limit }
     requires listed { map key_of (objects_in table.now) ≡ pairs.now }
     ensures apart { result ≡ true → AreApart (objects_in table.now) }
     ensures meet { result ≡ false → AreApart (objects_in table.now) → ⊥ }

@@ -3,10 +3,10 @@ use Rattle.std.specs.Prelude.{◌≡◌, ◌<◌, ℕ, true, List, [], length, O
 use Rattle.std.specs.Option.{option_map_or}
 use Rattle.std.proofs.Common.{sym, ap, ◌∙◌, arith}
 use Rattle.mg_disk.specs.Disk.{Image, block_at}
-use Rattle.mg_journal.specs.Facts.{open_writes, replayed-is}
+use Rattle.mg_journal.specs.JournalLemmas.{open_writes, replayed-is}
 use Rattle.mg_journal.specs.Staged.{are_once, waiting}
 use Rattle.mg_journal.specs.Standing.{IsFitting, fitting_replays, total_of}
-use Rattle.mg_journal.specs.WrittenOver.{written_elsewhere}
+use Rattle.mg_journal.specs.WrittenLemmas.{written_elsewhere}
 use Rattle.mg_journal.specs.Held.{Store}
 use Rattle.mg_model.specs.Replay.{replay}
 use Rattle.mg_pages.proofs.Staging.{written-none, written-waiting}

@@ -7,7 +7,7 @@ use Rattle.mg_disk.specs.declared.disk.Disk.{Ghosts}
 use Rattle.mg_journal.specs.ResultLemmas.{some_of}
 use Rattle.mg_journal.specs.Contents.{InJournal, NewContents, SameContents}
 use Rattle.mg_journal.specs.Standing as journal
-use Rattle.mg_journal.specs.WrittenOver.{written_elsewhere}
+use Rattle.mg_journal.specs.WrittenLemmas.{written_elsewhere}
 use Rattle.mg_journal.specs.Held.{Store}
 use Rattle.mg_model.specs.Layout.{first_frame, table_block, table_blocks}
 use Rattle.mg_model.specs.Replay.{replay, written}

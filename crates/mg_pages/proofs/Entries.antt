@@ -6,7 +6,7 @@ use Rattle.std.proofs.lemmas.List.{drop_at, ext_get_or, get_or-append-add, get_o
 use Rattle.mg_disk.specs.Disk.{Image, block_at}
 use Rattle.mg_model.specs.Bytes.{are_zeros, block_words, number_at}
 use Rattle.mg_model.specs.Layout.{table_block, table_blocks}
-use Rattle.mg_model.specs.RowReads.{are_zeros-replicate}
+use Rattle.mg_model.specs.RowLemmas.{are_zeros-replicate}
 use Rattle.mg_model.specs.Volume.{table_entries, table_of, whole_table}
 use Rattle.mg_pages.proofs.Numbers.{number-of}
 use Rattle.mg_pages.specs.Lengths.{length-numbers}

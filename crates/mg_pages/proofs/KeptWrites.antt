@@ -6,7 +6,7 @@ use Rattle.std.proofs.lemmas.Bool.{and_parts, ltb-true}
 use Rattle.std.proofs.lemmas.List.{get_or-set_other, get_or-set_same, take_more}
 use Rattle.mg_disk.specs.Disk.{Image, block_at}
 use Rattle.mg_journal.specs.Staged.{bytes_of, home_at}
-use Rattle.mg_journal.specs.WrittenOver.{written-append, written_elsewhere}
+use Rattle.mg_journal.specs.WrittenLemmas.{written-append, written_elsewhere}
 use Rattle.mg_model.specs.Layout.{globals_block}
 use Rattle.mg_model.specs.Replay.{homes_fit, written}
 use Rattle.mg_pages.specs.Kept.{AreKept, KeepsSame, KeepsThis}

@@ -8,7 +8,7 @@ use Rattle.mg_disk.specs.Disk.{Image, block_at}
 use Rattle.mg_frames.specs.Distinct.{distinct-released}
 use Rattle.mg_frames.specs.Places.{nowhere, position-here, position-there}
 use Rattle.mg_frames.specs.Words.{is_within, unless_within}
-use Rattle.mg_journal.specs.WrittenOver.{written_elsewhere}
+use Rattle.mg_journal.specs.WrittenLemmas.{written_elsewhere}
 use Rattle.mg_journal.specs.Held.{Store}
 use Rattle.mg_model.specs.Layout.{body_limit, first_frame, table_block, table_blocks, total_blocks}
 use Rattle.mg_model.specs.Volume.{page_words}

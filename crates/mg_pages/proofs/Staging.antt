@@ -9,7 +9,7 @@ use Rattle.mg_disk.specs.Disk.{Image, block_at}
 use Rattle.mg_frames.specs.Places.{position-here, position-there}
 use Rattle.mg_journal.specs.Contents.{names}
 use Rattle.mg_journal.specs.Staged.{are_once, goes_to, staged, waiting}
-use Rattle.mg_journal.specs.WrittenOver.{written_elsewhere}
+use Rattle.mg_journal.specs.WrittenLemmas.{written_elsewhere}
 use Rattle.mg_model.specs.Layout.{globals_block}
 use Rattle.mg_model.specs.Replay.{homes_fit, written}
 

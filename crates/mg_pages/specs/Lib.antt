@@ -7,6 +7,6 @@ pub mod Entries
 pub mod Parts
 pub mod Committing
 -- Lemmas that crates above cite. None of them is part of a statement.
-pub mod Coming
+pub mod ComingLemmas
 pub mod Laws
 pub mod Lengths

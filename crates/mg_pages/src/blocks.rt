@@ -57,7 +57,7 @@ impl Blocks {
     /// How many blocks are staged.
     pub(crate) fn staged(&self) -> usize
         ensures count { result ≡ length self.now.writes }
-        ensures few { result ≤ body_limit }
+        ensures at_most_160 { result ≤ body_limit }
     {
         self.writes.len()
     }
@@ -71,7 +71,7 @@ impl Blocks {
 
     /// Stages a block, in place of what was staged of it.
     pub(crate) fn stage(&mut self, block: u64, from: &Block)
-        requires room { IsSome (position (goes_to block) self.old.writes) ⊎ (length self.old.writes < body_limit) }
+        requires there_or_fewer_than_160 { IsSome (position (goes_to block) self.old.writes) ⊎ (length self.old.writes < body_limit) }
         ensures { self.new ≡ with_writes self.old (staged self.old.writes block from.now) }
     {
         self.writes.stage(block, from);
@@ -156,7 +156,7 @@ impl Blocks {
         requires place { block < total_of self.old.store }
         requires index { index < 512 }
         requires once { are_once self.old.writes ≡ true }
-        requires room { length self.old.writes < body_limit }
+        requires fewer_than_160_writes { length self.old.writes < body_limit }
         ensures staged { OnOk result (StagesBlock self.old.writes self.new.writes block (λ bytes. ForSome (D.seen disk.old) (λ image. (first : ℕ) → AreKept first (replayed (total_of self.old.store) image) self.old.kept
             → block_words bytes ≡ slice_set (block_words (block_at (coming_of self.old.store self.old.writes image) block)) index value))) }
         ensures failed { OnErr result (self.new.writes ≡ self.old.writes) }
@@ -181,7 +181,7 @@ impl Blocks {
     fn stage_whole<D: Disk>(&mut self, disk: &mut D, block: u64) -> Result<(), Failed>
         requires stands { Stands D.Disk self.old.store disk.old }
         requires place { block < total_of self.old.store }
-        requires room { length self.old.writes < body_limit }
+        requires fewer_than_160_writes { length self.old.writes < body_limit }
         ensures staged { OnOk result (StagesBlock self.old.writes self.new.writes block (λ bytes. ForSome (D.seen disk.old) (λ image. (first : ℕ) → AreKept first (replayed (total_of self.old.store) image) self.old.kept
             → bytes ≡ block_at (replayed (total_of self.old.store) image) block))) }
         ensures failed { OnErr result (self.new.writes ≡ self.old.writes) }
@@ -201,7 +201,7 @@ impl Blocks {
     fn stage_read<D: Disk>(&mut self, disk: &mut D, block: u64) -> Result<(), Failed>
         requires stands { Stands D.Disk self.old.store disk.old }
         requires place { block < total_of self.old.store }
-        requires room { length self.old.writes < body_limit }
+        requires fewer_than_160_writes { length self.old.writes < body_limit }
         ensures staged { OnOk result (StagesBlock self.old.writes self.new.writes block (λ bytes. ForSome (D.seen disk.old) (λ image. bytes ≡ block_at (replayed (total_of self.old.store) image) block))) }
         ensures failed { OnErr result (self.new.writes ≡ self.old.writes) }
         ensures keeps { (first : ℕ) → first ≤ block → KeepsMore (D.seen disk.old) first self.old self.new }

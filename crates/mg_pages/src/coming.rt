@@ -26,7 +26,7 @@ pub(crate) fn page_word<D: Disk>(
     index: u64,
 ) -> Result<u64, Failed>
     requires stands { Stands D.Disk blocks.old.store disk.old }
-    requires some { 16 ≤ length frames.now }
+    requires at_least_16_frames { 16 ≤ length frames.now }
     requires size { total_of blocks.old.store ≡ total_blocks (length frames.now) }
     requires page { page ≢ 0 }
     requires index { index < 512 }

@@ -60,7 +60,7 @@ impl Kept {
 
     /// Stages a copy of a block that is kept, and says whether it is.
     pub(crate) fn stage(&self, block: u64, writes: &mut Writes) -> bool
-        requires room { length writes.old < body_limit }
+        requires fewer_than_160_writes { length writes.old < body_limit }
         ensures kept { result ≡ is_some (kept_at self.now block) }
         ensures staged { MatchOption (kept_at self.now block) (writes.new ≡ writes.old) (λ bytes. writes.new ≡ staged writes.old block bytes) }
     {

@@ -46,8 +46,8 @@ impl Pages {
     /// The pages of a volume with this journal and these entries of its frame table, one a frame, 16 to 65,536 of them: the
     /// page that the frame holds, or 0. No page stands there twice. All memory that they will need is taken here.
     pub fn open(alloc: Global, store: Store, entries: Vec<u64>) -> Result<Pages, AllocError>
-        requires some { 16 ≤ length entries.items }
-        requires few { length entries.items ≤ 65536 }
+        requires at_least_16_entries { 16 ≤ length entries.items }
+        requires at_most_65536_entries { length entries.items ≤ 65536 }
         requires total { journal.total_of store ≡ total_blocks (length entries.items) }
         requires distinct { all_distinct (bound_pages entries.items) ≡ true }
         ensures store { IfOk result (λ p. store_of p ≡ store) }
@@ -138,7 +138,7 @@ impl Pages {
         requires page { page ≢ 0 }
         requires frame { (is_bound self.old page ≡ true) ⊎ (is_bound self.old 0 ≡ true) }
         requires index { index < 512 }
-        requires few { staged_of self.old ≤ 158 }
+        requires at_most_158_staged { staged_of self.old ≤ 158 }
         ensures sets { OnOk result (ForSome (D.seen disk.old) (λ image. SetsWord self.old self.new image page index value)) }
         ensures binds { BindsOnly page self.old self.new }
         ensures failed { OnErr result (Keeps self.old self.new) }
@@ -163,7 +163,7 @@ impl Pages {
     pub fn stage(&mut self, block: u64, from: &Block)
         requires low { globals_block ≤ block }
         requires high { block < table_block }
-        requires room { (is_staged self.old block ≡ true) ⊎ (staged_of self.old < body_limit) }
+        requires staged_or_fewer_than_160 { (is_staged self.old block ≡ true) ⊎ (staged_of self.old < body_limit) }
         ensures coming { (image : List (List ℕ)) → coming self.new image ≡ slice_set (coming self.old image) block from.now }
         ensures table { table_in self.new ≡ table_in self.old }
         ensures shape { SameShape self.old self.new }
@@ -201,7 +201,7 @@ impl Pages {
     /// How many blocks are staged, 0 to 160.
     pub fn staged(&self) -> usize
         ensures staged { result ≡ staged_of self.now }
-        ensures few { result ≤ body_limit }
+        ensures at_most_160 { result ≤ body_limit }
         ensures kept { IsKept self.now }
     {
         self.blocks.staged()

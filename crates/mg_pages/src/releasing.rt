@@ -16,10 +16,10 @@ const MOST_BLOCKS: usize = 128;
 
 /// Frees the frames of all pages in a range, and stages each block of the frame table that changes.
 pub(crate) fn release_pages(blocks: &mut Blocks, frames: &mut Frames, first: u64, pages: u64)
-    requires some { 16 ≤ length frames.old }
-    requires few { length frames.old ≤ 65536 }
+    requires at_least_16_frames { 16 ≤ length frames.old }
+    requires at_most_65536_frames { length frames.old ≤ 65536 }
     requires once { are_once blocks.old.writes ≡ true }
-    requires room { length blocks.old.writes + 128 ≤ body_limit }
+    requires at_most_32_writes { length blocks.old.writes + 128 ≤ body_limit }
     ensures frames { frames.new ≡ map (unless_within first pages) frames.old }
     ensures staged { StagesTable frames.old frames.new (table_blocks (length frames.old)) blocks.old.writes blocks.new.writes }
     ensures keeps { blocks.new ≡ with_writes blocks.old blocks.new.writes }

@@ -27,13 +27,13 @@ pub(crate) fn store_word<D: Disk>(
     value: u64,
 ) -> Result<(), Failed>
     requires stands { Stands D.Disk blocks.old.store disk.old }
-    requires some { 16 ≤ length frames.old }
+    requires at_least_16_frames { 16 ≤ length frames.old }
     requires size { total_of blocks.old.store ≡ total_blocks (length frames.old) }
     requires page { page ≢ 0 }
     requires frame { (list_any (λ entry. entry == page) frames.old ≡ true) ⊎ (list_any (λ entry. entry == 0) frames.old ≡ true) }
     requires index { index < 512 }
     requires once { are_once blocks.old.writes ≡ true }
-    requires room { length blocks.old.writes + 2 ≤ body_limit }
+    requires at_most_158_writes { length blocks.old.writes + 2 ≤ body_limit }
     ensures stored { OnOk result (Stores (D.seen disk.old) blocks.old.store blocks.old.kept page index value frames.old frames.new blocks.old.writes blocks.new.writes) }
     ensures failed { OnErr result ((frames.new ≡ frames.old) × (blocks.new.writes ≡ blocks.old.writes)) }
     ensures keeps { KeepsMore (D.seen disk.old) (first_frame (length frames.old)) blocks.old blocks.new }
@@ -52,12 +52,12 @@ pub(crate) fn store_word<D: Disk>(
 
 // Binds a page to the lowest free frame and stages the frame's block, zeros but for one word, and the frame table's block.
 fn begin(blocks: &mut Blocks, frames: &mut Frames, page: u64, index: u64, value: u64)
-    requires some { 16 ≤ length frames.old }
+    requires at_least_16_frames { 16 ≤ length frames.old }
     requires page { page ≢ 0 }
     requires unbound { list_any (λ entry. entry == page) frames.old ≡ false }
     requires free { list_any (λ entry. entry == 0) frames.old ≡ true }
     requires index { index < 512 }
-    requires room { length blocks.old.writes + 2 ≤ body_limit }
+    requires at_most_158_writes { length blocks.old.writes + 2 ≤ body_limit }
     ensures begins { Begins page frames.old frames.new blocks.old.writes blocks.new.writes (λ bytes. block_words bytes ≡ slice_set (replicate 512 0) index value) }
     ensures keeps { blocks.new ≡ with_writes blocks.old blocks.new.writes }
 {

@@ -9,8 +9,8 @@ use mg_layout::{BLOCK_WORDS, Geometry, TABLE_BLOCK};
 
 /// The block of a frame, on a volume of so many frames.
 pub(crate) fn frame_block(frames: u64, frame: u64) -> u64
-    requires some { 16 ≤ frames }
-    requires few { frames ≤ 65536 }
+    requires at_least_16_frames { 16 ≤ frames }
+    requires at_most_65536_frames { frames ≤ 65536 }
     requires frame { frame < frames }
     ensures { result ≡ first_frame frames + frame }
 {
@@ -19,8 +19,8 @@ pub(crate) fn frame_block(frames: u64, frame: u64) -> u64
 
 /// The block of the first frame, on a volume of so many frames.
 pub(crate) fn first_block(frames: u64) -> u64
-    requires some { 16 ≤ frames }
-    requires few { frames ≤ 65536 }
+    requires at_least_16_frames { 16 ≤ frames }
+    requires at_most_65536_frames { frames ≤ 65536 }
     ensures { result ≡ first_frame frames }
 {
     Geometry::of(frames).first_frame

@@ -45,7 +45,7 @@ impl Draws {
     /// How many passwords are drawn.
     pub fn count(&self) -> u64
         ensures count { result ≡ self.now.1 }
-        ensures few { result ≤ 2 ^ 32 }
+        ensures at_most_2_32 { result ≤ 2 ^ 32 }
     {
         self.count
     }

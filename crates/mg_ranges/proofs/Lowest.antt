@@ -6,7 +6,7 @@ use Rattle.std.proofs.lemmas.List.Sums.{sum_by-cons}
 use Rattle.mg_model.specs.Limits.{first_page, page_end}
 use Rattle.mg_model.specs.Objects.{is_apart, is_free, least, lowest_free, page_behind}
 use Rattle.mg_model.specs.State.{Object}
-use Rattle.mg_model.specs.TestsTell.{list_all-tells}
+use Rattle.mg_model.specs.RowTestLemmas.{list_all-tells}
 use Rattle.mg_ranges.specs.Gaps.{AreGapsOf, LieFrom, spans_of}
 use Rattle.mg_ranges.specs.Kept.{HasRoom}
 use Rattle.mg_ranges.proofs.Cuts.{left-count}

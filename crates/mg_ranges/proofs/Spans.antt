@@ -6,7 +6,7 @@ use Rattle.std.proofs.lemmas.List.{append-nil, length-take, take-append-drop}
 use Rattle.std.proofs.lemmas.List.Elements.{All-append, All-cons, All-nil}
 use Rattle.std.proofs.lemmas.List.Kept.{AllPairs-cons}
 use Rattle.std.proofs.lemmas.List.Sums.{sum_by-append, sum_by-cons}
-use Rattle.mg_model.specs.KeptLists.{AllPairs-nil}
+use Rattle.mg_model.specs.KeptListLemmas.{AllPairs-nil}
 use Rattle.mg_model.specs.Limits.{first_page, page_end}
 use Rattle.mg_ranges.specs.Gaps.{AreTaken, LieFrom, gaps_from, piece}
 use Rattle.mg_ranges.specs.Kept.{Ascends}

@@ -26,9 +26,9 @@ pub(crate) fn count_to(gaps: &[(u64, u64)], page: u64) -> usize
 /// Puts the range from one page to before another into this place, unless it has no page. There is room for one more.
 pub(crate) fn put_piece(gaps: &mut Vec<(u64, u64)>, at: usize, from: u64, to: u64)
     requires place { at ≤ length gaps.old.items }
-    requires room { length gaps.old.items < vec_capacity gaps.old }
+    requires has_capacity { length gaps.old.items < vec_capacity gaps.old }
     ensures gaps { gaps.new.items ≡ take at gaps.old.items ++ piece from to ++ drop at gaps.old.items }
-    ensures room { vec_capacity gaps.old ≤ vec_capacity gaps.new }
+    ensures keeps_capacity { vec_capacity gaps.old ≤ vec_capacity gaps.new }
 {
     if from < to {
         // There is room.
@@ -41,7 +41,7 @@ pub(crate) fn join_behind(gaps: &mut Vec<(u64, u64)>, at: usize, page: u64) -> u
     requires high { All (λ gap. gap.0 + gap.1 ≤ page_end) gaps.old.items }
     ensures joined { at < length gaps.old.items → (slice_index_or gaps.old.items at (0, 0)).0 ≡ page → (result ≡ page + (slice_index_or gaps.old.items at (0, 0)).1) × (gaps.new.items ≡ remove gaps.old.items at) }
     ensures apart { (at < length gaps.old.items → (slice_index_or gaps.old.items at (0, 0)).0 ≢ page) → (result ≡ page) × (gaps.new.items ≡ gaps.old.items) }
-    ensures room { vec_capacity gaps.old ≤ vec_capacity gaps.new }
+    ensures keeps_capacity { vec_capacity gaps.old ≤ vec_capacity gaps.new }
 {
     if at < gaps.len() && gaps[at].0 == page {
         let gap = gaps.remove(at);
@@ -58,7 +58,7 @@ pub(crate) fn join_before(gaps: &mut Vec<(u64, u64)>, at: usize, page: u64) -> (
     requires high { All (λ gap. gap.0 + gap.1 ≤ page_end) gaps.old.items }
     ensures joined { 0 < at → (slice_index_or gaps.old.items (at - 1) (0, 0)).0 + (slice_index_or gaps.old.items (at - 1) (0, 0)).1 ≡ page → (result ≡ (at - 1, (slice_index_or gaps.old.items (at - 1) (0, 0)).0)) × (gaps.new.items ≡ remove gaps.old.items (at - 1)) }
     ensures apart { (0 < at → (slice_index_or gaps.old.items (at - 1) (0, 0)).0 + (slice_index_or gaps.old.items (at - 1) (0, 0)).1 ≢ page) → (result ≡ (at, page)) × (gaps.new.items ≡ gaps.old.items) }
-    ensures room { vec_capacity gaps.old ≤ vec_capacity gaps.new }
+    ensures keeps_capacity { vec_capacity gaps.old ≤ vec_capacity gaps.new }
 {
     if at > 0 && gaps[at - 1].0 + gaps[at - 1].1 == page {
         let gap = gaps.remove(at - 1);

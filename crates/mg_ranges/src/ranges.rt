@@ -70,9 +70,9 @@ impl Ranges {
 
     /// The lowest page from which on so many pages, 1 to 1024, are free. At most 65,536 pages are taken.
     pub fn first(&self, pages: u64) -> u64
-        requires some { 1 ≤ pages }
-        requires few { pages ≤ 1024 }
-        requires room { HasRoom self.now }
+        requires at_least_1_page { 1 ≤ pages }
+        requires at_most_1024_pages { pages ≤ 1024 }
+        requires has_room { HasRoom self.now }
         ensures lowest { (objects : List Object) → AreGapsOf (spans_of objects) self.now → result ≡ lowest_free objects pages }
         ensures free { (taken : List (ℕ × ℕ)) → AreGapsOf taken self.now → All (λ span. (result + pages ≤ span.0) ⊎ (span.0 + span.1 ≤ result)) taken }
         ensures low { first_page ≤ result }

@@ -8,7 +8,7 @@ use Rattle.mg_bank.specs.AccountLemmas.{account_of-at, account_of-row, with_acco
 use Rattle.mg_bank.specs.Bank.{credits_of}
 use Rattle.mg_model.specs.declared.accounts.AccRow.{AccRow}
 use Rattle.mg_model.specs.Bank.{account_of, all_charged, all_paid, charged, given_to, owed_by, paid, pages_of, with_account}
-use Rattle.mg_model.specs.KeptLists.{sum_by-filter-le}
+use Rattle.mg_model.specs.KeptListLemmas.{sum_by-filter-le}
 use Rattle.mg_model.specs.Limits.{debt_limit, step_limit}
 use Rattle.mg_model.specs.State.{Object, ObjectRow}
 use Rattle.mg_rent.specs.Charging.{OweAtMost, charged_at, paid_at}

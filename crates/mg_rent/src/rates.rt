@@ -9,7 +9,7 @@ use mg_model::Tariff;
 /// number of pages on.
 pub fn rate(t: &Tariff, used: u64) -> u64
     ensures rate { result ≡ rate_of t.now used }
-    ensures few { result ≤ step_limit }
+    ensures at_most_step_limit { result ≤ step_limit }
 {
     let steps = t.steps();
     let mut rate = 0;

@@ -7,7 +7,7 @@ use Rattle.std.proofs.lemmas.Nat.{from_le_bytes-to_le_bytes_8}
 use Rattle.mg_model.specs.declared.accounts.AccRow.{AccRow}
 use Rattle.mg_model.specs.Bytes.{are_zeros}
 use Rattle.mg_model.specs.Ranges.{IsCounters, IsWord}
-use Rattle.mg_model.specs.RowReads.{account_fields-written, account-live, globals-read}
+use Rattle.mg_model.specs.RowLemmas.{account_fields-written, account-live, globals-read}
 use Rattle.mg_model.specs.Spelling.{Read, account_bytes, account_fields, account_read, free_or, globals_bytes, globals_fields, globals_read, live_if}
 use Rattle.mg_model.specs.State.{Counters}
 use Rattle.mg_model.specs.Tests.{are_counters}

@@ -9,9 +9,9 @@ use Rattle.mg_model.specs.declared.threads.Fault.TheVariants as fault
 use Rattle.mg_model.specs.declared.threads.ThrState.{ThrState}
 use Rattle.mg_model.specs.declared.threads.ThrState.TheVariants.{Ready, Stopped, Faulted}
 use Rattle.mg_model.specs.Bytes.{number_at, numbers_at, padded_to, word_bytes, words_bytes}
-use Rattle.mg_model.specs.BytesReads.{length-padded_to, length-words_bytes, number_at-behind, numbers_at-behind, numbers_at-first, padded_to-append}
+use Rattle.mg_model.specs.BytesLemmas.{length-padded_to, length-words_bytes, number_at-behind, numbers_at-behind, numbers_at-first, padded_to-append}
 use Rattle.mg_model.specs.Ranges.{IsCallFrame, IsSlot, IsThreadRow}
-use Rattle.mg_model.specs.RowReads.{thread-live}
+use Rattle.mg_model.specs.RowLemmas.{thread-live}
 use Rattle.mg_model.specs.Spelling.{frame_at, frame_bytes, frames_at, slot_words, slots_at, state_number, state_numbered, thread_bytes, thread_fields, thread_read}
 use Rattle.mg_model.specs.State.{CallFrame, ThreadRow}
 use Rattle.mg_rows.specs.ThreadParts.{head_words}

@@ -98,8 +98,8 @@ fn extension_words(ext: Option<Slot>) -> [u64; 3]
 }
 
 fn add_passwords(passwords: &[Pw], filling: &mut Filling<ROW>)
-    requires few { length passwords.now ≤ 32 }
-    requires room { length filling.old + 256 ≤ 1024 }
+    requires at_most_32_passwords { length passwords.now ≤ 32 }
+    requires fits_in_row { length filling.old + 256 ≤ 1024 }
     ensures value { filling.new ≡ filling.old ++ padded_to 256 (words_bytes (map (λ pw. pw.password) passwords.now)) }
     ensures long { length filling.new ≡ length filling.old + 256 }
 {
@@ -110,8 +110,8 @@ fn add_passwords(passwords: &[Pw], filling: &mut Filling<ROW>)
 }
 
 fn add_rights(passwords: &[Pw], filling: &mut Filling<ROW>)
-    requires few { length passwords.now ≤ 32 }
-    requires room { length filling.old + 32 ≤ 1024 }
+    requires at_most_32_passwords { length passwords.now ≤ 32 }
+    requires fits_in_row { length filling.old + 32 ≤ 1024 }
     ensures value { filling.new ≡ filling.old ++ padded_to 32 (map (λ pw. pw.rights) passwords.now) }
     ensures long { length filling.new ≡ length filling.old + 32 }
 {
@@ -122,8 +122,8 @@ fn add_rights(passwords: &[Pw], filling: &mut Filling<ROW>)
 }
 
 fn add_entries(entries: &[u64], filling: &mut Filling<ROW>)
-    requires few { length entries.now ≤ 16 }
-    requires room { length filling.old + 128 ≤ 1024 }
+    requires at_most_16_entries { length entries.now ≤ 16 }
+    requires fits_in_row { length filling.old + 128 ≤ 1024 }
     ensures value { filling.new ≡ filling.old ++ padded_to 128 (words_bytes entries.now) }
     ensures long { length filling.new ≡ length filling.old + 128 }
 {
@@ -132,8 +132,8 @@ fn add_entries(entries: &[u64], filling: &mut Filling<ROW>)
 }
 
 fn add_untils(passwords: &[Pw], filling: &mut Filling<ROW>)
-    requires few { length passwords.now ≤ 32 }
-    requires room { length filling.old + 256 ≤ 1024 }
+    requires at_most_32_passwords { length passwords.now ≤ 32 }
+    requires fits_in_row { length filling.old + 256 ≤ 1024 }
     ensures value { filling.new ≡ filling.old ++ padded_to 256 (words_bytes (map (λ pw. pw.until) passwords.now)) }
     ensures long { length filling.new ≡ length filling.old + 256 }
 {

@@ -214,8 +214,8 @@ fn set_registers(row: &mut ThrRow, b: &Block)
 fn with_frames(begun: ThrRow, b: &Block, count: usize) -> Option<ThrRow>
     requires begun { begun ≡ with_frames b.now 1 }
     requires first { is_call_frame (frame_at b.now 128) ≡ true }
-    requires some { 1 ≤ count }
-    requires few { count ≤ 16 }
+    requires count_at_least_1 { 1 ≤ count }
+    requires count_at_most_16 { count ≤ 16 }
     ensures { result ≡ (if list_all is_call_frame (frames_at b.now 128 count) then Some (with_frames b.now count) else None) }
 {
     let mut row = begun;
@@ -246,7 +246,7 @@ fn frame_in(b: &Block, at: usize) -> Option<Frame>
 // So many slots, from this place on, for a frame without any.
 fn add_slots_of(frame: &mut Frame, b: &Block, at: usize, count: usize)
     requires empty { frame.old.slots ≡ [] }
-    requires few { count ≤ 8 }
+    requires count_at_most_8 { count ≤ 8 }
     requires within { at + 128 ≤ block_size }
     ensures { frame.new ≡ record frame.old { slots = slots_at b.now at count } }
 {

@@ -6,7 +6,7 @@ use Rattle.std.specs.Prelude.{AllPairs, find}
 use Rattle.std.specs.Option.{option_map_or}
 use Rattle.mg_model.specs.Access.{domain_of, last_slots}
 use Rattle.mg_model.specs.Domains.{frames_of, row_of, with_thread}
-use Rattle.mg_model.specs.KeptLists.{AllPairs-head, AllPairs-tail}
+use Rattle.mg_model.specs.KeptListLemmas.{AllPairs-head, AllPairs-tail}
 use Rattle.mg_model.specs.State.{CallFrame, State, Thread, ThreadRow}
 
 -- the thread with a change of its row, if it has the number

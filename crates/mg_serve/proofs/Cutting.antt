@@ -1,9 +1,10 @@
 -- How the lines of an input come from those of its parts.
-use Rattle.std.specs.Prelude.{ℕ, zero, suc, ◌+◌, ◌<◌, ◌≡◌, ◌||◌, Bool, true, false, List, [], ◌∷◌, ◌++◌, length, if◌then◌else◌, nat_lt, replicate, Option, Some, None}
+use Rattle.std.specs.Prelude.{ℕ, zero, suc, ◌+◌, ◌<◌, ◌≤◌, ◌≡◌, ◌||◌, Bool, true, false, List, [], ◌∷◌, ◌++◌, drop, length, take, if◌then◌else◌, nat_lt, replicate, Option, Some, None}
 use Rattle.std.specs.Option.{option_to_list}
 use Rattle.std.specs.List.{list_any, filter_map, cons_option}
 use Rattle.std.proofs.Common.{refl, sym, ap, ◌∙◌, append-nil, arith, length-append, rules}
-use Rattle.std.proofs.lemmas.List.{length-replicate}
+use Rattle.std.proofs.lemmas.List.{length-replicate, take-append-drop, take-append-le}
+use Rattle.std.proofs.Math.Seq.{take-append_seam}
 use Rattle.std.proofs.lemmas.List.Folds.{list_any-append}
 use Rattle.mg_model.specs.declared.calls.Line.{Line}
 use Rattle.mg_model.specs.Ended.{all_but_last, ended_lines}
@@ -148,12 +149,44 @@ rows (piece ∷ next ∷ pieces) = by_option (line_of piece) (rows (next ∷ pie
     by_option None h = h
     by_option (Some x) h = omega arith
 
+-- so a row behind some bytes adds one line to those that are ended
+with_row : (bytes : List ℕ) → length (lines (bytes ++ long_row)) ≡ length (ended_lines bytes) + 1
+with_row bytes = ap (λ v. length (filter_map line_of v)) (split_at-more is_newline bytes long_row (row_whole 257)) ∙ rows (split_at is_newline bytes)
+
+-- what stands before any other bytes are calls of ended lines
+pub ended_lines-most : (bytes behind : List ℕ) (ls : List Line) → ((rest : List ℕ) → lines (bytes ++ rest) ≡ ls ++ lines (behind ++ rest)) → length ls ≤ length (ended_lines bytes)
+ended_lines-most bytes behind ls cuts =
+    let all : length (lines (bytes ++ long_row)) ≡ length (ended_lines bytes) + 1 = with_row bytes in
+    let others : length (lines (behind ++ long_row)) ≡ length (ended_lines behind) + 1 = with_row behind in
+    let both : length (lines (bytes ++ long_row)) ≡ length ls + length (lines (behind ++ long_row)) = ap length (cuts long_row) ∙ length-append ls (lines (behind ++ long_row)) in
+    omega arith
+
+-- the ended lines are the first of the lines
+lines-begin : (pieces : List (List ℕ)) → (last : List Line) × (filter_map line_of pieces ≡ filter_map line_of (all_but_last pieces) ++ last)
+lines-begin [] = ([], refl)
+lines-begin (piece ∷ []) = (filter_map line_of (piece ∷ []), refl)
+lines-begin (piece ∷ next ∷ pieces) = by_option (line_of piece) (lines-begin (next ∷ pieces))
+  where
+    by_option : (o : Option Line) → (last : List Line) × (filter_map line_of (next ∷ pieces) ≡ filter_map line_of (all_but_last (next ∷ pieces)) ++ last)
+        → (last : List Line) × (cons_option o (filter_map line_of (next ∷ pieces)) ≡ cons_option o (filter_map line_of (all_but_last (next ∷ pieces))) ++ last)
+    by_option None (last, is) = (last, is)
+    by_option (Some x) (last, is) = (last, ap (λ v. x ∷ v) is)
+
+-- where lines are first ones of those of some bytes, and no more than are ended, they are first ones of the ended lines
+pub ended_lines-first : (bytes : List ℕ) (ls more : List Line) → lines bytes ≡ ls ++ more → length ls ≤ length (ended_lines bytes) → (later : List Line) × (ended_lines bytes ≡ ls ++ later)
+ended_lines-first bytes ls more are enough =
+    let (last, is) = lines-begin (split_at is_newline bytes) in
+    let front : take (length ls) (ended_lines bytes) ≡ ls =
+    sym (take-append-le (length ls) (ended_lines bytes) last enough) ∙ ap (λ v. take (length ls) v) (sym is ∙ are) ∙ take-append_seam ls more in (
+      drop (length ls) (ended_lines bytes),
+      sym (take-append-drop (length ls) (ended_lines bytes)) ∙ ap (λ v. v ++ drop (length ls) (ended_lines bytes)) front,
+    )
+
 -- what stands before a part without a newline are the calls of the ended lines
 pub ended_lines-exact : (bytes part : List ℕ) (ls : List Line) → ((rest : List ℕ) → lines (bytes ++ rest) ≡ ls ++ lines (part ++ rest)) → list_any is_newline part ≡ false
     → length (ended_lines bytes) ≡ length ls
 ended_lines-exact bytes part ls cuts none =
-    let all : length (lines (bytes ++ long_row)) ≡ length (ended_lines bytes) + 1 =
-    ap (λ v. length (filter_map line_of v)) (split_at-more is_newline bytes long_row (row_whole 257)) ∙ rows (split_at is_newline bytes) in
+    let all : length (lines (bytes ++ long_row)) ≡ length (ended_lines bytes) + 1 = with_row bytes in
     let whole : list_any is_newline (part ++ long_row) ≡ false = list_any-append is_newline part long_row ∙ ap (λ v. v || list_any is_newline long_row) none ∙ row_whole 257 in
     let last : length (lines (part ++ long_row)) ≡ 1 = ap length (lines-last (part ++ long_row) whole ∙ ap (λ o. option_to_list o) (behind_row part)) in
     let both : length (lines (bytes ++ long_row)) ≡ length ls + length (lines (part ++ long_row)) = ap length (cuts long_row) ∙ length-append ls (lines (part ++ long_row)) in

@@ -91,28 +91,26 @@ module _ {M D : Type 0} (Session : Entry M D → List Line → Point M D → Typ
       → Halts Session Broken e p (line ∷ []) q → Breaks Session Broken e p part (b ∷ []) q
   Breaks-line e p part b part' line q newline empty whole some h = record {
     ls = line ∷ [];
-    cuts = λ rest. (lines (part' ++ rest), line_cut part b part' line newline empty whole some rest);
+    behind = part';
+    cuts = line_cut part b part' line newline empty whole some;
     halts = h;
   }
 
   pub Goes-breaks : (e : Ended) (p : Point M D) (part xs : List ℕ) (q : Point M D) (part' ys : List ℕ) (r : Point M D) → Goes Session p part xs q part' → Breaks Session Broken e q part' ys r → Breaks Session Broken e p part (xs ++ ys) r
   Goes-breaks e p part xs q part' ys r g h = record {
     ls = g.ls ++ h.ls;
-    cuts = λ rest. later rest (h.cuts rest);
+    behind = h.behind;
+    cuts = λ rest. ap (λ v. lines (part ++ v)) (append_assoc xs ys rest) ∙ g.cuts (ys ++ rest) ∙ ap (λ v. g.ls ++ v) (h.cuts rest)
+        ∙ sym (append_assoc g.ls h.ls (lines (h.behind ++ rest)));
     halts = Runs-halts e p g.ls q h.ls r g.steps h.halts;
   }
-    where
-      later : (rest : List ℕ) → (more : List Line) × (lines (part' ++ (ys ++ rest)) ≡ h.ls ++ more) → (more : List Line) × (lines (part ++ ((xs ++ ys) ++ rest)) ≡ (g.ls ++ h.ls) ++ more)
-      later rest (more, is) = (
-        more,
-        ap (λ v. lines (part ++ v)) (append_assoc xs ys rest) ∙ g.cuts (ys ++ rest) ∙ ap (λ v. g.ls ++ v) is ∙ sym (append_assoc g.ls h.ls more),
-      )
 
   -- more may come behind what broke
   pub Breaks-more : (e : Ended) (p : Point M D) (part xs ys : List ℕ) (q : Point M D) → Breaks Session Broken e p part xs q → Breaks Session Broken e p part (xs ++ ys) q
   Breaks-more e p part xs ys q h = record {
     ls = h.ls;
-    cuts = λ rest. subst (λ (v : List ℕ). (more : List Line) × (lines (part ++ v) ≡ h.ls ++ more)) (sym (append_assoc xs ys rest)) (h.cuts (ys ++ rest));
+    behind = h.behind ++ ys;
+    cuts = λ rest. ap (λ v. lines (part ++ v)) (append_assoc xs ys rest) ∙ h.cuts (ys ++ rest) ∙ ap (λ v. h.ls ++ lines v) (sym (append_assoc h.behind ys rest));
     halts = h.halts;
   }
 

@@ -2,7 +2,7 @@
 use Rattle.std.specs.Prelude.{ℕ, ◌+◌, ◌-◌, ◌<◌, ◌≤◌, ◌≡◌, ◌≢◌, ◌⊎◌, Bool, false, true, List, [], ◌∷◌, ◌++◌, length, take, drop, Option, Some, None, IfSome, IsSomeAnd}
 use Rattle.std.specs.Option.{ForSome}
 use Rattle.std.specs.Io.KnownBytes.{Appends, IsAtEnd}
-use Rattle.std.proofs.Common.{refl, sym, ap, ◌∙◌, append-nil, arith, length-append, subst}
+use Rattle.std.proofs.Common.{refl, sym, ap, inl, inr, ⊎_elim, ◌∙◌, append-nil, arith, length-append, subst}
 use Rattle.std.proofs.lemmas.List.{take-append-le, take_all}
 use Rattle.std.proofs.Math.Seq.{take-append_seam, drop-append_seam}
 use Rattle.mg_disk.specs.Disk.{Image}
@@ -17,14 +17,15 @@ use Rattle.mg_model.specs.State.{State}
 use Rattle.mg_model.specs.Volume.{Is, volume}
 use Rattle.mg_serve.specs.declared.ended.Ended.{Ended}
 use Rattle.mg_serve.specs.declared.ended.Ended.TheVariants as ended
-use Rattle.mg_serve.specs.Sessions.{AnswersAll, AnswersLines, AnswersPrefix, AreAnswered, FewUnanswered, IsAnswered, IsPrefix, IsWithin, KeepsAnswered, KeepsExactly, KeepsOne, SpellsAfter, TakesAtMost, TakesMore, replies, status_at, taken_of}
+use Rattle.mg_serve.specs.Sessions.{AnswersAll, AnswersLines, AnswersPrefix, AreAnswered, FewUnanswered, IsAnswered, IsCut, IsPrefix, IsWithin, KeepsAnswered, KeepsExactly, KeepsOne, SpellsAfter, TakesAtMost, TakesMore, replies, status_at, taken_of}
 use Rattle.mg_serve.specs.declared.machine.Machine as machines
 use Rattle.mg_serve.specs.declared.status.Status.{Status}
 use Rattle.mg_serve.specs.declared.status.Status.TheVariants as status
 use Rattle.mg_serve.specs.Readings.{Finishes, Stops}
-use Rattle.mg_serve.specs.Machines.{Entry, Point}
+use Rattle.mg_serve.specs.Machines.{Entry, IsInside, Point}
 use Rattle.mg_serve.specs.Serving.{Broken, Held, IsBetween, IsTraced, PutsWhole, Remains, Session, Stands, Traces}
 use Rattle.mg_serve.specs.Waiting.{Waiting, no_replies}
+use Rattle.mg_serve.proofs.Cutting.{ended_lines-first}
 use Rattle.mg_serve.proofs.SessionSteps.{left_spells, prefix_longer}
 
 -- more than the limit is not within it
@@ -46,6 +47,20 @@ came_are bytes rest input is =
 
 put_is : (before now put : List ℕ) → now ≡ before ++ put → drop (length before) now ≡ put
 put_is before now put is = ap (λ v. drop (length before) v) is ∙ drop-append_seam before put
+
+-- the lines that were stepped are first ones of those that a newline ended
+ended_first : (input rest bytes : List ℕ) (ls : List Line) → input ≡ bytes ++ rest → (more : List Line) × (lines bytes ≡ ls ++ more) → length ls ≤ length (ended_lines bytes) → ls ≡ take (length ls) (lines input)
+    → (more : List Line) × (ended_lines (taken_of input rest) ≡ take (length ls) (lines input) ++ more)
+ended_first input rest bytes ls is came enough are =
+    let (later, first) = ended_lines-first bytes ls came.0 came.1 enough in
+    (later, ap (λ v. ended_lines v) (came_are bytes rest input is) ∙ first ∙ ap (λ v. v ++ later) are)
+
+-- a last line that no newline ended comes only where the source was read to its end
+cut_not : (e : Ended) (result : Status) (rest : List ℕ) → IsInside e × IsAtEnd (Some rest) → status_at e ≡ result → IsCut result rest → ⊥
+cut_not ended.Disk result rest (inside, at_end) same cut = ⊎_elim (λ left. left at_end) (λ fault. ⊎_elim (λ h. cc) (λ h. cc) fault) cut
+cut_not ended.Sink result rest (inside, at_end) same cut = ⊎_elim (λ left. left at_end) (λ fault. ⊎_elim (λ h. cc) (λ h. cc) fault) cut
+cut_not ended.Source result rest (inside, at_end) same cut = absurd inside
+cut_not ended.TooLong result rest (inside, at_end) same cut = absurd inside
 
 -- some first lines of those that were stepped are first lines of all
 first_of : (kept : List Line → State) (k : ℕ) (ls more all : List Line) (c : Image) → all ≡ ls ++ more → k ≤ length ls → volume c ≡ Is (kept (take k ls)) → volume c ≡ Is (kept (take k all))
@@ -232,18 +247,19 @@ module _ {M D : Type 0} (is : machines.Ghosts M) (facts : Ghosts D) (entry : Ent
       let cut : (more : List Line) × (lines input ≡ w.ls ++ more) = cut_of e input rest p w in
       ap (λ v. take (length w.ls) v) cut.1 ∙ take-append_seam w.ls cut.0
 
-  traced : (e : Ended) (result : Status) (input rest : List ℕ) (p : Point M D) (w : Stops (Broken is facts batch) e entry (Some input) limit batch most p (Some rest)) (image : Image) → result ≢ status.Done
+  traced : (e : Ended) (result : Status) (input rest : List ℕ) (p : Point M D) (w : Stops (Broken is facts batch) e entry (Some input) limit batch most p (Some rest)) (image : Image) → result ≢ status.Done → status_at e ≡ result
       → (result ≡ status.Source → length w.ls < answered w.put + batch) → (result ≡ status.TooLong → length w.ls < answered w.put + batch)
       → (result ≡ status.Disk → is.Stepped entry.machine image w.ls entry.steps p.steps p.machine ⊎ ((answered w.put < length w.ls) × is.StoppedIn entry.machine image w.ls entry.steps p.steps p.machine))
       → (result ≢ status.Disk → is.Stepped entry.machine image w.ls entry.steps p.steps p.machine)
       → IsTraced is batch result entry.machine image input rest entry.taken p.taken entry.steps p.steps p.machine
-  traced e result input rest p w image early source too_long at_disk after =
+  traced e result input rest p w image early at source too_long at_disk after =
       let cut : (more : List Line) × (lines input ≡ w.ls ++ more) = cut_of e input rest p w in
       let are : w.ls ≡ take (length w.ls) (lines input) = sym (first_are e input rest p w) in record {
         stepped = length w.ls;
         count = answered w.put;
         few = omega (arith, ap length cut.1, length-append w.ls cut.0);
         came = (w.came.0, ap (λ v. lines v) (came_are w.bytes rest input w.read) ∙ w.came.1 ∙ ap (λ v. v ++ w.came.0) are);
+        ended = ⊎_elim (λ enough cut. ended_first input rest w.bytes w.ls w.read w.came enough are) (λ last cut. absurd (cut_not e result rest last at cut)) w.whole;
         answers = count_is entry.taken p.taken w.put w.broken.sink;
         least = w.broken.fewer;
         most = w.broken.near;
@@ -259,13 +275,13 @@ module _ {M D : Type 0} (is : machines.Ghosts M) (facts : Ghosts D) (entry : Ent
   stops_traces e None left' p w = λ image seen. tt
   stops_traces e (Some input) None p w = absurd w.read
   stops_traces ended.Disk (Some input) (Some rest) p w = λ image seen.
-      traced ended.Disk status.Disk input rest p w image (λ h. cc) (λ h. absurd (cc)) (λ h. absurd (cc)) (λ h. (w.broken.told image seen).stepped) (λ h. absurd (h refl))
+      traced ended.Disk status.Disk input rest p w image (λ h. cc) refl (λ h. absurd (cc)) (λ h. absurd (cc)) (λ h. (w.broken.told image seen).stepped) (λ h. absurd (h refl))
   stops_traces ended.Source (Some input) (Some rest) p w = λ image seen.
-      traced ended.Source status.Source input rest p w image (λ h. cc) (λ h. w.open_batch) (λ h. absurd (cc)) (λ h. absurd (cc)) (λ h. (w.broken.told image seen).stepped)
+      traced ended.Source status.Source input rest p w image (λ h. cc) refl (λ h. w.open_batch) (λ h. absurd (cc)) (λ h. absurd (cc)) (λ h. (w.broken.told image seen).stepped)
   stops_traces ended.Sink (Some input) (Some rest) p w = λ image seen.
-      traced ended.Sink status.Sink input rest p w image (λ h. cc) (λ h. absurd (cc)) (λ h. absurd (cc)) (λ h. absurd (cc)) (λ h. (w.broken.told image seen).stepped)
+      traced ended.Sink status.Sink input rest p w image (λ h. cc) refl (λ h. absurd (cc)) (λ h. absurd (cc)) (λ h. absurd (cc)) (λ h. (w.broken.told image seen).stepped)
   stops_traces ended.TooLong (Some input) (Some rest) p w = λ image seen.
-      traced ended.TooLong status.TooLong input rest p w image (λ h. cc) (λ h. absurd (cc)) (λ h. w.open_batch) (λ h. absurd (cc)) (λ h. (w.broken.told image seen).stepped)
+      traced ended.TooLong status.TooLong input rest p w image (λ h. cc) refl (λ h. absurd (cc)) (λ h. w.open_batch) (λ h. absurd (cc)) (λ h. (w.broken.told image seen).stepped)
 
 -- where no reply waits, all that was stepped is answered
 all_done : (done waiting ls : List Line) (count : ℕ) → ls ≡ done ++ waiting → count ≡ length waiting → count ≡ 0 → done ≡ ls
@@ -313,6 +329,7 @@ module _ {M D : Type 0} (is : machines.Ghosts M) (facts : Ghosts D) (entry : Ent
         size = tt;
         bound = let w = f.within in omega arith;
         came = ([], sym (append-nil (lines f.bytes)));
+        whole = inr (tt, f.at_end);
         will = λ rest here. ([], ap (λ v. lines (f.bytes ++ v)) (at_end_nil left' rest f.at_end here) ∙ ap (λ v. lines v) (append-nil f.bytes) ∙ sym (append-nil (lines f.bytes)));
         put = a.put;
         broken = record {
@@ -380,6 +397,7 @@ module _ {M D : Type 0} (is : machines.Ghosts M) (facts : Ghosts D) (entry : Ent
         count = answered a.put;
         few = omega (arith, ap (λ v. length (lines v)) whole);
         came = ([], ap (λ v. lines v) (came_are f.bytes rest input f.read) ∙ sym (append-nil (lines f.bytes)) ∙ ap (λ v. v ++ []) are);
+        ended = λ cut. absurd (⊎_elim (λ left. left f.at_end) (λ fault. ⊎_elim (λ h. cc) (λ h. cc) fault) cut);
         answers = count_is entry.taken p.taken a.put a.sink;
         least = omega arith;
         most = omega arith;

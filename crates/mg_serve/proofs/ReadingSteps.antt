@@ -2,14 +2,14 @@
 use Rattle.std.specs.Prelude.{ℕ, ◌+◌, ◌-◌, ◌<◌, ◌≤◌, ◌≡◌, false, List, [], ◌++◌, length, take, drop, Option, Some, None}
 use Rattle.std.specs.List.{list_any}
 use Rattle.std.specs.Io.KnownBytes.{Consumes, IsAtEnd, Keeps}
-use Rattle.std.proofs.Common.{refl, sym, ap, ◌∙◌, append_assoc, append-nil, arith, length-append, subst}
+use Rattle.std.proofs.Common.{refl, sym, ap, inl, inr, ◌∙◌, append_assoc, append-nil, arith, length-append, subst}
 use Rattle.std.proofs.lemmas.Grind.{common_steps}
 use Rattle.std.proofs.lemmas.List.{length-take-le, take-append-drop, take_all}
 use Rattle.std.proofs.Math.Seq.{take-append-add}
 use Rattle.mg_io.specs.Known.{Consumes-kept, Consumes-none, Consumes-then}
 use Rattle.mg_model.specs.declared.calls.Line.{Line}
 use Rattle.mg_model.specs.Print.{answered}
-use Rattle.mg_serve.proofs.Cutting.{ended_lines-exact}
+use Rattle.mg_serve.proofs.Cutting.{ended_lines-exact, ended_lines-most}
 use Rattle.mg_model.specs.Ended.{ended_lines}
 use Rattle.mg_model.specs.Lines.{lines}
 use Rattle.mg_model.specs.Words.{is_newline}
@@ -116,6 +116,7 @@ module _ {M D : Type 0} (Session : Entry M D → List Line → Point M D → Typ
         size = short;
         bound = omega arith;
         came = came_first r.bytes r.ls (lines (part ++ [])) (r.cut []);
+        whole = inl (ended_lines-most r.bytes part r.ls r.cut);
         will = λ rest here. (lines (part ++ rest), r.cut rest);
         put = o.0;
         broken = o.1;
@@ -150,6 +151,8 @@ module _ {M D : Type 0} (Session : Entry M D → List Line → Point M D → Typ
         size = omega arith;
         bound = omega arith;
         came = came_first (r.bytes ++ take n piece) (r.ls ++ g.ls) (lines (part' ++ (drop (limit - total) (take n piece) ++ []))) (later []);
+        whole = inl (ended_lines-most (r.bytes ++ take n piece) (part' ++ drop (limit - total) (take n piece)) (r.ls ++ g.ls)
+            (λ rest. later rest ∙ ap (λ v. (r.ls ++ g.ls) ++ lines v) (sym (append_assoc part' (drop (limit - total) (take n piece)) rest))));
         will = λ rest here. (lines (part' ++ (drop (limit - total) (take n piece) ++ rest)), later rest);
         put = o.0;
         broken = o.1;
@@ -165,27 +168,22 @@ module _ {M D : Type 0} (Session : Entry M D → List Line → Point M D → Typ
       let all : length (r.bytes ++ take n piece) ≡ total + n = length-append r.bytes (take n piece) ∙ ap (λ v. v + length (take n piece)) r.count ∙ ap (λ v. total + v) (length-take-le n piece short) in
       let b : Breaks Session Broken e p part (take n piece) q =
       subst (λ (v : List ℕ). Breaks Session Broken e p part v q) (front_and_back n w piece front) (Breaks-more Session Broken e p part (take w piece) (drop w (take n piece)) q h) in
-      let cut : (rest : List ℕ) → (more : List Line) × (lines ((r.bytes ++ take n piece) ++ rest) ≡ (r.ls ++ b.ls) ++ more) = λ rest. later b rest (b.cuts rest) in
+      let cut : (rest : List ℕ) → lines ((r.bytes ++ take n piece) ++ rest) ≡ (r.ls ++ b.ls) ++ lines (b.behind ++ rest) =
+      λ rest. ap (λ v. lines v) (append_assoc r.bytes (take n piece) rest) ∙ r.cut (take n piece ++ rest) ∙ ap (λ v. r.ls ++ v) (b.cuts rest) ∙ sym (append_assoc r.ls b.ls (lines (b.behind ++ rest))) in
       let o : (put : List ℕ) × Broken e entry (r.ls ++ b.ls) put q = b.halts entry r.ls r.session in record {
         bytes = r.bytes ++ take n piece;
         ls = r.ls ++ b.ls;
         read = Consumes-then left left' left'' r.bytes (take n piece) r.read read;
         size = inside_size e limit (length (r.bytes ++ take n piece)) inside;
         bound = omega arith;
-        came = came_first (r.bytes ++ take n piece) (r.ls ++ b.ls) (cut []).0 (cut []).1;
-        will = λ rest here. cut rest;
+        came = came_first (r.bytes ++ take n piece) (r.ls ++ b.ls) (lines (b.behind ++ [])) (cut []);
+        whole = inl (ended_lines-most (r.bytes ++ take n piece) b.behind (r.ls ++ b.ls) cut);
+        will = λ rest here. (lines (b.behind ++ rest), cut rest);
         put = o.0;
         broken = o.1;
         few = inside_few e (length (ended_lines (take limit (r.bytes ++ take n piece)))) (answered o.0) batch inside;
         open_batch = inside_few e (length (r.ls ++ b.ls)) (answered o.0) batch inside;
       }
-    where
-      later : (b : Breaks Session Broken e p part (take n piece) q) (rest : List ℕ) → (more : List Line) × (lines (part ++ (take n piece ++ rest)) ≡ b.ls ++ more)
-          → (more : List Line) × (lines ((r.bytes ++ take n piece) ++ rest) ≡ (r.ls ++ b.ls) ++ more)
-      later b rest (more, is) = (
-        more,
-        ap (λ v. lines v) (append_assoc r.bytes (take n piece) rest) ∙ r.cut (take n piece ++ rest) ∙ ap (λ v. r.ls ++ v) is ∙ sym (append_assoc r.ls b.ls more),
-      )
 
   -- the input ended, and the last batch ended the session
   pub Stops-last : (e : Ended) (entry : Entry M D) (left left' left'' : Option (List ℕ)) (total limit batch most n : ℕ) (p q : Point M D) (part piece : List ℕ)
@@ -200,6 +198,7 @@ module _ {M D : Type 0} (Session : Entry M D → List Line → Point M D → Typ
         size = inside_size e limit (length r.bytes) inside;
         bound = let e = r.count in omega arith;
         came = ([], cut ∙ sym (append-nil (r.ls ++ lines part)));
+        whole = inr (inside, ended_is);
         will = λ rest here. (
           [],
           ap (λ v. lines (r.bytes ++ v)) (some_nil left'' rest ended_is here) ∙ ap (λ v. lines v) (append-nil r.bytes) ∙ cut ∙ sym (append-nil (r.ls ++ lines part)),

@@ -12,8 +12,9 @@ pub record Goes {M D : Type 0} (Session : Entry M D → List Line → Point M D 
   pub cuts : (rest : List ℕ) → lines (part ++ (bytes ++ rest)) ≡ ls ++ lines (part' ++ rest)
   pub steps : Runs Session old ls new
 
--- `bytes` came, and at one of them the session ended
+-- `bytes` came, and at a newline among them the session ended; `behind` came after it
 pub record Breaks {M D : Type 0} (Session : Entry M D → List Line → Point M D → Type 0) (Broken : Ended → Entry M D → List Line → List ℕ → Point M D → Type 0) (e : Ended) (old : Point M D) (part bytes : List ℕ) (new : Point M D) : Type 0 where
   pub ls : List Line
-  pub cuts : (rest : List ℕ) → (more : List Line) × (lines (part ++ (bytes ++ rest)) ≡ ls ++ more)
+  pub behind : List ℕ
+  pub cuts : (rest : List ℕ) → lines (part ++ (bytes ++ rest)) ≡ ls ++ lines (behind ++ rest)
   pub halts : Halts Session Broken e old ls new

@@ -1,5 +1,5 @@
 -- The input of a session, piece by piece, and how the session ends.
-use Rattle.std.specs.Prelude.{ℕ, ◌+◌, ◌<◌, ◌≤◌, ◌≡◌, false, List, ◌++◌, length, take, Option, Some}
+use Rattle.std.specs.Prelude.{ℕ, ◌+◌, ◌<◌, ◌≤◌, ◌≡◌, ◌⊎◌, false, List, ◌++◌, length, take, Option, Some}
 use Rattle.std.specs.List.{list_any}
 use Rattle.std.specs.Io.KnownBytes.{Consumes, IsAtEnd}
 use Rattle.mg_model.specs.declared.calls.Line.{Line}
@@ -9,7 +9,7 @@ use Rattle.mg_model.specs.Lines.{lines}
 use Rattle.mg_model.specs.Words.{is_newline}
 use Rattle.mg_serve.specs.declared.ended.Ended.{Ended}
 use Rattle.mg_serve.specs.declared.ended.Ended.TheVariants as ended
-use Rattle.mg_serve.specs.Machines.{Entry, Point}
+use Rattle.mg_serve.specs.Machines.{Entry, IsInside, Point}
 use Rattle.mg_serve.specs.Waiting.{no_replies}
 
 -- the input so far
@@ -54,6 +54,8 @@ pub record Stops {M D : Type 0} (Broken : Ended → Entry M D → List Line → 
   pub bound : length bytes ≤ most
   -- the lines that were stepped are first lines of the bytes that came
   pub came : (more : List Line) × (lines bytes ≡ ls ++ more)
+  -- each of them was ended by a newline, but for a last one at the end of the source
+  pub whole : (length ls ≤ length (ended_lines bytes)) ⊎ (IsInside e × IsAtEnd left')
   -- and of the whole input
   pub will : (rest : List ℕ) → left' ≡ Some rest → (more : List Line) × (lines (bytes ++ rest) ≡ ls ++ more)
   pub put : List ℕ

@@ -10,6 +10,7 @@ use Rattle.mg_io.specs.declared.traits.Sink as sinks
 use Rattle.mg_io.specs.declared.traits.Source as sources
 use Rattle.mg_model.specs.declared.calls.Line.{Line}
 use Rattle.mg_model.specs.Counts.{CountsAlike}
+use Rattle.mg_model.specs.Ended.{ended_lines}
 use Rattle.mg_model.specs.Lines.{lines}
 use Rattle.mg_model.specs.Print.{answered}
 use Rattle.mg_model.specs.State.{State}
@@ -20,7 +21,7 @@ use Rattle.mg_serve.specs.declared.machine.Machine as machines
 use Rattle.mg_serve.specs.declared.status.Status.{Status}
 use Rattle.mg_serve.specs.declared.status.Status.TheVariants as status
 use Rattle.mg_serve.specs.Machines.{Entry, Point}
-use Rattle.mg_serve.specs.Sessions.{Answers, Ends, EndsSession, Holds, HoldsExactly, IsDoneOrMemory, IsPrefix, IsWithin, SpellsAfter, UnlessDisk, taken_of}
+use Rattle.mg_serve.specs.Sessions.{Answers, Ends, EndsSession, Holds, HoldsExactly, IsCut, IsDoneOrMemory, IsPrefix, IsWithin, SpellsAfter, UnlessDisk, taken_of}
 
 -- What each call within a session keeps, whatever comes of it: unless the disk failed the machine is live and stands on the disk;
 -- the two counts of words rise by as much; and the disk and the sink failed only where their counts rose.
@@ -106,6 +107,8 @@ pub record IsTraced {M : Type 0} (is : machines.Ghosts M) (batch : ℕ) (result 
   -- they are among the lines of the bytes that came
   pub few : stepped ≤ length (lines input)
   pub came : (more : List Line) × (lines (taken_of input rest) ≡ take stepped (lines input) ++ more)
+  -- and where the last line was cut, among those that a newline ended
+  pub ended : IsCut result rest → (more : List Line) × (ended_lines (taken_of input rest) ≡ take stepped (lines input) ++ more)
   pub answers : IfSome taken (λ before. IsSomeAnd taken' (λ now. answered (drop (length before) now) ≡ count))
   -- all answered lines are among them, and at most a batch more: none at the end
   pub least : count ≤ stepped

@@ -1,6 +1,6 @@
 -- What a session of any machine keeps: what the sink took, what a stop leaves, and how the session ends. An object that does
 -- not tell its content has None for it; a promise on content is then empty.
-use Rattle.std.specs.Prelude.{ℕ, ◌+◌, ◌-◌, ◌^◌, ◌<◌, ◌≤◌, ◌≡◌, ◌⊎◌, List, [], length, take, drop, Option, Some, IfSome, IsSomeAnd, Result, Ok, Err}
+use Rattle.std.specs.Prelude.{ℕ, ◌+◌, ◌-◌, ◌^◌, ◌<◌, ◌≤◌, ◌≡◌, ◌≢◌, ◌⊎◌, List, [], length, take, drop, Option, Some, IfSome, IsSomeAnd, Result, Ok, Err}
 use Rattle.std.specs.Io.KnownBytes.{Appends}
 use Rattle.mg_disk.specs.Disk.{Image}
 use Rattle.mg_disk.specs.Stops.{Leaves}
@@ -83,6 +83,10 @@ IsWithin limit left promise = IfSome left (λ input. length input ≤ limit → 
 -- the bytes that were taken from an input
 abbrev pub taken_of : List ℕ → List ℕ → List ℕ
 taken_of input rest = take (length input - length rest) input
+
+-- the last of the lines that were taken was cut: bytes are left behind it, or the source failed, or too much came
+abbrev pub IsCut : Status → List ℕ → Type 0
+IsCut result rest = (rest ≢ []) ⊎ ((result ≡ status.Source) ⊎ (result ≡ status.TooLong))
 
 -- A session: what is put
 -- A machine is told by two functions of the lines that it takes: `said`, the text of its replies to them, and `kept`, the

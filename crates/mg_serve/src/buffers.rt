@@ -52,7 +52,7 @@ impl Buffers {
 
     /// One reply more waits, behind the others.
     pub fn add(&mut self, reply: &Reply)
-        requires room { self.old.count < 64 }
+        requires fewer_than_64_waiting { self.old.count < 64 }
         requires slots { HasFewSlots reply.now }
         ensures { self.new ≡ record {
           text = self.old.text ++ reply_line reply.now;
@@ -78,7 +78,7 @@ impl Buffers {
     /// How many replies wait.
     pub fn count(&self) -> u64
         ensures value { result ≡ self.now.count }
-        ensures few { result ≤ 64 }
+        ensures at_most_64 { result ≤ 64 }
     {
         self.count
     }

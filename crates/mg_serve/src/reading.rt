@@ -11,12 +11,9 @@ use crate::incoming::{finish, take_bytes};
 use crate::machine::Machine;
 use crate::partial::PartialLine;
 use mg_disk::Disk;
-use mg_io::{Sink, Source};
+use mg_io::{PIECE, Sink, Source};
 use mg_model::Steps;
 use std::sync::ledger::Ledger;
-
-/// The most bytes that are taken at once.
-const PIECE: usize = 4096;
 
 /// Reads lines to the end of the source, and has a machine step them and put their replies, up to a limit on the bytes. What
 /// waits in `owed` at first is dropped.
@@ -39,7 +36,7 @@ pub(crate) fn serve_lines<M: Machine, D: Disk, S: Source, K: Sink, L: Ledger>(
     requires live { IsTrue (M.is_live machine.old) }
     requires stands { M.StandsOn D D.Disk machine.old disk.old }
     requires staged { M.staged_of machine.old ≡ 0 }
-    requires some { 1 ≤ batch }
+    requires batch_at_least_1 { 1 ≤ batch }
     requires small { batch ≤ 64 }
     ensures finishes { OnOk result (Finishes (Session M.Machine D.Disk) (record { machine = machine.old; disk = disk.old; taken = K.taken sink.old; steps = steps.old }) (S.left source.old) limit
         (record { machine = machine.new; disk = disk.new; owed = owed.new; taken = K.taken sink.new; steps = steps.new }) (S.left source.new)) }

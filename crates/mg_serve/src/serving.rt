@@ -47,7 +47,7 @@ pub fn serve<M: Machine, D: Disk, S: Source, K: Sink, L: Ledger>(
     requires live { IsTrue (M.is_live machine.old) }
     requires stands { M.StandsOn D D.Disk machine.old disk.old }
     requires staged { M.staged_of machine.old ≡ 0 }
-    requires some { 1 ≤ batch }
+    requires batch_at_least_1 { 1 ≤ batch }
     requires small { batch ≤ 64 }
 
     // What the sink took, what a stop leaves, and how the session ends.
@@ -90,7 +90,7 @@ pub fn run<M: Machine, D: Disk, S: Source, K: Sink, L: Ledger>(
     requires live { IsTrue (M.is_live machine.old) }
     requires stands { M.StandsOn D D.Disk machine.old disk.old }
     requires staged { M.staged_of machine.old ≡ 0 }
-    requires some { 1 ≤ batch }
+    requires batch_at_least_1 { 1 ≤ batch }
     requires small { batch ≤ 64 }
     ensures serves { Serves M.Machine D.Disk S.Source K.Sink batch input_limit result machine.old machine.new disk.old disk.new source.old source.new sink.old sink.new steps.old steps.new }
     ensures memory { result ≡ Status.Memory → machine.new ≡ machine.old }

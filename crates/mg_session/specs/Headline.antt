@@ -21,6 +21,7 @@ use Rattle.mg_layout.specs.MayFormat.{IsNoState, MayFormat, ReadsFresh}
 use Rattle.mg_model.specs.declared.calls.Line.{Line}
 use Rattle.mg_model.specs.declared.replies.Reply.{Reply}
 use Rattle.mg_model.specs.Draw.{password_drawn}
+use Rattle.mg_model.specs.Ended.{ended_lines}
 use Rattle.mg_model.specs.Fresh.{fresh, root_base}
 use Rattle.mg_model.specs.Layout.{total_blocks}
 use Rattle.mg_model.specs.Lines.{lines}
@@ -30,16 +31,18 @@ use Rattle.mg_model.specs.State.{State}
 use Rattle.mg_model.specs.Step.{after, step}
 use Rattle.mg_model.specs.Volume.{Damaged, Is, NotVolume, OldVolume, VolumeRead, volume}
 use Rattle.mg_model.specs.Warmth.{cost}
-use Rattle.mg_serve.specs.Sessions.{Answers, Ends, Holds, HoldsExactly, IsDoneOrMemory, IsWithin, SpellsAfter, input_limit, taken_of}
+use Rattle.mg_serve.specs.Sessions.{Answers, Ends, Holds, HoldsExactly, IsCut, IsDoneOrMemory, IsWithin, SpellsAfter, input_limit, taken_of}
 use Rattle.mg_serve.specs.declared.status.Status.{Status}
 use Rattle.mg_serve.specs.declared.status.Status.TheVariants as status
 
 -- A session: what it costs
 
--- the counter of words rose by no more than the lines of the bytes that were taken may cost
-abbrev pub IsWithinCost : State → Option (List ℕ) → Option (List ℕ) → ℕ → ℕ → Type 0
-IsWithinCost s left left' steps steps' =
-    IfSome left (λ input. IsSomeAnd left' (λ rest. steps' ≤ steps + cost s (lines (taken_of input rest))))
+-- the counter of words rose by no more than the lines of the bytes that were taken may cost, and a last one that was cut is not
+-- among them
+abbrev pub IsWithinCost : State → Status → Option (List ℕ) → Option (List ℕ) → ℕ → ℕ → Type 0
+IsWithinCost s result left left' steps steps' =
+    IfSome left (λ input. IsSomeAnd left' (λ rest. (steps' ≤ steps + cost s (lines (taken_of input rest)))
+    × (IsCut result rest → steps' ≤ steps + cost s (ended_lines (taken_of input rest)))))
 
 -- `VOLUME run` and `VOLUME run BATCH`
 
@@ -121,7 +124,7 @@ pub record LinesKeep {D S K : Type 0} (facts : disks.Ghosts D) (from : sources.G
 pub record RunKeeps {D S K : Type 0} (facts : disks.Ghosts D) (from : sources.Ghosts S) (to : sinks.Ghosts K) (batch : ℕ) (result : Status) (disk disk' : D) (source source' : S) (sink sink' : K) (steps steps' : ℕ) : Type 0 where
   pub lines : LinesKeep facts from to text after batch result disk disk' source source' sink sink'
   -- At each status the counter rose by no more than the lines that were read may cost.
-  pub cost : OnVolume (facts.seen disk) (λ s. IsWithinCost s (from.left source) (from.left source') steps steps')
+  pub cost : OnVolume (facts.seen disk) (λ s. IsWithinCost s result (from.left source) (from.left source') steps steps')
 
 -- `VOLUME dry FRAMES SEED CREDITS`
 
@@ -129,7 +132,7 @@ pub record RunKeeps {D S K : Type 0} (facts : disks.Ghosts D) (from : sources.Gh
 pub record DryKeeps {S K : Type 0} (from : sources.Ghosts S) (to : sinks.Ghosts K) (settings : Settings) (result : Status) (source source' : S) (sink sink' : K) (steps steps' : ℕ) : Type 0 where
   pub answers : Answers (text (fresh settings)) result (from.left source) (from.left source') (to.taken sink) (to.taken sink')
   -- At each status the counter rose by no more than the lines that were read may cost.
-  pub cost : IsWithinCost (fresh settings) (from.left source) (from.left source') steps steps'
+  pub cost : IsWithinCost (fresh settings) result (from.left source) (from.left source') steps steps'
   pub ends : Ends from to 64 input_limit result source source' sink sink'
   -- It needs no volume and no disk.
   pub others : (result ≢ status.Usage) × (result ≢ status.NoVolume) × (result ≢ status.Disk) × (result ≢ status.TooSmall)

@@ -22,6 +22,7 @@ use Rattle.mg_kernel.specs.Opening.{Opens}
 use Rattle.mg_laws.specs.Costs.{PrefixesCostLess}
 use Rattle.mg_layout.specs.MayFormat.{IsNoState}
 use Rattle.mg_model.specs.declared.calls.Line.{Line}
+use Rattle.mg_model.specs.Ended.{ended_lines}
 use Rattle.mg_model.specs.Lines.{lines}
 use Rattle.mg_model.specs.Print.{answered}
 use Rattle.mg_model.specs.State.{State}
@@ -49,9 +50,9 @@ none_taken None most = tt
 none_taken (Some input) most = omega arith
 
 -- a command that ended before the first step
-pub none_spent : (s : State) (left : Option (List ℕ)) (steps : ℕ) → IsWithinCost s left left steps steps
-none_spent s None steps = tt
-none_spent s (Some input) steps = omega arith
+pub none_spent : (s : State) (result : Status) (left : Option (List ℕ)) (steps : ℕ) → IsWithinCost s result left left steps steps
+none_spent s result None steps = tt
+none_spent s result (Some input) steps = (omega arith, λ cut. omega arith)
 
 -- a command that ended before the first call of the source and of the sink
 first_answers : (said : List Line → List ℕ) → said [] ≡ [] → (result : Status) (left taken : Option (List ℕ)) → result ≢ status.Done → Answers said result left left taken taken
@@ -407,14 +408,17 @@ module _ {D S K : Type 0} (facts : Ghosts D) (from : sources.Ghosts S) (to : sin
 -- what a session costs, where each step counts what its line may cost
 pub traced_cost : {M : Type 0} (is : machines.Ghosts M) → PrefixesCostLess cost → (batch : ℕ) (result : Status) (m m' : M) (image : Image) (s : State) (left left' taken taken' : Option (List ℕ)) (steps steps' : ℕ)
     → ((ls : List Line) → is.Stepped m image ls steps steps' m' → steps' ≤ steps + cost s ls) → ((ls : List Line) → is.StoppedIn m image ls steps steps' m' → steps' ≤ steps + cost s ls)
-    → Traces is batch result m image left left' taken taken' steps steps' m' → IsWithinCost s left left' steps steps'
+    → Traces is batch result m image left left' taken taken' steps steps' m' → IsWithinCost s result left left' steps steps'
 traced_cost is less batch result m m' image s None left' taken taken' steps steps' stepped stopped t = tt
 traced_cost is less batch result m m' image s (Some input) None taken taken' steps steps' stepped stopped t = absurd t
 traced_cost is less batch result m m' image s (Some input) (Some rest) taken taken' steps steps' stepped stopped t =
     let spent : steps' ≤ steps + cost s (take t.stepped (lines input)) = by_status result t.at_disk t.after in
-    let first = less s (take t.stepped (lines input)) t.came.0 in
-    omega (arith, ap (λ v. cost s v) t.came.1, first)
+    (within (lines (taken_of input rest)) spent t.came, λ cut. within (ended_lines (taken_of input rest)) spent (t.ended cut))
   where
+    -- first lines cost no more than all
+    within : (all : List Line) → steps' ≤ steps + cost s (take t.stepped (lines input)) → (more : List Line) × (all ≡ take t.stepped (lines input) ++ more) → steps' ≤ steps + cost s all
+    within all spent (more, are) = let first = less s (take t.stepped (lines input)) more in omega (arith, ap (λ v. cost s v) are, first)
+
     by_status : (result : Status) → (result ≡ status.Disk → is.Stepped m image (take t.stepped (lines input)) steps steps' m' ⊎ ((t.count < t.stepped) × is.StoppedIn m image (take t.stepped (lines input)) steps steps' m'))
         → (result ≢ status.Disk → is.Stepped m image (take t.stepped (lines input)) steps steps' m') → steps' ≤ steps + cost s (take t.stepped (lines input))
     by_status status.Disk at_disk after = ⊎_elim (λ a. stepped (take t.stepped (lines input)) a) (λ (b : (t.count < t.stepped) × is.StoppedIn m image (take t.stepped (lines input)) steps steps' m'). stopped (take t.stepped (lines input)) b.1) (at_disk refl)

@@ -10,12 +10,10 @@ use mg_disk::Disk;
 use mg_faults::Failed;
 use mg_io::{Sink, put_all};
 use mg_layout::{FormatFault, format};
+use mg_model::limits::ROOT_BASE;
 use mg_model::{Params, draw};
 use mg_serve::Status;
 use mg_text::{print_small, print_words};
-
-/// The base of the root object.
-const ROOT: u64 = 0x1_0000_0000;
 
 /// Makes a volume and puts the line that tells of it. Where the disk has too few blocks it is not called, and the line
 /// tells how many are needed and how many there are. Where a call of the disk failed nothing is put.
@@ -43,7 +41,7 @@ fn put_made<K: Sink>(params: &Params, sink: &mut K) -> Result<(), Failed>
 {
     let seed = params.seed();
     let mut line = ArrayVec::new();
-    print_words(ROOT, draw(&seed, 0), draw(&seed, 1), &mut line);
+    print_words(ROOT_BASE, draw(&seed, 0), draw(&seed, 1), &mut line);
     put_all(sink, line.as_slice())
 }
 

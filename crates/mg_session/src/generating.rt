@@ -35,7 +35,7 @@ pub fn count_run<K: Sink, L: Ledger>(
     sink: &mut K,
     steps: &mut Steps<L>,
 ) -> Status
-    requires few { count ≤ 1000000 }
+    requires count_at_most_1000000 { count ≤ 1000000 }
     ensures { GenKeeps K.Sink number count result sink.old sink.new steps.old steps.new }
 {
     let (mut disk, mut kernel) = match fresh_machine(alloc, &settings()) {
@@ -80,7 +80,7 @@ fn tally_lines<D: Disk, L: Ledger>(
     requires live { IsTrue (is_live kernel.old) }
     requires stands { StandsOn D.Disk kernel.old disk.old }
     requires staged { staged_of kernel.old ≡ 0 }
-    requires few { count ≤ 1000000 }
+    requires count_at_most_1000000 { count ≤ 1000000 }
     ensures counts { IfOk result (λ tally. ForSome (D.seen disk.old) (λ image. tally ≡ tally_of (replies_from (now_of kernel.old image) (run_lines number count)))) }
     ensures cost { OnOk result (ForSome (D.seen disk.old) (λ image. steps.new ≤ steps.old + cost (now_of kernel.old image) (run_lines number count))) }
     ensures calls { DiskCalls D.Disk disk.old disk.new result }

@@ -23,7 +23,7 @@ pub fn run<D: Disk, S: Source, K: Sink, L: Ledger>(
     sink: &mut K,
     steps: &mut Steps<L>,
 ) -> Status
-    requires some { 1 ≤ batch }
+    requires batch_at_least_1 { 1 ≤ batch }
     requires small { batch ≤ 64 }
     ensures keeps { RunKeeps D.Disk S.Source K.Sink batch result disk.old disk.new source.old source.new sink.old sink.new steps.old steps.new }
     ensures disk_blocks { D.block_count disk.new ≡ D.block_count disk.old }

@@ -44,7 +44,7 @@ pub fn serve<D: Disk, S: Source, K: Sink, L: Ledger>(
     requires live { IsTrue (is_live kernel.old) }
     requires stands { StandsOn D.Disk kernel.old disk.old }
     requires staged { staged_of kernel.old ≡ 0 }
-    requires some { 1 ≤ batch }
+    requires batch_at_least_1 { 1 ≤ batch }
     requires small { batch ≤ 64 }
 
     // What the sink took, what a stop leaves, and how the session ends.
@@ -73,8 +73,8 @@ pub fn serve<D: Disk, S: Source, K: Sink, L: Ledger>(
     ensures held_disk { result ≡ Err Ended.Disk → IsTrue (is_live kernel.new) → ForSome (D.seen disk.old) (λ image.
         KeepsExactly (D.left_since disk.new (D.moment disk.new)) (after (now_of kernel.old image)) (S.left source.old) (K.taken sink.old) (K.taken sink.new)) }
 
-    // Whatever ends it, the counter rises by no more than the lines that were read may cost.
-    ensures cost { ForSome (D.seen disk.old) (λ image. IsWithinCost (now_of kernel.old image) (S.left source.old) (S.left source.new) steps.old steps.new) }
+    // Whatever ends it, the counter rises by no more than the lines that were read may cost, and one that was cut is not among them.
+    ensures cost { ForSome (D.seen disk.old) (λ image. IsWithinCost (now_of kernel.old image) (status_of result) (S.left source.old) (S.left source.new) steps.old steps.new) }
 
     // The two counts of words rise by as much, and no count falls.
     ensures counted { CountsAlike (words_in kernel.old) (words_in kernel.new) steps.old steps.new }

@@ -1,10 +1,9 @@
 // The words of the command line.
 ghost use Rattle.std.specs.Prelude.{◌≡◌, ◌≤◌, IfSome, length};
-ghost use Rattle.mg_model.specs.Words.{same_bytes};
 ghost use Rattle.mg_session.specs.Commands.{batch_to_run, batch_within, before_colon, byte_of, check_of, command_of, dry_of, dry_words, format_of, format_usual, format_with, format_words, gen_of, gen_with, gen_words, is_check, lines_within, only_check, only_opening, opening_of, run_alone, run_of, run_to_make, run_with, run_words, seed_of, settings_of, settings_to_make, settings_to_run, settings_with, step_of, step_parts, tariff_of, words_of};
 
 use mg_model::{Params, Tariff};
-use mg_text::{digit, read_number};
+use mg_text::{digit, is_word, read_number};
 
 /// The most lines of a generated run.
 const LINE_LIMIT: u64 = 1_000_000;
@@ -118,7 +117,7 @@ fn within_batch(batch: u64) -> Option<u64>
 /// The number and the lines that `VOLUME gen NUMBER LINES` gives.
 fn generated(words: &[String]) -> Option<(u64, u64)>
     ensures run { result ≡ gen_words (words_of words.now) }
-    ensures few { IfSome result (λ run. run.1 ≤ 1000000) }
+    ensures at_most_1000000_lines { IfSome result (λ run. run.1 ≤ 1000000) }
 {
     match words {
         [_, word, number, lines] => {
@@ -131,7 +130,7 @@ fn generated(words: &[String]) -> Option<(u64, u64)>
 /// The number and the lines that these words give, if the first is `gen`.
 fn gen_with(word: &[u8], number: &[u8], lines: &[u8]) -> Option<(u64, u64)>
     ensures run { result ≡ gen_with word.now number.now lines.now }
-    ensures few { IfSome result (λ run. run.1 ≤ 1000000) }
+    ensures at_most_1000000_lines { IfSome result (λ run. run.1 ≤ 1000000) }
 {
     if is_word(word, b"gen") {
         within_lines(read_number(number)?, read_number(lines)?)
@@ -143,7 +142,7 @@ fn gen_with(word: &[u8], number: &[u8], lines: &[u8]) -> Option<(u64, u64)>
 /// A run of so many lines, if it may have as many.
 fn within_lines(number: u64, lines: u64) -> Option<(u64, u64)>
     ensures run { result ≡ lines_within number lines }
-    ensures few { IfSome result (λ run. run.1 ≤ 1000000) }
+    ensures at_most_1000000_lines { IfSome result (λ run. run.1 ≤ 1000000) }
 {
     if lines <= LINE_LIMIT {
         Some((number, lines))
@@ -226,13 +225,6 @@ fn format_with(
     } else {
         None
     }
-}
-
-/// Whether a word is this one.
-fn is_word(word: &[u8], known: &[u8]) -> bool
-    ensures { result ≡ same_bytes word.now known.now }
-{
-    word == known
 }
 
 /// The settings of a volume with the usual tariff.

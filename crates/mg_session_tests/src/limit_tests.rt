@@ -35,7 +35,7 @@ fn ends_of(alloc: Global, count: usize) -> Result<Ends, AllocError> {
 fn serve_blanks<L: Ledger>(alloc: Global, count: usize, blank: Blank) -> Option<u8>
     requires name { blank.name ≡ L.name }
     requires parts { blank.parts ≡ L.parts }
-    requires some { 0 < blank.parts }
+    requires has_parts { 0 < blank.parts }
 {
     let mut steps = Steps::<L>::new(blank);
     match ends_of(alloc, count) {

@@ -46,8 +46,8 @@ impl Space {
     /// The objects of a table of at most 4,096 places, which has room for 4,096 and is kept as it is. There are none where
     /// two of its rows share a page. All memory that they, and the gaps between them, will need beside it is taken here.
     pub fn of(alloc: Global, table: Vec<Option<ObjRow>>) -> Result<Option<Space>, AllocError>
-        requires few { length table.items ≤ object_limit }
-        requires room { object_limit ≤ vec_capacity table }
+        requires at_most_4096_rows { length table.items ≤ object_limit }
+        requires has_capacity { object_limit ≤ vec_capacity table }
         ensures { IfOk result (λ made. MatchOption made (AreApart (objects_in table.items) → ⊥) (λ space. space ≡ objects_in table.items)) }
     {
         match Objects::of(alloc, table)? {
@@ -77,7 +77,7 @@ impl Space {
     /// How many objects there are, 4,096 at most. No two share a page, and each has a place of its own.
     pub fn len(&self) -> usize
         ensures count { result ≡ length self.now }
-        ensures few { result ≤ object_limit }
+        ensures at_most_4096 { result ≤ object_limit }
         ensures apart { AreApart self.now }
         ensures places { All (λ o. o.0 < object_limit) self.now }
         ensures rows { All (λ o. IsObjectRow o.1) self.now }
@@ -123,9 +123,9 @@ impl Space {
 
     /// The lowest page from which on so many pages, 1 to 1024, meet no object. All objects have at most 65,536 pages.
     pub fn first(&self, pages: u64) -> u64
-        requires some { 1 ≤ pages }
-        requires few { pages ≤ 1024 }
-        requires room { sum_by (λ o. o.1.pages) self.now ≤ 65536 }
+        requires at_least_1_page { 1 ≤ pages }
+        requires at_most_1024_pages { pages ≤ 1024 }
+        requires at_most_65536_pages { sum_by (λ o. o.1.pages) self.now ≤ 65536 }
         ensures lowest { (objects : List Object) → AreRowsOf objects self.now → result ≡ lowest_free objects pages }
         ensures free { All (λ o. (result + pages ≤ page_of o.1) ⊎ (page_behind o.1 ≤ result)) self.now }
         ensures low { first_page ≤ result }
@@ -137,7 +137,7 @@ impl Space {
 
     /// One object more, in the lowest place that is free, and gives that place. It shares no page with another.
     pub fn insert(&mut self, row: ObjRow) -> u64
-        requires few { length self.old < object_limit }
+        requires fewer_than_4096 { length self.old < object_limit }
         requires apart { MeetsNone row self.old }
         ensures objects { self.new ≡ into_place (result, row) self.old }
         ensures place { IsLowestFree result self.old }

@@ -1,3 +1,4 @@
 pub mod Letters
--- Lemmas that crates above cite: the words of a line, taken one by one.
+-- Lemmas that crates above cite: numbers that are printed, and the words of a line, taken one by one.
+pub mod NumberLemmas
 pub mod Pieces

@@ -172,8 +172,8 @@ fn hex_glyph(d: u8) -> u8
 }
 
 fn push_words(out: &mut Buffer, ws: &[u64])
-    requires few { length ws.now ≤ 8 }
-    requires room { array_vec_len out.old ≤ 40 }
+    requires at_most_8_words { length ws.now ≤ 8 }
+    requires at_most_40_bytes { array_vec_len out.old ≤ 40 }
     ensures text { out.new.items ≡ out.old.items ++ spaced (map hex_text ws.now) }
     ensures short { array_vec_len out.new ≤ array_vec_len out.old + 152 }
 {

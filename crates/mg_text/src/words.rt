@@ -6,7 +6,7 @@ ghost use Rattle.mg_model.specs.Words.{is_blank, same_bytes, words};
 /// The first word of these bytes and what stands behind it; None where they have no word.
 pub fn next_word(bytes: &[u8]) -> Option<(&[u8], &[u8])>
     ensures none { IfNone result (words bytes.now ≡ []) }
-    ensures some { IfSome result (λ p. words bytes.now ≡ p.0.now ∷ words p.1.now) }
+    ensures split { IfSome result (λ p. words bytes.now ≡ p.0.now ∷ words p.1.now) }
 {
     let (_, rest) = bytes.split_at(blanks(bytes));
     let (word, more) = rest.split_at(letters(rest));

@@ -96,7 +96,7 @@ fn seat_at(thread: u64, base: u64, right: Right) -> usize
 // The number of a right, in the order of their bits.
 fn number_of(right: Right) -> u64
     ensures number { result ≡ right_number right }
-    ensures few { result < 6 }
+    ensures below_6 { result < 6 }
 {
     match right {
         Right::R => 0,

@@ -11,7 +11,7 @@ use Rattle.mg_model.specs.Limits.{debt_limit}
 use Rattle.mg_model.specs.Replay.{block_of}
 use Rattle.mg_model.specs.Spelling.{Read, account_read, globals_read}
 use Rattle.mg_model.specs.Volume.{account_row_bytes, live_rows}
-use Rattle.mg_pages.specs.Coming.{length_coming}
+use Rattle.mg_pages.specs.ComingLemmas.{length_coming}
 use Rattle.mg_pages.specs.Held.{PagesHeld}
 use Rattle.mg_pages.specs.Laws as laws
 use Rattle.mg_pages.specs.Meaning as pages

@@ -6,7 +6,7 @@ use Rattle.std.proofs.lemmas.Bool.{cases_eq, eq-eqb, le-ltb, lt-ltb, ne_eqb}
 use Rattle.std.proofs.lemmas.List.{get_or-take, get_or_default, length-replicate, length-take, take_more}
 use Rattle.std.proofs.lemmas.List.Elements.{All-cons, All-head, All-nil, All-replicate, All-set, All-tail}
 use Rattle.mg_check.specs.RowsRead as check
-use Rattle.mg_model.specs.KeptLists.{AllPairs-head, AllPairs-tail}
+use Rattle.mg_model.specs.KeptListLemmas.{AllPairs-head, AllPairs-tail}
 use Rattle.mg_model.specs.Layout.{thread_rows}
 use Rattle.mg_model.specs.Ranges.{IsThreadRow}
 use Rattle.mg_model.specs.State.{ThreadRow}

@@ -4,7 +4,7 @@ use Rattle.std.proofs.Common.{refl, sym, ap, subst, ◌∙◌, ⊎_elim}
 use Rattle.std.proofs.lemmas.Bool.{both_ways, cases_Bool, eq-eqb, eqb-true}
 use Rattle.std.proofs.lemmas.List.Elements.{All-cons, All-head, All-tail, All-weaker}
 use Rattle.mg_disk.specs.Disk.{Image}
-use Rattle.mg_model.specs.KeptLists.{All-unmap}
+use Rattle.mg_model.specs.KeptListLemmas.{All-unmap}
 use Rattle.mg_model.specs.Objects.{with_row}
 use Rattle.mg_model.specs.State.{Object, ObjectRow}
 use Rattle.mg_volume.proofs.FoundOwn.{rows_distinct}

@@ -12,12 +12,12 @@ use Rattle.mg_model.specs.Objects.{page_of}
 use Rattle.mg_model.specs.Replay.{replay}
 use Rattle.mg_model.specs.State.{ObjectRow}
 use Rattle.mg_model.specs.Volume.{Is, object_spelled, volume, whole_table}
-use Rattle.mg_pages.specs.Coming.{length_coming, low_coming}
+use Rattle.mg_pages.specs.ComingLemmas.{length_coming, low_coming}
 use Rattle.mg_pages.specs.Committing.{HasContents}
 use Rattle.mg_pages.specs.Held.{PagesHeld}
 use Rattle.mg_pages.specs.Laws as laws
 use Rattle.mg_pages.specs.Meaning as pages
-use Rattle.mg_volume.proofs.Again.{spelled_again, with_pages}
+use Rattle.mg_volume.proofs.StandingPages.{spelled_again, with_pages}
 use Rattle.mg_volume.specs.Contents.{AgreeBehind, IsSet, contents_set, pages_words_behind, same_behind, set_as, volume_contents, volume_of_contents}
 use Rattle.mg_volume.specs.Held.{VolumeHeld}
 use Rattle.mg_volume.specs.Laws.{set_of}

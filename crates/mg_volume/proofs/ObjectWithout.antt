@@ -7,7 +7,7 @@ use Rattle.std.proofs.lemmas.Bool.{and_parts, both_ways, cases_Bool, eqb-false, 
 use Rattle.std.proofs.lemmas.List.Elements.{All-filter, All-get_or, All-head, All-tail, All-weaker, filter_passes}
 use Rattle.std.proofs.lemmas.List.Kept.{AllPairs-filter}
 use Rattle.mg_disk.specs.Disk.{Image}
-use Rattle.mg_model.specs.KeptLists.{All-both, length-filter-le, sum_by-filter-le}
+use Rattle.mg_model.specs.KeptListLemmas.{All-both, length-filter-le, sum_by-filter-le}
 use Rattle.mg_model.specs.Layout.{first_object_block, object_rows}
 use Rattle.mg_model.specs.Objects.{page_behind, page_of, without_object}
 use Rattle.mg_model.specs.Ranges.{IsObjectRow}
@@ -20,13 +20,13 @@ use Rattle.mg_volume.proofs.ObjectRemoved.{IsOrApart, LiesBefore, any_kept, apar
 use Rattle.mg_volume.proofs.ObjectStaged.{distinct_of, objects_staged, placed_of, with_objects}
 use Rattle.mg_volume.proofs.PagesChange.{all-bound, each-bound}
 use Rattle.mg_volume.proofs.RemovedOrder.{filter_order, row_set_none}
-use Rattle.mg_volume.proofs.Again.{spelled_same}
+use Rattle.mg_volume.proofs.StandingPages.{spelled_same}
 use Rattle.mg_volume.specs.Held.{VolumeHeld}
 use Rattle.mg_objects.specs.Held.{by_base}
 use Rattle.mg_volume.specs.Meaning.{IsKept, IsSpelledBy, Spelled, has_page, is_page_in, now_of, objects_in, threads_in}
 use Rattle.mg_volume.proofs.StillStaged.{objects_still}
 use Rattle.mg_volume.specs.Staging.{ObjectsStillStaged, free_place, has_base, place_for, without_row}
-use Rattle.mg_volume.specs.PageWords.{pages-same}
+use Rattle.mg_volume.specs.PageWordLemmas.{pages-same}
 use Rattle.mg_volume.specs.RowLists.{row_set, set_other, set_placed}
 use Rattle.mg_volume.specs.Sound.{all_spelled}
 use Rattle.mg_volume.proofs.Staged.{objects_apart}

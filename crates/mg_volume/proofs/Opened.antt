@@ -23,7 +23,7 @@ use Rattle.mg_model.specs.Replay.{block_of, replay}
 use Rattle.mg_model.specs.Spelling.{account_read, globals_read, object_read, thread_read}
 use Rattle.mg_model.specs.State.{Object, ObjectRow, State, ThreadRow}
 use Rattle.mg_model.specs.Tests.{all_distinct}
-use Rattle.mg_model.specs.TestsTell.{list_all-tells}
+use Rattle.mg_model.specs.RowTestLemmas.{list_all-tells}
 use Rattle.mg_model.specs.Volume.{Rows, account_row_bytes, accounts_fit, bound_pages, has_no_gap, is_page_of, live_rows, object_row_bytes, objects_fit, replayed_volume, state_fits, table_of, thread_row_bytes, threads_fit, volume, whole_table}
 use Rattle.mg_objects.specs.Held as held
 use Rattle.mg_objects.specs.Held.{AreApart, by_base}

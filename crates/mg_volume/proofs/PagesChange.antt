@@ -16,10 +16,10 @@ use Rattle.mg_model.specs.Volume.{bound_pages, page_words}
 use Rattle.mg_pages.specs.Held.{PagesHeld}
 use Rattle.mg_pages.specs.Meaning as pages
 use Rattle.mg_volume.proofs.FreeFrame.{free_frame}
-use Rattle.mg_volume.proofs.Again.{with_pages}
+use Rattle.mg_volume.proofs.StandingPages.{with_pages}
 use Rattle.mg_volume.specs.Held.{VolumeHeld}
 use Rattle.mg_volume.specs.Meaning.{IsKept, Keeps, SameParts, accounts_in, counters_in, has_page, is_live, is_page_in, is_sound, now_of, objects_in, settings_in, staged_of, threads_in, total_of}
-use Rattle.mg_volume.specs.PageWords.{objects-set, word-spelled}
+use Rattle.mg_volume.specs.PageWordLemmas.{objects-set, word-spelled}
 use Rattle.mg_volume.specs.Sound.{all_spelled, is_sound_held, sound_is}
 
 -- what is not pages stays

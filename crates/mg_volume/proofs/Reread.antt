@@ -14,7 +14,7 @@ use Rattle.mg_model.specs.Replay.{block_of, replay}
 use Rattle.mg_model.specs.Spelling.{account_read, globals_read, object_read, thread_read}
 use Rattle.mg_model.specs.State.{Counters, ObjectRow, ThreadRow}
 use Rattle.mg_model.specs.Volume.{Damaged, Is, Rows, account_row_bytes, live_rows, object_row_bytes, replayed_volume, rows_of, thread_row_bytes, volume, volume_behind, whole_table}
-use Rattle.mg_model.specs.VolumeReads.{rows_from, rows_with, volume-opened}
+use Rattle.mg_model.specs.VolumeLemmas.{rows_from, rows_with, volume-opened}
 use Rattle.mg_volume.specs.Contents.{IsSet, contents_set, opened, replay_set, rows_behind, same_behind, volume_contents}
 
 -- the rows, part by part

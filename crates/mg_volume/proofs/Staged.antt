@@ -11,14 +11,14 @@ use Rattle.mg_model.specs.Replay.{block_of}
 use Rattle.mg_model.specs.Volume.{object_spelled, page_words}
 use Rattle.mg_model.specs.Spelling.{globals_read}
 use Rattle.mg_model.specs.State.{Counters, ObjectRow}
-use Rattle.mg_pages.specs.Coming.{length_coming}
+use Rattle.mg_pages.specs.ComingLemmas.{length_coming}
 use Rattle.mg_pages.specs.Held.{PagesHeld}
 use Rattle.mg_pages.specs.Laws as laws
 use Rattle.mg_pages.specs.Meaning as pages
 use Rattle.mg_volume.specs.Contents.{AgreeIn, accounts_within, objects_within, threads_within}
 use Rattle.mg_volume.specs.Held.{VolumeHeld}
 use Rattle.mg_volume.specs.Meaning.{IsSpelledBy, Spelled, now_of, threads_in}
-use Rattle.mg_volume.specs.PageWords.{pages-same}
+use Rattle.mg_volume.specs.PageWordLemmas.{pages-same}
 use Rattle.mg_volume.specs.Sound.{all_spelled}
 
 -- other blocks are as they were

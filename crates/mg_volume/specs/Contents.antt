@@ -16,8 +16,8 @@ use Rattle.mg_model.specs.Settings.{Settings}
 use Rattle.mg_model.specs.Spelling.{Spells, account_read, globals_read, object_read, super_read, thread_read}
 use Rattle.mg_model.specs.State.{Counters, ObjectRow, ThreadRow}
 use Rattle.mg_model.specs.Volume.{Damaged, Rows, account_row_bytes, fitting, is_gated, live_rows, object_row_bytes, objects_spelled, page_words, pages_words, replayed_volume, rows_of, state_spelled, table_entries, thread_row_bytes, volume, volume_behind, whole_table, IsOpened, gate_byte}
-use Rattle.mg_model.specs.VolumeReads.{live_rows-same, rows_from, rows_with, state_with, volume-opened}
-use Rattle.mg_pages.specs.Coming.{length_replay, replay_low}
+use Rattle.mg_model.specs.VolumeLemmas.{live_rows-same, rows_from, rows_with, state_with, volume-opened}
+use Rattle.mg_pages.specs.ComingLemmas.{length_replay, replay_low}
 use Rattle.mg_pages.specs.Committing.{HasContents}
 use Rattle.mg_rows.specs.Blocks.{account_in, object_in}
 

@@ -13,8 +13,8 @@ pub mod PagesOver
 pub mod Sound
 -- Lemmas that crates above cite, and what these rest on. None of them is part of a statement.
 pub mod Contents
-pub mod Formed
+pub mod FormedLemmas
 pub mod Laws
-pub mod PageWords
-pub mod Placed
+pub mod PageWordLemmas
+pub mod RangeLemmas
 pub mod RunLemmas

@@ -34,7 +34,7 @@ pub(crate) fn account_block(rows: &[AccRow], k: u64) -> Block
 /// Stages block k of the table, k below 16, as the accounts are.
 pub(crate) fn stage_accounts(pages: &mut Pages, rows: &[AccRow], k: u64)
     requires block { k < 16 }
-    requires room { staged_of pages.old < body_limit }
+    requires fewer_than_160_staged { staged_of pages.old < body_limit }
     ensures { StagesAccounts 1 (λ i. i == k) rows.now pages.old pages.new }
 {
     let block = account_block(rows, k);
@@ -45,7 +45,7 @@ pub(crate) fn stage_accounts(pages: &mut Pages, rows: &[AccRow], k: u64)
 pub(crate) fn stage_both(pages: &mut Pages, rows: &[AccRow], j: u64, k: u64)
     requires first { j < 16 }
     requires second { k < 16 }
-    requires room { staged_of pages.old ≤ 158 }
+    requires at_most_158_staged { staged_of pages.old ≤ 158 }
     ensures { StagesAccounts 2 (λ i. (i == j) || (i == k)) rows.now pages.old pages.new }
 {
     stage_accounts(pages, rows, j);
@@ -54,8 +54,8 @@ pub(crate) fn stage_both(pages: &mut Pages, rows: &[AccRow], j: u64, k: u64)
 
 /// Stages the first n blocks of the table, at most 16.
 pub(crate) fn stage_first(pages: &mut Pages, rows: &[AccRow], n: u64)
-    requires few { n ≤ 16 }
-    requires room { staged_of pages.old ≤ 144 }
+    requires n_at_most_16 { n ≤ 16 }
+    requires at_most_144_staged { staged_of pages.old ≤ 144 }
     ensures { StagesAccounts 16 (λ k. nat_lt k n) rows.now pages.old pages.new }
 {
     for k in 0..n {

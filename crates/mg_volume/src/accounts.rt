@@ -16,7 +16,7 @@ use mg_bank::Bank;
 fn block_of(accounts: &Bank, n: u64) -> u64
     requires there { is_some (account_of accounts.now n) ≡ true }
     ensures block { result ≡ (n - 1) / 64 }
-    ensures few { result < 16 }
+    ensures below_16 { result < 16 }
 {
     match accounts.row(n) {
         Some(_) => (n - 1) / 64,
@@ -28,7 +28,7 @@ fn block_of(accounts: &Bank, n: u64) -> u64
 fn block_count(accounts: u64) -> u64
     requires { accounts ≤ 1024 }
     ensures all { accounts ≤ 64 * result }
-    ensures few { result ≤ 16 }
+    ensures at_most_16 { result ≤ 16 }
 {
     (accounts + 63) / 64
 }
@@ -39,8 +39,8 @@ impl Volume {
     pub fn open_account(&mut self, payer: u64, amount: u64, password: u64)
         requires payer { is_some (account_of (accounts_in self.old) payer) ≡ true }
         requires enough { amount ≤ balance_of (accounts_in self.old) payer }
-        requires few { length (accounts_in self.old) < 1024 }
-        requires room { staged_of self.old ≤ 158 }
+        requires fewer_than_1024_accounts { length (accounts_in self.old) < 1024 }
+        requires at_most_158_staged { staged_of self.old ≤ 158 }
         ensures now { (image : List (List ℕ)) → now_of self.new image ≡ record (now_of self.old image) { accounts = taken_from (accounts_in self.old) payer amount ++ record { password = password; balance = amount; owed = 0 } ∷ [] } }
         ensures rows { objects_in self.new ≡ objects_in self.old }
         ensures stages { Stages 2 self.old self.new }
@@ -58,7 +58,7 @@ impl Volume {
         requires from { is_some (account_of (accounts_in self.old) from) ≡ true }
         requires to { is_some (account_of (accounts_in self.old) to) ≡ true }
         requires enough { amount ≤ balance_of (accounts_in self.old) from }
-        requires room { staged_of self.old ≤ 158 }
+        requires at_most_158_staged { staged_of self.old ≤ 158 }
         ensures now { (image : List (List ℕ)) → now_of self.new image ≡ record (now_of self.old image) { accounts = given_to (taken_from (accounts_in self.old) from amount) to amount } }
         ensures rows { objects_in self.new ≡ objects_in self.old }
         ensures stages { Stages 2 self.old self.new }
@@ -73,7 +73,7 @@ impl Volume {
     /// The rate of the rent now: credits for each page of an account and period, at most `2^20`.
     pub fn rate(&self) -> u64
         ensures rate { (image : List (List ℕ)) → result ≡ rate_now (now_of self.now image) }
-        ensures few { result ≤ step_limit }
+        ensures at_most_step_limit { result ≤ step_limit }
     {
         mg_rent::rate(&self.params().tariff(), self.used())
     }
@@ -83,7 +83,7 @@ impl Volume {
     /// staged, and 17 more at most then.
     pub fn collect(&mut self) -> u64
         requires before { (counters_in self.old).period < period_limit }
-        requires room { staged_of self.old ≤ 143 }
+        requires at_most_143_staged { staged_of self.old ≤ 143 }
         ensures now { (image : List (List ℕ)) → now_of self.new image ≡ record (now_of self.old image) { counters = record (counters_in self.old) { period = (counters_in self.old).period + 1 }; accounts = rent_accounts (now_of self.old image) } }
         ensures paid { (image : List (List ℕ)) → result ≡ rent_paid (now_of self.old image) }
         ensures rows { objects_in self.new ≡ objects_in self.old }
@@ -111,7 +111,7 @@ impl Volume {
         requires begun { 1 ≤ (counters_in self.old).period }
         requires debts { OweAtMost (debt_limit ((counters_in self.old).period - 1)) (accounts_in self.old) }
         requires rate { rate ≤ step_limit }
-        requires room { staged_of self.old ≤ 144 }
+        requires at_most_144_staged { staged_of self.old ≤ 144 }
         ensures now { (image : List (List ℕ)) → now_of self.new image ≡ at_rate rate (now_of self.old image) }
         ensures paid { (image : List (List ℕ)) → result ≡ all_paid (now_of self.old image).objects rate 1 (now_of self.old image).accounts }
         ensures rows { objects_in self.new ≡ objects_in self.old }

@@ -41,7 +41,7 @@ pub(crate) fn object_block(objects: &Space, quad: u64) -> Block
 /// Stages the block of the row at a place, as the objects are held.
 pub(crate) fn stage_row(pages: &mut Pages, objects: &Space, place: u64)
     requires place { place < object_limit }
-    requires room { (is_staged pages.old (first_object_block + place / 4) ≡ true) ⊎ (staged_of pages.old < body_limit) }
+    requires staged_or_fewer_than_160 { (is_staged pages.old (first_object_block + place / 4) ≡ true) ⊎ (staged_of pages.old < body_limit) }
     ensures rows { StagesRows objects.now place pages.old pages.new }
     ensures table { table_in pages.new ≡ table_in pages.old }
     ensures shape { SameShape pages.old pages.new }

@@ -15,7 +15,7 @@ use mg_space::Space;
 /// Takes the object with this base out, and stages that its row is free. It gives that row, with its place.
 pub(crate) fn take_object(objects: &mut Space, pages: &mut Pages, base: u64) -> (u64, ObjRow)
     requires there { list_any (λ o. o.1.base == base) objects.old ≡ true }
-    requires few { staged_of pages.old < body_limit }
+    requires fewer_than_160_staged { staged_of pages.old < body_limit }
     ensures taken { find (λ o. o.1.base == base) objects.old ≡ Some result }
     ensures objects { objects.new ≡ filter (λ o. not (o.1.base == base)) objects.old }
     ensures rows { StagesRows objects.new result.0 pages.old pages.new }
@@ -34,7 +34,7 @@ pub(crate) fn take_object(objects: &mut Space, pages: &mut Pages, base: u64) -> 
 
 /// Unbinds the pages of an object: they read as zeros.
 pub(crate) fn release_object(pages: &mut Pages, row: &ObjRow)
-    requires few { staged_of pages.old ≤ 32 }
+    requires at_most_32_staged { staged_of pages.old ≤ 32 }
     ensures released { (image : List (List ℕ)) → Releases pages.old pages.new image (page_of row.now) row.now.pages }
     ensures unbinds { Unbinds (page_of row.now) row.now.pages pages.old pages.new }
     ensures shape { SameShape pages.old pages.new }

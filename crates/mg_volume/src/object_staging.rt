@@ -25,7 +25,7 @@ impl Volume {
     /// one more is at most. The state is the one that any change gives which makes this row of the old one.
     pub fn change(&mut self, row: ObjRow)
         requires change { MayChange (objects_in self.old) row }
-        requires room { (is_object_staged self.old row.base ≡ true) ⊎ (staged_of self.old < body_limit) }
+        requires staged_or_fewer_than_160 { (is_object_staged self.old row.base ≡ true) ⊎ (staged_of self.old < body_limit) }
         ensures now { (change : ObjectRow → ObjectRow) → IfSome (find (λ old. old.base == row.base) (objects_in self.old)) (λ old. change old ≡ row)
             → (image : List (List ℕ)) → now_of self.new image ≡ record (now_of self.old image) { objects = with_row row.base change (now_of self.old image).objects } }
         ensures rows { objects_in self.new ≡ with_other_row row (objects_in self.old) }
@@ -44,7 +44,7 @@ impl Volume {
     /// already, or fewer than 160 are; one more is at most.
     pub fn insert(&mut self, row: ObjRow)
         requires join { MayJoin (objects_in self.old) (settings_in self.old).frames row }
-        requires room { (is_object_staged self.old row.base ≡ true) ⊎ (staged_of self.old < body_limit) }
+        requires staged_or_fewer_than_160 { (is_object_staged self.old row.base ≡ true) ⊎ (staged_of self.old < body_limit) }
         ensures now { (image : List (List ℕ)) → now_of self.new image ≡ record (now_of self.old image) { objects = with_object (blank row) (now_of self.old image).objects } }
         ensures rows { objects_in self.new ≡ with_new_row row (objects_in self.old) }
         ensures stages { Stages 1 self.old self.new }
@@ -61,7 +61,7 @@ impl Volume {
     /// most 30 blocks are staged, and at most 129 more then.
     pub fn remove(&mut self, base: u64)
         requires there { has_base base (objects_in self.old) ≡ true }
-        requires few { staged_of self.old ≤ 30 }
+        requires at_most_30_staged { staged_of self.old ≤ 30 }
         ensures now { (image : List (List ℕ)) → now_of self.new image ≡ record (now_of self.old image) { objects = without_object base (now_of self.old image).objects } }
         ensures rows { objects_in self.new ≡ without_row base (objects_in self.old) }
         ensures stages { Stages 129 self.old self.new }

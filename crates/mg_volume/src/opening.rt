@@ -6,6 +6,7 @@ ghost use Rattle.mg_disk.specs.Stops.{DiskCallsBy, Leaves, NothingPending};
 ghost use Rattle.mg_journal.specs.Contents.{SameContents};
 ghost use Rattle.mg_journal.specs.Looked.{Fits};
 ghost use Rattle.mg_model.specs.Layout.{thread_rows, total_blocks};
+ghost use Rattle.mg_model.specs.Limits.{object_limit};
 ghost use Rattle.mg_model.specs.Tests.{all_distinct};
 ghost use Rattle.mg_model.specs.Volume.{bound_pages, volume};
 ghost use Rattle.mg_objects.specs.Held.{AreApart, objects_in};
@@ -42,8 +43,8 @@ fn lists_of(
     rows: Vec<(u64, ThrRow)>,
     accounts: Bank,
 ) -> Option<Lists>
-    requires places { length table.items ≤ 4096 }
-    requires room { 4096 ≤ vec_capacity table }
+    requires at_most_4096_rows { length table.items ≤ object_limit }
+    requires has_capacity { object_limit ≤ vec_capacity table }
     requires apart { AreApart (objects_in table.items) }
     requires placed { ArePlaced thread_rows rows.items }
     ensures objects { IfSome result (λ lists. lists.objects ≡ objects_in table.items) }
@@ -72,11 +73,11 @@ fn open_pages<D: Disk>(
     view: View,
     disk: &mut D,
 ) -> Result<Pages, OpenFault>
-    requires some { 16 ≤ length entries.items }
-    requires few { length entries.items ≤ 65536 }
+    requires at_least_16_entries { 16 ≤ length entries.items }
+    requires at_most_65536_entries { length entries.items ≤ 65536 }
     requires total { view.total ≡ total_blocks (length entries.items) }
     requires distinct { all_distinct (bound_pages entries.items) ≡ true }
-    requires room { view.total ≤ D.block_count disk.old }
+    requires within_disk { view.total ≤ D.block_count disk.old }
     requires fits { ForSome (D.seen disk.old) (λ image. Fits view image) }
     ensures opened { IfOk result (λ p. ArePagesOver D.Disk (store_of p) entries.items view.total p disk.new) }
     ensures contents { ForSome (D.seen disk.old) (λ image. IsSomeAnd (D.seen disk.new) (SameContents view.total image)) }
@@ -109,7 +110,7 @@ pub(crate) fn open_rows<D: Disk>(
     requires told { ForSome (D.seen disk.old) (IsReadAs rows) }
     requires fits { ForSome (D.seen disk.old) (λ image. Fits view image) }
     requires total { view.total ≡ total_blocks rows.params.frames }
-    requires room { view.total ≤ D.block_count disk.old }
+    requires within_disk { view.total ≤ D.block_count disk.old }
     ensures opens { IfOk result (λ v. ForSome (D.seen disk.old) (λ image. Opens (volume image) v (D.seen disk.new))) }
     ensures stands { IfOk result (λ v. StandsOn D.Disk v disk.new) }
     ensures sound { IfOk result (λ v. (image : List (List ℕ)) → is_sound (now_of v image) ≡ true) }

@@ -23,7 +23,7 @@ impl Volume {
     /// already, or fewer than 160 blocks are; one more is at most.
     pub fn stage_globals(&mut self, g: Globals)
         requires period { (counters_in self.old).period ≤ g.period }
-        requires room { (are_counters_staged self.old ≡ true) ⊎ (staged_of self.old < body_limit) }
+        requires staged_or_fewer_than_160 { (are_counters_staged self.old ≡ true) ⊎ (staged_of self.old < body_limit) }
         ensures now { (image : List (List ℕ)) → now_of self.new image ≡ record (now_of self.old image) { counters = g } }
         ensures rows { objects_in self.new ≡ objects_in self.old }
         ensures stages { Stages 1 self.old self.new }
@@ -39,9 +39,9 @@ impl Volume {
     /// Stages the row of thread t, 1 to 256, in place of the one that it has, or that there is no such thread. Its block is
     /// staged already, or fewer than 160 blocks are; one more is at most.
     pub fn stage_thread(&mut self, t: u64, row: Option<ThrRow>)
-        requires some { 1 ≤ t }
-        requires few { t ≤ 256 }
-        requires room { (is_thread_staged self.old t ≡ true) ⊎ (staged_of self.old < body_limit) }
+        requires t_at_least_1 { 1 ≤ t }
+        requires t_at_most_256 { t ≤ 256 }
+        requires staged_or_fewer_than_160 { (is_thread_staged self.old t ≡ true) ⊎ (staged_of self.old < body_limit) }
         ensures now { (image : List (List ℕ)) → now_of self.new image ≡ record (now_of self.old image) { threads = threads_with t row (threads_in self.old) } }
         ensures rows { objects_in self.new ≡ objects_in self.old }
         ensures stages { Stages 1 self.old self.new }
@@ -65,7 +65,7 @@ impl Volume {
     /// state is the one that any change gives which makes this row of the old one.
     pub fn change_thread(&mut self, t: u64, row: ThrRow)
         requires lives { lives self.old t ≡ true }
-        requires room { (is_thread_staged self.old t ≡ true) ⊎ (staged_of self.old < body_limit) }
+        requires staged_or_fewer_than_160 { (is_thread_staged self.old t ≡ true) ⊎ (staged_of self.old < body_limit) }
         ensures now { (change : ThreadRow → ThreadRow) → IfSome (find (λ thread. thread.number == t) (threads_in self.old)) (λ thread. change thread.row ≡ row)
             → (image : List (List ℕ)) → now_of self.new image ≡ with_thread (now_of self.old image) t change }
         ensures rows { objects_in self.new ≡ objects_in self.old }
@@ -82,8 +82,8 @@ impl Volume {
     /// The next password that is drawn. The count of draws, below `2^32`, rises by one and is staged: the block of the
     /// counters is staged already, or fewer than 160 blocks are; one more is at most.
     pub fn next_password(&mut self) -> u64
-        requires room { (are_counters_staged self.old ≡ true) ⊎ (staged_of self.old < body_limit) }
-        requires few { (counters_in self.old).draws < 2 ^ 32 }
+        requires staged_or_fewer_than_160 { (are_counters_staged self.old ≡ true) ⊎ (staged_of self.old < body_limit) }
+        requires fewer_than_2_32_draws { (counters_in self.old).draws < 2 ^ 32 }
         ensures drawn { (image : List (List ℕ)) → result ≡ next_password (now_of self.old image) }
         ensures now { (image : List (List ℕ)) → now_of self.new image ≡ drawn (now_of self.old image) }
         ensures rows { objects_in self.new ≡ objects_in self.old }

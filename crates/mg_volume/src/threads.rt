@@ -64,8 +64,8 @@ impl Threads {
     /// The thread with this number, 1 to 256.
     pub(crate) fn get(&self, t: u64) -> Option<&ThrRow>
         ensures found { option_copied result ≡ option_map (λ thread. thread.1) (find (λ thread. thread.0 == t) self.now) }
-        ensures some { IfSome result (λ _. 1 ≤ t) }
-        ensures few { IfSome result (λ _. t ≤ 256) }
+        ensures t_at_least_1 { IfSome result (λ _. 1 ≤ t) }
+        ensures t_at_most_256 { IfSome result (λ _. t ≤ 256) }
     {
         let rows = &self.rows;
         if t == 0 {
@@ -79,8 +79,8 @@ impl Threads {
 
     /// Another row for thread t, 1 to 256, or that there is no such thread.
     pub(crate) fn put(&mut self, t: u64, row: Option<ThrRow>)
-        requires some { 1 ≤ t }
-        requires few { t ≤ 256 }
+        requires t_at_least_1 { 1 ≤ t }
+        requires t_at_most_256 { t ≤ 256 }
         ensures { self.new ≡ rows_with t row self.old }
     {
         keep_range(&row);
@@ -116,7 +116,7 @@ impl Threads {
 
     /// There are 256 at most, no two have one number, and their rows keep their ranges. It does nothing but tell.
     pub(crate) fn keep_rules(&self)
-        ensures few { length self.now ≤ 256 }
+        ensures at_most_256 { length self.now ≤ 256 }
         ensures apart { DistinctBy (λ thread. thread.0) self.now }
         ensures rows { All (λ thread. IsThreadRow thread.1) self.now }
     {

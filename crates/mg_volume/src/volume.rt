@@ -164,8 +164,8 @@ impl Volume {
 
     /// The lowest page from which on so many pages, 1 to 1024, meet no object.
     pub fn first(&self, pages: u64) -> u64
-        requires some { 1 ≤ pages }
-        requires few { pages ≤ 1024 }
+        requires at_least_1_page { 1 ≤ pages }
+        requires at_most_1024_pages { pages ≤ 1024 }
         ensures lowest { (image : List (List ℕ)) → result ≡ lowest_free (now_of self.now image).objects pages }
         ensures place { IsPlace (page_size * result) pages }
         ensures apart { list_all (λ other. nat_le (result + pages) (page_of other) || nat_le (page_behind other) result) (objects_in self.now) ≡ true }
@@ -178,7 +178,7 @@ impl Volume {
     #[tactic(auto, unfolding(crate::specs::Meaning::accounts_in))]
     pub fn account(&self, n: u64) -> Option<AccRow>
         ensures found { result ≡ account_of (accounts_in self.now) n }
-        ensures few { IfSome result (λ _. (1 ≤ n) × (n ≤ 1024)) }
+        ensures within_1_and_1024 { IfSome result (λ _. (1 ≤ n) × (n ≤ 1024)) }
     {
         self.accounts.row(n)
     }
@@ -187,7 +187,7 @@ impl Volume {
     #[tactic(auto, unfolding(crate::specs::Meaning::accounts_in))]
     pub fn account_count(&self) -> u64
         ensures count { result ≡ length (accounts_in self.now) }
-        ensures few { result ≤ 1024 }
+        ensures at_most_1024 { result ≤ 1024 }
     {
         self.accounts.len()
     }
@@ -196,8 +196,8 @@ impl Volume {
     #[tactic(auto, unfolding(crate::specs::Meaning::accounts_in))]
     pub fn opens(&self, n: u64, password: u64) -> bool
         ensures opens { result ≡ opens (accounts_in self.now) n password }
-        ensures some { result ≡ true → 1 ≤ n }
-        ensures few { result ≡ true → n ≤ 1024 }
+        ensures n_at_least_1 { result ≡ true → 1 ≤ n }
+        ensures n_at_most_1024 { result ≡ true → n ≤ 1024 }
     {
         self.accounts.opens(n, password)
     }
@@ -221,7 +221,7 @@ impl Volume {
     // The row of the thread with this number.
     fn found(&self, t: u64) -> Option<&ThrRow>
         ensures found { option_copied result ≡ option_map (λ thread. thread.1) (find (λ thread. thread.0 == t) self.now.threads) }
-        ensures few { IfSome result (λ _. (1 ≤ t) × (t ≤ 256)) }
+        ensures within_1_and_256 { IfSome result (λ _. (1 ≤ t) × (t ≤ 256)) }
     {
         self.threads.get(t)
     }
@@ -229,7 +229,7 @@ impl Volume {
     /// The thread with this number, 1 to 256.
     pub fn thread(&self, t: u64) -> Option<ThrRow>
         ensures found { option_map (λ thread. thread.row) (find (λ thread. thread.number == t) (threads_in self.now)) ≡ result }
-        ensures few { IfSome result (λ _. (1 ≤ t) × (t ≤ 256)) }
+        ensures within_1_and_256 { IfSome result (λ _. (1 ≤ t) × (t ≤ 256)) }
     {
         match self.found(t) {
             Some(row) => Some(*row),
@@ -275,7 +275,7 @@ impl Volume {
     pub fn frame(&self, t: u64) -> Option<Frame>
         ensures found { MatchOption result (find (λ thread. thread.number == t) (threads_in self.now) ≡ None)
             (λ frame. (thread : Thread) × (find (λ thread. thread.number == t) (threads_in self.now) ≡ Some thread) × (slice_get thread.row.frames (length thread.row.frames - 1) ≡ Some frame)) }
-        ensures few { IfSome result (λ _. (1 ≤ t) × (t ≤ 256)) }
+        ensures within_1_and_256 { IfSome result (λ _. (1 ≤ t) × (t ≤ 256)) }
     {
         match self.found(t) {
             Some(row) => Some(row.last()),

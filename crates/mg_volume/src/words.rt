@@ -50,7 +50,7 @@ impl Volume {
         requires stands { StandsOn D.Disk self.old disk.old }
         requires page { has_page self.old page ≡ true }
         requires index { index < 512 }
-        requires few { staged_of self.old ≤ 158 }
+        requires at_most_158_staged { staged_of self.old ≤ 158 }
         ensures sets { OnOk result (ForSome (D.seen disk.old) (λ image. now_of self.new image ≡ record (now_of self.old image) { objects = with_word (now_of self.old image).objects (page_size * page + 8 * index) value })) }
         ensures failed { OnErr result (Keeps self.old self.new) }
         ensures rows { objects_in self.new ≡ objects_in self.old }

@@ -7,12 +7,11 @@ use crate::trials::{Row, wrong_row};
 use mg_disk::{Disk, MemDisk};
 use mg_kernel::Kernel;
 use mg_layout::format;
+pub(crate) use mg_model::limits::ROOT_BASE as ROOT;
 use mg_model::{Params, Steps, Tariff};
 use std::alloc::Global;
 use std::marker::Brand;
 use std::sync::ledger::{Blank, Ledger};
-
-pub(crate) const ROOT: u64 = 0x1_0000_0000;
 
 /// What is tried on a fresh volume of 64 frames.
 #[derive(Clone, Copy)]
@@ -245,7 +244,7 @@ fn goes_well_on_zeros<L: Ledger>(alloc: Global, trial: Trial, steps: &mut Steps<
 fn tried<L: Ledger>(alloc: Global, blank: Blank, trial: Trial) -> bool
     requires name { blank.name ≡ L.name }
     requires parts { blank.parts ≡ L.parts }
-    requires some { 0 < blank.parts }
+    requires has_parts { 0 < blank.parts }
 {
     let mut steps = Steps::<L>::new(blank);
     goes_well_on_zeros(alloc, trial, &mut steps)

@@ -40,7 +40,7 @@ impl Windows {
     /// How many devices are attached, 0 to 16, no two at one base.
     pub fn len(&self) -> usize
         ensures count { result ≡ length self.now }
-        ensures few { result ≤ 16 }
+        ensures at_most_16 { result ≤ 16 }
         ensures apart { are_apart self.now ≡ true }
     {
         self.list.len()
@@ -147,8 +147,8 @@ impl Windows {
 // Drops the device at a base.
 fn drop_from(list: &mut Vec<(u64, Device)>, base: u64)
     ensures others { list.new.items ≡ without list.old.items base }
-    ensures few { length list.new.items ≤ length list.old.items }
-    ensures room { vec_capacity list.new ≡ vec_capacity list.old }
+    ensures no_more_than_before { length list.new.items ≤ length list.old.items }
+    ensures same_capacity { vec_capacity list.new ≡ vec_capacity list.old }
 {
     list.retain(|window| window.0 != base);
 }

@@ -127,7 +127,7 @@ fn run<D: Disk, S: Source, K: Sink, L: Ledger>(
 ) -> Status
     requires name { blank.name ≡ L.name }
     requires parts { blank.parts ≡ L.parts }
-    requires some { 0 < blank.parts }
+    requires has_parts { 0 < blank.parts }
 {
     let mut steps = Steps::<L>::new(blank);
     top(alloc, words, disk, source, sink, &mut steps)

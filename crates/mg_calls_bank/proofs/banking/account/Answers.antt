@@ -18,8 +18,8 @@ open_account-requires-clause-enough c =
     let kept = drawn-accounts c.args.v.now c.next_password-fresh.new.self c.next_password-fresh.ensures.now in
     subst (λ (accounts : List AccRow). c.args.amount ≤ balance_of accounts c.args.account) (sym kept) c.in-None.ensures.may.enough
 
-pub open_account-requires-clause-few : goal.open_account-requires-clause-few
-open_account-requires-clause-few c =
+pub open_account-requires-clause-fewer_than_1024_accounts : goal.open_account-requires-clause-fewer_than_1024_accounts
+open_account-requires-clause-fewer_than_1024_accounts c =
     let kept = drawn-accounts c.args.v.now c.next_password-fresh.new.self c.next_password-fresh.ensures.now in
     subst (λ (accounts : List AccRow). length accounts < 1024) (sym kept) c.in-None.ensures.may.few
 

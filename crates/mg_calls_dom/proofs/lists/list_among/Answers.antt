@@ -18,7 +18,7 @@ returns-then-branch-clause-reads g c =
 pub loop-slot-preserved : goal.loop-slot-preserved
 loop-slot-preserved g c = record {
   reads = reads_then g.D.Disk c.args.v.now c.loop-slot.v c.slot_opens.new.v c.args.disk.now c.loop-slot.disk c.slot_opens.new.disk c.args.steps.now c.loop-slot.steps c.slot_opens.new.steps c.loop-slot.invariant.reads c.slot_opens.ensures.reads;
-  few = let was = c.loop-slot.invariant.few in let more = c.slot_opens.ensures.few in omega arith;
+  few = let was = c.loop-slot.invariant.few in let more = c.slot_opens.ensures.at_most_511_read in omega arith;
   rest = λ image told.
       let none : Slot = record { base = 0; password = 0 } in
       let found = told_since g.D.Disk c.args.v.now c.loop-slot.v c.args.disk.now c.loop-slot.disk c.args.steps.now c.loop-slot.steps c.in_ok-slot_opens.field-0 (λ state. slot_opens state c.args.sought.now (get_or c.args.slots.now c.loop-slot.slot-index none))

@@ -23,7 +23,7 @@ returns-then-branch-clause-reads g c =
 pub loop-j-preserved : goal.loop-j-preserved
 loop-j-preserved g c = record {
   reads = reads_then g.D.Disk c.args.v.now c.loop-j.v c.entry_opens.new.v c.args.disk.now c.loop-j.disk c.entry_opens.new.disk c.args.steps.now c.loop-j.steps c.entry_opens.new.steps c.loop-j.invariant.reads c.entry_opens.ensures.reads;
-  few = let was = c.loop-j.invariant.few in let more = c.entry_opens.ensures.few in omega arith;
+  few = let was = c.loop-j.invariant.few in let more = c.entry_opens.ensures.at_most_2_read in omega arith;
   rest = λ image told.
       let base = c.args.clist.now.base in
       let found = told_since g.D.Disk c.args.v.now c.loop-j.v c.args.disk.now c.loop-j.disk c.args.steps.now c.loop-j.steps c.in_ok-entry_opens.field-0 (λ state. opens c.args.sought.now (entry_at (words_based state.objects base) c.loop-j.j))

@@ -2,7 +2,7 @@ use Rattle.std.proofs.Common.{◌∙◌, ◌+◌, ◌*◌, ◌/◌, ◌==◌, ap
 use Rattle.std.proofs.lemmas.Result.{IfOk-weaker}
 use Rattle.mg_model.specs.Objects.{word_at}
 use Rattle.mg_calls_dom.proofs.Apart.{first-page-in, found-any}
-use Rattle.mg_calls_dom.proofs.Told.{told-word}
+use Rattle.mg_calls_dom.proofs.StandingFacts.{told-word}
 use Rattle.mg_volume.specs.Meaning.{is_page_in, now_of, objects_in}
 use Rattle.mg_calls_dom.proofs.lists.list_word.Goals as goal
 

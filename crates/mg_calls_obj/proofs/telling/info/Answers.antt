@@ -5,7 +5,7 @@ use Rattle.mg_calls_dom.specs.ReachedLemmas.{any_end, any_hit, any_miss, gone_he
 use Rattle.mg_calls_dom.specs.Searching.{allowed_row}
 use Rattle.mg_calls_dom.specs.ServedLemmas.{read_call}
 use Rattle.mg_calls_obj.proofs.Rights.{failed_limit, gone-since, limit-since, no-words, of, searched, taken_more, tries_end, tries_hit, tries_miss, valid-since}
-use Rattle.mg_calls_obj.proofs.Told.{info-denied, info-known}
+use Rattle.mg_calls_obj.proofs.InfoReplies.{info-denied, info-known}
 use Rattle.mg_calls_obj.proofs.telling.info.Invariants.{rights}
 use Rattle.mg_model.specs.declared.calls.Call.TheVariants as call
 use Rattle.mg_model.specs.declared.replies.Refusal.TheVariants.{Denied}

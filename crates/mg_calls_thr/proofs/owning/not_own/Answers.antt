@@ -23,5 +23,5 @@ returns-clause-word c =
 
 pub returns-clause-may : goal.returns-clause-may
 returns-clause-may c =
-    let (some, few) = c.in-Some.ensures.few in
+    let (some, few) = c.in-Some.ensures.within_1_and_256 in
     (some, few, lives-held c.args.i (threads_in c.args.v.now) c.in-Some.row c.in-Some.ensures.found)

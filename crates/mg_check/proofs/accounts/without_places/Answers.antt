@@ -21,5 +21,5 @@ loop-place-preserved c =
     record {
       same = account-next rows accounts c.add.new.list.items i d c.loop-place-test.true c.loop-place.invariant.same (c.if-place-len.false ∙ count) more;
       long = ap length more ∙ length-append accounts ((slice_index_or rows i d).1 ∷ []) ∙ ap (λ n. n + 1) c.loop-place.invariant.long;
-      room = let before = c.loop-place.invariant.room in let kept = c.add.ensures.room in omega arith;
+      room = let before = c.loop-place.invariant.room in let kept = c.add.ensures.keeps_capacity in omega arith;
     }

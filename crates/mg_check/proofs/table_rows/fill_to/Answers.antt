@@ -9,5 +9,5 @@ loop-preserved g c =
     record {
       long = ap length c.in_ok-add.ensures.more ∙ length-append rows (None ∷ []) ∙ ap (λ n. n + 1) c.loop.invariant.long;
       live = behind-none rows c.add.new.list.items c.in_ok-add.ensures.more ∙ c.loop.invariant.live;
-      room = let before = c.loop.invariant.room in let more = c.add.ensures.room in omega arith;
+      room = let before = c.loop.invariant.room in let more = c.add.ensures.keeps_capacity in omega arith;
     }

@@ -5,7 +5,7 @@ use Rattle.mg_disk.specs.Disk.{Image}
 use Rattle.mg_model.specs.Replay.{block_of}
 use Rattle.mg_check.specs.Reads.{contents}
 use Rattle.mg_check.specs.RowsRead.{ArePlaced}
-use Rattle.mg_check.specs.Told.{AreLive, EachKeeps}
+use Rattle.mg_check.specs.TableRows.{AreLive, EachKeeps}
 use Rattle.mg_journal.specs.declared.faults.ViewFault.TheVariants as fault
 use Rattle.mg_check.proofs.LiveRows.{live_none, not_spelled}
 use Rattle.mg_check.proofs.Placed.{kept_none, placed_all, placed_none}
@@ -47,7 +47,7 @@ loop-i-preserved g c =
       told = λ r told. c.in_ok-take.ensures.told (λ k. g.R.TableRow.spelled (block_of r (g.R.TableRow.block_at k)) k) (ap (λ block. g.R.TableRow.spelled block i) (sym (at_hand r told))) (c.loop-i.invariant.told r told);
       placed = c.in_ok-take.ensures.placed c.loop-i.invariant.placed;
       kept = c.in_ok-take.ensures.kept c.loop-i.invariant.kept;
-      room = let before = c.loop-i.invariant.room in let more = c.take.ensures.room in omega arith;
+      room = let before = c.loop-i.invariant.room in let more = c.take.ensures.keeps_capacity in omega arith;
     }
 
 pub loop-i-init : goal.loop-i-init
@@ -58,7 +58,7 @@ loop-i-init g c = record {
       subst (AreLive (λ k. g.R.TableRow.spelled (block_of r (g.R.TableRow.block_at k)) k) 0) (sym c.in_ok-rows.ensures.none) (live_none (λ k. g.R.TableRow.spelled (block_of r (g.R.TableRow.block_at k)) k));
   placed = subst (ArePlaced 0) (sym c.in_ok-rows.ensures.none) placed_none;
   kept = subst (EachKeeps g.R.TableRow.IsKept) (sym c.in_ok-rows.ensures.none) (kept_none g.R.TableRow.IsKept);
-  room = let rows = c.ROWS.ensures in let room = c.in_ok-rows.ensures.room in omega arith;
+  room = let rows = c.ROWS.ensures in let room = c.in_ok-rows.ensures.has_capacity in omega arith;
 }
 
 pub returns-clause-told : goal.returns-clause-told

@@ -5,7 +5,7 @@ use Rattle.mg_disk.specs.Disk.{Image}
 use Rattle.mg_model.specs.Replay.{block_of}
 use Rattle.mg_check.specs.Reads.{contents}
 use Rattle.mg_check.specs.RowsRead.{ArePlaced, live_from}
-use Rattle.mg_check.specs.Told.{AreLive, EachKeeps}
+use Rattle.mg_check.specs.TableRows.{AreLive, EachKeeps}
 use Rattle.mg_journal.specs.declared.faults.ViewFault.TheVariants as fault
 use Rattle.mg_check.proofs.LiveRows.{live_none, not_spelled}
 use Rattle.mg_check.proofs.Placed.{kept_none, placed_all, placed_none}
@@ -48,7 +48,7 @@ loop-i-preserved g c =
       placed = c.in_ok-put.ensures.placed c.loop-i.invariant.placed;
       kept = c.in_ok-put.ensures.kept c.loop-i.invariant.kept;
       long = c.in_ok-put.ensures.long;
-      room = let before = c.loop-i.invariant.room in let more = c.put.ensures.room in omega arith;
+      room = let before = c.loop-i.invariant.room in let more = c.put.ensures.keeps_capacity in omega arith;
     }
 
 pub loop-i-init : goal.loop-i-init
@@ -62,7 +62,7 @@ loop-i-init g c =
       placed = subst (ArePlaced 0) none placed_none;
       kept = subst (EachKeeps g.R.TableRow.IsKept) none (kept_none g.R.TableRow.IsKept);
       long = let none = ap length c.in_ok-rows.ensures.none in omega arith;
-      room = let rows = c.ROWS.ensures in let room = c.in_ok-rows.ensures.room in omega arith;
+      room = let rows = c.ROWS.ensures in let room = c.in_ok-rows.ensures.has_capacity in omega arith;
     }
 
 pub returns-clause-told : goal.returns-clause-told

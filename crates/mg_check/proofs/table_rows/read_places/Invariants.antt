@@ -3,7 +3,7 @@ use Rattle.std.specs.Option.{ForSome}
 use Rattle.mg_model.specs.Replay.{block_of}
 use Rattle.mg_check.specs.Reads.{OnlyRead, contents}
 use Rattle.mg_check.specs.RowsRead.{ArePlaced, live_from}
-use Rattle.mg_check.specs.Told.{AreLive, EachKeeps}
+use Rattle.mg_check.specs.TableRows.{AreLive, EachKeeps}
 use Rattle.mg_check.proofs.table_rows.read_places.Given as goal
 
 -- the rows before this one are held, and the block of the last of them is at hand

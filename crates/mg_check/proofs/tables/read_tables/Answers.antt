@@ -4,7 +4,7 @@ use Rattle.mg_model.specs.Layout.{account_rows}
 use Rattle.mg_model.specs.Spelling.{account_read}
 use Rattle.mg_model.specs.Volume.{account_row_bytes}
 use Rattle.mg_check.specs.TableTold.{HasRest, IsTable}
-use Rattle.mg_check.specs.Told.{AreLive}
+use Rattle.mg_check.specs.TableRows.{AreLive}
 use Rattle.mg_journal.specs.declared.faults.ViewFault.TheVariants as fault
 use Rattle.mg_check.proofs.NoRows.{with-gap, without-accounts, without-counters, without-objects, without-threads, without-zeros}
 use Rattle.mg_check.specs.ReadRuns.{only_then, same_contents, still_read}

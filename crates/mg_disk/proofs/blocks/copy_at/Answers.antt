@@ -3,7 +3,7 @@ use Rattle.std.proofs.Math.Seq.{drop-cons}
 use Rattle.std.proofs.lemmas.List.{get_or_default, drop_all}
 use Rattle.std.proofs.lemmas.List.Elements.{Contains-get_or}
 use Rattle.mg_disk.specs.Disk.{SameBut}
-use Rattle.mg_disk.specs.Places.{copied_shorter, nothing_differs}
+use Rattle.mg_disk.specs.PlaceLemmas.{copied_shorter, nothing_differs}
 use Rattle.mg_disk.proofs.blocks.copy_at.Goals as goal
 
 pub index-requires : goal.index-requires

@@ -9,7 +9,7 @@ use Rattle.mg_index.proofs.pairs.list_pairs.Goals.{then-number-ne0, else-number-
 pub loop-place-init : goal.loop-place-init
 loop-place-init c =
     let P = λ (xs : List (ℕ × ℕ)). IsBegun c.args.numbers.now 0 xs (vec_capacity c.args.pairs.now) in
-    subst P (sym c.requires.none) (record { listed = listed-none c.args.numbers.now; few = omega arith; room = c.requires.room })
+    subst P (sym c.requires.none) (record { listed = listed-none c.args.numbers.now; few = omega arith; room = c.requires.has_capacity })
 
 pub loop-place-preserved : goal.loop-place-preserved
 loop-place-preserved c =
@@ -37,5 +37,5 @@ returns-clause-numbers c = c.loop-place.invariant.listed.bound ∙ ap numbers_in
 pub returns-clause-exact : goal.returns-clause-exact
 returns-clause-exact c = listed-exact c.args.numbers.now c.loop-place.place c.loop-place.pairs.items (omega arith) c.loop-place.invariant.listed
 
-pub returns-clause-room : goal.returns-clause-room
-returns-clause-room c = c.loop-place.invariant.room
+pub returns-clause-has_capacity : goal.returns-clause-has_capacity
+returns-clause-has_capacity c = c.loop-place.invariant.room

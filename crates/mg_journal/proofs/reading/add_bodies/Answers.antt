@@ -59,7 +59,7 @@ loop-k-preserved c =
       newest = λ image is places last. subst (λ p. HasLast p c.put.new.self) (more image is places) (last-more (places ++ places_from image s 0 k) c.loop-k.table c.put.new.self (home, body) (inv.newest image is places last) c.put.ensures.puts);
       places = λ image is. subst (All (IsPlace c.args.total)) (more image is []) (All-push (IsPlace c.args.total) (places_from image s 0 k) (home, body) (inv.places image is) place);
       fit = λ all. c.put.ensures.fit c.args.total (inv.fit all) place;
-      few = omega (arith, c.put.ensures.few, inv.few);
+      few = omega (arith, c.put.ensures.at_most_one_more, inv.few);
     }
 
 pub returns-clause-fits : goal.returns-clause-fits

@@ -24,7 +24,7 @@ loop-place-preserved g c =
       blocks = c.write.ensures.blocks ∙ c.read.ensures.blocks ∙ inv.blocks;
       count = search rules;
       written = apply_more (g.D.Disk.block_count c.args.disk.now) places k (g.D.Disk.seen c.args.disk.now) (g.D.Disk.seen c.read.new.self) (g.D.Disk.seen c.write.new.self) c.read.new.out
-          c.loop-place-test.true c.requires.room (c.read.ensures.seen ∙ inv.written) (λ now is. c.in_ok-read.ensures.block now (sym c.read.ensures.seen ∙ is)) c.in_ok-write.ensures.written;
+          c.loop-place-test.true c.requires.all_on_disk (c.read.ensures.seen ∙ inv.written) (λ now is. c.in_ok-read.ensures.block now (sym c.read.ensures.seen ∙ is)) c.in_ok-write.ensures.written;
       torn = torn_more (λ image i. names (filled image places) i ≡ true) (g.D.Disk.seen c.args.disk.now) (g.D.Disk.seen c.read.new.self) (g.D.Disk.seen c.write.new.self) (home_at places k) (λ image. named_place image places k c.loop-place-test.true)
           (torn_still (λ image. SameBut (λ i. names (filled image places) i ≡ true) image) (g.D.Disk.seen c.args.disk.now) (g.D.Disk.seen c.loop-place.disk) (g.D.Disk.seen c.read.new.self) c.read.ensures.seen inv.torn)
           (wrote_torn (home_at places k) c.read.new.out (g.D.Disk.seen c.read.new.self) (g.D.Disk.seen c.write.new.self) c.in_ok-write.ensures.written);

@@ -17,7 +17,7 @@ loop-k-preserved g c =
     let s = c.args.segment in
     let k = c.loop-k.k in
     let inv = c.loop-k.invariant in
-    let few = c.requires.few in
+    let few = c.requires.at_most_160_writes in
     let below : k < length writes = c.loop-k-test.true in
     let place : c.index_of-first.result + 1 + k ≡ segment_body s k = omega (arith, c.index_of-first.ensures) in
     record {
@@ -42,13 +42,13 @@ returns-clause-written g c =
     on_ok_weaker c.sync.result
     (λ durable image told.
     let counted = g.met.D.Disk.seen_count c.args.disk.now image told in
-    let room = c.requires.room in
+    let room = c.requires.within_disk in
     let now = c.sync.ensures.seen ∙ c.loop-k.invariant.written
     ∙ ap (option_map (λ i. with_bodies i s 0 (take k writes))) (c.in_ok-write.ensures.written ∙ ap (option_map (λ i. slice_set i c.index_of.result index)) told)
     ∙ ap (λ w. Some (with_bodies (slice_set image c.index_of.result index) s 0 w)) all
     ∙ ap (λ p. Some (with_bodies (slice_set image p index) s 0 writes)) c.index_of.ensures in
     subst (λ o. IsSomeAnd o (HoldsWrites s writes image)) (sym now)
-    (holds_all s writes image index c.requires.place c.requires.few (omega arith) c.index_block.ensures.count c.index_block.ensures.homes))
+    (holds_all s writes image index c.requires.place c.requires.at_most_160_writes (omega arith) c.index_block.ensures.count c.index_block.ensures.homes))
     c.sync.ensures.durable
 
 pub returns-clause-tells : goal.returns-clause-tells

@@ -13,8 +13,8 @@ use Rattle.mg_vcache.specs.SeatLemmas.{drops_backed}
 use Rattle.mg_volume.specs.Meaning.{now_of}
 use Rattle.mg_kernel.proofs.answering.answer.Goals as goal
 
-pub called-requires-clause-lives : goal.called-requires-clause-lives
-called-requires-clause-lives g c = found-lives c.args.v.now c.args.line.now.thread c.in-Some.ensures.found.0 c.in-Some.ensures.found.1
+pub dispatch-requires-clause-lives : goal.dispatch-requires-clause-lives
+dispatch-requires-clause-lives g c = found-lives c.args.v.now c.args.line.now.thread c.in-Some.ensures.found.0 c.in-Some.ensures.found.1
 
 pub returns-in-Next : goal.returns-in-Next
 returns-in-Next g c =
@@ -45,11 +45,11 @@ pub returns-in-Some : goal.returns-in-Some
 returns-in-Some g c =
     let t = c.args.line.now.thread in
     let made = c.args.line.now.call in
-    serves_as 130 132 g.D.Disk (of_living t made) (of_line c.args.line.now) c.called.result c.args.v.now c.called.new.v c.args.c.now c.called.new.c c.args.disk.now c.called.new.disk c.args.steps.now c.called.new.steps (omega arith)
+    serves_as 130 132 g.D.Disk (of_living t made) (of_line c.args.line.now) c.dispatch.result c.args.v.now c.dispatch.new.v c.args.c.now c.dispatch.new.c c.args.disk.now c.dispatch.new.disk c.args.steps.now c.dispatch.new.steps (omega arith)
     (λ image told.
     let state = now_of c.args.v.now image in
     lives-line state t made (of-thread made state t c.in_default.not-Bad c.in_default.not-Turn c.in_default.not-Next c.in_default.not-Rent) (held-lives c.args.v.now image t c.in-Some.ensures.found.0 c.in-Some.ensures.found.1))
-    c.called.ensures
+    c.dispatch.ensures
 
 pub returns-in-None : goal.returns-in-None
 returns-in-None g c = record {

@@ -21,73 +21,73 @@ returns-in-Err-clause-limit g c image told =
     fetch-failed state c.args.t c.args.row.now (c.turns_search_as_calls.ensures state c.args.t c.args.row.now) (λ key. is_kept c.args.c.now key) c.args.steps.now c.fetch.new.steps
     (subst (λ a. c.fetch.new.steps ≤ c.args.steps.now + fetch_limit (λ key. is_kept c.args.c.now key) state (record { thread = c.args.t; address = a; right = X })) c.pc.ensures (c.fetch.ensures.limit image told))
 
-pub called-requires-clause-backed : goal.called-requires-clause-backed
-called-requires-clause-backed g c image told = c.fetch.ensures.backed image (sym c.fetch.ensures.reads.writes.same ∙ told)
+pub dispatch-requires-clause-backed : goal.dispatch-requires-clause-backed
+dispatch-requires-clause-backed g c image told = c.fetch.ensures.backed image (sym c.fetch.ensures.reads.writes.same ∙ told)
 
-pub called-requires-clause-lives : goal.called-requires-clause-lives
-called-requires-clause-lives g c = row-lives c.fetch.new.v c.args.t c.args.row.now (row-still c.args.v.now c.fetch.new.v c.args.t c.args.row.now c.fetch.ensures.reads.keeps c.requires.row)
+pub dispatch-requires-clause-lives : goal.dispatch-requires-clause-lives
+dispatch-requires-clause-lives g c = row-lives c.fetch.new.v c.args.t c.args.row.now (row-still c.args.v.now c.fetch.new.v c.args.t c.args.row.now c.fetch.ensures.reads.keeps c.requires.row)
 
-pub returns-in-Ok-called-clause-state : goal.returns-in-Ok-called-clause-state
-returns-in-Ok-called-clause-state g c image told =
+pub returns-in-Ok-dispatch-clause-state : goal.returns-in-Ok-dispatch-clause-state
+returns-in-Ok-dispatch-clause-state g c image told =
     let state = now_of c.args.v.now image in
     let reads = c.fetch.ensures.reads in
     let there = row-told c.args.v.now c.args.t c.args.row.now c.requires.row image in
     let word = subst (λ a. c.in-Ok.fetched ≡ (if allowed state c.args.t a X then Some (word_at state.objects a) else None)) c.pc.ensures (c.in-Ok.ensures.word image told) in
     let asks = asked-by state c.args.t c.args.row.now c.in-Ok.fetched c.begin-action.result c.call-made.result word c.begin-action.ensures.turn c.begin-action.ensures.call c.begin-action.ensures.frames c.call-made.ensures.value c.call-made.ensures.spelled in
-    let answer = subst (λ s. thread_call s c.args.t c.call-made.result ≡ (now_of c.called.new.v image, c.in-Ok-called.reply)) (reads.keeps.now image) (c.in-Ok-called.ensures.answers image (reads.writes.same ∙ told)) in
-    turned-state state (now_of c.called.new.v image) (now_of c.go_on.new.v image) c.args.t c.args.row.now c.begin-action.result c.call-made.result c.in-Ok-called.reply (c.requires.sound.formed image told) there
+    let answer = subst (λ s. thread_call s c.args.t c.call-made.result ≡ (now_of c.dispatch.new.v image, c.in-Ok-dispatch.reply)) (reads.keeps.now image) (c.in-Ok-dispatch.ensures.answers image (reads.writes.same ∙ told)) in
+    turned-state state (now_of c.dispatch.new.v image) (now_of c.go_on.new.v image) c.args.t c.args.row.now c.begin-action.result c.call-made.result c.in-Ok-dispatch.reply (c.requires.sound.formed image told) there
     (ready-row state c.args.t c.args.row.now there (c.requires.ready image told)) asks c.call-made.ensures.value answer (c.go_on.ensures.now image) c.turns_are_calls.ensures.states
 
-pub returns-in-Ok-called-clause-backed : goal.returns-in-Ok-called-clause-backed
-returns-in-Ok-called-clause-backed g c image told =
+pub returns-in-Ok-dispatch-clause-backed : goal.returns-in-Ok-dispatch-clause-backed
+returns-in-Ok-dispatch-clause-backed g c image told =
     let state = now_of c.args.v.now image in
     let reads = c.fetch.ensures.reads in
     let there = row-told c.args.v.now c.args.t c.args.row.now c.requires.row image in
     let word = subst (λ a. c.in-Ok.fetched ≡ (if allowed state c.args.t a X then Some (word_at state.objects a) else None)) c.pc.ensures (c.in-Ok.ensures.word image told) in
     let asks = asked-by state c.args.t c.args.row.now c.in-Ok.fetched c.begin-action.result c.call-made.result word c.begin-action.ensures.turn c.begin-action.ensures.call c.begin-action.ensures.frames c.call-made.ensures.value c.call-made.ensures.spelled in
-    let answer = subst (λ s. thread_call s c.args.t c.call-made.result ≡ (now_of c.called.new.v image, c.in-Ok-called.reply)) (reads.keeps.now image) (c.in-Ok-called.ensures.answers image (reads.writes.same ∙ told)) in
-    turned-backed state (now_of c.called.new.v image) (now_of c.go_on.new.v image) c.args.t c.args.row.now c.begin-action.result c.call-made.result c.in-Ok-called.reply (c.requires.sound.formed image told) there
-    (ready-row state c.args.t c.args.row.now there (c.requires.ready image told)) asks c.call-made.ensures.value answer (c.go_on.ensures.now image) c.turns_are_calls.ensures.backed c.called.new.c (c.called.ensures.backed image (reads.writes.same ∙ told))
+    let answer = subst (λ s. thread_call s c.args.t c.call-made.result ≡ (now_of c.dispatch.new.v image, c.in-Ok-dispatch.reply)) (reads.keeps.now image) (c.in-Ok-dispatch.ensures.answers image (reads.writes.same ∙ told)) in
+    turned-backed state (now_of c.dispatch.new.v image) (now_of c.go_on.new.v image) c.args.t c.args.row.now c.begin-action.result c.call-made.result c.in-Ok-dispatch.reply (c.requires.sound.formed image told) there
+    (ready-row state c.args.t c.args.row.now there (c.requires.ready image told)) asks c.call-made.ensures.value answer (c.go_on.ensures.now image) c.turns_are_calls.ensures.backed c.dispatch.new.c (c.dispatch.ensures.backed image (reads.writes.same ∙ told))
 
-pub returns-in-Ok-called-clause-keeps : goal.returns-in-Ok-called-clause-keeps
-returns-in-Ok-called-clause-keeps g c image told =
+pub returns-in-Ok-dispatch-clause-keeps : goal.returns-in-Ok-dispatch-clause-keeps
+returns-in-Ok-dispatch-clause-keeps g c image told =
     let state = now_of c.args.v.now image in
     let reads = c.fetch.ensures.reads in
     let word = subst (λ a. c.in-Ok.fetched ≡ (if allowed state c.args.t a X then Some (word_at state.objects a) else None)) c.pc.ensures (c.in-Ok.ensures.word image told) in
     let makes : c.call-made.result ≡ turn_call state c.args.t c.args.row.now = c.call-made.ensures.value ∙ c.begin-action.ensures.call ∙ ap (λ w. begun c.args.row.now w) word in
     let fetched = subst (λ a. Fetches state (record { thread = c.args.t; address = a; right = X }) (λ key. is_kept c.args.c.now key) (λ key. is_kept c.fetch.new.c key) c.args.steps.now c.fetch.new.steps) c.pc.ensures (c.in-Ok.ensures.keeps image told) in
     let lives = row-thread c.fetch.new.v c.args.t c.args.row.now (row-still c.args.v.now c.fetch.new.v c.args.t c.args.row.now reads.keeps c.requires.row) image in
-    let called = subst (λ s. KeepsCall s c.args.t c.call-made.result (λ key. is_kept c.fetch.new.c key) (λ key. is_kept c.called.new.c key) c.fetch.new.steps c.called.new.steps) (reads.keeps.now image) (c.in-Ok-called.ensures.keeps image (reads.writes.same ∙ told) lives) in
-    fetch-call state c.args.t c.args.row.now (c.turns_search_as_calls.ensures state c.args.t c.args.row.now) (λ key. is_kept c.args.c.now key) (λ key. is_kept c.fetch.new.c key) (λ key. is_kept c.called.new.c key) c.args.steps.now c.fetch.new.steps c.called.new.steps
+    let called = subst (λ s. KeepsCall s c.args.t c.call-made.result (λ key. is_kept c.fetch.new.c key) (λ key. is_kept c.dispatch.new.c key) c.fetch.new.steps c.dispatch.new.steps) (reads.keeps.now image) (c.in-Ok-dispatch.ensures.keeps image (reads.writes.same ∙ told) lives) in
+    fetch-call state c.args.t c.args.row.now (c.turns_search_as_calls.ensures state c.args.t c.args.row.now) (λ key. is_kept c.args.c.now key) (λ key. is_kept c.fetch.new.c key) (λ key. is_kept c.dispatch.new.c key) c.args.steps.now c.fetch.new.steps c.dispatch.new.steps
     c.accesses_go_on.ensures.rules c.accesses_go_on.ensures.limit fetched
-    (subst (λ m. KeepsCall state c.args.t m (λ key. is_kept c.fetch.new.c key) (λ key. is_kept c.called.new.c key) c.fetch.new.steps c.called.new.steps) makes called)
+    (subst (λ m. KeepsCall state c.args.t m (λ key. is_kept c.fetch.new.c key) (λ key. is_kept c.dispatch.new.c key) c.fetch.new.steps c.dispatch.new.steps) makes called)
 
-pub returns-in-Ok-called-clause-limit : goal.returns-in-Ok-called-clause-limit
-returns-in-Ok-called-clause-limit g c image told = (returns-in-Ok-called-clause-keeps g c image told).most
+pub returns-in-Ok-dispatch-clause-limit : goal.returns-in-Ok-dispatch-clause-limit
+returns-in-Ok-dispatch-clause-limit g c image told = (returns-in-Ok-dispatch-clause-keeps g c image told).most
 
-pub returns-in-Err-called-clause-limit : goal.returns-in-Err-called-clause-limit
-returns-in-Err-called-clause-limit g c image told =
+pub returns-in-Err-dispatch-clause-limit : goal.returns-in-Err-dispatch-clause-limit
+returns-in-Err-dispatch-clause-limit g c image told =
     let state = now_of c.args.v.now image in
     let reads = c.fetch.ensures.reads in
     let word = subst (λ a. c.in-Ok.fetched ≡ (if allowed state c.args.t a X then Some (word_at state.objects a) else None)) c.pc.ensures (c.in-Ok.ensures.word image told) in
     let makes : c.call-made.result ≡ turn_call state c.args.t c.args.row.now = c.call-made.ensures.value ∙ c.begin-action.ensures.call ∙ ap (λ w. begun c.args.row.now w) word in
     let fetched = subst (λ a. Fetches state (record { thread = c.args.t; address = a; right = X }) (λ key. is_kept c.args.c.now key) (λ key. is_kept c.fetch.new.c key) c.args.steps.now c.fetch.new.steps) c.pc.ensures (c.in-Ok.ensures.keeps image told) in
     let lives = row-thread c.fetch.new.v c.args.t c.args.row.now (row-still c.args.v.now c.fetch.new.v c.args.t c.args.row.now reads.keeps c.requires.row) image in
-    let few = subst (λ s. c.called.new.steps ≤ c.fetch.new.steps + call_limit (λ key. is_kept c.fetch.new.c key) s c.args.t c.call-made.result) (reads.keeps.now image) (c.called.ensures.limit image (reads.writes.same ∙ told) lives) in
-    fetch-within state c.args.t c.args.row.now (c.turns_search_as_calls.ensures state c.args.t c.args.row.now) (λ key. is_kept c.args.c.now key) (λ key. is_kept c.fetch.new.c key) c.args.steps.now c.fetch.new.steps c.called.new.steps
+    let few = subst (λ s. c.dispatch.new.steps ≤ c.fetch.new.steps + call_limit (λ key. is_kept c.fetch.new.c key) s c.args.t c.call-made.result) (reads.keeps.now image) (c.dispatch.ensures.limit image (reads.writes.same ∙ told) lives) in
+    fetch-within state c.args.t c.args.row.now (c.turns_search_as_calls.ensures state c.args.t c.args.row.now) (λ key. is_kept c.args.c.now key) (λ key. is_kept c.fetch.new.c key) c.args.steps.now c.fetch.new.steps c.dispatch.new.steps
     c.accesses_go_on.ensures.limit fetched
-    (subst (λ m. c.called.new.steps ≤ c.fetch.new.steps + call_limit (λ key. is_kept c.fetch.new.c key) state c.args.t m) makes few)
+    (subst (λ m. c.dispatch.new.steps ≤ c.fetch.new.steps + call_limit (λ key. is_kept c.fetch.new.c key) state c.args.t m) makes few)
 
-pub returns-in-Ok-called-clause-serves : goal.returns-in-Ok-called-clause-serves
-returns-in-Ok-called-clause-serves g c =
-    serves-stages g.D.Disk 130 1 c.args.v.now c.called.new.v c.go_on.new.v c.args.disk.now c.called.new.disk c.args.steps.now c.called.new.steps
-    (then_serves g.D.Disk 130 c.args.v.now c.fetch.new.v c.called.new.v c.args.disk.now c.fetch.new.disk c.called.new.disk c.args.steps.now c.fetch.new.steps c.called.new.steps c.fetch.ensures.reads c.called.ensures.serves)
+pub returns-in-Ok-dispatch-clause-serves : goal.returns-in-Ok-dispatch-clause-serves
+returns-in-Ok-dispatch-clause-serves g c =
+    serves-stages g.D.Disk 130 1 c.args.v.now c.dispatch.new.v c.go_on.new.v c.args.disk.now c.dispatch.new.disk c.args.steps.now c.dispatch.new.steps
+    (then_serves g.D.Disk 130 c.args.v.now c.fetch.new.v c.dispatch.new.v c.args.disk.now c.fetch.new.disk c.dispatch.new.disk c.args.steps.now c.fetch.new.steps c.dispatch.new.steps c.fetch.ensures.reads c.dispatch.ensures.serves)
     c.go_on.ensures.stages
 
-pub returns-in-Err-called-clause-backed : goal.returns-in-Err-called-clause-backed
-returns-in-Err-called-clause-backed g c image told = c.called.ensures.backed image (c.fetch.ensures.reads.writes.same ∙ told)
+pub returns-in-Err-dispatch-clause-backed : goal.returns-in-Err-dispatch-clause-backed
+returns-in-Err-dispatch-clause-backed g c image told = c.dispatch.ensures.backed image (c.fetch.ensures.reads.writes.same ∙ told)
 
-pub returns-in-Err-called-clause-serves : goal.returns-in-Err-called-clause-serves
-returns-in-Err-called-clause-serves g c =
-    serves_wider g.D.Disk 130 131 c.args.v.now c.called.new.v c.args.disk.now c.called.new.disk c.args.steps.now c.called.new.steps (omega arith)
-    (then_serves g.D.Disk 130 c.args.v.now c.fetch.new.v c.called.new.v c.args.disk.now c.fetch.new.disk c.called.new.disk c.args.steps.now c.fetch.new.steps c.called.new.steps c.fetch.ensures.reads c.called.ensures.serves)
+pub returns-in-Err-dispatch-clause-serves : goal.returns-in-Err-dispatch-clause-serves
+returns-in-Err-dispatch-clause-serves g c =
+    serves_wider g.D.Disk 130 131 c.args.v.now c.dispatch.new.v c.args.disk.now c.dispatch.new.disk c.args.steps.now c.dispatch.new.steps (omega arith)
+    (then_serves g.D.Disk 130 c.args.v.now c.fetch.new.v c.dispatch.new.v c.args.disk.now c.fetch.new.disk c.dispatch.new.disk c.args.steps.now c.fetch.new.steps c.dispatch.new.steps c.fetch.ensures.reads c.dispatch.ensures.serves)

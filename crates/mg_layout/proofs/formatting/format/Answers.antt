@@ -1,5 +1,5 @@
 use Rattle.mg_disk.specs.Disk.{only_place}
-use Rattle.mg_disk.specs.Places.{same_as}
+use Rattle.mg_disk.specs.PlaceLemmas.{same_as}
 use Rattle.mg_disk.specs.Runs.{leaves_yet, only_image}
 use Rattle.mg_layout.proofs.FormatSteps.{close_may}
 use Rattle.mg_layout.specs.MayFormat.{MayFormat}

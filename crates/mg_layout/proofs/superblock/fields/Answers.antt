@@ -3,7 +3,7 @@ use Rattle.std.proofs.Math.Bool.{and-true}
 use Rattle.std.proofs.lemmas.Bool.{cases_Bool, and_right}
 use Rattle.mg_model.specs.Settings.{Settings, within_limits}
 use Rattle.mg_model.specs.Spelling.{are_settings, super_fields}
-use Rattle.mg_model.specs.SuperReads.{settings_same}
+use Rattle.mg_model.specs.SuperblockLemmas.{settings_same}
 use Rattle.mg_model.specs.Tariff.{is_tariff}
 use Rattle.mg_layout.proofs.superblock.fields.Goals as goal
 

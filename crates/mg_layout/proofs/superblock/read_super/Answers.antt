@@ -4,7 +4,7 @@ use Rattle.mg_model.specs.Bytes.{bytes_at, number_at}
 use Rattle.mg_model.specs.Layout.{magic, version}
 use Rattle.mg_model.specs.Settings.{Settings}
 use Rattle.mg_model.specs.Spelling.{are_settings, super_bytes, super_fields, super_read, BadSuper, Spells}
-use Rattle.mg_model.specs.SuperReads.{super_read-bad, super_read-not, super_read-old, super_read-spells}
+use Rattle.mg_model.specs.SuperblockLemmas.{super_read-bad, super_read-not, super_read-old, super_read-spells}
 use Rattle.mg_model.specs.Words.{same_bytes}
 use Rattle.mg_layout.proofs.superblock.read_super.Goals as goal
 use Rattle.mg_layout.proofs.superblock.read_super.Goals.{Else-number_at-lt-VERSION}

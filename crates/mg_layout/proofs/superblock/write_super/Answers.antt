@@ -3,7 +3,7 @@ use Rattle.std.proofs.lemmas.Bool.Decides.{nat_tests}
 use Rattle.mg_model.specs.Bytes.{padded_to}
 use Rattle.mg_model.specs.Settings.{within_limits}
 use Rattle.mg_model.specs.Spelling.{super_bytes, super_read}
-use Rattle.mg_model.specs.SuperReads.{super_bytes-parts, super_read-back}
+use Rattle.mg_model.specs.SuperblockLemmas.{super_bytes-parts, super_read-back}
 use Rattle.mg_model.specs.Tariff.{is_tariff}
 use Rattle.mg_layout.proofs.superblock.write_super.Goals as goal
 

@@ -37,7 +37,7 @@ pub copy-requires-clause-can : goal.copy-requires-clause-can
 copy-requires-clause-can g c =
     let reads = c.in_ok-lifting.ensures.reads in
     record {
-      room = let room = c.in_ok-lifting.ensures.room in let same = reads.blocks in omega arith;
+      room = let room = c.in_ok-lifting.ensures.within_disk in let same = reads.blocks in omega arith;
       fits = λ image told. (c.in_ok-lifting.ensures.told image (sym reads.writes.same ∙ told)).fits;
     }
 

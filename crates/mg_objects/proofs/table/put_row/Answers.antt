@@ -9,7 +9,7 @@ returns-then-place-len-clause-put c =
     let ok = c.args.table.now.ok.0 in
     let test = c.if-place-len.true in
     let under : c.args.place < length rows = omega arith in
-    whole-set rows c.args.place (Some c.args.row) c.requires.few under
+    whole-set rows c.args.place (Some c.args.row) c.requires.at_most_4096_rows under
 
 pub returns-in-Ok-clause-put : goal.returns-in-Ok-clause-put
 returns-in-Ok-clause-put c =

@@ -8,7 +8,7 @@ blank : ℕ × ObjectRow
 blank = (0, record { base = 0; pages = 0; account = 0; passwords = []; entries = []; extension = None })
 
 pub offset_bounds-table-place : goal.offset_bounds-table-place
-offset_bounds-table-place c = let under = listed_place c.args.table.now c.args.pairs.now c.requires.listed c.args.i blank c.requires.rank in let few = c.requires.few in omega arith
+offset_bounds-table-place c = let under = listed_place c.args.table.now c.args.pairs.now c.requires.listed c.args.i blank c.requires.rank in let few = c.requires.at_most_4096_rows in omega arith
 
 pub bounds-table-place : goal.bounds-table-place
 bounds-table-place c = listed_place c.args.table.now c.args.pairs.now c.requires.listed c.args.i blank c.requires.rank

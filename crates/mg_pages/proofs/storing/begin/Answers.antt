@@ -2,7 +2,7 @@ use Rattle.std.proofs.Common.{◌+◌, ◌/◌, ◌∙◌, ap, length, replicate
 use Rattle.std.proofs.lemmas.List.{length-set}
 use Rattle.mg_journal.specs.Staged.{staged}
 use Rattle.mg_model.specs.Layout.{first_frame, table_block}
-use Rattle.mg_model.specs.RowReads.{block_words-zeros}
+use Rattle.mg_model.specs.RowLemmas.{block_words-zeros}
 use Rattle.mg_pages.proofs.BlocksKept.{writes-twice}
 use Rattle.mg_pages.proofs.Numbers.{block-set}
 use Rattle.mg_pages.specs.Entries.{HoldsEntries}

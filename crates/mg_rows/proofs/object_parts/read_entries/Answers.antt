@@ -23,8 +23,8 @@ returns-then-not-may_be_entry-clause-kept c =
     (none_tells (are_entries row.base row.pages (entries_in bytes)) row
     (bad_entry bytes row row c.number_at-count.result c.number_at-count.ensures k c.if-count-gt-ENTRY_LIMIT.false c.loop-k-test.true (sym fails)))
 
-pub add_entry-requires-clause-room : goal.add_entry-requires-clause-room
-add_entry-requires-clause-room c =
+pub add_entry-requires-clause-fewer_than_16_entries : goal.add_entry-requires-clause-fewer_than_16_entries
+add_entry-requires-clause-fewer_than_16_entries c =
     let long : length c.loop-k.row.entries ≡ c.loop-k.k = ap (λ (f : ObjectRow). length f.entries) c.loop-k.invariant.value ∙ length-numbers_at c.args.b.now 368 c.loop-k.k in
     let below = c.loop-k-test.true in
     let few = c.if-count-gt-ENTRY_LIMIT.false in

@@ -1,5 +1,5 @@
 use Rattle.mg_model.specs.Bytes.{words_bytes}
-use Rattle.mg_model.specs.BytesReads.{length-words_bytes}
+use Rattle.mg_model.specs.BytesLemmas.{length-words_bytes}
 use Rattle.mg_rows.proofs.ObjectRows.{padded}
 use Rattle.mg_rows.proofs.objects.add_entries.Goals as goal
 

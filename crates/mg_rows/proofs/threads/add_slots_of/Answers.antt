@@ -5,7 +5,7 @@ use Rattle.mg_rows.proofs.threads.add_slots_of.Goals as goal
 pub add-requires : goal.add-requires
 add-requires c =
     let long : length c.loop-place.frame.slots ≡ c.loop-place.place = ap (λ frame. length frame.slots) c.loop-place.invariant ∙ length-slots_at c.args.b.now c.args.at c.loop-place.place in
-    let few = c.requires.few in
+    let few = c.requires.count_at_most_8 in
     omega arith
 
 pub loop-place-preserved : goal.loop-place-preserved

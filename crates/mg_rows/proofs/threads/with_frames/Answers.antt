@@ -14,7 +14,7 @@ loop-place-init c = record { row = c.requires.begun; kept = and_from (is_call_fr
 pub push_frame-requires : goal.push_frame-requires
 push_frame-requires c =
     let long : length c.loop-place.row.frames ≡ c.loop-place.place = ap (λ (row : ThreadRow). length row.frames) c.loop-place.invariant.row ∙ length-frames_at c.args.b.now 128 c.loop-place.place in
-    let few = c.requires.few in
+    let few = c.requires.count_at_most_16 in
     omega arith
 
 pub returns-in-None : goal.returns-in-None
@@ -37,7 +37,7 @@ loop-place-preserved c =
 pub returns : goal.returns
 returns c =
     let bytes = c.args.b.now in
-    let some = c.requires.some in
+    let some = c.requires.count_at_least_1 in
     let end = c.loop-place.auto.place-end in
     let is : c.loop-place.place ≡ c.args.count = omega arith in
     some-if (list_all is_call_frame (frames_at bytes 128 c.args.count)) c.loop-place.row (with_frames bytes c.args.count)

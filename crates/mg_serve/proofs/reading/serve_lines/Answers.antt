@@ -21,7 +21,7 @@ pieces-init g c = record {
   live = c.requires.live;
   stands = c.requires.stands;
   staged = omega (arith, c.requires.staged);
-  open_batch = let some = c.requires.some in omega (arith, ap (λ (v : Waiting). v.count) c.clear.ensures);
+  open_batch = let some = c.requires.batch_at_least_1 in omega (arith, ap (λ (v : Waiting). v.count) c.clear.ensures);
   counted = alike_none (g.M.Machine.words_in c.args.machine.now) c.args.steps.now;
   blocks = refl;
   disk_count = count_none _ _;

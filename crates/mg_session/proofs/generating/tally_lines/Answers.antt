@@ -21,7 +21,7 @@ loop-k-preserved g c = record {
   counted = Counted-more g.D.Disk (λ image. now_of c.args.kernel.now image) (λ image. g.D.Disk.seen c.args.disk.now ≡ Some image) c.args.number c.loop-k.k c.args.steps.now
       (record { kernel = c.loop-k.kernel; disk = c.loop-k.disk; counts = c.loop-k.tally; steps = c.loop-k.steps })
       (record { kernel = c.count_line.new.kernel; disk = c.count_line.new.disk; counts = c.count_line.new.tally; steps = c.count_line.new.steps })
-      (omega (arith, c.requires.few, c.loop-k-test.true))
+      (omega (arith, c.requires.count_at_most_1000000, c.loop-k-test.true))
       (subst (λ (v : Line). Counts g.D.Disk (record { kernel = c.loop-k.kernel; disk = c.loop-k.disk; counts = c.loop-k.tally; steps = c.loop-k.steps }) v
       (record { kernel = c.count_line.new.kernel; disk = c.count_line.new.disk; counts = c.count_line.new.tally; steps = c.count_line.new.steps })) c.generated_line-line.ensures c.in-Ok.ensures.counts)
       c.loop-k.invariant.counted;

@@ -11,7 +11,7 @@ pub returns-in-Ok-clause-keeps : goal.returns-in-Ok-clause-keeps
 returns-in-Ok-clause-keeps g c = record {
   lines = lines_opened g.D.Disk g.S.Source g.K.Sink text after c.args.batch _ c.in-Ok.kernel c.in-Ok.kernel c.run.new.machine c.run.result c.args.disk.now c.open.new.disk c.run.new.disk c.args.source.now c.run.new.source c.args.sink.now c.run.new.sink c.args.steps.now c.run.new.steps
       c.in-Ok.ensures.opens c.in-Ok.ensures.any_moment c.in-Ok.ensures.calls.count (λ image. refl) (λ image. refl) (λ s. refl) c.run.ensures.serves;
-  cost = opened_then c.in-Ok.kernel (g.D.Disk.seen c.args.disk.now) (g.D.Disk.seen c.open.new.disk) (λ s. IsWithinCost s (g.S.Source.left c.args.source.now) (g.S.Source.left c.run.new.source) c.args.steps.now c.run.new.steps)
+  cost = opened_then c.in-Ok.kernel (g.D.Disk.seen c.args.disk.now) (g.D.Disk.seen c.open.new.disk) (λ s. IsWithinCost s c.run.result (g.S.Source.left c.args.source.now) (g.S.Source.left c.run.new.source) c.args.steps.now c.run.new.steps)
       c.in-Ok.ensures.opens
       (λ image seen. traced_cost _ c.costs_add_up.ensures.prefix c.args.batch c.run.result c.in-Ok.kernel c.run.new.machine image (now_of c.in-Ok.kernel image) (g.S.Source.left c.args.source.now) (g.S.Source.left c.run.new.source) (g.K.Sink.taken c.args.sink.now) (g.K.Sink.taken c.run.new.sink) c.args.steps.now c.run.new.steps
       (λ ls st. st.spent) (λ ls st. st) (c.run.ensures.serves.traces image seen));
@@ -23,7 +23,7 @@ returns-in-Err-clause-keeps g c = record {
       (fault_tells c.in-Err.fault (g.D.Disk.seen c.args.disk.now) c.in-Err.ensures.not c.in-Err.ensures.old c.in-Err.ensures.damaged) c.put_fault.ensures.ends
       (untouched c.in-Err.fault (WritesNothing g.D.Disk c.args.disk.now c.open.new.disk) c.in-Err.ensures.untouched_not c.in-Err.ensures.untouched_old c.in-Err.ensures.untouched_damaged)
       c.put_fault.ensures.quiet c.put_fault.ensures.put c.put_fault.ensures.prefix c.put_fault.ensures.sink c.in-Err.ensures.calls.cause c.in-Err.ensures.any_moment (λ s. refl) (λ s. refl);
-  cost = unopened c.in-Err.fault (g.D.Disk.seen c.args.disk.now) (λ s. IsWithinCost s (g.S.Source.left c.args.source.now) (g.S.Source.left c.args.source.now) c.args.steps.now c.args.steps.now)
+  cost = unopened c.in-Err.fault (g.D.Disk.seen c.args.disk.now) (λ s. IsWithinCost s c.put_fault.result (g.S.Source.left c.args.source.now) (g.S.Source.left c.args.source.now) c.args.steps.now c.args.steps.now)
       (fault_tells c.in-Err.fault (g.D.Disk.seen c.args.disk.now) c.in-Err.ensures.not c.in-Err.ensures.old c.in-Err.ensures.damaged)
-      (λ quiet image is s spelled. none_spent s (g.S.Source.left c.args.source.now) c.args.steps.now);
+      (λ quiet image is s spelled. none_spent s c.put_fault.result (g.S.Source.left c.args.source.now) c.args.steps.now);
 }

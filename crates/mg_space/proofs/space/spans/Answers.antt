@@ -28,4 +28,4 @@ returns-clause-taken c =
     let over : length objects ≡ c.loop-i.i = omega (arith, c.loop-i-test.false, c.loop-i.auto.i-end) in
     let all : c.loop-i.spans.items ≡ spans_in objects = c.loop-i.invariant ∙ ap spans_in (take_all c.loop-i.i objects (omega arith)) in
     let P : List (ℕ × ℕ) → Type 0 = λ spans. AreTaken spans in
-    subst P (sym all) (taken-spans objects (omega (arith, c.len-i-end.ensures.few)) c.len-i-end.ensures.apart c.len-i-end.ensures.rows)
+    subst P (sym all) (taken-spans objects (omega (arith, c.len-i-end.ensures.at_most_4096)) c.len-i-end.ensures.apart c.len-i-end.ensures.rows)

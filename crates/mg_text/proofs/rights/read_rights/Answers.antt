@@ -26,5 +26,5 @@ loop-b-preserved c = record {
 
 pub returns : goal.returns
 returns c =
-    rights-made c.new.result c.loop-b.bits c.loop-b.b-index c.args.w.now c.new.ensures.given c.new.ensures.some c.loop-b.invariant.same (omega arith)
+    rights-made c.new.result c.loop-b.bits c.loop-b.b-index c.args.w.now c.new.ensures.given c.new.ensures.is_some c.loop-b.invariant.same (omega arith)
     c.loop-b.invariant.few c.loop-b.invariant.some

@@ -7,11 +7,11 @@ use Rattle.mg_volume.proofs.account_block.stage_first.Goals as goal
 pub loop-k-init : goal.loop-k-init
 loop-k-init c = none_staged c.args.pages.now c.args.rows.now
 
-pub stage_accounts-requires-clause-room : goal.stage_accounts-requires-clause-room
-stage_accounts-requires-clause-room c =
+pub stage_accounts-requires-clause-fewer_than_160_staged : goal.stage_accounts-requires-clause-fewer_than_160_staged
+stage_accounts-requires-clause-fewer_than_160_staged c =
     let more = c.loop-k.invariant.staged.staged in
-    let few = c.requires.few in
-    let room = c.requires.room in
+    let few = c.requires.n_at_most_16 in
+    let room = c.requires.at_most_144_staged in
     omega arith
 
 pub loop-k-preserved : goal.loop-k-preserved
@@ -21,5 +21,5 @@ loop-k-preserved c =
 pub returns : goal.returns
 returns c =
     let all : c.loop-k.k ≡ c.args.n = omega (arith, c.loop-k-test, c.loop-k) in
-    let few = c.requires.few in
+    let few = c.requires.n_at_most_16 in
     subst (λ n. StagesAccounts 16 (λ k. nat_lt k n) c.args.rows.now c.args.pages.now c.loop-k.pages) all (staged_wider c.args.pages.now c.loop-k.pages c.loop-k.k 16 (λ k. nat_lt k c.loop-k.k) c.args.rows.now (omega arith) c.loop-k.invariant)

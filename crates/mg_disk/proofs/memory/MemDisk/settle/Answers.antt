@@ -1,7 +1,8 @@
 use Rattle.std.proofs.Common.{◌∙◌, ◌<◌, ℕ, List, [], sym, ap, subst, Contains}
 use Rattle.mg_disk.specs.Disk.{AreBytes}
-use Rattle.mg_disk.specs.Held.{run, start, held_more}
-use Rattle.mg_disk.specs.Places.{same_as, none_in_none}
+use Rattle.mg_disk.specs.Held.{run, start}
+use Rattle.mg_disk.specs.HeldLemmas.{held_more}
+use Rattle.mg_disk.specs.PlaceLemmas.{same_as, none_in_none}
 use Rattle.mg_disk.specs.declared.memory.Event.TheVariants.{Synced}
 use Rattle.mg_disk.proofs.memory.MemDisk.settle.Goals as goal
 

@@ -1,8 +1,8 @@
 use Rattle.std.proofs.Common.{◌≡◌, rules, ap, ◌∙◌, sym, Some, subst, arith, refl, slice_set}
 use Rattle.mg_disk.specs.Disk.{SameBut, only_place}
 use Rattle.mg_disk.specs.Blocks.{gates_block}
-use Rattle.mg_disk.specs.Held.{wrote_goes}
-use Rattle.mg_disk.specs.Places.{same_set}
+use Rattle.mg_disk.specs.HeldLemmas.{wrote_goes}
+use Rattle.mg_disk.specs.PlaceLemmas.{same_set}
 use Rattle.mg_disk.specs.declared.memory.MemDisk.{MemDisk}
 use Rattle.mg_disk.proofs.memory.MemDiskDisk.write.Goals as goal
 

@@ -24,8 +24,8 @@ returns-clause-lowest c =
     ap (position (λ entry. entry == 0)) (sym rest) ∙ sym c.first_free.ensures ∙ c.in-Some.is in
     ap (position (λ entry. entry == 0)) (sym c.self.view_is) ∙ lowest-from numbers low c.in-Some.at c.self.invariant.none_free found
 
-pub returns-clause-few : goal.returns-clause-few
-returns-clause-few c =
+pub returns-clause-below_65536 : goal.returns-clause-below_65536
+returns-clause-below_65536 c =
     let numbers = c.self.inside.numbers.items in
     let low = c.self.inside.low in
     let rest = take_rest c.deref.result.now low ∙ ap (drop low) c.deref.ensures.value in

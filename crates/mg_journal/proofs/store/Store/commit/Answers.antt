@@ -27,7 +27,7 @@ returns-in-Ok-clause-came_from g c now told =
     let total = c.args.self.now.total in
     let writes = c.as_slice-writes.result.now in
     subst (λ w. IsSomeAnd (g.D.Disk.seen c.args.disk.now) (λ image. NewContents total image w now)) c.as_slice-writes.ensures.same
-    (came_back (λ image z. NewContents total image writes z) (g.D.Disk.seen c.args.disk.now) (g.D.Disk.seen c.make.new.disk) c.in-Ok.ensures.tells c.in-Ok.ensures.done now told)
+    (came_back (λ image z. NewContents total image writes z) (g.D.Disk.seen c.args.disk.now) (g.D.Disk.seen c.commit_segment.new.disk) c.in-Ok.ensures.tells c.in-Ok.ensures.done now told)
 
 pub returns-then-is_empty-clause-late : goal.returns-then-is_empty-clause-late
 returns-then-is_empty-clause-late g c some =

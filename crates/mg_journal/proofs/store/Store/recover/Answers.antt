@@ -16,7 +16,7 @@ returns-in-Ok-clause-stands g c =
     let total = c.clear.new.self.total in
     record {
       journal = omega (arith, c.requires.journal, c.clear.ensures.total);
-      room = omega (arith, c.requires.room, c.recover.ensures.calls.blocks, c.clear.ensures.total);
+      room = omega (arith, c.requires.within_disk, c.recover.ensures.calls.blocks, c.clear.ensures.total);
       settled = c.in-Ok.ensures.settled;
       fits = λ now told.
           let from = some_of (λ image. IsRecovered c.args.view.total image now) (g.D.Disk.seen c.args.disk.now) (c.in-Ok.ensures.came_from now told) in
@@ -27,3 +27,7 @@ returns-in-Ok-clause-stands g c =
 pub returns-in-Err-clause-came_from : goal.returns-in-Err-clause-came_from
 returns-in-Err-clause-came_from g c =
     came_back (SameContents c.args.view.total) (g.D.Disk.seen c.args.disk.now) (g.D.Disk.seen c.recover.new.disk) c.recover.ensures.tells c.recover.ensures.contents
+
+pub returns-in-Ok-clause-closed : goal.returns-in-Ok-clause-closed
+returns-in-Ok-clause-closed g c now told =
+    (some_of (λ image. IsRecovered c.args.view.total image now) (g.D.Disk.seen c.args.disk.now) (c.in-Ok.ensures.came_from now told)).2.closed

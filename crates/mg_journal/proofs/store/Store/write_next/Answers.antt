@@ -18,7 +18,7 @@ returns-in_err-write_segment-clause-any_moment g c image told =
     let store = c.args.self.now in
     let stands = c.requires.stands in
     let shut = shut_from store.total store.opened store.table image (held_fits store image (stands.fits image told)) in
-    after_bodies g.D.Disk store.total store.opened c.args.writes.now image c.requires.room shut c.args.disk.now c.write_segment.new.disk
+    after_bodies g.D.Disk store.total store.opened c.args.writes.now image c.requires.fewer_than_8_open shut c.args.disk.now c.write_segment.new.disk
     (subst (λ n. Leaves g.D.Disk c.args.disk.now c.write_segment.new.disk (SameBut (IsBehind n) image)) (ap (λ (s : Store). s.opened) c.self.view_is) (c.write_segment.ensures.any_moment stands.settled image told))
 
 pub returns-clause-any_moment : goal.returns-clause-any_moment
@@ -29,7 +29,7 @@ returns-clause-any_moment g c image told =
     let is = ap (λ (s : Store). s.opened) c.self.view_is in
     let shut = shut_from store.total store.opened store.table image (held_fits store image (stands.fits image told)) in
     let b = some_of (HoldsWrites c.self.inside.opened writes image) (g.D.Disk.seen c.write_segment.new.disk) (c.in_ok-write_segment.ensures.written image told) in
-    after_gate g.D.Disk store.total store.opened writes image c.requires.room shut c.requires.homes c.requires.few b.0 (subst (λ n. HoldsWrites n writes image b.0) is b.2)
+    after_gate g.D.Disk store.total store.opened writes image c.requires.fewer_than_8_open shut c.requires.homes c.requires.at_most_160_writes b.0 (subst (λ n. HoldsWrites n writes image b.0) is b.2)
     c.gate_of.result (c.gate_of.ensures ∙ ap segment_gate is) c.args.disk.now c.write_segment.new.disk c.write_firmly.new.disk
     (subst (λ n. Leaves g.D.Disk c.args.disk.now c.write_segment.new.disk (SameBut (IsBehind n) image)) is (c.write_segment.ensures.any_moment stands.settled image told))
     (c.write_firmly.ensures.any_moment c.in_ok-write_segment.ensures.settled b.0 b.1)
@@ -53,5 +53,5 @@ returns-clause-next g c =
     let now : g.D.Disk.seen c.write_firmly.new.disk ≡ Some (slice_set b.0 (segment_gate store.opened) gate) =
     wrote ∙ ap (option_map (λ i. slice_set i at gate)) b.1 ∙ ap (λ k. Some (slice_set b.0 k gate)) (c.gate_of.ensures ∙ ap segment_gate is) in
     subst (λ o. IsSomeAnd o (IsNext store.total store.opened writes image)) (sym now)
-    (next store.total store.opened writes image c.requires.room shut c.requires.homes c.requires.few b.0 (subst (λ n. HoldsWrites n writes image b.0) is b.2) gate c.opened_gate.ensures room))
+    (next store.total store.opened writes image c.requires.fewer_than_8_open shut c.requires.homes c.requires.at_most_160_writes b.0 (subst (λ n. HoldsWrites n writes image b.0) is b.2) gate c.opened_gate.ensures room))
     c.write_firmly.ensures.written

@@ -17,5 +17,5 @@ loop-k-preserved c =
           append_assoc places (lying first (take k writes)) ((home_at writes k, first + k) ∷ []) ∙ ap (λ p. places ++ p) (sym (lying_more first writes k c.loop-k-test.true)) in
           subst (λ p. HasLast p c.put.new.self) is (last-more so_far c.loop-k.self c.put.new.self (home_at writes k, first + k) (inv.newest places last) c.put.ensures.puts);
       fit = λ total fit all. c.put.ensures.fit total (inv.fit total fit all) (lies_fit total first writes k fit c.loop-k-test.true (omega (arith, c.loop-k-test.true, c.requires.within)));
-      few = omega (arith, c.put.ensures.few, inv.few);
+      few = omega (arith, c.put.ensures.at_most_one_more, inv.few);
     }

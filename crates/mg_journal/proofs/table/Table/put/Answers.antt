@@ -23,7 +23,7 @@ invariant_of-self-else-at-len c =
       | else-at-len-via-then-at-len+else-index-place w ↦ w.if-index-place.false (ap (λ (p : ℕ × ℕ). p.0) (w.index.ensures ∙ get_or_default table at w.index.result.now d under) ∙ is)
       | else-at-len-via-else-at-len w ↦ absurd (omega (arith, c.self.inside.places.ok.0))
     ] in
-    let small : length table < 1280 = omega (arith, ap length c.self.view_is, c.requires.room) in
+    let small : length table < 1280 = omega (arith, ap length c.self.view_is, c.requires.fits_in_table) in
     let room : vec_len c.self.inside.places < vec_capacity c.self.inside.places = omega (arith, c.self.inside.places.ok.0, c.self.invariant.0) in
     let done : is_ok c.insert.result ≡ true = search (rules, c.insert.ensures.succeeds room) in
     let items : c.insert.new.self.items ≡ insert table at place = c.insert.ensures.items ∙ ap (λ t. if t then insert table at place else table) done in
@@ -49,7 +49,7 @@ returns-else-at-len-clause-puts c =
     let value = c.deref.ensures.value in
     let below : AllWithin (λ (p : ℕ × ℕ). p.0 < place.0) table 0 at = let P = λ (xs : List (ℕ × ℕ)). AllWithin (λ (p : ℕ × ℕ). p.0 < place.0) xs 0 at in subst P value c.count_below-at.ensures.below in
     let within : at ≤ length table = omega (arith, ap length value, c.count_below-at.ensures.within) in
-    let small : length table < 1280 = omega (arith, ap length c.self.view_is, c.requires.room) in
+    let small : length table < 1280 = omega (arith, ap length c.self.view_is, c.requires.fits_in_table) in
     let room : vec_len c.self.inside.places < vec_capacity c.self.inside.places = omega (arith, c.self.inside.places.ok.0, c.self.invariant.0) in
     let done : is_ok c.insert.result ≡ true = search (rules, c.insert.ensures.succeeds room) in
     let items : c.insert.new.self.items ≡ insert table at place = c.insert.ensures.items ∙ ap (λ t. if t then insert table at place else table) done in

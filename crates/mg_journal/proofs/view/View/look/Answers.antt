@@ -5,7 +5,7 @@ use Rattle.mg_model.specs.Layout.{segment_count}
 use Rattle.mg_model.specs.Replay.{segments_fit}
 use Rattle.mg_disk.specs.Runs.{nothing_then}
 use Rattle.mg_journal.specs.declared.faults.ViewFault.TheVariants.{Damaged}
-use Rattle.mg_journal.specs.Facts.{replay-none, replay-some}
+use Rattle.mg_journal.specs.JournalLemmas.{replay-none, replay-some}
 use Rattle.mg_journal.specs.Newest.{HasLast}
 use Rattle.mg_journal.specs.Places.{places_of, places_since}
 use Rattle.mg_journal.proofs.Bodies.{places_since-last, segments_fit-more, segments_unfit}

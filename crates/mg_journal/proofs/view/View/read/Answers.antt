@@ -11,7 +11,7 @@ returns-clause-block g c =
     let view = c.args.self.now in
     let counted = g.met.D.Disk.seen_count c.args.disk.now image told in
     let low = c.requires.place in
-    let high = c.requires.room in
+    let high = c.requires.within_disk in
     let inside : c.args.i < length image = omega arith in
     same image told ∙ ap (block_at image) c.place_of.ensures.newest ∙ newest_reads view image r c.args.i (c.requires.fits image told) inside is)
     c.read.ensures.block

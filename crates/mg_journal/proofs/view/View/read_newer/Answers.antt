@@ -9,7 +9,7 @@ returns-then-place-i-clause-block g c image told r is =
     let view = c.args.self.now in
     let counted = g.met.D.Disk.seen_count c.args.disk.now image told in
     let low = c.requires.place in
-    let high = c.requires.room in
+    let high = c.requires.within_disk in
     let inside : c.args.i < length image = omega arith in
     c.requires.home image told ∙ ap (block_at image) (sym c.if-place-i.true ∙ c.place_of-place.ensures.newest) ∙ newest_reads view image r c.args.i (c.requires.fits image told) inside is
 
@@ -20,7 +20,7 @@ returns-else-place-i-clause-block g c =
     let view = c.args.self.now in
     let counted = g.met.D.Disk.seen_count c.args.disk.now image told in
     let low = c.requires.place in
-    let high = c.requires.room in
+    let high = c.requires.within_disk in
     let inside : c.args.i < length image = omega arith in
     same image told ∙ ap (block_at image) c.place_of-place.ensures.newest ∙ newest_reads view image r c.args.i (c.requires.fits image told) inside is)
     c.read.ensures.block

@@ -1,5 +1,5 @@
 use Rattle.mg_kernel.proofs.Standing.{backed-kept, backed-of, sound-of, stands-opened}
-use Rattle.mg_volume.specs.Formed.{formed_sound}
+use Rattle.mg_volume.specs.FormedLemmas.{formed_sound}
 use Rattle.mg_volume.specs.Meaning.{now_of}
 use Rattle.mg_kernel.proofs.kernel.Kernel.commit.Goals as goal
 

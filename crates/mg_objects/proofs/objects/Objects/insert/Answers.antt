@@ -14,7 +14,7 @@ add-place-requires-clause-unbound c =
     ap (λ (b : ℕ). list_any (λ entry. entry == b) bases) c.base-base.ensures.value ∙ none
 
 pub add-place-requires-clause-free : goal.add-place-requires-clause-free
-add-place-requires-clause-free c = some_free (whole c.self.inside.rows.items) c.self.inside.bases c.self.invariant.held (omega (arith, ap length (whole-objects c.self.inside.rows.items ∙ c.self.view_is), c.requires.few))
+add-place-requires-clause-free c = some_free (whole c.self.inside.rows.items) c.self.inside.bases c.self.invariant.held (omega (arith, ap length (whole-objects c.self.inside.rows.items ∙ c.self.view_is), c.requires.fewer_than_4096))
 
 pub put_row-requires-clause-within : goal.put_row-requires-clause-within
 put_row-requires-clause-within c = lowest-within c.self.inside.rows.items c.self.inside.bases c.self.invariant.held c.add-place.result c.add-place.ensures.lowest
@@ -36,8 +36,8 @@ invariant_of-self c =
     let Q : List ℕ → Type 0 = λ bs. AreHeld (slice_set rows place (Some row)) bs in
     let R : List (Option ObjectRow) → Type 0 = λ rs. AreHeld rs c.add-place.new.self in
     record {
-      short = c.put_row.ensures.few;
-      room = c.put_row.ensures.room;
+      short = c.put_row.ensures.at_most_4096_rows;
+      room = c.put_row.ensures.has_capacity;
       held = subst R (sym c.put_row.ensures.put) (subst Q (sym (c.add-place.ensures.bound ∙ ap (slice_set bases place) c.base-base.ensures.value)) new.1);
     }
 

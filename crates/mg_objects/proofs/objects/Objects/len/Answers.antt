@@ -14,8 +14,8 @@ returns-clause-count c =
     let bases = c.self.inside.bases in
     sym (ap length (keys rows bases c.self.invariant.held c.pairs.result.now c.pairs.ensures.ascending c.pairs.ensures.exact)) ∙ length-map (objects_in rows) key_of ∙ ap length (whole-objects c.self.inside.rows.items ∙ c.self.view_is)
 
-pub returns-clause-few : goal.returns-clause-few
-returns-clause-few c =
+pub returns-clause-at_most_4096 : goal.returns-clause-at_most_4096
+returns-clause-at_most_4096 c =
     let rows = whole c.self.inside.rows.items in
     let bases = c.self.inside.bases in
     let e = ap length (keys rows bases c.self.invariant.held c.pairs.result.now c.pairs.ensures.ascending c.pairs.ensures.exact) in

@@ -5,8 +5,8 @@ use Rattle.mg_objects.proofs.Keys.{keys}
 use Rattle.mg_objects.proofs.Whole.{whole-objects}
 use Rattle.mg_objects.proofs.objects.Objects.nth.Goals as goal
 
-pub row_of-requires-clause-few : goal.row_of-requires-clause-few
-row_of-requires-clause-few c = let at = ap length c.deref.ensures.value in let few = c.self.invariant.short in omega arith
+pub row_of-requires-clause-at_most_4096_rows : goal.row_of-requires-clause-at_most_4096_rows
+row_of-requires-clause-at_most_4096_rows c = let at = ap length c.deref.ensures.value in let few = c.self.invariant.short in omega arith
 
 pub row_of-requires-clause-listed : goal.row_of-requires-clause-listed
 row_of-requires-clause-listed c =

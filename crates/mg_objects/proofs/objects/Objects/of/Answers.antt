@@ -23,10 +23,10 @@ are_apart-requires-clause-listed c =
 
 pub invariant_of-result : goal.invariant_of-result
 invariant_of-result c = record {
-  short = c.requires.few;
-  room = c.requires.room;
+  short = c.requires.at_most_4096_rows;
+  room = c.requires.has_capacity;
   held = record {
-    long = whole-long c.args.table.items c.requires.few;
+    long = whole-long c.args.table.items c.requires.at_most_4096_rows;
     bases_are = some_of (all_distinct (numbers_in c.in_ok-numbers.numbers.items)) c.in-Some.bases c.in_ok-numbers.numbers.items (sym c.in-Some.is ∙ c.in_ok-bases.ensures) ∙ c.in_ok-numbers.ensures.bases ∙ ap (λ rows. map base_of (whole rows)) c.deref.ensures.value;
     rows_are = let P : List (Option ObjectRow) → Type 0 = All (λ (row : Option ObjectRow). ForSome row IsObjectRow) in whole-good c.args.table.items (subst P c.deref.ensures.value c.in_ok-numbers.ensures.ranges);
     apart =
@@ -46,7 +46,7 @@ returns-in-None c = λ apart.
     let Q : List (ℕ × ObjectRow) → Type 0 = AreApart in
     let table = whole c.args.table.items in
     let P : List (Option ObjectRow) → Type 0 = All (λ (row : Option ObjectRow). ForSome row IsObjectRow) in
-    let long = whole-long c.args.table.items c.requires.few in
+    let long = whole-long c.args.table.items c.requires.at_most_4096_rows in
     let distinct = apart_distinct table long (whole-good c.args.table.items (subst P c.deref.ensures.value c.in_ok-numbers.ensures.ranges)) (subst Q (sym (whole-objects c.args.table.items)) apart) in
     let bases = c.in_ok-numbers.ensures.bases ∙ ap (λ rows. map base_of (whole rows)) c.deref.ensures.value in
     let not_distinct = none_of (all_distinct (numbers_in c.in_ok-numbers.numbers.items)) c.in_ok-numbers.numbers.items (sym c.in-None.is ∙ c.in_ok-bases.ensures) in

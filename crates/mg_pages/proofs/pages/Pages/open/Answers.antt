@@ -52,5 +52,5 @@ returns-clause-coming c image =
 pub returns-clause-spelled : goal.returns-clause-spelled
 returns-clause-spelled c image fits long has =
     let b = c.in_ok-blocks.blocks in
-    made-spelled c.args.store c.args.entries.items 0 c.requires.some c.requires.few c.requires.total c.requires.distinct image fits long has c.in-Some.frames b
+    made-spelled c.args.store c.args.entries.items 0 c.requires.at_least_16_entries c.requires.at_most_65536_entries c.requires.total c.requires.distinct image fits long has c.in-Some.frames b
     (made-frames c.args.entries.items c.in-Some.frames c.in_ok-frames.field-0 c.in_ok-frames.ensures c.in-Some.is c.requires.distinct) c.in_ok-blocks.ensures

@@ -11,8 +11,8 @@ use Rattle.mg_pages.specs.Meaning.{IsSpelledBy, Releases, SameShape, StagesMore,
 use Rattle.mg_pages.specs.Parts.{StagesTable}
 use Rattle.mg_pages.proofs.pages.Pages.release.Goals as goal
 
-pub release_pages-requires-clause-room : goal.release_pages-requires-clause-room
-release_pages-requires-clause-room c =
+pub release_pages-requires-clause-at_most_32_writes : goal.release_pages-requires-clause-at_most_32_writes
+release_pages-requires-clause-at_most_32_writes c =
     let i = c.self.inside in
     room-many i.blocks.store i.frames i.blocks.writes i.count i.blocks.kept c.args.self.now c.self.view_is c.requires
 

@@ -17,51 +17,51 @@ store_word-requires-clause-frame g c =
     let table = table-is i.blocks.store i.frames i.blocks.writes i.count i.blocks.kept c.args.self.now c.self.view_is in
     ⊎_elim (λ bound. inl (sym (ap (list_any (λ entry. entry == c.args.page)) table) ∙ bound)) (λ free. inr (sym (ap (list_any (λ entry. entry == 0)) table) ∙ free)) c.requires.frame
 
-pub store_word-requires-clause-room : goal.store_word-requires-clause-room
-store_word-requires-clause-room g c =
+pub store_word-requires-clause-at_most_158_writes : goal.store_word-requires-clause-at_most_158_writes
+store_word-requires-clause-at_most_158_writes g c =
     let i = c.self.inside in
-    room-two i.blocks.store i.frames i.blocks.writes i.count i.blocks.kept c.args.self.now c.self.view_is c.requires.few
+    room-two i.blocks.store i.frames i.blocks.writes i.count i.blocks.kept c.args.self.now c.self.view_is c.requires.at_most_158_staged
 
 pub invariant_of-self : goal.invariant_of-self
 invariant_of-self g c =
     let i = c.self.inside in
     let all = stored-then (g.D.Disk.seen c.args.disk.now) i.blocks c.store_word.new.blocks c.args.page c.args.index c.args.value i.frames c.store_word.new.frames i.count c.count_word.new.count
-    c.args.self.now c.self.view_is c.self.invariant c.requires.page (room-two i.blocks.store i.frames i.blocks.writes i.count i.blocks.kept c.args.self.now c.self.view_is c.requires.few) c.store_word.ensures.keeps c.in-Ok.ensures.stored in
+    c.args.self.now c.self.view_is c.self.invariant c.requires.page (room-two i.blocks.store i.frames i.blocks.writes i.count i.blocks.kept c.args.self.now c.self.view_is c.requires.at_most_158_staged) c.store_word.ensures.keeps c.in-Ok.ensures.stored in
     all.sound
 
 pub returns-in-Ok-clause-sets : goal.returns-in-Ok-clause-sets
 returns-in-Ok-clause-sets g c image told =
     let i = c.self.inside in
     let all = stored-then (g.D.Disk.seen c.args.disk.now) i.blocks c.store_word.new.blocks c.args.page c.args.index c.args.value i.frames c.store_word.new.frames i.count c.count_word.new.count
-    c.args.self.now c.self.view_is c.self.invariant c.requires.page (room-two i.blocks.store i.frames i.blocks.writes i.count i.blocks.kept c.args.self.now c.self.view_is c.requires.few) c.store_word.ensures.keeps c.in-Ok.ensures.stored in
+    c.args.self.now c.self.view_is c.self.invariant c.requires.page (room-two i.blocks.store i.frames i.blocks.writes i.count i.blocks.kept c.args.self.now c.self.view_is c.requires.at_most_158_staged) c.store_word.ensures.keeps c.in-Ok.ensures.stored in
     all.sets image told (c.requires.stands.fits image told)
 
 pub returns-in-Ok-clause-binds : goal.returns-in-Ok-clause-binds
 returns-in-Ok-clause-binds g c =
     let i = c.self.inside in
     let all = stored-then (g.D.Disk.seen c.args.disk.now) i.blocks c.store_word.new.blocks c.args.page c.args.index c.args.value i.frames c.store_word.new.frames i.count c.count_word.new.count
-    c.args.self.now c.self.view_is c.self.invariant c.requires.page (room-two i.blocks.store i.frames i.blocks.writes i.count i.blocks.kept c.args.self.now c.self.view_is c.requires.few) c.store_word.ensures.keeps c.in-Ok.ensures.stored in
+    c.args.self.now c.self.view_is c.self.invariant c.requires.page (room-two i.blocks.store i.frames i.blocks.writes i.count i.blocks.kept c.args.self.now c.self.view_is c.requires.at_most_158_staged) c.store_word.ensures.keeps c.in-Ok.ensures.stored in
     all.binds
 
 pub returns-in-Ok-clause-shape : goal.returns-in-Ok-clause-shape
 returns-in-Ok-clause-shape g c =
     let i = c.self.inside in
     let all = stored-then (g.D.Disk.seen c.args.disk.now) i.blocks c.store_word.new.blocks c.args.page c.args.index c.args.value i.frames c.store_word.new.frames i.count c.count_word.new.count
-    c.args.self.now c.self.view_is c.self.invariant c.requires.page (room-two i.blocks.store i.frames i.blocks.writes i.count i.blocks.kept c.args.self.now c.self.view_is c.requires.few) c.store_word.ensures.keeps c.in-Ok.ensures.stored in
+    c.args.self.now c.self.view_is c.self.invariant c.requires.page (room-two i.blocks.store i.frames i.blocks.writes i.count i.blocks.kept c.args.self.now c.self.view_is c.requires.at_most_158_staged) c.store_word.ensures.keeps c.in-Ok.ensures.stored in
     shape-then i.blocks c.store_word.new.blocks i.frames c.store_word.new.frames i.count c.count_word.new.count c.args.self.now c.self.view_is c.store_word.ensures.keeps.store all.many
 
 pub returns-in-Ok-clause-staged : goal.returns-in-Ok-clause-staged
 returns-in-Ok-clause-staged g c =
     let i = c.self.inside in
     let all = stored-then (g.D.Disk.seen c.args.disk.now) i.blocks c.store_word.new.blocks c.args.page c.args.index c.args.value i.frames c.store_word.new.frames i.count c.count_word.new.count
-    c.args.self.now c.self.view_is c.self.invariant c.requires.page (room-two i.blocks.store i.frames i.blocks.writes i.count i.blocks.kept c.args.self.now c.self.view_is c.requires.few) c.store_word.ensures.keeps c.in-Ok.ensures.stored in
+    c.args.self.now c.self.view_is c.self.invariant c.requires.page (room-two i.blocks.store i.frames i.blocks.writes i.count i.blocks.kept c.args.self.now c.self.view_is c.requires.at_most_158_staged) c.store_word.ensures.keeps c.in-Ok.ensures.stored in
     all.staged
 
 pub returns-in-Ok-clause-stands : goal.returns-in-Ok-clause-stands
 returns-in-Ok-clause-stands g c =
     let i = c.self.inside in
     let all = stored-then (g.D.Disk.seen c.args.disk.now) i.blocks c.store_word.new.blocks c.args.page c.args.index c.args.value i.frames c.store_word.new.frames i.count c.count_word.new.count
-    c.args.self.now c.self.view_is c.self.invariant c.requires.page (room-two i.blocks.store i.frames i.blocks.writes i.count i.blocks.kept c.args.self.now c.self.view_is c.requires.few) c.store_word.ensures.keeps c.in-Ok.ensures.stored in
+    c.args.self.now c.self.view_is c.self.invariant c.requires.page (room-two i.blocks.store i.frames i.blocks.writes i.count i.blocks.kept c.args.self.now c.self.view_is c.requires.at_most_158_staged) c.store_word.ensures.keeps c.in-Ok.ensures.stored in
     stands-again g.D.Disk c.args.self.now (record { blocks = c.store_word.new.blocks; frames = c.store_word.new.frames; count = c.count_word.new.count }) c.args.disk.now c.store_word.new.disk c.requires.stands
     c.store_word.ensures.writes.same c.store_word.ensures.calls.blocks c.store_word.ensures.stands.settled
     (shape-then i.blocks c.store_word.new.blocks i.frames c.store_word.new.frames i.count c.count_word.new.count c.args.self.now c.self.view_is c.store_word.ensures.keeps.store all.many).total

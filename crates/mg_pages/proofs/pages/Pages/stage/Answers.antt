@@ -11,7 +11,7 @@ use Rattle.mg_pages.proofs.pages.Pages.stage.Goals as goal
 pub stage-requires : goal.stage-requires
 stage-requires c =
     let i = c.self.inside in
-    record { room = room-staged i.blocks.writes c.args.block (room-is i.blocks.store i.frames i.blocks.writes i.count i.blocks.kept c.args.self.now c.self.view_is c.self.invariant c.args.block c.args.from.now c.requires.room) }
+    record { there_or_fewer_than_160 = room-staged i.blocks.writes c.args.block (room-is i.blocks.store i.frames i.blocks.writes i.count i.blocks.kept c.args.self.now c.self.view_is c.self.invariant c.args.block c.args.from.now c.requires.staged_or_fewer_than_160) }
 
 pub invariant_of-self : goal.invariant_of-self
 invariant_of-self c =
@@ -20,7 +20,7 @@ invariant_of-self c =
     let high = c.requires.high in
     subst (λ (b : BlocksHeld). IsSound (record { blocks = b; frames = i.frames; count = i.count })) (sym c.stage.ensures)
     (sound-staged i.blocks.store i.frames i.blocks.writes i.count i.blocks.kept c.args.block c.args.from.now c.requires.low (omega arith)
-    (room-is i.blocks.store i.frames i.blocks.writes i.count i.blocks.kept c.args.self.now c.self.view_is c.self.invariant c.args.block c.args.from.now c.requires.room) c.self.invariant)
+    (room-is i.blocks.store i.frames i.blocks.writes i.count i.blocks.kept c.args.self.now c.self.view_is c.self.invariant c.args.block c.args.from.now c.requires.staged_or_fewer_than_160) c.self.invariant)
 
 pub returns-clause-coming : goal.returns-clause-coming
 returns-clause-coming c =

@@ -34,12 +34,12 @@ put_piece-requires-clause-place c =
     let g = gave c.args.self.now c.self.inside.gaps.items c.args.first c.args.pages c.count_to-at.result c.requires c.self.view_is k in
     (g.inside c.join_behind-end.result c.join_before-place.result c.join_behind-end.new.gaps.items c.join_before-place.new.gaps.items c.join_behind-end.ensures.joined c.join_behind-end.ensures.apart c.join_before-place.ensures.joined c.join_before-place.ensures.apart).0
 
-pub put_piece-requires-clause-room : goal.put_piece-requires-clause-room
-put_piece-requires-clause-room c =
+pub put_piece-requires-clause-has_capacity : goal.put_piece-requires-clause-has_capacity
+put_piece-requires-clause-has_capacity c =
     let k = counted c.deref.result.now c.self.inside.gaps.items c.args.first c.count_to-at.result c.deref.ensures.value c.count_to-at.ensures.within c.count_to-at.ensures.below c.count_to-at.ensures.above in
     let g = gave c.args.self.now c.self.inside.gaps.items c.args.first c.args.pages c.count_to-at.result c.requires c.self.view_is k in
     let few = (g.inside c.join_behind-end.result c.join_before-place.result c.join_behind-end.new.gaps.items c.join_before-place.new.gaps.items c.join_behind-end.ensures.joined c.join_behind-end.ensures.apart c.join_before-place.ensures.joined c.join_before-place.ensures.apart).1 in
-    omega (arith, few, c.join_before-place.ensures.room, c.join_behind-end.ensures.room, c.self.invariant.room)
+    omega (arith, few, c.join_before-place.ensures.keeps_capacity, c.join_behind-end.ensures.keeps_capacity, c.self.invariant.room)
 
 pub invariant_of-self : goal.invariant_of-self
 invariant_of-self c =
@@ -51,7 +51,7 @@ invariant_of-self c =
         taken = r.before ++ r.behind;
         leave = g.left r.before r.behind r.leave c.join_behind-end.result c.join_before-place.result c.join_behind-end.new.gaps.items c.join_before-place.new.gaps.items c.put_piece.new.gaps.items c.join_behind-end.ensures.joined c.join_behind-end.ensures.apart c.join_before-place.ensures.joined c.join_before-place.ensures.apart c.put_piece.ensures.gaps;
       };
-      room = omega (arith, c.put_piece.ensures.room, c.join_before-place.ensures.room, c.join_behind-end.ensures.room, c.self.invariant.room);
+      room = omega (arith, c.put_piece.ensures.keeps_capacity, c.join_before-place.ensures.keeps_capacity, c.join_behind-end.ensures.keeps_capacity, c.self.invariant.room);
     }
 
 pub returns : goal.returns

@@ -48,7 +48,7 @@ put_piece-requires-2-clause-room c =
     let one = length-removed c.self.inside.gaps.items n under in
     let put = ap length c.put_piece.ensures.gaps in
     let more = length-put n (c.args.first + c.args.pages) (gap.0 + gap.1) x in
-    omega (arith, t.few, fewer, one, put, more, c.put_piece.ensures.room, c.remove-gap.ensures.capacity, c.self.invariant.room)
+    omega (arith, t.few, fewer, one, put, more, c.put_piece.ensures.keeps_capacity, c.remove-gap.ensures.capacity, c.self.invariant.room)
 
 pub invariant_of-self : goal.invariant_of-self
 invariant_of-self c =
@@ -62,7 +62,7 @@ invariant_of-self c =
         taken = r.before ++ (c.args.first, c.args.pages) ∷ r.behind;
         leave = t.cut r.before r.behind r.leave r.more n c.remove-gap.result c.remove-gap.new.self.items c.put_piece.new.gaps.items c.put_piece-2.new.gaps.items is c.remove-gap.ensures.value c.remove-gap.ensures.items c.put_piece.ensures.gaps c.put_piece-2.ensures.gaps;
       };
-      room = omega (arith, c.put_piece-2.ensures.room, c.put_piece.ensures.room, c.remove-gap.ensures.capacity, c.self.invariant.room);
+      room = omega (arith, c.put_piece-2.ensures.keeps_capacity, c.put_piece.ensures.keeps_capacity, c.remove-gap.ensures.capacity, c.self.invariant.room);
     }
 
 pub returns : goal.returns

@@ -10,6 +10,6 @@ invariant_of-self c =
 
 pub returns : goal.returns
 returns c =
-    let few = c.requires.few in
+    let few = c.requires.t_at_most_256 in
     let long = c.self.invariant.by_number.long in
-    put_is c.self.inside.rows.items c.args.t c.args.row c.requires.some (omega arith) ∙ ap (rows_with c.args.t c.args.row) c.self.view_is
+    put_is c.self.inside.rows.items c.args.t c.args.row c.requires.t_at_least_1 (omega arith) ∙ ap (rows_with c.args.t c.args.row) c.self.view_is

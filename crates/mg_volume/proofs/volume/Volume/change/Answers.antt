@@ -4,7 +4,7 @@ use Rattle.mg_volume.proofs.ObjectChanged.{is_put, pages_same, put_held, put_her
 use Rattle.mg_volume.proofs.ObjectStaged.{with_objects}
 use Rattle.mg_volume.proofs.RowsApart.{changes_there}
 use Rattle.mg_volume.proofs.Stages.{stages_is}
-use Rattle.mg_volume.proofs.Again.{pages_spelled}
+use Rattle.mg_volume.proofs.StandingPages.{pages_spelled}
 use Rattle.mg_volume.specs.Meaning.{now_of, objects_in, staged_of}
 use Rattle.mg_volume.specs.contracts.volume.Volume.{the_view}
 use Rattle.mg_volume.proofs.volume.Volume.change.Goals as goal
@@ -26,12 +26,12 @@ stage_row-requires-clause-place c =
     let change = rw (← c.self.view_is) at c.requires.change in
     put_low v c.args.row c.update-place.result c.self.invariant (is_put v c.args.row c.update-place.result c.self.invariant change c.update-place.ensures.place)
 
-pub stage_row-requires-clause-room : goal.stage_row-requires-clause-room
+pub stage_row-requires-clause-staged_or_fewer_than_160 : goal.stage_row-requires-clause-staged_or_fewer_than_160
 unfolding staged_of
-stage_row-requires-clause-room c =
+stage_row-requires-clause-staged_or_fewer_than_160 c =
     let v = the_view c.self.inside in
     let change = rw (← c.self.view_is) at c.requires.change in
-    let room = rw (← c.self.view_is) at c.requires.room in
+    let room = rw (← c.self.view_is) at c.requires.staged_or_fewer_than_160 in
     ⊎_elim (λ waits. inl (put_room v c.args.row c.update-place.result c.self.invariant (is_put v c.args.row c.update-place.result c.self.invariant change c.update-place.ensures.place) waits)) (λ few. inr few) room
 
 pub invariant_of-self : goal.invariant_of-self

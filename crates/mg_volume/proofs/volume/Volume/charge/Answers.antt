@@ -13,9 +13,9 @@ use Rattle.mg_volume.specs.StagesAccounts.{DifferWithin, StagesAccounts}
 use Rattle.mg_volume.specs.contracts.volume.Volume.{the_view}
 use Rattle.mg_volume.proofs.volume.Volume.charge.Goals as goal
 
-pub stage_first-requires-clause-room : goal.stage_first-requires-clause-room
+pub stage_first-requires-clause-at_most_144_staged : goal.stage_first-requires-clause-at_most_144_staged
 unfolding staged_of
-stage_first-requires-clause-room c = rw (← c.self.view_is) at c.requires.room
+stage_first-requires-clause-at_most_144_staged c = rw (← c.self.view_is) at c.requires.at_most_144_staged
 
 few : (c : goal.After-stage_first) → length c.collect-paid.new.b ≤ account_rows
 few c =

@@ -8,7 +8,7 @@ use Rattle.mg_pages.specs.Committing.{HasContents}
 use Rattle.mg_pages.specs.Meaning as pages
 use Rattle.mg_volume.proofs.CommitChange.{held_now, left_volume, stands_now}
 use Rattle.mg_volume.proofs.PagesChange.{held_same, same_objects, same_parts, same_sound}
-use Rattle.mg_volume.proofs.Again.{pages_stand}
+use Rattle.mg_volume.proofs.StandingPages.{pages_stand}
 use Rattle.mg_volume.specs.Meaning.{is_live, now_of, staged_of, total_of, words_in}
 use Rattle.mg_volume.specs.contracts.volume.Volume.{the_view}
 use Rattle.std.specs.Prelude.{◌≡◌, ◌⊎◌, IsSome}

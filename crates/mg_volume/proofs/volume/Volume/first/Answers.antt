@@ -9,8 +9,8 @@ use Rattle.mg_volume.specs.contracts.volume.Volume.{the_view}
 use Rattle.mg_volume.proofs.RowTotals.{apart-bare}
 use Rattle.mg_volume.proofs.volume.Volume.first.Goals as goal
 
-pub first-requires-clause-room : goal.first-requires-clause-room
-first-requires-clause-room c = let fit = c.self.invariant.used in omega (arith, c.frames-frames.ensures.value, c.frames-frames.ensures.few)
+pub first-requires-clause-at_most_65536_pages : goal.first-requires-clause-at_most_65536_pages
+first-requires-clause-at_most_65536_pages c = let fit = c.self.invariant.used in omega (arith, c.frames-frames.ensures.value, c.frames-frames.ensures.at_most_65536)
 
 pub returns-clause-lowest : goal.returns-clause-lowest
 unfolding objects_in
@@ -26,7 +26,7 @@ returns-clause-place c =
     let same : 4096 * page / 4096 ≡ page = mul-div_cancel_left page (omega arith) in
     let low = c.first.ensures.low in
     let high = c.first.ensures.high in
-    record { aligned = mul-mod_right 4096 page; low = omega arith; some = c.requires.some; few = c.requires.few; high = omega arith }
+    record { aligned = mul-mod_right 4096 page; low = omega arith; some = c.requires.at_least_1_page; few = c.requires.at_most_1024_pages; high = omega arith }
 
 pub returns-clause-apart : goal.returns-clause-apart
 unfolding objects_in

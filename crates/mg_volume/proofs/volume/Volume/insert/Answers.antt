@@ -2,13 +2,13 @@ use Rattle.std.proofs.Common.{refl, ⊎_elim, inl, inr}
 use Rattle.mg_volume.proofs.ObjectInserted.{inserted_held, inserted_here, inserted_low, inserted_now, inserted_room, inserted_rows, inserted_spelled, inserted_still, join_few, join_meets}
 use Rattle.mg_volume.proofs.ObjectStaged.{with_objects}
 use Rattle.mg_volume.proofs.Stages.{stages_is}
-use Rattle.mg_volume.proofs.Again.{pages_spelled}
+use Rattle.mg_volume.proofs.StandingPages.{pages_spelled}
 use Rattle.mg_volume.specs.Meaning.{staged_of}
 use Rattle.mg_volume.specs.contracts.volume.Volume.{the_view}
 use Rattle.mg_volume.proofs.volume.Volume.insert.Goals as goal
 
-pub insert-place-requires-clause-few : goal.insert-place-requires-clause-few
-insert-place-requires-clause-few c =
+pub insert-place-requires-clause-fewer_than_4096 : goal.insert-place-requires-clause-fewer_than_4096
+insert-place-requires-clause-fewer_than_4096 c =
     let join = rw (← c.self.view_is) at c.requires.join in
     join_few (the_view c.self.inside) c.args.row join
 
@@ -22,11 +22,11 @@ stage_row-requires-clause-place c =
     let join = rw (← c.self.view_is) at c.requires.join in
     inserted_low (the_view c.self.inside) c.args.row c.insert-place.result c.base-base.ensures.kept c.self.invariant join c.insert-place.ensures.place
 
-pub stage_row-requires-clause-room : goal.stage_row-requires-clause-room
+pub stage_row-requires-clause-staged_or_fewer_than_160 : goal.stage_row-requires-clause-staged_or_fewer_than_160
 unfolding staged_of
-stage_row-requires-clause-room c =
+stage_row-requires-clause-staged_or_fewer_than_160 c =
     let join = rw (← c.self.view_is) at c.requires.join in
-    let room = rw (← c.self.view_is) at c.requires.room in
+    let room = rw (← c.self.view_is) at c.requires.staged_or_fewer_than_160 in
     ⊎_elim (λ waits. inl (inserted_room (the_view c.self.inside) c.args.row c.insert-place.result c.base-base.ensures.kept c.self.invariant join c.insert-place.ensures.place waits)) (λ few. inr few) room
 
 pub invariant_of-self : goal.invariant_of-self

@@ -22,25 +22,25 @@ pub open_account-requires-clause-enough : goal.open_account-requires-clause-enou
 unfolding accounts_in
 open_account-requires-clause-enough c = rw (← c.self.view_is) at c.requires.enough
 
-pub open_account-requires-clause-few : goal.open_account-requires-clause-few
+pub open_account-requires-clause-fewer_than_1024_accounts : goal.open_account-requires-clause-fewer_than_1024_accounts
 unfolding accounts_in
-open_account-requires-clause-few c = rw (← c.self.view_is) at c.requires.few
+open_account-requires-clause-fewer_than_1024_accounts c = rw (← c.self.view_is) at c.requires.fewer_than_1024_accounts
 
 pub stage_both-requires-clause-second : goal.stage_both-requires-clause-second
 unfolding accounts_in
 stage_both-requires-clause-second c =
-    let few : length c.self.inside.accounts < 1024 = rw (← c.self.view_is) at c.requires.few in
+    let few : length c.self.inside.accounts < 1024 = rw (← c.self.view_is) at c.requires.fewer_than_1024_accounts in
     let count = c.len-count.ensures.count in
     omega arith
 
-pub stage_both-requires-clause-room : goal.stage_both-requires-clause-room
+pub stage_both-requires-clause-at_most_158_staged : goal.stage_both-requires-clause-at_most_158_staged
 unfolding staged_of
-stage_both-requires-clause-room c = rw (← c.self.view_is) at c.requires.room
+stage_both-requires-clause-at_most_158_staged c = rw (← c.self.view_is) at c.requires.at_most_158_staged
 
 few : (c : goal.After-stage_both) → length c.open_account.new.self ≤ account_rows
 unfolding accounts_in
 few c =
-    let less : length c.self.inside.accounts < 1024 = rw (← c.self.view_is) at c.requires.few in
+    let less : length c.self.inside.accounts < 1024 = rw (← c.self.view_is) at c.requires.fewer_than_1024_accounts in
     let count = c.open_account.ensures.count in
     omega arith
 

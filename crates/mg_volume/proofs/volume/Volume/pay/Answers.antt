@@ -30,9 +30,9 @@ pub transfer-requires-clause-enough : goal.transfer-requires-clause-enough
 unfolding accounts_in
 transfer-requires-clause-enough c = rw (← c.self.view_is) at c.requires.enough
 
-pub stage_both-requires-clause-room : goal.stage_both-requires-clause-room
+pub stage_both-requires-clause-at_most_158_staged : goal.stage_both-requires-clause-at_most_158_staged
 unfolding staged_of
-stage_both-requires-clause-room c = rw (← c.self.view_is) at c.requires.room
+stage_both-requires-clause-at_most_158_staged c = rw (← c.self.view_is) at c.requires.at_most_158_staged
 
 few : (c : goal.After-stage_both) → length c.transfer.new.self ≤ account_rows
 few c =

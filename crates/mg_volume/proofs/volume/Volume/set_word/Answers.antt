@@ -2,7 +2,7 @@ use Rattle.std.proofs.Common.{◌∙◌, ap, inl, inr, refl, ⊎_elim}
 use Rattle.std.proofs.lemmas.Result.{on_err_weaker, on_ok_weaker}
 use Rattle.mg_volume.proofs.PagesChange.{counted, frame_free, held_again, keeps_now, rows_same, same_objects, same_parts, same_sound, some_page, word_set}
 use Rattle.mg_volume.proofs.StillStaged.{objects_wait, still_staged}
-use Rattle.mg_volume.proofs.Again.{pages_stand, stands_same, with_pages}
+use Rattle.mg_volume.proofs.StandingPages.{pages_stand, stands_same, with_pages}
 use Rattle.mg_volume.specs.Meaning.{has_page, is_live, staged_of, total_of, words_in}
 use Rattle.mg_volume.specs.contracts.volume.Volume.{the_view}
 use Rattle.mg_volume.proofs.volume.Volume.set_word.Goals as goal
@@ -16,9 +16,9 @@ set_word-requires-clause-page g c = some_page (the_view c.self.inside) c.args.pa
 pub set_word-requires-clause-frame : goal.set_word-requires-clause-frame
 set_word-requires-clause-frame g c = frame_free (the_view c.self.inside) c.args.page c.self.invariant c.staged-staged.ensures.kept (rw (← c.self.view_is) at c.requires.page)
 
-pub set_word-requires-clause-few : goal.set_word-requires-clause-few
+pub set_word-requires-clause-at_most_158_staged : goal.set_word-requires-clause-at_most_158_staged
 unfolding staged_of
-set_word-requires-clause-few g c = rw (← c.self.view_is) at c.requires.few
+set_word-requires-clause-at_most_158_staged g c = rw (← c.self.view_is) at c.requires.at_most_158_staged
 
 pub invariant_of-self : goal.invariant_of-self
 invariant_of-self g c =

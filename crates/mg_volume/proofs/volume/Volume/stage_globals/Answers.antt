@@ -9,8 +9,8 @@ use Rattle.mg_volume.proofs.Staged.{counters_now, counters_staged, with_counters
 use Rattle.mg_volume.specs.contracts.volume.Volume.{the_view}
 use Rattle.mg_volume.proofs.volume.Volume.stage_globals.Goals as goal
 
-pub stage-requires-clause-room : goal.stage-requires-clause-room
-stage-requires-clause-room c = counters_room (the_view c.self.inside) (rw (← c.self.view_is) at c.requires.room)
+pub stage-requires-clause-staged_or_fewer_than_160 : goal.stage-requires-clause-staged_or_fewer_than_160
+stage-requires-clause-staged_or_fewer_than_160 c = counters_room (the_view c.self.inside) (rw (← c.self.view_is) at c.requires.staged_or_fewer_than_160)
 
 later : (v : VolumeHeld) (n : ℕ) → (counters_in v).period ≤ n → v.counters.period ≤ n
 unfolding counters_in

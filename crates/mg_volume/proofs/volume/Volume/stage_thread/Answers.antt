@@ -8,13 +8,13 @@ use Rattle.mg_volume.specs.Meaning.{objects_in}
 use Rattle.mg_volume.specs.contracts.volume.Volume.{the_view}
 use Rattle.mg_volume.proofs.volume.Volume.stage_thread.Goals as goal
 
-pub stage-requires-clause-room : goal.stage-requires-clause-room
-stage-requires-clause-room c = thread_room (the_view c.self.inside) c.args.t (rw (← c.self.view_is) at c.requires.room)
+pub stage-requires-clause-staged_or_fewer_than_160 : goal.stage-requires-clause-staged_or_fewer_than_160
+stage-requires-clause-staged_or_fewer_than_160 c = thread_room (the_view c.self.inside) c.args.t (rw (← c.self.view_is) at c.requires.staged_or_fewer_than_160)
 
 pub invariant_of-self : goal.invariant_of-self
 invariant_of-self c =
     let v = the_view c.self.inside in
-    held_same (record v { threads = c.put.new.self }) c.stage.new.self (held_threads v c.put.new.self c.self.invariant c.keep_rules.ensures.few) c.stage.ensures.shape.frames c.stage.ensures.table
+    held_same (record v { threads = c.put.new.self }) c.stage.new.self (held_threads v c.put.new.self c.self.invariant c.keep_rules.ensures.at_most_256) c.stage.ensures.shape.frames c.stage.ensures.table
 
 pub returns-clause-now : goal.returns-clause-now
 returns-clause-now c image =

@@ -7,7 +7,7 @@ use Rattle.mg_pages.specs.Meaning as pages
 use Rattle.std.specs.Prelude.{slice_index, ◌+◌, ◌*◌}
 use Rattle.mg_volume.proofs.PagesChange.{counted, held_same, keeps_now, same_objects, some_page, word_now}
 use Rattle.mg_volume.proofs.StillStaged.{objects_wait, still_staged}
-use Rattle.mg_volume.proofs.Again.{pages_stand, stands_same, with_pages}
+use Rattle.mg_volume.proofs.StandingPages.{pages_stand, stands_same, with_pages}
 use Rattle.mg_volume.specs.Meaning.{now_of, words_in}
 use Rattle.mg_volume.specs.RunLemmas.{reads_of}
 use Rattle.mg_volume.specs.contracts.volume.Volume.{the_view}

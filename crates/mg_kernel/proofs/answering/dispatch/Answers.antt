@@ -7,7 +7,7 @@ use Rattle.mg_kernel.proofs.Served.{object-lives, serves_as}
 use Rattle.mg_kernel.specs.Calls.{of_living}
 use Rattle.mg_kernel.specs.Unasked.{asks_nothing}
 use Rattle.mg_volume.specs.Meaning.{now_of}
-use Rattle.mg_kernel.proofs.answering.called.Goals as goal
+use Rattle.mg_kernel.proofs.answering.dispatch.Goals as goal
 
 pub returns-in-Delete : goal.returns-in-Delete
 returns-in-Delete g c =

@@ -5,7 +5,7 @@ use Rattle.mg_journal.specs.Looked.{Fits}
 use Rattle.mg_journal.specs.Recovery.{IsRecovered}
 use Rattle.mg_journal.specs.ResultLemmas.{some_of}
 use Rattle.mg_journal.specs.Standing.{HoldsOpen, fits_held, held_fits}
-use Rattle.mg_journal.proofs.store.Store.checkpoint.Goals as goal
+use Rattle.mg_journal.proofs.store.Store.close_segments.Goals as goal
 
 pub recover-requires-clause-fits : goal.recover-requires-clause-fits
 recover-requires-clause-fits g c image told =
@@ -28,3 +28,7 @@ returns-clause-stands g c =
           fits_held (record { total = total; live = c.self.inside.live; opened = 0; table = c.clear.new.self.table }) now
           (subst (λ t. HoldsOpen total 0 t now) (sym c.clear.ensures.none) (closed_holds total now from.2.closed));
     }
+
+pub returns-clause-closed : goal.returns-clause-closed
+returns-clause-closed g c now told =
+    (some_of (λ image. IsRecovered c.self.inside.view.total image now) (g.D.Disk.seen c.args.disk.now) (c.in_ok-recover.ensures.came_from now told)).2.closed

@@ -8,7 +8,7 @@ use Rattle.std.proofs.lemmas.List.Elements.{All-replicate}
 use Rattle.std.proofs.lemmas.Nat.{from_le_bytes-to_le_bytes_8}
 use Rattle.mg_model.specs.declared.accounts.AccRow.{AccRow}
 use Rattle.mg_model.specs.Bytes.{are_zeros, block_words, bytes_at, numbers_at, words_bytes}
-use Rattle.mg_model.specs.BytesReads.{numbers_at-first, same_bytes-refl}
+use Rattle.mg_model.specs.BytesLemmas.{numbers_at-first, same_bytes-refl}
 use Rattle.mg_model.specs.Ranges.{IsWord}
 use Rattle.mg_model.specs.Replay.{block_of}
 use Rattle.mg_model.specs.Spelling.{Read, account_bytes, account_fields, account_read, free_or, globals_bytes, globals_fields, globals_read, live_if, object_bytes, object_fields, object_read, thread_bytes, thread_fields, thread_read}

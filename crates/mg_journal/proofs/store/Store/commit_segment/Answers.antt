@@ -8,7 +8,7 @@ use Rattle.mg_journal.specs.Contents.{NewContents}
 use Rattle.mg_journal.specs.Phases.{IsNext}
 use Rattle.mg_journal.specs.ResultLemmas.{some_of}
 use Rattle.mg_journal.specs.Standing.{HoldsOpen, IsLate, fits_held, held_fits}
-use Rattle.mg_journal.proofs.store.Store.make.Goals as goal
+use Rattle.mg_journal.proofs.store.Store.commit_segment.Goals as goal
 
 pub returns-in_err-write_next-clause-any_moment : goal.returns-in_err-write_next-clause-any_moment
 returns-in_err-write_next-clause-any_moment g c image told =
@@ -41,8 +41,8 @@ returns-clause-stands g c =
       fits = λ z told.
           let b = some_of (λ image. IsNext store.total store.opened writes image z) (g.D.Disk.seen c.make_room.new.disk)
           (came_back (IsNext store.total store.opened writes) (g.D.Disk.seen c.make_room.new.disk) (g.D.Disk.seen c.write_next.new.disk) c.in_ok-write_next.ensures.tells c.in_ok-write_next.ensures.next z told) in
-          let holds = holds_next store.total store.opened store.table after.table writes b.0 z c.in_ok-make_room.ensures.room (held_fits store b.0 (stands.fits b.0 b.1)) b.2 c.note.ensures.added
-          (ap (λ n. homes_fit n writes) c.make_room.ensures.total ∙ c.requires.homes) c.requires.few in
+          let holds = holds_next store.total store.opened store.table after.table writes b.0 z c.in_ok-make_room.ensures.fewer_than_8_open (held_fits store b.0 (stands.fits b.0 b.1)) b.2 c.note.ensures.added
+          (ap (λ n. homes_fit n writes) c.make_room.ensures.total ∙ c.requires.homes) c.requires.at_most_160_writes in
           fits_held after z (subst (λ n. HoldsOpen n after.opened after.table z) (sym total) (subst (λ n. HoldsOpen store.total n after.table z) (sym c.note.ensures.opened) holds));
     }
 
@@ -54,9 +54,9 @@ returns-clause-late g c image told =
     let writes = c.args.writes.now in
     let z = some_of (λ now. NewContents store.total image writes now) (g.D.Disk.seen c.write_next.new.disk) (returns-clause-done g c image told) in
     let stands = returns-clause-stands g c in
-    let place = c.in_ok-make_room.ensures.room in
+    let place = c.in_ok-make_room.ensures.fewer_than_8_open in
     let more = c.note.ensures.opened in
-    let before = counted store.total store.opened store.table image (held_fits store image (c.requires.stands.fits image told)) c.make_room.ensures.few in
+    let before = counted store.total store.opened store.table image (held_fits store image (c.requires.stands.fits image told)) c.make_room.ensures.at_most_8_open in
     let then = counted after.total after.opened after.table z.0 (held_fits after z.0 (stands.fits z.0 z.1)) (omega arith) in
     subst (λ o. IsSomeAnd o (IsLate image)) (sym z.1)
     (is_late next.total store.opened next.opened writes image z.0 before (then ∙ more)

@@ -7,7 +7,7 @@ use Rattle.std.proofs.lemmas.Bool.{and_from, cases_eq, eq-eqb, le-leb, ne_eqb, n
 use Rattle.std.proofs.lemmas.List.Elements.{All-head, All-tail}
 use Rattle.mg_model.specs.declared.accounts.AccRow.{AccRow}
 use Rattle.mg_model.specs.Bank.{used}
-use Rattle.mg_model.specs.KeptLists.{AllPairs-head, AllPairs-tail}
+use Rattle.mg_model.specs.KeptListLemmas.{AllPairs-head, AllPairs-tail}
 use Rattle.mg_model.specs.Objects.{page_behind, page_of}
 use Rattle.mg_model.specs.State.{Object, State, Thread, ThreadRow}
 use Rattle.mg_model.specs.Tests.{all_distinct}

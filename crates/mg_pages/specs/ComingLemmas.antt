@@ -5,13 +5,13 @@ use Rattle.std.proofs.Common.{refl, sym, ap, ◌∙◌, ⊎_elim, arith}
 use Rattle.std.proofs.lemmas.Bool.{and_from, and_parts, cases_Bool, leb-true}
 use Rattle.std.proofs.lemmas.List.{get_or-set_other}
 use Rattle.mg_disk.specs.Disk.{Image}
-use Rattle.mg_journal.specs.Facts.{open_writes, replayed-fits, replayed-is}
+use Rattle.mg_journal.specs.JournalLemmas.{open_writes, replayed-fits, replayed-is}
 use Rattle.mg_journal.specs.Contents.{bodies_of}
-use Rattle.mg_journal.specs.Segments.{fits-open, writes-closed, writes-open}
+use Rattle.mg_journal.specs.SegmentLemmas.{fits-open, writes-closed, writes-open}
 use Rattle.mg_journal.specs.Standing as journal
 use Rattle.mg_model.specs.Layout.{body_limit, globals_block, segment_count}
 use Rattle.mg_model.specs.Replay.{block_of, body_count, homes_fit, is_open, replay, segment_fits, segments_fit, writes_of, writes_since, written}
-use Rattle.mg_model.specs.VolumeReads.{length-written}
+use Rattle.mg_model.specs.VolumeLemmas.{length-written}
 use Rattle.mg_pages.specs.Held.{PagesHeld}
 use Rattle.mg_pages.specs.Laws.{replays}
 use Rattle.mg_pages.specs.Meaning.{IsSpelledBy, coming, replayed, total_of}
