@@ -8,9 +8,9 @@
 //! What a text assembles to is defined in `mg_asm`.
 #![tactic(auto)]
 
+mod fault_line;
 mod reading;
 mod status;
-mod telling;
 mod top_call;
 mod words;
 

@@ -6,9 +6,9 @@ ghost use Rattle.mg_asm_session.specs.Commands.{IsStored, command_of, words_of};
 ghost use Rattle.mg_asm_session.specs.Headline.{Keeps, OfWhole, PutsFault, PutsLines, PutsPart, TakesAtMost, TakesMore, UsageKeeps, became, text_limit};
 ghost use Rattle.mg_faults.specs.Faults.{Rose};
 
+use crate::fault_line::put_fault;
 use crate::reading::{Unread, read_text};
 use crate::status::Status;
-use crate::telling::put_fault;
 use crate::words::{Command, read_words};
 use mg_asm::{AsmFault, assemble, print, read_list, store_lines};
 use mg_io::{Sink, Source, put_all};

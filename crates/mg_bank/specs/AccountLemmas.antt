@@ -2,24 +2,12 @@
 use Rattle.std.proofs.Common.{◌≡◌, ℕ, zero, suc, ◌+◌, ◌-◌, ◌≤◌, true, List, length, get_or, Option, Some, None, is_some, refl, ap, ◌∙◌, arith}
 use Rattle.std.proofs.lemmas.List.{length-set}
 use Rattle.std.proofs.lemmas.List.Sums.{sum_by-set}
-use Rattle.std.proofs.lemmas.Option.{get_or_from_slice_get, slice_get-get_or, slice_get_within}
+use Rattle.std.proofs.lemmas.Option.{slice_get-get_or}
 use Rattle.std.specs.Option.{option_map_or}
 use Rattle.mg_bank.specs.Bank.{credits_of}
+use Rattle.mg_model.specs.AccountLemmas.{IsRowOf, account_of-row, some_value}
 use Rattle.mg_model.specs.declared.accounts.AccRow.{AccRow}
 use Rattle.mg_model.specs.Bank.{account_of, balance_of, given_to, taken_from, with_account}
-
--- account `number` has this row
-pub record IsRowOf (accounts : List AccRow) (number : ℕ) (row : AccRow) : Type 0 where
-  pub some : 1 ≤ number
-  pub within : number ≤ length accounts
-  pub there : (d : AccRow) → get_or accounts (number - 1) d ≡ row
-
-pub account_of-row : (accounts : List AccRow) (number : ℕ) (row : AccRow) → account_of accounts number ≡ Some row → IsRowOf accounts number row
-account_of-row accounts zero row is = absurd (cc)
-account_of-row accounts (suc place) row is =
-    let within = slice_get_within accounts place row is in
-    let e : suc place - 1 ≡ place = omega arith in
-    record { some = omega arith; within = omega arith; there = λ d. ap (λ k. get_or accounts k d) e ∙ get_or_from_slice_get accounts place row d is }
 
 -- the row of each number up to their count
 pub account_of-at : (accounts : List AccRow) (number : ℕ) (d : AccRow) → 1 ≤ number → number ≤ length accounts → account_of accounts number ≡ Some (get_or accounts (number - 1) d)
@@ -27,10 +15,6 @@ account_of-at accounts zero d some within = absurd (omega arith)
 account_of-at accounts (suc place) d some within =
     let e : place ≡ suc place - 1 = omega arith in
     slice_get-get_or accounts place d (omega arith) ∙ ap (λ k. Some (get_or accounts k d)) e
-
-some_value : {X : Type 0} (o : Option X) → is_some o ≡ true → (x : X) × (o ≡ Some x)
-some_value None passes = absurd (cc)
-some_value (Some x) passes = (x, refl)
 
 -- an account that is there, with its row
 pub record HasRow (accounts : List AccRow) (number : ℕ) : Type 0 where

@@ -7,13 +7,13 @@
 mod altering;
 mod creating;
 mod door;
+mod informing;
 mod making;
 mod passwords;
-mod telling;
 
 pub use altering::{entry, ext, recharge};
 pub use creating::create;
 pub use door::on_object;
+pub use informing::info;
 pub use making::delete;
 pub use passwords::{pwadd, pwdel};
-pub use telling::info;

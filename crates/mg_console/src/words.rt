@@ -1,10 +1,38 @@
 // The words of the command line.
-use std::rt::Env;
+use crate::endings::tell_error;
+use mg_io::standard_numbers;
+use std::io::Eprint;
+use std::rt::{Env, Files};
 use std::{env, io};
+
+/// The exit status of a program that can't have its words.
+pub const NO_WORDS: u8 = 9;
 
 /// The words behind the program's name. An error comes where one is no text, or memory is wanting.
 pub fn words_of<R: Env + AllocGlobal>(rt: &R) -> io::Result<Vec<String>> {
     Ok(env::args(rt)?.skip(1).collect(rt.alloc())?)
+}
+
+/// The words behind the program's name, and files that keep the numbers of the standard streams from any other file for as long as
+/// they are kept. Where one of these can't be had that is told on standard error, and there is None.
+pub fn words_or_tell<R: Env + AllocGlobal + Files + Eprint>(
+    rt: &R,
+    program: &str,
+) -> Option<(Vec<String>, (R::File, R::File, R::File))> {
+    let numbers = match standard_numbers(rt) {
+        Ok(numbers) => numbers,
+        Err(error) => {
+            tell_error(rt, program, "the standard streams", Some(&error));
+            return None;
+        }
+    };
+    match words_of(rt) {
+        Ok(words) => Some((words, numbers)),
+        Err(error) => {
+            tell_error(rt, program, "the words", Some(&error));
+            None
+        }
+    }
 }
 
 /// The word at that place, or the empty one where there is none.

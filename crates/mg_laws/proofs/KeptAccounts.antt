@@ -1,26 +1,14 @@
 -- What an edit of the accounts keeps: each is well formed, and what one gives another gets.
-use Rattle.std.proofs.Common.{◌≡◌, ℕ, zero, suc, ◌+◌, ◌-◌, ◌≤◌, ◌==◌, Bool, true, false, List, [], ◌∷◌, length, get_or, sum_by, All, Option, Some, None, is_some, refl, ap, ◌∙◌, subst, arith}
+use Rattle.std.proofs.Common.{◌≡◌, ℕ, zero, suc, ◌+◌, ◌-◌, ◌≤◌, ◌==◌, Bool, true, false, List, [], ◌∷◌, length, get_or, sum_by, All, Option, Some, None, is_some, refl, ap, subst, arith}
 use Rattle.std.proofs.lemmas.List.{length-set}
 use Rattle.std.proofs.lemmas.List.Elements.{All-set}
 use Rattle.std.proofs.lemmas.List.Sums.{sum_by-set}
-use Rattle.std.proofs.lemmas.Option.{get_or_from_slice_get, slice_get-get_or, slice_get_within}
+use Rattle.std.proofs.lemmas.Option.{slice_get-get_or}
 use Rattle.std.specs.Option.{option_map_or}
+use Rattle.mg_model.specs.AccountLemmas.{IsRowOf, account_of-row, some_value}
 use Rattle.mg_model.specs.declared.accounts.AccRow.{AccRow}
 use Rattle.mg_model.specs.Bank.{account_of, balance_of, given_to, opens, taken_from, with_account}
 use Rattle.mg_model.specs.WellFormed.{IsAccount}
-
--- account `number` has this row
-pub record IsRowOf (accounts : List AccRow) (number : ℕ) (row : AccRow) : Type 0 where
-  pub some : 1 ≤ number
-  pub within : number ≤ length accounts
-  pub there : (d : AccRow) → get_or accounts (number - 1) d ≡ row
-
-pub account_of-row : (accounts : List AccRow) (number : ℕ) (row : AccRow) → account_of accounts number ≡ Some row → IsRowOf accounts number row
-account_of-row accounts zero row is = absurd (cc)
-account_of-row accounts (suc place) row is =
-    let within = slice_get_within accounts place row is in
-    let e : suc place - 1 ≡ place = omega arith in
-    record { some = omega arith; within = omega arith; there = λ d. ap (λ k. get_or accounts k d) e ∙ get_or_from_slice_get accounts place row d is }
 
 -- each number up to their count is an account's
 pub account_of-there : (accounts : List AccRow) (number : ℕ) → 1 ≤ number → number ≤ length accounts → is_some (account_of accounts number) ≡ true
@@ -32,10 +20,6 @@ account_of-there (row ∷ accounts) (suc place) some within = ap is_some (slice_
 tested : {X : Type 0} (test : X → Bool) (o : Option X) → option_map_or test o false ≡ true → (x : X) × (o ≡ Some x)
 tested test None passes = absurd (cc)
 tested test (Some x) passes = (x, refl)
-
-some_value : {X : Type 0} (o : Option X) → is_some o ≡ true → (x : X) × (o ≡ Some x)
-some_value None passes = absurd (cc)
-some_value (Some x) passes = (x, refl)
 
 -- what opens an account opens one that is there
 pub opens-row : (accounts : List AccRow) (number password : ℕ) → opens accounts number password ≡ true → (row : AccRow) × (account_of accounts number ≡ Some row)

@@ -2,7 +2,6 @@
 use Rattle.std.specs.Prelude.{◌≡◌, ℕ, zero, suc, ◌+◌, ◌<◌, ◌≤◌, ◌&&◌, nat_lt, Bool, true, false, not, List, [], ◌∷◌, drop, get_or, if◌then◌else◌, length, slice_set, take, Option, Some, None}
 use Rattle.std.specs.Int.{from_le_bytes, w64}
 use Rattle.std.proofs.Common.{refl, sym, ap, subst, ◌∙◌, ⊎_elim, arith}
-use Rattle.std.proofs.Math.ListN.{set}
 use Rattle.std.proofs.lemmas.Bool.{and_parts, cases_Bool, cond_both, le-ltb, lt-ltb}
 use Rattle.std.proofs.lemmas.List.{drop-set-lt, get_or-drop, get_or-take, set-get_or}
 use Rattle.mg_model.specs.Bytes.{bytes_at, number_at}

@@ -45,6 +45,7 @@ pub mod Volume
 pub mod Filled
 pub mod Counts
 -- Lemmas that crates above cite. None of them is part of a statement.
+pub mod AccountLemmas
 pub mod BytesLemmas
 pub mod DrawnLemmas
 pub mod FilledLemmas

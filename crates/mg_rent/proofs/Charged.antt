@@ -4,7 +4,8 @@ use Rattle.std.specs.Option.{option_map_or}
 use Rattle.std.proofs.lemmas.List.Elements.{All-cons, All-head, All-nil, All-set, All-tail}
 use Rattle.std.proofs.lemmas.Nat.{mul-le}
 use Rattle.std.proofs.Math.Seq.{take-length}
-use Rattle.mg_bank.specs.AccountLemmas.{account_of-at, account_of-row, with_account-credits}
+use Rattle.mg_bank.specs.AccountLemmas.{account_of-at, with_account-credits}
+use Rattle.mg_model.specs.AccountLemmas.{account_of-row}
 use Rattle.mg_bank.specs.Bank.{credits_of}
 use Rattle.mg_model.specs.declared.accounts.AccRow.{AccRow}
 use Rattle.mg_model.specs.Bank.{account_of, all_charged, all_paid, charged, given_to, owed_by, paid, pages_of, with_account}

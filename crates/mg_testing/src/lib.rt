@@ -7,11 +7,11 @@
 #![tactic(auto)]
 
 mod commands;
-mod telling;
+mod outcomes;
 mod volumes;
 
 pub use commands::{Outcome, Streams, command, words_of};
-pub use telling::{
+pub use outcomes::{
     BLOCKS, Byte, MAKING, answers, ends, fresh, is_told, is_told_of, making, put, put_bytes,
     put_words, told, told_of,
 };

@@ -5,7 +5,8 @@ use Rattle.std.proofs.Common.{refl, sym, ap, subst, get_or, ◌∙◌, ⊎_elim,
 use Rattle.std.proofs.lemmas.Bool.{both_ways, cases_lt, eq-eqb, lt-ltb, ne_eqb, or_parts}
 use Rattle.std.proofs.lemmas.List.Elements.{All-get_or, All-push, All-set}
 use Rattle.std.proofs.lemmas.Option.{slice_get_past}
-use Rattle.mg_bank.specs.AccountLemmas.{account_of-row, length-taken}
+use Rattle.mg_bank.specs.AccountLemmas.{length-taken}
+use Rattle.mg_model.specs.AccountLemmas.{account_of-row}
 use Rattle.mg_check.specs.RowsRead.{placed_from}
 use Rattle.mg_model.specs.declared.accounts.AccRow.{AccRow}
 use Rattle.mg_model.specs.Bank.{account_of, given_to, taken_from, with_account}

@@ -1,22 +1,20 @@
 -- What the volume of an image rests on once its journal is replayed: the blocks behind the journal, and the first two.
-use Rattle.std.specs.Prelude.{◌≡◌, ℕ, zero, suc, ◌+◌, ◌/◌, ◌%◌, ◌<◌, ◌≤◌, ◌==◌, ◌&&◌, nat_le, Bool, true, false, List, [], ◌∷◌, ◌++◌, if◌then◌else◌, length, replicate, slice_index, Option, Some, None, position, drop, take}
+use Rattle.std.specs.Prelude.{◌≡◌, ℕ, zero, suc, ◌+◌, ◌/◌, ◌%◌, ◌<◌, ◌≤◌, ◌==◌, ◌&&◌, nat_le, Bool, true, List, [], ◌∷◌, ◌++◌, if◌then◌else◌, length, replicate, slice_index, Option, Some, None, position}
 use Rattle.std.specs.Option.{option_map_or}
 use Rattle.std.proofs.Common.{refl, sym, ap, subst, ◌∙◌, arith}
 use Rattle.std.proofs.lemmas.Bool.{and_parts, eqb-true, le-leb, leb-true}
 use Rattle.std.proofs.lemmas.Bool.Decides.{nat_tests}
-use Rattle.std.proofs.lemmas.List.{length-take}
 use Rattle.mg_disk.specs.Disk.{Image, SameBut, SeenBut}
 use Rattle.mg_journal.specs.Contents.{InJournal, SameContents}
-use Rattle.mg_model.specs.declared.accounts.AccRow.{AccRow}
-use Rattle.mg_model.specs.Bytes.{are_zeros, block_words}
+use Rattle.mg_model.specs.Bytes.{block_words}
 use Rattle.mg_model.specs.Layout.{account_rows, first_account_block, first_frame, first_object_block, first_thread_block, gate_block, gate_open, globals_block, object_rows, super_block, table_block, table_blocks, thread_rows, total_blocks}
 use Rattle.mg_model.specs.Objects.{page_of, with_object}
 use Rattle.mg_model.specs.Replay.{block_of, replay}
 use Rattle.mg_model.specs.Settings.{Settings}
 use Rattle.mg_model.specs.Spelling.{Spells, account_read, globals_read, object_read, super_read, thread_read}
-use Rattle.mg_model.specs.State.{Counters, ObjectRow, ThreadRow}
+use Rattle.mg_model.specs.State.{ObjectRow}
 use Rattle.mg_model.specs.Volume.{Damaged, Rows, account_row_bytes, fitting, is_gated, live_rows, object_row_bytes, objects_spelled, page_words, pages_words, replayed_volume, rows_of, state_spelled, table_entries, thread_row_bytes, volume, volume_behind, whole_table, IsOpened, gate_byte}
-use Rattle.mg_model.specs.VolumeLemmas.{live_rows-same, rows_from, rows_with, state_with, volume-opened}
+use Rattle.mg_model.specs.VolumeLemmas.{live_rows-same, rows_from, state_with, table_short, volume-opened}
 use Rattle.mg_pages.specs.ComingLemmas.{length_replay, replay_low}
 use Rattle.mg_pages.specs.Committing.{HasContents}
 use Rattle.mg_rows.specs.Blocks.{account_in, object_in}
@@ -86,27 +84,6 @@ module _ (frames : ℕ) (a b : Image) (same : AgreeBehind (first_frame frames) a
       ∙ ap (λ threads. rows_from frames (globals_read (block_of b globals_block)) (live_rows (λ i. account_read (account_row_bytes b i)) 0 account_rows) threads (live_rows (λ i. object_read (object_row_bytes a i)) 0 object_rows) (whole_table a frames)) (threads-same a b low)
       ∙ ap (λ objects. rows_from frames (globals_read (block_of b globals_block)) (live_rows (λ i. account_read (account_row_bytes b i)) 0 account_rows) (live_rows (λ i. thread_read (thread_row_bytes b i)) 0 thread_rows) objects (whole_table a frames)) (objects-same a b low)
       ∙ ap (λ whole. rows_from frames (globals_read (block_of b globals_block)) (live_rows (λ i. account_read (account_row_bytes b i)) 0 account_rows) (live_rows (λ i. thread_read (thread_row_bytes b i)) 0 thread_rows) (live_rows (λ i. object_read (object_row_bytes b i)) 0 object_rows) whole) whole-same
-
--- the table has an entry for each frame at most
-short_table : (frames : ℕ) (counters : Option Counters) (accounts : Option (List (ℕ × AccRow))) (threads : Option (List (ℕ × ThreadRow))) (objects : Option (List (ℕ × ObjectRow))) (whole : List ℕ) (t : Bool) (rows : Rows)
-    → t ≡ are_zeros (drop frames whole) → rows_from frames counters accounts threads objects whole ≡ Some rows → length rows.table ≤ frames
-short_table frames None accounts threads objects whole t rows tested is = absurd (cc)
-short_table frames (Some c) None threads objects whole t rows tested is = absurd (cc)
-short_table frames (Some c) (Some a) None objects whole t rows tested is = absurd (cc)
-short_table frames (Some c) (Some a) (Some h) None whole t rows tested is = absurd (cc)
-short_table frames (Some c) (Some a) (Some h) (Some o) whole false rows tested is =
-    let e : None ≡ Some rows = sym (ap (λ b. if b then Some (rows_with c a h o (take frames whole)) else None) (sym tested)) ∙ is in
-    absurd (cc)
-short_table frames (Some c) (Some a) (Some h) (Some o) whole true rows tested is =
-    let e : Some (rows_with c a h o (take frames whole)) ≡ Some rows = sym (ap (λ b. if b then Some (rows_with c a h o (take frames whole)) else None) (sym tested)) ∙ is in
-    let same : rows_with c a h o (take frames whole) ≡ rows = (cc) in
-    let P : Rows → Type 0 = λ r. length r.table ≤ frames in
-    subst P same (let l = length-take frames whole in omega arith)
-
-pub table_short : (image : Image) (frames : ℕ) (rows : Rows) → rows_of image frames ≡ Some rows → length rows.table ≤ frames
-table_short image frames rows is =
-    short_table frames (globals_read (block_of image globals_block)) (live_rows (λ i. account_read (account_row_bytes image i)) 0 account_rows) (live_rows (λ i. thread_read (thread_row_bytes image i)) 0 thread_rows)
-    (live_rows (λ i. object_read (object_row_bytes image i)) 0 object_rows) (whole_table image frames) (are_zeros (drop frames (whole_table image frames))) rows refl is
 
 map_or-same : {T U : Type 0} (f g : T → U) (o : Option T) (d : U) → ((x : T) → o ≡ Some x → f x ≡ g x) → option_map_or f o d ≡ option_map_or g o d
 map_or-same f g None d same = refl

@@ -11,15 +11,16 @@
 
 ghost use Rattle.std.specs.Prelude.{◌≡◌, ◌<◌};
 
-mod telling;
+mod status_notes;
 mod usage;
 
-use mg_console::{Notes, Task, tell_error, tell_fault, tell_volume, word, words_of};
+use mg_console::{NO_WORDS, Notes, Task, tell_fault, tell_volume, word, words_or_tell};
 use mg_disk::{Disk, FileDisk, OneHolder};
-use mg_io::{ReaderSource, Sink, Source, WriterSink, standard_numbers};
+use mg_io::{ReaderSource, Sink, Source, WriterSink};
 use mg_migrate_session::{is_migrate, top_migrate};
 use mg_model::Steps;
 use mg_session::{Status, top};
+use status_notes::tell_status;
 use std::alloc::Global;
 use std::io::{Eprint, IsTerminal};
 use std::marker::Brand;
@@ -27,33 +28,14 @@ use std::os::unix::fs::FileExt;
 use std::process::ExitCode;
 use std::rt::Files;
 use std::sync::ledger::{Blank, Ledger};
-use telling::tell_status;
 
 /// The program's name.
 const NAME: &str = "mungi";
 
-/// The exit status where the program cannot have its words: one is no text, or memory is wanting; or the numbers of the standard
-/// streams, which a file must not get.
-const NO_WORDS: u8 = 9;
-
 fn main(rt: HostRuntime) -> ExitCode {
-    match standard_numbers(&rt) {
-        Ok(_numbers) => ExitCode::from(with_words(&rt)),
-        Err(error) => {
-            tell_error(&rt, NAME, "the standard streams", Some(&error));
-            ExitCode::from(NO_WORDS)
-        }
-    }
-}
-
-/// Has the words, and carries out what they ask for.
-fn with_words(rt: &HostRuntime) -> u8 {
-    match words_of(rt) {
-        Ok(words) => carried_out(rt, &words),
-        Err(error) => {
-            tell_error(rt, NAME, "the words", Some(&error));
-            NO_WORDS
-        }
+    match words_or_tell(&rt, NAME) {
+        Some((words, _numbers)) => ExitCode::from(carried_out(&rt, &words)),
+        None => ExitCode::from(NO_WORDS),
     }
 }
 

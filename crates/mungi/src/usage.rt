@@ -1,6 +1,6 @@
 // Which word is at fault where the words spell no command.
 use crate::NAME;
-use crate::telling::tell;
+use crate::status_notes::tell;
 use mg_text::read_number;
 use std::io::Eprint;
 

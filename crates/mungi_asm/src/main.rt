@@ -5,12 +5,9 @@
 #![tactic(auto)]
 
 use mg_asm_session::top;
-use mg_console::{tell_error, words_of};
+use mg_console::{NO_WORDS, tell_error, words_of};
 use mg_io::{ReaderSource, WriterSink};
 use std::process::ExitCode;
-
-/// The exit status where the program cannot have its words: one is no text, or memory is wanting.
-const NO_WORDS: u8 = 9;
 
 fn main(rt: HostRuntime) -> ExitCode {
     match words_of(&rt) {
