@@ -225,7 +225,7 @@ short_table frames (Some c) (Some a) (Some h) (Some o) whole true rows tested is
     let P : Rows → Type 0 = λ r. length r.table ≤ frames in
     subst P same (let l = length-take frames whole in omega arith)
 
-pub table_short : (image : Image) (frames : ℕ) (rows : Rows) → rows_of image frames ≡ Some rows → length rows.table ≤ frames
+pub table_short : (image : List (List ℕ)) (frames : ℕ) (rows : Rows) → rows_of image frames ≡ Some rows → length rows.table ≤ frames
 table_short image frames rows is =
     short_table frames (globals_read (block_of image globals_block)) (live_rows (λ i. account_read (account_row_bytes image i)) 0 account_rows) (live_rows (λ i. thread_read (thread_row_bytes image i)) 0 thread_rows)
     (live_rows (λ i. object_read (object_row_bytes image i)) 0 object_rows) (whole_table image frames) (are_zeros (drop frames (whole_table image frames))) rows refl is

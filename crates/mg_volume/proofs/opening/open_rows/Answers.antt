@@ -15,7 +15,7 @@ pub of-accounts-requires-clause-credits : goal.of-accounts-requires-clause-credi
 of-accounts-requires-clause-credits g c =
     let sum = credits_is c.args.rows c.requires.kept in
     let credits = c.credits-credits.ensures in
-    omega (arith, credits.value, credits.few)
+    omega (arith, credits.value, credits.at_most_2_62)
 
 pub lists_of-requires-clause-apart : goal.lists_of-requires-clause-apart
 lists_of-requires-clause-apart g c = let P : List (ℕ × ObjectRow) → Type 0 = AreApart in subst P (sym (same_objects c.args.rows)) (apart_is c.args.rows c.requires.kept)
