@@ -1,17 +1,19 @@
 -- The rule of one access, from what was found.
 use Rattle.std.proofs.Common.{ℕ, ◌≡◌, ◌≢◌, ◌≤◌, ◌+◌, ◌-◌, ◌==◌, Bool, not, true, false, List, [], ◌∷◌, if◌then◌else◌, Option, Some, None, refl, sym, ap, subst, ◌∙◌, arith}
-use Rattle.std.specs.Prelude.{IfSome, option_map}
-use Rattle.std.specs.Option.{option_to_list}
+use Rattle.std.specs.Prelude.{IfSome, find, option_map, slice_set}
+use Rattle.std.specs.Option.{option_map_or, option_to_list}
 use Rattle.std.proofs.lemmas.Bool.{and_parts, eq-eqb}
+use Rattle.std.proofs.lemmas.List.{get_or-set_other}
+use Rattle.mg_calls_dom.specs.Known.{rows_know}
 use Rattle.mg_calls_dom.specs.Searching.{allowed_row}
 use Rattle.mg_model.specs.declared.rights.Right.{Right}
 use Rattle.mg_model.specs.declared.seats.Seat.{Seat}
-use Rattle.mg_model.specs.Access.{allowed, at}
+use Rattle.mg_model.specs.Access.{allowed, at, covers}
 use Rattle.mg_model.specs.Kept.{Validates, access_limit}
-use Rattle.mg_model.specs.Keys.{Key, is_elsewhere, seat_of}
+use Rattle.mg_model.specs.Keys.{Key, is_elsewhere, is_key, seat_of}
 use Rattle.mg_model.specs.Limits.{search_limit}
 use Rattle.mg_model.specs.State.{Object, ObjectRow, State}
-use Rattle.mg_vcache.specs.Seats.{is_kept}
+use Rattle.mg_vcache.specs.Seats.{is_kept, key_in}
 
 module _ (t a : ℕ) (right : Right) where
   -- the key of a row
@@ -39,6 +41,25 @@ module _ (t a : ℕ) (right : Right) where
       by_test : (v : Bool) → v ≡ true → not v ≡ true → ⊥
       by_test true is apart = cc
       by_test false is apart = cc
+
+  -- an address is not known where the right on its object is not kept
+  pub unknown : (rows : List ObjectRow) (seats : List (Option Seat)) (row : ObjectRow) (base : ℕ) (hit : Bool) → find (λ (r : ObjectRow). covers r a) rows ≡ Some row → base ≡ row.base
+      → hit ≡ is_kept seats (record { thread = t; base = base; right = right }) → hit ≡ false → rows_know rows seats t a right ≡ true → ⊥
+  unknown rows seats row base hit found same kept miss known =
+      let here : rows_know rows seats t a right ≡ is_kept seats (of row) = ap (λ o. option_map_or (λ (r : ObjectRow). is_kept seats (record { thread = t; base = r.base; right = right })) o false) found in
+      let off : is_kept seats (of row) ≡ false = ap (λ b. is_kept seats (record { thread = t; base = b; right = right })) (sym same) ∙ sym kept ∙ miss in
+      let apart : true ≡ false = sym known ∙ here ∙ off in
+      cc
+
+  -- a seat that is filled leaves the keys of others as they were
+  pub filled : (seats seats' : List (Option Seat)) (row : ObjectRow) (base via : ℕ) → base ≡ row.base
+      → seats' ≡ slice_set seats (seat_of (record { thread = t; base = base; right = right })) (Some (record { thread = t; base = base; right = right; via = via }))
+      → (key : Key) → seat_of key ≢ seat_of (of row) → is_kept seats' key ≡ is_kept seats key
+  filled seats seats' row base via same put key far =
+      let seat : Option Seat = Some (record { thread = t; base = base; right = right; via = via }) in
+      let apart : seat_of key ≢ seat_of (record { thread = t; base = base; right = right }) = subst (λ b. seat_of key ≢ seat_of (record { thread = t; base = b; right = right })) (sym same) far in
+      ap (λ s. is_kept s key) put
+      ∙ ap (λ o. option_map_or (λ (s : Seat). is_key (key_in s) key) o false) (get_or-set_other seats (seat_of (record { thread = t; base = base; right = right })) (seat_of key) seat None apart)
 
   -- what one access keeps
   pub tried : (state : State) (seats seats' : List (Option Seat)) (steps steps' : ℕ) (o : Option ObjectRow) → o ≡ allowed_row state t a right → IfSome o (λ row. is_kept seats' (of row) ≡ true)

@@ -1,12 +1,11 @@
 // Whether an access is allowed: by what is kept of earlier ones, or by a search.
-ghost use Rattle.std.specs.Prelude.{List, ◌≡◌, ◌≢◌, ◌≤◌, ◌+◌, ◌-◌, ◌==◌, ℕ, true, find, if◌then◌else◌, option_map, IfOk, IfSome, None, OnErr, OnOk, Some};
+ghost use Rattle.std.specs.Prelude.{◌≡◌, ◌≤◌, ◌+◌, ◌-◌, ◌==◌, true, find, if◌then◌else◌, option_map, IfOk, IfSome, None, OnErr, OnOk, Some};
 ghost use Rattle.std.specs.Option.{ForSome};
 ghost use Rattle.mg_calls_dom.specs.Known.{rows_know};
 ghost use Rattle.mg_calls_dom.specs.Searching as searching;
 ghost use Rattle.mg_disk.specs.Stops.{CountRose};
 ghost use Rattle.mg_model.specs.Access.{allowed, at, covers};
 ghost use Rattle.mg_model.specs.Kept.{Validates, access_limit};
-ghost use Rattle.mg_model.specs.Keys.{Key, seat_of};
 ghost use Rattle.mg_model.specs.Limits.{search_limit};
 ghost use Rattle.mg_vcache.specs.Seats.{AllBacked, is_kept};
 ghost use Rattle.mg_volume.specs.Calls.{IsSoundOn, Reads};
@@ -20,54 +19,6 @@ use mg_model::{ObjRow, Right, Steps};
 use mg_vcache::VCache;
 use mg_volume::Volume;
 use std::sync::ledger::Ledger;
-
-// The row of the object that has an address, where a thread may reach it with the right. A right that is kept is not
-// searched for, and one that is found is kept.
-fn found<D: Disk, L: Ledger>(
-    v: &mut Volume,
-    c: &mut VCache,
-    disk: &mut D,
-    t: u64,
-    a: u64,
-    right: Right,
-    steps: &mut Steps<L>,
-) -> Result<Option<ObjRow>, Failed>
-    requires sound { IsSoundOn D.Disk v.old disk.old }
-    requires backed { ForSome (D.seen disk.old) (λ image. AllBacked (now_of v.old image) c.old) }
-    ensures row { IfOk result (λ found. ForSome (D.seen disk.old) (λ image. found ≡ searching.allowed_row (now_of v.old image) t a right)) }
-    ensures covers { IfOk result (λ found. IfSome found (λ row. find (λ row. covers row a) (objects_in v.new) ≡ Some row)) }
-    ensures own { IfOk result (λ found. IfSome found (λ row. find (λ other. other.base == row.base) (objects_in v.new) ≡ Some row)) }
-    ensures backed { ForSome (D.seen disk.old) (λ image. AllBacked (now_of v.new image) c.new) }
-    ensures kept { IfOk result (λ found. IfSome found (λ row. is_kept c.new (record { thread = t; base = row.base; right = right }) ≡ true)) }
-    ensures others { IfOk result (λ found. IfSome found (λ row. (key : Key) → seat_of key ≢ seat_of (record { thread = t; base = row.base; right = right }) → is_kept c.new key ≡ is_kept c.old key)) }
-    ensures none { IfOk result (λ found. found ≡ None → c.new ≡ c.old) }
-    ensures failed { OnErr result (c.new ≡ c.old) }
-    ensures known { rows_know (objects_in v.old) c.old t a right ≡ true → (disk.new ≡ disk.old) × (steps.new ≡ steps.old) }
-    ensures nobody { find (λ thread. thread.number == t) (threads_in v.old) ≡ None → steps.new ≡ steps.old }
-    ensures at_most_search_limit_read { steps.new ≤ steps.old + search_limit }
-    ensures reads { Reads D.Disk v.old v.new disk.old disk.new steps.old steps.new }
-    ensures cause { OnErr result (CountRose D.Disk disk.old disk.new) }
-{
-    backed_seats_are_allowed();
-    let Some(object) = v.covering(a) else {
-        return Ok(None);
-    };
-    if c.hit(t, object.base(), right) {
-        return Ok(Some(object));
-    }
-    let sought = Sought {
-        object,
-        right,
-        period: v.globals().period(),
-    };
-    match list_of(v, disk, t, &sought, steps)? {
-        Some(via) => {
-            c.fill(t, object.base(), right, via);
-            Ok(Some(object))
-        }
-        None => Ok(None),
-    }
-}
 
 /// The row of the object that has an address, where a thread may reach it with the right; None where it may not, or no such
 /// thread lives. It is the row with its base, too.
@@ -100,9 +51,24 @@ pub fn reach<D: Disk, L: Ledger>(
     ensures reads { Reads D.Disk v.old v.new disk.old disk.new steps.old steps.new }
     ensures cause { OnErr result (CountRose D.Disk disk.old disk.new) }
 {
-    match found(v, c, disk, t, a, right, steps) {
-        Ok(row) => Ok(row),
-        Err(failed) => Err(failed),
+    backed_seats_are_allowed();
+    let Some(object) = v.covering(a) else {
+        return Ok(None);
+    };
+    if c.hit(t, object.base(), right) {
+        return Ok(Some(object));
+    }
+    let sought = Sought {
+        object,
+        right,
+        period: v.globals().period(),
+    };
+    match list_of(v, disk, t, &sought, steps)? {
+        Some(via) => {
+            c.fill(t, object.base(), right, via);
+            Ok(Some(object))
+        }
+        None => Ok(None),
     }
 }
 

@@ -1,5 +1,5 @@
 // A volume that is open.
-ghost use Rattle.std.specs.Prelude.{List, ◌≡◌, ◌≤◌, ◌<◌, ◌+◌, ◌-◌, ◌*◌, ◌==◌, ◌&&◌, ◌||◌, ℕ, true, false, nat_le, nat_lt, IfOk, IfSome, IsTrue, MatchOption, None, OnErr, OnOk, Some, filter, find, length, option_copied, option_map, slice_get, sum_by, ◌⊎◌};
+ghost use Rattle.std.specs.Prelude.{List, ◌≡◌, ◌≤◌, ◌<◌, ◌+◌, ◌-◌, ◌*◌, ◌==◌, ◌||◌, ℕ, true, false, nat_le, IfOk, IfSome, IsTrue, MatchOption, None, Some, filter, find, length, option_map, slice_get, sum_by};
 ghost use Rattle.std.specs.List.{list_all};
 ghost use Rattle.std.specs.Option.{ForSome};
 ghost use Rattle.mg_disk.specs.Stops.{DiskCallsBy, Leaves, NothingPending, WritesNothing};
@@ -10,11 +10,10 @@ ghost use Rattle.mg_model.specs.Objects.{lowest_free, page_behind, page_of};
 ghost use Rattle.mg_model.specs.Ranges.{IsPlace};
 ghost use Rattle.mg_model.specs.State.{Thread};
 ghost use Rattle.mg_model.specs.Threads.{free_number};
-ghost use Rattle.mg_model.specs.Turn.{is_ready, picked};
+ghost use Rattle.mg_model.specs.Turn.{picked};
 ghost use Rattle.mg_model.specs.Volume.{Damaged, NotVolume, OldVolume, volume};
 ghost use Rattle.mg_volume.specs.Meaning.{StandsOn, accounts_in, bare_rows, counters_in, is_live, is_sound, now_of, objects_in, settings_in, staged_of, threads_in, words_in};
 ghost use Rattle.mg_volume.specs.Opening.{Opens};
-ghost use Rattle.mg_volume.specs.Numbered.{IsFreeNumber};
 ghost use Rattle.mg_volume.specs.Staging.{lives};
 
 use crate::opening::open_rows;
@@ -97,27 +96,13 @@ impl Volume {
         self.globals
     }
 
-    // The row of the object that has an address.
-    fn found_covering(&self, a: u64) -> Option<&ObjRow>
-        ensures { option_copied result ≡ option_map (λ o. o.1) (find (λ o. covers o.1 a) self.now.objects) }
-    {
-        self.objects.covering(a)
-    }
-
-    // The row of the object with this base address.
-    fn found_object(&self, base: u64) -> Option<&ObjRow>
-        ensures { option_copied result ≡ option_map (λ o. o.1) (find (λ o. o.1.base == base) self.now.objects) }
-    {
-        self.objects.get(base)
-    }
-
     /// The object that has an address. It is the one with its base.
     pub fn covering(&self, a: u64) -> Option<ObjRow>
         ensures found { result ≡ find (λ row. covers row a) (objects_in self.now) }
         ensures own { IfSome result (λ row. find (λ other. other.base == row.base) (objects_in self.now) ≡ Some row) }
     {
         self.bases_differ();
-        match self.found_covering(a) {
+        match self.objects.covering(a) {
             Some(row) => Some(*row),
             None => None,
         }
@@ -127,7 +112,7 @@ impl Volume {
     pub fn object(&self, base: u64) -> Option<ObjRow>
         ensures { result ≡ find (λ row. row.base == base) (objects_in self.now) }
     {
-        match self.found_object(base) {
+        match self.objects.get(base) {
             Some(row) => Some(*row),
             None => None,
         }
@@ -218,20 +203,12 @@ impl Volume {
         self.accounts.owed_by(n)
     }
 
-    // The row of the thread with this number.
-    fn found(&self, t: u64) -> Option<&ThrRow>
-        ensures found { option_copied result ≡ option_map (λ thread. thread.1) (find (λ thread. thread.0 == t) self.now.threads) }
-        ensures within_1_and_256 { IfSome result (λ _. (1 ≤ t) × (t ≤ 256)) }
-    {
-        self.threads.get(t)
-    }
-
     /// The thread with this number, 1 to 256.
     pub fn thread(&self, t: u64) -> Option<ThrRow>
         ensures found { option_map (λ thread. thread.row) (find (λ thread. thread.number == t) (threads_in self.now)) ≡ result }
         ensures within_1_and_256 { IfSome result (λ _. (1 ≤ t) × (t ≤ 256)) }
     {
-        match self.found(t) {
+        match self.threads.get(t) {
             Some(row) => Some(*row),
             None => None,
         }
@@ -242,32 +219,16 @@ impl Volume {
         ensures number { MatchOption result (256 ≤ length (threads_in self.now)) (λ n. (length (threads_in self.now) < 256) × (n ≡ free_number (threads_in self.now)) × (lives self.now n ≡ false)) }
         ensures range { IfSome result (λ n. (1 ≤ n) × (n ≤ 256)) }
     {
-        self.first_free()
-    }
-
-    // The lowest number that no thread has.
-    fn first_free(&self) -> Option<u64>
-        ensures number { IsFreeNumber self.now.threads result }
-        ensures range { IfSome result (λ n. (1 ≤ n) × (n ≤ 256)) }
-    {
         self.threads.free()
-    }
-
-    // The lowest number above this one of a thread that is Ready.
-    fn ready_above(&self, t: u64) -> Option<u64>
-        requires { t ≤ 256 }
-        ensures { result ≡ option_map (λ thread. thread.0) (find (λ thread. is_ready thread.1.state && nat_lt t thread.0) self.now.threads) }
-    {
-        self.threads.ready_above(t)
     }
 
     /// The number of the thread that has the next turn: of those that are Ready the lowest above the cursor, or else the lowest.
     pub fn next_ready(&self) -> Option<u64>
         ensures { (image : List (List ℕ)) → result ≡ option_map (λ thread. thread.number) (picked (now_of self.now image)) }
     {
-        match self.ready_above(self.globals().cursor()) {
+        match self.threads.ready_above(self.globals().cursor()) {
             Some(t) => Some(t),
-            None => self.ready_above(0),
+            None => self.threads.ready_above(0),
         }
     }
 
@@ -277,7 +238,7 @@ impl Volume {
             (λ frame. (thread : Thread) × (find (λ thread. thread.number == t) (threads_in self.now) ≡ Some thread) × (slice_get thread.row.frames (length thread.row.frames - 1) ≡ Some frame)) }
         ensures within_1_and_256 { IfSome result (λ _. (1 ≤ t) × (t ≤ 256)) }
     {
-        match self.found(t) {
+        match self.threads.get(t) {
             Some(row) => Some(row.last()),
             None => None,
         }

@@ -36,8 +36,8 @@ overflow_add-gap c =
     let ends = t.ends n c.remove-gap.result is c.remove-gap.ensures.value in
     omega arith
 
-pub put_piece-requires-2-clause-room : goal.put_piece-requires-2-clause-room
-put_piece-requires-2-clause-room c =
+pub put_piece-requires-2-clause-has_capacity : goal.put_piece-requires-2-clause-has_capacity
+put_piece-requires-2-clause-has_capacity c =
     let k = counted c.deref.result.now c.self.inside.gaps.items c.args.first c.count_to-at.result c.deref.ensures.value c.count_to-at.ensures.within c.count_to-at.ensures.below c.count_to-at.ensures.above in
     let t = took c.args.self.now c.self.inside.gaps.items c.args.first c.args.pages c.count_to-at.result c.requires c.self.view_is k in
     let n = c.count_to-at.result - 1 in

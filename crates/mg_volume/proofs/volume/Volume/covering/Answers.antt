@@ -1,16 +1,23 @@
-use Rattle.std.proofs.Common.{None, Some}
+use Rattle.std.proofs.Common.{◌≡◌, None, Some, subst}
+use Rattle.std.specs.Prelude.{find}
 use Rattle.mg_model.specs.Access.{covers}
 use Rattle.mg_volume.proofs.Found.{row_found}
 use Rattle.mg_volume.proofs.FoundOwn.{found_own}
+use Rattle.mg_volume.specs.Held.{VolumeHeld}
 use Rattle.mg_volume.specs.Meaning.{objects_in}
+use Rattle.mg_volume.specs.contracts.volume.Volume.{the_view}
 use Rattle.mg_volume.proofs.volume.Volume.covering.Goals as goal
 
 pub returns-in-Some-clause-found : goal.returns-in-Some-clause-found
-returns-in-Some-clause-found c = row_found c.args.self.now (λ row. covers row c.args.a) (Some c.in-Some.row.now) c.in-Some.ensures
+returns-in-Some-clause-found c =
+    subst (λ (v : VolumeHeld). Some c.in-Some.row.now ≡ find (λ row. covers row c.args.a) (objects_in v)) c.self.view_is
+    (row_found (the_view c.self.inside) (λ row. covers row c.args.a) (Some c.in-Some.row.now) c.in-Some.ensures)
 
 pub returns-in-Some-clause-own : goal.returns-in-Some-clause-own
 returns-in-Some-clause-own c =
-    found_own (λ row. covers row c.args.a) (objects_in c.args.self.now) (Some c.in-Some.row.now) c.bases_differ.ensures (row_found c.args.self.now (λ row. covers row c.args.a) (Some c.in-Some.row.now) c.in-Some.ensures)
+    found_own (λ row. covers row c.args.a) (objects_in c.args.self.now) (Some c.in-Some.row.now) c.bases_differ.ensures (returns-in-Some-clause-found c)
 
 pub returns-in-None-clause-found : goal.returns-in-None-clause-found
-returns-in-None-clause-found c = row_found c.args.self.now (λ row. covers row c.args.a) None c.in-None.ensures
+returns-in-None-clause-found c =
+    subst (λ (v : VolumeHeld). None ≡ find (λ row. covers row c.args.a) (objects_in v)) c.self.view_is
+    (row_found (the_view c.self.inside) (λ row. covers row c.args.a) None c.in-None.ensures)

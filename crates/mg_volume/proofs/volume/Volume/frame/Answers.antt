@@ -1,15 +1,21 @@
-use Rattle.std.proofs.Common.{◌∙◌, ◌-◌, ap, length, slice_get}
-use Rattle.mg_model.specs.State.{ThreadRow}
+use Rattle.std.proofs.Common.{◌≡◌, ◌==◌, ◌∙◌, ◌-◌, None, Some, ap, length, slice_get, subst}
+use Rattle.std.specs.Prelude.{find}
+use Rattle.mg_model.specs.State.{Thread, ThreadRow}
 use Rattle.mg_volume.proofs.Found.{thread_none, thread_some}
+use Rattle.mg_volume.specs.Held.{VolumeHeld}
+use Rattle.mg_volume.specs.Meaning.{threads_in}
+use Rattle.mg_volume.specs.contracts.volume.Volume.{the_view}
 use Rattle.mg_volume.proofs.volume.Volume.frame.Goals as goal
 
 pub returns-in-Some-clause-found : goal.returns-in-Some-clause-found
 returns-in-Some-clause-found c =
-    let thread = thread_some c.args.self.now c.args.t c.in-Some.row.now c.in-Some.ensures.found in (
+    let thread = thread_some (the_view c.self.inside) c.args.t c.in-Some.row.now c.in-Some.ensures.found in (
       thread.0,
-      thread.1,
+      subst (λ (v : VolumeHeld). find (λ (x : Thread). x.number == c.args.t) (threads_in v) ≡ Some thread.0) c.self.view_is thread.1,
       ap (λ (row : ThreadRow). slice_get row.frames (length row.frames - 1)) thread.2 ∙ c.last.ensures,
     )
 
 pub returns-in-None-clause-found : goal.returns-in-None-clause-found
-returns-in-None-clause-found c = thread_none c.args.self.now c.args.t c.in-None.ensures.found
+returns-in-None-clause-found c =
+    subst (λ (v : VolumeHeld). find (λ (x : Thread). x.number == c.args.t) (threads_in v) ≡ None) c.self.view_is
+    (thread_none (the_view c.self.inside) c.args.t c.in-None.ensures.found)

@@ -1,11 +1,18 @@
 use Rattle.std.proofs.Common.{ap, sym, ◌∙◌}
+use Rattle.std.specs.Prelude.{find, option_map}
 use Rattle.mg_model.specs.State.{Counters}
+use Rattle.mg_volume.proofs.ThreadSearch.{takes_turn}
 use Rattle.mg_volume.proofs.ThreadsFound.{next_again, next_first}
+use Rattle.mg_volume.specs.Held.{VolumeHeld}
 use Rattle.mg_volume.proofs.volume.Volume.next_ready.Goals as goal
 
 pub returns-in-Some : goal.returns-in-Some
-returns-in-Some c image = next_first c.args.self.now image c.cursor.result c.in-Some.t (c.cursor.ensures ∙ ap (λ (k : Counters). k.cursor) c.globals.ensures) (sym c.in-Some.is ∙ c.ready_above.ensures)
+returns-in-Some c image =
+    next_first c.args.self.now image c.cursor.result c.in-Some.t (c.cursor.ensures ∙ ap (λ (k : Counters). k.cursor) c.globals.ensures)
+    (sym c.in-Some.is ∙ c.ready_above.ensures ∙ ap (λ (v : VolumeHeld). option_map (λ x. x.0) (find (takes_turn c.cursor.result) v.threads)) c.self.view_is)
 
 pub returns-in-None : goal.returns-in-None
 returns-in-None c image =
-    next_again c.args.self.now image c.cursor.result c.ready_above-in-None.result (c.cursor.ensures ∙ ap (λ (k : Counters). k.cursor) c.globals.ensures) (sym c.in-None.is ∙ c.ready_above.ensures) c.ready_above-in-None.ensures
+    next_again c.args.self.now image c.cursor.result c.ready_above-in-None.result (c.cursor.ensures ∙ ap (λ (k : Counters). k.cursor) c.globals.ensures)
+    (sym c.in-None.is ∙ c.ready_above.ensures ∙ ap (λ (v : VolumeHeld). option_map (λ x. x.0) (find (takes_turn c.cursor.result) v.threads)) c.self.view_is)
+    (c.ready_above-in-None.ensures ∙ ap (λ (v : VolumeHeld). option_map (λ x. x.0) (find (takes_turn 0) v.threads)) c.self.view_is)
