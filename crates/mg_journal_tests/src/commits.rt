@@ -258,6 +258,54 @@ fn pair_calls(alloc: Global) -> Option<Counts> {
     }
 }
 
+/// Those of a checkpoint behind one commit of three blocks: the bodies and the gates are read, the homes and the gate are written.
+const EARLY: Counts = Counts {
+    reads: 11,
+    writes: 4,
+    syncs: 2,
+};
+
+/// The calls of a checkpoint behind one commit, where it leaves the contents, and a store that may commit.
+fn checkpoint_by(store: &mut Store, disk: &mut MemDisk, writes: &mut Writes) -> Option<Counts>
+    requires live { is_live store.old ≡ true }
+    requires stands { Stands ⟦<MemDisk as Disk>⟧ store.old disk.old }
+    requires total { total_of store.old ≡ 1311 }
+{
+    if !commit(store, disk, writes, 1) {
+        return None;
+    }
+    let before = disk.counts();
+    match store.checkpoint(disk) {
+        Ok(()) => {}
+        Err(_) => return None,
+    }
+    let calls = between(before, disk.counts());
+    if store.live() && contents(store, disk) == Some([0, 1, 1, 1]) {
+        Some(calls)
+    } else {
+        None
+    }
+}
+
+fn checkpoint_on(alloc: Global, disk: &mut MemDisk, writes: &mut Writes) -> Option<Counts>
+    requires has_1311_blocks { ⟦<MemDisk as Disk>⟧.block_count disk.old ≡ 1311 }
+{
+    match Store::open(alloc, disk, BLOCKS) {
+        Ok(mut store) => checkpoint_by(&mut store, disk, writes),
+        Err(_) => None,
+    }
+}
+
+fn checkpoint_calls(alloc: Global) -> Option<Counts> {
+    match zeros(alloc, BLOCKS, ROOM, NONE) {
+        Some(mut disk) => match Writes::new(alloc) {
+            Ok(mut writes) => checkpoint_on(alloc, &mut disk, &mut writes),
+            Err(_) => None,
+        },
+        None => None,
+    }
+}
+
 #[test]
 fn calls_of_commits(rt: HostRuntime) {
     let both = Counts {
@@ -265,8 +313,13 @@ fn calls_of_commits(rt: HostRuntime) {
         writes: 4,
         syncs: 3,
     };
-    let found = (pair_calls(rt.alloc()), rows_right(rt.alloc()));
-    assert_eq!(rt; found, (Some(both), ROWS.len()));
+    let alloc = rt.alloc();
+    let found = (
+        pair_calls(alloc),
+        checkpoint_calls(alloc),
+        rows_right(alloc),
+    );
+    assert_eq!(rt; found, (Some(both), Some(EARLY), ROWS.len()));
 }
 
 /// What is held after a stop of this kind.
