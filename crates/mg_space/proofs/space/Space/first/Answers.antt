@@ -5,8 +5,8 @@ use Rattle.mg_space.specs.Space.{AreRowsOf, spans_in}
 use Rattle.mg_space.proofs.Spans.{all-unmap, has-room, same-spans}
 use Rattle.mg_space.proofs.space.Space.first.Goals as goal
 
-pub first-requires-clause-at_most_65536_pages : goal.first-requires-clause-at_most_65536_pages
-first-requires-clause-at_most_65536_pages c = let few = rw (← c.self.view_is) at c.requires.at_most_65536_pages in has-room c.self.inside.objects c.self.inside.free c.self.invariant.free few
+pub first-requires-clause-has_room : goal.first-requires-clause-has_room
+first-requires-clause-has_room c = let few = rw (← c.self.view_is) at c.requires.at_most_65536_pages in has-room c.self.inside.objects c.self.inside.free c.self.invariant.free few
 
 pub returns-clause-lowest : goal.returns-clause-lowest
 returns-clause-lowest c =
