@@ -1,14 +1,14 @@
 -- How the copying of contents goes on, from the gate closed to the gate open.
-use Rattle.std.specs.Prelude.{◌≡◌, ℕ, ◌+◌, ◌-◌, ◌<◌, ◌≤◌, List, length, slice_index, Option, Some, None}
+use Rattle.std.specs.Prelude.{◌≡◌, ◌≢◌, ℕ, ◌+◌, ◌-◌, ◌<◌, ◌≤◌, IsTrue, List, length, slice_index, Option, Some, None, IsSomeAnd}
 use Rattle.std.specs.Option.{ForSome}
 use Rattle.std.proofs.Common.{refl, inl, inr, sym, ap, subst, ◌∙◌, ⊎_elim, arith}
 use Rattle.std.proofs.lemmas.Bool.{cases_eq}
-use Rattle.mg_disk.specs.Disk.{HasBlocks, Image, SameBut, SeenBut, no_image, only_place}
+use Rattle.mg_disk.specs.Disk.{HasBlocks, Image, Moment, SameBut, SeenBut, no_image, only_place}
 use Rattle.mg_disk.specs.declared.disk.Disk.{Ghosts}
 use Rattle.mg_disk.specs.Runs.{Tracks, leaves_then, leaves_wider, quiet}
-use Rattle.mg_disk.specs.Stops.{Leaves, TimeGoes}
+use Rattle.mg_disk.specs.Stops.{Leaves, NothingPending, TimeGoes}
 use Rattle.mg_migrate.proofs.GateAlone.{gate_alone}
-use Rattle.mg_migrate.specs.Copied.{AreCopied, AreSame, IsCopy, MayCopy, ReadsNow}
+use Rattle.mg_migrate.specs.Copied.{AreCopied, AreSame, IsClosed, IsCopy, MayCopy, ReadsNow, StandsClosed}
 use Rattle.mg_model.specs.Layout.{gate_block, gate_open}
 use Rattle.mg_model.specs.Replay.{block_of}
 use Rattle.mg_model.specs.Volume.{NotVolume, gate_byte, volume}
@@ -57,17 +57,39 @@ pub close_may : (n : ℕ) (image r c : Image) → SameBut (only_place gate_block
 close_may n image r c same = ⊎_elim (λ none. inl none) (λ before. inr (inl before)) (gate_alone image c same)
 
 -- The blocks behind it are copied: it is no volume while the gate stays closed.
-pub behind_closed : (s c : Image) → gate_byte s ≡ 0 → SameBut (λ k. 1 ≤ k) s c → volume c ≡ NotVolume
-behind_closed s c zero same =
-    volume-closed c
-    (λ opens.
-    let kept : gate_byte c ≡ gate_byte s = ap (λ (block : List ℕ). slice_index block 0) (same.others gate_block (λ low. omega arith)) in
-    let both : 0 ≡ gate_open = sym zero ∙ sym kept ∙ opens in
-    omega arith)
+zero_closed : (c : Image) → gate_byte c ≡ 0 → IsClosed c
+zero_closed c zero =
+    let gate : gate_byte c ≢ gate_open = λ opens. let both : 0 ≡ gate_open = sym zero ∙ opens in omega arith in
+    record { gate = gate; none = volume-closed c gate }
 
-pub seen_closed : (mid new : Option Image) → SeenBut (λ k. 1 ≤ k) mid new → ForSome mid (λ s. gate_byte s ≡ 0) → ForSome new (λ c. volume c ≡ NotVolume)
+still_closed : (s c : Image) → gate_byte s ≡ 0 → SameBut (λ k. 1 ≤ k) s c → IsClosed c
+still_closed s c zero same = zero_closed c (ap (λ (block : List ℕ). slice_index block 0) (same.others gate_block (λ low. omega arith)) ∙ zero)
+
+pub behind_closed : (s c : Image) → gate_byte s ≡ 0 → SameBut (λ k. 1 ≤ k) s c → volume c ≡ NotVolume
+behind_closed s c zero same = (still_closed s c zero same).none
+
+seen_closed : (mid new : Option Image) → SeenBut (λ k. 1 ≤ k) mid new → ForSome mid (λ s. gate_byte s ≡ 0) → ForSome new IsClosed
 seen_closed None new same closed c is = absurd (let P : Option Image → Type 0 = λ o. SeenBut (λ k. 1 ≤ k) None o in subst P is same)
-seen_closed (Some s) new same closed c is = behind_closed s c (closed s refl) (let P : Option Image → Type 0 = λ o. SeenBut (λ k. 1 ≤ k) (Some s) o in subst P is same)
+seen_closed (Some s) new same closed c is = still_closed s c (closed s refl) (let P : Option Image → Type 0 = λ o. SeenBut (λ k. 1 ≤ k) (Some s) o in subst P is same)
+
+was_told : (places : ℕ → Type 0) (old new : Option Image) (P : Image → Type 0) → SeenBut places old new → IsSomeAnd new P → (s : Image) × (old ≡ Some s)
+was_told places (Some s) new P same some = (s, refl)
+was_told places None (Some c) P same some = absurd same
+was_told places None None P same some = absurd some
+
+-- While the blocks behind it are copied a stop leaves the gate closed too.
+pub stands_closed : {D : Type 0} (facts : Ghosts D) (mid new : D) → ((t : Moment) (c : Image) → facts.left_since new t c → IsTrue (facts.tells_stops new))
+    → (IsTrue (facts.tells_stops new) → IsSomeAnd (facts.seen new) (facts.left_since new (facts.moment new))) → SeenBut (λ k. 1 ≤ k) (facts.seen mid) (facts.seen new)
+    → ForSome (facts.seen mid) (λ s. gate_byte s ≡ 0) → NothingPending facts mid → ForSome (facts.seen mid) (λ s. Leaves facts mid new (SameBut (λ k. 1 ≤ k) s)) → StandsClosed facts new
+stands_closed facts mid new told stays same closed settled leaves = record {
+  reads = seen_closed (facts.seen mid) (facts.seen new) same closed;
+  left = left;
+}
+  where
+    left : (c : Image) → facts.left_since new (facts.moment new) c → IsClosed c
+    left c may =
+        let s = was_told (λ k. 1 ≤ k) (facts.seen mid) (facts.seen new) (facts.left_since new (facts.moment new)) same (stays (told (facts.moment new) c may)) in
+        ⊎_elim (λ before. zero_closed c (closed c (settled c before))) (λ torn. still_closed s.0 c (closed s.0 s.1) torn) ((leaves s.0 s.1).time.now c may)
 
 -- With the gate open it is a copy.
 pub is_copy : (n : ℕ) (r s c : Image) → n ≤ length s → AreCopied n r s → SameBut (only_place gate_block) s c → gate_byte c ≡ gate_open → IsCopy n r c

@@ -6,14 +6,15 @@ use Rattle.std.proofs.lemmas.List.{append-nil, take_at}
 use Rattle.std.proofs.lemmas.List.FromFn.{get_or-map-range_with_len, length-map-range_with_len}
 use Rattle.mg_model.specs.Bytes.{bytes_at, padded_to}
 use Rattle.mg_model.specs.BytesLemmas.{bytes_at-behind, padded_to-full}
-use Rattle.mg_model.specs.Layout.{first_object_block, gate_open, globals_block, object_rows, segment_count, segment_gate, super_block, table_block, total_blocks}
+use Rattle.mg_model.specs.Layout.{first_frame, first_object_block, gate_open, globals_block, object_rows, segment_count, segment_gate, super_block, table_block, total_blocks}
 use Rattle.mg_model.specs.Replay.{block_of, is_open, replay}
 use Rattle.mg_model.specs.Settings.{Settings}
 use Rattle.mg_model.specs.Spelling.{super_bytes}
 use Rattle.mg_model.specs.Volume.{object_row_bytes}
 use Rattle.mg_model.specs.VolumeLemmas.{replay-closed}
 use Rattle.mg_migrate.proofs.LiftedRows.{length-lifted_row}
-use Rattle.mg_migrate.specs.Layout1.{table1_block}
+use Rattle.mg_migrate.specs.Laws.{KeepsPlaces}
+use Rattle.mg_migrate.specs.Layout1.{first_frame1, table1_block}
 use Rattle.mg_migrate.specs.Lifted.{lifted, lifted_block, lifted_objects, lifted_row, object1_bytes_in}
 use Rattle.mg_migrate.specs.Version1.{object1_row_bytes}
 
@@ -117,6 +118,15 @@ object-row-lifted settings r i few =
     ∙ row-in-lifted (block_of r (first_object_block + (j - first_object_block) / 2)) ((j - first_object_block) % 2) (i % 4) (omega arith)
     ∙ ap (λ b. lifted_row (object1_bytes_in (block_of r b) (4 * ((j - first_object_block) % 2) + i % 4))) block
     ∙ ap (λ k. lifted_row (object1_bytes_in (block_of r (first_object_block + i / 8)) k)) row
+
+-- and so each row and each frame keeps its number
+pub keeps-places : (settings : Settings) (r : List (List ℕ)) → KeepsPlaces settings r
+keeps-places settings r = record {
+  objects = object-row-lifted settings r;
+  rows = λ i low high. block-of-lifted settings r i (omega arith) ∙ at_row settings r i low high;
+  entries = λ i few. block-of-lifted settings r (table_block + i) (omega arith) ∙ at_behind settings r (table_block + i) (table1_block + i) (omega arith) (omega arith);
+  frames = λ f few. block-of-lifted settings r (first_frame settings.frames + f) (omega arith) ∙ at_behind settings r (first_frame settings.frames + f) (first_frame1 settings.frames + f) (omega arith) (omega arith);
+}
 
 -- four rows that are added one by one
 pub four-rows : (block : List ℕ) (half first : ℕ) (whole s1 s2 s3 s4 : List ℕ) → first ≡ 4 * half → s1 ≡ lifted_row (object1_bytes_in block first) → s2 ≡ s1 ++ lifted_row (object1_bytes_in block (first + 1))

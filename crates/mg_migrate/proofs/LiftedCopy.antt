@@ -19,9 +19,9 @@ use Rattle.mg_migrate.proofs.LiftedVolume.{volume-lifted}
 use Rattle.mg_migrate.proofs.Volume1Reads.{replayed1-is}
 use Rattle.mg_migrate.specs.Copied.{IsCopy, MayCopy, ReadsNow}
 use Rattle.mg_migrate.specs.Layout1.{total1_blocks}
-use Rattle.mg_migrate.specs.Lifted.{lifted}
+use Rattle.mg_migrate.specs.Lifted.{IsLifted, lifted}
 use Rattle.mg_migrate.specs.LiftedView.{LiftedView}
-use Rattle.mg_migrate.specs.Migrated.{IsLiftOf, IsState1, MayMigrate, needed}
+use Rattle.mg_migrate.specs.Migrated.{HasLifted, IsLiftOf, IsState1, MayMigrate, needed}
 use Rattle.mg_migrate.specs.OldRead.{IsOldRead}
 use Rattle.mg_migrate.specs.Version1.{Volume1Read, as_volume1, lift, lift_volume, replayed1_volume, volume1}
 use Rattle.mg_model.specs.Layout.{gate_block, total_blocks}
@@ -35,6 +35,12 @@ of_state NotVolume x P is then = absurd (cc)
 of_state OldVolume x P is then = absurd (cc)
 of_state Damaged x P is then = absurd (cc)
 of_state (Is s) x P is then = then s refl (cc)
+
+-- what reads give has what follows of what it has
+reads-wider : (P Q : Image → Type 0) → ((c : Image) → P c → Q c) → (old new : Option Image) → ReadsNow P old new → ReadsNow Q old new
+reads-wider P Q then None new is = is
+reads-wider P Q then (Some before) None is = absurd is
+reads-wider P Q then (Some before) (Some c) is = then c is
 
 no_state : (c : Image) → volume c ≡ NotVolume → IsNoState (volume c)
 no_state c is = subst (λ (v : VolumeRead). IsNoState v) (sym is) (tt {0})
@@ -64,10 +70,14 @@ module _ (seen : LiftedView) (rows : VolumeRows) (image : Image) (read : IsOldRe
   tells-enough have enough = tells (λ state. needed state ≤ have) (λ s is. let n = needs s is in omega arith)
 
   -- a copy of the lifted image
+  copy-lifted : (c : Image) → IsCopy (total_blocks seen.settings.frames) old_lifted c → IsLifted seen.settings read.replayed c
+  copy-lifted c copy = record { long = copy.long; opened = copy.opened; blocks = λ i low high. copy.blocks i low high ∙ block-of-lifted seen.settings read.replayed i high }
+
+  pub copy-places : (c : Image) → IsCopy (total_blocks seen.settings.frames) old_lifted c → HasLifted image c
+  copy-places c copy = record { settings = seen.settings; replayed = read.replayed; is = read.is; lifted = copy-lifted c copy }
+
   copy-spells : (c : Image) → IsCopy (total_blocks seen.settings.frames) old_lifted c → volume c ≡ lift_volume (replayed1_volume seen.settings read.replayed)
-  copy-spells c copy =
-      volume-lifted seen.settings image read.replayed c read.is.super
-      (record { long = copy.long; opened = copy.opened; blocks = λ i low high. copy.blocks i low high ∙ block-of-lifted seen.settings read.replayed i high })
+  copy-spells c copy = volume-lifted seen.settings image read.replayed c read.is.super (copy-lifted c copy)
 
   pub copy-lifts : (c : Image) → IsCopy (total_blocks seen.settings.frames) old_lifted c → IsLiftOf (volume1 image) c
   copy-lifts c copy =
@@ -79,9 +89,10 @@ module _ (seen : LiftedView) (rows : VolumeRows) (image : Image) (read : IsOldRe
   copy-may new c may = ⊎_elim (λ none. inl (no_state c none)) (λ rest. ⊎_elim (λ before. inr (inl before)) (λ copy. inr (inr (copy-lifts c copy))) rest) may
 
   pub reads-lift : (old new : Option Image) → ReadsNow (IsCopy (total_blocks seen.settings.frames) old_lifted) old new → ReadsNow (IsLiftOf (volume1 image)) old new
-  reads-lift None new is = is
-  reads-lift (Some before) None is = absurd is
-  reads-lift (Some before) (Some c) is = copy-lifts c is
+  reads-lift old new is = reads-wider _ (IsLiftOf (volume1 image)) copy-lifts old new is
+
+  pub reads-places : (old new : Option Image) → ReadsNow (IsCopy (total_blocks seen.settings.frames) old_lifted) old new → ReadsNow (HasLifted image) old new
+  reads-places old new is = reads-wider _ (HasLifted image) copy-places old new is
 
   -- the contents that reads of the old disk give
   pub contents-are : {E : Type 0} (facts : Ghosts E) (old : E) → seen.placed.total ≡ total1_blocks seen.settings.frames → facts.seen old ≡ Some image

@@ -1,6 +1,8 @@
 -- What a disk holds while the contents of another one are copied to it, and then.
-use Rattle.std.specs.Prelude.{◌≡◌, ◌⊎◌, ℕ, ◌<◌, ◌≤◌, length, Option, Some, None, IsSomeAnd}
+use Rattle.std.specs.Prelude.{◌≡◌, ◌≢◌, ◌⊎◌, ℕ, ◌<◌, ◌≤◌, length, Option, Some, None, IsSomeAnd}
+use Rattle.std.specs.Option.{ForSome}
 use Rattle.mg_disk.specs.Disk.{Image, InRange}
+use Rattle.mg_disk.specs.declared.disk.Disk.{Ghosts}
 use Rattle.mg_layout.specs.MayFormat.{opened}
 use Rattle.mg_model.specs.Layout.{gate_open}
 use Rattle.mg_model.specs.Replay.{block_of}
@@ -23,6 +25,16 @@ pub record IsCopy (n : ℕ) (contents c : Image) : Type 0 where
 -- no volume, what the blocks behind the gate spelled before, or a copy
 abbrev pub MayCopy : ℕ → Image → Image → Image → Type 0
 MayCopy n image contents c = (volume c ≡ NotVolume) ⊎ ((volume c ≡ volume (opened image)) ⊎ IsCopy n contents c)
+
+-- its gate is closed, so it is no volume
+pub record IsClosed (c : Image) : Type 0 where
+  pub gate : gate_byte c ≢ gate_open
+  pub none : volume c ≡ NotVolume
+
+-- the gate of a disk is closed, in what reads give and in each image that a stop may leave
+pub record StandsClosed {D : Type 0} (facts : Ghosts D) (disk : D) : Type 0 where
+  pub reads : ForSome (facts.seen disk) IsClosed
+  pub left : (c : Image) → facts.left_since disk (facts.moment disk) c → IsClosed c
 
 -- reads give an image if they gave one before, and it has P
 abbrev pub ReadsNow : (Image → Type 0) → Option Image → Option Image → Type 0

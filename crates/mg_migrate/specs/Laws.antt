@@ -1,14 +1,14 @@
 -- What is true of lifted images.
-use Rattle.std.specs.Prelude.{◌≡◌, ℕ, List, Some}
-use Rattle.mg_model.specs.Layout.{super_block}
+use Rattle.std.specs.Prelude.{◌≡◌, ℕ, ◌+◌, ◌<◌, ◌≤◌, List, Some}
+use Rattle.mg_model.specs.Layout.{first_frame, first_object_block, globals_block, object_rows, super_block, table_block, table_blocks}
 use Rattle.mg_model.specs.Limits.{most_frames}
 use Rattle.mg_model.specs.Replay.{block_of, replay}
 use Rattle.mg_model.specs.Settings.{Settings}
-use Rattle.mg_model.specs.Volume.{replayed_volume, volume}
-use Rattle.mg_migrate.specs.Layout1.{total1_blocks}
-use Rattle.mg_migrate.specs.Lifted.{IsLifted, IsReplayed1, lifted}
+use Rattle.mg_model.specs.Volume.{object_row_bytes, replayed_volume, volume}
+use Rattle.mg_migrate.specs.Layout1.{first_frame1, table1_block, total1_blocks}
+use Rattle.mg_migrate.specs.Lifted.{IsLifted, IsReplayed1, lifted, lifted_row}
 use Rattle.mg_migrate.specs.Spelling1.{Spells1, super1_read}
-use Rattle.mg_migrate.specs.Version1.{as_volume1, lift_volume, replayed1_volume, volume1}
+use Rattle.mg_migrate.specs.Version1.{as_volume1, lift_volume, object1_row_bytes, replayed1_volume, volume1}
 
 -- how many blocks a volume of version 1 has: of 64 frames, and of as many as a volume may have
 pub record AreSizes : Type 0 where
@@ -18,6 +18,17 @@ pub record AreSizes : Type 0 where
 -- the journal of a lifted image is closed, so the image is what its journal gives
 abbrev pub LiftedIsReplayed : Type 0
 LiftedIsReplayed = (settings : Settings) (replayed : List (List ℕ)) (total : ℕ) → replay (lifted settings replayed) total ≡ Some (lifted settings replayed)
+
+-- What a lifted image has where: each row of the objects under its number, the globals, the accounts and the threads in their blocks,
+-- and each entry of the frame table and each frame under its number.
+pub record KeepsPlaces (settings : Settings) (replayed : List (List ℕ)) : Type 0 where
+  pub objects : (i : ℕ) → i < object_rows → object_row_bytes (lifted settings replayed) i ≡ lifted_row (object1_row_bytes replayed i)
+  pub rows : (i : ℕ) → globals_block ≤ i → i < first_object_block → block_of (lifted settings replayed) i ≡ block_of replayed i
+  pub entries : (i : ℕ) → i < table_blocks settings.frames → block_of (lifted settings replayed) (table_block + i) ≡ block_of replayed (table1_block + i)
+  pub frames : (f : ℕ) → f < settings.frames → block_of (lifted settings replayed) (first_frame settings.frames + f) ≡ block_of replayed (first_frame1 settings.frames + f)
+
+abbrev pub LiftedKeepsPlaces : Type 0
+LiftedKeepsPlaces = (settings : Settings) (replayed : List (List ℕ)) → KeepsPlaces settings replayed
 
 -- a lifted image spells the lifted state, and is damaged where there is none
 abbrev pub LiftedIsLift : Type 0

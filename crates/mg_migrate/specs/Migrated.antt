@@ -4,10 +4,12 @@ use Rattle.mg_check.specs.declared.examining.Summary.{Summary}
 use Rattle.mg_check.specs.Summaries.{summary_of}
 use Rattle.mg_disk.specs.Disk.{Image}
 use Rattle.mg_layout.specs.MayFormat.{IsNoState, opened}
+use Rattle.mg_migrate.specs.Lifted.{IsLifted, IsReplayed1}
 use Rattle.mg_migrate.specs.Version1.{Damaged1, Is1, NewVolume1, NotVolume1, OldVolume1, Volume1Read, lift}
 use Rattle.mg_migrate.specs.declared.migrating.MigrateFault.{MigrateFault}
 use Rattle.mg_migrate.specs.declared.migrating.MigrateFault.TheVariants as fault
 use Rattle.mg_model.specs.Layout.{total_blocks}
+use Rattle.mg_model.specs.Settings.{Settings}
 use Rattle.mg_model.specs.State.{State}
 use Rattle.mg_model.specs.Volume.{Is, volume}
 
@@ -39,6 +41,14 @@ Tells1 (Err fault.NewDisk) have old = IsState1 old (λ state. needed state ≤ h
 -- it spells the state of the old image with passwords that never end
 abbrev pub IsLiftOf : Volume1Read → Image → Type 0
 IsLiftOf old c = IsState1 old (λ state. volume c ≡ Is (lift state))
+
+-- Behind an open gate it has the blocks of the old image, once that one's journal is replayed, each lifted and in its place: so rows
+-- and frames keep their numbers.
+pub record HasLifted (old c : Image) : Type 0 where
+  pub settings : Settings
+  pub replayed : Image
+  pub is : IsReplayed1 settings old replayed
+  pub lifted : IsLifted settings replayed c
 
 -- no state, what the blocks behind the gate of the new disk spelled before, or the old state with passwords that never end
 abbrev pub MayMigrate : Image → Volume1Read → Image → Type 0

@@ -5,9 +5,9 @@ ghost use Rattle.std.specs.Option.{ForSome};
 ghost use Rattle.mg_check.specs.Reads.{CanRead, OnlyRead, contents};
 ghost use Rattle.mg_disk.specs.Disk.{InRange, SameBut, SeenBut, TornAt, only_place};
 ghost use Rattle.mg_disk.specs.Stops.{CountRose, DiskCallsBy, Leaves, NothingPending, TimeGoes};
-ghost use Rattle.mg_migrate.specs.Copied.{AreCopied, AreSame, IsCopy, MayCopy, ReadsNow};
+ghost use Rattle.mg_migrate.specs.Copied.{AreCopied, AreSame, IsCopy, MayCopy, ReadsNow, StandsClosed};
 ghost use Rattle.mg_model.specs.Layout.{gate_block};
-ghost use Rattle.mg_model.specs.Volume.{NotVolume, gate_byte, volume};
+ghost use Rattle.mg_model.specs.Volume.{gate_byte};
 
 use mg_check::Contents;
 use mg_disk::{BLOCK_SIZE, Block, COPY_BLOCKS, Disk, write_firmly};
@@ -17,7 +17,7 @@ use mg_layout::{GATE_BLOCK, GATE_OPEN};
 /// Which disk failed while contents were copied.
 #[derive(Debug, Drop)]
 pub(crate) enum CopyFault {
-    /// The one that they are read from. The gate of the other one is closed.
+    /// The one that they are read from. The gate of the other one is closed, and a stop leaves it so.
     From,
     /// The one that they are written to.
     To,
@@ -41,7 +41,7 @@ pub(crate) fn copy<C: Contents, D: Disk, E: Disk>(
     ensures any_moment { NothingPending D.Disk new.old → ForSome (D.seen new.old) (λ image. ForSome (contents E.Disk (C.of view.now) old.old) (λ r. Leaves D.Disk new.old new.new (MayCopy (C.total view.now) image r))) }
     ensures made { OnOk result (ForSome (contents E.Disk (C.of view.now) old.old) (λ r. ReadsNow (IsCopy (C.total view.now) r) (D.seen new.old) (D.seen new.new))) }
     ensures settled { OnOk result (NothingPending D.Disk new.new) }
-    ensures closed { result ≡ Err CopyFault.From → ForSome (D.seen new.new) (λ c. volume c ≡ NotVolume) }
+    ensures closed { result ≡ Err CopyFault.From → StandsClosed D.Disk new.new }
     ensures reads { OnlyRead E.Disk old.old old.new }
     ensures cause { result ≡ Err CopyFault.From → CountRose E.Disk old.old old.new }
     ensures calls { DiskCallsBy D.Disk new.old new.new (result ≡ Err CopyFault.To) }

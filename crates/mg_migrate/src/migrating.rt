@@ -3,10 +3,9 @@ ghost use Rattle.std.specs.Prelude.{◌≡◌, ◌⊎◌, OnOk};
 ghost use Rattle.std.specs.Option.{ForSome};
 ghost use Rattle.mg_disk.specs.Disk.{Image};
 ghost use Rattle.mg_disk.specs.Stops.{DiskCallsBy, Leaves, NothingPending, WritesNothing};
-ghost use Rattle.mg_migrate.specs.Copied.{ReadsNow};
-ghost use Rattle.mg_migrate.specs.Migrated.{IsLiftOf, IsUntouched, MayMigrate, Tells1};
+ghost use Rattle.mg_migrate.specs.Copied.{ReadsNow, StandsClosed};
+ghost use Rattle.mg_migrate.specs.Migrated.{HasLifted, IsLiftOf, IsUntouched, MayMigrate, Tells1};
 ghost use Rattle.mg_migrate.specs.Version1.{volume1};
-ghost use Rattle.mg_model.specs.Volume.{NotVolume, volume};
 
 use crate::copying::{CopyFault, copy};
 use crate::old_volume::read_old;
@@ -19,7 +18,8 @@ use thiserror::Error;
 /// Why a volume was not migrated.
 #[derive(Debug, Drop, Error)]
 pub enum MigrateFault {
-    /// A call of the old disk failed. Where the copying had begun, the new disk holds no volume; else no call was made on it.
+    /// A call of the old disk failed. Where the copying had begun, the gate of the new disk is closed, and a stop leaves it so; else no
+    /// call was made on it.
     #[error("a call of the old disk failed")]
     OldDisk,
     /// The old disk holds no volume: its gate is closed, or no superblock is behind it. No call was made on the new disk.
@@ -66,8 +66,10 @@ pub fn migrate<D: Disk, E: Disk>(
     ensures made { OnOk result (ForSome (E.seen old.old) (λ before. ReadsNow (IsLiftOf (volume1 before)) (D.seen new.old) (D.seen new.new))) }
     ensures settled { OnOk result (NothingPending D.Disk new.new) }
     ensures left { OnOk result (ForSome (E.seen old.old) (λ before. (c : Image) → D.left_since new.new (D.moment new.new) c → IsLiftOf (volume1 before) c)) }
+    ensures places { OnOk result (ForSome (E.seen old.old) (λ before. ReadsNow (HasLifted before) (D.seen new.old) (D.seen new.new))) }
+    ensures left_places { OnOk result (ForSome (E.seen old.old) (λ before. (c : Image) → D.left_since new.new (D.moment new.new) c → HasLifted before c)) }
     ensures untouched { IsUntouched new.old new.new result }
-    ensures closed { result ≡ Err MigrateFault.OldDisk → (new.new ≡ new.old) ⊎ ForSome (D.seen new.new) (λ c. volume c ≡ NotVolume) }
+    ensures closed { result ≡ Err MigrateFault.OldDisk → (new.new ≡ new.old) ⊎ StandsClosed D.Disk new.new }
     ensures old_kept { WritesNothing E.Disk old.old old.new }
     ensures old_calls { DiskCallsBy E.Disk old.old old.new (result ≡ Err MigrateFault.OldDisk) }
     ensures new_calls { DiskCallsBy D.Disk new.old new.new (result ≡ Err MigrateFault.NewDisk) }

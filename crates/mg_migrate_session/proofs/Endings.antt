@@ -12,12 +12,11 @@ use Rattle.mg_disk.specs.declared.disk.Disk as disks
 use Rattle.mg_faults.specs.Faults.{Rose}
 use Rattle.mg_io.specs.Known.{AppendsPrefix, AppendsPrefix-none}
 use Rattle.mg_io.specs.declared.traits.Sink as sinks
-use Rattle.mg_migrate.specs.Copied.{ReadsNow}
+use Rattle.mg_migrate.specs.Copied.{ReadsNow, StandsClosed}
 use Rattle.mg_migrate.specs.Migrated.{IsLiftOf, IsState1, MayMigrate, needed}
 use Rattle.mg_migrate.specs.Version1.{Damaged1, Is1, NewVolume1, NotVolume1, OldVolume1, Volume1Read, lift, volume1}
-use Rattle.mg_migrate_session.specs.Headline.{GoesWith, HasPut, IfState1, MigrateKeeps, StandsAfter, migrate_line, migrate_status}
+use Rattle.mg_migrate_session.specs.Headline.{GoesWith, HasPlaces, HasPut, IfState1, MigrateKeeps, StandsAfter, migrate_line, migrate_status}
 use Rattle.mg_model.specs.State.{State}
-use Rattle.mg_model.specs.Volume.{NotVolume, volume}
 use Rattle.mg_session.specs.Headline.{small_line, summary_line}
 use Rattle.mg_serve.specs.declared.status.Status.{Status}
 use Rattle.mg_serve.specs.declared.status.Status.TheVariants as status
@@ -30,7 +29,7 @@ if_state1_then NewVolume1 P Q step h = h
 if_state1_then Damaged1 P Q step h = h
 if_state1_then (Is1 s) P Q step h = step s h
 
-every_state1 : (v : Volume1Read) (P : State → Type 0) → ((s : State) → P s) → IfState1 v P
+pub every_state1 : (v : Volume1Read) (P : State → Type 0) → ((s : State) → P s) → IfState1 v P
 every_state1 NotVolume1 P each = tt
 every_state1 OldVolume1 P each = tt
 every_state1 NewVolume1 P each = tt
@@ -106,15 +105,25 @@ too_small d need have new new' (Is1 state) (needs, has, few) same =
       enough = λ room. absurd (omega arith);
     }
 
+-- which it owes nothing to
+pub small_state1 : {D : Type 0} (d : disks.Ghosts D) (need have : ℕ) (new : D) (v : Volume1Read) (P : State → Type 0)
+    → IsState1 v (λ state. (need ≡ needed state) × (have ≡ d.block_count new) × (d.block_count new < need)) → IfState1 v (λ state. needed state ≤ d.block_count new → P state)
+small_state1 d need have new NotVolume1 P told = tt
+small_state1 d need have new OldVolume1 P told = tt
+small_state1 d need have new NewVolume1 P told = tt
+small_state1 d need have new Damaged1 P told = tt
+small_state1 d need have new (Is1 state) P (needs, has, few) = λ room. absurd (omega arith)
+
 module _ {D E K : Type 0} (d : disks.Ghosts D) (e : disks.Ghosts E) (to : sinks.Ghosts K) (result : Status) (new new' : D) (old old' : E) (sink sink' : K)
     (moments : NothingPending d new → ForSome (d.seen new) (λ image. ForSome (e.seen old) (λ before. Leaves d new new' (MayMigrate image (volume1 before)))))
     (kept : WritesNothing e old old') where
   -- A line tells of the old image, or the sink failed.
   pub told_keeps : (end : Status) (line : List ℕ) → HasPut end → GoesWith end line → ForSome (e.seen old) (λ before. IsTold d end line new new' (volume1 before))
+      → ForSome (e.seen old) (λ before. IfState1 (volume1 before) (λ state. needed state ≤ d.block_count new → HasPlaces d before new new'))
       → ((end ≡ status.NoVolume) ⊎ (end ≡ status.TooSmall) → new' ≡ new) → (result ≡ end) ⊎ (result ≡ status.Sink) → (result ≡ end → Appends (to.taken sink) (to.taken sink') line)
       → AppendsPrefix (to.taken sink) (to.taken sink') line → (result ≡ status.Sink → Rose (to.faults sink) (to.faults sink') (to.is_spent sink'))
       → MigrateKeeps d e to result new new' old old' sink sink'
-  told_keeps end line has_put goes told untouched ends put prefix rose = record {
+  told_keeps end line has_put goes told places untouched ends put prefix rose = record {
     ends = λ before is. ⊎_elim (λ as_told. inl (as_told ∙ sym (told before is).ends)) (λ failed. inr (inr (inr failed))) ends;
     which = ⊎_elim (λ as_told. inl (subst HasPut (sym as_told) has_put)) (λ failed. inr (inr (inr failed))) ends;
     line = λ h before is. subst (λ text. Appends (to.taken sink) (to.taken sink') text) (sym (told before is).puts) (⊎_elim put (λ failed. absurd (put_no_sink result h failed)) ends);
@@ -123,6 +132,7 @@ module _ {D E K : Type 0} (d : disks.Ghosts D) (e : disks.Ghosts E) (to : sinks.
         ⊎_elim (λ as_told. (line, subst (λ s. GoesWith s line) (sym as_told) goes, put as_told)) (λ failed. absurd (put_no_sink result h failed)) ends;
     moments = moments;
     stands = λ h before is. (told before is).stands;
+    places = λ h. places;
     untouched = λ h. ⊎_elim (λ none. alone (inl none)) (λ p. ⊎_elim (λ small. alone (inr small)) (λ memory. absurd (no_memory memory)) p) h;
     old_kept = kept;
     memory = λ h. absurd (no_memory h);
@@ -151,6 +161,7 @@ module _ {D E K : Type 0} (d : disks.Ghosts D) (e : disks.Ghosts E) (to : sinks.
     prefix = λ before is. subst (λ k. AppendsPrefix (to.taken sink) (to.taken k) (migrate_line (d.block_count new) (volume1 before))) (sym same) (AppendsPrefix-none (to.taken sink) (migrate_line (d.block_count new) (volume1 before)));
     moments = moments;
     stands = λ h. absurd (⊎_elim (λ put. put_no_memory result put memory) (λ failed. sink_no_memory result failed memory) h);
+    places = λ h. absurd (⊎_elim (λ put. put_no_memory result put memory) (λ failed. sink_no_memory result failed memory) h);
     untouched = λ h. untouched;
     old_kept = kept;
     memory = λ h. same;
@@ -161,7 +172,7 @@ module _ {D E K : Type 0} (d : disks.Ghosts D) (e : disks.Ghosts E) (to : sinks.
   }
 
   -- A call of a disk failed.
-  pub disk_keeps : result ≡ status.Disk → CountRose d new new' ⊎ CountRose e old old' → ((CountRose d new new' → ⊥) → (new' ≡ new) ⊎ ForSome (d.seen new') (λ c. volume c ≡ NotVolume)) → sink' ≡ sink → MigrateKeeps d e to result new new' old old' sink sink'
+  pub disk_keeps : result ≡ status.Disk → CountRose d new new' ⊎ CountRose e old old' → ((CountRose d new new' → ⊥) → (new' ≡ new) ⊎ StandsClosed d new') → sink' ≡ sink → MigrateKeeps d e to result new new' old old' sink sink'
   disk_keeps disk rose closed same = record {
     ends = λ before is. inr (inr (inl disk));
     which = inr (inr (inl disk));
@@ -170,6 +181,7 @@ module _ {D E K : Type 0} (d : disks.Ghosts D) (e : disks.Ghosts E) (to : sinks.
     prefix = λ before is. subst (λ k. AppendsPrefix (to.taken sink) (to.taken k) (migrate_line (d.block_count new) (volume1 before))) (sym same) (AppendsPrefix-none (to.taken sink) (migrate_line (d.block_count new) (volume1 before)));
     moments = moments;
     stands = λ h. absurd (⊎_elim (λ put. put_no_disk result put disk) (λ failed. sink_no_disk result failed disk) h);
+    places = λ h. absurd (⊎_elim (λ put. put_no_disk result put disk) (λ failed. sink_no_disk result failed disk) h);
     untouched = λ h. absurd (⊎_elim (λ none. disk_no_none result disk (inl none)) (λ p. ⊎_elim (λ small. disk_no_none result disk (inr small)) (λ memory. disk_no_memory result disk memory) p) h);
     old_kept = kept;
     memory = λ h. same;

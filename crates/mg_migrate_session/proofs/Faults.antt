@@ -9,14 +9,15 @@ use Rattle.mg_disk.specs.declared.disk.Disk as disks
 use Rattle.mg_faults.specs.Faults.{Rose}
 use Rattle.mg_io.specs.Known.{AppendsPrefix}
 use Rattle.mg_io.specs.declared.traits.Sink as sinks
+use Rattle.mg_migrate.specs.Copied.{StandsClosed}
 use Rattle.mg_migrate.specs.Migrated.{IsUntouched, MayMigrate, Tells1}
 use Rattle.mg_migrate.specs.Version1.{Damaged1, NewVolume1, NotVolume1, OldVolume1, Volume1Read, volume1}
 use Rattle.mg_migrate.specs.declared.migrating.MigrateFault.{MigrateFault}
 use Rattle.mg_migrate.specs.declared.migrating.MigrateFault.TheVariants as fault
-use Rattle.mg_migrate_session.specs.Headline.{HasPut, MigrateKeeps}
+use Rattle.mg_migrate_session.specs.Headline.{HasPut, IfState1, MigrateKeeps}
 use Rattle.mg_migrate_session.specs.Told.{EndsWith, IsQuiet, fault_line}
-use Rattle.mg_migrate_session.proofs.Endings.{IsTold, disk_keeps, memory_keeps, told_keeps, too_small}
-use Rattle.mg_model.specs.Volume.{NotVolume, volume}
+use Rattle.mg_migrate_session.proofs.Endings.{IsTold, disk_keeps, memory_keeps, small_state1, told_keeps, too_small}
+use Rattle.mg_model.specs.State.{State}
 use Rattle.mg_serve.specs.declared.status.Status.{Status}
 use Rattle.mg_serve.specs.declared.status.Status.TheVariants as status
 
@@ -24,11 +25,15 @@ use Rattle.mg_serve.specs.declared.status.Status.TheVariants as status
 of_kind : {D : Type 0} (d : disks.Ghosts D) (line : List ℕ) (new new' : D) (v kind : Volume1Read) → IsTold d status.NoVolume line new new' kind → v ≡ kind → IsTold d status.NoVolume line new new' v
 of_kind d line new new' v kind told is = subst (λ w. IsTold d status.NoVolume line new new' w) (sym is) told
 
+-- and nothing is owed to a state
+no_state1 : (v kind : Volume1Read) (P : State → Type 0) → IfState1 kind P → v ≡ kind → IfState1 v P
+no_state1 v kind P none is = subst (λ w. IfState1 w P) (sym is) none
+
 -- what a fault does
 pub fault_keeps : {D E K : Type 0} (d : disks.Ghosts D) (e : disks.Ghosts E) (to : sinks.Ghosts K) (f : MigrateFault) (result : Status) (new new' : D) (old old' : E) (sink sink' : K)
     → ForSome (e.seen old) (λ before. Tells1 (Err f) (d.block_count new) (volume1 before))
     → (NothingPending d new → ForSome (d.seen new) (λ image. ForSome (e.seen old) (λ before. Leaves d new new' (MayMigrate image (volume1 before)))))
-    → IsUntouched new new' (Err f) → (◌≡◌ {A = Result Summary MigrateFault} (Err f) (Err fault.OldDisk) → (new' ≡ new) ⊎ ForSome (d.seen new') (λ c. volume c ≡ NotVolume)) → WritesNothing e old old'
+    → IsUntouched new new' (Err f) → (◌≡◌ {A = Result Summary MigrateFault} (Err f) (Err fault.OldDisk) → (new' ≡ new) ⊎ StandsClosed d new') → WritesNothing e old old'
     → (◌≡◌ {A = Result Summary MigrateFault} (Err f) (Err fault.OldDisk) → CountRose e old old') → (◌≡◌ {A = Result Summary MigrateFault} (Err f) (Err fault.NewDisk) → CountRose d new new')
     → EndsWith f result → (HasPut result → Appends (to.taken sink) (to.taken sink') (fault_line f)) → AppendsPrefix (to.taken sink) (to.taken sink') (fault_line f)
     → (IsQuiet f → sink' ≡ sink) → (result ≡ status.Sink → Rose (to.faults sink) (to.faults sink') (to.is_spent sink'))
@@ -38,22 +43,26 @@ fault_keeps d e to fault.OldDisk result new new' old old' sink sink' told moment
 fault_keeps d e to fault.Not result new new' old old' sink sink' told moments untouched closed kept old_rose new_rose ends put prefix quiet rose =
     told_keeps d e to result new new' old old' sink sink' moments kept status.NoVolume (fault_line fault.Not) (inr (inl refl)) (inl refl)
     (λ before is. of_kind d (fault_line fault.Not) new new' (volume1 before) NotVolume1 (record { ends = refl; puts = refl; stands = untouched; enough = tt }) (told before is))
+    (λ before is. no_state1 (volume1 before) NotVolume1 _ tt (told before is))
     (λ none. untouched) ends (λ none. put (inr (inl none))) prefix rose
 fault_keeps d e to fault.Old result new new' old old' sink sink' told moments untouched closed kept old_rose new_rose ends put prefix quiet rose =
     told_keeps d e to result new new' old old' sink sink' moments kept status.NoVolume (fault_line fault.Old) (inr (inl refl)) (inr (inl refl))
     (λ before is. of_kind d (fault_line fault.Old) new new' (volume1 before) OldVolume1 (record { ends = refl; puts = refl; stands = untouched; enough = tt }) (told before is))
+    (λ before is. no_state1 (volume1 before) OldVolume1 _ tt (told before is))
     (λ none. untouched) ends (λ none. put (inr (inl none))) prefix rose
 fault_keeps d e to fault.New result new new' old old' sink sink' told moments untouched closed kept old_rose new_rose ends put prefix quiet rose =
     told_keeps d e to result new new' old old' sink sink' moments kept status.NoVolume (fault_line fault.New) (inr (inl refl)) (inr (inr (inl refl)))
     (λ before is. of_kind d (fault_line fault.New) new new' (volume1 before) NewVolume1 (record { ends = refl; puts = refl; stands = untouched; enough = tt }) (told before is))
+    (λ before is. no_state1 (volume1 before) NewVolume1 _ tt (told before is))
     (λ none. untouched) ends (λ none. put (inr (inl none))) prefix rose
 fault_keeps d e to fault.Damaged result new new' old old' sink sink' told moments untouched closed kept old_rose new_rose ends put prefix quiet rose =
     told_keeps d e to result new new' old old' sink sink' moments kept status.NoVolume (fault_line fault.Damaged) (inr (inl refl)) (inr (inr (inr refl)))
     (λ before is. of_kind d (fault_line fault.Damaged) new new' (volume1 before) Damaged1 (record { ends = refl; puts = refl; stands = untouched; enough = tt }) (told before is))
+    (λ before is. no_state1 (volume1 before) Damaged1 _ tt (told before is))
     (λ none. untouched) ends (λ none. put (inr (inl none))) prefix rose
 fault_keeps d e to (fault.TooSmall need have) result new new' old old' sink sink' told moments untouched closed kept old_rose new_rose ends put prefix quiet rose =
     told_keeps d e to result new new' old old' sink sink' moments kept status.TooSmall (fault_line (fault.TooSmall need have)) (inr (inr refl)) ((need, have), refl)
-    (λ before is. too_small d need have new new' (volume1 before) (told before is) untouched) (λ small. untouched) ends (λ small. put (inr (inr small))) prefix rose
+    (λ before is. too_small d need have new new' (volume1 before) (told before is) untouched) (λ before is. small_state1 d need have new (volume1 before) _ (told before is)) (λ small. untouched) ends (λ small. put (inr (inr small))) prefix rose
 fault_keeps d e to fault.Memory result new new' old old' sink sink' told moments untouched closed kept old_rose new_rose ends put prefix quiet rose =
     memory_keeps d e to result new new' old old' sink sink' moments kept ends untouched (quiet tt)
 fault_keeps d e to fault.NewDisk result new new' old old' sink sink' told moments untouched closed kept old_rose new_rose ends put prefix quiet rose =

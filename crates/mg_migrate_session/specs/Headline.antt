@@ -10,11 +10,10 @@ use Rattle.mg_disk.specs.declared.disk.Disk as disks
 use Rattle.mg_faults.specs.Faults.{Rose}
 use Rattle.mg_io.specs.Known.{AppendsPrefix}
 use Rattle.mg_io.specs.declared.traits.Sink as sinks
-use Rattle.mg_migrate.specs.Copied.{ReadsNow}
-use Rattle.mg_migrate.specs.Migrated.{IsLiftOf, MayMigrate, needed}
+use Rattle.mg_migrate.specs.Copied.{ReadsNow, StandsClosed}
+use Rattle.mg_migrate.specs.Migrated.{HasLifted, IsLiftOf, MayMigrate, needed}
 use Rattle.mg_migrate.specs.Version1.{Damaged1, Is1, NewVolume1, NotVolume1, OldVolume1, Volume1Read, lift, volume1}
 use Rattle.mg_model.specs.State.{State}
-use Rattle.mg_model.specs.Volume.{NotVolume, volume}
 use Rattle.mg_serve.specs.Sessions.{IsDoneOrMemory}
 use Rattle.mg_session.specs.Headline.{small_line, summary_line, usage_line}
 use Rattle.mg_serve.specs.declared.status.Status.{Status}
@@ -68,6 +67,11 @@ pub record IsMigrated {D : Type 0} (facts : disks.Ghosts D) (old : Volume1Read) 
   pub left : (c : Image) → facts.left_since new' (facts.moment new') c → IsLiftOf old c
   pub settled : NothingPending facts new'
 
+-- the blocks of the old image stand there, each lifted and in its place, in what reads give and in each image that a stop may leave
+pub record HasPlaces {D : Type 0} (facts : disks.Ghosts D) (before : Image) (new new' : D) : Type 0 where
+  pub reads : ReadsNow (HasLifted before) (facts.seen new) (facts.seen new')
+  pub left : (c : Image) → facts.left_since new' (facts.moment new') c → HasLifted before c
+
 -- the new disk once what the old image spells was told: no call was made on it where that is no volume or the disk is too small
 abbrev pub StandsAfter : {D : Type 0} → disks.Ghosts D → Volume1Read → D → D → Type 0
 StandsAfter facts NotVolume1 new new' = new' ≡ new
@@ -101,14 +105,16 @@ pub record MigrateKeeps {D E K : Type 0} (d : disks.Ghosts D) (e : disks.Ghosts 
   pub moments : NothingPending d new → ForSome (d.seen new) (λ image. ForSome (e.seen old) (λ before. Leaves d new new' (MayMigrate image (volume1 before))))
   -- At the end the migrated state stands, also where its line could not be put; no call was made on the new disk where none was told.
   pub stands : HasPut result ⊎ (result ≡ status.Sink) → ForSome (e.seen old) (λ before. StandsAfter d (volume1 before) new new')
+  -- There rows and frames keep their numbers.
+  pub places : HasPut result ⊎ (result ≡ status.Sink) → ForSome (e.seen old) (λ before. IfState1 (volume1 before) (λ state. needed state ≤ d.block_count new → HasPlaces d before new new'))
   pub untouched : (result ≡ status.NoVolume) ⊎ ((result ≡ status.TooSmall) ⊎ (result ≡ status.Memory)) → new' ≡ new
   -- Nothing is ever written on the old disk.
   pub old_kept : WritesNothing e old old'
   -- Where memory was wanting, or a disk failed, nothing was put; a disk and the sink failed only where their counts rose.
   pub memory : result ≡ status.Memory → sink' ≡ sink
   pub disk_failed : result ≡ status.Disk → (CountRose d new new' ⊎ CountRose e old old') × (sink' ≡ sink)
-  -- Where the old disk failed alone, no call was made on the new one, or the copying had begun and it reads as no volume.
-  pub closed : result ≡ status.Disk → (CountRose d new new' → ⊥) → (new' ≡ new) ⊎ ForSome (d.seen new') (λ c. volume c ≡ NotVolume)
+  -- Where the old disk failed alone, no call was made on the new one, or the copying had begun and the gate of the new one is closed.
+  pub closed : result ≡ status.Disk → (CountRose d new new' → ⊥) → (new' ≡ new) ⊎ StandsClosed d new'
   pub sink_failed : result ≡ status.Sink → Rose (to.faults sink) (to.faults sink') (to.is_spent sink')
   -- Of a volume that the new disk is large enough for, where no call failed, all is done, or memory was wanting.
   pub complete : ForSome (e.seen old) (λ before. IfState1 (volume1 before) (λ state. needed state ≤ d.block_count new → (CountRose d new new' → ⊥) → (CountRose e old old' → ⊥)

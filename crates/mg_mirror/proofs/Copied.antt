@@ -1,5 +1,5 @@
 -- How a copy goes on, run by run.
-use Rattle.std.specs.Prelude.{◌≡◌, ◌<◌, ◌≤◌, ◌+◌, ◌-◌, [], ℕ, length, min, take, Option, Some, None}
+use Rattle.std.specs.Prelude.{◌≡◌, ◌<◌, ◌≤◌, ◌+◌, ◌-◌, [], ℕ, is_some, length, min, take, Option, Some, None}
 use Rattle.std.specs.Option.{ForSome}
 use Rattle.std.proofs.Common.{refl, sym, ap, subst, ◌∙◌, ⊎_elim, arith}
 use Rattle.std.proofs.lemmas.Bool.{cases_lt}
@@ -15,6 +15,13 @@ same_taken : (n : ℕ) (x y : Image) → n ≤ length x → n ≤ length y → (
 same_taken n x y long long' each =
     ext_get_or [] (take n y) (take n x) (length-take-le n y long' ∙ sym (length-take-le n x long))
     (λ k inside. let below : k < n = subst (λ m. k < m) (length-take-le n y long') inside in get_or-take n y k [] below ∙ each k below ∙ sym (get_or-take n x k [] below))
+
+-- what was told is told after a write, whatever it answers
+pub still_told : (places : ℕ → Type 0) (old new : Option Image) → SeenBut places old new → is_some new ≡ is_some old
+still_told places (Some x) (Some y) same = refl
+still_told places None None same = refl
+still_told places (Some x) None same = absurd same
+still_told places None (Some y) same = absurd same
 
 -- a run of blocks more
 module _ (n count : ℕ) (blocks : Image) (is : length blocks ≡ count) where

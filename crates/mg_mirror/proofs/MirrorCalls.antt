@@ -1,11 +1,15 @@
 -- A call of a mirror, from the calls of its sides.
-use Rattle.std.specs.Prelude.{◌≡◌, ◌⊎◌, ◌<◌, ◌&&◌, ℕ, List, Option, Some, None, option_map, slice_set}
-use Rattle.std.proofs.Common.{refl, sym, ap, ◌∙◌, subst, ⊎_elim}
-use Rattle.mg_disk.specs.Disk.{Image, Both, GoesOn, no_image, Torn}
+use Rattle.std.specs.Prelude.{◌≡◌, ◌≢◌, ◌⊎◌, ◌+◌, ◌-◌, ◌<◌, ◌≤◌, ◌&&◌, ℕ, List, [], get_or, length, min, take, Option, Some, None, option_map, slice_set}
+use Rattle.std.specs.Option.{ForSome}
+use Rattle.std.proofs.Common.{refl, sym, ap, ◌∙◌, subst, ⊎_elim, arith}
+use Rattle.std.proofs.Math.Nat.{min-le_left}
+use Rattle.std.proofs.lemmas.Bool.{cases_lt}
+use Rattle.std.proofs.lemmas.List.{ext_get_or, length-take}
+use Rattle.mg_disk.specs.Disk.{Image, Both, GoesOn, HasBlocks, InRange, SameBut, SeenBut, TornAt, block_at, no_image}
 use Rattle.mg_disk.specs.Stops.{TimeGoes}
 use Rattle.mg_disk.specs.Runs.{time_none}
 use Rattle.mg_disk.specs.declared.disk.Disk.{Ghosts}
-use Rattle.mg_mirror.specs.Mirror.{told_cut, seen_of, SameWhileBoth, moment_of, Been, LeftSince, IsToldAs, told_map, cut_set}
+use Rattle.mg_mirror.specs.Mirror.{told_cut, seen_of, SameWhileBoth, moment_of, Been, LeftSince, IsToldAs, told_map, both_told, cut_block, cut_but, cut_set}
 use Rattle.mg_mirror.specs.MirrorMoments.{Cuts, goes_then, goes_same, goes_alone, torn_left, torn_right}
 use Rattle.mg_mirror.specs.declared.mirror.Side.{Side}
 use Rattle.mg_mirror.specs.declared.mirror.Side.TheVariants.{Left, Right}
@@ -52,30 +56,30 @@ module _ {D E : Type 0} (d : Ghosts D) (e : Ghosts E) (n : ℕ) where
       (goes_alone n (d.tells_stops left' && e.tells_stops right') (d.moment left') (e.moment right') (d.has_been left') (e.has_been right') (d.left_since left') (e.left_since right') side left_been right_been)
       (λ x none. absurd none)
 
-  -- a write of both sides, of the left one, of the right one
-  pub write_both : (alone : Option Side) (left left' : D) (right right' : E) (i : ℕ) → alone ≡ None → d.tells_stops left' ≡ d.tells_stops left → e.tells_stops right' ≡ e.tells_stops right
-      → TimeGoes d left left' (Torn i (d.left_since left (d.moment left))) → TimeGoes e right right' (Torn i (e.left_since right (e.moment right))) → Goes alone alone left left' right right' (Torn i (LeftOf alone left right))
-  write_both alone left left' right right' i is p q a b =
-      subst (λ now. Goes now now left left' right right' (Torn i (LeftOf now left right))) (sym is)
-      (goes_along None left left' right right' (Torn i (d.left_since left (d.moment left))) (Torn i (e.left_since right (e.moment right))) (Torn i (LeftOf None left right)) p q a b
-      (torn_left n (d.tells_stops left && e.tells_stops right) (d.moment left) (e.moment right) (d.has_been left) (e.has_been right) (d.left_since left) (e.left_since right) i None tt)
-      (torn_right n (d.tells_stops left && e.tells_stops right) (d.moment left) (e.moment right) (d.has_been left) (e.has_been right) (d.left_since left) (e.left_since right) i None tt))
+  -- a write at some places of both sides, of the left one, of the right one
+  pub write_both : (alone : Option Side) (left left' : D) (right right' : E) (places : ℕ → Type 0) → alone ≡ None → d.tells_stops left' ≡ d.tells_stops left → e.tells_stops right' ≡ e.tells_stops right
+      → TimeGoes d left left' (TornAt places (d.left_since left (d.moment left))) → TimeGoes e right right' (TornAt places (e.left_since right (e.moment right))) → Goes alone alone left left' right right' (TornAt places (LeftOf alone left right))
+  write_both alone left left' right right' places is p q a b =
+      subst (λ now. Goes now now left left' right right' (TornAt places (LeftOf now left right))) (sym is)
+      (goes_along None left left' right right' (TornAt places (d.left_since left (d.moment left))) (TornAt places (e.left_since right (e.moment right))) (TornAt places (LeftOf None left right)) p q a b
+      (torn_left n (d.tells_stops left && e.tells_stops right) (d.moment left) (e.moment right) (d.has_been left) (e.has_been right) (d.left_since left) (e.left_since right) places None tt)
+      (torn_right n (d.tells_stops left && e.tells_stops right) (d.moment left) (e.moment right) (d.has_been left) (e.has_been right) (d.left_since left) (e.left_since right) places None tt))
 
-  pub write_left : (alone : Option Side) (left left' : D) (right : E) (i : ℕ) → alone ≡ Some Left → e.has_been right (e.moment right) → d.tells_stops left' ≡ d.tells_stops left
-      → TimeGoes d left left' (Torn i (d.left_since left (d.moment left))) → Goes alone alone left left' right right (Torn i (LeftOf alone left right))
-  write_left alone left left' right i is been p a =
-      subst (λ now. Goes now now left left' right right (Torn i (LeftOf now left right))) (sym is)
-      (goes_along (Some Left) left left' right right (Torn i (d.left_since left (d.moment left))) no_image (Torn i (LeftOf (Some Left) left right)) p refl a (time_none e right no_image been)
-      (torn_left n (d.tells_stops left && e.tells_stops right) (d.moment left) (e.moment right) (d.has_been left) (e.has_been right) (d.left_since left) (e.left_since right) i (Some Left) tt)
+  pub write_left : (alone : Option Side) (left left' : D) (right : E) (places : ℕ → Type 0) → alone ≡ Some Left → e.has_been right (e.moment right) → d.tells_stops left' ≡ d.tells_stops left
+      → TimeGoes d left left' (TornAt places (d.left_since left (d.moment left))) → Goes alone alone left left' right right (TornAt places (LeftOf alone left right))
+  write_left alone left left' right places is been p a =
+      subst (λ now. Goes now now left left' right right (TornAt places (LeftOf now left right))) (sym is)
+      (goes_along (Some Left) left left' right right (TornAt places (d.left_since left (d.moment left))) no_image (TornAt places (LeftOf (Some Left) left right)) p refl a (time_none e right no_image been)
+      (torn_left n (d.tells_stops left && e.tells_stops right) (d.moment left) (e.moment right) (d.has_been left) (e.has_been right) (d.left_since left) (e.left_since right) places (Some Left) tt)
       (λ x tells none. absurd none))
 
-  pub write_right : (alone : Option Side) (left : D) (right right' : E) (i : ℕ) → alone ≡ Some Right → d.has_been left (d.moment left) → e.tells_stops right' ≡ e.tells_stops right
-      → TimeGoes e right right' (Torn i (e.left_since right (e.moment right))) → Goes alone alone left left right right' (Torn i (LeftOf alone left right))
-  write_right alone left right right' i is been q b =
-      subst (λ now. Goes now now left left right right' (Torn i (LeftOf now left right))) (sym is)
-      (goes_along (Some Right) left left right right' no_image (Torn i (e.left_since right (e.moment right))) (Torn i (LeftOf (Some Right) left right)) refl q (time_none d left no_image been) b
+  pub write_right : (alone : Option Side) (left : D) (right right' : E) (places : ℕ → Type 0) → alone ≡ Some Right → d.has_been left (d.moment left) → e.tells_stops right' ≡ e.tells_stops right
+      → TimeGoes e right right' (TornAt places (e.left_since right (e.moment right))) → Goes alone alone left left right right' (TornAt places (LeftOf alone left right))
+  write_right alone left right right' places is been q b =
+      subst (λ now. Goes now now left left right right' (TornAt places (LeftOf now left right))) (sym is)
+      (goes_along (Some Right) left left right right' no_image (TornAt places (e.left_since right (e.moment right))) (TornAt places (LeftOf (Some Right) left right)) refl q (time_none d left no_image been) b
       (λ x tells none. absurd none)
-      (torn_right n (d.tells_stops left && e.tells_stops right) (d.moment left) (e.moment right) (d.has_been left) (e.has_been right) (d.left_since left) (e.left_since right) i (Some Right) tt))
+      (torn_right n (d.tells_stops left && e.tells_stops right) (d.moment left) (e.moment right) (d.has_been left) (e.has_been right) (d.left_since left) (e.left_since right) places (Some Right) tt))
 
   -- a call that writes nothing on the sides that it reaches
   pub quiet_along : (alone : Option Side) (left left' : D) (right right' : E) → d.tells_stops left' ≡ d.tells_stops left → e.tells_stops right' ≡ e.tells_stops right
@@ -119,3 +123,79 @@ same_after n i b alone l r l' r' inside same put put' none =
     cut_set n i b l r l' r' inside put (told_map (λ image. slice_set image i b) r r' put')
     ∙ ap (option_map (λ image. slice_set image i b)) (same none)
     ∙ sym (cut_set n i b r l r' l' inside put' (told_map (λ image. slice_set image i b) l l' put))
+
+-- Blocks that follow one another: what reads give of them, by the sides in use.
+module _ (n first : ℕ) (blocks : Image) where
+  has_cut : (l r : Option Image) → first + length blocks ≤ n → ForSome l (HasBlocks first blocks) → ForSome (told_cut n l r) (HasBlocks first blocks)
+  has_cut l r within has image is k below =
+      let b = both_told n l r image is in
+      ap (λ x. block_at x (first + k)) b.cut ∙ cut_block n (first + k) b.first (omega arith) ∙ has b.first b.first_is k below
+
+  pub has_left : (alone : Option Side) (l r : Option Image) → first + length blocks ≤ n → alone ≢ Some Right → ForSome l (HasBlocks first blocks) → ForSome (seen_of n alone l r) (HasBlocks first blocks)
+  has_left None l r within used has = has_cut l r within has
+  has_left (Some Left) l r within used has = has_cut l r within has
+  has_left (Some Right) l r within used has = absurd (used refl)
+
+  pub has_right : (alone : Option Side) (l r : Option Image) → first + length blocks ≤ n → alone ≢ Some Left → SameWhileBoth n alone l r → ForSome r (HasBlocks first blocks) → ForSome (seen_of n alone l r) (HasBlocks first blocks)
+  has_right None l r within used same has = λ image is. has_cut r l within has image (sym (same refl) ∙ is)
+  has_right (Some Right) l r within used same has = has_cut r l within has
+  has_right (Some Left) l r within used same has = absurd (used refl)
+
+  -- both sides still give the same after a write of both
+  cut_alike : (x y x' y' : Image) → take n x ≡ take n y → SameBut (InRange first (length blocks)) x x' → SameBut (InRange first (length blocks)) y y' → HasBlocks first blocks x' → HasBlocks first blocks y' → take n x' ≡ take n y'
+  cut_alike x y x' y' same on_x on_y put put' = ext_get_or [] (take n x') (take n y') long each
+    where
+      long : length (take n x') ≡ length (take n y')
+      long = length-take n x' ∙ ap (min n) on_x.count ∙ sym (length-take n x) ∙ ap length same ∙ length-take n y ∙ ap (min n) (sym on_y.count) ∙ sym (length-take n y')
+
+      here : (k : ℕ) → first ≤ k → k < first + length blocks → block_at x' k ≡ block_at y' k
+      here k low high =
+          let place : first + (k - first) ≡ k = omega arith in
+          let P : ℕ → Type 0 = λ j. block_at x' j ≡ block_at y' j in
+          subst P place (put (k - first) (omega arith) ∙ sym (put' (k - first) (omega arith)))
+
+      elsewhere : (k : ℕ) → k < n → (InRange first (length blocks) k → ⊥) → block_at x' k ≡ block_at y' k
+      elsewhere k below out = on_x.others k out ∙ sym (cut_block n k x below) ∙ ap (λ image. block_at image k) same ∙ cut_block n k y below ∙ sym (on_y.others k out)
+
+      at : (k : ℕ) → k < n → block_at x' k ≡ block_at y' k
+      at k below =
+          ⊎_elim (λ low. elsewhere k below (λ in_range. let from = in_range.from in omega arith))
+          (λ from. ⊎_elim (λ high. here k from high) (λ past. elsewhere k below (λ in_range. let before = in_range.before in omega arith)) (cases_lt k (first + length blocks))) (cases_lt k first)
+
+      each : (k : ℕ) → k < length (take n x') → get_or (take n x') k [] ≡ get_or (take n y') k []
+      each k inside =
+          let below : k < n = omega (arith, length-take n x', min-le_left n (length x')) in
+          cut_block n k x' below ∙ at k below ∙ sym (cut_block n k y' below)
+
+  pub alike_after : (alone : Option Side) (l r l' r' : Option Image) → SameWhileBoth n alone l r → SeenBut (InRange first (length blocks)) l l' → SeenBut (InRange first (length blocks)) r r'
+      → ForSome l' (HasBlocks first blocks) → ForSome r' (HasBlocks first blocks) → SameWhileBoth n alone l' r'
+  alike_after alone l r l' r' same on_l on_r put put' none = by_cases l r l' r' (same none) on_l on_r put put'
+    where
+      some_inj : (a b : Image) → Some a ≡ Some b → a ≡ b
+      some_inj a b is = cc
+
+      by_cases : (l r l' r' : Option Image) → told_cut n l r ≡ told_cut n r l → SeenBut (InRange first (length blocks)) l l' → SeenBut (InRange first (length blocks)) r r'
+          → ForSome l' (HasBlocks first blocks) → ForSome r' (HasBlocks first blocks) → told_cut n l' r' ≡ told_cut n r' l'
+      by_cases (Some x) (Some y) (Some x') (Some y') same on_l on_r put put' = ap (λ c. Some c) (cut_alike x y x' y' (some_inj (take n x) (take n y) same) on_l on_r (put x' refl) (put' y' refl))
+      by_cases (Some x) None (Some x') None same on_l on_r put put' = refl
+      by_cases None (Some y) None (Some y') same on_l on_r put put' = refl
+      by_cases None None None None same on_l on_r put put' = refl
+      by_cases (Some x) r None r' same on_l on_r put put' = absurd on_l
+      by_cases None r (Some x') r' same on_l on_r put put' = absurd on_l
+      by_cases l (Some y) l' None same on_l on_r put put' = absurd on_r
+      by_cases l None l' (Some y') same on_l on_r put put' = absurd on_r
+
+-- what reads give differs at these places alone where it does of a side in use
+module _ (n : ℕ) (places : ℕ → Type 0) where
+  pub but_left : (alone alone' : Option Side) (l r l' r' : Option Image) → alone ≢ Some Right → alone' ≢ Some Right → SeenBut places l l' → IsToldAs r r' → SeenBut places (seen_of n alone l r) (seen_of n alone' l' r')
+  but_left None None l r l' r' used still same like = cut_but n places l r l' r' same like
+  but_left None (Some Left) l r l' r' used still same like = cut_but n places l r l' r' same like
+  but_left (Some Left) None l r l' r' used still same like = cut_but n places l r l' r' same like
+  but_left (Some Left) (Some Left) l r l' r' used still same like = cut_but n places l r l' r' same like
+  but_left (Some Right) alone' l r l' r' used still same like = absurd (used refl)
+  but_left alone (Some Right) l r l' r' used still same like = absurd (still refl)
+
+  pub but_right : (alone : Option Side) (l r l' r' : Option Image) → alone ≢ Some Left → SameWhileBoth n alone l r → SeenBut places r r' → IsToldAs l l' → SeenBut places (seen_of n alone l r) (told_cut n r' l')
+  but_right None l r l' r' used both same like = subst (λ o. SeenBut places o (told_cut n r' l')) (sym (both refl)) (cut_but n places r l r' l' same like)
+  but_right (Some Right) l r l' r' used both same like = cut_but n places r l r' l' same like
+  but_right (Some Left) l r l' r' used both same like = absurd (used refl)

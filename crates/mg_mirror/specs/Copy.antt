@@ -1,5 +1,5 @@
 -- The first blocks of one image on another.
-use Rattle.std.specs.Prelude.{◌≡◌, ℕ, Bool, false, IsTrue, take, Option, Result, IfOk, OnErr}
+use Rattle.std.specs.Prelude.{◌≡◌, ℕ, Bool, false, IsTrue, is_some, take, Option, Result, IfOk, OnErr}
 use Rattle.std.specs.Option.{ForSome}
 use Rattle.mg_disk.specs.Disk.{Image}
 use Rattle.mg_disk.specs.Stops.{NothingPending, WritesNothing, CountGoes, CountRose}
@@ -19,6 +19,7 @@ pub record Copies {D E F : Type 0} (d : Ghosts D) (e : Ghosts E) (n : ℕ) (from
   pub to_blocks : e.block_count to' ≡ e.block_count to
   pub from_tells : d.tells_stops from' ≡ d.tells_stops from
   pub to_tells : e.tells_stops to' ≡ e.tells_stops to
+  pub to_told : is_some (e.seen to') ≡ is_some (e.seen to)
   pub from_count : CountGoes d from from'
   pub to_count : CountGoes e to to'
   pub to_cause : IfOk result (λ good. good ≡ false → CountRose e to to')

@@ -1,7 +1,8 @@
--- Definitions, in the order in which one reads them: what a mirror gives, its sides in each call, and its counts.
+-- Definitions, in the order in which one reads them: what a mirror gives, its sides in each call, its counts, and what opening gives.
 pub mod Mirror
 pub mod Sides
 pub mod Opened
+pub mod Opens
 pub mod Copy
 -- Lemmas that the disk of a mirror has to show.
 pub mod MirrorMoments

@@ -7,7 +7,7 @@ use Rattle.std.proofs.Math.Seq.{take-set-lt}
 use Rattle.std.proofs.lemmas.Bool.Decides.{leb_tells}
 use Rattle.std.proofs.lemmas.List.{length-take, get_or-take, get_or_past}
 use Rattle.std.proofs.lemmas.List.Elements.{All-take}
-use Rattle.mg_disk.specs.Disk.{Image, IsBytes, AreBytes, Moment, At, Both, Alone, block_at, SameBut, SeenBut, only_place, OnlySeen}
+use Rattle.mg_disk.specs.Disk.{Image, IsBytes, AreBytes, Moment, At, Both, Alone, block_at, SameBut, SeenBut, OnlySeen}
 use Rattle.mg_mirror.specs.declared.mirror.Side.{Side}
 use Rattle.mg_mirror.specs.declared.mirror.Side.TheVariants.{Left, Right}
 
@@ -133,14 +133,14 @@ same_cut n places x y same = record { count = length-take n y ∙ ap (min n) sam
             ∙ sym (get_or_past (take n x) k [] (omega (arith, length-take n x, min-le_left n (length x))))
 
 -- a write that failed on a side
-pub cut_but : (n i : ℕ) (l r l' r' : Option Image) → SeenBut (only_place i) l l' → IsToldAs r r' → SeenBut (only_place i) (told_cut n l r) (told_cut n l' r')
-cut_but n i (Some x) (Some y) (Some x') (Some y') same like = same_cut n (only_place i) x x' same
-cut_but n i (Some x) None (Some x') None same like = tt
-cut_but n i (Some x) (Some y) (Some x') None same like = absurd like
-cut_but n i (Some x) None (Some x') (Some y') same like = absurd like
-cut_but n i (Some x) r None r' same like = absurd same
-cut_but n i None r None r' same like = tt
-cut_but n i None r (Some x') r' same like = absurd same
+pub cut_but : (n : ℕ) (places : ℕ → Type 0) (l r l' r' : Option Image) → SeenBut places l l' → IsToldAs r r' → SeenBut places (told_cut n l r) (told_cut n l' r')
+cut_but n places (Some x) (Some y) (Some x') (Some y') same like = same_cut n places x x' same
+cut_but n places (Some x) None (Some x') None same like = tt
+cut_but n places (Some x) (Some y) (Some x') None same like = absurd like
+cut_but n places (Some x) None (Some x') (Some y') same like = absurd like
+cut_but n places (Some x) r None r' same like = absurd same
+cut_but n places None r None r' same like = tt
+cut_but n places None r (Some x') r' same like = absurd same
 
 -- a side that stands at what it tells, while the other tells too
 pub only_cut : (n : ℕ) (l r : Option Image) (images : Image → Type 0) (c : Image) → OnlySeen l images → (y : Image) → r ≡ Some y → CutOf n images c → told_cut n l r ≡ Some c

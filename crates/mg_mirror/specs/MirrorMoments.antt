@@ -1,7 +1,7 @@
 -- Time goes on for a mirror where it goes on for its sides.
 use Rattle.std.specs.Prelude.{◌≡◌, ◌⊎◌, ℕ, Bool, IsTrue, take, Option, Some, None, IsSomeAnd}
 use Rattle.std.proofs.Common.{refl, sym, ◌∙◌, subst, inl, inr, ⊎_elim}
-use Rattle.mg_disk.specs.Disk.{Image, Moment, At, Both, Alone, only_place, GoesOn, no_image, Torn, OnlySeen}
+use Rattle.mg_disk.specs.Disk.{Image, Moment, At, Both, Alone, GoesOn, no_image, TornAt, OnlySeen}
 use Rattle.mg_mirror.specs.Mirror.{told_cut, seen_of, moment_of, Been, CutOf, LeftSince, same_cut, only_cut}
 use Rattle.mg_mirror.specs.declared.mirror.Side.{Side}
 use Rattle.mg_mirror.specs.declared.mirror.Side.TheVariants.{Left, Right}
@@ -120,15 +120,15 @@ module _ (n : ℕ) (told : Bool) (l r : Moment) (lb rb : Moment → Type 0) (ls 
       now Right c left = inl (left.0, inr left.1)
 
   -- what is fresh at a write of a side is fresh at one of the mirror
-  pub torn_left : (i : ℕ) (alone : Option Side) → IsLeftInUse alone → Cuts n told (Torn i (ls l)) (Torn i (LeftSince n alone told ls rs (moment_of alone l r)))
-  torn_left i None used d tells t = (take n t.0, (tells, inl (record { whole = t.0; is_one = t.1; cut = refl })), same_cut n (only_place i) t.0 d t.2)
-  torn_left i (Some Left) used d tells t = (take n t.0, (tells, record { whole = t.0; is_one = t.1; cut = refl }), same_cut n (only_place i) t.0 d t.2)
-  torn_left i (Some Right) used d tells t = absurd used
+  pub torn_left : (places : ℕ → Type 0) (alone : Option Side) → IsLeftInUse alone → Cuts n told (TornAt places (ls l)) (TornAt places (LeftSince n alone told ls rs (moment_of alone l r)))
+  torn_left places None used d tells t = (take n t.0, (tells, inl (record { whole = t.0; is_one = t.1; cut = refl })), same_cut n places t.0 d t.2)
+  torn_left places (Some Left) used d tells t = (take n t.0, (tells, record { whole = t.0; is_one = t.1; cut = refl }), same_cut n places t.0 d t.2)
+  torn_left places (Some Right) used d tells t = absurd used
 
-  pub torn_right : (i : ℕ) (alone : Option Side) → IsRightInUse alone → Cuts n told (Torn i (rs r)) (Torn i (LeftSince n alone told ls rs (moment_of alone l r)))
-  torn_right i None used d tells t = (take n t.0, (tells, inr (record { whole = t.0; is_one = t.1; cut = refl })), same_cut n (only_place i) t.0 d t.2)
-  torn_right i (Some Right) used d tells t = (take n t.0, (tells, record { whole = t.0; is_one = t.1; cut = refl }), same_cut n (only_place i) t.0 d t.2)
-  torn_right i (Some Left) used d tells t = absurd used
+  pub torn_right : (places : ℕ → Type 0) (alone : Option Side) → IsRightInUse alone → Cuts n told (TornAt places (rs r)) (TornAt places (LeftSince n alone told ls rs (moment_of alone l r)))
+  torn_right places None used d tells t = (take n t.0, (tells, inr (record { whole = t.0; is_one = t.1; cut = refl })), same_cut n places t.0 d t.2)
+  torn_right places (Some Right) used d tells t = (take n t.0, (tells, record { whole = t.0; is_one = t.1; cut = refl }), same_cut n places t.0 d t.2)
+  torn_right places (Some Left) used d tells t = absurd used
 
   -- the laws of the trait
   pub been_now : (alone : Option Side) → lb l → rb r → Been alone lb rb (moment_of alone l r)

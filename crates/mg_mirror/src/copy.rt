@@ -1,5 +1,5 @@
 // A copy of one disk's first blocks on another.
-ghost use Rattle.std.specs.Prelude.{◌≡◌, ◌+◌, ◌≤◌, false, IfOk, IsTrue, OnErr, length};
+ghost use Rattle.std.specs.Prelude.{◌≡◌, ◌+◌, ◌≤◌, false, IfOk, IsTrue, OnErr, is_some, length};
 ghost use Rattle.std.specs.Option.{ForSome};
 ghost use Rattle.mg_disk.specs.Disk.{HasBlocks};
 ghost use Rattle.mg_disk.specs.Stops.{NothingPending, WritesNothing, CountGoes, CountRose};
@@ -72,6 +72,7 @@ fn copy_run<D: Disk, E: Disk>(
     ensures to_blocks { E.block_count to.new ≡ E.block_count to.old }
     ensures from_tells { D.tells_stops from.new ≡ D.tells_stops from.old }
     ensures to_tells { E.tells_stops to.new ≡ E.tells_stops to.old }
+    ensures to_told { is_some (E.seen to.new) ≡ is_some (E.seen to.old) }
     ensures from_count { CountGoes D.Disk from.old from.new }
     ensures to_count { CountGoes E.Disk to.old to.new }
     ensures to_cause { IfOk result (λ good. good ≡ false → CountRose E.Disk to.old to.new) }

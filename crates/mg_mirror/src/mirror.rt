@@ -1,8 +1,8 @@
 // One disk of two.
-ghost use Rattle.std.specs.Prelude.{◌≡◌, ◌≢◌, ◌<◌, ◌≤◌, ℕ, min, Some, ◌&&◌, None, take, option_map, slice_set, length, IfOk, IfErr, OnOk, OnErr};
+ghost use Rattle.std.specs.Prelude.{◌≡◌, ◌+◌, ◌<◌, ◌≤◌, ℕ, Some, ◌&&◌, option_map, slice_set, length, OnOk, OnErr};
 ghost use Rattle.std.specs.Option.{ForSome};
 ghost use Rattle.mg_disk.specs.Stops.{NothingPending, WritesNothing, TimeGoes, CountGoes, CountRose};
-ghost use Rattle.mg_disk.specs.Disk.{HasBlocks, SeenBut, Torn, block_at, no_image, only_place};
+ghost use Rattle.mg_disk.specs.Disk.{HasBlocks, InRange, SeenBut, Torn, TornAt, block_at, no_image, only_place};
 ghost use Rattle.mg_disk.specs.Calls.{IsWrite, IsSync};
 ghost use Rattle.mg_mirror.specs.Sides.{FailsWithSides, ReadsSides, DropsSides};
 ghost use Rattle.mg_mirror.specs.declared.mirror.Side.{Side};
@@ -68,26 +68,15 @@ pub struct MirrorFailed<D: Disk, E: Disk> {
 }
 
 impl<D: Disk, E: Disk, K: Opened> Mirror<D, E, K> {
+    ghost use Rattle.mg_mirror.specs.Opens.{Opens};
+
     /// Opens a mirror with what the disk on the side `from` has, whose first blocks are read and written to the other.
-    /// It fails where `from` does; where the other fails, the mirror stands alone on `from`. `K` has the counts of both disks.
+    /// It fails where `from` does; where the other fails, the mirror stands alone on `from`. Its reads are told where those of both
+    /// disks are. `K` has the counts of both disks.
     pub fn open(left: D, right: E, from: Side) -> Result<Mirror<D, E, K>, MirrorFailed<D, E>>
         requires left_faults { D.faults left ≡ K.left_faults }
         requires right_faults { E.faults right ≡ K.right_faults }
-        ensures left_reads { from ≡ Side.Left → IfOk result (λ m. ForSome (⟦<Mirror<D, E, K> as Disk>⟧.seen m) (λ image. ForSome (D.seen left) (λ x. image ≡ take (⟦<Mirror<D, E, K> as Disk>⟧.block_count m) x))) }
-        ensures right_reads { from ≡ Side.Right → IfOk result (λ m. ForSome (⟦<Mirror<D, E, K> as Disk>⟧.seen m) (λ image. ForSome (E.seen right) (λ x. image ≡ take (⟦<Mirror<D, E, K> as Disk>⟧.block_count m) x))) }
-        ensures left_settled { from ≡ Side.Left → IfOk result (λ m. NothingPending D.Disk left → NothingPending ⟦<Mirror<D, E, K> as Disk>⟧ m) }
-        ensures right_settled { from ≡ Side.Right → IfOk result (λ m. NothingPending E.Disk right → NothingPending ⟦<Mirror<D, E, K> as Disk>⟧ m) }
-        ensures no_faults { IfOk result (λ m. ⟦<Mirror<D, E, K> as Disk>⟧.faults m ≡ 0) }
-        ensures blocks { IfOk result (λ m. ⟦<Mirror<D, E, K> as Disk>⟧.block_count m ≡ min (D.block_count left) (E.block_count right)) }
-        ensures tells { IfOk result (λ m. ⟦<Mirror<D, E, K> as Disk>⟧.tells_stops m ≡ (D.tells_stops left && E.tells_stops right)) }
-        ensures left_serves { from ≡ Side.Left → IfOk result (λ m. m.alone ≢ Some Side.Right) }
-        ensures right_serves { from ≡ Side.Right → IfOk result (λ m. m.alone ≢ Some Side.Left) }
-        ensures left_kept { from ≡ Side.Left → IfOk result (λ m. WritesNothing D.Disk left m.left) }
-        ensures right_kept { from ≡ Side.Right → IfOk result (λ m. WritesNothing E.Disk right m.right) }
-        ensures left_back { from ≡ Side.Left → IfErr result (λ e. WritesNothing D.Disk left e.left) }
-        ensures right_back { from ≡ Side.Right → IfErr result (λ e. WritesNothing E.Disk right e.right) }
-        ensures left_cause { from ≡ Side.Left → IfErr result (λ e. CountRose D.Disk left e.left) }
-        ensures right_cause { from ≡ Side.Right → IfErr result (λ e. CountRose E.Disk right e.right) }
+        ensures opens { Opens D.Disk E.Disk K.Opened ⟦<Mirror<D, E, K> as Disk>⟧ from left right result }
     {
         Mirror::open_behind(left, right, from, &[])
     }
@@ -106,21 +95,7 @@ impl<D: Disk, E: Disk, K: Opened> Mirror<D, E, K> {
         requires right_first { from ≡ Side.Right → ForSome (E.seen right) (HasBlocks 0 first.now) }
         requires left_long { length first.now ≤ D.block_count left }
         requires right_long { length first.now ≤ E.block_count right }
-        ensures left_reads { from ≡ Side.Left → IfOk result (λ m. ForSome (⟦<Mirror<D, E, K> as Disk>⟧.seen m) (λ image. ForSome (D.seen left) (λ x. image ≡ take (⟦<Mirror<D, E, K> as Disk>⟧.block_count m) x))) }
-        ensures right_reads { from ≡ Side.Right → IfOk result (λ m. ForSome (⟦<Mirror<D, E, K> as Disk>⟧.seen m) (λ image. ForSome (E.seen right) (λ x. image ≡ take (⟦<Mirror<D, E, K> as Disk>⟧.block_count m) x))) }
-        ensures left_settled { from ≡ Side.Left → IfOk result (λ m. NothingPending D.Disk left → NothingPending ⟦<Mirror<D, E, K> as Disk>⟧ m) }
-        ensures right_settled { from ≡ Side.Right → IfOk result (λ m. NothingPending E.Disk right → NothingPending ⟦<Mirror<D, E, K> as Disk>⟧ m) }
-        ensures no_faults { IfOk result (λ m. ⟦<Mirror<D, E, K> as Disk>⟧.faults m ≡ 0) }
-        ensures blocks { IfOk result (λ m. ⟦<Mirror<D, E, K> as Disk>⟧.block_count m ≡ min (D.block_count left) (E.block_count right)) }
-        ensures tells { IfOk result (λ m. ⟦<Mirror<D, E, K> as Disk>⟧.tells_stops m ≡ (D.tells_stops left && E.tells_stops right)) }
-        ensures left_serves { from ≡ Side.Left → IfOk result (λ m. m.alone ≢ Some Side.Right) }
-        ensures right_serves { from ≡ Side.Right → IfOk result (λ m. m.alone ≢ Some Side.Left) }
-        ensures left_kept { from ≡ Side.Left → IfOk result (λ m. WritesNothing D.Disk left m.left) }
-        ensures right_kept { from ≡ Side.Right → IfOk result (λ m. WritesNothing E.Disk right m.right) }
-        ensures left_back { from ≡ Side.Left → IfErr result (λ e. WritesNothing D.Disk left e.left) }
-        ensures right_back { from ≡ Side.Right → IfErr result (λ e. WritesNothing E.Disk right e.right) }
-        ensures left_cause { from ≡ Side.Left → IfErr result (λ e. CountRose D.Disk left e.left) }
-        ensures right_cause { from ≡ Side.Right → IfErr result (λ e. CountRose E.Disk right e.right) }
+        ensures opens { Opens D.Disk E.Disk K.Opened ⟦<Mirror<D, E, K> as Disk>⟧ from left right result }
     {
         let (mut left, mut right) = (left, right);
         let blocks = left.blocks().min(right.blocks());
@@ -277,6 +252,100 @@ impl<D: Disk, E: Disk, K: Opened> Disk for Mirror<D, E, K> {
                 }
             },
             Some(Side::Right) => match self.right.write(i, from) {
+                Ok(()) => Ok(()),
+                Err(e) => {
+                    self.count.raise();
+                    Err(e)
+                }
+            },
+        }
+    }
+
+    /// The left side gives all of them, or the right one where a call of the left one failed in them.
+    fn read_blocks(&mut self, first: u64, out: &mut [Block]) -> Result<(), Failed>
+        requires in_range { first + length out.old ≤ ⟦<Mirror<D, E, K> as Disk>⟧.block_count self.old }
+        ensures read { OnOk result (ForSome (⟦<Mirror<D, E, K> as Disk>⟧.seen self.old) (HasBlocks first out.new)) }
+        ensures same_length { length out.new ≡ length out.old }
+        ensures seen { ⟦<Mirror<D, E, K> as Disk>⟧.seen self.new ≡ ⟦<Mirror<D, E, K> as Disk>⟧.seen self.old }
+        ensures stops { TimeGoes ⟦<Mirror<D, E, K> as Disk>⟧ self.old self.new no_image }
+        ensures blocks { ⟦<Mirror<D, E, K> as Disk>⟧.block_count self.new ≡ ⟦<Mirror<D, E, K> as Disk>⟧.block_count self.old }
+        ensures tells { ⟦<Mirror<D, E, K> as Disk>⟧.tells_stops self.new ≡ ⟦<Mirror<D, E, K> as Disk>⟧.tells_stops self.old }
+        ensures count { CountGoes ⟦<Mirror<D, E, K> as Disk>⟧ self.old self.new }
+        ensures cause { OnErr result (CountRose ⟦<Mirror<D, E, K> as Disk>⟧ self.old self.new) }
+        ensures fails { FailsWithSides D.Disk E.Disk self.old.alone self.old.left self.new.left self.old.right self.new.right result }
+        ensures sides { ReadsSides D.Disk self.old.alone self.new.alone self.old.left self.new.left self.old.right self.new.right }
+    {
+        match self.alone {
+            None => match self.left.read_blocks(first, out) {
+                Ok(()) => Ok(()),
+                Err(_) => match self.right.read_blocks(first, out) {
+                    Ok(()) => Ok(()),
+                    Err(e) => {
+                        self.count.raise();
+                        Err(e)
+                    }
+                },
+            },
+            Some(Side::Left) => match self.left.read_blocks(first, out) {
+                Ok(()) => Ok(()),
+                Err(e) => {
+                    self.count.raise();
+                    Err(e)
+                }
+            },
+            Some(Side::Right) => match self.right.read_blocks(first, out) {
+                Ok(()) => Ok(()),
+                Err(e) => {
+                    self.count.raise();
+                    Err(e)
+                }
+            },
+        }
+    }
+
+    /// Each side in use puts all of them.
+    fn write_blocks(&mut self, first: u64, from: &[Block]) -> Result<(), Failed>
+        requires in_range { first + length from.now ≤ ⟦<Mirror<D, E, K> as Disk>⟧.block_count self.old }
+        ensures written { OnOk result (ForSome (⟦<Mirror<D, E, K> as Disk>⟧.seen self.new) (HasBlocks first from.now)) }
+        ensures unknown { SeenBut (InRange first (length from.now)) (⟦<Mirror<D, E, K> as Disk>⟧.seen self.old) (⟦<Mirror<D, E, K> as Disk>⟧.seen self.new) }
+        ensures stops { TimeGoes ⟦<Mirror<D, E, K> as Disk>⟧ self.old self.new
+            (TornAt (InRange first (length from.now)) (⟦<Mirror<D, E, K> as Disk>⟧.left_since self.old (⟦<Mirror<D, E, K> as Disk>⟧.moment self.old))) }
+        ensures blocks { ⟦<Mirror<D, E, K> as Disk>⟧.block_count self.new ≡ ⟦<Mirror<D, E, K> as Disk>⟧.block_count self.old }
+        ensures tells { ⟦<Mirror<D, E, K> as Disk>⟧.tells_stops self.new ≡ ⟦<Mirror<D, E, K> as Disk>⟧.tells_stops self.old }
+        ensures count { CountGoes ⟦<Mirror<D, E, K> as Disk>⟧ self.old self.new }
+        ensures cause { OnErr result (CountRose ⟦<Mirror<D, E, K> as Disk>⟧ self.old self.new) }
+        ensures fails { FailsWithSides D.Disk E.Disk self.old.alone self.old.left self.new.left self.old.right self.new.right result }
+        ensures sides { DropsSides D.Disk E.Disk self.old.alone self.new.alone self.old.left self.new.left self.old.right self.new.right result }
+    {
+        match self.alone {
+            None => {
+                let left = self.left.write_blocks(first, from);
+                let right = self.right.write_blocks(first, from);
+                match (left, right) {
+                    (Ok(()), Ok(())) => Ok(()),
+                    (Ok(()), Err(_)) => {
+                        self.alone = Some(Side::Left);
+                        Ok(())
+                    }
+                    (Err(_), Ok(())) => {
+                        self.alone = Some(Side::Right);
+                        Ok(())
+                    }
+                    (Err(_), Err(e)) => {
+                        self.alone = Some(Side::Left);
+                        self.count.raise();
+                        Err(e)
+                    }
+                }
+            }
+            Some(Side::Left) => match self.left.write_blocks(first, from) {
+                Ok(()) => Ok(()),
+                Err(e) => {
+                    self.count.raise();
+                    Err(e)
+                }
+            },
+            Some(Side::Right) => match self.right.write_blocks(first, from) {
                 Ok(()) => Ok(()),
                 Err(e) => {
                     self.count.raise();

@@ -1,14 +1,12 @@
 -- A mirror that was opened, as the promise speaks of it.
 use Rattle.std.specs.Prelude.{ℕ, ◌≡◌, ◌≢◌, ◌&&◌, Bool, true, false, IsTrue, min, take, option_map, Option, Some, None, IsSomeAnd}
-use Rattle.std.specs.Option.{ForSome}
 use Rattle.std.proofs.Common.{refl, sym, subst, ◌∙◌, ap}
 use Rattle.mg_disk.specs.Disk.{Image}
 use Rattle.mg_disk.specs.Runs.{nothing_none, nothing_then, still_seen}
 use Rattle.mg_disk.specs.Stops.{CountGoes, NothingPending, WritesNothing}
 use Rattle.mg_disk.specs.declared.disk.Disk as disks
 use Rattle.mg_faults.specs.Faults.{count_none}
-use Rattle.mg_mirror.specs.Mirror.{and_left, and_right}
-use Rattle.mg_mirror.specs.MirrorMoments.{seen_stays}
+use Rattle.mg_mirror.specs.Mirror.{told_cut}
 use Rattle.mg_mirror.specs.declared.mirror.Mirror.{Mirror}
 use Rattle.mg_mirror.specs.declared.mirror.Opened as counts
 use Rattle.mg_mirror.specs.declared.mirror.Side.{Side}
@@ -36,42 +34,32 @@ from_side : (from : Side) (P Q R : Type 0) → (from ≡ Left → P → R) → (
 from_side Left P Q R p q h = p refl h
 from_side Right P Q R p q h = q refl h
 
--- where both are told, one is the other's first blocks
-told_first : (n : ℕ) (o p : Option Image) (P Q : Image → Type 0) → IsSomeAnd o P → IsSomeAnd p Q → ForSome o (λ image. ForSome p (λ x. image ≡ take n x)) → o ≡ option_map (take n) p
-told_first n (Some image) (Some x) P Q o p first = ap (λ v. Some v) (first image refl x refl)
-told_first n None p P Q o q first = absurd o
-told_first n (Some image) None P Q o q first = absurd q
+-- where both are told, the first blocks of the one are
+both_told : (n : ℕ) (o p : Option Image) (P Q : Image → Type 0) → IsSomeAnd o P → IsSomeAnd p Q → told_cut n o p ≡ option_map (take n) o
+both_told n (Some x) (Some y) P Q o p = refl
+both_told n None p P Q o q = absurd o
+both_told n (Some x) None P Q o q = absurd q
 
 module _ {D E : Type 0} (d : disks.Ghosts D) (e : disks.Ghosts E) (left_stays : (disk : D) → IsTrue (d.tells_stops disk) → IsSomeAnd (d.seen disk) (d.left_since disk (d.moment disk)))
     (right_stays : (disk : E) → IsTrue (e.tells_stops disk) → IsSomeAnd (e.seen disk) (e.left_since disk (e.moment disk))) where
-  -- a mirror tells what reads give where both disks tell what a stop leaves
-  mirror_stays : (m : Two D E) → IsTrue (d.tells_stops m.left && e.tells_stops m.right) → IsSomeAnd ((mirror d e).seen m) ((mirror d e).left_since m ((mirror d e).moment m))
-  mirror_stays m told = seen_stays m.blocks (d.tells_stops m.left && e.tells_stops m.right) (d.moment m.left) (e.moment m.right) (d.has_been m.left) (e.has_been m.right) (d.left_since m.left) (e.left_since m.right)
-      m.alone (d.seen m.left) (e.seen m.right) (λ t. left_stays m.left (and_left _ _ t)) (λ t. right_stays m.right (and_right (d.tells_stops m.left) _ t)) told
-
   pub opened_from : (from : Side) (left : D) (right : E) (opened : Two D E)
-      → (from ≡ Left → ForSome ((mirror d e).seen opened) (λ image. ForSome (d.seen left) (λ x. image ≡ take opened.blocks x)))
-      → (from ≡ Right → ForSome ((mirror d e).seen opened) (λ image. ForSome (e.seen right) (λ x. image ≡ take opened.blocks x)))
+      → (from ≡ Left → (mirror d e).seen opened ≡ told_cut opened.blocks (d.seen left) (e.seen right)) → (from ≡ Right → (mirror d e).seen opened ≡ told_cut opened.blocks (e.seen right) (d.seen left))
       → (from ≡ Left → NothingPending d left → NothingPending (mirror d e) opened) → (from ≡ Right → NothingPending e right → NothingPending (mirror d e) opened)
-      → opened.blocks ≡ min (d.block_count left) (e.block_count right) → (d.tells_stops opened.left && e.tells_stops opened.right) ≡ (d.tells_stops left && e.tells_stops right)
-      → (from ≡ Left → opened.alone ≢ Some Right) → (from ≡ Right → opened.alone ≢ Some Left)
+      → opened.blocks ≡ min (d.block_count left) (e.block_count right) → (from ≡ Left → opened.alone ≢ Some Right) → (from ≡ Right → opened.alone ≢ Some Left)
       → (from ≡ Left → WritesNothing d left opened.left) → (from ≡ Right → WritesNothing e right opened.right) → IsOpenedFrom d e from left right opened
-  opened_from from left right opened left_reads right_reads left_settled right_settled blocks tells left_serves right_serves left_kept right_kept = record {
+  opened_from from left right opened left_reads right_reads left_settled right_settled blocks left_serves right_serves left_kept right_kept = record {
     blocks = blocks;
+    told = of_side from _ _ left_reads right_reads;
     reads = reads from left_reads right_reads;
     serves = of_side from _ _ left_serves right_serves;
     kept = of_side from _ _ left_kept right_kept;
     settled = from_side from _ _ _ left_settled right_settled;
   }
     where
-      told : IsTrue (d.tells_stops left) → IsTrue (e.tells_stops right) → IsSomeAnd ((mirror d e).seen opened) ((mirror d e).left_since opened ((mirror d e).moment opened))
-      told l r = mirror_stays opened (tells ∙ and_true (d.tells_stops left) (e.tells_stops right) l r)
-
-      reads : (from : Side) → (from ≡ Left → ForSome ((mirror d e).seen opened) (λ image. ForSome (d.seen left) (λ x. image ≡ take opened.blocks x)))
-          → (from ≡ Right → ForSome ((mirror d e).seen opened) (λ image. ForSome (e.seen right) (λ x. image ≡ take opened.blocks x)))
+      reads : (from : Side) → (from ≡ Left → (mirror d e).seen opened ≡ told_cut opened.blocks (d.seen left) (e.seen right)) → (from ≡ Right → (mirror d e).seen opened ≡ told_cut opened.blocks (e.seen right) (d.seen left))
           → IsTrue (d.tells_stops left) → IsTrue (e.tells_stops right) → (mirror d e).seen opened ≡ option_map (take opened.blocks) (seen_on d e from left right)
-      reads Left on_left on_right l r = told_first opened.blocks ((mirror d e).seen opened) (d.seen left) _ _ (told l r) (left_stays left l) (on_left refl)
-      reads Right on_left on_right l r = told_first opened.blocks ((mirror d e).seen opened) (e.seen right) _ _ (told l r) (right_stays right r) (on_right refl)
+      reads Left on_left on_right l r = on_left refl ∙ both_told opened.blocks (d.seen left) (e.seen right) _ _ (left_stays left l) (right_stays right r)
+      reads Right on_left on_right l r = on_right refl ∙ both_told opened.blocks (e.seen right) (d.seen left) _ _ (right_stays right r) (left_stays left l)
 
 -- a disk that was read, or left alone
 pub record OnlyRead {D : Type 0} (d : disks.Ghosts D) (old new : D) : Type 0 where
@@ -97,11 +85,17 @@ module _ {D E : Type 0} (d : disks.Ghosts D) (e : disks.Ghosts E) (left left' : 
   opened_since from opened opens = record {
     blocks = opens.blocks ∙ same_blocks;
     reads = λ l r. opens.reads (on_left.tells ∙ l) (on_right.tells ∙ r) ∙ ap (option_map (take opened.blocks)) (same_seen from);
+    told = told from opens.told;
     serves = opens.serves;
     kept = kept from opens.kept;
     settled = settled from opens.settled;
   }
     where
+      told : (from : Side) → OfSide from ((mirror d e).seen opened ≡ told_cut opened.blocks (d.seen left') (e.seen right')) ((mirror d e).seen opened ≡ told_cut opened.blocks (e.seen right') (d.seen left'))
+          → OfSide from ((mirror d e).seen opened ≡ told_cut opened.blocks (d.seen left) (e.seen right)) ((mirror d e).seen opened ≡ told_cut opened.blocks (e.seen right) (d.seen left))
+      told Left h = h ∙ ap (λ o. told_cut opened.blocks o (e.seen right')) on_left.writes.same ∙ ap (told_cut opened.blocks (d.seen left)) on_right.writes.same
+      told Right h = h ∙ ap (λ o. told_cut opened.blocks o (d.seen left')) on_right.writes.same ∙ ap (told_cut opened.blocks (e.seen right)) on_left.writes.same
+
       kept : (from : Side) → OfSide from (WritesNothing d left' opened.left) (WritesNothing e right' opened.right) → OfSide from (WritesNothing d left opened.left) (WritesNothing e right opened.right)
       kept Left h = nothing_then d left left' opened.left on_left.writes h
       kept Right h = nothing_then e right right' opened.right on_right.writes h

@@ -10,7 +10,7 @@ use Rattle.mg_io.specs.Known.{AppendsPrefix}
 use Rattle.mg_io.specs.declared.traits.Sink as sinks
 use Rattle.mg_io.specs.declared.traits.Source as sources
 use Rattle.mg_layout.specs.MayFormat.{IsNoState}
-use Rattle.mg_mirror.specs.Mirror.{CutOf}
+use Rattle.mg_mirror.specs.Mirror.{CutOf, told_cut}
 use Rattle.mg_mirror.specs.declared.mirror.Side.{Side}
 use Rattle.mg_mirror.specs.declared.mirror.Side.TheVariants.{Left, Right}
 use Rattle.mg_mirror_session.specs.Judged.{first_fault}
@@ -44,7 +44,9 @@ seen_behind d e from left right = option_map (take (min (d.block_count left) (e.
 pub record IsOpenedFrom {D E : Type 0} (d : disks.Ghosts D) (e : disks.Ghosts E) (from : Side) (left : D) (right : E) (opened : Two D E) : Type 0 where
   -- It has as many blocks as the smaller disk.
   pub blocks : opened.blocks ≡ min (d.block_count left) (e.block_count right)
-  -- Where both disks tell, its reads give the first blocks of that disk.
+  -- Its reads are told exactly where those of both disks are, whether or not stops are: they give the first blocks of that disk.
+  pub told : OfSide from ((mirror d e).seen opened ≡ told_cut opened.blocks (d.seen left) (e.seen right)) ((mirror d e).seen opened ≡ told_cut opened.blocks (e.seen right) (d.seen left))
+  -- So they do where both disks tell of stops.
   pub reads : IsTrue (d.tells_stops left) → IsTrue (e.tells_stops right) → (mirror d e).seen opened ≡ option_map (take opened.blocks) (seen_on d e from left right)
   -- That disk is in use, and nothing was written on it.
   pub serves : OfSide from (opened.alone ≢ Some Right) (opened.alone ≢ Some Left)

@@ -3,7 +3,7 @@ use Rattle.std.specs.Option.{ForSome}
 use Rattle.std.proofs.lemmas.Result.{on_ok_weaker}
 use Rattle.mg_disk.specs.Disk.{Image, SeenBut, only_place}
 use Rattle.mg_journal.specs.ResultLemmas.{on_ok_both}
-use Rattle.mg_migrate.proofs.CopySteps.{all_made, first_phase, second_phase, seen_closed, seen_then, third_phase}
+use Rattle.mg_migrate.proofs.CopySteps.{all_made, first_phase, second_phase, seen_then, stands_closed, third_phase}
 use Rattle.mg_model.specs.Layout.{gate_block, gate_open}
 use Rattle.mg_model.specs.Volume.{gate_byte}
 use Rattle.mg_migrate.proofs.copying.copy.Goals as goal
@@ -22,7 +22,8 @@ returns-in_err-copy_behind-clause-any_moment g c pending image told r read =
 
 pub returns-in_err-copy_behind-clause-closed : goal.returns-in_err-copy_behind-clause-closed
 returns-in_err-copy_behind-clause-closed g c is =
-    seen_closed (g.D.Disk.seen c.write_gate.new.new) (g.D.Disk.seen c.copy_behind.new.new) c.copy_behind.ensures.seen c.in_ok-write_gate.ensures.byte
+    stands_closed g.D.Disk c.write_gate.new.new c.copy_behind.new.new (g.met.D.Disk.only_told c.copy_behind.new.new) (g.met.D.Disk.seen_may_stay c.copy_behind.new.new) c.copy_behind.ensures.seen
+    c.in_ok-write_gate.ensures.byte c.in_ok-write_gate.ensures.settled (c.copy_behind.ensures.any_moment c.in_ok-write_gate.ensures.settled)
 
 pub returns-clause-any_moment : goal.returns-clause-any_moment
 returns-clause-any_moment g c pending image told r read =

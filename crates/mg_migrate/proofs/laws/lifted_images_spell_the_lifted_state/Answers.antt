@@ -1,4 +1,4 @@
-use Rattle.mg_migrate.proofs.LiftedBlocks.{replay-lifted}
+use Rattle.mg_migrate.proofs.LiftedBlocks.{keeps-places, replay-lifted}
 use Rattle.mg_migrate.proofs.LiftedState.{replayed-lifted}
 use Rattle.mg_migrate.proofs.LiftedVolume.{volume-lifted}
 use Rattle.mg_migrate.proofs.Volume1Reads.{replayed1-is}
@@ -6,6 +6,9 @@ use Rattle.mg_migrate.proofs.laws.lifted_images_spell_the_lifted_state.Goals as 
 
 pub returns-clause-replayed : goal.returns-clause-replayed
 returns-clause-replayed c = replay-lifted
+
+pub returns-clause-places : goal.returns-clause-places
+returns-clause-places c = keeps-places
 
 pub returns-clause-lift : goal.returns-clause-lift
 returns-clause-lift c = replayed-lifted

@@ -1,6 +1,6 @@
 use Rattle.std.proofs.Common.{inl, refl, ⊎_elim}
 use Rattle.mg_migrate.specs.Version1.{volume1}
-use Rattle.mg_migrate_session.proofs.Endings.{migrated, told_keeps}
+use Rattle.mg_migrate_session.proofs.Endings.{every_state1, migrated, told_keeps}
 use Rattle.mg_migrate_session.proofs.Faults.{fault_keeps}
 use Rattle.mg_session.specs.Headline.{summary_line}
 use Rattle.mg_serve.specs.declared.status.Status.TheVariants as status
@@ -14,6 +14,7 @@ returns-in-Ok g c =
     let m = c.in-Ok.ensures in
     told_keeps d g.E.Disk g.K.Sink c.put_summary.result new new' c.args.old.now c.migrate.new.old c.args.sink.now c.put_summary.new.sink m.any_moment m.old_kept status.Done (summary_line c.in-Ok.summary) (inl refl) (c.in-Ok.summary, refl)
     (λ before is. migrated d c.in-Ok.summary new new' (volume1 before) (m.told before is) (m.made before is) (m.left before is) m.settled)
+    (λ before is. every_state1 (volume1 before) _ (λ state room. record { reads = m.places before is; left = m.left_places before is }))
     (λ none. absurd (⊎_elim (λ e. cc) (λ e. cc) none)) c.put_summary.ensures.ends c.put_summary.ensures.put c.put_summary.ensures.prefix c.put_summary.ensures.sink
 
 pub returns-in-Err : goal.returns-in-Err

@@ -19,6 +19,7 @@ loop-next-preserved g c =
       to_blocks = told.to_blocks ∙ inv.to_blocks;
       from_tells = told.from_tells ∙ inv.from_tells;
       to_tells = told.to_tells ∙ inv.to_tells;
+      to_told = told.to_told ∙ inv.to_told;
       from_count = search rules;
       to_count = search rules;
     }
@@ -37,6 +38,7 @@ loop-next-init g c =
       to_blocks = refl;
       from_tells = refl;
       to_tells = refl;
+      to_told = refl;
       from_count = search rules;
       to_count = search rules;
     }
@@ -51,6 +53,7 @@ returns g c = record {
     to_blocks = search rules;
     from_tells = search rules;
     to_tells = search rules;
+    to_told = search rules;
     from_count = search rules;
     to_count = search rules;
     to_cause = search rules;

@@ -1,4 +1,4 @@
-use Rattle.std.proofs.Common.{◌≡◌, ◌-◌, min}
+use Rattle.std.proofs.Common.{◌≡◌, ◌-◌, is_some, min}
 use Rattle.mg_disk.specs.Stops.{WritesNothing, CountGoes}
 use Rattle.mg_mirror.specs.Copy.{IsCopied}
 use Rattle.mg_mirror.proofs.copy.copy_blocks.Given as goal
@@ -12,6 +12,7 @@ invariant-loop-next g l = record {
   to_blocks : g.E.Disk.block_count l.to ≡ g.E.Disk.block_count l.initial.to;
   from_tells : g.D.Disk.tells_stops l.from ≡ g.D.Disk.tells_stops l.initial.from;
   to_tells : g.E.Disk.tells_stops l.to ≡ g.E.Disk.tells_stops l.initial.to;
+  to_told : is_some (g.E.Disk.seen l.to) ≡ is_some (g.E.Disk.seen l.initial.to);
   from_count : CountGoes g.D.Disk l.initial.from l.from;
   to_count : CountGoes g.E.Disk l.initial.to l.to;
 }

@@ -29,7 +29,7 @@ returns-in-Err-open_behind g c =
     let read = c.read_first.new in
     let told = c.in-Ok-None.ensures in
     let disks = c.in-Err-open_behind.disks in
-    let back = c.in-Err-open_behind.ensures in
+    let back = c.in-Err-open_behind.ensures.opens in
     let judged = side_judged d e c.args.from c.args.left read.left c.args.right read.right read.first c.in-Ok-None.field-0 None c.in-Ok-None.field-0-is told.left told.right told.left_alone told.right_alone in
     let room : length read.first ≡ min (min (d.block_count c.args.left) (e.block_count c.args.right)) 32 = search rules in
     not_opened d e g.S.Source g.K.Sink c.args.from c.args.left read.left c.args.right read.right read.first c.args.source.now c.args.sink.now c.args.steps.now
@@ -42,7 +42,7 @@ returns g c =
     let e = g.E.Disk in
     let read = c.read_first.new in
     let told = c.in-Ok-None.ensures in
-    let opens = c.in-Ok.ensures in
+    let opens = c.in-Ok.ensures.opens in
     let opened = as_two d e g.O.Opened c.in-Ok.mirror in
     let disk = c.run-ran.new.disk in
     let closed = as_two d e g.O.Opened disk in
@@ -59,7 +59,7 @@ returns g c =
     (read_left d e c.args.left read.left c.args.right read.right read.first (Ok None) left_been right_been c.args.from judged) (read_right d e c.args.left read.left c.args.right read.right read.first (Ok None) left_been right_been c.args.from judged)
     c.args.from opened
     (opened_from d e g.met.D.Disk.seen_may_stay g.met.E.Disk.seen_may_stay c.args.from read.left read.right opened opens.left_reads opens.right_reads opens.left_settled opens.right_settled
-    c.in-Ok.ensures.blocks opens.tells opens.left_serves opens.right_serves opens.left_kept opens.right_kept))
+    opens.blocks opens.left_serves opens.right_serves opens.left_kept opens.right_kept))
     c.run-ran.ensures.disk_blocks
     (through (mirror d e) (as_two d e g.O.Opened) g.S.Source g.K.Sink 1 c.run-ran.result c.in-Ok.mirror disk c.args.source.now c.run-ran.new.source c.args.sink.now c.run-ran.new.sink c.args.steps.now c.run-ran.new.steps c.run-ran.ensures.keeps)
     (subst (λ a. EndsWith g.K.Sink c.run-ran.result a c.put_side-status.result c.run-ran.new.sink c.put_side-status.new.sink) c.alone-alone.ensures.alone c.put_side-status.ensures.ends)

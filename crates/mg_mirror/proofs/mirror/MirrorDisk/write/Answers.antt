@@ -23,7 +23,7 @@ returns-in-Ok-Ok-clause-written g c =
 pub returns-in-Ok-Ok-clause-stops : goal.returns-in-Ok-Ok-clause-stops
 returns-in-Ok-Ok-clause-stops g c =
     let was = c.args.self.now in
-    write_both g.D.Disk g.E.Disk was.blocks was.alone was.left c.write_both-left.new.left was.right c.write_both-left.new.right c.args.i c.in-None.is c.write_both-left.ensures.on_left.rules.tells c.write_both-left.ensures.on_right.rules.tells c.write_both-left.ensures.on_left.rules.stops c.write_both-left.ensures.on_right.rules.stops
+    write_both g.D.Disk g.E.Disk was.blocks was.alone was.left c.write_both-left.new.left was.right c.write_both-left.new.right (only_place c.args.i) c.in-None.is c.write_both-left.ensures.on_left.rules.tells c.write_both-left.ensures.on_right.rules.tells c.write_both-left.ensures.on_left.rules.stops c.write_both-left.ensures.on_right.rules.stops
 
 pub returns-in-Ok-Err-clause-written : goal.returns-in-Ok-Err-clause-written
 returns-in-Ok-Err-clause-written g c =
@@ -36,7 +36,7 @@ pub returns-in-Ok-Err-clause-stops : goal.returns-in-Ok-Err-clause-stops
 returns-in-Ok-Err-clause-stops g c =
     let was = c.args.self.now in
     goes_dropped g.D.Disk g.E.Disk was.blocks was.alone Left was.left c.write_both-left.new.left was.right c.write_both-left.new.right (Torn c.args.i (LeftOf g.D.Disk g.E.Disk was.blocks was.alone was.left was.right)) c.in-None.is (g.met.D.Disk.now_has_been c.write_both-left.new.left) (g.met.E.Disk.now_has_been c.write_both-left.new.right)
-    (write_both g.D.Disk g.E.Disk was.blocks was.alone was.left c.write_both-left.new.left was.right c.write_both-left.new.right c.args.i c.in-None.is c.write_both-left.ensures.on_left.rules.tells c.write_both-left.ensures.on_right.rules.tells c.write_both-left.ensures.on_left.rules.stops c.write_both-left.ensures.on_right.rules.stops)
+    (write_both g.D.Disk g.E.Disk was.blocks was.alone was.left c.write_both-left.new.left was.right c.write_both-left.new.right (only_place c.args.i) c.in-None.is c.write_both-left.ensures.on_left.rules.tells c.write_both-left.ensures.on_right.rules.tells c.write_both-left.ensures.on_left.rules.stops c.write_both-left.ensures.on_right.rules.stops)
 
 pub returns-in-Err-Ok-clause-written : goal.returns-in-Err-Ok-clause-written
 returns-in-Err-Ok-clause-written g c =
@@ -49,13 +49,13 @@ pub returns-in-Err-Ok-clause-stops : goal.returns-in-Err-Ok-clause-stops
 returns-in-Err-Ok-clause-stops g c =
     let was = c.args.self.now in
     goes_dropped g.D.Disk g.E.Disk was.blocks was.alone Right was.left c.write_both-left.new.left was.right c.write_both-left.new.right (Torn c.args.i (LeftOf g.D.Disk g.E.Disk was.blocks was.alone was.left was.right)) c.in-None.is (g.met.D.Disk.now_has_been c.write_both-left.new.left) (g.met.E.Disk.now_has_been c.write_both-left.new.right)
-    (write_both g.D.Disk g.E.Disk was.blocks was.alone was.left c.write_both-left.new.left was.right c.write_both-left.new.right c.args.i c.in-None.is c.write_both-left.ensures.on_left.rules.tells c.write_both-left.ensures.on_right.rules.tells c.write_both-left.ensures.on_left.rules.stops c.write_both-left.ensures.on_right.rules.stops)
+    (write_both g.D.Disk g.E.Disk was.blocks was.alone was.left c.write_both-left.new.left was.right c.write_both-left.new.right (only_place c.args.i) c.in-None.is c.write_both-left.ensures.on_left.rules.tells c.write_both-left.ensures.on_right.rules.tells c.write_both-left.ensures.on_left.rules.stops c.write_both-left.ensures.on_right.rules.stops)
 
 pub returns-in-Err-Err-clause-stops : goal.returns-in-Err-Err-clause-stops
 returns-in-Err-Err-clause-stops g c =
     let was = c.args.self.now in
     goes_dropped g.D.Disk g.E.Disk was.blocks was.alone Left was.left c.write_both-left.new.left was.right c.write_both-left.new.right (Torn c.args.i (LeftOf g.D.Disk g.E.Disk was.blocks was.alone was.left was.right)) c.in-None.is (g.met.D.Disk.now_has_been c.write_both-left.new.left) (g.met.E.Disk.now_has_been c.write_both-left.new.right)
-    (write_both g.D.Disk g.E.Disk was.blocks was.alone was.left c.write_both-left.new.left was.right c.write_both-left.new.right c.args.i c.in-None.is c.write_both-left.ensures.on_left.rules.tells c.write_both-left.ensures.on_right.rules.tells c.write_both-left.ensures.on_left.rules.stops c.write_both-left.ensures.on_right.rules.stops)
+    (write_both g.D.Disk g.E.Disk was.blocks was.alone was.left c.write_both-left.new.left was.right c.write_both-left.new.right (only_place c.args.i) c.in-None.is c.write_both-left.ensures.on_left.rules.tells c.write_both-left.ensures.on_right.rules.tells c.write_both-left.ensures.on_left.rules.stops c.write_both-left.ensures.on_right.rules.stops)
 
 pub returns-in-Ok-clause-written : goal.returns-in-Ok-clause-written
 returns-in-Ok-clause-written g c =
@@ -67,13 +67,13 @@ pub returns-in-Ok-clause-stops : goal.returns-in-Ok-clause-stops
 returns-in-Ok-clause-stops g c =
     let was = c.args.self.now in
     let alone : was.alone ≡ Some Left = search rules in
-    write_left g.D.Disk g.E.Disk was.blocks was.alone was.left c.write.new.self was.right c.args.i alone (g.met.E.Disk.now_has_been was.right) c.write.ensures.tells c.write.ensures.stops
+    write_left g.D.Disk g.E.Disk was.blocks was.alone was.left c.write.new.self was.right (only_place c.args.i) alone (g.met.E.Disk.now_has_been was.right) c.write.ensures.tells c.write.ensures.stops
 
 pub returns-in-Err-clause-stops : goal.returns-in-Err-clause-stops
 returns-in-Err-clause-stops g c =
     let was = c.args.self.now in
     let alone : was.alone ≡ Some Left = search rules in
-    write_left g.D.Disk g.E.Disk was.blocks was.alone was.left c.write.new.self was.right c.args.i alone (g.met.E.Disk.now_has_been was.right) c.write.ensures.tells c.write.ensures.stops
+    write_left g.D.Disk g.E.Disk was.blocks was.alone was.left c.write.new.self was.right (only_place c.args.i) alone (g.met.E.Disk.now_has_been was.right) c.write.ensures.tells c.write.ensures.stops
 
 pub returns-in-Ok-write-clause-written : goal.returns-in-Ok-write-clause-written
 returns-in-Ok-write-clause-written g c =
@@ -85,10 +85,10 @@ pub returns-in-Ok-write-clause-stops : goal.returns-in-Ok-write-clause-stops
 returns-in-Ok-write-clause-stops g c =
     let was = c.args.self.now in
     let alone : was.alone ≡ Some Right = search rules in
-    write_right g.D.Disk g.E.Disk was.blocks was.alone was.left was.right c.write-in-Some-Right.new.self c.args.i alone (g.met.D.Disk.now_has_been was.left) c.write-in-Some-Right.ensures.tells c.write-in-Some-Right.ensures.stops
+    write_right g.D.Disk g.E.Disk was.blocks was.alone was.left was.right c.write-in-Some-Right.new.self (only_place c.args.i) alone (g.met.D.Disk.now_has_been was.left) c.write-in-Some-Right.ensures.tells c.write-in-Some-Right.ensures.stops
 
 pub returns-in-Err-write-clause-stops : goal.returns-in-Err-write-clause-stops
 returns-in-Err-write-clause-stops g c =
     let was = c.args.self.now in
     let alone : was.alone ≡ Some Right = search rules in
-    write_right g.D.Disk g.E.Disk was.blocks was.alone was.left was.right c.write-in-Some-Right.new.self c.args.i alone (g.met.D.Disk.now_has_been was.left) c.write-in-Some-Right.ensures.tells c.write-in-Some-Right.ensures.stops
+    write_right g.D.Disk g.E.Disk was.blocks was.alone was.left was.right c.write-in-Some-Right.new.self (only_place c.args.i) alone (g.met.D.Disk.now_has_been was.left) c.write-in-Some-Right.ensures.tells c.write-in-Some-Right.ensures.stops

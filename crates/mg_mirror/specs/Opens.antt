@@ -1,0 +1,35 @@
+-- What opening a mirror from the disk on one side gives.
+use Rattle.std.specs.Prelude.{◌≡◌, ◌≢◌, ◌&&◌, min, Some, Result, IfOk, IfErr}
+use Rattle.mg_disk.specs.Stops.{NothingPending, WritesNothing, CountRose}
+use Rattle.mg_disk.specs.declared.disk.Disk.{Ghosts}
+use Rattle.mg_mirror.specs.Mirror.{told_cut}
+use Rattle.mg_mirror.specs.declared.mirror.Mirror.{Mirror}
+use Rattle.mg_mirror.specs.declared.mirror.MirrorFailed.{MirrorFailed}
+use Rattle.mg_mirror.specs.declared.mirror.Opened as counts
+use Rattle.mg_mirror.specs.declared.mirror.Side.{Side}
+use Rattle.mg_mirror.specs.declared.mirror.Side.TheVariants.{Left, Right}
+
+-- A mirror of two disks that is opened from the one on a side; or both disks as they are, where that one failed.
+pub record Opens {D E K : Type 0} (d : Ghosts D) (e : Ghosts E) (k : counts.Ghosts K) (facts : Ghosts (Mirror D E K d e k)) (from : Side) (left : D) (right : E)
+    (result : Result (Mirror D E K d e k) (MirrorFailed D E)) : Type 0 where
+  -- Its reads are told exactly where those of both disks are, whether or not stops are: they give the first blocks of that disk.
+  pub left_reads : from ≡ Left → IfOk result (λ m. facts.seen m ≡ told_cut (facts.block_count m) (d.seen left) (e.seen right))
+  pub right_reads : from ≡ Right → IfOk result (λ m. facts.seen m ≡ told_cut (facts.block_count m) (e.seen right) (d.seen left))
+  -- Where nothing was pending on that disk, nothing is on the mirror.
+  pub left_settled : from ≡ Left → IfOk result (λ m. NothingPending d left → NothingPending facts m)
+  pub right_settled : from ≡ Right → IfOk result (λ m. NothingPending e right → NothingPending facts m)
+  -- No call of the mirror failed yet. It has as many blocks as the smaller disk, and tells of stops where both disks do.
+  pub no_faults : IfOk result (λ m. facts.faults m ≡ 0)
+  pub blocks : IfOk result (λ m. facts.block_count m ≡ min (d.block_count left) (e.block_count right))
+  pub tells : IfOk result (λ m. facts.tells_stops m ≡ (d.tells_stops left && e.tells_stops right))
+  -- That disk is in use.
+  pub left_serves : from ≡ Left → IfOk result (λ m. m.alone ≢ Some Right)
+  pub right_serves : from ≡ Right → IfOk result (λ m. m.alone ≢ Some Left)
+  -- Nothing was written on it, whatever opening answers.
+  pub left_kept : from ≡ Left → IfOk result (λ m. WritesNothing d left m.left)
+  pub right_kept : from ≡ Right → IfOk result (λ m. WritesNothing e right m.right)
+  pub left_back : from ≡ Left → IfErr result (λ disks. WritesNothing d left disks.left)
+  pub right_back : from ≡ Right → IfErr result (λ disks. WritesNothing e right disks.right)
+  -- Opening fails only where the count of that disk rose.
+  pub left_cause : from ≡ Left → IfErr result (λ disks. CountRose d left disks.left)
+  pub right_cause : from ≡ Right → IfErr result (λ disks. CountRose e right disks.right)
