@@ -1,5 +1,5 @@
 // Reading a volume of version 1: its settings, its journal, and then its tables, as those of the volume that it becomes.
-ghost use Rattle.std.specs.Prelude.{◌≡◌, ◌≢◌, ◌≤◌, ◌==◌, IfOk, OnErr};
+ghost use Rattle.std.specs.Prelude.{◌≡◌, ◌≢◌, ◌≤◌, IfOk, OnErr};
 ghost use Rattle.std.specs.Option.{ForSome};
 ghost use Rattle.mg_check.specs.Reads.{OnlyRead};
 ghost use Rattle.mg_check.specs.RowsRead.{AreKept};
@@ -9,35 +9,20 @@ ghost use Rattle.mg_migrate.specs.OldRead.{HasSettings1, IsOldRead, IsSeen1, Tel
 ghost use Rattle.mg_migrate.specs.Spelling1.{super1_read};
 ghost use Rattle.mg_migrate.specs.Super1.{IsSuper1};
 ghost use Rattle.mg_migrate.specs.Version1.{volume1};
-ghost use Rattle.mg_model.specs.Layout.{gate_open, super_block};
+ghost use Rattle.mg_model.specs.Layout.{super_block};
 ghost use Rattle.mg_model.specs.Replay.{block_of};
-ghost use Rattle.mg_model.specs.Volume.{gate_byte};
 
 use crate::fresh::TABLE1_BLOCK;
 use crate::lifting::Lifting;
 use crate::migrating::MigrateFault;
 use crate::superblock::{Super1, read_super1};
-use mg_check::{VolumeRows, read_rows};
+use mg_check::{VolumeRows, is_gate_open, read_rows};
 use mg_disk::{BLOCK_SIZE, Disk};
 use mg_faults::Failed;
 use mg_journal::{View, ViewFault};
-use mg_layout::{GATE_BLOCK, GATE_OPEN, Geometry, SUPER_BLOCK, TABLE_BLOCK};
+use mg_layout::{Geometry, SUPER_BLOCK, TABLE_BLOCK};
 use mg_model::Params;
 use std::alloc::Global;
-
-// Whether the gate of the volume is open.
-fn is_gate_open<E: Disk>(old: &mut E) -> Result<bool, Failed>
-    requires at_least_2_blocks { 2 ≤ E.block_count old.old }
-    ensures opened { IfOk result (λ opened. ForSome (E.seen old.old) (λ image. (gate_byte image == gate_open) ≡ opened)) }
-    ensures cause { OnErr result (CountRose E.Disk old.old old.new) }
-    ensures reads { OnlyRead E.Disk old.old old.new }
-{
-    let mut block = [0; BLOCK_SIZE];
-    match old.read(GATE_BLOCK, &mut block) {
-        Ok(()) => Ok(block[0] == GATE_OPEN),
-        Err(Failed) => Err(Failed),
-    }
-}
 
 // What the superblock spells.
 fn read_second<E: Disk>(old: &mut E) -> Result<Super1, Failed>
