@@ -42,7 +42,7 @@ impl<D: Device> Windows<D> {
     #[tactic(auto, using(crate::proofs::Seen::apart_seen))]
     pub fn len(&self) -> usize
         ensures count { result ≡ length self.now }
-        ensures few { result ≤ 16 }
+        ensures at_most_16 { result ≤ 16 }
         ensures apart { are_apart (seen D.held self.now) ≡ true }
     {
         self.list.len()
@@ -154,8 +154,8 @@ impl<D: Device> Windows<D> {
 // Drops the device at a base.
 fn drop_from<D: Drop>(list: &mut Vec<(u64, D)>, base: u64)
     ensures others { list.new.items ≡ without list.old.items base }
-    ensures few { length list.new.items ≤ length list.old.items }
-    ensures room { vec_capacity list.new ≡ vec_capacity list.old }
+    ensures no_more_than_before { length list.new.items ≤ length list.old.items }
+    ensures same_capacity { vec_capacity list.new ≡ vec_capacity list.old }
 {
     list.retain(|window| window.0 != base);
 }

@@ -27,7 +27,7 @@ pub(crate) fn answer<T: Device, D: Disk, L: Ledger>(
     steps: &mut Steps<L>,
 ) -> Result<Reply, Failed>
     requires live { IsTrue (is_live kernel.old) }
-    requires few { staged_of kernel.old ≤ 28 }
+    requires at_most_28_staged { staged_of kernel.old ≤ 28 }
     requires stands { StandsOn D.Disk kernel.old disk.old }
     ensures answers { IfOk result (λ answer. IsAnswered D.Disk (λ m. device_step m line.now) kernel.old kernel.new (seen T.held windows.old) (seen T.held windows.new) disk.old answer) }
     ensures serves { Serves D.Disk kernel.old kernel.new disk.old disk.new steps.old steps.new }
@@ -52,7 +52,7 @@ fn load<T: Device, D: Disk, L: Ledger>(
     steps: &mut Steps<L>,
 ) -> Result<Reply, Failed>
     requires live { IsTrue (is_live kernel.old) }
-    requires few { staged_of kernel.old ≤ 28 }
+    requires at_most_28_staged { staged_of kernel.old ≤ 28 }
     requires stands { StandsOn D.Disk kernel.old disk.old }
     ensures answers { IfOk result (λ answer. IsAnswered D.Disk (λ m. load_step m line.now (reached m line.now.thread a R)) kernel.old kernel.new (seen T.held windows.old) (seen T.held windows.new) disk.old answer) }
     ensures serves { Serves D.Disk kernel.old kernel.new disk.old disk.new steps.old steps.new }
@@ -78,7 +78,7 @@ fn store<T: Device, D: Disk, L: Ledger>(
     steps: &mut Steps<L>,
 ) -> Result<Reply, Failed>
     requires live { IsTrue (is_live kernel.old) }
-    requires few { staged_of kernel.old ≤ 28 }
+    requires at_most_28_staged { staged_of kernel.old ≤ 28 }
     requires stands { StandsOn D.Disk kernel.old disk.old }
     ensures answers { IfOk result (λ answer. IsAnswered D.Disk (λ m. store_step m line.now value (reached m line.now.thread a W)) kernel.old kernel.new (seen T.held windows.old) (seen T.held windows.new) disk.old answer) }
     ensures serves { Serves D.Disk kernel.old kernel.new disk.old disk.new steps.old steps.new }
@@ -115,7 +115,7 @@ fn reach<T: Device, D: Disk, L: Ledger>(
     steps: &mut Steps<L>,
 ) -> Result<Option<(usize, u64)>, Failed>
     requires live { IsTrue (is_live kernel.old) }
-    requires few { staged_of kernel.old ≤ 28 }
+    requires at_most_28_staged { staged_of kernel.old ≤ 28 }
     requires stands { StandsOn D.Disk kernel.old disk.old }
     ensures window { IfOk result (λ window. ForSome (D.seen disk.old) (λ image. window ≡ reached (machine kernel.old (seen T.held windows.now) image) t a r)) }
     ensures place { IfOk result (λ window. IfSome window (λ w. w.0 < length windows.now)) }
@@ -154,7 +154,7 @@ fn step<T: Device, D: Disk, L: Ledger>(
     steps: &mut Steps<L>,
 ) -> Result<Reply, Failed>
     requires live { IsTrue (is_live kernel.old) }
-    requires few { staged_of kernel.old ≤ 28 }
+    requires at_most_28_staged { staged_of kernel.old ≤ 28 }
     requires stands { StandsOn D.Disk kernel.old disk.old }
     ensures answers { IfOk result (λ answer. IsAnswered D.Disk (λ m. plain_step m line.now) kernel.old kernel.new (seen T.held windows.old) (seen T.held windows.new) disk.old answer) }
     ensures serves { Serves D.Disk kernel.old kernel.new disk.old disk.new steps.old steps.new }

@@ -297,7 +297,7 @@ fn with_steps<D: Disk, S: Source, K: Sink, L: Ledger>(
 ) -> Served
     requires name { blank.name ≡ L.name }
     requires parts { blank.parts ≡ L.parts }
-    requires some { 0 < blank.parts }
+    requires has_parts { 0 < blank.parts }
 {
     let mut steps = Steps::<L>::new(blank);
     top_dev(alloc, words, disk, source, sink, windows, &mut steps)
@@ -313,7 +313,7 @@ fn plain<D: Disk, S: Source, K: Sink, L: Ledger>(
 ) -> Status
     requires name { blank.name ≡ L.name }
     requires parts { blank.parts ≡ L.parts }
-    requires some { 0 < blank.parts }
+    requires has_parts { 0 < blank.parts }
 {
     let mut steps = Steps::<L>::new(blank);
     run_plain(alloc, 1, disk, source, sink, &mut steps)
