@@ -21,10 +21,11 @@ use Rattle.mg_serve.specs.Machines.{Commits, Says}
 use Rattle.mg_serve.specs.Serving.{IsTraced, Traces}
 use Rattle.mg_session.specs.Unopened.{EndsWith, IsQuiet}
 use Rattle.mg_window.specs.Attached.{Attached}
+use Rattle.mg_window.specs.Devices.{Held}
 use Rattle.mg_window_session.specs.declared.device_kernel.DeviceKernel.{DeviceKernel}
 use Rattle.mg_window_session.specs.Headline.{AreAfterAnswered, AreAfterOneMore, LeavesDevices, equipped}
 use Rattle.mg_window_session.specs.Machine.{Equipped, device_after, device_state, device_step, device_text}
-use Rattle.mg_window_session.specs.DeviceKernels.{IsStepped, IsStopped, machine_of}
+use Rattle.mg_window_session.specs.DeviceKernels.{IsStepped, IsStopped, machine_of, windows_in}
 use Rattle.mg_window_session.proofs.Lines.{after-append}
 
 -- what is said from a line on, and what is kept
@@ -38,15 +39,16 @@ pub keeps_line : (m m' : Equipped) (line : Line) (reply : Reply) → (m', reply)
 keeps_line m m' line reply told ls = ap (λ (v : Equipped × Reply). device_state v.0 ls) (sym told)
 
 -- a line more was stepped, or failed
-pub stepped_line : (k k' : DeviceKernel) (image : Image) (line : Line) (reply : Reply) → (machine_of k' image, reply) ≡ device_step (machine_of k image) line
-    → (old : DeviceKernel) (first : Image) (ls : List Line) → device_state (machine_of old first) ls ≡ now_of k.kernel image → IsStepped old first ls k → IsStepped old first (ls ++ line ∷ []) k'
-stepped_line k k' image line reply told old first ls now st =
-    let same : machine_of k image ≡ device_after (machine_of old first) ls = ap (λ (s : State). equipped k.windows s) (sym now) ∙ ap (λ (w : Attached). equipped w (device_state (machine_of old first) ls)) st in
-    ap (λ (v : Equipped × Reply). v.0.windows) told ∙ ap (λ m. (device_step m line).0.windows) same ∙ ap (λ (m : Equipped). m.windows) (sym (after-append (machine_of old first) ls (line ∷ [])))
+module _ {W : Type 0} (held : W → Held) where
+  pub stepped_line : (k k' : DeviceKernel W) (image : Image) (line : Line) (reply : Reply) → (machine_of held k' image, reply) ≡ device_step (machine_of held k image) line
+      → (old : DeviceKernel W) (first : Image) (ls : List Line) → device_state (machine_of held old first) ls ≡ now_of k.kernel image → IsStepped held old first ls k → IsStepped held old first (ls ++ line ∷ []) k'
+  stepped_line k k' image line reply told old first ls now st =
+      let same : machine_of held k image ≡ device_after (machine_of held old first) ls = ap (λ (s : State). equipped (windows_in held k) s) (sym now) ∙ ap (λ (w : Attached). equipped w (device_state (machine_of held old first) ls)) st in
+      ap (λ (v : Equipped × Reply). v.0.windows) told ∙ ap (λ m. (device_step m line).0.windows) same ∙ ap (λ (m : Equipped). m.windows) (sym (after-append (machine_of held old first) ls (line ∷ [])))
 
-pub stopped_line : (k k' : DeviceKernel) (line : Line) → k'.windows ≡ k.windows
-    → (old : DeviceKernel) (first : Image) (ls : List Line) → IsStepped old first ls k → IsStopped old first (ls ++ line ∷ []) k'
-stopped_line k k' line same old first ls st = record { before = ls; last = line; split = refl; windows = same ∙ st }
+  pub stopped_line : (k k' : DeviceKernel W) (line : Line) → windows_in held k' ≡ windows_in held k
+      → (old : DeviceKernel W) (first : Image) (ls : List Line) → IsStepped held old first ls k → IsStopped held old first (ls ++ line ∷ []) k'
+  stopped_line k k' line same old first ls st = record { before = ls; last = line; split = refl; windows = same ∙ st }
 
 -- a commit leaves what is said and kept
 pub commits : (windows : Attached) (s : State) (kernel' : Kernel) (told : Option Image) → Holds s kernel' told
@@ -74,40 +76,40 @@ fewer_lines k all before last few split =
       sym (ap (λ v. take (length before) v) (sym (take-append-drop k all)) ∙ take-append-le (length before) (take k all) (drop k all) short ∙ ap (λ v. take (length before) v) split ∙ take-append_seam before (last ∷ [])),
     )
 
-module _ (is : machines.Ghosts DeviceKernel) (result : Status) (old new : DeviceKernel) (image : Image) (steps steps' : ℕ)
-    (stepped : (ls : List Line) → is.Stepped old image ls steps steps' new → IsStepped old image ls new) (stopped : (ls : List Line) → is.StoppedIn old image ls steps steps' new → IsStopped old image ls new) where
+module _ {W : Type 0} (held : W → Held) (is : machines.Ghosts (DeviceKernel W)) (result : Status) (old new : DeviceKernel W) (image : Image) (steps steps' : ℕ)
+    (stepped : (ls : List Line) → is.Stepped old image ls steps steps' new → IsStepped held old image ls new) (stopped : (ls : List Line) → is.StoppedIn old image ls steps steps' new → IsStopped held old image ls new) where
   -- at the end, or where the input failed, they are those after the answered lines
   answered_devices : (input rest : List ℕ) (taken taken' : Option (List ℕ)) (t : IsTraced is 1 result old image input rest taken taken' steps steps' new) → result ≢ status.Disk → t.count ≡ t.stepped
-      → AreAfterAnswered (machine_of old image) (Some input) taken taken' new.windows
+      → AreAfterAnswered (machine_of held old image) (Some input) taken taken' (windows_in held new)
   answered_devices input rest None taken' t early same = tt
   answered_devices input rest (Some before) None t early same = absurd t.answers
   answered_devices input rest (Some before) (Some now) t early same =
-      stepped (take t.stepped (lines input)) (t.after early) ∙ ap (λ v. (device_after (machine_of old image) (take v (lines input))).windows) (sym (t.answers ∙ same))
+      stepped (take t.stepped (lines input)) (t.after early) ∙ ap (λ v. (device_after (machine_of held old image) (take v (lines input))).windows) (sym (t.answers ∙ same))
 
   one_more : (input rest : List ℕ) (taken taken' : Option (List ℕ)) (t : IsTraced is 1 result old image input rest taken taken' steps steps' new) (k : ℕ) → t.count ≤ k → k ≤ t.count + 1 → k ≤ length (lines input)
-      → AreAfter (machine_of old image) input k new.windows → AreAfterOneMore (machine_of old image) (Some input) taken taken' new.windows
+      → AreAfter (machine_of held old image) input k (windows_in held new) → AreAfterOneMore (machine_of held old image) (Some input) taken taken' (windows_in held new)
   one_more input rest None taken' t k least most few are = tt
   one_more input rest (Some before) None t k least most few are = absurd t.answers
   one_more input rest (Some before) (Some now) t k least most few are = (k, record { least = let n = t.answers in omega arith; most = let n = t.answers in omega arith }, few, are)
 
-  at_disk : (input rest : List ℕ) (taken taken' : Option (List ℕ)) → IsTraced is 1 result old image input rest taken taken' steps steps' new → result ≡ status.Disk → AreAfterOneMore (machine_of old image) (Some input) taken taken' new.windows
+  at_disk : (input rest : List ℕ) (taken taken' : Option (List ℕ)) → IsTraced is 1 result old image input rest taken taken' steps steps' new → result ≡ status.Disk → AreAfterOneMore (machine_of held old image) (Some input) taken taken' (windows_in held new)
   at_disk input rest taken taken' t h = ⊎_elim
       (λ (a : is.Stepped old image (take t.stepped (lines input)) steps steps' new). one_more input rest taken taken' t t.stepped t.least t.most t.few (stepped (take t.stepped (lines input)) a))
       (λ (b : (t.count < t.stepped) × is.StoppedIn old image (take t.stepped (lines input)) steps steps' new).
-      let s : IsStopped old image (take t.stepped (lines input)) new = stopped (take t.stepped (lines input)) b.1 in
+      let s : IsStopped held old image (take t.stepped (lines input)) new = stopped (take t.stepped (lines input)) b.1 in
       let fewer = fewer_lines t.stepped (lines input) s.before s.last t.few s.split in
       let one : length s.before + 1 ≡ t.stepped = fewer.0 in
       let more : t.count < t.stepped = b.0 in
       let most = t.most in
       let few = t.few in
-      one_more input rest taken taken' t (length s.before) (omega arith) (omega arith) (omega arith) (s.windows ∙ ap (λ v. (device_after (machine_of old image) v).windows) fewer.1))
+      one_more input rest taken taken' t (length s.before) (omega arith) (omega arith) (omega arith) (s.windows ∙ ap (λ v. (device_after (machine_of held old image) v).windows) fewer.1))
       (t.at_disk h)
 
-  pub leaves_devices : (left left' taken taken' : Option (List ℕ)) → Traces is 1 result old image left left' taken taken' steps steps' new → LeavesDevices (machine_of old image) result new.windows left taken taken'
+  pub leaves_devices : (left left' taken taken' : Option (List ℕ)) → Traces is 1 result old image left left' taken taken' steps steps' new → LeavesDevices (machine_of held old image) result (windows_in held new) left taken taken'
   leaves_devices None left' taken taken' t = record { all = λ h. tt; done = λ h. tt; source = λ h. tt; too_long = λ h. tt; disk = λ h. tt; sink = λ h. tt }
   leaves_devices (Some input) None taken taken' t = absurd t
   leaves_devices (Some input) (Some rest) taken taken' t = record {
-    all = λ h. stepped (take t.stepped (lines input)) (t.after (λ e. cc)) ∙ ap (λ v. (device_after (machine_of old image) v).windows) (take_all t.stepped (lines input) (let all = t.done h in omega (arith, all.0)));
+    all = λ h. stepped (take t.stepped (lines input)) (t.after (λ e. cc)) ∙ ap (λ v. (device_after (machine_of held old image) v).windows) (take_all t.stepped (lines input) (let all = t.done h in omega (arith, all.0)));
     done = λ h. answered_devices input rest taken taken' t (λ e. cc) (t.done h).1;
     source = λ h. answered_devices input rest taken taken' t (λ e. cc) (let few = t.source h in let least = t.least in omega arith);
     too_long = λ h. answered_devices input rest taken taken' t (λ e. cc) (let few = t.too_long h in let least = t.least in omega arith);

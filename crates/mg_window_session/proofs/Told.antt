@@ -1,9 +1,12 @@
 -- What follows of how the lines ended, and of the lines of the devices behind the replies.
-use Rattle.std.specs.Prelude.{ℕ, List, Option, Some, None, IfSome}
-use Rattle.std.proofs.Common.{ap}
+use Rattle.std.specs.Prelude.{ℕ, ◌≡◌, List, [], Option, Some, None, IfSome}
+use Rattle.mg_check.specs.declared.examining.OpenFault.TheVariants as fault
+use Rattle.std.proofs.Common.{ap, refl}
 use Rattle.mg_disk.specs.Disk.{Image}
+use Rattle.mg_disk.specs.Runs.{leaves_yet, only_image}
 use Rattle.mg_disk.specs.declared.disk.Disk as disks
-use Rattle.mg_faults.specs.Faults.{CountGoesOn, rose_then}
+use Rattle.mg_faults.specs.Faults.{CountGoesOn, count_none, rose_then}
+use Rattle.mg_io.specs.Known.{AppendsPrefix-none}
 use Rattle.mg_io.specs.declared.traits.Sink as sinks
 use Rattle.mg_io.specs.declared.traits.Source as sources
 use Rattle.mg_model.specs.Lines.{lines}
@@ -12,10 +15,13 @@ use Rattle.mg_model.specs.Volume.{Damaged, Is, NotVolume, OldVolume, VolumeRead,
 use Rattle.mg_serve.specs.Sessions.{IsDoneOrMemory, IsWithin, input_limit}
 use Rattle.mg_session.specs.Headline.{IfState, OnVolume, PutsLast}
 use Rattle.mg_serve.specs.declared.status.Status.{Status}
+use Rattle.mg_serve.specs.declared.status.Status.TheVariants as status
 use Rattle.mg_window.specs.Attached.{Attached}
 use Rattle.mg_session.specs.LastLemmas.{disk_ran, done_or_memory, ends_run, put_all, put_prefix, sink_failed}
-use Rattle.mg_window_session.specs.Headline.{DevKeeps, DevicesKeep, device_lines, equipped}
-use Rattle.mg_window_session.specs.Machine.{device_after, device_text}
+use Rattle.mg_session.specs.OpeningLemmas.{lines_unopened, unopened}
+use Rattle.mg_window_session.specs.Headline.{DevKeeps, DevicesKeep, LeavesDevices, device_lines, equipped}
+use Rattle.mg_window_session.specs.Machine.{device_after, device_state, device_text}
+use Rattle.mg_window_session.proofs.DeviceSteps.{fault_devices}
 
 within_then : (limit : ℕ) (left : Option (List ℕ)) (P Q : Type 0) → (P → Q) → IsWithin limit left P → IsWithin limit left Q
 within_then limit None P Q then h = tt
@@ -59,3 +65,19 @@ dev_keeps facts from to ran result windows windows' d d' source source' sink rep
       within_then input_limit (from.left source) (IsDoneOrMemory ran) (IsDoneOrMemory result) (λ either. done_or_memory to ran (device_lines windows') result replied sink' ends sink before no_sink either)
       (promise no_disk no_source (λ rose. no_sink (rose_then _ _ _ _ _ rose after)))) keeps.lines.complete keeps.lines.complete;
 }
+
+-- where memory is wanting before anything was begun
+pub not_begun : {D S K : Type 0} (facts : disks.Ghosts D) (from : sources.Ghosts S) (to : sinks.Ghosts K) (windows : Attached) (d : D) (source : S) (sink : K) → facts.has_been d (facts.moment d)
+    → DevKeeps facts from to status.Memory windows windows d d source source sink sink
+not_begun facts from to windows d source sink been = dev_keeps facts from to status.Memory status.Memory windows windows d d source source sink sink sink
+    record {
+      lines = lines_unopened facts from to (λ s. device_text (equipped windows s)) (λ s. device_state (equipped windows s)) 1 fault.Memory status.Memory d d source sink sink tt refl
+          (λ loud. absurd (loud tt)) (λ q. refl) (λ h. absurd (cc)) (AppendsPrefix-none (to.taken sink) []) (λ h. absurd (cc)) (λ h. absurd (cc))
+          (λ only image told. leaves_yet facts d (λ c. volume c ≡ volume image) been (λ c left. ap volume (only_image facts d image c (record { told = told; settled = only }) left))) (λ s. refl) (λ s. refl);
+      devices = unopened fault.Memory (facts.seen d) (λ s. LeavesDevices (equipped windows s) status.Memory windows (from.left source) (to.taken sink) (to.taken sink)) tt
+          (λ quiet image seen s spelled. fault_devices (equipped windows s) fault.Memory status.Memory (from.left source) (to.taken sink) (to.taken sink) quiet refl refl);
+      none_devices = λ h. refl;
+      not_opened_devices = λ image seen no_state. refl;
+      memory_devices = λ h. refl;
+    }
+    record { done = λ h. absurd (cc); early = λ h. (refl, refl) } (count_none (to.faults sink) (to.is_spent sink)) (count_none (to.faults sink) (to.is_spent sink))

@@ -5,22 +5,20 @@ use Rattle.std.specs.Option.{option_map_or}
 use Rattle.mg_model.specs.Words.{and_then, same_bytes}
 use Rattle.mg_model.specs.Words as numbers
 use Rattle.mg_session.specs.Commands.{before_colon}
-use Rattle.mg_window.specs.declared.kind.Kind.{Kind}
-use Rattle.mg_window.specs.declared.kind.Kind.TheVariants.{Latch, Console, Counter}
 use Rattle.mg_window.specs.Attached.{Attached}
-use Rattle.mg_window.specs.Devices.{Held, number_of}
+use Rattle.mg_window.specs.Devices.{Held}
 
--- the kind that a word names
-abbrev pub kind_named : List ℕ → Option Kind
+-- the number of the kind that a word names
+abbrev pub kind_named : List ℕ → Option ℕ
 kind_named word =
-    if same_bytes word (codes "latch") then Some Latch
-    else if same_bytes word (codes "console") then Some Console
-    else if same_bytes word (codes "counter") then Some Counter
+    if same_bytes word (codes "latch") then Some 1
+    else if same_bytes word (codes "console") then Some 2
+    else if same_bytes word (codes "counter") then Some 3
     else None
 
 -- a kind and the base that a device of it is to stand at
 abbrev pub Asked : Type 0
-Asked = Kind × ℕ
+Asked = ℕ × ℕ
 
 -- `KIND:BASE`: the kind before the first colon, and the number behind it
 abbrev pub device_parts : List ℕ → List ℕ → Option Asked
@@ -57,7 +55,7 @@ dev_of words = None
 
 -- whether a window is the one that is asked for
 abbrev pub is_that : ℕ × Held → Asked → Bool
-is_that window asked = window.0 == asked.1 && number_of window.1.kind == number_of asked.0
+is_that window asked = window.0 == asked.1 && window.1.kind == asked.0
 
 -- whether the windows are those that are asked for, in their order
 abbrev pub are_those : Attached → List Asked → Bool

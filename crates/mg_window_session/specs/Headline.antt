@@ -19,7 +19,7 @@ use Rattle.mg_serve.specs.declared.status.Status.{Status}
 use Rattle.mg_serve.specs.declared.status.Status.TheVariants as status
 use Rattle.mg_session.specs.Headline.{EndsRun, LinesKeep, OnVolume, PutsLast, UsageKeeps}
 use Rattle.mg_window.specs.Attached.{Attached}
-use Rattle.mg_window.specs.Devices.{Held, number_of}
+use Rattle.mg_window.specs.Devices.{Held}
 use Rattle.mg_window_session.specs.Machine.{Equipped, device_after, device_state, device_text}
 
 -- the machine that begins: the state of a volume, and the devices that were handed in
@@ -63,7 +63,7 @@ pub record LeavesDevices (m : Equipped) (result : Status) (windows : Attached) (
 
 -- the line of a device: the base that it stands at, the number of its kind, and how many stores its tape holds
 abbrev pub device_line : ℕ × Held → List ℕ
-device_line (base, device) = codes "dev" ++ spaced (hex_text base ∷ decimal (number_of device.kind) ∷ decimal (length device.tape) ∷ []) ++ 10 ∷ []
+device_line (base, device) = codes "dev" ++ spaced (hex_text base ∷ decimal device.kind ∷ decimal (length device.tape) ∷ []) ++ 10 ∷ []
 
 -- a line each, in their order
 abbrev pub device_lines : Attached → List ℕ

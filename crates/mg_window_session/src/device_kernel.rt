@@ -1,5 +1,6 @@
 // A kernel with devices, as a machine whose lines a session reads.
 ghost use Rattle.std.specs.Prelude.{◌≡◌};
+ghost use Rattle.mg_window.specs.Attached.{seen};
 ghost use Rattle.mg_window_session.specs.DeviceKernels.{windows_in};
 
 use crate::stepping::answer;
@@ -8,33 +9,33 @@ use mg_faults::Failed;
 use mg_kernel::Kernel;
 use mg_model::{Line, Reply, Steps};
 use mg_serve::Machine;
-use mg_window::Windows;
+use mg_window::{Device, Windows};
 use std::sync::ledger::Ledger;
 
 /// A kernel, and the devices that stand at the bases of its objects.
 #[derive(Drop)]
-pub struct DeviceKernel {
+pub struct DeviceKernel<T: Drop> {
     kernel: Kernel,
-    windows: Windows,
+    windows: Windows<T>,
 }
 
-impl DeviceKernel {
+impl<T: Device> DeviceKernel<T> {
     /// A kernel with these devices.
-    pub fn new(kernel: Kernel, windows: Windows) -> DeviceKernel
+    pub fn new(kernel: Kernel, windows: Windows<T>) -> DeviceKernel<T>
         ensures { result ≡ record { kernel = kernel; windows = windows } }
     {
         DeviceKernel { kernel, windows }
     }
 
     /// The devices that are left.
-    pub fn into_windows(self) -> Windows
-        ensures { result ≡ windows_in self }
+    pub fn into_windows(self) -> Windows<T>
+        ensures { seen T.held result ≡ windows_in T.held self }
     {
         self.windows
     }
 }
 
-impl Machine for DeviceKernel {
+impl<T: Device> Machine for DeviceKernel<T> {
     ghost use Rattle.mg_kernel.specs.Meaning as kernels;
     ghost use Rattle.mg_window_session.specs.Machine.{device_state, device_text};
     ghost use Rattle.mg_window_session.specs.DeviceKernels.{IsStepped, IsStopped, machine_of};
@@ -47,13 +48,13 @@ impl Machine for DeviceKernel {
 
     ghost StandsOn = { λ D facts k d. kernels.StandsOn facts k.kernel d };
 
-    ghost said = { λ k image. device_text (machine_of k image) };
+    ghost said = { λ k image. device_text (machine_of T.held k image) };
 
-    ghost kept = { λ k image. device_state (machine_of k image) };
+    ghost kept = { λ k image. device_state (machine_of T.held k image) };
 
-    ghost Stepped = { λ old first ls steps steps' new. IsStepped old first ls new };
+    ghost Stepped = { λ old first ls steps steps' new. IsStepped T.held old first ls new };
 
-    ghost StoppedIn = { λ old first ls steps steps' new. IsStopped old first ls new };
+    ghost StoppedIn = { λ old first ls steps steps' new. IsStopped T.held old first ls new };
 
     fn keep_rules<D: Disk>(&self, _disk: &D) {}
 

@@ -17,6 +17,5 @@ mod top_call;
 mod words;
 
 pub use device_kernel::DeviceKernel;
-pub use running::Served;
 pub use top_call::top_dev;
 pub use words::{Asked, read_device, read_words};

@@ -1,5 +1,6 @@
 // A run of the source's lines on a volume with device windows.
 ghost use Rattle.mg_faults.specs.Faults.{CountGoesOn};
+ghost use Rattle.mg_window.specs.Attached.{seen};
 ghost use Rattle.mg_window_session.specs.Headline.{DevKeeps, DevicesKeep};
 
 use crate::device_kernel::DeviceKernel;
@@ -10,47 +11,52 @@ use mg_kernel::Kernel;
 use mg_model::Steps;
 use mg_serve::Status;
 use mg_session::put_fault;
-use mg_window::Windows;
+use mg_window::{Device, Windows};
 use std::alloc::Global;
+use std::mem;
 use std::sync::ledger::Ledger;
 
 /// How a run with device windows ended, and the devices that are left.
 #[derive(Drop)]
-pub struct Served {
-    pub status: Status,
-    pub windows: Windows,
+struct Served<T: Drop> {
+    status: Status,
+    windows: Windows<T>,
 }
 
-/// Runs the source's lines on the volume of the disk, and puts the lines of the devices that are left.
-pub(crate) fn run_and_tell<D: Disk, S: Source, K: Sink, L: Ledger>(
+/// Runs the source's lines on the volume of the disk, and puts the lines of the devices that are left. An empty list stands in
+/// for the devices meanwhile, since the machine that runs the lines owns them.
+pub(crate) fn run_and_tell<T: Device, D: Disk, S: Source, K: Sink, L: Ledger>(
     alloc: Global,
-    windows: Windows,
+    windows: &mut Windows<T>,
     disk: &mut D,
     source: &mut S,
     sink: &mut K,
     steps: &mut Steps<L>,
-) -> Served
-    ensures { DevKeeps D.Disk S.Source K.Sink result.status windows result.windows disk.old disk.new source.old source.new sink.old sink.new }
+) -> Status
+    ensures { DevKeeps D.Disk S.Source K.Sink result (seen T.held windows.old) (seen T.held windows.new) disk.old disk.new source.old source.new sink.old sink.new }
 {
-    let ran = run(alloc, windows, disk, source, sink, steps);
-    let status = put_devices(ran.status, &ran.windows, sink);
-    Served {
-        status,
-        windows: ran.windows,
+    match Windows::new(alloc) {
+        Ok(none) => {
+            let given = mem::replace(windows, none);
+            let ran = run(alloc, given, disk, source, sink, steps);
+            *windows = ran.windows;
+            put_devices(ran.status, windows, sink)
+        }
+        Err(_) => Status::Memory,
     }
 }
 
 /// Opens the volume of the disk and runs the source's lines on it, each of them a batch. Where the disk holds no volume a line
 /// says so.
-fn run<D: Disk, S: Source, K: Sink, L: Ledger>(
+fn run<T: Device, D: Disk, S: Source, K: Sink, L: Ledger>(
     alloc: Global,
-    windows: Windows,
+    windows: Windows<T>,
     disk: &mut D,
     source: &mut S,
     sink: &mut K,
     steps: &mut Steps<L>,
-) -> Served
-    ensures keeps { DevicesKeep D.Disk S.Source K.Sink result.status windows result.windows disk.old disk.new source.old source.new sink.old sink.new }
+) -> Served<T>
+    ensures keeps { DevicesKeep D.Disk S.Source K.Sink result.status (seen T.held windows) (seen T.held result.windows) disk.old disk.new source.old source.new sink.old sink.new }
     ensures sink_count { CountGoesOn (K.faults sink.old) (K.faults sink.new) (K.is_spent sink.old) (K.is_spent sink.new) }
 {
     match Kernel::open(alloc, disk) {

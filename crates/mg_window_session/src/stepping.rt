@@ -6,6 +6,7 @@ ghost use Rattle.mg_disk.specs.Stops.{DiskCalls};
 ghost use Rattle.mg_kernel.specs.Meaning.{StandsOn, is_live, now_of, staged_of};
 ghost use Rattle.mg_model.specs.FewSlots.{HasFewSlots};
 ghost use Rattle.mg_model.specs.declared.rights.Right.TheVariants.{R, W};
+ghost use Rattle.mg_window.specs.Attached.{seen};
 ghost use Rattle.mg_window_session.specs.Machine.{device_step, load_step, plain_step, reached, store_step, stored_at, window_of};
 ghost use Rattle.mg_window_session.specs.Stepping.{IsAnswered, Looks, Serves, bases_of, dropped, machine};
 
@@ -14,13 +15,13 @@ use mg_disk::Disk;
 use mg_faults::Failed;
 use mg_kernel::Kernel;
 use mg_model::{Call, Line, Refusal, Reply, Right, Steps};
-use mg_window::Windows;
+use mg_window::{Device, Windows};
 use std::sync::ledger::Ledger;
 
 /// A line: its reply, and the machine and the devices after it. Nothing is written.
-pub(crate) fn answer<D: Disk, L: Ledger>(
+pub(crate) fn answer<T: Device, D: Disk, L: Ledger>(
     kernel: &mut Kernel,
-    windows: &mut Windows,
+    windows: &mut Windows<T>,
     disk: &mut D,
     line: &Line,
     steps: &mut Steps<L>,
@@ -28,9 +29,9 @@ pub(crate) fn answer<D: Disk, L: Ledger>(
     requires live { IsTrue (is_live kernel.old) }
     requires at_most_28_staged { staged_of kernel.old ≤ 28 }
     requires stands { StandsOn D.Disk kernel.old disk.old }
-    ensures answers { IfOk result (λ answer. IsAnswered D.Disk (λ m. device_step m line.now) kernel.old kernel.new windows.old windows.new disk.old answer) }
+    ensures answers { IfOk result (λ answer. IsAnswered D.Disk (λ m. device_step m line.now) kernel.old kernel.new (seen T.held windows.old) (seen T.held windows.new) disk.old answer) }
     ensures serves { Serves D.Disk kernel.old kernel.new disk.old disk.new steps.old steps.new }
-    ensures failed { OnErr result (windows.new ≡ windows.old) }
+    ensures failed { OnErr result (seen T.held windows.new ≡ seen T.held windows.old) }
     ensures slots { IfOk result HasFewSlots }
     ensures calls { DiskCalls D.Disk disk.old disk.new result }
 {
@@ -42,9 +43,9 @@ pub(crate) fn answer<D: Disk, L: Ledger>(
 }
 
 /// A load of this address by the line's thread.
-fn load<D: Disk, L: Ledger>(
+fn load<T: Device, D: Disk, L: Ledger>(
     kernel: &mut Kernel,
-    windows: &mut Windows,
+    windows: &mut Windows<T>,
     disk: &mut D,
     line: &Line,
     a: u64,
@@ -53,9 +54,9 @@ fn load<D: Disk, L: Ledger>(
     requires live { IsTrue (is_live kernel.old) }
     requires at_most_28_staged { staged_of kernel.old ≤ 28 }
     requires stands { StandsOn D.Disk kernel.old disk.old }
-    ensures answers { IfOk result (λ answer. IsAnswered D.Disk (λ m. load_step m line.now (reached m line.now.thread a R)) kernel.old kernel.new windows.old windows.new disk.old answer) }
+    ensures answers { IfOk result (λ answer. IsAnswered D.Disk (λ m. load_step m line.now (reached m line.now.thread a R)) kernel.old kernel.new (seen T.held windows.old) (seen T.held windows.new) disk.old answer) }
     ensures serves { Serves D.Disk kernel.old kernel.new disk.old disk.new steps.old steps.new }
-    ensures failed { OnErr result (windows.new ≡ windows.old) }
+    ensures failed { OnErr result (seen T.held windows.new ≡ seen T.held windows.old) }
     ensures slots { IfOk result HasFewSlots }
     ensures calls { DiskCalls D.Disk disk.old disk.new result }
 {
@@ -67,9 +68,9 @@ fn load<D: Disk, L: Ledger>(
 }
 
 /// A store of a value to this address by the line's thread.
-fn store<D: Disk, L: Ledger>(
+fn store<T: Device, D: Disk, L: Ledger>(
     kernel: &mut Kernel,
-    windows: &mut Windows,
+    windows: &mut Windows<T>,
     disk: &mut D,
     line: &Line,
     a: u64,
@@ -79,9 +80,9 @@ fn store<D: Disk, L: Ledger>(
     requires live { IsTrue (is_live kernel.old) }
     requires at_most_28_staged { staged_of kernel.old ≤ 28 }
     requires stands { StandsOn D.Disk kernel.old disk.old }
-    ensures answers { IfOk result (λ answer. IsAnswered D.Disk (λ m. store_step m line.now value (reached m line.now.thread a W)) kernel.old kernel.new windows.old windows.new disk.old answer) }
+    ensures answers { IfOk result (λ answer. IsAnswered D.Disk (λ m. store_step m line.now value (reached m line.now.thread a W)) kernel.old kernel.new (seen T.held windows.old) (seen T.held windows.new) disk.old answer) }
     ensures serves { Serves D.Disk kernel.old kernel.new disk.old disk.new steps.old steps.new }
-    ensures failed { OnErr result (windows.new ≡ windows.old) }
+    ensures failed { OnErr result (seen T.held windows.new ≡ seen T.held windows.old) }
     ensures slots { IfOk result HasFewSlots }
     ensures calls { DiskCalls D.Disk disk.old disk.new result }
 {
@@ -93,9 +94,9 @@ fn store<D: Disk, L: Ledger>(
 }
 
 /// Stores a value to the i-th device, where its tape has room.
-fn store_at(windows: &mut Windows, i: usize, off: u64, value: u64) -> Reply
+fn store_at<T: Device>(windows: &mut Windows<T>, i: usize, off: u64, value: u64) -> Reply
     requires { i < length windows.old }
-    ensures { (windows.new, result) ≡ stored_at windows.old i off value }
+    ensures { (seen T.held windows.new, result) ≡ stored_at (seen T.held windows.old) i off value }
 {
     match windows.store(i, off, value) {
         Ok(()) => Reply::Done,
@@ -104,9 +105,9 @@ fn store_at(windows: &mut Windows, i: usize, off: u64, value: u64) -> Reply
 }
 
 /// The device that an access of a thread reaches: its place, and the address from its base on, in bytes.
-fn reach<D: Disk, L: Ledger>(
+fn reach<T: Device, D: Disk, L: Ledger>(
     kernel: &mut Kernel,
-    windows: &Windows,
+    windows: &Windows<T>,
     disk: &mut D,
     t: u64,
     a: u64,
@@ -116,7 +117,7 @@ fn reach<D: Disk, L: Ledger>(
     requires live { IsTrue (is_live kernel.old) }
     requires at_most_28_staged { staged_of kernel.old ≤ 28 }
     requires stands { StandsOn D.Disk kernel.old disk.old }
-    ensures window { IfOk result (λ window. ForSome (D.seen disk.old) (λ image. window ≡ reached (machine kernel.old windows.now image) t a r)) }
+    ensures window { IfOk result (λ window. ForSome (D.seen disk.old) (λ image. window ≡ reached (machine kernel.old (seen T.held windows.now) image) t a r)) }
     ensures place { IfOk result (λ window. IfSome window (λ w. w.0 < length windows.now)) }
     ensures looks { Looks D.Disk kernel.old kernel.new disk.old disk.new steps.old steps.new }
     ensures calls { DiskCalls D.Disk disk.old disk.new result }
@@ -131,8 +132,8 @@ fn reach<D: Disk, L: Ledger>(
 }
 
 /// The device at a base, if one is there: its place, and an address from the base on.
-fn window_of(windows: &Windows, a: u64, base: Option<u64>) -> Option<(usize, u64)>
-    ensures window { result ≡ window_of windows.now a base }
+fn window_of<T: Device>(windows: &Windows<T>, a: u64, base: Option<u64>) -> Option<(usize, u64)>
+    ensures window { result ≡ window_of (seen T.held windows.now) a base }
     ensures place { IfSome result (λ w. w.0 < length windows.now) }
 {
     match base {
@@ -145,9 +146,9 @@ fn window_of(windows: &Windows, a: u64, base: Option<u64>) -> Option<(usize, u64
 }
 
 /// A line that reaches no device.
-fn step<D: Disk, L: Ledger>(
+fn step<T: Device, D: Disk, L: Ledger>(
     kernel: &mut Kernel,
-    windows: &mut Windows,
+    windows: &mut Windows<T>,
     disk: &mut D,
     line: &Line,
     steps: &mut Steps<L>,
@@ -155,9 +156,9 @@ fn step<D: Disk, L: Ledger>(
     requires live { IsTrue (is_live kernel.old) }
     requires at_most_28_staged { staged_of kernel.old ≤ 28 }
     requires stands { StandsOn D.Disk kernel.old disk.old }
-    ensures answers { IfOk result (λ answer. IsAnswered D.Disk (λ m. plain_step m line.now) kernel.old kernel.new windows.old windows.new disk.old answer) }
+    ensures answers { IfOk result (λ answer. IsAnswered D.Disk (λ m. plain_step m line.now) kernel.old kernel.new (seen T.held windows.old) (seen T.held windows.new) disk.old answer) }
     ensures serves { Serves D.Disk kernel.old kernel.new disk.old disk.new steps.old steps.new }
-    ensures failed { OnErr result (windows.new ≡ windows.old) }
+    ensures failed { OnErr result (seen T.held windows.new ≡ seen T.held windows.old) }
     ensures slots { IfOk result HasFewSlots }
     ensures calls { DiskCalls D.Disk disk.old disk.new result }
 {
@@ -172,8 +173,8 @@ fn step<D: Disk, L: Ledger>(
 }
 
 /// The bases of devices that are bases of objects.
-fn bases(kernel: &Kernel, windows: &Windows) -> ArrayVec<u64, 16>
-    ensures { (image : Image) → result.items ≡ bases_of (now_of kernel.now image) windows.now }
+fn bases<T: Device>(kernel: &Kernel, windows: &Windows<T>) -> ArrayVec<u64, 16>
+    ensures { (image : Image) → result.items ≡ bases_of (now_of kernel.now image) (seen T.held windows.now) }
 {
     let count = windows.len();
     let mut bases = ArrayVec::new();
@@ -189,8 +190,8 @@ fn bases(kernel: &Kernel, windows: &Windows) -> ArrayVec<u64, 16>
 }
 
 /// Drops the devices at these bases that are bases of no object.
-fn drop_gone(kernel: &Kernel, windows: &mut Windows, bases: &[u64])
-    ensures { (image : Image) → windows.new ≡ dropped (now_of kernel.now image) bases.now windows.old }
+fn drop_gone<T: Device>(kernel: &Kernel, windows: &mut Windows<T>, bases: &[u64])
+    ensures { (image : Image) → seen T.held windows.new ≡ dropped (now_of kernel.now image) bases.now (seen T.held windows.old) }
 {
     for base in bases {
         if !kernel.is_base(*base) {

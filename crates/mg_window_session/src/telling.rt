@@ -5,21 +5,25 @@ ghost use Rattle.arrayvec.specs.ArrayVec.{array_vec_len};
 ghost use Rattle.mg_faults.specs.Faults.{CountGoesOn, Rose};
 ghost use Rattle.mg_io.specs.Known.{AppendsPrefix};
 ghost use Rattle.mg_session.specs.Headline.{PutsLast};
-ghost use Rattle.mg_window.specs.Attached.{window_at};
+ghost use Rattle.mg_window.specs.Attached.{seen, window_at};
 ghost use Rattle.mg_window_session.specs.Headline.{device_line, device_lines};
 
 use arrayvec::ArrayVec;
 use mg_io::{Sink, put_all};
 use mg_serve::Status;
 use mg_text::{push_number, push_text, push_word};
-use mg_window::Windows;
+use mg_window::{Device, Windows};
 
 /// Room for the lines of 16 devices.
 const ROOM: usize = 16 * 72;
 
 /// Puts the lines of the devices in one call of `put_all`, if the lines that ran are done.
-pub(crate) fn put_devices<K: Sink>(ran: Status, windows: &Windows, sink: &mut K) -> Status
-    ensures ends { PutsLast K.Sink ran (device_lines windows.now) result sink.old sink.new }
+pub(crate) fn put_devices<T: Device, K: Sink>(
+    ran: Status,
+    windows: &Windows<T>,
+    sink: &mut K,
+) -> Status
+    ensures ends { PutsLast K.Sink ran (device_lines (seen T.held windows.now)) result sink.old sink.new }
     ensures sink_count { CountGoesOn (K.faults sink.old) (K.faults sink.new) (K.is_spent sink.old) (K.is_spent sink.new) }
 {
     match ran {
@@ -28,8 +32,8 @@ pub(crate) fn put_devices<K: Sink>(ran: Status, windows: &Windows, sink: &mut K)
     }
 }
 
-fn put_lines<K: Sink>(windows: &Windows, sink: &mut K) -> Status
-    ensures ends { PutsLast K.Sink Status.Done (device_lines windows.now) result sink.old sink.new }
+fn put_lines<T: Device, K: Sink>(windows: &Windows<T>, sink: &mut K) -> Status
+    ensures ends { PutsLast K.Sink Status.Done (device_lines (seen T.held windows.now)) result sink.old sink.new }
     ensures sink_count { CountGoesOn (K.faults sink.old) (K.faults sink.new) (K.is_spent sink.old) (K.is_spent sink.new) }
 {
     let text = device_text(windows);
@@ -40,8 +44,8 @@ fn put_lines<K: Sink>(windows: &Windows, sink: &mut K) -> Status
 }
 
 /// The lines of the devices, in their order.
-fn device_text(windows: &Windows) -> ArrayVec<u8, ROOM>
-    ensures { result.items ≡ device_lines windows.now }
+fn device_text<T: Device>(windows: &Windows<T>) -> ArrayVec<u8, ROOM>
+    ensures { result.items ≡ device_lines (seen T.held windows.now) }
 {
     let count = windows.len();
     let mut text = ArrayVec::new();
@@ -56,10 +60,10 @@ fn device_text(windows: &Windows) -> ArrayVec<u8, ROOM>
 }
 
 /// Writes the line of the i-th device into an empty buffer.
-fn print_device(windows: &Windows, i: usize, out: &mut ArrayVec<u8, 256>)
+fn print_device<T: Device>(windows: &Windows<T>, i: usize, out: &mut ArrayVec<u8, 256>)
     requires place { i < length windows.now }
     requires empty { out.old.items ≡ [] }
-    ensures text { out.new.items ≡ device_line (window_at windows.now i) }
+    ensures text { out.new.items ≡ device_line (window_at (seen T.held windows.now) i) }
     ensures short { length out.new.items ≤ 72 }
 {
     push_text(out, b"dev");

@@ -1,16 +1,18 @@
 // All that is done with device windows.
 ghost use Rattle.std.specs.Prelude.{◌≡◌, IsTrue, false};
 ghost use Rattle.mg_session.specs.Commands.{words_of};
+ghost use Rattle.mg_window.specs.Attached.{seen};
 ghost use Rattle.mg_window_session.specs.Commands.{asks_for};
 ghost use Rattle.mg_window_session.specs.Headline.{DevKeeps, NoDevKeeps};
 
-use crate::running::{Served, run_and_tell};
+use crate::running::run_and_tell;
 use crate::words::ask_for;
 use mg_disk::Disk;
 use mg_io::{Sink, Source};
 use mg_model::Steps;
+use mg_serve::Status;
 use mg_session::put_usage;
-use mg_window::Windows;
+use mg_window::{Device, Windows};
 use std::alloc::Global;
 use std::sync::ledger::Ledger;
 
@@ -21,13 +23,14 @@ use std::sync::ledger::Ledger;
 /// It runs the source's lines on the volume of the disk, a reply a batch, as `VOLUME run` does, where a `load` or a `store` line
 /// that is allowed and falls into an object with a device reaches the device in place of the object's words. A device whose
 /// object a line deletes is dropped. Once all lines are answered a line `dev` is put for each device that is left, in order: its
-/// base in hexadecimal, the number of its kind, 1 to 3, and how many stores its tape holds. The devices that are left are given
-/// back.
+/// base in hexadecimal, the number of its kind, 1 to 3, and how many stores its tape holds. `windows` then has the devices that
+/// are left.
 ///
 /// Other words, and other devices than those that the words ask for, get the line `usage` and [`Status::Usage`]; the disk, the
 /// source and the devices are then left alone.
 ///
-/// [`Status::Usage`], [`Status::NoVolume`] and [`Status::Memory`] leave the devices as they were. After [`Status::Done`],
+/// [`Status::Usage`], [`Status::NoVolume`] and [`Status::Memory`] leave the devices as they were, and so does every status where
+/// the disk holds no volume. After [`Status::Done`],
 /// [`Status::Source`] and [`Status::TooLong`] they are those after the answered lines and no others, after [`Status::Disk`] and
 /// [`Status::Sink`] those or those after one line more. The statuses are those of `VOLUME run`; and [`Status::Sink`] comes too
 /// where the lines of the devices could not be put.
@@ -48,20 +51,17 @@ pub fn top_dev<D: Disk, S: Source, K: Sink, L: Ledger>(
     disk: &mut D,
     source: &mut S,
     sink: &mut K,
-    windows: Windows,
+    windows: &mut Windows,
     steps: &mut Steps<L>,
-) -> Served
-    ensures dev { IsTrue (asks_for (words_of words.now) windows) → DevKeeps D.Disk S.Source K.Sink result.status windows result.windows
-        disk.old disk.new source.old source.new sink.old sink.new }
-    ensures usage { asks_for (words_of words.now) windows ≡ false → NoDevKeeps K.Sink result.status windows result.windows
-        disk.old disk.new source.old source.new sink.old sink.new }
+) -> Status
+    ensures dev { IsTrue (asks_for (words_of words.now) (seen ⟦<Box<dyn Device> as Device>⟧.held windows.old)) → DevKeeps D.Disk S.Source K.Sink result
+        (seen ⟦<Box<dyn Device> as Device>⟧.held windows.old) (seen ⟦<Box<dyn Device> as Device>⟧.held windows.new) disk.old disk.new source.old source.new sink.old sink.new }
+    ensures usage { asks_for (words_of words.now) (seen ⟦<Box<dyn Device> as Device>⟧.held windows.old) ≡ false → NoDevKeeps K.Sink result
+        (seen ⟦<Box<dyn Device> as Device>⟧.held windows.old) (seen ⟦<Box<dyn Device> as Device>⟧.held windows.new) disk.old disk.new source.old source.new sink.old sink.new }
 {
-    if ask_for(words, &windows) {
+    if ask_for(words, windows) {
         run_and_tell(alloc, windows, disk, source, sink, steps)
     } else {
-        Served {
-            status: put_usage(sink),
-            windows,
-        }
+        put_usage(sink)
     }
 }

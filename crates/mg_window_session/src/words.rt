@@ -3,25 +3,25 @@ ghost use Rattle.std.specs.Prelude.{◌≡◌, ◌≤◌, ◌<◌, ◌++◌, ◌
 ghost use Rattle.std.specs.String.{string_bytes};
 ghost use Rattle.mg_model.specs.Words.{same_bytes};
 ghost use Rattle.mg_session.specs.Commands.{before_colon, words_of};
-ghost use Rattle.mg_window.specs.Attached.{window_at};
+ghost use Rattle.mg_window.specs.Attached.{seen, window_at};
 ghost use Rattle.mg_window_session.specs.Commands.{are_those, asks_for, dev_of, dev_words, device_more, device_named, device_parts, devices_named, is_taken, is_that, kind_named};
 
 use arrayvec::ArrayVec;
 use mg_text::read_number;
-use mg_window::{Kind, Windows};
+use mg_window::{Device, Windows};
 
-/// The devices that words ask for: the kind of each, and the base that it is to stand at, in bytes.
-pub type Asked = ArrayVec<(Kind, u64), 16>;
+/// The devices that words ask for: the number of the kind of each, and the base that it is to stand at, in bytes.
+pub type Asked = ArrayVec<(u64, u64), 16>;
 
-/// The device that a word `KIND:BASE` asks for: its kind, and the base that it is to stand at. KIND is `latch`, `console` or
-/// `counter`, and BASE is a number as in a line. None exactly where the word is not of this form.
-pub fn read_device(word: &String) -> Option<(Kind, u64)>
+/// The device that a word `KIND:BASE` asks for: the number of its kind, and the base that it is to stand at, in bytes. KIND is
+/// `latch` (1), `console` (2) or `counter` (3), and BASE is a number as in a line. None exactly where the word is not of this form.
+pub fn read_device(word: &String) -> Option<(u64, u64)>
     ensures { result ≡ device_named (string_bytes word.now) }
 {
     device(word.as_bytes())
 }
 
-fn device(word: &[u8]) -> Option<(Kind, u64)>
+fn device(word: &[u8]) -> Option<(u64, u64)>
     ensures { result ≡ device_named word.now }
 {
     let (kind, rest) = word.split_at(before_colon(word));
@@ -29,7 +29,7 @@ fn device(word: &[u8]) -> Option<(Kind, u64)>
 }
 
 /// The device of a kind and what stands behind it, which begins with a colon.
-fn device_parts(kind: &[u8], rest: &[u8]) -> Option<(Kind, u64)>
+fn device_parts(kind: &[u8], rest: &[u8]) -> Option<(u64, u64)>
     ensures { result ≡ device_parts kind.now rest.now }
 {
     match rest {
@@ -46,15 +46,15 @@ fn before_colon(word: &[u8]) -> usize
     word.iter().take_while(|b| **b != b':').count()
 }
 
-fn kind_named(word: &[u8]) -> Option<Kind>
+fn kind_named(word: &[u8]) -> Option<u64>
     ensures { result ≡ kind_named word.now }
 {
     if is_word(word, b"latch") {
-        Some(Kind::Latch)
+        Some(1)
     } else if is_word(word, b"console") {
-        Some(Kind::Console)
+        Some(2)
     } else if is_word(word, b"counter") {
-        Some(Kind::Counter)
+        Some(3)
     } else {
         None
     }
@@ -109,15 +109,15 @@ fn devices_named(words: &[String]) -> Option<Asked>
 }
 
 /// Whether one of these stands at the base.
-fn is_taken(base: u64, devices: &[(Kind, u64)]) -> bool
+fn is_taken(base: u64, devices: &[(u64, u64)]) -> bool
     ensures { result ≡ is_taken base devices.now }
 {
     devices.iter().any(|device| device.1 == base)
 }
 
 /// Whether the words ask for a run with these windows.
-pub(crate) fn ask_for(words: &[String], windows: &Windows) -> bool
-    ensures { result ≡ asks_for (words_of words.now) windows.now }
+pub(crate) fn ask_for<T: Device>(words: &[String], windows: &Windows<T>) -> bool
+    ensures { result ≡ asks_for (words_of words.now) (seen T.held windows.now) }
 {
     match read_words(words) {
         Some(asked) => are_those(windows, asked.as_slice()),
@@ -126,8 +126,8 @@ pub(crate) fn ask_for(words: &[String], windows: &Windows) -> bool
 }
 
 /// Whether the windows are those that are asked for, in their order.
-fn are_those(windows: &Windows, asked: &[(Kind, u64)]) -> bool
-    ensures { result ≡ are_those windows.now asked.now }
+fn are_those<T: Device>(windows: &Windows<T>, asked: &[(u64, u64)]) -> bool
+    ensures { result ≡ are_those (seen T.held windows.now) asked.now }
 {
     if windows.len() != asked.len() {
         return false;
@@ -142,9 +142,9 @@ fn are_those(windows: &Windows, asked: &[(Kind, u64)]) -> bool
     true
 }
 
-fn is_that(windows: &Windows, i: usize, asked: (Kind, u64)) -> bool
+fn is_that<T: Device>(windows: &Windows<T>, i: usize, asked: (u64, u64)) -> bool
     requires { i < length windows.now }
-    ensures { result ≡ is_that (window_at windows.now i) asked }
+    ensures { result ≡ is_that (window_at (seen T.held windows.now) i) asked }
 {
-    windows.base_at(i) == asked.1 && windows.kind_at(i) == asked.0.number()
+    windows.base_at(i) == asked.1 && windows.kind_at(i) == asked.0
 }

@@ -1,7 +1,17 @@
-use Rattle.mg_window_session.proofs.Told.{dev_keeps}
+use Rattle.std.proofs.Common.{ap, subst}
+use Rattle.mg_window.specs.Attached.{Attached, seen}
+use Rattle.mg_window_session.specs.Headline.{DevKeeps}
+use Rattle.mg_window_session.proofs.Told.{dev_keeps, not_begun}
 use Rattle.mg_window_session.proofs.running.run_and_tell.Goals as goal
 
-pub returns : goal.returns
-returns g c =
-    dev_keeps g.D.Disk g.S.Source g.K.Sink c.run-ran.result.status c.put_devices-status.result c.args.windows c.run-ran.result.windows c.args.disk.now c.run-ran.new.disk c.args.source.now c.run-ran.new.source c.args.sink.now c.run-ran.new.sink c.put_devices-status.new.sink
-    c.run-ran.ensures.keeps c.put_devices-status.ensures.ends c.run-ran.ensures.sink_count c.put_devices-status.ensures.sink_count
+pub returns-in-Ok : goal.returns-in-Ok
+returns-in-Ok g c =
+    let left = seen g.T.Device.held c.run-ran.result.windows in
+    subst (λ (given : Attached). DevKeeps g.D.Disk g.S.Source g.K.Sink c.put_devices.result given left c.args.disk.now c.run-ran.new.disk c.args.source.now c.run-ran.new.source c.args.sink.now c.put_devices.new.sink)
+    (ap (λ windows. seen g.T.Device.held windows) c.replace-given.ensures.value)
+    (dev_keeps g.D.Disk g.S.Source g.K.Sink c.run-ran.result.status c.put_devices.result (seen g.T.Device.held c.replace-given.result) left c.args.disk.now c.run-ran.new.disk c.args.source.now c.run-ran.new.source c.args.sink.now c.run-ran.new.sink c.put_devices.new.sink
+    c.run-ran.ensures.keeps c.put_devices.ensures.ends c.run-ran.ensures.sink_count c.put_devices.ensures.sink_count)
+
+pub returns-in-Err : goal.returns-in-Err
+returns-in-Err g c =
+    not_begun g.D.Disk g.S.Source g.K.Sink (seen g.T.Device.held c.args.windows.now) c.args.disk.now c.args.source.now c.args.sink.now (g.met.D.Disk.now_has_been c.args.disk.now)

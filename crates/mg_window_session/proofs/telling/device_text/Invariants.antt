@@ -1,15 +1,16 @@
 use Rattle.std.proofs.Common.{drop, ◌-◌, ◌*◌, ◌++◌, ◌≡◌, ◌≤◌, length}
+use Rattle.mg_window.specs.Attached.{seen}
 use Rattle.mg_window_session.specs.Headline.{device_lines}
 use Rattle.mg_window_session.proofs.telling.device_text.Given as goal
 
 abbrev pub invariant-loop-i : goal.invariant-loop-i
-invariant-loop-i l = record {
+invariant-loop-i g l = record {
   all : l.count ≡ length l.windows;
   few : l.count ≤ 16;
   within : l.i ≤ l.count;
   short : length l.text.items ≤ 72 * l.i;
-  rest : l.text.items ++ device_lines (drop l.i l.windows) ≡ device_lines l.windows;
+  rest : l.text.items ++ device_lines (drop l.i (seen g.T.Device.held l.windows)) ≡ device_lines (seen g.T.Device.held l.windows);
 }
 
 abbrev pub decreases-loop-i : goal.decreases-loop-i
-decreases-loop-i l = l.count - l.i
+decreases-loop-i g l = l.count - l.i

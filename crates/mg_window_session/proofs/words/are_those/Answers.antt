@@ -1,6 +1,9 @@
 use Rattle.std.proofs.Common.{sym, ◌∙◌}
+use Rattle.std.proofs.lemmas.List.{length-map}
+use Rattle.mg_window.specs.Attached.{seen}
 use Rattle.mg_window_session.proofs.Asked.{those_differ}
 use Rattle.mg_window_session.proofs.words.are_those.Goals as goal
 
 pub returns-then-len-asked : goal.returns-then-len-asked
-returns-then-len-asked c = sym (those_differ c.args.windows.now c.args.asked.now (λ e. c.if-len-asked.true (c.len.ensures.count ∙ e)))
+returns-then-len-asked g c =
+    sym (those_differ (seen g.T.Device.held c.args.windows.now) c.args.asked.now (λ e. c.if-len-asked.true (c.len.ensures.count ∙ sym (length-map c.args.windows.now _) ∙ e)))

@@ -1,19 +1,28 @@
-use Rattle.std.proofs.Common.{[], ◌<◌, ◌∙◌, ap, arith, length, slice_set, subst, sym}
-use Rattle.std.specs.Prelude.{ℕ}
-use Rattle.std.proofs.lemmas.List.{get_or_default, length-set}
+use Rattle.std.proofs.Common.{◌<◌, ◌≡◌, ◌∙◌, arith, length, slice_set, subst, sym}
+use Rattle.std.specs.Prelude.{MatchResult}
+use Rattle.std.proofs.lemmas.List.{length-set}
 use Rattle.mg_window.proofs.Apart.{apart_set}
-use Rattle.mg_window.specs.Attached.{Attached, are_apart}
-use Rattle.mg_window.specs.Devices.{Held}
-use Rattle.mg_window.specs.declared.kind.Kind.TheVariants.{Latch}
+use Rattle.mg_window.proofs.Seen.{store_seen}
+use Rattle.mg_window.specs.Attached.{Listed, device_at, seen, with_device}
+use Rattle.mg_window.specs.Devices.{stored}
 use Rattle.mg_window.proofs.windows.Windows.store.Goals as goal
 
 pub invariant_of-self : goal.invariant_of-self
-invariant_of-self c =
+invariant_of-self g c =
     let windows = c.self.inside.list.items in
-    let i = c.args.i in
-    let device = c.store.new.self in
+    let window = c.index_mut.result.now in
     let few = c.self.invariant.1 in
-    let long = length-set windows i (c.index_mut.result.now.0, device) in
-    let P : Attached → Type 0 = λ ws. i < length ws in
-    let home = ap (λ (window : ℕ × Held). window.0) (get_or_default windows i c.index_mut.result.now (0, record { kind = Latch; room = 0; tape = [] }) (subst P (sym c.self.view_is) c.requires)) in
-    (c.self.invariant.0, omega arith, ap (λ b. are_apart (slice_set windows i (b, device))) (ap (λ (window : ℕ × Held). window.0) c.index_mut.ensures.value ∙ home) ∙ apart_set windows i device ∙ c.self.invariant.2)
+    let long = length-set windows c.args.i (window.0, c.store.new.self) in
+    (c.self.invariant.0, omega arith, apart_set windows c.args.i window c.store.new.self (sym c.index_mut.ensures.value) ∙ c.self.invariant.2)
+
+pub returns : goal.returns
+returns g c =
+    let held = g.D.Device.held in
+    let windows = c.self.inside.list.items in
+    let P : Listed _ → Type 0 = λ ws. MatchResult c.store.result
+    (λ _. (length (device_at (seen held ws) c.args.i).tape < (device_at (seen held ws) c.args.i).room)
+    × (seen held (slice_set windows c.args.i (c.index_mut.result.now.0, c.store.new.self)) ≡ with_device (seen held ws) c.args.i (stored (device_at (seen held ws) c.args.i) c.args.off c.args.value)))
+    (λ full. (length (device_at (seen held ws) c.args.i).tape ≡ (device_at (seen held ws) c.args.i).room) × (full.room ≡ (device_at (seen held ws) c.args.i).room)
+    × (seen held (slice_set windows c.args.i (c.index_mut.result.now.0, c.store.new.self)) ≡ seen held ws)) in
+    let Q : Listed _ → Type 0 = λ ws. c.args.i < length ws in
+    subst P c.self.view_is (store_seen held windows c.args.i c.args.off c.args.value c.index_mut.result.now c.store.new.self c.store.result (subst Q (sym c.self.view_is) c.requires) (sym c.index_mut.ensures.value) c.store.ensures)

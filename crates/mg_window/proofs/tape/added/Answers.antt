@@ -3,7 +3,7 @@ use Rattle.std.proofs.Math.Nat.{zero-mod}
 use Rattle.std.proofs.lemmas.List.{take_all}
 use Rattle.mg_window.specs.Devices.{sum_at}
 use Rattle.mg_window.proofs.Summed.{one_more}
-use Rattle.mg_window.proofs.device.added.Goals as goal
+use Rattle.mg_window.proofs.tape.added.Goals as goal
 
 pub loop-entry-init : goal.loop-entry-init
 loop-entry-init c = sym (zero-mod (2 ^ 64))
