@@ -35,7 +35,7 @@ pub fn get_lines(
     bytes: u64,
 ) -> Result<Vec<u8>, AllocError>
     requires place { address < 2 ^ 52 }
-    requires few { bytes ≤ byte_limit }
+    requires at_most_byte_limit_bytes { bytes ≤ byte_limit }
     ensures { IfOk result (λ text. text.items ≡ get_text thread address bytes) }
 {
     let mut text = Vec::new(alloc);
