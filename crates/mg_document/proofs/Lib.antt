@@ -1,0 +1,4 @@
+pub mod Cuts
+pub mod Packs
+pub mod Grown
+pub mod Steps

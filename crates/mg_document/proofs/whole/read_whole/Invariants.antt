@@ -1,0 +1,16 @@
+use Rattle.std.proofs.Common.{◌≡◌, ◌-◌, ◌≤◌, length}
+use Rattle.std.specs.Io.KnownBytes.{Consumes}
+use Rattle.mg_faults.specs.Faults.{CountGoesOn}
+use Rattle.mg_document.proofs.whole.read_whole.Given as goal
+
+-- what was read so far
+abbrev pub invariant-pieces : goal.invariant-pieces
+invariant-pieces g l = record {
+  read : Consumes (g.S.Source.left l.initial.source) (g.S.Source.left l.source) l.text.items;
+  within : length l.text.items ≤ l.limit;
+  size : length l.piece ≡ 4096;
+  count : CountGoesOn (g.S.Source.faults l.initial.source) (g.S.Source.faults l.source) (g.S.Source.is_spent l.initial.source) (g.S.Source.is_spent l.source);
+}
+
+abbrev pub decreases-pieces : goal.decreases-pieces
+decreases-pieces g l = l.limit - length l.text.items

@@ -1,0 +1,17 @@
+-- Lemmas that a crate above cites too. None of them is part of a statement.
+use Rattle.std.proofs.Common.{◌≡◌, ℕ, Bool, true, false, if◌then◌else◌, List, [], ◌∷◌, refl}
+use Rattle.mg_model.specs.Ended.{all_but_last}
+use Rattle.mg_model.specs.Words.{onto_first, split_at}
+
+-- there is always a piece, so one before it is not the last
+pub not_last : (cuts : ℕ → Bool) (piece bytes : List ℕ) → all_but_last (piece ∷ split_at cuts bytes) ≡ piece ∷ all_but_last (split_at cuts bytes)
+not_last cuts piece [] = refl
+not_last cuts piece (b ∷ bytes) = by_cut (cuts b)
+  where
+    by_first : (pieces : List (List ℕ)) → all_but_last (piece ∷ onto_first b pieces) ≡ piece ∷ all_but_last (onto_first b pieces)
+    by_first [] = refl
+    by_first (p ∷ pieces) = refl
+
+    by_cut : (v : Bool) → all_but_last (piece ∷ (if v then [] ∷ split_at cuts bytes else onto_first b (split_at cuts bytes))) ≡ piece ∷ all_but_last (if v then [] ∷ split_at cuts bytes else onto_first b (split_at cuts bytes))
+    by_cut true = refl
+    by_cut false = by_first (split_at cuts bytes)

@@ -1,0 +1,13 @@
+-- What is taken of a source. One that does not tell its content has None for it.
+use Rattle.std.specs.Prelude.{ℕ, ◌+◌, ◌<◌, ◌≤◌, ◌≡◌, List, [], length, Option, Some, IfSome, IsSomeAnd}
+
+-- the source was read to its end, and this holds of what it had
+abbrev pub OfWhole : Option (List ℕ) → Option (List ℕ) → (List ℕ → Type 0) → Type 0
+OfWhole left left' P = IfSome left (λ text. (left' ≡ Some []) × P text)
+
+-- at most so many bytes were taken, or more
+abbrev pub TakesAtMost : ℕ → Option (List ℕ) → Option (List ℕ) → Type 0
+TakesAtMost limit left left' = IfSome left (λ text. IsSomeAnd left' (λ rest. length text ≤ limit + length rest))
+
+abbrev pub TakesMore : ℕ → Option (List ℕ) → Option (List ℕ) → Type 0
+TakesMore limit left left' = IfSome left (λ text. IsSomeAnd left' (λ rest. limit + length rest < length text))

@@ -1,0 +1,88 @@
+// All that the program does.
+ghost use Rattle.std.specs.Prelude.{◌≡◌, ◌≢◌, ◌⊎◌, IfSome, None, Ok, Some};
+ghost use Rattle.mg_document.specs.Whole.{TakesAtMost, TakesMore};
+ghost use Rattle.mg_document_session.specs.Commands.{HasPlace, command_of, words_of};
+ghost use Rattle.mg_document_session.specs.Headline.{BringsBack, Keeps, LeavesSource, OfInput, PutsFault, PutsPart, PutsText, UsageKeeps, became, limit_of};
+ghost use Rattle.mg_faults.specs.Faults.{Rose};
+
+use crate::laws::documents_come_back;
+use crate::status::Status;
+use crate::telling::put_fault;
+use crate::turning::{take_input, turn};
+use crate::words::{Command, read_words};
+use mg_document::{ReplyFault, Unread};
+use mg_io::{Sink, Source, put_all};
+use std::alloc::Global;
+
+/// All that the program does. The words are those behind its name.
+///
+/// - `put THREAD ADDRESS` reads bytes from the source, at most [`BYTE_LIMIT`](mg_document::BYTE_LIMIT), and puts the lines
+///   `THREAD store ADDR WORD` that store them as a document from ADDRESS on into `out`.
+/// - `get THREAD ADDRESS BYTES` puts the lines `THREAD load ADDR` that load a document of so many bytes. The source is left alone.
+/// - `bytes` reads replies, at most 2^24 bytes, and puts the bytes of the document that they tell.
+///
+/// Other words get the line `usage` in `err` and [`Status::Usage`]; source and `out` are then left alone.
+///
+/// An input is read whole before anything is put. After [`Status::Fault`] `err` took the line of the first reply that is needed and
+/// tells no word, `reply N: KIND`, and nothing else was put. After [`Status::Memory`], [`Status::Source`] and [`Status::TooLong`]
+/// nothing was put. [`Status::Sink`] comes where `out` or `err` failed; it took a first part of what was to be put.
+pub fn top<S: Source, O: Sink, E: Sink>(
+    alloc: Global,
+    words: &[String],
+    source: &mut S,
+    out: &mut O,
+    err: &mut E,
+) -> Status
+    ensures command { IfSome (command_of (words_of words.now)) (λ command. Keeps S.Source O.Sink E.Sink command result
+        source.old source.new out.old out.new err.old err.new) }
+    ensures back { command_of (words_of words.now) ≡ Some Command.Bytes → BringsBack result (S.left source.old) (O.taken out.old) (O.taken out.new) }
+    ensures usage { command_of (words_of words.now) ≡ None → UsageKeeps E.Sink result source.old source.new out.old out.new err.old err.new }
+    ensures not_spelled { result ≡ Status.Usage → command_of (words_of words.now) ≡ None }
+{
+    match read_words(words) {
+        Some(command) => carry_out(alloc, command, source, out, err),
+        None => match put_all(err, b"usage\n") {
+            Ok(()) => Status::Usage,
+            Err(_) => Status::Sink,
+        },
+    }
+}
+
+/// Takes the input, and puts what it becomes, or its fault.
+fn carry_out<S: Source, O: Sink, E: Sink>(
+    alloc: Global,
+    command: Command,
+    source: &mut S,
+    out: &mut O,
+    err: &mut E,
+) -> Status
+    requires { HasPlace command }
+    ensures done { result ≡ Status.Done → OfInput command (S.left source.old) (S.left source.new) (λ input. PutsText command input (became command input) (O.taken out.old) (O.taken out.new)) × (err.new ≡ err.old) }
+    ensures fault { result ≡ Status.Fault → OfInput command (S.left source.old) (S.left source.new) (λ input. PutsFault (became command input) (E.taken err.old) (E.taken err.new)) × (out.new ≡ out.old) }
+    ensures sink { result ≡ Status.Sink → OfInput command (S.left source.old) (S.left source.new) (λ input. PutsPart (became command input) (O.taken out.old) (O.taken out.new) (E.taken err.old) (E.taken err.new)) }
+    ensures sink_failed { result ≡ Status.Sink → Rose (O.faults out.old) (O.faults out.new) (O.is_spent out.new) ⊎ Rose (E.faults err.old) (E.faults err.new) (E.is_spent err.new) }
+    ensures nothing { (result ≡ Status.Memory) ⊎ ((result ≡ Status.Source) ⊎ (result ≡ Status.TooLong)) → (out.new ≡ out.old) × (err.new ≡ err.old) }
+    ensures source_failed { result ≡ Status.Source → Rose (S.faults source.old) (S.faults source.new) (S.is_spent source.new) }
+    ensures too_long { result ≡ Status.TooLong → TakesMore (limit_of command) (S.left source.old) (S.left source.new) }
+    ensures within { result ≢ Status.TooLong → TakesAtMost (limit_of command) (S.left source.old) (S.left source.new) }
+    ensures alone { LeavesSource command source.old source.new }
+    ensures spelled { result ≢ Status.Usage }
+{
+    let input = match take_input(alloc, command, source) {
+        Ok(input) => input,
+        Err(Unread::Memory) => return Status::Memory,
+        Err(Unread::Source) => return Status::Source,
+        Err(Unread::TooLong) => return Status::TooLong,
+    };
+    match turn(alloc, command, &input) {
+        Ok(text) => match put_all(out, &text) {
+            Ok(()) => Status::Done,
+            Err(_) => Status::Sink,
+        },
+        Err(ReplyFault::Memory) => Status::Memory,
+        Err(ReplyFault::At { reply, kind }) => match put_fault(reply, kind, err) {
+            Ok(()) => Status::Fault,
+            Err(_) => Status::Sink,
+        },
+    }
+}

@@ -1,0 +1,97 @@
+// The words of the command line.
+ghost use Rattle.std.specs.Prelude.{◌≡◌, IfSome};
+ghost use Rattle.mg_document_session.specs.Commands.{HasPlace, bytes_of, command_of, get_of, is_few, is_place, put_of, words_of};
+
+use mg_document::BYTE_LIMIT;
+use mg_model::limits::{PAGE_END, PAGE_SIZE};
+use mg_text::{is_word, read_number};
+
+/// What the program is asked to do.
+#[derive(Clone, Copy, Debug, PartialEq, Eq)]
+pub enum Command {
+    /// Put the calls by which this thread stores the input as a document, from this address on.
+    Put(u64, u64),
+    /// Put the calls by which this thread loads a document from this address on, which has so many bytes.
+    Get(u64, u64, u64),
+    /// Put the bytes that the replies of the input tell.
+    Bytes,
+}
+
+/// The command that these words spell, which are those behind the program's name; None exactly where they spell none.
+///
+/// They are `put THREAD ADDRESS`, `get THREAD ADDRESS BYTES` or `bytes`. The numbers are as in lines of calls; ADDRESS is a multiple
+/// of 8 below `2^52`, where objects end, and BYTES at most [`BYTE_LIMIT`].
+pub fn read_words(words: &[String]) -> Option<Command>
+    ensures command { result ≡ command_of (words_of words.now) }
+    ensures place { IfSome result HasPlace }
+{
+    match words {
+        [word] => bytes(word.as_bytes()),
+        [word, thread, address] => put(word.as_bytes(), thread.as_bytes(), address.as_bytes()),
+        [word, thread, address, bytes] => get(
+            word.as_bytes(),
+            thread.as_bytes(),
+            address.as_bytes(),
+            bytes.as_bytes(),
+        ),
+        _ => None,
+    }
+}
+
+fn bytes(word: &[u8]) -> Option<Command>
+    ensures command { result ≡ bytes_of word.now }
+    ensures place { IfSome result HasPlace }
+{
+    if is_word(word, b"bytes") {
+        Some(Command::Bytes)
+    } else {
+        None
+    }
+}
+
+fn put(word: &[u8], thread: &[u8], address: &[u8]) -> Option<Command>
+    ensures command { result ≡ put_of word.now thread.now address.now }
+    ensures place { IfSome result HasPlace }
+{
+    if !is_word(word, b"put") {
+        return None;
+    }
+    let thread = read_number(thread)?;
+    let address = read_number(address)?;
+    if is_place(address) {
+        Some(Command::Put(thread, address))
+    } else {
+        None
+    }
+}
+
+fn get(word: &[u8], thread: &[u8], address: &[u8], bytes: &[u8]) -> Option<Command>
+    ensures command { result ≡ get_of word.now thread.now address.now bytes.now }
+    ensures place { IfSome result HasPlace }
+{
+    if !is_word(word, b"get") {
+        return None;
+    }
+    let thread = read_number(thread)?;
+    let address = read_number(address)?;
+    let bytes = read_number(bytes)?;
+    if is_place(address) && is_few(bytes) {
+        Some(Command::Get(thread, address, bytes))
+    } else {
+        None
+    }
+}
+
+/// Whether a word may be stored here: at a multiple of 8, and where objects may lie.
+fn is_place(address: u64) -> bool
+    ensures { result ≡ is_place address }
+{
+    address % 8 == 0 && address < PAGE_END * PAGE_SIZE
+}
+
+/// Whether a document may have so many bytes.
+fn is_few(bytes: u64) -> bool
+    ensures { result ≡ is_few bytes }
+{
+    bytes <= BYTE_LIMIT
+}
