@@ -6,6 +6,6 @@ mod Fetched
 mod Reached
 mod Refusals
 pub mod SlotCalls
-mod Told
+mod StandingFacts
 mod Tried
 mod Words

@@ -1,5 +1,5 @@
 mod Rights
-mod Told
+mod InfoReplies
 mod Rows
 mod Doors
 mod NewObject

@@ -1,6 +1,6 @@
 pub mod AccountLists
 pub mod AccountsStaged
-mod Again
+mod StandingPages
 pub mod BareRows
 pub mod BlockParts
 pub mod ByNumber
