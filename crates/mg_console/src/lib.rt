@@ -10,4 +10,4 @@ mod words;
 
 pub use endings::{tell_error, tell_fault, tell_volume};
 pub use notes::{Notes, Task};
-pub use words::{NO_WORDS, word, words_of, words_or_tell};
+pub use words::{NO_WORDS, begin, word, words_or_tell};

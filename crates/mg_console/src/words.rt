@@ -9,13 +9,24 @@ use std::{env, io};
 pub const NO_WORDS: u8 = 9;
 
 /// The words behind the program's name. An error comes where one is no text, or memory is wanting.
-pub fn words_of<R: Env + AllocGlobal>(rt: &R) -> io::Result<Vec<String>> {
+fn words_of<R: Env + AllocGlobal>(rt: &R) -> io::Result<Vec<String>> {
     Ok(env::args(rt)?.skip(1).collect(rt.alloc())?)
 }
 
-/// The words behind the program's name, and files that keep the numbers of the standard streams from any other file for as long as
-/// they are kept. Where one of these can't be had that is told on standard error, and there is None.
-pub fn words_or_tell<R: Env + AllocGlobal + Files + Eprint>(
+/// The words behind the program's name, or None where one is no text or memory is wanting, which is told on standard error then.
+pub fn words_or_tell<R: Env + AllocGlobal + Eprint>(rt: &R, program: &str) -> Option<Vec<String>> {
+    match words_of(rt) {
+        Ok(words) => Some(words),
+        Err(error) => {
+            tell_error(rt, program, "the words", Some(&error));
+            None
+        }
+    }
+}
+
+/// Those words, and files that keep the numbers of the standard streams from any other file for as long as they are kept. Where one
+/// of these can't be had that is told on standard error, and there is None.
+pub fn begin<R: Env + AllocGlobal + Files + Eprint>(
     rt: &R,
     program: &str,
 ) -> Option<(Vec<String>, (R::File, R::File, R::File))> {
@@ -26,13 +37,7 @@ pub fn words_or_tell<R: Env + AllocGlobal + Files + Eprint>(
             return None;
         }
     };
-    match words_of(rt) {
-        Ok(words) => Some((words, numbers)),
-        Err(error) => {
-            tell_error(rt, program, "the words", Some(&error));
-            None
-        }
-    }
+    Some((words_or_tell(rt, program)?, numbers))
 }
 
 /// The word at that place, or the empty one where there is none.

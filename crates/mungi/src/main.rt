@@ -14,7 +14,7 @@ ghost use Rattle.std.specs.Prelude.{◌≡◌, ◌<◌};
 mod status_notes;
 mod usage;
 
-use mg_console::{NO_WORDS, Notes, Task, tell_fault, tell_volume, word, words_or_tell};
+use mg_console::{NO_WORDS, Notes, Task, begin, tell_fault, tell_volume, word};
 use mg_disk::{Disk, FileDisk, OneHolder};
 use mg_io::{ReaderSource, Sink, Source, WriterSink};
 use mg_migrate_session::{is_migrate, top_migrate};
@@ -33,7 +33,7 @@ use std::sync::ledger::{Blank, Ledger};
 const NAME: &str = "mungi";
 
 fn main(rt: HostRuntime) -> ExitCode {
-    match words_or_tell(&rt, NAME) {
+    match begin(&rt, NAME) {
         Some((words, _numbers)) => ExitCode::from(carried_out(&rt, &words)),
         None => ExitCode::from(NO_WORDS),
     }

@@ -5,17 +5,14 @@
 #![tactic(auto)]
 
 use mg_asm_session::top;
-use mg_console::{NO_WORDS, tell_error, words_of};
+use mg_console::{NO_WORDS, words_or_tell};
 use mg_io::{ReaderSource, WriterSink};
 use std::process::ExitCode;
 
 fn main(rt: HostRuntime) -> ExitCode {
-    match words_of(&rt) {
-        Ok(words) => ExitCode::from(carried_out(&rt, &words)),
-        Err(error) => {
-            tell_error(&rt, "mungi_asm", "the words", Some(&error));
-            ExitCode::from(NO_WORDS)
-        }
+    match words_or_tell(&rt, "mungi_asm") {
+        Some(words) => ExitCode::from(carried_out(&rt, &words)),
+        None => ExitCode::from(NO_WORDS),
     }
 }
 

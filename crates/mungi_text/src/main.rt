@@ -4,21 +4,15 @@
 //! What it then does, and with which status it ends, is what `top` ensures of the words, the source and the sinks.
 #![tactic(auto)]
 
-use mg_console::{tell_error, words_of};
+use mg_console::{NO_WORDS, words_or_tell};
 use mg_document_session::top;
 use mg_io::{ReaderSource, WriterSink};
 use std::process::ExitCode;
 
-/// The exit status where the program cannot have its words: one is no text, or memory is wanting.
-const NO_WORDS: u8 = 9;
-
 fn main(rt: HostRuntime) -> ExitCode {
-    match words_of(&rt) {
-        Ok(words) => ExitCode::from(carried_out(&rt, &words)),
-        Err(error) => {
-            tell_error(&rt, "mungi_text", "the words", Some(&error));
-            ExitCode::from(NO_WORDS)
-        }
+    match words_or_tell(&rt, "mungi_text") {
+        Some(words) => ExitCode::from(carried_out(&rt, &words)),
+        None => ExitCode::from(NO_WORDS),
     }
 }
 
