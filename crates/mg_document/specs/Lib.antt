@@ -3,7 +3,7 @@
 pub mod Documents
 pub mod Asked
 pub mod Replies
-pub mod Told
+pub mod FaultText
 pub mod Whole
 -- Lemmas that a crate above cites.
 pub mod EndedLemmas

@@ -1,6 +1,6 @@
 // Why replies tell no document.
 ghost use Rattle.std.specs.Prelude.{◌≡◌, ◌≤◌, length};
-ghost use Rattle.mg_document.specs.Told.{kind_name};
+ghost use Rattle.mg_document.specs.FaultText.{kind_name};
 
 use thiserror::Error;
 

@@ -6,7 +6,7 @@ use Rattle.mg_document_session.specs.declared.status.Status.{Status}
 use Rattle.mg_document_session.specs.declared.status.Status.TheVariants as status
 use Rattle.mg_document_session.specs.declared.words.Command.{Command}
 use Rattle.mg_document_session.specs.declared.words.Command.TheVariants.{Bytes}
-use Rattle.mg_document_session.proofs.Told.{comes-back}
+use Rattle.mg_document_session.proofs.RepliesTold.{comes-back}
 
 bytes-bring : (result : Status) (left left' taken taken' aside aside' : Option (List ℕ)) (Rest Other : Type 0)
     → (result ≡ status.Done → OfInput Bytes left left' (λ input. PutsText Bytes input (became Bytes input) taken taken') × Rest)

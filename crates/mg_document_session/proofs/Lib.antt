@@ -1,6 +1,6 @@
 pub mod Numbers
 pub mod Loads
 pub mod Stored
-pub mod Told
+pub mod RepliesTold
 pub mod Spelled
 pub mod Brings

@@ -5,7 +5,7 @@ use Rattle.mg_document.specs.declared.faults.ReplyFault.{ReplyFault}
 use Rattle.mg_document.specs.Asked.{get_calls, get_text, put_calls, put_text}
 use Rattle.mg_document.specs.Documents.{byte_limit}
 use Rattle.mg_document.specs.Replies.{bytes_told}
-use Rattle.mg_document.specs.Told.{fault_line}
+use Rattle.mg_document.specs.FaultText.{fault_line}
 use Rattle.mg_document.specs.Whole.{OfWhole, TakesAtMost, TakesMore}
 use Rattle.mg_document_session.specs.Trips.{Trip, replies}
 use Rattle.mg_document_session.specs.declared.status.Status.{Status}

@@ -9,9 +9,9 @@
 //! what replies tell are defined in `mg_document`.
 #![tactic(auto)]
 
+mod fault_line;
 mod laws;
 mod status;
-mod telling;
 mod top_call;
 mod turning;
 mod words;

@@ -5,9 +5,9 @@ ghost use Rattle.mg_document_session.specs.Commands.{HasPlace, command_of, words
 ghost use Rattle.mg_document_session.specs.Headline.{BringsBack, Keeps, LeavesSource, OfInput, PutsFault, PutsPart, PutsText, UsageKeeps, became, limit_of};
 ghost use Rattle.mg_faults.specs.Faults.{Rose};
 
+use crate::fault_line::put_fault;
 use crate::laws::documents_come_back;
 use crate::status::Status;
-use crate::telling::put_fault;
 use crate::turning::{take_input, turn};
 use crate::words::{Command, read_words};
 use mg_document::{ReplyFault, Unread};

@@ -15,7 +15,7 @@ use Rattle.mg_migrate.specs.Version1.{Damaged1, NewVolume1, NotVolume1, OldVolum
 use Rattle.mg_migrate.specs.declared.migrating.MigrateFault.{MigrateFault}
 use Rattle.mg_migrate.specs.declared.migrating.MigrateFault.TheVariants as fault
 use Rattle.mg_migrate_session.specs.Headline.{HasPut, IfState1, MigrateKeeps}
-use Rattle.mg_migrate_session.specs.Told.{EndsWith, IsQuiet, fault_line}
+use Rattle.mg_migrate_session.specs.FaultText.{EndsWith, IsQuiet, fault_line}
 use Rattle.mg_migrate_session.proofs.Endings.{IsTold, disk_keeps, memory_keeps, small_state1, told_keeps, too_small}
 use Rattle.mg_model.specs.State.{State}
 use Rattle.mg_serve.specs.declared.status.Status.{Status}

@@ -2,4 +2,4 @@
 pub mod Commands
 pub mod Headline
 -- What a fault tells.
-pub mod Told
+pub mod FaultText

@@ -7,7 +7,7 @@
 //! (what a fault tells).
 #![tactic(auto)]
 
-mod telling;
+mod fault_line;
 mod top_call;
 mod words;
 

@@ -4,7 +4,7 @@ ghost use Rattle.mg_migrate_session.specs.Commands.{is_migrate};
 ghost use Rattle.mg_migrate_session.specs.Headline.{MigrateKeeps, NoMigrateKeeps};
 ghost use Rattle.mg_session.specs.Commands.{words_of};
 
-use crate::telling::put_fault;
+use crate::fault_line::put_fault;
 use crate::words::is_migrate;
 use mg_disk::Disk;
 use mg_io::Sink;

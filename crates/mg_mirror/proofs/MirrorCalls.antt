@@ -9,8 +9,9 @@ use Rattle.mg_disk.specs.Disk.{Image, Both, GoesOn, HasBlocks, InRange, SameBut,
 use Rattle.mg_disk.specs.Stops.{TimeGoes}
 use Rattle.mg_disk.specs.Runs.{time_none}
 use Rattle.mg_disk.specs.declared.disk.Disk.{Ghosts}
-use Rattle.mg_mirror.specs.Mirror.{told_cut, seen_of, SameWhileBoth, moment_of, Been, LeftSince, IsToldAs, told_map, both_told, cut_block, cut_but, cut_set}
-use Rattle.mg_mirror.specs.MirrorMoments.{Cuts, goes_then, goes_same, goes_alone, torn_left, torn_right}
+use Rattle.mg_mirror.specs.Mirror.{told_cut, seen_of, SameWhileBoth, moment_of, Been, LeftSince}
+use Rattle.mg_mirror.specs.MirrorLemmas.{IsToldAs, told_map, both_told, cut_block, cut_but, cut_set}
+use Rattle.mg_mirror.specs.MomentLemmas.{Cuts, goes_then, goes_same, goes_alone, torn_left, torn_right}
 use Rattle.mg_mirror.specs.declared.mirror.Side.{Side}
 use Rattle.mg_mirror.specs.declared.mirror.Side.TheVariants.{Left, Right}
 

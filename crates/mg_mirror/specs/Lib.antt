@@ -5,4 +5,5 @@ pub mod Opened
 pub mod Opens
 pub mod Copy
 -- Lemmas that the disk of a mirror has to show.
-pub mod MirrorMoments
+pub mod MirrorLemmas
+pub mod MomentLemmas

@@ -8,8 +8,9 @@ ghost use Rattle.mg_mirror.specs.Sides.{FailsWithSides, ReadsSides, DropsSides};
 ghost use Rattle.mg_mirror.specs.declared.mirror.Side.{Side};
 ghost use Rattle.mg_mirror.specs.Opened.{RoseFrom, BothRose};
 ghost use Rattle.mg_faults.specs.Faults.{is_last};
-ghost use Rattle.mg_mirror.specs.Mirror.{seen_of, SameWhileBoth, moment_of, Been, LeftSince, seen_long, seen_bytes, and_left, and_right};
-ghost use Rattle.mg_mirror.specs.MirrorMoments.{been_now, counted_now, seen_stays};
+ghost use Rattle.mg_mirror.specs.Mirror.{seen_of, SameWhileBoth, moment_of, Been, LeftSince};
+ghost use Rattle.mg_mirror.specs.MirrorLemmas.{seen_long, seen_bytes, and_left, and_right};
+ghost use Rattle.mg_mirror.specs.MomentLemmas.{been_now, counted_now, seen_stays};
 
 use crate::copy::copy_side;
 use mg_disk::{Block, Disk, Failed};

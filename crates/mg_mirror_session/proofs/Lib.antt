@@ -2,4 +2,4 @@ pub mod Through
 pub mod Opening
 pub mod FirstFault
 pub mod Refusing
-pub mod Ran
+pub mod RunsOnMirror

@@ -10,7 +10,7 @@
 #![tactic(auto)]
 
 mod judging;
-mod telling;
+mod putting;
 mod top_call;
 mod words;
 

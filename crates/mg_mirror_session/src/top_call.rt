@@ -5,7 +5,7 @@ ghost use Rattle.mg_mirror_session.specs.Headline.{MirrorKeeps, NoMirrorKeeps};
 ghost use Rattle.mg_session.specs.Commands.{words_of};
 
 use crate::judging::read_first;
-use crate::telling::put_side;
+use crate::putting::put_side;
 use crate::words::read_words;
 use mg_disk::{BLOCK_SIZE, COPY_BLOCKS, Disk, Failed};
 use mg_io::{Sink, Source};

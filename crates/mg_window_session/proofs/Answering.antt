@@ -18,7 +18,7 @@ use Rattle.mg_window.specs.Attached.{Attached, device_at}
 use Rattle.mg_window.specs.Devices.{reading}
 use Rattle.mg_window_session.specs.Machine.{Equipped, Outcome, load_step, plain_step, reached, staying, store_step, stored_at}
 use Rattle.mg_window_session.specs.Stepping.{IsAnswered, Looks, Serves, bases_of, dropped, machine}
-use Rattle.mg_window_session.proofs.Staying.{dropped_stay}
+use Rattle.mg_window_session.proofs.LeavingDevices.{dropped_stay}
 
 alike_then : (w0 w1 w2 s0 s1 s2 : ℕ) → CountsAlike w0 w1 s0 s1 → CountsAlike w1 w2 s1 s2 → CountsAlike w0 w2 s0 s2
 alike_then w0 w1 w2 s0 s1 s2 (n, rose, words) (m, rose', words') =

@@ -2,5 +2,5 @@ mod Answering
 mod Asked
 mod Lines
 mod DeviceSteps
-mod Staying
-mod Told
+mod LeavingDevices
+mod DeviceLines

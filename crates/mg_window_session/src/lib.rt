@@ -10,9 +10,9 @@
 #![tactic(auto)]
 
 mod device_kernel;
+mod device_lines;
 mod running;
 mod stepping;
-mod telling;
 mod top_call;
 mod words;
 

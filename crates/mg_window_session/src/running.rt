@@ -4,7 +4,7 @@ ghost use Rattle.mg_window.specs.Attached.{seen};
 ghost use Rattle.mg_window_session.specs.Headline.{DevKeeps, DevicesKeep};
 
 use crate::device_kernel::DeviceKernel;
-use crate::telling::put_devices;
+use crate::device_lines::put_devices;
 use mg_disk::Disk;
 use mg_io::{Sink, Source};
 use mg_kernel::Kernel;

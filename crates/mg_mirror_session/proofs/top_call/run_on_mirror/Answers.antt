@@ -2,7 +2,7 @@ use Rattle.std.specs.Prelude.{◌≡◌, None, Ok, Some, length, min}
 use Rattle.std.proofs.Common.{refl, rules, subst, sym, ◌∙◌}
 use Rattle.mg_mirror.specs.Opened.{RoseFrom}
 use Rattle.mg_mirror_session.proofs.Opening.{as_two, opened_from, opened_since}
-use Rattle.mg_mirror_session.proofs.Ran.{both_rose_from, given_back, mirror_keeps}
+use Rattle.mg_mirror_session.proofs.RunsOnMirror.{both_rose_from, given_back, mirror_keeps}
 use Rattle.mg_mirror_session.proofs.Refusing.{no_fault, not_opened, read_left, read_right, refused, side_judged}
 use Rattle.mg_mirror_session.proofs.Through.{through}
 use Rattle.mg_mirror_session.specs.Headline.{EndsWith, MirrorKeeps}

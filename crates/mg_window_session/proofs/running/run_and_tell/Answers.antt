@@ -1,7 +1,7 @@
 use Rattle.std.proofs.Common.{ap, subst}
 use Rattle.mg_window.specs.Attached.{Attached, seen}
 use Rattle.mg_window_session.specs.Headline.{DevKeeps}
-use Rattle.mg_window_session.proofs.Told.{dev_keeps, not_begun}
+use Rattle.mg_window_session.proofs.DeviceLines.{dev_keeps, not_begun}
 use Rattle.mg_window_session.proofs.running.run_and_tell.Goals as goal
 
 pub returns-in-Ok : goal.returns-in-Ok

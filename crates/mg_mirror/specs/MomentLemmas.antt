@@ -2,7 +2,8 @@
 use Rattle.std.specs.Prelude.{◌≡◌, ◌⊎◌, ℕ, Bool, IsTrue, take, Option, Some, None, IsSomeAnd}
 use Rattle.std.proofs.Common.{refl, sym, ◌∙◌, subst, inl, inr, ⊎_elim}
 use Rattle.mg_disk.specs.Disk.{Image, Moment, At, Both, Alone, GoesOn, no_image, TornAt, OnlySeen}
-use Rattle.mg_mirror.specs.Mirror.{told_cut, seen_of, moment_of, Been, CutOf, LeftSince, same_cut, only_cut}
+use Rattle.mg_mirror.specs.Mirror.{told_cut, seen_of, moment_of, Been, CutOf, LeftSince}
+use Rattle.mg_mirror.specs.MirrorLemmas.{same_cut, only_cut}
 use Rattle.mg_mirror.specs.declared.mirror.Side.{Side}
 use Rattle.mg_mirror.specs.declared.mirror.Side.TheVariants.{Left, Right}
 

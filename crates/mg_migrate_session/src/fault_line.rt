@@ -4,7 +4,7 @@ ghost use Rattle.std.specs.Io.KnownBytes.{Appends};
 ghost use Rattle.mg_faults.specs.Faults.{Rose};
 ghost use Rattle.mg_io.specs.Known.{AppendsPrefix};
 ghost use Rattle.mg_migrate_session.specs.Headline.{HasPut};
-ghost use Rattle.mg_migrate_session.specs.Told.{EndsWith, IsQuiet, fault_line};
+ghost use Rattle.mg_migrate_session.specs.FaultText.{EndsWith, IsQuiet, fault_line};
 ghost use Rattle.mg_session.specs.Headline.{small_line};
 
 use mg_io::{Sink, put_all};

@@ -1,7 +1,7 @@
 use Rattle.std.proofs.Common.{drop, ◌-◌, ◌*◌, ◌++◌, ◌≡◌, ◌≤◌, length}
 use Rattle.mg_window.specs.Attached.{seen}
 use Rattle.mg_window_session.specs.Headline.{device_lines}
-use Rattle.mg_window_session.proofs.telling.device_text.Given as goal
+use Rattle.mg_window_session.proofs.device_lines.device_text.Given as goal
 
 abbrev pub invariant-loop-i : goal.invariant-loop-i
 invariant-loop-i g l = record {
