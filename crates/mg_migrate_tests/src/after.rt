@@ -1,6 +1,6 @@
 // A volume of this version as the new disk may have it before, and what the disk holds after a stop.
 use crate::images::{BLOCKS, MOVED, stopped, zeros};
-use crate::telling::{is_told, outcome};
+use crate::outcomes::{is_told, outcome};
 use Held::{Before, Moved, Nothing, Other};
 use mg_disk::{Left, MemDisk};
 use mg_testing::{Outcome, SEED};

@@ -1,6 +1,6 @@
 // Real files, of which no contract can say what they give.
 use crate::images::{IN_JOURNAL, MOVED, begins_with, copy, old_volume};
-use crate::telling::{checks, line_tells};
+use crate::outcomes::{checks, line_tells};
 use mg_disk::{Disk, FileDisk, MemDisk, OneHolder};
 use std::alloc::{Alloc, Global};
 use std::fs;

@@ -1,5 +1,5 @@
 // Disks in memory with volumes of 64 frames, made with the seed of zeros.
-use crate::telling::Told;
+use crate::outcomes::Told;
 use mg_disk::{BLOCK_SIZE, Block, Counts, Disk, Left, MemDisk};
 use mg_migrate::fresh_block1;
 use mg_model::{Params, Tariff};

@@ -21,4 +21,4 @@ mod scattered;
 #[cfg(test)]
 mod stops;
 #[cfg(test)]
-mod telling;
+mod outcomes;

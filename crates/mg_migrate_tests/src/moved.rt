@@ -2,7 +2,7 @@
 use crate::images::{
     BLOCKS, IN_JOURNAL, MOVED, begins_with, is_only_read, old_volume, stopped, zeros,
 };
-use crate::telling::{checks, is_told, migrates, outcome};
+use crate::outcomes::{checks, is_told, migrates, outcome};
 use mg_disk::{Counts, Left, MemDisk};
 use std::alloc::Global;
 use std::process::Abort;

@@ -4,7 +4,7 @@ ghost use Rattle.std.specs.Prelude.{◌<◌};
 use crate::after::Held::{self, Before, Nothing};
 use crate::after::{formatted, leaves};
 use crate::images::{BLOCKS, CALLS_TO_MAKE, IN_JOURNAL, MOVED, old_volume, stopped};
-use crate::telling::migrates;
+use crate::outcomes::migrates;
 use mg_disk::{Left, MemDisk};
 use std::alloc::Global;
 use std::ops::Range;

@@ -2,7 +2,7 @@
 use crate::images::{
     BLOCKS, BLOCKS1, Words, copy, is_only_read, old_volume, put_words, stopped, zeros,
 };
-use crate::telling::{Told, is_told, line_tells, migrates, outcome};
+use crate::outcomes::{Told, is_told, line_tells, migrates, outcome};
 use mg_disk::{Counts, Fuse, Left, MemDisk};
 use mg_model::limits::ROOT_BASE as ROOT;
 use mg_testing::{SEED, volume};

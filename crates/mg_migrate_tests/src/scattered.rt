@@ -2,7 +2,7 @@
 ghost use Rattle.std.specs.Prelude.{◌≡◌, ◌%◌, length};
 
 use crate::images::{BLOCKS, OPEN, Words, old_volume, stopped, zeros};
-use crate::telling::{is_told, migrates, outcome};
+use crate::outcomes::{is_told, migrates, outcome};
 use mg_check::{VolumeRows, read_volume};
 use mg_disk::{Left, MemDisk};
 use mg_model::{AccRow, Fault, Frame, Globals, ObjRow, Pw, Rights, Slot, ThrRow, ThrState};

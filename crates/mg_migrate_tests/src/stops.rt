@@ -2,7 +2,7 @@
 use crate::after::Held::{self, Before, Moved, Nothing};
 use crate::after::{formatted, leaves};
 use crate::images::{BLOCKS, IN_JOURNAL, MOVED, old_volume, stopped, zeros};
-use crate::telling::{Told, migrates};
+use crate::outcomes::{Told, migrates};
 use mg_disk::{Fuse, Left, MemDisk};
 use std::alloc::Global;
 use std::process::Abort;
