@@ -14,7 +14,7 @@ use Rattle.mg_text.specs.NumberLemmas.{hex-high, number_of-hex}
 use Rattle.mg_document_session.proofs.Stored.{IsRoomy, loads-tell, stores-hold, value_lines}
 use Rattle.mg_model.specs.declared.replies.Reply.TheVariants.{Value}
 use Rattle.mg_model.specs.Bytes.{number_at, numbers_at, padded_to, word_bytes, words_bytes}
-use Rattle.mg_model.specs.BytesReads.{length-padded_to}
+use Rattle.mg_model.specs.BytesLemmas.{length-padded_to}
 use Rattle.mg_model.specs.Ended.{all_but_last}
 use Rattle.mg_model.specs.Print.{hex_text, reply_line, reply_text, text}
 use Rattle.mg_model.specs.Ranges.{IsWord}

@@ -22,9 +22,9 @@ pub open_account-requires-clause-enough : goal.open_account-requires-clause-enou
 unfolding accounts_in
 open_account-requires-clause-enough c = rw (← c.self.view_is) at c.requires.enough
 
-pub open_account-requires-clause-fewer_than_1024_accounts : goal.open_account-requires-clause-fewer_than_1024_accounts
+pub open_account-requires-clause-fewer_than_1024 : goal.open_account-requires-clause-fewer_than_1024
 unfolding accounts_in
-open_account-requires-clause-fewer_than_1024_accounts c = rw (← c.self.view_is) at c.requires.fewer_than_1024_accounts
+open_account-requires-clause-fewer_than_1024 c = rw (← c.self.view_is) at c.requires.fewer_than_1024_accounts
 
 pub stage_both-requires-clause-second : goal.stage_both-requires-clause-second
 unfolding accounts_in
