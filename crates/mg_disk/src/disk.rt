@@ -83,7 +83,7 @@ pub trait Disk {
     fn read_blocks(&mut self, first: u64, out: &mut [Block]) -> Result<(), Failed>
         requires in_range { first + length out.old ≤ block_count self.old }
         ensures read { OnOk result (ForSome (seen self.old) (HasBlocks first out.new)) }
-        ensures room { length out.new ≡ length out.old }
+        ensures same_length { length out.new ≡ length out.old }
         ensures seen { seen self.new ≡ seen self.old }
         ensures stops { GoesOn (moment self.old) (moment self.new) (has_been self.old) (has_been self.new)
             (left_since self.old) (left_since self.new) no_image }

@@ -8,7 +8,7 @@ use crate::{Block, Disk, Failed};
 
 /// Writes a block and makes sure of it.
 pub fn write_firmly<D: Disk>(disk: &mut D, i: u64, from: &Block) -> Result<(), Failed>
-    requires room { i < D.block_count disk.old }
+    requires within_disk { i < D.block_count disk.old }
     ensures any_moment { NothingPending D.Disk disk.old → ForSome (D.seen disk.old) (λ image. Leaves D.Disk disk.old disk.new (SameBut (only_place i) image)) }
     ensures written { OnOk result (D.seen disk.new ≡ option_map (λ image. slice_set image i from.now) (D.seen disk.old)) }
     ensures torn { SeenBut (only_place i) (D.seen disk.old) (D.seen disk.new) }

@@ -35,8 +35,8 @@ pub(crate) fn copy<C: Contents, D: Disk, E: Disk>(
     old: &mut E,
 ) -> Result<(), CopyFault>
     requires total { total ≡ C.total view.now }
-    requires some { 2 ≤ C.total view.now }
-    requires room { C.total view.now ≤ D.block_count new.old }
+    requires at_least_2_blocks { 2 ≤ C.total view.now }
+    requires within_disk { C.total view.now ≤ D.block_count new.old }
     requires can { CanRead E.Disk (C.need view.now) (C.Fits view.now) old.old }
     ensures any_moment { NothingPending D.Disk new.old → ForSome (D.seen new.old) (λ image. ForSome (contents E.Disk (C.of view.now) old.old) (λ r. Leaves D.Disk new.old new.new (MayCopy (C.total view.now) image r))) }
     ensures made { OnOk result (ForSome (contents E.Disk (C.of view.now) old.old) (λ r. ReadsNow (IsCopy (C.total view.now) r) (D.seen new.old) (D.seen new.new))) }
@@ -53,7 +53,7 @@ pub(crate) fn copy<C: Contents, D: Disk, E: Disk>(
 
 // Writes a gate with this byte in front, and zeros behind it, and makes sure of it.
 fn write_gate<D: Disk>(new: &mut D, first: u8) -> Result<(), CopyFault>
-    requires room { 1 ≤ D.block_count new.old }
+    requires at_least_1_blocks { 1 ≤ D.block_count new.old }
     ensures any_moment { NothingPending D.Disk new.old → ForSome (D.seen new.old) (λ image. Leaves D.Disk new.old new.new (SameBut (only_place gate_block) image)) }
     ensures byte { OnOk result (ForSome (D.seen new.new) (λ c. gate_byte c ≡ first)) }
     ensures seen { OnOk result (SeenBut (only_place gate_block) (D.seen new.old) (D.seen new.new)) }
@@ -77,7 +77,7 @@ fn copy_behind<C: Contents, D: Disk, E: Disk>(
     old: &mut E,
 ) -> Result<(), CopyFault>
     requires total { total ≡ C.total view.now }
-    requires room { C.total view.now ≤ D.block_count new.old }
+    requires within_disk { C.total view.now ≤ D.block_count new.old }
     requires can { CanRead E.Disk (C.need view.now) (C.Fits view.now) old.old }
     ensures any_moment { NothingPending D.Disk new.old → ForSome (D.seen new.old) (λ image. Leaves D.Disk new.old new.new (SameBut (λ k. 1 ≤ k) image)) }
     ensures seen { SeenBut (λ k. 1 ≤ k) (D.seen new.old) (D.seen new.new) }
@@ -108,7 +108,7 @@ fn copy_blocks<C: Contents, D: Disk, E: Disk>(
 ) -> Result<(), CopyFault>
     requires place { first + length blocks.old ≤ C.total view.now }
     requires total { C.total view.now < 2 ^ 64 }
-    requires room { first + length blocks.old ≤ D.block_count new.old }
+    requires within_disk { first + length blocks.old ≤ D.block_count new.old }
     requires can { CanRead E.Disk (C.need view.now) (C.Fits view.now) old.old }
     ensures stops { TimeGoes D.Disk new.old new.new (TornAt (InRange first (length blocks.old)) (D.left_since new.old (D.moment new.old))) }
     ensures seen { SeenBut (InRange first (length blocks.old)) (D.seen new.old) (D.seen new.new) }

@@ -67,7 +67,7 @@ fn write_front(p: &Params, i: u64, out: &mut Block)
 // Gives block k of the objects: two of them come of one.
 fn read_objects<D: Disk>(view: &View, disk: &mut D, k: u64, out: &mut Block) -> Result<(), Failed>
     requires place { first_object_block + k / 2 < view.now.total }
-    requires room { view.now.total ≤ D.block_count disk.old }
+    requires within_disk { view.now.total ≤ D.block_count disk.old }
     requires fits { ForSome (D.seen disk.old) (λ image. Fits view.now image) }
     ensures block { OnOk result (ForSome (D.seen disk.old) (λ image. ForSome (replay image view.now.total) (λ r. out.new ≡ lifted_objects (block_of r (first_object_block + k / 2)) (k % 2)))) }
     ensures writes { WritesNothing D.Disk disk.old disk.new }

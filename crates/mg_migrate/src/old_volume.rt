@@ -27,7 +27,7 @@ use std::alloc::Global;
 
 // Whether the gate of the volume is open.
 fn is_gate_open<E: Disk>(old: &mut E) -> Result<bool, Failed>
-    requires room { 2 ≤ E.block_count old.old }
+    requires at_least_2_blocks { 2 ≤ E.block_count old.old }
     ensures opened { IfOk result (λ opened. ForSome (E.seen old.old) (λ image. (gate_byte image == gate_open) ≡ opened)) }
     ensures cause { OnErr result (CountRose E.Disk old.old old.new) }
     ensures reads { OnlyRead E.Disk old.old old.new }
@@ -41,7 +41,7 @@ fn is_gate_open<E: Disk>(old: &mut E) -> Result<bool, Failed>
 
 // What the superblock spells.
 fn read_second<E: Disk>(old: &mut E) -> Result<Super1, Failed>
-    requires room { 2 ≤ E.block_count old.old }
+    requires at_least_2_blocks { 2 ≤ E.block_count old.old }
     ensures spelled { IfOk result (λ spelled. ForSome (E.seen old.old) (λ image. IsSuper1 spelled (super1_read (block_of image super_block)))) }
     ensures cause { OnErr result (CountRose E.Disk old.old old.new) }
     ensures reads { OnlyRead E.Disk old.old old.new }
@@ -94,7 +94,7 @@ fn look_through<E: Disk>(alloc: Global, old: &mut E, p: &Params) -> Result<Lifti
     requires has { ForSome (E.seen old.old) (HasSettings1 p.now) }
     ensures told { IfOk result (λ seen. ForSome (E.seen old.old) (IsSeen1 seen)) }
     ensures settings { IfOk result (λ seen. seen.settings ≡ p.now) }
-    ensures room { IfOk result (λ seen. seen.placed.total ≤ E.block_count old.old) }
+    ensures within_disk { IfOk result (λ seen. seen.placed.total ≤ E.block_count old.old) }
     ensures none { ForSome (E.seen old.old) (λ image. TellsOld result (volume1 image)) }
     ensures no_new { result ≢ Err MigrateFault.NewDisk }
     ensures cause { result ≡ Err MigrateFault.OldDisk → CountRose E.Disk old.old old.new }
@@ -120,7 +120,7 @@ fn read_lifted<E: Disk>(
     p: &Params,
 ) -> Result<VolumeRows, MigrateFault>
     requires settings { seen.now.settings ≡ p.now }
-    requires room { seen.now.placed.total ≤ E.block_count old.old }
+    requires within_disk { seen.now.placed.total ≤ E.block_count old.old }
     requires seen { ForSome (E.seen old.old) (IsSeen1 seen.now) }
     ensures told { IfOk result (λ rows. ForSome (E.seen old.old) (IsOldRead seen.now rows)) }
     ensures params { IfOk result (λ rows. rows.params ≡ p.now) }
@@ -146,7 +146,7 @@ pub(crate) fn read_old<E: Disk>(
     ensures told { IfOk result (λ read. ForSome (E.seen old.old) (IsOldRead read.0 read.1)) }
     ensures params { IfOk result (λ read. read.1.params ≡ read.0.settings) }
     ensures kept { IfOk result (λ read. AreKept read.1) }
-    ensures room { IfOk result (λ read. read.0.placed.total ≤ E.block_count old.old) }
+    ensures within_disk { IfOk result (λ read. read.0.placed.total ≤ E.block_count old.old) }
     ensures none { ForSome (E.seen old.old) (λ image. TellsOld result (volume1 image)) }
     ensures no_new { result ≢ Err MigrateFault.NewDisk }
     ensures cause { result ≡ Err MigrateFault.OldDisk → CountRose E.Disk old.old old.new }

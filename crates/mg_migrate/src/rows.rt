@@ -123,7 +123,7 @@ fn ends(b: &[u8]) -> bool
 // The bytes where this version has them.
 fn widened(b: &[u8]) -> [u8; ROW]
     requires long { length b.now ≡ 512 }
-    requires few { number_at b.now 32 ≤ 16 }
+    requires at_most_16_entries { number_at b.now 32 ≤ 16 }
     ensures value { result ≡ widened b.now }
     ensures long { length result ≡ 1024 }
 {
@@ -141,7 +141,7 @@ fn widened(b: &[u8]) -> [u8; ROW]
 // So many bytes from a place on.
 fn add_part(b: &[u8], at: usize, n: usize, filling: &mut Filling<ROW>)
     requires within { at + n ≤ length b.now }
-    requires room { length filling.old + n ≤ 1024 }
+    requires fits_in_row { length filling.old + n ≤ 1024 }
     ensures value { filling.new ≡ filling.old ++ bytes_at b.now at n }
     ensures long { length filling.new ≡ length filling.old + n }
 {
@@ -150,8 +150,8 @@ fn add_part(b: &[u8], at: usize, n: usize, filling: &mut Filling<ROW>)
 
 // The untils of so many passwords that never end.
 fn add_untils(count: u64, filling: &mut Filling<ROW>)
-    requires few { count ≤ 16 }
-    requires room { length filling.old + 256 ≤ 1024 }
+    requires count_at_most_16 { count ≤ 16 }
+    requires fits_in_row { length filling.old + 256 ≤ 1024 }
     ensures value { filling.new ≡ filling.old ++ untils count }
     ensures long { length filling.new ≡ length filling.old + 256 }
 {

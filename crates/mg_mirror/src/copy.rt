@@ -20,7 +20,7 @@ pub(crate) fn copy_side<D: Disk, E: Disk>(
     requires right_long { blocks ≤ E.block_count right.old }
     requires left_first { from ≡ Side.Left → ForSome (D.seen left.old) (HasBlocks 0 first.now) }
     requires right_first { from ≡ Side.Right → ForSome (E.seen right.old) (HasBlocks 0 first.now) }
-    requires few { length first.now ≤ blocks }
+    requires at_most_so_many_blocks { length first.now ≤ blocks }
     ensures left { from ≡ Side.Left → Copies D.Disk E.Disk blocks left.old left.new right.old right.new result }
     ensures right { from ≡ Side.Right → Copies E.Disk D.Disk blocks right.old right.new left.old left.new result }
 {
@@ -41,7 +41,7 @@ fn copy_blocks<D: Disk, E: Disk>(
     requires from_long { blocks ≤ D.block_count from.old }
     requires to_long { blocks ≤ E.block_count to.old }
     requires are_first { ForSome (D.seen from.old) (HasBlocks 0 first.now) }
-    requires few { length first.now ≤ blocks }
+    requires at_most_so_many_blocks { length first.now ≤ blocks }
     ensures copies { Copies D.Disk E.Disk blocks from.old from.new to.old to.new result }
 {
     if to.write_blocks(0, first).is_err() {

@@ -265,7 +265,7 @@ impl<D: Disk, E: Disk, K: Opened> Disk for Mirror<D, E, K> {
     fn read_blocks(&mut self, first: u64, out: &mut [Block]) -> Result<(), Failed>
         requires in_range { first + length out.old ≤ ⟦<Mirror<D, E, K> as Disk>⟧.block_count self.old }
         ensures read { OnOk result (ForSome (⟦<Mirror<D, E, K> as Disk>⟧.seen self.old) (HasBlocks first out.new)) }
-        ensures room { length out.new ≡ length out.old }
+        ensures same_length { length out.new ≡ length out.old }
         ensures seen { ⟦<Mirror<D, E, K> as Disk>⟧.seen self.new ≡ ⟦<Mirror<D, E, K> as Disk>⟧.seen self.old }
         ensures stops { TimeGoes ⟦<Mirror<D, E, K> as Disk>⟧ self.old self.new no_image }
         ensures blocks { ⟦<Mirror<D, E, K> as Disk>⟧.block_count self.new ≡ ⟦<Mirror<D, E, K> as Disk>⟧.block_count self.old }

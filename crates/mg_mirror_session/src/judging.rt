@@ -21,7 +21,7 @@ pub(crate) fn read_first<D: Disk, E: Disk>(
     ensures right { from ≡ Side.Right → IsJudged E.Disk right.old right.new first.new result }
     ensures left_alone { from ≡ Side.Right → left.new ≡ left.old }
     ensures right_alone { from ≡ Side.Left → right.new ≡ right.old }
-    ensures room { length first.new ≡ length first.old }
+    ensures same_length { length first.new ≡ length first.old }
 {
     match from {
         Side::Left => read_and_judge(left, first),
@@ -32,7 +32,7 @@ pub(crate) fn read_first<D: Disk, E: Disk>(
 fn read_and_judge<D: Disk>(disk: &mut D, first: &mut [Block]) -> Result<Option<OpenFault>, Failed>
     requires long { length first.old ≤ D.block_count disk.old }
     ensures judged { IsJudged D.Disk disk.old disk.new first.new result }
-    ensures room { length first.new ≡ length first.old }
+    ensures same_length { length first.new ≡ length first.old }
 {
     match disk.read_blocks(0, first) {
         Ok(()) => Ok(judge(first)),

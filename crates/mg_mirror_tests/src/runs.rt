@@ -141,7 +141,7 @@ fn with_steps<D: Disk, E: Disk, S: Source, K: Sink, L: Ledger>(
 ) -> Mirrored<D, E>
     requires name { blank.name ≡ L.name }
     requires parts { blank.parts ≡ L.parts }
-    requires some { 0 < blank.parts }
+    requires has_parts { 0 < blank.parts }
 {
     let mut steps = Steps::<L>::new(blank);
     top_mirror(alloc, words, left, right, source, sink, &mut steps)

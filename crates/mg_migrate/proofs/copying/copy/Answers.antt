@@ -31,7 +31,7 @@ returns-clause-any_moment g c pending image told r read =
     let closed = seen_then (only_place 0) (g.D.Disk.seen c.args.new.now) (g.D.Disk.seen c.write_gate.new.new) image c.in_ok-write_gate.ensures.seen told in
     let behind = seen_then (λ k. 1 ≤ k) (g.D.Disk.seen c.write_gate.new.new) (g.D.Disk.seen c.copy_behind.new.new) closed.c c.copy_behind.ensures.seen closed.is in
     let count = g.met.D.Disk.seen_count c.args.new.now image told in
-    let long : n ≤ length behind.c = let room = c.requires.room in let one = closed.same.count in let two = behind.same.count in omega arith in
+    let long : n ≤ length behind.c = let room = c.requires.within_disk in let one = closed.same.count in let two = behind.same.count in omega arith in
     third_phase g.D.Disk n image r c.args.new.now c.copy_behind.new.new c.write_gate-2.new.new behind.c long (c.in_ok-copy_behind.ensures.copied r read behind.c behind.is)
     (second_phase g.D.Disk n image r c.args.new.now c.write_gate.new.new c.copy_behind.new.new closed.c (c.in_ok-write_gate.ensures.byte closed.c closed.is)
     (first_phase g.D.Disk n image r c.args.new.now c.write_gate.new.new (c.write_gate.ensures.any_moment pending image told))
@@ -41,7 +41,7 @@ returns-clause-any_moment g c pending image told r read =
 pub returns-clause-made : goal.returns-clause-made
 returns-clause-made g c =
     let n = g.C.Contents.total c.args.view.now in
-    let long = λ (s : Image) (is : g.D.Disk.seen c.copy_behind.new.new ≡ Some s). let count = g.met.D.Disk.seen_count c.copy_behind.new.new s is in let room = c.requires.room in let one = c.write_gate.ensures.calls.blocks in let two = c.copy_behind.ensures.calls.blocks in let fits : n ≤ length s = omega arith in fits in
+    let long = λ (s : Image) (is : g.D.Disk.seen c.copy_behind.new.new ≡ Some s). let count = g.met.D.Disk.seen_count c.copy_behind.new.new s is in let room = c.requires.within_disk in let one = c.write_gate.ensures.calls.blocks in let two = c.copy_behind.ensures.calls.blocks in let fits : n ≤ length s = omega arith in fits in
     on_ok_weaker c.write_gate-2.result
     (λ both r read.
     all_made n r (g.D.Disk.seen c.args.new.now) (g.D.Disk.seen c.write_gate.new.new) (g.D.Disk.seen c.copy_behind.new.new) (g.D.Disk.seen c.write_gate-2.new.new) c.in_ok-write_gate.ensures.seen c.copy_behind.ensures.seen both.1

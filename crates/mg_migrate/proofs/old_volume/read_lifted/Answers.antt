@@ -3,7 +3,7 @@ use Rattle.mg_migrate.proofs.OldReads.{lifted_contents, read_so, without_state}
 use Rattle.mg_migrate.proofs.old_volume.read_lifted.Goals as goal
 
 pub read_rows-requires-clause-can : goal.read_rows-requires-clause-can
-read_rows-requires-clause-can g c = record { room = c.requires.room; fits = λ image told. (c.requires.seen image told).fits }
+read_rows-requires-clause-can g c = record { room = c.requires.within_disk; fits = λ image told. (c.requires.seen image told).fits }
 
 pub returns-in-Ok-clause-told : goal.returns-in-Ok-clause-told
 returns-in-Ok-clause-told g c image told =

@@ -29,9 +29,9 @@ loop-next-init g c =
     let from = c.args.from.now in
     let to = c.write_blocks.new.self in
     record {
-      copied = copied_first c.args.blocks c.args.first.now (g.D.Disk.seen from) (g.E.Disk.seen c.args.to.now) (g.E.Disk.seen to) c.requires.few
-          (λ x is. let e = g.met.D.Disk.seen_count from x is in let f = c.requires.few in let r = c.requires.from_long in omega arith)
-          (λ y is. let e = g.met.E.Disk.seen_count to y is in let f = c.requires.few in let b = c.write_blocks.ensures.blocks in let r = c.requires.to_long in omega arith)
+      copied = copied_first c.args.blocks c.args.first.now (g.D.Disk.seen from) (g.E.Disk.seen c.args.to.now) (g.E.Disk.seen to) c.requires.at_most_so_many_blocks
+          (λ x is. let e = g.met.D.Disk.seen_count from x is in let f = c.requires.at_most_so_many_blocks in let r = c.requires.from_long in omega arith)
+          (λ y is. let e = g.met.E.Disk.seen_count to y is in let f = c.requires.at_most_so_many_blocks in let b = c.write_blocks.ensures.blocks in let r = c.requires.to_long in omega arith)
           c.requires.are_first (search rules) c.write_blocks.ensures.unknown;
       reads = nothing_none g.D.Disk from (g.met.D.Disk.now_has_been from);
       from_blocks = refl;
