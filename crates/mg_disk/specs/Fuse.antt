@@ -1,5 +1,5 @@
 -- What a `Fuse` shows.
-use Rattle.std.specs.Prelude.{◌≡◌, ◌-◌, ◌<◌, ℕ, Result, IsErr, OnErr}
+use Rattle.std.specs.Prelude.{◌≡◌, ◌-◌, ◌<◌, ◌≤◌, ℕ, Result, IsErr, OnErr}
 use Rattle.mg_disk.specs.Stops.{CountRose}
 use Rattle.mg_disk.specs.declared.disk.Disk.{Ghosts}
 use Rattle.mg_disk.specs.declared.fuse.Fuse.{Fuse}
@@ -12,9 +12,10 @@ inner_of fuse = fuse.inner
 abbrev pub calls_left : {D : Type 0} → Fuse D → ℕ
 calls_left fuse = fuse.calls_left
 
--- a call: passed on where one is left, and then a fault is the inner disk's; else refused, and the inner disk is not called
-pub record Burns {D T E : Type 0} (facts : Ghosts D) (old new : Fuse D) (result : Result T E) : Type 0 where
-  pub spent : calls_left new ≡ calls_left old - 1
-  pub passed : 0 < calls_left old → OnErr result (CountRose facts (inner_of old) (inner_of new))
-  pub refused : calls_left old ≡ 0 → IsErr result
+-- So many calls: passed on where as many are left, and then a fault is the inner disk's; else refused. Where none is left the inner disk
+-- is not called.
+pub record Burns {D T E : Type 0} (calls : ℕ) (facts : Ghosts D) (old new : Fuse D) (result : Result T E) : Type 0 where
+  pub spent : calls_left new ≡ calls_left old - calls
+  pub passed : calls ≤ calls_left old → OnErr result (CountRose facts (inner_of old) (inner_of new))
+  pub refused : calls_left old < calls → IsErr result
   pub untouched : calls_left old ≡ 0 → inner_of new ≡ inner_of old

@@ -1,5 +1,5 @@
 -- What a `MemDisk` shows, and how it numbers its calls.
-use Rattle.std.specs.Prelude.{◌≡◌, ◌⊎◌, ◌↔◌, ◌+◌, ◌<◌, ◌≤◌, ℕ, List, length, Contains, Result, IsErr}
+use Rattle.std.specs.Prelude.{◌≡◌, ◌⊎◌, ◌↔◌, ◌+◌, ◌<◌, ◌≤◌, ℕ, List, length, Contains, Result, IsErr, OnErr, OnOk}
 use Rattle.std.proofs.Common.{sym, subst, arith}
 use Rattle.mg_disk.specs.Blocks.{IsGated}
 use Rattle.mg_disk.specs.Disk.{Image, SameBut, At}
@@ -59,6 +59,32 @@ pub record Numbered {T E : Type 0} (old new : MemDisk) (made : Counts) (result :
   pub exact : IsErr result ↔ ((room_of old ≤ number_of old) ⊎ Contains (fails_of old) (number_of old))
   pub recorded : number_of old < room_of old → counts_of new ≡ made
   pub past : room_of old ≤ number_of old → new ≡ record old { count = new.count }
+  pub same_room : room_of new ≡ room_of old
+  pub same_fails : fails_of new ≡ fails_of old
+
+-- so many calls of a kind more
+abbrev pub more_reads : Counts → ℕ → Counts
+more_reads made n = record made { reads = made.reads + n }
+
+abbrev pub more_writes : Counts → ℕ → Counts
+more_writes made n = record made { writes = made.writes + n }
+
+-- the call of this number fails
+abbrev pub FailsAt : MemDisk → ℕ → Type 0
+FailsAt disk number = (room_of disk ≤ number) ⊎ Contains (fails_of disk) number
+
+-- Of a run of calls this is the first that fails, and the last that is made; it is recorded where it is not past the room.
+pub record FailsFirst (old new : MemDisk) (made : ℕ → Counts) (calls k : ℕ) : Type 0 where
+  pub one : k < calls
+  pub fails : FailsAt old (number_of old + k)
+  pub passed : (j : ℕ) → j < k → FailsAt old (number_of old + j) → ⊥
+  pub recorded : number_of old + k < room_of old → counts_of new ≡ made (k + 1)
+  pub past : room_of old ≤ number_of old + k → counts_of new ≡ made k
+
+-- So many calls of one kind, one after the other: each has a number of its own, and the run ends with the first that fails.
+pub record NumberedRun {T E : Type 0} (calls : ℕ) (old new : MemDisk) (made : ℕ → Counts) (result : Result T E) : Type 0 where
+  pub all : OnOk result ((counts_of new ≡ made calls) × ((j : ℕ) → j < calls → FailsAt old (number_of old + j) → ⊥))
+  pub first : OnErr result ((k : ℕ) × FailsFirst old new made calls k)
   pub same_room : room_of new ≡ room_of old
   pub same_fails : fails_of new ≡ fails_of old
 

@@ -1,5 +1,5 @@
 //! A disk that dies after some calls.
-ghost use Rattle.std.specs.Prelude.{◌≡◌, ◌-◌, ◌<◌, ◌↔◌, IsErr};
+ghost use Rattle.std.specs.Prelude.{◌≡◌, ◌+◌, ◌-◌, ◌<◌, ◌≤◌, ◌↔◌, IsErr, length, min};
 ghost use Rattle.mg_faults.specs.Faults.{is_last};
 
 use crate::counted::counted;
@@ -44,7 +44,7 @@ impl<D: Disk> Fuse<D> {
 
 impl<D: Disk> Disk for Fuse<D> {
     ghost use Rattle.mg_disk.specs.Fuse.{Burns};
-    ghost use Rattle.mg_disk.specs.Calls.{IsRead, IsWrite, IsSync};
+    ghost use Rattle.mg_disk.specs.Calls.{IsRead, IsReadRun, IsWrite, IsWriteRun, IsSync};
 
     ghost block_count = { λ f. D.Disk.block_count f.inner };
 
@@ -81,7 +81,7 @@ impl<D: Disk> Disk for Fuse<D> {
     fn read(&mut self, i: u64, out: &mut Block) -> Result<(), Failed>
         requires in_range { i < ⟦<Fuse<D> as Disk>⟧.block_count self.old }
         ensures meets { IsRead ⟦<Fuse<D> as Disk>⟧ self.old self.new i out.new result }
-        ensures burns { Burns D.Disk self.old self.new result }
+        ensures burns { Burns 1 D.Disk self.old self.new result }
     {
         let outcome = match spend(&mut self.calls_left) {
             Ok(()) => self.inner.read(i, out),
@@ -93,7 +93,7 @@ impl<D: Disk> Disk for Fuse<D> {
     fn write(&mut self, i: u64, from: &Block) -> Result<(), Failed>
         requires in_range { i < ⟦<Fuse<D> as Disk>⟧.block_count self.old }
         ensures meets { IsWrite ⟦<Fuse<D> as Disk>⟧ self.old self.new i from.now result }
-        ensures burns { Burns D.Disk self.old self.new result }
+        ensures burns { Burns 1 D.Disk self.old self.new result }
     {
         let outcome = match spend(&mut self.calls_left) {
             Ok(()) => self.inner.write(i, from),
@@ -102,9 +102,49 @@ impl<D: Disk> Disk for Fuse<D> {
         counted(outcome, &mut self.count)
     }
 
+    /// A block is a call, and is spent whatever comes of the run. Where fewer calls are left, as many blocks are read, and it fails.
+    fn read_blocks(&mut self, first: u64, out: &mut [Block]) -> Result<(), Failed>
+        requires in_range { first + length out.old ≤ ⟦<Fuse<D> as Disk>⟧.block_count self.old }
+        ensures meets { IsReadRun ⟦<Fuse<D> as Disk>⟧ self.old self.new first (length out.old) out.new result }
+        ensures burns { Burns (length out.old) D.Disk self.old self.new result }
+    {
+        let passing = spend_run(&mut self.calls_left, out.len());
+        let outcome = if passing < out.len() {
+            if passing > 0 {
+                let _ = self.inner.read_blocks(first, &mut out[..passing]);
+            }
+            Err(Failed)
+        } else if passing > 0 {
+            self.inner.read_blocks(first, out)
+        } else {
+            Ok(())
+        };
+        counted(outcome, &mut self.count)
+    }
+
+    /// A block is a call, and is spent whatever comes of the run. Where fewer calls are left, as many blocks are written, and it fails.
+    fn write_blocks(&mut self, first: u64, from: &[Block]) -> Result<(), Failed>
+        requires in_range { first + length from.now ≤ ⟦<Fuse<D> as Disk>⟧.block_count self.old }
+        ensures meets { IsWriteRun ⟦<Fuse<D> as Disk>⟧ self.old self.new first from.now result }
+        ensures burns { Burns (length from.now) D.Disk self.old self.new result }
+    {
+        let passing = spend_run(&mut self.calls_left, from.len());
+        let outcome = if passing < from.len() {
+            if passing > 0 {
+                let _ = self.inner.write_blocks(first, &from[..passing]);
+            }
+            Err(Failed)
+        } else if passing > 0 {
+            self.inner.write_blocks(first, from)
+        } else {
+            Ok(())
+        };
+        counted(outcome, &mut self.count)
+    }
+
     fn sync(&mut self) -> Result<(), Failed>
         ensures meets { IsSync ⟦<Fuse<D> as Disk>⟧ self.old self.new result }
-        ensures burns { Burns D.Disk self.old self.new result }
+        ensures burns { Burns 1 D.Disk self.old self.new result }
     {
         let outcome = match spend(&mut self.calls_left) {
             Ok(()) => self.inner.sync(),
@@ -124,4 +164,14 @@ fn spend(calls_left: &mut u64) -> Result<(), Failed>
     }
     *calls_left -= 1;
     Ok(())
+}
+
+/// So many calls fewer are left. Gives how many of them were.
+fn spend_run(calls_left: &mut u64, calls: usize) -> usize
+    ensures passing { result ≡ min calls_left.old calls }
+    ensures spent { calls_left.new ≡ calls_left.old - calls }
+{
+    let passing = (*calls_left).min(calls as u64);
+    *calls_left -= passing;
+    passing as usize
 }

@@ -226,8 +226,8 @@ impl MemDisk {
 }
 
 impl Disk for MemDisk {
-    ghost use Rattle.mg_disk.specs.Calls.{IsRead, IsWrite, IsSync};
-    ghost use Rattle.mg_disk.specs.Memory.{counts_of, number_of, room_of, content_of, Numbered, one_read, one_write, one_sync};
+    ghost use Rattle.mg_disk.specs.Calls.{IsRead, IsReadRun, IsWrite, IsWriteRun, IsSync};
+    ghost use Rattle.mg_disk.specs.Memory.{counts_of, number_of, room_of, content_of, Numbered, NumberedRun, more_reads, more_writes, one_read, one_write, one_sync};
 
     ghost block_count = { λ d. vec_len d.content };
 
@@ -297,6 +297,38 @@ impl Disk for MemDisk {
                 Ok(())
             }
         }
+    }
+
+    /// Each block is a call, with a number of its own.
+    fn read_blocks(&mut self, first: u64, out: &mut [Block]) -> Result<(), Failed>
+        requires in_range { first + length out.old ≤ ⟦<MemDisk as Disk>⟧.block_count self.old }
+        ensures meets { IsReadRun ⟦<MemDisk as Disk>⟧ self.old self.new first (length out.old) out.new result }
+        ensures numbered { NumberedRun (length out.old) self.old self.new (more_reads (counts_of self.old)) result }
+    {
+        let _count = self.blocks();
+        for k in 0..out.len() {
+            match self.read(first + k as u64, &mut out[k]) {
+                Ok(()) => {}
+                Err(Failed) => return Err(Failed),
+            }
+        }
+        Ok(())
+    }
+
+    /// Each block is a call, with a number of its own.
+    fn write_blocks(&mut self, first: u64, from: &[Block]) -> Result<(), Failed>
+        requires in_range { first + length from.now ≤ ⟦<MemDisk as Disk>⟧.block_count self.old }
+        ensures meets { IsWriteRun ⟦<MemDisk as Disk>⟧ self.old self.new first from.now result }
+        ensures numbered { NumberedRun (length from.now) self.old self.new (more_writes (counts_of self.old)) result }
+    {
+        let _count = self.blocks();
+        for (k, block) in from.iter().enumerate() {
+            match self.write(first + k as u64, block) {
+                Ok(()) => {}
+                Err(Failed) => return Err(Failed),
+            }
+        }
+        Ok(())
     }
 
     fn sync(&mut self) -> Result<(), Failed>

@@ -1,0 +1,27 @@
+-- Only the first of some blocks were put: that is a run of all of them that failed.
+use Rattle.std.specs.Prelude.{ℕ, ◌≤◌, length, take, Option, Some, None}
+use Rattle.std.proofs.Common.{arith}
+use Rattle.std.proofs.Math.Nat.{min-le_right}
+use Rattle.std.proofs.lemmas.List.{length-take}
+use Rattle.mg_disk.specs.Disk.{Image, InRange, SameBut, SeenBut, TornAt}
+use Rattle.mg_disk.specs.Runs.{time_wider}
+use Rattle.mg_disk.specs.Stops.{TimeGoes}
+use Rattle.mg_disk.specs.declared.disk.Disk.{Ghosts}
+
+module _ (first n : ℕ) (blocks : Image) where
+  among : (k : ℕ) → InRange first (length (take n blocks)) k → InRange first (length blocks) k
+  among k at =
+      let few : length (take n blocks) ≤ length blocks = omega (arith, length-take n blocks, min-le_right n (length blocks)) in
+      record { from = at.from; before = let before = at.before in omega arith }
+
+  wider : (a b : Image) → SameBut (InRange first (length (take n blocks))) a b → SameBut (InRange first (length blocks)) a b
+  wider a b same = record { count = same.count; others = λ k out. same.others k (λ at. out (among k at)) }
+
+  pub fewer_seen : (old new : Option Image) → SeenBut (InRange first (length (take n blocks))) old new → SeenBut (InRange first (length blocks)) old new
+  fewer_seen (Some a) (Some b) same = wider a b same
+  fewer_seen None None same = tt
+  fewer_seen (Some a) None same = absurd same
+  fewer_seen None (Some b) same = absurd same
+
+  pub fewer_torn : {D : Type 0} (facts : Ghosts D) (old new : D) (now : Image → Type 0) → TimeGoes facts old new (TornAt (InRange first (length (take n blocks))) now) → TimeGoes facts old new (TornAt (InRange first (length blocks)) now)
+  fewer_torn facts old new now goes = time_wider facts old new (TornAt (InRange first (length (take n blocks))) now) (TornAt (InRange first (length blocks)) now) goes (λ c torn. (torn.0, torn.1, wider torn.0 c torn.2))

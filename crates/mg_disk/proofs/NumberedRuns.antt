@@ -1,0 +1,95 @@
+-- A run of calls of a `MemDisk`, call by call.
+use Rattle.std.specs.Prelude.{◌≡◌, ◌+◌, ◌<◌, ℕ, Contains, Ok, Err, IsErr, Some, length, true}
+use Rattle.std.specs.Vec.{vec_len}
+use Rattle.std.proofs.Common.{ap, arith, inl, inr, refl, subst, sym, ◌∙◌, ⊎_elim}
+use Rattle.std.proofs.lemmas.Bool.{cases_lt}
+use Rattle.mg_faults.specs.Faults.{is_last}
+use Rattle.mg_disk.specs.Disk.{At}
+use Rattle.mg_disk.specs.Held.{BeenIn, LeftIn}
+use Rattle.mg_disk.specs.Memory.{FailsAt, Numbered, NumberedRun, counts_of, fails_of, more_reads, more_writes, number_of, one_read, one_write, room_of}
+use Rattle.mg_disk.specs.declared.disk.Disk.{Ghosts}
+use Rattle.mg_disk.specs.declared.memory.Counts.{Counts}
+use Rattle.mg_disk.specs.declared.memory.MemDisk.{MemDisk}
+
+-- one call of a kind more
+pub one_more_read : (a b : Counts) (n : ℕ) → b ≡ more_reads a n → one_read b ≡ more_reads a (n + 1)
+one_more_read a b n is =
+    let next : a.reads + n + 1 ≡ a.reads + (n + 1) = omega arith in
+    ap one_read is ∙ ap (λ (r : ℕ). record a { reads = r }) next
+
+pub one_more_write : (a b : Counts) (n : ℕ) → b ≡ more_writes a n → one_write b ≡ more_writes a (n + 1)
+one_more_write a b n is =
+    let next : a.writes + n + 1 ≡ a.writes + (n + 1) = omega arith in
+    ap one_write is ∙ ap (λ (w : ℕ). record a { writes = w }) next
+
+-- what a `MemDisk` tells, as the trait's members
+abbrev pub told_by : Ghosts MemDisk
+told_by = record {
+  block_count = λ disk. vec_len disk.content;
+  seen = λ disk. Some disk.content.items;
+  tells_stops = λ disk. true;
+  moment = λ disk. At (length disk.events.items);
+  has_been = λ disk. BeenIn disk.events.items;
+  left_since = λ disk. LeftIn disk.first.items disk.events.items;
+  faults = λ disk. disk.count;
+  is_spent = λ disk. is_last disk.count;
+}
+
+abbrev pub sum_of : Counts → ℕ
+sum_of counts = counts.reads + counts.writes + counts.syncs
+
+no_error : (T E : Type 0) (x : T) → IsErr {T = T} {E = E} (Ok x) → ⊥
+no_error T E x is = cc
+
+-- so many calls passed
+pub record Passed (made : ℕ → Counts) (n : ℕ) (old new : MemDisk) : Type 0 where
+  pub recorded : counts_of new ≡ made n
+  pub none : (j : ℕ) → j < n → FailsAt old (number_of old + j) → ⊥
+  pub same_room : room_of new ≡ room_of old
+  pub same_fails : fails_of new ≡ fails_of old
+
+module _ (made : ℕ → Counts) (old mid : MemDisk) (n : ℕ) (counted : sum_of (made n) ≡ number_of old + n) (passed : Passed made n old mid) where
+  number : number_of mid ≡ number_of old + n
+  number = ap sum_of passed.recorded ∙ counted
+
+  as_old : FailsAt mid (number_of mid) → FailsAt old (number_of old + n)
+  as_old h =
+      let is = number in
+      let room = passed.same_room in
+      ⊎_elim (λ past. inl (omega arith)) (λ among. inr (subst (Contains (fails_of old)) is (subst (λ numbers. Contains numbers (number_of mid)) passed.same_fails among))) h
+
+  as_mid : FailsAt old (number_of old + n) → FailsAt mid (number_of mid)
+  as_mid h =
+      let is = number in
+      let room = passed.same_room in
+      ⊎_elim (λ past. inl (omega arith)) (λ among. inr (subst (λ numbers. Contains numbers (number_of mid)) (sym passed.same_fails) (subst (Contains (fails_of old)) (sym is) among))) h
+
+  -- one more that passes
+  pub passed_more : {T E : Type 0} (new : MemDisk) (x : T) (one : Counts) → one ≡ made (n + 1) → Numbered {T = T} {E = E} mid new one (Ok x) → Passed made (n + 1) old new
+  passed_more {T = T} {E = E} new x one is call = record {
+    recorded = ⊎_elim (λ room. call.recorded room ∙ is) (λ past. absurd (no_error T E x (call.exact.1 (inl past)))) (cases_lt (number_of mid) (room_of mid));
+    none = λ j low fails. ⊎_elim (λ before. passed.none j before fails) (λ here. no_error T E x (call.exact.1 (as_mid (let P : ℕ → Type 0 = λ i. FailsAt old (number_of old + i) in subst P (omega arith) fails)))) (cases_lt j n);
+    same_room = call.same_room ∙ passed.same_room;
+    same_fails = call.same_fails ∙ passed.same_fails;
+  }
+
+  -- one that fails
+  pub fails_first : {S T E F : Type 0} (new : MemDisk) (e : E) (f : F) (calls : ℕ) (one : Counts) → n < calls → one ≡ made (n + 1) → Numbered {T = T} {E = E} mid new one (Err e) → NumberedRun {T = S} {E = F} calls old new made (Err f)
+  fails_first new e f calls one few next call = record {
+    all = tt;
+    first = (
+      n,
+      record {
+        one = few;
+        fails = as_old (call.exact.0 refl);
+        passed = passed.none;
+        recorded = λ room. call.recorded (let is = number in let same = passed.same_room in omega arith) ∙ next;
+        past = λ past. ap (λ (disk : MemDisk). counts_of disk) (call.past (let is = number in let same = passed.same_room in omega arith)) ∙ passed.recorded;
+      },
+    );
+    same_room = call.same_room ∙ passed.same_room;
+    same_fails = call.same_fails ∙ passed.same_fails;
+  }
+
+pub all_passed : {T E : Type 0} (made : ℕ → Counts) (old new : MemDisk) (x : T) (calls : ℕ) → Passed made calls old new → NumberedRun {T = T} {E = E} calls old new made (Ok x)
+all_passed made old new x calls passed = record { all = (passed.recorded, passed.none); first = tt; same_room = passed.same_room; same_fails = passed.same_fails }
