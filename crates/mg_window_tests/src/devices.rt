@@ -31,6 +31,7 @@ const MOST_DEVICES: [Run; 2] = [
             "dev 0x0000000000000010 1 0\n",
         ),
         left: 16,
+        tapes: &[],
     },
     Run {
         line: SEVENTEEN,
@@ -40,6 +41,7 @@ const MOST_DEVICES: [Run; 2] = [
         status: Status::Usage,
         put: USAGE,
         left: 0,
+        tapes: &[],
     },
 ];
 
@@ -58,6 +60,7 @@ const NO_RUN: Run = Run {
     status: Status::Usage,
     put: USAGE,
     left: 0,
+    tapes: &[],
 };
 
 const NO_RUNS: [&[&str]; 10] = [
@@ -108,6 +111,7 @@ const FEW_DEVICES: [Run; 2] = [
         status: Status::Done,
         put: Put::All(&["ok 0x0000000000000001\n"]),
         left: 0,
+        tapes: &[],
     },
     Run {
         line: &["v", "dev", "console:0x100200000"],
@@ -117,6 +121,7 @@ const FEW_DEVICES: [Run; 2] = [
         status: Status::Done,
         put: Put::All(&["no Denied\nok 0x0000000000000001\ndev 0x0000000100200000 2 0\n"]),
         left: 1,
+        tapes: &[],
     },
 ];
 

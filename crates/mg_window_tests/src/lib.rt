@@ -8,4 +8,6 @@ mod devices;
 #[cfg(test)]
 mod lines;
 #[cfg(test)]
+mod own_kind;
+#[cfg(test)]
 mod runs;

@@ -1,5 +1,5 @@
 // Lines that reach devices, and lines that do not.
-use crate::runs::{Alone, Put, Run, are_told, count_told};
+use crate::runs::{Alone, Left, Put, Run, are_told, count_told};
 use mg_session::Status;
 use std::test::Fail;
 
@@ -19,7 +19,17 @@ const LATCHED: Run = Run {
     status: Status::Done,
     put: Put::All(&[MADE, "dev 0x0000000100001000 1 0\n"]),
     left: 1,
+    tapes: &[],
 };
+
+/// Its tape is one store of 9, at 8.
+const LATCH_LEFT: &[Left] = &[Left {
+    base: 0x1_0000_1000,
+    kind: 1,
+    length: 1,
+    off: 8,
+    value: 9,
+}];
 
 const TAKES_STORES: Run = Run {
     input: &[
@@ -31,6 +41,7 @@ const TAKES_STORES: Run = Run {
         "ok\nok 0x0000000000000009\nno NoPassword\nno Align\n",
         "dev 0x0000000100001000 1 1\n",
     ]),
+    tapes: LATCH_LEFT,
     ..LATCHED
 };
 
@@ -57,6 +68,7 @@ const FULL_TAPE: Run = Run {
         "ok\nno Limit\nok 0x0000000000000009\nok\nno Denied\n",
         "dev 0x0000000100001000 1 1\n",
     ]),
+    tapes: LATCH_LEFT,
     ..LATCHED
 };
 
@@ -73,10 +85,20 @@ const COUNTED: &str =
 const COUNTED_ANSWERS: &str =
     "ok 0x0000000100003000 0xc70d778bccef36a8\nok\nok\nok\nok\nok\nok 0x000000000000000c\nok\nok 0x0000000000000001\nok\nno Denied\n";
 
+/// The console took one store, which is counted at whatever place.
+const CONSOLE_LEFT: &[Left] = &[Left {
+    base: 0x1_0000_3000,
+    kind: 2,
+    length: 1,
+    off: 16,
+    value: 1,
+}];
+
 const DELETED: Run = Run {
     line: &["vol", "dev", "counter:0x100001000", "console:0x100003000"],
     input: &[TWO_PAGES, COUNTED],
     put: Put::All(&[MADE, COUNTED_ANSWERS, "dev 0x0000000100003000 2 1\n"]),
+    tapes: CONSOLE_LEFT,
     ..LATCHED
 };
 
@@ -99,6 +121,7 @@ const MADE_AGAIN: Run = Run {
         "ok 0x0000000100001000 0x8d4857517c5941da\nok\nok 0x0000000000000000\n",
         "dev 0x0000000100003000 2 1\n",
     ]),
+    tapes: CONSOLE_LEFT,
     ..LATCHED
 };
 
@@ -176,6 +199,29 @@ const EACH_KIND: Run = Run {
         "ok 0x0000000000000007\nok 0x0000000000000002\nok 0x000000000000000c\ndev 0x0000000100001000 1 2\ndev 0x0000000100002000 2 2\ndev 0x0000000100003000 3 2\n",
     ),
     left: 3,
+    tapes: &[
+        Left {
+            base: 0x1_0000_1000,
+            kind: 1,
+            length: 2,
+            off: 0,
+            value: 7,
+        },
+        Left {
+            base: 0x1_0000_2000,
+            kind: 2,
+            length: 2,
+            off: 0,
+            value: 2,
+        },
+        Left {
+            base: 0x1_0000_3000,
+            kind: 3,
+            length: 2,
+            off: 0,
+            value: 12,
+        },
+    ],
     ..LATCHED
 };
 

@@ -6,9 +6,9 @@ use mg_io::{MemSink, MemSource, Sink, Source};
 use mg_layout::format as make_volume;
 use mg_model::{Params, Steps, Tariff};
 use mg_session::{Status, run as run_plain};
-use mg_window::{Device, Kind, Windows};
-use mg_window_session::{Served, read_words, top_dev};
-use std::alloc::Global;
+use mg_window::{Console, Counter, Device, Latch, Windows};
+use mg_window_session::{Asked, read_words, top_dev};
+use std::alloc::{AllocError, Global};
 use std::marker::Brand;
 use std::sync::ledger::{Blank, Ledger};
 
@@ -35,13 +35,26 @@ pub struct Run {
     /// The words that ask for the devices which it is given, which are none where they ask for no run; None: those of the run.
     pub devices: Option<&'static [&'static str]>,
     /// For how many stores each device has room.
-    pub room: u64,
+    pub room: usize,
     /// Its lines are these texts one after the other.
     pub input: &'static [&'static str],
     pub status: Status,
     pub put: Put,
     /// How many devices are left.
     pub left: usize,
+    /// The first of these, as they are read back.
+    pub tapes: &'static [Left],
+}
+
+/// A device that is left: where it stands, its kind, how many stores its tape holds, and what a load at one place is answered
+/// with.
+#[derive(Clone, Copy)]
+pub struct Left {
+    pub base: u64,
+    pub kind: u64,
+    pub length: u64,
+    pub off: u64,
+    pub value: u64,
 }
 
 /// What a run of these lines on the volume alone has to put, a line a batch.
@@ -157,20 +170,95 @@ fn is_told_by(
     source: &mut MemSource,
     sink: &mut MemSink,
 ) -> bool {
-    match devices(alloc, run.devices.unwrap_or(run.line), run.room) {
-        Some(windows) => {
-            let blank = Blank::new(1);
-            let served = with_steps::<_, _, _, Brand>(
-                alloc, words, disk, source, sink, windows, blank,
-            );
-            is_as(run, &served, sink.bytes())
-        }
+    match asked_by(alloc, run) {
+        Some(asked) => is_told_with(alloc, run, words, asked.as_slice(), disk, source, sink),
         None => false,
     }
 }
 
-fn is_as(run: &Run, served: &Served, put: &[u8]) -> bool {
-    served.status == run.status && served.windows.len() == run.left && is_put(&run.put, put)
+/// The devices that a run is given; None where memory is wanting.
+fn asked_by(alloc: Global, run: &Run) -> Option<Asked> {
+    match words_of(alloc, run.devices.unwrap_or(run.line)) {
+        Some(words) => match read_words(&words) {
+            Some(asked) => Some(asked),
+            None => Some(Asked::new()),
+        },
+        None => None,
+    }
+}
+
+/// The boxes are made here, since no function may make them and hand them out.
+fn is_told_with(
+    alloc: Global,
+    run: &Run,
+    words: &[String],
+    asked: &[(u64, u64)],
+    disk: &mut MemDisk,
+    source: &mut MemSource,
+    sink: &mut MemSink,
+) -> bool {
+    let mut windows = match Windows::new(alloc) {
+        Ok(windows) => windows,
+        Err(_) => return false,
+    };
+    for (kind, base) in asked {
+        let device: Box<dyn Device> = match *kind {
+            1 => match boxed(alloc, Latch::new(alloc, run.room)) {
+                Ok(latch) => latch,
+                Err(_) => return false,
+            },
+            2 => match boxed(alloc, Console::new(alloc, run.room)) {
+                Ok(console) => console,
+                Err(_) => return false,
+            },
+            _ => match boxed(alloc, Counter::new(alloc, run.room)) {
+                Ok(counter) => counter,
+                Err(_) => return false,
+            },
+        };
+        let _ = windows.attach(*base, device);
+    }
+    let status = with_windows(alloc, words, disk, source, sink, &mut windows);
+    status == run.status
+        && is_put(&run.put, sink.bytes())
+        && are_left(run, windows.into_list().as_slice())
+}
+
+/// A device in a box.
+fn boxed<D: Drop>(alloc: Global, made: Result<D, AllocError>) -> Result<Box<D>, AllocError> {
+    Ok(Box::new(alloc, made?)?)
+}
+
+fn with_windows(
+    alloc: Global,
+    words: &[String],
+    disk: &mut MemDisk,
+    source: &mut MemSource,
+    sink: &mut MemSink,
+    windows: &mut Windows,
+) -> Status {
+    let blank = Blank::new(1);
+    with_steps::<_, _, _, Brand>(alloc, words, disk, source, sink, windows, blank)
+}
+
+/// Whether so many devices are left, and the first of them are these.
+fn are_left(run: &Run, list: &[(u64, Box<dyn Device>)]) -> bool {
+    if list.len() != run.left {
+        return false;
+    }
+    for (left, (base, device)) in run.tapes.iter().zip(list) {
+        if !is_left(left, *base, device) {
+            return false;
+        }
+    }
+    run.tapes.len() <= list.len()
+}
+
+fn is_left<D: Device>(left: &Left, base: u64, device: &D) -> bool {
+    base == left.base
+        && device.kind() == left.kind
+        && device.length() == left.length
+        && device.load(left.off) == left.value
 }
 
 /// Whether what was put is what was wanted.
@@ -241,50 +329,6 @@ fn put_texts(bytes: &mut Vec<u8>, texts: &[&str]) -> bool {
     true
 }
 
-/// The devices that these words ask for, each with room for so many stores; none where they ask for none. None where memory is
-/// wanting.
-fn devices(alloc: Global, line: &[&str], room: u64) -> Option<Windows> {
-    match words_of(alloc, line) {
-        Some(words) => match read_words(&words) {
-            Some(asked) => attached(alloc, asked.as_slice(), room),
-            None => attached(alloc, &[], room),
-        },
-        None => None,
-    }
-}
-
-fn attached(alloc: Global, asked: &[(Kind, u64)], room: u64) -> Option<Windows> {
-    match Windows::new(alloc) {
-        Ok(mut windows) => {
-            if attach_all(alloc, &mut windows, asked, room) {
-                Some(windows)
-            } else {
-                None
-            }
-        }
-        Err(_) => None,
-    }
-}
-
-fn attach_all(alloc: Global, windows: &mut Windows, asked: &[(Kind, u64)], room: u64) -> bool {
-    for (kind, base) in asked {
-        if !attach(alloc, windows, *kind, *base, room) {
-            return false;
-        }
-    }
-    true
-}
-
-fn attach(alloc: Global, windows: &mut Windows, kind: Kind, base: u64, room: u64) -> bool {
-    match Device::new(alloc, kind, room) {
-        Ok(device) => {
-            let _ = windows.attach(base, device);
-            true
-        }
-        Err(_) => false,
-    }
-}
-
 /// The top call, with a count of steps of its own.
 fn with_steps<D: Disk, S: Source, K: Sink, L: Ledger>(
     alloc: Global,
@@ -292,9 +336,9 @@ fn with_steps<D: Disk, S: Source, K: Sink, L: Ledger>(
     disk: &mut D,
     source: &mut S,
     sink: &mut K,
-    windows: Windows,
+    windows: &mut Windows,
     blank: Blank,
-) -> Served
+) -> Status
     requires name { blank.name ≡ L.name }
     requires parts { blank.parts ≡ L.parts }
     requires has_parts { 0 < blank.parts }

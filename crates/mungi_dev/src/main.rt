@@ -1,23 +1,25 @@
 //! The program: the words of its command line, the files that they name, its standard input and its standard output, handed to
-//! [`mg_window_session::top_dev`] where the second word is `dev`, with a device for each word behind it, and else to
-//! [`mg_mirror_session::top_mirror`].
+//! [`mg_mirror_session::top_mirror`] where the second word is `mirror`, and else to [`mg_window_session::top_dev`], with a device
+//! for each word `KIND:BASE`.
 //!
 //! What it then does, and with which status it ends, is what these two ensure of the words, the disks, the devices, the source and
-//! the sink. Why a command failed is told on standard error, and of a mirror also at once where a side is dropped.
+//! the sink. Why a command failed is told on standard error, and of a mirror also at once where a side is dropped. So is a base
+//! at which no object begins.
 #![tactic(auto)]
 
 ghost use Rattle.std.specs.Prelude.{◌≡◌, ◌<◌};
 
-mod telling;
+mod status_notes;
 
-use mg_console::{Notes, Task, tell_error, tell_fault, tell_volume, word, words_of};
+use mg_console::{NO_WORDS, Notes, Task, begin, tell_fault, tell_volume, word};
 use mg_disk::{Disk, FileDisk, OneHolder};
-use mg_io::{ReaderSource, Sink, Source, WriterSink, standard_numbers};
+use mg_io::{ReaderSource, Sink, Source, WriterSink};
 use mg_mirror_session::{Mirrored, top_mirror};
 use mg_model::Steps;
 use mg_session::Status;
-use mg_window::{Device, Windows};
+use mg_window::{Console, Counter, Device, Latch, Windows};
 use mg_window_session::{read_words, top_dev};
+use status_notes::{tell_bases, tell_status};
 use std::alloc::{AllocError, Global};
 use std::io::{Eprint, IsTerminal};
 use std::marker::Brand;
@@ -25,36 +27,17 @@ use std::os::unix::fs::FileExt;
 use std::process::ExitCode;
 use std::rt::Files;
 use std::sync::ledger::{Blank, Ledger};
-use telling::tell_status;
 
 /// The program's name.
 const NAME: &str = "mungi_dev";
 
-/// The exit status where the program cannot have its words: one is no text, or memory is wanting; or the numbers of the standard
-/// streams, which a file must not get.
-const NO_WORDS: u8 = 9;
-
 /// How many stores the tape of a device has room for.
-const ROOM: u64 = 1024;
+const ROOM: usize = 1024;
 
 fn main(rt: HostRuntime) -> ExitCode {
-    match standard_numbers(&rt) {
-        Ok(_numbers) => ExitCode::from(with_words(&rt)),
-        Err(error) => {
-            tell_error(&rt, NAME, "the standard streams", Some(&error));
-            ExitCode::from(NO_WORDS)
-        }
-    }
-}
-
-/// Has the words, and carries out what they ask for.
-fn with_words(rt: &HostRuntime) -> u8 {
-    match words_of(rt) {
-        Ok(words) => carried_out(rt, &words),
-        Err(error) => {
-            tell_error(rt, NAME, "the words", Some(&error));
-            NO_WORDS
-        }
+    match begin(&rt, NAME) {
+        Some((words, _numbers)) => ExitCode::from(carried_out(&rt, &words)),
+        None => ExitCode::from(NO_WORDS),
     }
 }
 
@@ -62,16 +45,17 @@ fn with_words(rt: &HostRuntime) -> u8 {
 fn carried_out(rt: &HostRuntime, words: &[String]) -> u8 {
     let mut source = ReaderSource::new(rt.stdin());
     let mut sink = WriterSink::new(rt.stdout());
-    let status = if word(words, 1) == "dev" {
-        on_devices(rt, words, &mut source, &mut sink)
-    } else {
+    let status = if word(words, 1) == "mirror" {
         on_sides(rt, words, &mut source, &mut sink, rt.stderr().is_terminal())
+    } else {
+        on_devices(rt, words, &mut source, &mut sink)
     };
     tell_status(rt, status, source.error(), sink.error());
     status.code()
 }
 
-/// Runs lines on the volume in the file of the first word, with devices.
+/// Runs lines on the volume in the file of the first word, with a device for each word that asks for one, in their order, with
+/// an empty tape; with none where the words are no such.
 fn on_devices<R: Files + AllocGlobal + Eprint, S: Source, K: Sink>(
     rt: &R,
     words: &[String],
@@ -81,24 +65,51 @@ fn on_devices<R: Files + AllocGlobal + Eprint, S: Source, K: Sink>(
 where
     R::File: FileExt + OneHolder,
 {
-    match devices(rt.alloc(), words) {
-        Ok(windows) => on_windows(rt, words, source, sink, windows),
-        Err(_) => Status::Memory,
+    let alloc = rt.alloc();
+    let asked = read_words(words).unwrap_or_default();
+    let mut windows = match Windows::new(alloc) {
+        Ok(windows) => windows,
+        Err(_) => return Status::Memory,
+    };
+    for (kind, base) in asked.as_slice() {
+        let device: Box<dyn Device> = match *kind {
+            1 => match boxed(alloc, Latch::new(alloc, ROOM)) {
+                Ok(latch) => latch,
+                Err(_) => return Status::Memory,
+            },
+            2 => match boxed(alloc, Console::new(alloc, ROOM)) {
+                Ok(console) => console,
+                Err(_) => return Status::Memory,
+            },
+            _ => match boxed(alloc, Counter::new(alloc, ROOM)) {
+                Ok(counter) => counter,
+                Err(_) => return Status::Memory,
+            },
+        };
+        let _ = windows.attach(*base, device);
     }
+    on_windows(rt, words, asked.as_slice(), source, sink, &mut windows)
+}
+
+/// A device in a box.
+fn boxed<D: Drop>(alloc: Global, made: Result<D, AllocError>) -> Result<Box<D>, AllocError> {
+    Ok(Box::new(alloc, made?)?)
 }
 
 fn on_windows<R: Files + AllocGlobal + Eprint, S: Source, K: Sink>(
     rt: &R,
     words: &[String],
+    asked: &[(u64, u64)],
     source: &mut S,
     sink: &mut K,
-    windows: Windows,
+    windows: &mut Windows,
 ) -> Status
 where
     R::File: FileExt + OneHolder,
 {
     let path = word(words, 0);
     let mut disk = FileDisk::new(rt, path);
+    tell_bases(rt, path, asked, &mut disk);
     let blank = Blank::new(1);
     let status = serve::<_, _, _, Brand>(
         rt.alloc(),
@@ -158,18 +169,6 @@ where
     status
 }
 
-/// A device for each word that asks for one, in their order, with an empty tape; none where the words are no such.
-fn devices(alloc: Global, words: &[String]) -> Result<Windows, AllocError> {
-    let mut windows = Windows::new(alloc)?;
-    if let Some(asked) = read_words(words) {
-        for (kind, base) in asked.as_slice() {
-            let device = Device::new(alloc, *kind, ROOM)?;
-            let _ = windows.attach(*base, device);
-        }
-    }
-    Ok(windows)
-}
-
 /// The top call over a mirror, with a count of steps of its own.
 fn mirror<D: Disk, E: Disk, S: Source, K: Sink, L: Ledger>(
     alloc: Global,
@@ -195,7 +194,7 @@ fn serve<D: Disk, S: Source, K: Sink, L: Ledger>(
     disk: &mut D,
     source: &mut S,
     sink: &mut K,
-    windows: Windows,
+    windows: &mut Windows,
     blank: Blank,
 ) -> Status
     requires name { blank.name ≡ L.name }
@@ -203,5 +202,5 @@ fn serve<D: Disk, S: Source, K: Sink, L: Ledger>(
     requires has_parts { 0 < blank.parts }
 {
     let mut steps = Steps::<L>::new(blank);
-    top_dev(alloc, words, disk, source, sink, windows, &mut steps).status
+    top_dev(alloc, words, disk, source, sink, windows, &mut steps)
 }
