@@ -1,5 +1,5 @@
 -- What the program promises. An object that does not tell its content has None for it; a promise on content is then empty.
-use Rattle.std.specs.Prelude.{ℕ, ◌+◌, ◌^◌, ◌<◌, ◌≤◌, ◌≡◌, ◌≢◌, ◌⊎◌, List, [], ◌∷◌, ◌++◌, length, codes, Option, Some, IfSome, IsSomeAnd, Result, Ok, Err}
+use Rattle.std.specs.Prelude.{ℕ, ◌^◌, ◌≡◌, ◌≢◌, ◌⊎◌, List, [], ◌∷◌, ◌++◌, codes, Option, Result, Ok, Err}
 use Rattle.std.specs.Io.KnownBytes.{Appends}
 use Rattle.mg_asm.specs.Assembled.{assembled}
 use Rattle.mg_asm.specs.Listed.{listed}
@@ -7,24 +7,15 @@ use Rattle.mg_asm.specs.Printed.{printed}
 use Rattle.mg_asm.specs.Stored.{store_lines}
 use Rattle.mg_asm.specs.FaultText.{fault_line}
 use Rattle.mg_asm.specs.declared.faults.AsmFault.{AsmFault}
-use Rattle.mg_asm_session.specs.declared.status.Status.{Status}
-use Rattle.mg_asm_session.specs.declared.status.Status.TheVariants as status
+use Rattle.mg_filter.specs.Whole.{OfWhole, TakesAtMost, TakesMore}
+use Rattle.mg_filter.specs.declared.status.Status.{Status}
+use Rattle.mg_filter.specs.declared.status.Status.TheVariants as status
 use Rattle.mg_asm_session.specs.declared.words.Command.{Command}
 use Rattle.mg_asm_session.specs.declared.words.Command.TheVariants.{Print, Store}
 use Rattle.mg_faults.specs.Faults.{Rose}
 use Rattle.mg_io.specs.Known.{AppendsPrefix}
 use Rattle.mg_io.specs.declared.traits.Sink as sinks
 use Rattle.mg_io.specs.declared.traits.Source as sources
-
--- the exit status
-abbrev pub code_of : Status → ℕ
-code_of status.Done = 0
-code_of status.Fault = 1
-code_of status.Usage = 1
-code_of status.Memory = 3
-code_of status.Source = 5
-code_of status.Sink = 6
-code_of status.TooLong = 7
 
 -- the most bytes that a text may have
 abbrev pub text_limit : ℕ
@@ -54,17 +45,6 @@ PutsFault (Err fault) taken taken' = Appends taken taken' (fault_line fault)
 abbrev pub PutsPart : Result (List ℕ) AsmFault → Option (List ℕ) → Option (List ℕ) → Option (List ℕ) → Option (List ℕ) → Type 0
 PutsPart (Ok lines) taken taken' aside aside' = AppendsPrefix taken taken' lines × (aside' ≡ aside)
 PutsPart (Err fault) taken taken' aside aside' = (taken' ≡ taken) × AppendsPrefix aside aside' (fault_line fault)
-
--- the source was read to its end, and this holds of what it had
-abbrev pub OfWhole : Option (List ℕ) → Option (List ℕ) → (List ℕ → Type 0) → Type 0
-OfWhole left left' P = IfSome left (λ text. (left' ≡ Some []) × P text)
-
--- at most so many bytes were taken, or more
-abbrev pub TakesAtMost : ℕ → Option (List ℕ) → Option (List ℕ) → Type 0
-TakesAtMost limit left left' = IfSome left (λ text. IsSomeAnd left' (λ rest. length text ≤ limit + length rest))
-
-abbrev pub TakesMore : ℕ → Option (List ℕ) → Option (List ℕ) → Type 0
-TakesMore limit left left' = IfSome left (λ text. IsSomeAnd left' (λ rest. limit + length rest < length text))
 
 -- What a command keeps: `out` takes what the text became, and `err` its fault.
 pub record Keeps {S O E : Type 0} (from : sources.Ghosts S) (to : sinks.Ghosts O) (aside : sinks.Ghosts E) (command : Command) (result : Status) (source source' : S) (out out' : O) (err err' : E) : Type 0 where

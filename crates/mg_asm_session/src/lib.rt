@@ -8,13 +8,9 @@
 //! What a text assembles to is defined in `mg_asm`.
 #![tactic(auto)]
 
-mod fault_line;
-mod reading;
-mod status;
 mod top_call;
 mod words;
 
-pub use reading::TEXT_LIMIT;
-pub use status::Status;
-pub use top_call::top;
+pub use mg_filter::Status;
+pub use top_call::{TEXT_LIMIT, top};
 pub use words::{Command, read_words};

@@ -1,18 +1,22 @@
 // All that the program does.
-ghost use Rattle.std.specs.Prelude.{◌≡◌, ◌≢◌, ◌⊎◌, IfErr, IfOk, IfSome, None, Ok, Err};
+ghost use Rattle.std.specs.Prelude.{◌≡◌, ◌≢◌, ◌⊎◌, IfErr, IfOk, IfSome, None, Ok, Err, OnErr, OnOk};
 ghost use Rattle.std.specs.Io.KnownBytes.{Appends};
 ghost use Rattle.mg_asm.specs.declared.faults.AsmFault.TheVariants as fault;
 ghost use Rattle.mg_asm_session.specs.Commands.{IsStored, command_of, words_of};
-ghost use Rattle.mg_asm_session.specs.Headline.{Keeps, OfWhole, PutsFault, PutsLines, PutsPart, TakesAtMost, TakesMore, UsageKeeps, became, text_limit};
+ghost use Rattle.mg_asm_session.specs.Headline.{Keeps, PutsFault, PutsLines, PutsPart, UsageKeeps, became, text_limit};
+ghost use Rattle.mg_filter.specs.Whole.{OfWhole, TakesAtMost, TakesMore};
+ghost use Rattle.mg_io.specs.Known.{AppendsPrefix};
+ghost use Rattle.mg_asm.specs.FaultText.{fault_line};
 ghost use Rattle.mg_faults.specs.Faults.{Rose};
 
-use crate::fault_line::put_fault;
-use crate::reading::{Unread, read_text};
-use crate::status::Status;
 use crate::words::{Command, read_words};
-use mg_asm::{AsmFault, assemble, print, read_list, store_lines};
-use mg_io::{Sink, Source, put_all};
+use mg_asm::{AsmFault, AsmKind, assemble, print, read_list, store_lines};
+use mg_filter::{Status, Unread, put_numbered, read_whole};
+use mg_io::{Failed, Sink, Source, put_all};
 use std::alloc::Global;
+
+/// The most bytes that a text may have.
+pub const TEXT_LIMIT: usize = 1 << 24;
 
 /// All that the program does. The words are those behind its name.
 ///
@@ -65,7 +69,7 @@ fn carry_out<S: Source, O: Sink, E: Sink>(
     ensures within { result ≢ Status.TooLong → TakesAtMost text_limit (S.left source.old) (S.left source.new) }
     ensures spelled { result ≢ Status.Usage }
 {
-    let text = match read_text(alloc, source) {
+    let text = match read_whole(alloc, TEXT_LIMIT, source) {
         Ok(text) => text,
         Err(Unread::Memory) => return Status::Memory,
         Err(Unread::Source) => return Status::Source,
@@ -100,4 +104,13 @@ fn turn(alloc: Global, command: Command, text: &[u8]) -> Result<Vec<u8>, AsmFaul
             print(alloc, &words).map_err(|_| AsmFault::Memory)
         }
     }
+}
+
+/// Puts `line N: KIND`.
+fn put_fault<E: Sink>(line: u64, kind: AsmKind, err: &mut E) -> Result<(), Failed>
+    ensures ok { OnOk result (Appends (E.taken err.old) (E.taken err.new) (fault_line (fault.At line kind))) }
+    ensures err { OnErr result (AppendsPrefix (E.taken err.old) (E.taken err.new) (fault_line (fault.At line kind))) }
+    ensures rose { OnErr result (Rose (E.faults err.old) (E.faults err.new) (E.is_spent err.new)) }
+{
+    put_numbered(b"line ", line, kind.name(), err)
 }

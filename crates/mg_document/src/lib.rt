@@ -3,8 +3,8 @@
 //! A document is a word with the number of its bytes, and behind it the bytes, eight a word. What the layer above learns: `words_of`
 //! gives `document` of the definition, `put_lines` and `get_lines` the lines of calls that store a document and load it, and
 //! `read_document` gives `bytes_told` of the definition, which is the bytes that the replies to these loads tell, or their first
-//! fault. `read_whole` takes all that a source has. The definitions stand in `specs/`: `Documents` for the words, `Asked` for the
-//! calls, `Replies` for what is told, `Told` for faults and `Whole` for the source.
+//! fault. The definitions stand in `specs/`: `Documents` for the words, `Asked` for the calls, `Replies` for what is told, and
+//! `FaultText` for faults.
 #![tactic(auto)]
 
 mod asking;
@@ -12,10 +12,8 @@ mod faults;
 mod packing;
 mod reading;
 mod replies;
-mod whole;
 
 pub use asking::{get_lines, put_lines};
 pub use faults::{ReplyFault, ReplyKind};
 pub use packing::{BYTE_LIMIT, words_for, words_of};
 pub use reading::read_document;
-pub use whole::{Unread, read_whole};

@@ -2,8 +2,8 @@
 use Rattle.std.proofs.Common.{◌≡◌, List, ℕ, Option, Some, None, Ok, ap, ◌∙◌, subst}
 use Rattle.mg_document.specs.Replies.{bytes_told}
 use Rattle.mg_document_session.specs.Headline.{BringsBack, OfInput, PutsFault, PutsText, became}
-use Rattle.mg_document_session.specs.declared.status.Status.{Status}
-use Rattle.mg_document_session.specs.declared.status.Status.TheVariants as status
+use Rattle.mg_filter.specs.declared.status.Status.{Status}
+use Rattle.mg_filter.specs.declared.status.Status.TheVariants as status
 use Rattle.mg_document_session.specs.declared.words.Command.{Command}
 use Rattle.mg_document_session.specs.declared.words.Command.TheVariants.{Bytes}
 use Rattle.mg_document_session.proofs.RepliesTold.{comes-back}

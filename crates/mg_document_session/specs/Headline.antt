@@ -6,10 +6,10 @@ use Rattle.mg_document.specs.Asked.{get_calls, get_text, put_calls, put_text}
 use Rattle.mg_document.specs.Documents.{byte_limit}
 use Rattle.mg_document.specs.Replies.{bytes_told}
 use Rattle.mg_document.specs.FaultText.{fault_line}
-use Rattle.mg_document.specs.Whole.{OfWhole, TakesAtMost, TakesMore}
+use Rattle.mg_filter.specs.Whole.{OfWhole, TakesAtMost, TakesMore}
 use Rattle.mg_document_session.specs.Trips.{Trip, replies}
-use Rattle.mg_document_session.specs.declared.status.Status.{Status}
-use Rattle.mg_document_session.specs.declared.status.Status.TheVariants as status
+use Rattle.mg_filter.specs.declared.status.Status.{Status}
+use Rattle.mg_filter.specs.declared.status.Status.TheVariants as status
 use Rattle.mg_document_session.specs.declared.words.Command.{Command}
 use Rattle.mg_document_session.specs.declared.words.Command.TheVariants.{Bytes, Get, Put}
 use Rattle.mg_faults.specs.Faults.{Rose}
@@ -17,16 +17,6 @@ use Rattle.mg_io.specs.Known.{AppendsPrefix}
 use Rattle.mg_io.specs.declared.traits.Sink as sinks
 use Rattle.mg_io.specs.declared.traits.Source as sources
 use Rattle.mg_model.specs.Lines.{lines}
-
--- the exit status
-abbrev pub code_of : Status → ℕ
-code_of status.Done = 0
-code_of status.Fault = 1
-code_of status.Usage = 1
-code_of status.Memory = 3
-code_of status.Source = 5
-code_of status.Sink = 6
-code_of status.TooLong = 7
 
 -- the most bytes of an input: those of a document, or of the replies to one; `get` reads none
 abbrev pub limit_of : Command → ℕ

@@ -9,15 +9,13 @@
 //! what replies tell are defined in `mg_document`.
 #![tactic(auto)]
 
-mod fault_line;
 mod laws;
-mod status;
 mod top_call;
 mod turning;
 mod words;
 
 pub use laws::documents_come_back;
-pub use status::Status;
+pub use mg_filter::Status;
 pub use top_call::top;
 pub use turning::TEXT_LIMIT;
 pub use words::{Command, read_words};

@@ -1,17 +1,20 @@
 // All that the program does.
-ghost use Rattle.std.specs.Prelude.{◌≡◌, ◌≢◌, ◌⊎◌, IfSome, None, Ok, Some};
-ghost use Rattle.mg_document.specs.Whole.{TakesAtMost, TakesMore};
+ghost use Rattle.std.specs.Prelude.{◌≡◌, ◌≢◌, ◌⊎◌, IfSome, None, Ok, OnErr, OnOk, Some};
+ghost use Rattle.std.specs.Io.KnownBytes.{Appends};
+ghost use Rattle.mg_document.specs.FaultText.{fault_line};
+ghost use Rattle.mg_document.specs.declared.faults.ReplyFault.TheVariants as fault;
+ghost use Rattle.mg_io.specs.Known.{AppendsPrefix};
+ghost use Rattle.mg_filter.specs.Whole.{TakesAtMost, TakesMore};
 ghost use Rattle.mg_document_session.specs.Commands.{HasPlace, command_of, words_of};
 ghost use Rattle.mg_document_session.specs.Headline.{BringsBack, Keeps, LeavesSource, OfInput, PutsFault, PutsPart, PutsText, UsageKeeps, became, limit_of};
 ghost use Rattle.mg_faults.specs.Faults.{Rose};
 
-use crate::fault_line::put_fault;
 use crate::laws::documents_come_back;
-use crate::status::Status;
 use crate::turning::{take_input, turn};
 use crate::words::{Command, read_words};
-use mg_document::{ReplyFault, Unread};
-use mg_io::{Sink, Source, put_all};
+use mg_document::{ReplyFault, ReplyKind};
+use mg_filter::{Status, Unread, put_numbered};
+use mg_io::{Failed, Sink, Source, put_all};
 use std::alloc::Global;
 
 /// All that the program does. The words are those behind its name.
@@ -85,4 +88,13 @@ fn carry_out<S: Source, O: Sink, E: Sink>(
             Err(_) => Status::Sink,
         },
     }
+}
+
+/// Puts `reply N: KIND`.
+fn put_fault<E: Sink>(reply: u64, kind: ReplyKind, err: &mut E) -> Result<(), Failed>
+    ensures ok { OnOk result (Appends (E.taken err.old) (E.taken err.new) (fault_line (fault.At reply kind))) }
+    ensures err { OnErr result (AppendsPrefix (E.taken err.old) (E.taken err.new) (fault_line (fault.At reply kind))) }
+    ensures rose { OnErr result (Rose (E.faults err.old) (E.faults err.new) (E.is_spent err.new)) }
+{
+    put_numbered(b"reply ", reply, kind.name(), err)
 }

@@ -1,16 +1,15 @@
 // What a command makes of its input.
 ghost use Rattle.std.specs.Prelude.{◌≡◌, ◌≢◌, Err, IfErr, IfOk, Ok};
 ghost use Rattle.mg_document.specs.declared.faults.ReplyFault.TheVariants as fault;
-ghost use Rattle.mg_document.specs.Whole.{TakesAtMost, TakesMore};
+ghost use Rattle.mg_filter.specs.Whole.{TakesAtMost, TakesMore};
 ghost use Rattle.mg_document_session.specs.Commands.{HasPlace};
 ghost use Rattle.mg_document_session.specs.Headline.{IsCalls, LeavesSource, OfInput, became, limit_of};
 ghost use Rattle.mg_faults.specs.Faults.{Rose};
 
 use crate::laws::documents_come_back;
 use crate::words::Command;
-use mg_document::{
-    BYTE_LIMIT, ReplyFault, Unread, get_lines, put_lines, read_document, read_whole,
-};
+use mg_document::{BYTE_LIMIT, ReplyFault, get_lines, put_lines, read_document};
+use mg_filter::{Unread, read_whole};
 use mg_io::Source;
 use std::alloc::Global;
 

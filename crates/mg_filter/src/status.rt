@@ -1,13 +1,13 @@
-// How the program ends.
+// How a filter ends.
 ghost use Rattle.std.specs.Prelude.{◌≡◌};
-ghost use Rattle.mg_document_session.specs.Headline.{code_of};
+ghost use Rattle.mg_filter.specs.Statuses.{code_of};
 
-/// How the program ends.
+/// How a filter ends.
 #[derive(Clone, Copy, Debug, PartialEq, Eq)]
 pub enum Status {
     /// What the input became was put.
     Done,
-    /// A reply that is needed is no word, or is not there; that was told.
+    /// The input has a fault, which was told.
     Fault,
     /// The words spell no command.
     Usage,

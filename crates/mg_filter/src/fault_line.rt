@@ -3,35 +3,38 @@ ghost use Rattle.std.specs.Prelude.{◌≡◌, ◌+◌, ◌≤◌, ◌++◌, [],
 ghost use Rattle.std.specs.Fmt.{decimal};
 ghost use Rattle.std.specs.Io.KnownBytes.{Appends};
 ghost use Rattle.arrayvec.specs.ArrayVec.{array_vec_len};
-ghost use Rattle.mg_asm.specs.FaultText.{fault_line};
-ghost use Rattle.mg_asm.specs.declared.faults.AsmFault.TheVariants as fault;
 ghost use Rattle.mg_faults.specs.Faults.{Rose};
+ghost use Rattle.mg_filter.specs.FaultLines.{numbered_line};
 ghost use Rattle.mg_io.specs.Known.{AppendsPrefix};
 
 use arrayvec::ArrayVec;
-use mg_asm::AsmKind;
 use mg_io::{Failed, Sink, put_all};
 
-/// Puts `line N: KIND`.
-pub(crate) fn put_fault<E: Sink>(line: u64, kind: AsmKind, err: &mut E) -> Result<(), Failed>
-    ensures ok { OnOk result (Appends (E.taken err.old) (E.taken err.new) (fault_line (fault.At line kind))) }
-    ensures err { OnErr result (AppendsPrefix (E.taken err.old) (E.taken err.new) (fault_line (fault.At line kind))) }
+/// Puts the line `WHAT N: KIND` of a fault in part N of an input: `what` is the word for such a part with a blank behind it, of at
+/// most 8 bytes, and `kind` the word of its kind, of at most 8. Where the sink fails it took a first part of the line.
+pub fn put_numbered<E: Sink>(what: &[u8], n: u64, kind: &[u8], err: &mut E) -> Result<(), Failed>
+    requires short { length what.now ≤ 8 }
+    requires short_kind { length kind.now ≤ 8 }
+    ensures ok { OnOk result (Appends (E.taken err.old) (E.taken err.new) (numbered_line what.now n kind.now)) }
+    ensures err { OnErr result (AppendsPrefix (E.taken err.old) (E.taken err.new) (numbered_line what.now n kind.now)) }
     ensures rose { OnErr result (Rose (E.faults err.old) (E.faults err.new) (E.is_spent err.new)) }
 {
     let mut told = ArrayVec::new();
-    print_fault(line, kind, &mut told);
+    print_numbered(what, n, kind, &mut told);
     put_all(err, told.as_slice())
 }
 
-/// Writes the line of a fault into an empty buffer. It has at most 36 bytes.
-fn print_fault(line: u64, kind: AsmKind, out: &mut ArrayVec<u8, 64>)
+/// Writes that line into an empty buffer. It has at most 39 bytes.
+fn print_numbered(what: &[u8], n: u64, kind: &[u8], out: &mut ArrayVec<u8, 64>)
     requires empty { out.old.items ≡ [] }
-    ensures { out.new.items ≡ fault_line (fault.At line kind) }
+    requires short { length what.now ≤ 8 }
+    requires short_kind { length kind.now ≤ 8 }
+    ensures { out.new.items ≡ numbered_line what.now n kind.now }
 {
-    push_text(out, b"line ");
-    push_number(out, line);
+    push_text(out, what);
+    push_number(out, n);
     push_text(out, b": ");
-    push_text(out, kind.name());
+    push_text(out, kind);
     push_text(out, b"\n");
 }
 

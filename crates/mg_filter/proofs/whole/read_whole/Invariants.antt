@@ -1,7 +1,7 @@
 use Rattle.std.proofs.Common.{◌≡◌, ◌-◌, ◌≤◌, length}
 use Rattle.std.specs.Io.KnownBytes.{Consumes}
 use Rattle.mg_faults.specs.Faults.{CountGoesOn}
-use Rattle.mg_document.proofs.whole.read_whole.Given as goal
+use Rattle.mg_filter.proofs.whole.read_whole.Given as goal
 
 -- what was read so far
 abbrev pub invariant-pieces : goal.invariant-pieces

@@ -1,31 +1,28 @@
-// The text is read whole.
+// A source is read whole.
 ghost use Rattle.std.specs.Prelude.{◌≡◌, ◌≢◌, Err, IfOk};
-ghost use Rattle.mg_asm_session.specs.Headline.{OfWhole, TakesAtMost, TakesMore, text_limit};
+ghost use Rattle.mg_filter.specs.Whole.{OfWhole, TakesAtMost, TakesMore};
 ghost use Rattle.mg_faults.specs.Faults.{Rose};
 
 use mg_io::{PIECE, Source};
 use std::alloc::Global;
 
-/// The most bytes that a text may have.
-pub const TEXT_LIMIT: usize = 1 << 24;
-
-/// Why a text was not read.
+/// Why a source was not read to its end.
 #[derive(Clone, Copy, Debug, PartialEq, Eq)]
-pub(crate) enum Unread {
+pub enum Unread {
     /// Memory was wanting.
     Memory,
     /// A take failed.
     Source,
-    /// More bytes came than a text may have.
+    /// More bytes came than the limit.
     TooLong,
 }
 
-/// All that a source has left, at most [`TEXT_LIMIT`] bytes. Memory comes only where an allocation failed. After `TooLong` no
-/// more than the limit and a piece of 4096 bytes was taken.
-pub(crate) fn read_text<S: Source>(alloc: Global, source: &mut S) -> Result<Vec<u8>, Unread>
+/// All that a source has left, at most `limit` bytes. Memory comes only where an allocation failed. After `TooLong` no more than the
+/// limit and a piece of 4096 bytes was taken.
+pub fn read_whole<S: Source>(alloc: Global, limit: usize, source: &mut S) -> Result<Vec<u8>, Unread>
     ensures whole { IfOk result (λ text. OfWhole (S.left source.old) (S.left source.new) (λ input. text.items ≡ input)) }
-    ensures within { result ≢ Err Unread.TooLong → TakesAtMost text_limit (S.left source.old) (S.left source.new) }
-    ensures too_long { result ≡ Err Unread.TooLong → TakesMore text_limit (S.left source.old) (S.left source.new) }
+    ensures within { result ≢ Err Unread.TooLong → TakesAtMost limit (S.left source.old) (S.left source.new) }
+    ensures too_long { result ≡ Err Unread.TooLong → TakesMore limit (S.left source.old) (S.left source.new) }
     ensures source { result ≡ Err Unread.Source → Rose (S.faults source.old) (S.faults source.new) (S.is_spent source.new) }
 {
     let mut text = Vec::new(alloc);
@@ -38,7 +35,7 @@ pub(crate) fn read_text<S: Source>(alloc: Global, source: &mut S) -> Result<Vec<
         if count == 0 {
             return Ok(text);
         }
-        if count > TEXT_LIMIT - text.len() {
+        if count > limit - text.len() {
             return Err(Unread::TooLong);
         }
         if text.extend_from_slice(&piece[..count]).is_err() {
