@@ -1,5 +1,5 @@
 -- An opening and a session behind it: from what each of them keeps to the record of a command.
-use Rattle.std.specs.Prelude.{ℕ, ◌≡◌, ◌≢◌, ◌⊎◌, ◌<◌, ◌≤◌, ◌+◌, List, [], length, take, Option, Some, None, IfSome, Result, Err}
+use Rattle.std.specs.Prelude.{ℕ, ◌≡◌, ◌≢◌, ◌⊎◌, ◌<◌, ◌≤◌, ◌+◌, List, [], ◌++◌, length, take, Option, Some, None, IfSome, Result, Err}
 use Rattle.std.specs.Io.KnownBytes.{Appends}
 use Rattle.std.specs.Option.{ForSome}
 use Rattle.std.proofs.Common.{refl, sym, ap, ◌∙◌, arith, inl, inr, subst, ⊎_elim}
@@ -32,7 +32,7 @@ use Rattle.mg_serve.specs.declared.machine.Machine as machines
 use Rattle.mg_serve.specs.declared.status.Status.{Status}
 use Rattle.mg_serve.specs.declared.status.Status.TheVariants as status
 use Rattle.mg_serve.specs.Serving.{Serves, Traces}
-use Rattle.mg_serve.specs.Sessions.{Answers, AnswersLines, AnswersPrefix, AreAnswered, EndsSession, Holds, HoldsExactly, IsDoneOrMemory, IsPrefix, IsWithin, KeepsAnswered, SpellsAfter, TakesAtMost, input_limit, replies}
+use Rattle.mg_serve.specs.Sessions.{Answers, AnswersLines, AnswersPrefix, AreAnswered, EndsSession, Holds, HoldsExactly, IsDoneOrMemory, IsPrefix, IsWithin, KeepsAnswered, SpellsAfter, TakesAtMost, input_limit, replies, taken_of}
 use Rattle.mg_session.specs.Headline.{EndsRun, EndsUnopened, IfState, IsWithinCost, LinesKeep, MayTell, OnVolume, TellsNone, TellsOfNone, check_line, summary_line}
 use Rattle.mg_session.specs.Unopened.{EndsWith, FaultTells, IsQuiet, fault_line}
 
