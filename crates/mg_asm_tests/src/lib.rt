@@ -34,6 +34,11 @@ mod tests {
         assert!(rt; assembles(rt.alloc(), text, &known));
     }
 
+    #[test]
+    fn a_store_by_register_0(rt: HostRuntime) {
+        assert!(rt; assembles(rt.alloc(), b"store 0 1 0", &[0x0001_0007]));
+    }
+
     // Forward to a label at the end, back to one, and back by a number.
     #[test]
     fn jumps_go_to_labels(rt: HostRuntime) {
@@ -63,8 +68,11 @@ mod tests {
             0xffff_fffe_0000_0008,
             0x0801,
             0,
+            0x0000_0001_0000_0102,
+            0x0001_0007,
         ];
-        let known = b"set 3 24832\npdx 3 4\njump -2\n.word 0x0000000000000801\nhalt\n";
+        let known =
+            b"set 3 24832\npdx 3 4\njump -2\n.word 0x0000000000000801\nhalt\nhigh 1 1\nstore 0 1 0\n";
         assert!(rt; prints(rt.alloc(), &words, known));
     }
 

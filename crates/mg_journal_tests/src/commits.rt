@@ -1,5 +1,5 @@
 // A commit of two blocks, and nine of three blocks, of which the ninth begins with a checkpoint, on disks that die and that fail.
-ghost use Rattle.std.specs.Prelude.{◌≡◌, ◌≤◌, IfSome, true};
+ghost use Rattle.std.specs.Prelude.{◌≡◌, ◌<◌, ◌≤◌, IfSome, true};
 ghost use Rattle.mg_journal.specs.Standing.{Stands, is_live, total_of};
 ghost use Rattle.mg_model.specs.Replay.{homes_fit};
 
@@ -304,6 +304,70 @@ fn checkpoint_calls(alloc: Global) -> Option<Counts> {
         },
         None => None,
     }
+}
+
+/// How many writes and syncs a disk saw, and what the first gate, its index and the two bodies behind that begin with.
+type Trace = (u64, u64, [Option<u8>; 4]);
+
+fn first_byte(disk: &mut MemDisk, i: u64) -> Option<u8>
+    requires place { i < 1311 }
+    requires has_1311_blocks { ⟦<MemDisk as Disk>⟧.block_count disk.old ≡ 1311 }
+    ensures has_1311_blocks { ⟦<MemDisk as Disk>⟧.block_count disk.new ≡ 1311 }
+{
+    let mut block = [0; BLOCK_SIZE];
+    match disk.read(i, &mut block) {
+        Ok(()) => Some(block[0]),
+        Err(_) => None,
+    }
+}
+
+fn trace_of(mut disk: MemDisk) -> Trace
+    requires has_1311_blocks { ⟦<MemDisk as Disk>⟧.block_count disk ≡ 1311 }
+{
+    let Counts { writes, syncs, .. } = disk.counts();
+    let first = [
+        first_byte(&mut disk, 2),
+        first_byte(&mut disk, 3),
+        first_byte(&mut disk, 4),
+        first_byte(&mut disk, 5),
+    ];
+    (writes, syncs, first)
+}
+
+/// What a disk saw that died behind each call of the commit of two blocks: the index and the two bodies are written, then there is a
+/// sync, and then the gate is opened, with a sync of its own. The opening made one sync.
+const TRACES: [(u64, u64, [u8; 4]); 7] = [
+    (0, 1, [0, 0, 0, 0]),
+    (1, 1, [0, 2, 0, 0]),
+    (2, 1, [0, 2, 1, 0]),
+    (3, 1, [0, 2, 1, 2]),
+    (3, 2, [0, 2, 1, 2]),
+    (4, 2, [0xA5, 2, 1, 2]),
+    (4, 3, [0xA5, 2, 1, 2]),
+];
+
+/// How many of these are seen, up to the first that is not.
+fn traces_seen(alloc: Global) -> usize {
+    let mut seen: usize = 0;
+    for (writes, syncs, [gate, index, first, second]) in TRACES {
+        let call = OPENING.saturating_add(seen as u64);
+        let wanted = [Some(gate), Some(index), Some(first), Some(second)];
+        match died_at(alloc, call, Work::Pair) {
+            Some(disk) => {
+                if trace_of(disk) != (writes, syncs, wanted) {
+                    return seen;
+                }
+            }
+            None => return seen,
+        }
+        seen = seen.saturating_add(1);
+    }
+    seen
+}
+
+#[test]
+fn a_commit_makes_its_calls_in_order(rt: HostRuntime) {
+    assert!(rt; traces_seen(rt.alloc()) == TRACES.len());
 }
 
 #[test]

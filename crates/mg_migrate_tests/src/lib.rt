@@ -15,10 +15,10 @@ mod moved;
 #[cfg(test)]
 mod old_faults;
 #[cfg(test)]
+mod outcomes;
+#[cfg(test)]
 mod refused;
 #[cfg(test)]
 mod scattered;
 #[cfg(test)]
 mod stops;
-#[cfg(test)]
-mod outcomes;

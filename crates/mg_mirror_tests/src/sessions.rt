@@ -151,7 +151,7 @@ fn goes_on_where_one_dies(rt: HostRuntime) -> Result<(), Fail> {
     Ok(())
 }
 
-const BOTH_DIE: [Death; 2] = [
+const BOTH_DIE: [Death; 3] = [
     // The right one dies before a block is written, and the left one once the first of them were read.
     Death {
         left: COPY_BLOCKS as u64,
@@ -159,6 +159,16 @@ const BOTH_DIE: [Death; 2] = [
         told: Told {
             status: Status::Disk,
             alone: Some(Side::Left),
+            put: "",
+        },
+    },
+    // The left one dies behind its first block, and no call of the right one passes.
+    Death {
+        left: 1,
+        right: 0,
+        told: Told {
+            status: Status::Disk,
+            alone: None,
             put: "",
         },
     },
@@ -176,7 +186,7 @@ const BOTH_DIE: [Death; 2] = [
 
 #[test]
 fn fails_where_both_die(rt: HostRuntime) -> Result<(), Fail> {
-    assert_eq!(rt; count_deaths(rt.alloc(), &BOTH_DIE), 2);
+    assert_eq!(rt; count_deaths(rt.alloc(), &BOTH_DIE), 3);
     Ok(())
 }
 

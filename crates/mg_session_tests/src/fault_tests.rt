@@ -1,6 +1,6 @@
 // Commands whose source, sink or disk fails, with how they end and what they leave.
-use mg_disk::{Fuse, MemDisk};
-use mg_testing::{Streams, ends, fresh, is_told, is_told_of, told_of};
+use mg_disk::{Disk, Fuse, MemDisk, ScratchDisk};
+use mg_testing::{BLOCKS, MAKING, Streams, ends, fresh, is_told, is_told_of, told_of};
 use std::alloc::Global;
 use std::test::Fail;
 
@@ -111,6 +111,95 @@ fn seventy_lines_in_two_batches(rt: HostRuntime) -> Result<(), Fail> {
     Ok(())
 }
 
+// How long so many first lines of a text are.
+fn len_of(text: &[u8], lines: usize) -> usize {
+    let mut len: usize = 0;
+    let mut left = lines;
+    for byte in text {
+        if left == 0 {
+            break;
+        }
+        len = len.saturating_add(1);
+        if *byte == b'\n' {
+            left = left.saturating_sub(1);
+        }
+    }
+    len
+}
+
+// How many lines end in a text.
+fn lines_in(text: &[u8]) -> usize {
+    let mut lines: usize = 0;
+    for byte in text {
+        if *byte == b'\n' {
+            lines = lines.saturating_add(1);
+        }
+    }
+    lines
+}
+
+// Whether a run ends so whose take or put of this number fails.
+fn is_cut_alone<D: Disk>(
+    alloc: Global,
+    disk: &mut D,
+    lines: &[u8],
+    replies: &[u8],
+    cut: Cut,
+) -> bool {
+    let (take, put, code, answered) = cut;
+    let streams = Streams {
+        piece: 80,
+        takes: &[take],
+        puts: &[put],
+        ..Streams::of(lines)
+    };
+    match replies.get(..len_of(replies, answered)) {
+        Some(put) => ends(alloc, "vol run 1", disk, &streams, code, put),
+        None => false,
+    }
+}
+
+// The first of the 19 takes and then of the 70 puts where a run does not end so: each reply is put before the next line is served, and
+// each line counts that ends in the pieces before a take.
+fn wrong_alone<D: Disk>(alloc: Global, disk: &mut D, lines: &[u8], replies: &[u8]) -> Option<Cut> {
+    for take in 0..19 {
+        let taken = lines.get(..80 * take as usize).unwrap_or(lines);
+        let cut = (take, 99, 5, lines_in(taken));
+        if !is_cut_alone(alloc, disk, lines, replies, cut) {
+            return Some(cut);
+        }
+    }
+    for put in 0..70 {
+        let cut = (99, put, 6, put as usize);
+        if !is_cut_alone(alloc, disk, lines, replies, cut) {
+            return Some(cut);
+        }
+    }
+    None
+}
+
+// The same of the 70 lines, on a volume of 64 frames.
+fn wrong_alone_of_70<D: Disk>(alloc: Global, disk: &mut D) -> Option<Cut> {
+    let lines = repeated(alloc, "1 store 0x100000020 7\n1 load 0x100000020\n", 35);
+    let replies = repeated(alloc, "ok\nok 0x0000000000000007\n", 35);
+    if told_of(alloc, MAKING, disk, "").is_err() {
+        return Some((0, 0, 0, 0));
+    }
+    wrong_alone(alloc, disk, lines.as_bytes(), replies.as_bytes())
+}
+
+fn wrong_alone_on_zeros(alloc: Global) -> Option<Cut> {
+    match ScratchDisk::new(alloc, BLOCKS) {
+        Ok(mut disk) => wrong_alone_of_70(alloc, &mut disk),
+        Err(_) => Some((0, 0, 0, 0)),
+    }
+}
+
+#[test]
+fn seventy_lines_one_by_one(rt: HostRuntime) {
+    assert!(rt; wrong_alone_on_zeros(rt.alloc()).is_none());
+}
+
 // A command on a fresh volume with what it reads and tells, and what a second one reads and tells then.
 type Pair<'a> = (&'a str, Streams<'a>, &'a str, &'a str, &'a str, &'a str);
 
@@ -164,16 +253,25 @@ const RENT: Streams<'static> = Streams {
     ..SOURCE_FAILS
 };
 
+const NOTHING: Streams<'static> = Streams {
+    input: b"",
+    takes: &[],
+    ..SOURCE_FAILS
+};
+
+const UNTOUCHED: &str = "0 ok 64 1 1 1 1 0 1000\n";
+
 const RENTED: &str = "0 ok 64 1 1 1 1 1 1000\n";
 
 // Where the source fails, what an open batch has is neither kept nor answered. Where the sink fails, a line was kept before, and of a
-// rent the period has passed.
-const PAIRS: [Pair<'static>; 5] = [
+// rent the period has passed. No bytes leave all as it was.
+const PAIRS: [Pair<'static>; 6] = [
     ("vol run 2", LOAD, "5 ", "vol run", LOADS, NONE),
     ("vol run", SOURCE_FAILS, "5 ok\n", "vol run", LOADS, FIRST),
     ("vol run 2", SOURCE_FAILS, "5 ", "vol run", LOADS, NONE),
     ("vol run", NO_ROOM, "6 ", "vol run", LOADS, FIRST),
     ("vol run", RENT, "6 ", "vol check", "", RENTED),
+    ("vol run", NOTHING, "0 ", "vol check", "", UNTOUCHED),
 ];
 
 #[test]

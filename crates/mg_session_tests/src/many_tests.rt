@@ -1,7 +1,7 @@
 // As many accounts and objects as there may be, with rents where the pages in use are at a step of the tariff or beside it.
 use mg_disk::MemDisk;
 use mg_model::draw;
-use mg_testing::{Streams, ends, is_told_of, volume};
+use mg_testing::{MAKING, Streams, ends, is_told_of, volume};
 use std::alloc::Global;
 use std::test::Fail;
 
@@ -136,9 +136,8 @@ fn add(script: &mut Script, number: u64, amount: u64) {
     set(script, number, Account { balance, ..row });
 }
 
-/// Opens an account with some credits of the treasury.
-fn open_account(script: &mut Script, number: u64) {
-    let amount = number % 9 * 300;
+/// Opens an account with so many credits of the treasury.
+fn open_account(script: &mut Script, number: u64, amount: u64) {
     let opens = password(number);
     push_line(&mut script.input, "1 account 1", &[password(1), amount]);
     push(&mut script.wanted, "ok");
@@ -152,7 +151,7 @@ fn open_account(script: &mut Script, number: u64) {
 /// Opens the accounts that there may be beside the treasury; each ninth one has no credits.
 fn open_accounts(script: &mut Script) {
     for number in 2..ACCOUNTS + 1 {
-        open_account(script, number);
+        open_account(script, number, number % 9 * 300);
     }
 }
 
@@ -259,6 +258,24 @@ fn write(script: &mut Script) {
     tell_balances(script);
 }
 
+/// The accounts that there may be on a volume of 1,000 credits, of which each new one has a credit until there is none left; and
+/// behind them one more without a credit, and one with, which are refused.
+fn write_accounts(script: &mut Script) {
+    let opens = password(1);
+    let treasury = Account {
+        pages: 1,
+        ..with_balance(1000)
+    };
+    set(script, 1, treasury);
+    for number in 2..ACCOUNTS + 1 {
+        open_account(script, number, u64::from(number < 1002));
+    }
+    push_line(&mut script.input, "1 account 1", &[opens, 0]);
+    push_line(&mut script.input, "1 account 1", &[opens, 1]);
+    push(&mut script.wanted, "no Limit\nno Credit\n");
+    tell_balances(script);
+}
+
 /// Whether a command with these lines puts just their answers.
 fn is_answered(alloc: Global, line: &str, disk: &mut MemDisk, script: &Script) -> bool {
     let streams = Streams {
@@ -276,12 +293,11 @@ fn is_answered_dry(alloc: Global, script: &Script) -> bool {
     }
 }
 
-/// Whether `run` does on a volume, and what `check` tells then.
-fn is_answered_run(alloc: Global, script: &Script) -> (bool, bool) {
-    match volume(alloc, FORMAT) {
+/// Whether `run` does on the volume that these words make, and whether `check` tells this then.
+fn is_answered_run(alloc: Global, format: &str, script: &Script, checked: &str) -> (bool, bool) {
+    match volume(alloc, format) {
         Ok(mut disk) => {
             let is_answered = is_answered(alloc, "vol run 64", &mut disk, script);
-            let checked = "0 ok 4100 4096 4096 1024 1 11 10000000\n";
             let is_checked = is_told_of(alloc, "vol check", &mut disk, "", checked);
             (is_answered, is_checked)
         }
@@ -292,7 +308,12 @@ fn is_answered_run(alloc: Global, script: &Script) -> (bool, bool) {
 fn is_all_answered(alloc: Global, script: &Script) -> (bool, (bool, bool)) {
     (
         is_answered_dry(alloc, script),
-        is_answered_run(alloc, script),
+        is_answered_run(
+            alloc,
+            FORMAT,
+            script,
+            "0 ok 4100 4096 4096 1024 1 11 10000000\n",
+        ),
     )
 }
 
@@ -312,4 +333,21 @@ fn is_written_answered(alloc: Global) -> (bool, (bool, bool)) {
 fn as_many_accounts_and_objects_as_there_may_be(rt: HostRuntime) -> Result<(), Fail> {
     assert_eq!(rt; is_written_answered(rt.alloc()), (true, (true, true)));
     Ok(())
+}
+
+/// The same of the accounts of a volume of 1,000 credits.
+fn are_accounts_answered(alloc: Global) -> (bool, bool) {
+    match vec![in alloc; with_balance(0); ACCOUNTS as usize] {
+        Ok(accounts) => {
+            let mut script = none(alloc, accounts);
+            write_accounts(&mut script);
+            is_answered_run(alloc, MAKING, &script, "0 ok 64 1 1 1024 1 0 1000\n")
+        }
+        Err(_) => (false, false),
+    }
+}
+
+#[test]
+fn as_many_accounts_as_there_may_be_with_1000_credits(rt: HostRuntime) {
+    assert!(rt; are_accounts_answered(rt.alloc()) == (true, true));
 }
