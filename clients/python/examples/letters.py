@@ -1,0 +1,61 @@
+#!/usr/bin/env python3
+"""A letter that a reader may read for three periods, that is replaced whole, and then may not be read any more.
+
+    python3 clients/python/examples/letters.py VOLUME
+
+Makes the volume in the file VOLUME, which must not be there yet. The program is the one that the environment variable MUNGI names, or else
+the client's own choice. It prints
+
+    Come at nine.
+    Come at ten.
+    2 info 0x100004000 -> no Denied
+"""
+
+import os
+import sys
+from pathlib import Path
+
+sys.path.insert(0, str(Path(__file__).resolve().parents[1]))
+import mungi
+
+
+def main(volume):
+    program = os.environ.get("MUNGI")
+    fresh = mungi.new_volume(volume, frames=64, credits=1000, program=program)
+    with mungi.Machine(volume, program=program) as machine:
+        root = machine.root(fresh.treasury)
+        letter = root.create()
+        letter.put(b"Come at nine.\n")
+
+        # The reader is a thread with a list of its own, and begins at a page of zeros. The second word of the list says which object is
+        # the letter.
+        start, shared = root.create(), root.create_list()
+        shared.add(start.grant("X"))
+        shared.add(shared.grant("R"))
+        reader = root.new_thread(shared, start.base)
+        shared.add(letter.grant("R", until=3))
+        shared.store(8, letter.base)
+
+        def read():
+            return reader.object(reader.load(shared.base + 8)).get().decode()
+
+        print(read(), end="")
+
+        # The new text goes into a new object, and one store makes that the letter.
+        newer = root.create()
+        newer.put(b"Come at ten.\n")
+        right = newer.grant("R", until=3)
+        shared.add(right)
+        shared.store(8, newer.base)
+        letter.delete()
+        print(read(), end="")
+
+        right.revoke()
+        try:
+            read()
+        except mungi.Denied as refused:
+            print(refused)
+
+
+if __name__ == "__main__":
+    main(sys.argv[1])
