@@ -1,5 +1,5 @@
 // The trait that the layers above are proved against.
-ghost use Rattle.std.specs.Prelude.{◌≡◌, ◌+◌, ◌<◌, ◌≤◌, ℕ, Bool, IsTrue, Option, length, slice_set, option_map, OnOk, OnErr, IsSomeAnd};
+ghost use Rattle.std.specs.Prelude.{◌≡◌, ◌+◌, ◌<◌, ◌≤◌, ◌^◌, ℕ, Bool, IsTrue, Option, length, slice_set, option_map, OnOk, OnErr, IsSomeAnd};
 ghost use Rattle.std.specs.Option.{ForSome};
 ghost use Rattle.mg_faults.specs.Faults.{CountGoesOn, Rose};
 ghost use Rattle.mg_disk.specs.Disk.{Moment, Image, block_at, AreBytes, HasBlocks, InRange, SeenBut, only_place, GoesOn, no_image, Torn, TornAt, OnlySeen};
@@ -52,6 +52,13 @@ pub trait Disk {
     fn blocks(&self) -> u64
         ensures count { result ≡ block_count self.now };
 
+    /// Tells that this count has 64 bits. It does nothing when it runs.
+    fn keeps_count(&self)
+        ensures { block_count self.now < 2 ^ 64 }
+    {
+        let _count = self.blocks();
+    }
+
     /// Gives block `i`. A read that fails leaves any bytes in `out`.
     fn read(&mut self, i: u64, out: &mut Block) -> Result<(), Failed>
         requires in_range { i < block_count self.old }
@@ -92,8 +99,7 @@ pub trait Disk {
         ensures count { CountGoesOn (faults self.old) (faults self.new) (is_spent self.old) (is_spent self.new) }
         ensures cause { OnErr result (Rose (faults self.old) (faults self.new) (is_spent self.new)) }
     {
-        // With this the sum of `first` and a place in `out` is known to fit.
-        let _count = self.blocks();
+        self.keeps_count();
         for k in 0..out.len() {
             match self.read(first + k as u64, &mut out[k]) {
                 Ok(()) => {}
@@ -118,7 +124,7 @@ pub trait Disk {
         ensures count { CountGoesOn (faults self.old) (faults self.new) (is_spent self.old) (is_spent self.new) }
         ensures cause { OnErr result (Rose (faults self.old) (faults self.new) (is_spent self.new)) }
     {
-        let _count = self.blocks();
+        self.keeps_count();
         for (k, block) in from.iter().enumerate() {
             match self.write(first + k as u64, block) {
                 Ok(()) => {}

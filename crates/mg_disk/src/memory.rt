@@ -305,7 +305,7 @@ impl Disk for MemDisk {
         ensures meets { IsReadRun ⟦<MemDisk as Disk>⟧ self.old self.new first (length out.old) out.new result }
         ensures numbered { NumberedRun (length out.old) self.old self.new (more_reads (counts_of self.old)) result }
     {
-        let _count = self.blocks();
+        self.keeps_count();
         for k in 0..out.len() {
             match self.read(first + k as u64, &mut out[k]) {
                 Ok(()) => {}
@@ -321,7 +321,7 @@ impl Disk for MemDisk {
         ensures meets { IsWriteRun ⟦<MemDisk as Disk>⟧ self.old self.new first from.now result }
         ensures numbered { NumberedRun (length from.now) self.old self.new (more_writes (counts_of self.old)) result }
     {
-        let _count = self.blocks();
+        self.keeps_count();
         for (k, block) in from.iter().enumerate() {
             match self.write(first + k as u64, block) {
                 Ok(()) => {}

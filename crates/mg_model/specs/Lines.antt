@@ -1,5 +1,5 @@
 -- From bytes to calls.
-use Rattle.std.specs.Prelude.{ℕ, ◌==◌, nat_le, nat_lt, Bool, false, List, [], ◌∷◌, length, map, if◌then◌else◌, Option, Some, None, codes, option_map}
+use Rattle.std.specs.Prelude.{ℕ, ◌==◌, nat_le, nat_lt, Bool, false, List, [], ◌∷◌, length, if◌then◌else◌, Option, Some, None, codes, option_map}
 use Rattle.std.specs.Option.{option_map_or}
 use Rattle.std.specs.List.{filter_map, list_any}
 use Rattle.mg_model.specs.declared.calls.Call.{Call}

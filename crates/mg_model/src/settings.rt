@@ -1,6 +1,7 @@
 // What a volume is made with.
 ghost use Rattle.std.specs.Prelude.{◌≡◌, ◌≤◌, IsTrue, if◌then◌else◌};
 ghost use Rattle.mg_model.specs.Settings.{within_limits};
+ghost use Rattle.mg_model.specs.WellFormed.{IsSettings};
 
 use crate::limits::{CREDIT_LIMIT, LEAST_FRAMES, MOST_FRAMES};
 use crate::tariffs::Tariff;
@@ -43,6 +44,17 @@ impl Params {
         } else {
             None
         }
+    }
+
+    /// Tells that the settings keep their rules. It does nothing when it runs.
+    pub fn keep_rules(&self)
+        ensures rules { IsSettings self.now }
+        ensures at_least_16_frames { 16 ≤ self.now.frames }
+        ensures at_most_65536_frames { self.now.frames ≤ 65536 }
+        ensures at_most_2_62_credits { self.now.credits ≤ 4611686018427387904 }
+    {
+        let _seed = self.seed();
+        let _steps = self.tariff.steps();
     }
 
     /// How many frames the volume has: the most pages that its objects may have together.
