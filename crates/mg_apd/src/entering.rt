@@ -56,9 +56,9 @@ fn frame_entered(r: &ThrRow, mask: u8, ext: Option<Slot>) -> Option<Frame>
     ensures frame { MatchOption result (Unit {0}) (λ frame. frame ≡ record { back = r.now.pc; slots = entered_slots r.now mask ext }) }
 {
     // It tells that the pc is a multiple of 8.
-    let _birth = r.birth();
+    r.keep_rules();
     let last = present(r);
-    let _back = last.back();
+    last.keep_rules();
     let kept = frame_kept(last.slots(), mask, r.pc());
     match ext {
         Some(slot) => with_slot(kept, slot),

@@ -19,6 +19,6 @@ pub(crate) fn put_present(r: &mut ThrRow, last: Frame)
     ensures { r.new ≡ record r.old { frames = with_last_slots r.old.frames last.slots } }
 {
     // It tells that there is a frame.
-    let _birth = r.birth();
+    r.keep_rules();
     r.set_last(last);
 }

@@ -39,6 +39,14 @@ impl Bank {
         Bank { rows }
     }
 
+    /// Tells that there are 1,024 accounts at most, which have at most `2^62` credits together. It does nothing when it runs.
+    pub fn keep_rules(&self)
+        ensures at_most_1024 { length self.now ≤ account_limit }
+        ensures credits { credits_of self.now ≤ credit_limit }
+    {
+        let _rows = &self.rows;
+    }
+
     /// How many accounts there are, 1,024 at most; they have at most `2^62` credits together.
     pub fn len(&self) -> u64
         ensures count { result ≡ length self.now }

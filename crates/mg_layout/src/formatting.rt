@@ -11,7 +11,6 @@ ghost use Rattle.mg_layout.specs.MayFormat.{IsUntouchedSmall, MayFormat, ReadsFr
 use crate::behind::write_behind;
 use crate::fresh::fresh_block;
 use crate::geometry::{GATE_BLOCK, Geometry};
-use crate::superblock::settings_keep_rules;
 use mg_disk::{BLOCK_SIZE, Disk, write_firmly};
 use mg_faults::Failed;
 use mg_model::Params;
@@ -61,7 +60,7 @@ fn make<D: Disk>(disk: &mut D, p: &Params) -> Result<(), Failed>
     ensures settled { OnOk result (NothingPending D.Disk disk.new) }
     ensures calls { DiskCalls D.Disk disk.old disk.new result }
 {
-    settings_keep_rules(p);
+    p.keep_rules();
     let mut gate = [0; BLOCK_SIZE];
     write_firmly(disk, GATE_BLOCK, &gate)?;
     write_behind(disk, p)?;

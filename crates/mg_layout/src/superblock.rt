@@ -4,7 +4,6 @@ ghost use Rattle.mg_model.specs.Bytes.{bytes_at};
 ghost use Rattle.mg_model.specs.Spelling.{are_settings, steps_at, super_bytes, super_fields, super_read, Spells};
 ghost use Rattle.mg_model.specs.Tariff.{is_tariff};
 ghost use Rattle.mg_model.specs.Words.{same_bytes};
-ghost use Rattle.mg_model.specs.WellFormed.{IsSettings};
 ghost use Rattle.mg_layout.specs.SuperBlock.{IsSuper};
 
 use crate::bytes::number_at;
@@ -106,14 +105,4 @@ fn seed_in(b: &Block) -> [u8; 32]
     let mut seed = [0; 32];
     seed.copy_from_slice(&b[32..64]);
     seed
-}
-
-/// What the settings of every volume keep. It does nothing.
-pub(crate) fn settings_keep_rules(p: &Params)
-    ensures { IsSettings p.now }
-{
-    let _frames = p.frames();
-    let _credits = p.credits();
-    let _seed = p.seed();
-    let _steps = p.tariff().steps();
 }

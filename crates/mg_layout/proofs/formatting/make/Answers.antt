@@ -28,7 +28,7 @@ returns-clause-any_moment g c pending image told =
     let room : total_blocks p.frames ≤ length image = let r = c.requires.within_disk in omega arith in
     let closed : g.D.Disk.seen c.write_firmly.new.disk ≡ Some (with_closed image) = c.in_ok-write_firmly.ensures.written ∙ ap (option_map with_closed) told in
     let behind : g.D.Disk.seen c.write_behind.new.disk ≡ Some (with_rest p image) = c.in_ok-write_behind.ensures.written ∙ ap (option_map (fresh_until p (first_frame p.frames))) closed in
-    third_phase g.D.Disk p image c.settings_keep_rules.ensures c.args.disk.now c.write_behind.new.disk c.write_firmly-2.new.disk room
+    third_phase g.D.Disk p image c.keep_rules.ensures.rules c.args.disk.now c.write_behind.new.disk c.write_firmly-2.new.disk room
     (second_phase g.D.Disk p image c.args.disk.now c.write_firmly.new.disk c.write_behind.new.disk (omega arith)
     (first_phase g.D.Disk p image c.args.disk.now c.write_firmly.new.disk (c.write_firmly.ensures.any_moment pending image told))
     (c.write_behind.ensures.any_moment c.in_ok-write_firmly.ensures.settled (with_closed image) closed))
@@ -39,7 +39,7 @@ returns-clause-made g c =
     let p = c.args.p.now in
     on_ok_weaker c.write_firmly-2.result
     (λ last.
-    all_made p c.settings_keep_rules.ensures (g.D.Disk.seen c.args.disk.now) (g.D.Disk.seen c.write_firmly.new.disk) (g.D.Disk.seen c.write_behind.new.disk) (g.D.Disk.seen c.write_firmly-2.new.disk) c.fresh_block.new.out
+    all_made p c.keep_rules.ensures.rules (g.D.Disk.seen c.args.disk.now) (g.D.Disk.seen c.write_firmly.new.disk) (g.D.Disk.seen c.write_behind.new.disk) (g.D.Disk.seen c.write_firmly-2.new.disk) c.fresh_block.new.out
     (c.fresh_block.ensures ∙ at_gate p (fresh p))
     c.in_ok-write_firmly.ensures.written c.in_ok-write_behind.ensures.written last
     (λ image told. let count = g.met.D.Disk.seen_count c.args.disk.now image told in let r = c.requires.within_disk in omega arith))
