@@ -69,6 +69,17 @@ impl Objects {
         }
     }
 
+    /// Tells that there are 4,096 objects at most, that no two share a page, and that each has a place of its own. It does
+    /// nothing when it runs.
+    pub fn keep_rules(&self)
+        ensures at_most_4096 { length self.now ≤ object_limit }
+        ensures apart { AreApart self.now }
+        ensures places { All (λ o. o.0 < object_limit) self.now }
+        ensures rows { All (λ o. IsObjectRow o.1) self.now }
+    {
+        let _count = self.len();
+    }
+
     /// How many objects there are, 4,096 at most. No two share a page, and each has a place of its own.
     pub fn len(&self) -> usize
         ensures count { result ≡ length self.now }
@@ -114,7 +125,7 @@ impl Objects {
     pub fn get(&self, base: u64) -> Option<&ObjRow>
         ensures { option_copied result ≡ option_map (λ o. o.1) (find (λ o. o.1.base == base) self.now) }
     {
-        let _ = &self.rows;
+        self.keep_places(base);
         match self.place(base) {
             Some(place) => self.at(place),
             None => None,
@@ -125,7 +136,7 @@ impl Objects {
     pub fn covering(&self, a: u64) -> Option<&ObjRow>
         ensures { option_copied result ≡ option_map (λ o. o.1) (find (λ o. covers o.1 a) self.now) }
     {
-        let _ = &self.rows;
+        self.keep_rules();
         let count = self.count_up_to(a);
         if count == 0 {
             return None;
@@ -171,12 +182,20 @@ impl Objects {
         kept
     }
 
+    // Tells that the place of the object with this base has that object. It does nothing when it runs.
+    fn keep_places(&self, base: u64)
+        ensures { (place : ℕ) → Some place ≡ option_map (λ o. o.0) (find (λ o. o.1.base == base) self.now)
+            → option_map (λ o. o.1) (find (λ o. o.0 == place) self.now) ≡ option_map (λ o. o.1) (find (λ o. o.1.base == base) self.now) }
+    {
+        let _rows = &self.rows;
+    }
+
     // The object with this base, which is there, with its place.
     fn found(&self, base: u64) -> (u64, ObjRow)
         requires { list_any (λ o. o.1.base == base) self.now ≡ true }
         ensures { find (λ o. o.1.base == base) self.now ≡ Some result }
     {
-        let _ = &self.rows;
+        self.keep_places(base);
         match self.place(base) {
             Some(place) => match self.at(place) {
                 Some(row) => (place, *row),

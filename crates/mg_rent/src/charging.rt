@@ -36,7 +36,7 @@ pub(crate) fn charge(b: &mut Bank, n: u64, due: u64) -> u64
     ensures paid { result ≡ paid_at b.old n due }
     ensures sum { credits_of b.new + result ≡ credits_of b.old }
 {
-    let _count = b.len();
+    b.keep_rules();
     match b.row(n) {
         Some(row) => {
             b.set(n, charged(row, due));

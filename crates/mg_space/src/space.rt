@@ -117,7 +117,6 @@ impl Space {
     pub fn paid_by(&self, n: u64) -> u64
         ensures { result ≡ sum_by (λ o. o.1.pages) (filter (λ o. o.1.account == n) self.now) }
     {
-        let _objects = &self.objects;
         self.totals.get(n)
     }
 
@@ -131,7 +130,6 @@ impl Space {
         ensures low { first_page ≤ result }
         ensures high { result + pages ≤ page_end }
     {
-        let _objects = &self.objects;
         self.free.first(pages)
     }
 
@@ -144,7 +142,7 @@ impl Space {
     {
         let (first, pages) = span_of(&row);
         let place = self.objects.insert(row);
-        let _count = self.objects.len();
+        self.objects.keep_rules();
         self.free.take(first, pages);
         self.used += pages;
         self.totals.add(&row);
@@ -157,7 +155,7 @@ impl Space {
         ensures objects { self.new ≡ filter (λ o. not (o.1.base == base)) self.old }
         ensures gone { find (λ o. o.1.base == base) self.old ≡ Some result }
     {
-        let _count = self.objects.len();
+        self.objects.keep_rules();
         let gone = self.objects.remove(base);
         let (first, pages) = span_of(&gone.1);
         self.free.give(first, pages);
@@ -174,10 +172,10 @@ impl Space {
         ensures objects { self.new ≡ with_row row self.old }
         ensures place { Some result ≡ option_map (λ o. o.0) (find (λ o. o.1.base == row.base) self.old) }
     {
-        let _count = self.objects.len();
+        self.objects.keep_rules();
         let old = replaced(&self.objects, &row);
         let place = self.objects.update(row);
-        let _rows = self.objects.len();
+        self.objects.keep_rules();
         self.totals.subtract(&old);
         self.totals.add(&row);
         place

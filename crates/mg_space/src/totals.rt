@@ -64,7 +64,7 @@ impl Totals {
         ensures { (n : ℕ) → total_in self.new n ≡ total_in self.old n + share row.now n }
     {
         // It tells that the row keeps its ranges.
-        let _base = row.base();
+        row.keep_rules();
         let account = row.account();
         let pages = row.pages();
         let total = self.get(account);
@@ -77,7 +77,7 @@ impl Totals {
         ensures { (n : ℕ) → total_in self.old n ≡ total_in self.new n + share row.now n }
     {
         // It tells that the row keeps its ranges.
-        let _base = row.base();
+        row.keep_rules();
         let account = row.account();
         let pages = row.pages();
         let total = self.get(account);

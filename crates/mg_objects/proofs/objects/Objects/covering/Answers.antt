@@ -1,13 +1,10 @@
-use Rattle.std.proofs.Common.{◌≡◌, ◌<◌, ◌-◌, ◌∙◌, ℕ, List, [], None, Some, ap, arith, get_or, length, subst, sym, true, false}
+use Rattle.std.proofs.Common.{◌≡◌, ◌<◌, ◌-◌, ◌∙◌, ℕ, [], None, Some, ap, arith, get_or, length, subst, sym, true, false}
 use Rattle.std.specs.List.{AllWithin}
 use Rattle.std.specs.Option.{option_map}
 use Rattle.std.proofs.lemmas.List.{get_or_default}
 use Rattle.mg_model.specs.Access.{covers}
 use Rattle.mg_model.specs.State.{ObjectRow}
-use Rattle.mg_objects.specs.Held.{AreApart, whole}
-use Rattle.mg_objects.proofs.Apart.{AreRows, covers-last, covers-no, covers-none}
-use Rattle.mg_objects.proofs.Keys.{held_rows}
-use Rattle.mg_objects.proofs.Whole.{whole-objects}
+use Rattle.mg_objects.proofs.Apart.{covers-last, covers-no, covers-none}
 use Rattle.mg_objects.proofs.objects.Objects.covering.Goals as goal
 
 blank : ℕ × ObjectRow
@@ -26,15 +23,11 @@ returns-then-covers c =
     let a = c.args.a in
     let n = c.count_up_to-count.result in
     let last = get_or now (n - 1) blank in
-    let P : List (ℕ × ObjectRow) → Type 0 = AreRows in
-    let Q : List (ℕ × ObjectRow) → Type 0 = AreApart in
-    let rows = subst P (whole-objects c.self.inside.rows.items ∙ c.self.view_is) (held_rows (whole c.self.inside.rows.items) c.self.inside.bases c.self.invariant.held) in
-    let apart = subst Q (whole-objects c.self.inside.rows.items ∙ c.self.view_is) c.self.invariant.held.apart in
     let row : c.nth-row.result.now ≡ last.1 = c.nth-row.ensures blank in
     let is : covers last.1 a ≡ true = ap (λ (r : ObjectRow). covers r a) (sym row) ∙ sym c.covers.ensures ∙ c.if-covers.true in
     let within = c.count_up_to-count.ensures.within in
     let some = c.if-count-eq0.false in
-    let found = covers-last now a n rows apart c.if-count-eq0.false within c.count_up_to-count.ensures.below c.count_up_to-count.ensures.above last (get_or_default now (n - 1) last blank (omega arith)) is in
+    let found = covers-last now a n c.keep_rules.ensures.rows c.keep_rules.ensures.apart c.if-count-eq0.false within c.count_up_to-count.ensures.below c.count_up_to-count.ensures.above last (get_or_default now (n - 1) last blank (omega arith)) is in
     ap Some row ∙ sym (ap (option_map (λ (o : ℕ × ObjectRow). o.1)) found)
 
 pub returns-else-covers : goal.returns-else-covers
@@ -43,13 +36,9 @@ returns-else-covers c =
     let a = c.args.a in
     let n = c.count_up_to-count.result in
     let last = get_or now (n - 1) blank in
-    let P : List (ℕ × ObjectRow) → Type 0 = AreRows in
-    let Q : List (ℕ × ObjectRow) → Type 0 = AreApart in
-    let rows = subst P (whole-objects c.self.inside.rows.items ∙ c.self.view_is) (held_rows (whole c.self.inside.rows.items) c.self.inside.bases c.self.invariant.held) in
-    let apart = subst Q (whole-objects c.self.inside.rows.items ∙ c.self.view_is) c.self.invariant.held.apart in
     let row : c.nth-row.result.now ≡ last.1 = c.nth-row.ensures blank in
     let is : covers last.1 a ≡ false = ap (λ (r : ObjectRow). covers r a) (sym row) ∙ sym c.covers.ensures ∙ c.if-covers.false in
     let within = c.count_up_to-count.ensures.within in
     let some = c.if-count-eq0.false in
     sym (ap (option_map (λ (o : ℕ × ObjectRow). o.1))
-    (covers-no now a n rows apart c.if-count-eq0.false within c.count_up_to-count.ensures.below c.count_up_to-count.ensures.above last (get_or_default now (n - 1) last blank (omega arith)) is))
+    (covers-no now a n c.keep_rules.ensures.rows c.keep_rules.ensures.apart c.if-count-eq0.false within c.count_up_to-count.ensures.below c.count_up_to-count.ensures.above last (get_or_default now (n - 1) last blank (omega arith)) is))

@@ -12,15 +12,13 @@ between new old objects is = subst (λ those. Between new old those) (sym is) (b
 pub take-requires : goal.take-requires
 take-requires c =
     let objects = c.insert-place.new.self in
-    let e = c.len-count.ensures.count in
-    let taken = taken-spans objects (omega (arith, c.len-count.ensures.at_most_4096)) c.len-count.ensures.apart c.len-count.ensures.rows in
+    let taken = taken-spans objects c.keep_rules.ensures.at_most_4096 c.keep_rules.ensures.apart c.keep_rules.ensures.rows in
     can-take (c.insert-place.result, c.args.row) c.self.inside.objects objects (between (c.insert-place.result, c.args.row) c.self.inside.objects objects c.insert-place.ensures.objects) c.span_of-first.result c.span_of-first.ensures.span c.self.inside.free c.self.invariant.free taken
 
 pub overflow_add-self : goal.overflow_add-self
 overflow_add-self c =
     let objects = c.insert-place.new.self in
-    let e = c.len-count.ensures.count in
-    let fits = sum-fits objects (omega (arith, c.len-count.ensures.at_most_4096)) c.len-count.ensures.rows in
+    let fits = sum-fits objects c.keep_rules.ensures.at_most_4096 c.keep_rules.ensures.rows in
     let more = sum-between (c.insert-place.result, c.args.row) c.self.inside.objects objects (between (c.insert-place.result, c.args.row) c.self.inside.objects objects c.insert-place.ensures.objects) in
     let t = c.self.invariant.total in
     let span = c.span_of-first.ensures.span in
@@ -30,8 +28,7 @@ overflow_add-self c =
 pub add-requires : goal.add-requires
 add-requires c =
     let objects = c.insert-place.new.self in
-    let e = c.len-count.ensures.count in
-    let fits = sum-fits objects (omega (arith, c.len-count.ensures.at_most_4096)) c.len-count.ensures.rows in
+    let fits = sum-fits objects c.keep_rules.ensures.at_most_4096 c.keep_rules.ensures.rows in
     let payer = c.args.row.account in
     let more = paid-between (c.insert-place.result, c.args.row) c.self.inside.objects objects (between (c.insert-place.result, c.args.row) c.self.inside.objects objects c.insert-place.ensures.objects) payer in
     let few = paid-few payer objects in
@@ -42,8 +39,7 @@ add-requires c =
 pub invariant_of-self : goal.invariant_of-self
 invariant_of-self c =
     let objects = c.insert-place.new.self in
-    let e = c.len-count.ensures.count in
-    let taken = taken-spans objects (omega (arith, c.len-count.ensures.at_most_4096)) c.len-count.ensures.apart c.len-count.ensures.rows in
+    let taken = taken-spans objects c.keep_rules.ensures.at_most_4096 c.keep_rules.ensures.apart c.keep_rules.ensures.rows in
     let more = sum-between (c.insert-place.result, c.args.row) c.self.inside.objects objects (between (c.insert-place.result, c.args.row) c.self.inside.objects objects c.insert-place.ensures.objects) in
     let t = c.self.invariant.total in
     let pages : c.span_of-first.result.1 ≡ c.args.row.pages = rw c.span_of-first.ensures.span refl in
