@@ -9,3 +9,5 @@ pub mod FaultText
 pub mod Listed
 pub mod Stored
 pub mod Labels
+-- Lemmas that a crate above cites.
+pub mod CutLemmas

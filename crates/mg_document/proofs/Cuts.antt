@@ -1,56 +1,15 @@
 -- The first reply of bytes, and what stands behind its newline.
-use Rattle.std.proofs.Common.{◌≡◌, ℕ, suc, ◌+◌, ◌-◌, ◌<◌, Bool, true, false, not, List, [], ◌∷◌, length, take, drop, refl, ap, ◌∙◌, arith, length-drop}
-use Rattle.std.proofs.lemmas.List.{take_all}
+use Rattle.std.proofs.Common.{◌≡◌, ℕ, ◌<◌, Bool, not, List, [], ◌∷◌, length, take, drop, refl, ap, ◌∙◌}
 use Rattle.std.specs.List.{prefix_len}
+use Rattle.mg_asm.specs.CutLemmas.{cut-none, cut-some}
 use Rattle.mg_model.specs.Ended.{all_but_last}
 use Rattle.mg_model.specs.Words.{split_at}
 use Rattle.mg_document.specs.EndedLemmas.{not_last}
 
--- how many bytes stand before the first cut
-abbrev before : (ℕ → Bool) → List ℕ → ℕ
-before cuts bytes = prefix_len (λ b. not (cuts b)) bytes
-
--- the pieces behind the cut that these bytes begin with, if they begin with one
-abbrev behind_cut : (ℕ → Bool) → List ℕ → List (List ℕ)
-behind_cut cuts [] = []
-behind_cut cuts (b ∷ bytes) = split_at cuts bytes
-
-byte_case : (cuts : ℕ → Bool) (b : ℕ) (xs : List ℕ) (v : Bool) → cuts b ≡ v → split_at cuts xs ≡ take (before cuts xs) xs ∷ behind_cut cuts (drop (before cuts xs) xs)
-    → split_at cuts (b ∷ xs) ≡ take (before cuts (b ∷ xs)) (b ∷ xs) ∷ behind_cut cuts (drop (before cuts (b ∷ xs)) (b ∷ xs))
-byte_case cuts b xs true e ih = rw e refl
-byte_case cuts b xs false e ih =
-    let s : 1 + before cuts xs ≡ suc (before cuts xs) = omega arith in
-    rw (e, s, ih) refl
-
-split_at-cut : (cuts : ℕ → Bool) (xs : List ℕ) → split_at cuts xs ≡ take (before cuts xs) xs ∷ behind_cut cuts (drop (before cuts xs) xs)
-split_at-cut cuts [] = refl
-split_at-cut cuts (b ∷ xs) = byte_case cuts b xs (cuts b) refl (split_at-cut cuts xs)
-
--- by the parts that the code has
 pub ended-none : (cuts : ℕ → Bool) (xs rest : List ℕ) (n : ℕ) → n ≡ prefix_len (λ b. not (cuts b)) xs → rest ≡ drop n xs → rest ≡ []
     → all_but_last (split_at cuts xs) ≡ []
-ended-none cuts xs rest n counted back none =
-    let at = split_at-cut cuts xs in
-    let gone = ap (behind_cut cuts) none in
-    let alone : split_at cuts xs ≡ take (before cuts xs) xs ∷ [] = cc in
-    ap all_but_last alone
-
-one_cut : (cuts : ℕ → Bool) (rest : List ℕ) → 0 < length rest → behind_cut cuts rest ≡ split_at cuts (drop 1 rest)
-one_cut cuts [] some = absurd (omega (arith, some))
-one_cut cuts (b ∷ rest) some = refl
+ended-none cuts xs rest n counted back none = ap all_but_last (cut-none cuts xs (take n xs) rest n counted refl back none)
 
 pub ended-some : (cuts : ℕ → Bool) (xs piece rest more : List ℕ) (n : ℕ) → n ≡ prefix_len (λ b. not (cuts b)) xs → piece ≡ take n xs → rest ≡ drop n xs
     → 0 < length rest → more ≡ drop 1 rest → all_but_last (split_at cuts xs) ≡ piece ∷ all_but_last (split_at cuts more)
-ended-some cuts xs piece rest more n counted front back some next =
-    let at = split_at-cut cuts xs in
-    let found = one_cut cuts rest some in
-    let parts : split_at cuts xs ≡ piece ∷ split_at cuts more = cc in
-    ap all_but_last parts ∙ not_last cuts piece more
-
--- how the code says that nothing is left, and what is left behind the cut
-pub no_length : (xs : List ℕ) → length xs ≡ 0 → xs ≡ []
-no_length [] h = refl
-no_length (x ∷ xs) h = absurd (omega (arith, h))
-
-pub rest_of : (xs : List ℕ) → take (length xs - 1) (drop 1 xs) ≡ drop 1 xs
-rest_of xs = take_all (length xs - 1) (drop 1 xs) (omega (arith, length-drop 1 xs))
+ended-some cuts xs piece rest more n counted front back some next = ap all_but_last (cut-some cuts xs piece rest more n counted front back some next) ∙ not_last cuts piece more

@@ -198,6 +198,13 @@ impl Pages {
         self.blocks.commit(disk, first_block(self.frames.len()))
     }
 
+    /// Tells that there are 16 to 65,536 frames, and that no page has two of them. It does nothing when it runs.
+    pub fn keep_rules(&self)
+        ensures { IsKept self.now }
+    {
+        let _staged = self.staged();
+    }
+
     /// How many blocks are staged, 0 to 160.
     pub fn staged(&self) -> usize
         ensures staged { result ≡ staged_of self.now }

@@ -1,7 +1,8 @@
 use Rattle.std.proofs.Common.{◌≡◌, ◌-◌, ◌<◌, length, take, drop, arith}
 use Rattle.std.proofs.lemmas.Bool.Decides.{nat_tests}
 use Rattle.mg_model.specs.Words.{is_newline}
-use Rattle.mg_document.proofs.Cuts.{ended-none, ended-some, no_length, rest_of}
+use Rattle.mg_asm.specs.CutLemmas.{no_length, rest_of}
+use Rattle.mg_document.proofs.Cuts.{ended-none, ended-some}
 use Rattle.mg_document.proofs.replies.next_reply.Goals as goal
 
 pub returns-then-is_empty-clause-none : goal.returns-then-is_empty-clause-none
