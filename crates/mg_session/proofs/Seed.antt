@@ -3,7 +3,8 @@ use Rattle.std.proofs.Common.{ℕ, suc, ◌+◌, ◌*◌, ◌<◌, ◌≡◌, �
 use Rattle.std.proofs.Math.ListN.{set, length-set}
 use Rattle.std.proofs.Math.Seq.{drop-cons, take-suc-set}
 use Rattle.std.proofs.lemmas.List.{take_all, drop_all}
-use Rattle.mg_session.specs.Commands.{byte_before, byte_of, bytes_of, seed_of}
+use Rattle.mg_session.specs.Commands.{byte_of, bytes_of, seed_of}
+use Rattle.mg_session.specs.Forms.{byte_before}
 
 -- bytes go before others
 abbrev pub bytes_then : List ℕ → Option (List ℕ) → Option (List ℕ)

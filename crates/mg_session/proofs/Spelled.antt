@@ -4,7 +4,8 @@ use Rattle.std.specs.Prelude.{String, codes}
 use Rattle.std.specs.String.{string_bytes}
 use Rattle.std.specs.declared.alloc.Global.{Global}
 use Rattle.mg_model.specs.Words.{same_bytes}
-use Rattle.mg_session.specs.Commands.{dry_of, dry_words, format_usual, format_with, format_words, gen_with, gen_words, is_check, run_alone, run_with, run_words, tariff_of, words_of}
+use Rattle.mg_session.specs.Commands.{dry_of, format_of, gen_of, is_check, run_of, tariff_of, words_of}
+use Rattle.mg_session.specs.Forms.{dry_words, format_usual, format_with, gen_with, run_alone, run_with}
 
 not_five : (words : List (List ℕ)) → (length words ≡ 5 → ⊥) → dry_of words ≡ None
 not_five [] h = refl
@@ -57,45 +58,45 @@ item (w ∷ words) zero a low is = ap (λ v. string_bytes v) (sym is)
 item (w ∷ words) (suc k) a low is = item words k a (omega arith) is
 
 -- the words of `format`, each by its place
-pub format_words-five : (words : List (List ℕ)) (word frames seed credits : List ℕ) → length words ≡ 5
+pub format_of-five : (words : List (List ℕ)) (word frames seed credits : List ℕ) → length words ≡ 5
     → get_or words 1 [] ≡ word → get_or words 2 [] ≡ frames → get_or words 3 [] ≡ seed → get_or words 4 [] ≡ credits
-    → format_usual word frames seed credits ≡ format_words words
-format_words-five [] w f s c five p q r t = absurd (omega arith)
-format_words-five (a0 ∷ []) w f s c five p q r t = absurd (omega arith)
-format_words-five (a0 ∷ a1 ∷ []) w f s c five p q r t = absurd (omega arith)
-format_words-five (a0 ∷ a1 ∷ a2 ∷ []) w f s c five p q r t = absurd (omega arith)
-format_words-five (a0 ∷ a1 ∷ a2 ∷ a3 ∷ []) w f s c five p q r t = absurd (omega arith)
-format_words-five (a0 ∷ a1 ∷ a2 ∷ a3 ∷ a4 ∷ []) w f s c five p q r t =
+    → format_usual word frames seed credits ≡ format_of words
+format_of-five [] w f s c five p q r t = absurd (omega arith)
+format_of-five (a0 ∷ []) w f s c five p q r t = absurd (omega arith)
+format_of-five (a0 ∷ a1 ∷ []) w f s c five p q r t = absurd (omega arith)
+format_of-five (a0 ∷ a1 ∷ a2 ∷ []) w f s c five p q r t = absurd (omega arith)
+format_of-five (a0 ∷ a1 ∷ a2 ∷ a3 ∷ []) w f s c five p q r t = absurd (omega arith)
+format_of-five (a0 ∷ a1 ∷ a2 ∷ a3 ∷ a4 ∷ []) w f s c five p q r t =
     sym
     (ap (λ v. format_usual v a2 a3 a4) p ∙ ap (λ v. format_usual w v a3 a4) q
     ∙ ap (λ v. format_usual w f v a4) r ∙ ap (λ v. format_usual w f s v) t)
-format_words-five (a0 ∷ a1 ∷ a2 ∷ a3 ∷ a4 ∷ a5 ∷ more) w f s c five p q r t = absurd (omega arith)
+format_of-five (a0 ∷ a1 ∷ a2 ∷ a3 ∷ a4 ∷ a5 ∷ more) w f s c five p q r t = absurd (omega arith)
 
-pub format_words-nine : (words : List (List ℕ)) (word frames seed credits : List ℕ) (tariff : Option (List (ℕ × ℕ))) → length words ≡ 9
+pub format_of-nine : (words : List (List ℕ)) (word frames seed credits : List ℕ) (tariff : Option (List (ℕ × ℕ))) → length words ≡ 9
     → get_or words 1 [] ≡ word → get_or words 2 [] ≡ frames → get_or words 3 [] ≡ seed → get_or words 4 [] ≡ credits
     → tariff_of (get_or words 5 []) (get_or words 6 []) (get_or words 7 []) (get_or words 8 []) ≡ tariff
-    → format_with tariff word frames seed credits ≡ format_words words
-format_words-nine [] w f s c t nine p q r u h = absurd (omega arith)
-format_words-nine (a0 ∷ []) w f s c t nine p q r u h = absurd (omega arith)
-format_words-nine (a0 ∷ a1 ∷ []) w f s c t nine p q r u h = absurd (omega arith)
-format_words-nine (a0 ∷ a1 ∷ a2 ∷ []) w f s c t nine p q r u h = absurd (omega arith)
-format_words-nine (a0 ∷ a1 ∷ a2 ∷ a3 ∷ []) w f s c t nine p q r u h = absurd (omega arith)
-format_words-nine (a0 ∷ a1 ∷ a2 ∷ a3 ∷ a4 ∷ []) w f s c t nine p q r u h = absurd (omega arith)
-format_words-nine (a0 ∷ a1 ∷ a2 ∷ a3 ∷ a4 ∷ a5 ∷ []) w f s c t nine p q r u h = absurd (omega arith)
-format_words-nine (a0 ∷ a1 ∷ a2 ∷ a3 ∷ a4 ∷ a5 ∷ a6 ∷ []) w f s c t nine p q r u h = absurd (omega arith)
-format_words-nine (a0 ∷ a1 ∷ a2 ∷ a3 ∷ a4 ∷ a5 ∷ a6 ∷ a7 ∷ []) w f s c t nine p q r u h = absurd (omega arith)
-format_words-nine (a0 ∷ a1 ∷ a2 ∷ a3 ∷ a4 ∷ a5 ∷ a6 ∷ a7 ∷ a8 ∷ []) w f s c t nine p q r u h =
+    → format_with tariff word frames seed credits ≡ format_of words
+format_of-nine [] w f s c t nine p q r u h = absurd (omega arith)
+format_of-nine (a0 ∷ []) w f s c t nine p q r u h = absurd (omega arith)
+format_of-nine (a0 ∷ a1 ∷ []) w f s c t nine p q r u h = absurd (omega arith)
+format_of-nine (a0 ∷ a1 ∷ a2 ∷ []) w f s c t nine p q r u h = absurd (omega arith)
+format_of-nine (a0 ∷ a1 ∷ a2 ∷ a3 ∷ []) w f s c t nine p q r u h = absurd (omega arith)
+format_of-nine (a0 ∷ a1 ∷ a2 ∷ a3 ∷ a4 ∷ []) w f s c t nine p q r u h = absurd (omega arith)
+format_of-nine (a0 ∷ a1 ∷ a2 ∷ a3 ∷ a4 ∷ a5 ∷ []) w f s c t nine p q r u h = absurd (omega arith)
+format_of-nine (a0 ∷ a1 ∷ a2 ∷ a3 ∷ a4 ∷ a5 ∷ a6 ∷ []) w f s c t nine p q r u h = absurd (omega arith)
+format_of-nine (a0 ∷ a1 ∷ a2 ∷ a3 ∷ a4 ∷ a5 ∷ a6 ∷ a7 ∷ []) w f s c t nine p q r u h = absurd (omega arith)
+format_of-nine (a0 ∷ a1 ∷ a2 ∷ a3 ∷ a4 ∷ a5 ∷ a6 ∷ a7 ∷ a8 ∷ []) w f s c t nine p q r u h =
     sym
     (ap (λ v. format_with v a1 a2 a3 a4) h ∙ ap (λ v. format_with t v a2 a3 a4) p ∙ ap (λ v. format_with t w v a3 a4) q
     ∙ ap (λ v. format_with t w f v a4) r ∙ ap (λ v. format_with t w f s v) u)
-format_words-nine (a0 ∷ a1 ∷ a2 ∷ a3 ∷ a4 ∷ a5 ∷ a6 ∷ a7 ∷ a8 ∷ a9 ∷ more) w f s c t nine p q r u h = absurd (omega arith)
+format_of-nine (a0 ∷ a1 ∷ a2 ∷ a3 ∷ a4 ∷ a5 ∷ a6 ∷ a7 ∷ a8 ∷ a9 ∷ more) w f s c t nine p q r u h = absurd (omega arith)
 
 -- four words of a tariff
 pub tariff_of-four : (a b c d a' b' c' d' : List ℕ) → a ≡ a' → b ≡ b' → c ≡ c' → d ≡ d' → tariff_of a b c d ≡ tariff_of a' b' c' d'
 tariff_of-four a b c d a' b' c' d' p q r t =
     ap (λ v. tariff_of v b c d) p ∙ ap (λ v. tariff_of a' v c d) q ∙ ap (λ v. tariff_of a' b' v d) r ∙ ap (λ v. tariff_of a' b' c' v) t
 
-not_format : (words : List (List ℕ)) → (length words ≡ 5 → ⊥) → (length words ≡ 9 → ⊥) → format_words words ≡ None
+not_format : (words : List (List ℕ)) → (length words ≡ 5 → ⊥) → (length words ≡ 9 → ⊥) → format_of words ≡ None
 not_format [] h k = refl
 not_format (a0 ∷ []) h k = refl
 not_format (a0 ∷ a1 ∷ []) h k = refl
@@ -109,8 +110,8 @@ not_format (a0 ∷ a1 ∷ a2 ∷ a3 ∷ a4 ∷ a5 ∷ a6 ∷ a7 ∷ a8 ∷ []) h
 not_format (a0 ∷ a1 ∷ a2 ∷ a3 ∷ a4 ∷ a5 ∷ a6 ∷ a7 ∷ a8 ∷ a9 ∷ more) h k = refl
 
 -- neither five words nor nine
-pub format_words-other : (words : List (String Global)) → (length words ≡ 5 → ⊥) → (length words ≡ 9 → ⊥) → format_words (words_of words) ≡ None
-format_words-other words h k = not_format (words_of words) (λ e. h (sym (length-words_of words) ∙ e)) (λ e. k (sym (length-words_of words) ∙ e))
+pub format_of-other : (words : List (String Global)) → (length words ≡ 5 → ⊥) → (length words ≡ 9 → ⊥) → format_of (words_of words) ≡ None
+format_of-other words h k = not_format (words_of words) (λ e. h (sym (length-words_of words) ∙ e)) (λ e. k (sym (length-words_of words) ∙ e))
 
 -- the words of `check` and `run`, each by its place
 pub is_check-two : (words : List (String Global)) (a : String Global) (word : List ℕ) → length words ≡ 2 → a ≡ get_or words 1 a → word ≡ string_bytes a → same_bytes word (codes "check") ≡ is_check (words_of words)
@@ -128,41 +129,41 @@ not_two (a ∷ b ∷ c ∷ more) h = refl
 pub is_check-other : (words : List (String Global)) → (length words ≡ 2 → ⊥) → is_check (words_of words) ≡ false
 is_check-other words h = not_two (words_of words) (λ e. h (sym (length-words_of words) ∙ e))
 
-pub run_words-two : (words : List (String Global)) (a : String Global) (word : List ℕ) → length words ≡ 2 → a ≡ get_or words 1 a → word ≡ string_bytes a → run_alone word ≡ run_words (words_of words)
-run_words-two [] a w two p h = absurd (omega arith)
-run_words-two (w0 ∷ []) a w two p h = absurd (omega arith)
-run_words-two (w0 ∷ w1 ∷ []) a w two p h = ap (λ v. run_alone v) (h ∙ ap (λ v. string_bytes v) p)
-run_words-two (w0 ∷ w1 ∷ w2 ∷ more) a w two p h = absurd (omega arith)
+pub run_of-two : (words : List (String Global)) (a : String Global) (word : List ℕ) → length words ≡ 2 → a ≡ get_or words 1 a → word ≡ string_bytes a → run_alone word ≡ run_of (words_of words)
+run_of-two [] a w two p h = absurd (omega arith)
+run_of-two (w0 ∷ []) a w two p h = absurd (omega arith)
+run_of-two (w0 ∷ w1 ∷ []) a w two p h = ap (λ v. run_alone v) (h ∙ ap (λ v. string_bytes v) p)
+run_of-two (w0 ∷ w1 ∷ w2 ∷ more) a w two p h = absurd (omega arith)
 
-pub run_words-three : (words : List (String Global)) (a b : String Global) (word batch : List ℕ) → length words ≡ 3 → a ≡ get_or words 1 a → b ≡ get_or words 2 b → word ≡ string_bytes a → batch ≡ string_bytes b
-    → run_with word batch ≡ run_words (words_of words)
-run_words-three [] a b w n three p q h k = absurd (omega arith)
-run_words-three (w0 ∷ []) a b w n three p q h k = absurd (omega arith)
-run_words-three (w0 ∷ w1 ∷ []) a b w n three p q h k = absurd (omega arith)
-run_words-three (w0 ∷ w1 ∷ w2 ∷ []) a b w n three p q h k = ap (λ v. run_with v n) (h ∙ ap (λ v. string_bytes v) p) ∙ ap (λ v. run_with (string_bytes w1) v) (k ∙ ap (λ v. string_bytes v) q)
-run_words-three (w0 ∷ w1 ∷ w2 ∷ w3 ∷ more) a b w n three p q h k = absurd (omega arith)
+pub run_of-three : (words : List (String Global)) (a b : String Global) (word batch : List ℕ) → length words ≡ 3 → a ≡ get_or words 1 a → b ≡ get_or words 2 b → word ≡ string_bytes a → batch ≡ string_bytes b
+    → run_with word batch ≡ run_of (words_of words)
+run_of-three [] a b w n three p q h k = absurd (omega arith)
+run_of-three (w0 ∷ []) a b w n three p q h k = absurd (omega arith)
+run_of-three (w0 ∷ w1 ∷ []) a b w n three p q h k = absurd (omega arith)
+run_of-three (w0 ∷ w1 ∷ w2 ∷ []) a b w n three p q h k = ap (λ v. run_with v n) (h ∙ ap (λ v. string_bytes v) p) ∙ ap (λ v. run_with (string_bytes w1) v) (k ∙ ap (λ v. string_bytes v) q)
+run_of-three (w0 ∷ w1 ∷ w2 ∷ w3 ∷ more) a b w n three p q h k = absurd (omega arith)
 
-not_two_or_three : (words : List (List ℕ)) → (length words ≡ 2 → ⊥) → (length words ≡ 3 → ⊥) → run_words words ≡ None
+not_two_or_three : (words : List (List ℕ)) → (length words ≡ 2 → ⊥) → (length words ≡ 3 → ⊥) → run_of words ≡ None
 not_two_or_three [] h k = refl
 not_two_or_three (a ∷ []) h k = refl
 not_two_or_three (a ∷ b ∷ []) h k = absurd (h refl)
 not_two_or_three (a ∷ b ∷ c ∷ []) h k = absurd (k refl)
 not_two_or_three (a ∷ b ∷ c ∷ d ∷ more) h k = refl
 
-pub run_words-other : (words : List (String Global)) → (length words ≡ 2 → ⊥) → (length words ≡ 3 → ⊥) → run_words (words_of words) ≡ None
-run_words-other words h k = not_two_or_three (words_of words) (λ e. h (sym (length-words_of words) ∙ e)) (λ e. k (sym (length-words_of words) ∙ e))
+pub run_of-other : (words : List (String Global)) → (length words ≡ 2 → ⊥) → (length words ≡ 3 → ⊥) → run_of (words_of words) ≡ None
+run_of-other words h k = not_two_or_three (words_of words) (λ e. h (sym (length-words_of words) ∙ e)) (λ e. k (sym (length-words_of words) ∙ e))
 
 -- the words of `gen`, each by its place
-pub gen_words-four : (words : List (List ℕ)) (word number count : List ℕ) → length words ≡ 4
-    → get_or words 1 [] ≡ word → get_or words 2 [] ≡ number → get_or words 3 [] ≡ count → gen_with word number count ≡ gen_words words
-gen_words-four [] w n m four p q r = absurd (omega arith)
-gen_words-four (a0 ∷ []) w n m four p q r = absurd (omega arith)
-gen_words-four (a0 ∷ a1 ∷ []) w n m four p q r = absurd (omega arith)
-gen_words-four (a0 ∷ a1 ∷ a2 ∷ []) w n m four p q r = absurd (omega arith)
-gen_words-four (a0 ∷ a1 ∷ a2 ∷ a3 ∷ []) w n m four p q r = sym (ap (λ v. gen_with v a2 a3) p ∙ ap (λ v. gen_with w v a3) q ∙ ap (λ v. gen_with w n v) r)
-gen_words-four (a0 ∷ a1 ∷ a2 ∷ a3 ∷ a4 ∷ more) w n m four p q r = absurd (omega arith)
+pub gen_of-four : (words : List (List ℕ)) (word number count : List ℕ) → length words ≡ 4
+    → get_or words 1 [] ≡ word → get_or words 2 [] ≡ number → get_or words 3 [] ≡ count → gen_with word number count ≡ gen_of words
+gen_of-four [] w n m four p q r = absurd (omega arith)
+gen_of-four (a0 ∷ []) w n m four p q r = absurd (omega arith)
+gen_of-four (a0 ∷ a1 ∷ []) w n m four p q r = absurd (omega arith)
+gen_of-four (a0 ∷ a1 ∷ a2 ∷ []) w n m four p q r = absurd (omega arith)
+gen_of-four (a0 ∷ a1 ∷ a2 ∷ a3 ∷ []) w n m four p q r = sym (ap (λ v. gen_with v a2 a3) p ∙ ap (λ v. gen_with w v a3) q ∙ ap (λ v. gen_with w n v) r)
+gen_of-four (a0 ∷ a1 ∷ a2 ∷ a3 ∷ a4 ∷ more) w n m four p q r = absurd (omega arith)
 
-not_four : (words : List (List ℕ)) → (length words ≡ 4 → ⊥) → gen_words words ≡ None
+not_four : (words : List (List ℕ)) → (length words ≡ 4 → ⊥) → gen_of words ≡ None
 not_four [] h = refl
 not_four (a ∷ []) h = refl
 not_four (a ∷ b ∷ []) h = refl
@@ -170,5 +171,5 @@ not_four (a ∷ b ∷ c ∷ []) h = refl
 not_four (a ∷ b ∷ c ∷ d ∷ []) h = absurd (h refl)
 not_four (a ∷ b ∷ c ∷ d ∷ e ∷ more) h = refl
 
-pub gen_words-other : (words : List (String Global)) → (length words ≡ 4 → ⊥) → gen_words (words_of words) ≡ None
-gen_words-other words h = not_four (words_of words) (λ e. h (sym (length-words_of words) ∙ e))
+pub gen_of-other : (words : List (String Global)) → (length words ≡ 4 → ⊥) → gen_of (words_of words) ≡ None
+gen_of-other words h = not_four (words_of words) (λ e. h (sym (length-words_of words) ∙ e))

@@ -1,9 +1,11 @@
 // The top call: every command of `mungi` but `migrate`.
-ghost use Rattle.std.specs.Prelude.{◌≡◌, ◌⊎◌, IfSome, IsSome, None};
+ghost use Rattle.std.specs.Prelude.{◌≡◌, ◌≢◌, ◌⊎◌, ℕ, None, Some};
 ghost use Rattle.std.specs.Io.KnownBytes.{Appends};
 ghost use Rattle.mg_faults.specs.Faults.{Rose};
 ghost use Rattle.mg_io.specs.Known.{AppendsPrefix};
-ghost use Rattle.mg_session.specs.Commands.{check_of, command_of, dry_of, format_of, gen_of, opening_of, run_of, words_of};
+ghost use Rattle.mg_model.specs.Settings.{Settings};
+ghost use Rattle.mg_session.specs.Commands.{spelled};
+ghost use Rattle.mg_session.specs.declared.words.Command.TheVariants.{Check, Dry, Format, Gen, Run};
 ghost use Rattle.mg_session.specs.Headline.{CheckKeeps, DryKeeps, FormatKeeps, GenKeeps, RunKeeps, UsageKeeps, usage_line};
 
 use crate::checking::check;
@@ -68,24 +70,25 @@ pub fn top<D: Disk, S: Source, K: Sink, L: Ledger>(
     steps: &mut Steps<L>,
 ) -> Status
     // What each command keeps. `dry` makes no call on the disk, and `gen` none on the disk and the source.
-    ensures run { IfSome (run_of (words_of words.now)) (λ batch. RunKeeps D.Disk S.Source K.Sink batch result
-        disk.old disk.new source.old source.new sink.old sink.new steps.old steps.new) }
-    ensures dry { IfSome (dry_of (words_of words.now)) (λ settings. DryKeeps S.Source K.Sink settings result
-        source.old source.new sink.old sink.new steps.old steps.new) }
-    ensures disk_alone { IfSome (dry_of (words_of words.now)) (λ _. disk.new ≡ disk.old) }
-    ensures check { IfSome (check_of (words_of words.now)) (λ _. CheckKeeps D.Disk K.Sink result disk.old disk.new sink.old sink.new) }
-    ensures format { IfSome (format_of (words_of words.now)) (λ settings. FormatKeeps D.Disk K.Sink settings result
-        disk.old disk.new sink.old sink.new) }
-    ensures generated { IfSome (gen_of (words_of words.now)) (λ run. GenKeeps K.Sink run.0 run.1 result sink.old sink.new steps.old steps.new) }
-    ensures generated_alone { IfSome (gen_of (words_of words.now)) (λ _. (disk.new ≡ disk.old) × (source.new ≡ source.old)) }
-    ensures usage { command_of (words_of words.now) ≡ None → UsageKeeps K.Sink result disk.old disk.new source.old source.new sink.old sink.new }
+    ensures run { (batch : ℕ) → spelled words.now ≡ Some (Run batch) → RunKeeps D.Disk S.Source K.Sink batch result
+        disk.old disk.new source.old source.new sink.old sink.new steps.old steps.new }
+    ensures dry { (settings : Settings) → spelled words.now ≡ Some (Dry settings) → DryKeeps S.Source K.Sink settings result
+        source.old source.new sink.old sink.new steps.old steps.new }
+    ensures disk_alone { (settings : Settings) → spelled words.now ≡ Some (Dry settings) → disk.new ≡ disk.old }
+    ensures check { spelled words.now ≡ Some Check → CheckKeeps D.Disk K.Sink result disk.old disk.new sink.old sink.new }
+    ensures format { (settings : Settings) → spelled words.now ≡ Some (Format settings) → FormatKeeps D.Disk K.Sink settings result
+        disk.old disk.new sink.old sink.new }
+    ensures generated { (number count : ℕ) → spelled words.now ≡ Some (Gen number count) → GenKeeps K.Sink number count result
+        sink.old sink.new steps.old steps.new }
+    ensures generated_alone { (number count : ℕ) → spelled words.now ≡ Some (Gen number count) → (disk.new ≡ disk.old) × (source.new ≡ source.old) }
+    ensures usage { spelled words.now ≡ None → UsageKeeps K.Sink result disk.old disk.new source.old source.new sink.old sink.new }
 
     // Which commands a status comes of, and which make a call on the source.
-    ensures not_spelled { result ≡ Status.Usage → command_of (words_of words.now) ≡ None }
-    ensures no_volume { result ≡ Status.NoVolume → IsSome (opening_of (words_of words.now)) }
-    ensures too_small { result ≡ Status.TooSmall → IsSome (format_of (words_of words.now)) }
-    ensures source { result ≡ Status.Source → dry_of (words_of words.now) ≡ None → IsSome (run_of (words_of words.now)) }
-    ensures source_alone { dry_of (words_of words.now) ≡ None → run_of (words_of words.now) ≡ None → source.new ≡ source.old }
+    ensures not_spelled { result ≡ Status.Usage → spelled words.now ≡ None }
+    ensures no_volume { result ≡ Status.NoVolume → (spelled words.now ≡ Some Check) ⊎ ((batch : ℕ) × (spelled words.now ≡ Some (Run batch))) }
+    ensures too_small { result ≡ Status.TooSmall → (settings : Settings) × (spelled words.now ≡ Some (Format settings)) }
+    ensures source { result ≡ Status.Source → ((settings : Settings) × (spelled words.now ≡ Some (Dry settings))) ⊎ ((batch : ℕ) × (spelled words.now ≡ Some (Run batch))) }
+    ensures source_alone { ((settings : Settings) → spelled words.now ≢ Some (Dry settings)) → ((batch : ℕ) → spelled words.now ≢ Some (Run batch)) → source.new ≡ source.old }
 {
     let command = match read_words(words) {
         Some(command) => command,

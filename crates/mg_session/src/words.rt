@@ -1,6 +1,9 @@
 // The words of the command line.
-ghost use Rattle.std.specs.Prelude.{◌≡◌, ◌≤◌, IfSome, length};
-ghost use Rattle.mg_session.specs.Commands.{batch_to_run, batch_within, before_colon, byte_of, check_of, command_of, dry_of, dry_words, format_of, format_usual, format_with, format_words, gen_of, gen_with, gen_words, is_check, lines_within, only_check, only_opening, opening_of, run_alone, run_of, run_to_make, run_with, run_words, seed_of, settings_of, settings_to_make, settings_to_run, settings_with, step_of, step_parts, tariff_of, words_of};
+ghost use Rattle.std.specs.Prelude.{◌≡◌, ◌≤◌, ℕ, IfSome, Some, length};
+ghost use Rattle.mg_model.specs.Tariff.{usual_tariff};
+ghost use Rattle.mg_session.specs.Commands.{batch_within, before_colon, byte_of, dry_of, format_of, gen_of, is_check, lines_within, run_of, seed_of, settings_of, spelled, step_of, step_parts, tariff_of, words_of};
+ghost use Rattle.mg_session.specs.Forms.{dry_words, format_usual, format_with, gen_with, run_alone, run_with};
+ghost use Rattle.mg_session.specs.declared.words.Command.TheVariants.{Gen, Run};
 
 use mg_model::{Params, Tariff};
 use mg_text::{digit, is_word, read_number};
@@ -32,15 +35,9 @@ pub enum Command {
 /// digits of either case, CREDITS is at most `2^62`, BATCH is 1 to 64, NUMBER is below `2^64`, LINES is at most 1,000,000,
 /// and numbers are spelled as in a line.
 pub fn read_words(words: &[String]) -> Option<Command>
-    ensures command { result ≡ command_of (words_of words.now) }
-    ensures dry { dry_of (words_of words.now) ≡ settings_to_run result }
-    ensures format { format_of (words_of words.now) ≡ settings_to_make result }
-    ensures batch { run_of (words_of words.now) ≡ batch_to_run result }
-    ensures check { check_of (words_of words.now) ≡ only_check result }
-    ensures opens { opening_of (words_of words.now) ≡ only_opening result }
-    ensures run { gen_of (words_of words.now) ≡ run_to_make result }
-    ensures few_lines { IfSome (run_to_make result) (λ run. run.1 ≤ 1000000) }
-    ensures batch_within { IfSome (batch_to_run result) (λ batch. (1 ≤ batch) × (batch ≤ 64)) }
+    ensures command { result ≡ spelled words.now }
+    ensures few_lines { (number count : ℕ) → result ≡ Some (Gen number count) → count ≤ 1000000 }
+    ensures batch_within { (batch : ℕ) → result ≡ Some (Run batch) → (1 ≤ batch) × (batch ≤ 64) }
 {
     if let Some(params) = dry(words) {
         return Some(Command::Dry(params));
@@ -70,7 +67,7 @@ fn is_check(words: &[String]) -> bool
 
 /// How many replies a batch has, if the words are `VOLUME run` or `VOLUME run BATCH`.
 fn run(words: &[String]) -> Option<u64>
-    ensures batch { result ≡ run_words (words_of words.now) }
+    ensures batch { result ≡ run_of (words_of words.now) }
     ensures within { IfSome result (λ batch. (1 ≤ batch) × (batch ≤ 64)) }
 {
     if words.len() == 2 {
@@ -116,7 +113,7 @@ fn within_batch(batch: u64) -> Option<u64>
 
 /// The number and the lines that `VOLUME gen NUMBER LINES` gives.
 fn generated(words: &[String]) -> Option<(u64, u64)>
-    ensures run { result ≡ gen_words (words_of words.now) }
+    ensures run { result ≡ gen_of (words_of words.now) }
     ensures at_most_1000000_lines { IfSome result (λ run. run.1 ≤ 1000000) }
 {
     match words {
@@ -179,7 +176,7 @@ fn dry_words(word: &[u8], frames: &[u8], seed: &[u8], credits: &[u8]) -> Option<
 
 /// The settings that `VOLUME format FRAMES SEED CREDITS` gives, with or without a tariff.
 fn format(words: &[String]) -> Option<Params>
-    ensures { result ≡ format_words (words_of words.now) }
+    ensures { result ≡ format_of (words_of words.now) }
 {
     match words {
         [_, word, frames, seed, credits] => format_usual(
@@ -229,7 +226,7 @@ fn format_with(
 
 /// The settings of a volume with the usual tariff.
 fn settings(frames: &[u8], seed: &[u8], credits: &[u8]) -> Option<Params>
-    ensures { result ≡ settings_of frames.now seed.now credits.now }
+    ensures { result ≡ settings_of usual_tariff frames.now seed.now credits.now }
 {
     let frames = read_number(frames)?;
     let seed = read_seed(seed)?;
@@ -242,7 +239,7 @@ fn settings(frames: &[u8], seed: &[u8], credits: &[u8]) -> Option<Params>
 
 /// The settings of a volume with this tariff.
 fn settings_with(tariff: Tariff, frames: &[u8], seed: &[u8], credits: &[u8]) -> Option<Params>
-    ensures { result ≡ settings_with tariff frames.now seed.now credits.now }
+    ensures { result ≡ settings_of (λ _. tariff) frames.now seed.now credits.now }
 {
     Params::new(
         read_number(frames)?,

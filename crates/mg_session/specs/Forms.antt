@@ -1,0 +1,36 @@
+-- What the words of a command spell, part by part: what the functions that read them promise. Nothing above cites these words.
+use Rattle.std.specs.Prelude.{ℕ, List, [], ◌∷◌, if◌then◌else◌, Option, Some, None, codes}
+use Rattle.mg_model.specs.Settings.{Settings}
+use Rattle.mg_model.specs.Tariff.{usual_tariff}
+use Rattle.mg_model.specs.Words.{and_then, number_of, same_bytes}
+use Rattle.mg_session.specs.Commands.{batch_within, lines_within, settings_of}
+
+-- a byte, if there is one, goes before the others
+abbrev pub byte_before : Option ℕ → Option (List ℕ) → Option (List ℕ)
+byte_before byte rest = and_then byte (λ b. and_then rest (λ bytes. Some (b ∷ bytes)))
+
+-- `dry FRAMES SEED CREDITS`
+abbrev pub dry_words : List ℕ → List ℕ → List ℕ → List ℕ → Option Settings
+dry_words word frames seed credits = if same_bytes word (codes "dry") then settings_of usual_tariff frames seed credits else None
+
+-- `format FRAMES SEED CREDITS`
+abbrev pub format_usual : List ℕ → List ℕ → List ℕ → List ℕ → Option Settings
+format_usual word frames seed credits = if same_bytes word (codes "format") then settings_of usual_tariff frames seed credits else None
+
+-- `format FRAMES SEED CREDITS` with a tariff, if there is one
+abbrev pub format_with : Option (List (ℕ × ℕ)) → List ℕ → List ℕ → List ℕ → List ℕ → Option Settings
+format_with tariff word frames seed credits =
+    if same_bytes word (codes "format") then and_then tariff (λ steps. settings_of (λ _. steps) frames seed credits) else None
+
+-- `run`
+abbrev pub run_alone : List ℕ → Option ℕ
+run_alone word = if same_bytes word (codes "run") then Some 1 else None
+
+-- `run BATCH`
+abbrev pub run_with : List ℕ → List ℕ → Option ℕ
+run_with word batch = if same_bytes word (codes "run") then and_then (number_of batch) batch_within else None
+
+-- `gen NUMBER LINES`
+abbrev pub gen_with : List ℕ → List ℕ → List ℕ → Option (ℕ × ℕ)
+gen_with word number count =
+    if same_bytes word (codes "gen") then and_then (number_of number) (λ n. and_then (number_of count) (λ m. lines_within n m)) else None
