@@ -62,7 +62,6 @@ pub struct Mirror<D: Disk, E: Disk, K: Opened = Brand> {
 }
 
 /// A mirror was not opened. Both disks, as they are.
-#[derive(Drop)]
 pub struct MirrorFailed<D: Disk, E: Disk> {
     pub left: D,
     pub right: E,

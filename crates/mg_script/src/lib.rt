@@ -24,3 +24,5 @@ pub use resuming::{begin, call, resume};
 pub use settling::{refuse, settle};
 pub use turns::turns_are_calls;
 pub use words::{decode, encode};
+
+pub use mg_model::Instr;

@@ -3,7 +3,7 @@
 use thiserror::Error;
 
 /// Why a session ended before the end of its input.
-#[derive(Clone, Copy, Debug, PartialEq, Eq, Error)]
+#[derive(Clone, Copy, Debug, Drop, PartialEq, Eq, Error)]
 pub enum Ended {
     /// A call of the disk failed.
     #[error("a call of the disk failed")]
