@@ -6,7 +6,7 @@ use thiserror::Error;
 
 /// What is wrong with a line. The kinds stand in the order in which one line is tried; `NoLabel` comes where no line has
 /// another.
-#[derive(Clone, Copy, Debug, PartialEq, Eq, Error)]
+#[derive(Clone, Copy, Debug, Drop, PartialEq, Eq, Error)]
 pub enum AsmKind {
     /// The first word is no label, no instruction and not `.word`.
     #[error("Unknown")]
@@ -50,7 +50,7 @@ impl AsmKind {
 }
 
 /// Why there are no words.
-#[derive(Clone, Copy, Debug, PartialEq, Eq, Error)]
+#[derive(Clone, Copy, Debug, Drop, PartialEq, Eq, Error)]
 pub enum AsmFault {
     /// There was not enough memory.
     #[error("there was not enough memory")]

@@ -12,8 +12,7 @@ use crate::operands::{
     registers_3, two,
 };
 use crate::tokens::{cut, next_token};
-use mg_model::Instr;
-use mg_script::encode;
+use mg_script::{Instr, encode};
 use mg_text::{is_word, read_number};
 
 /// What a line asks for, given without its newline.

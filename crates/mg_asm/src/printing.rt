@@ -5,8 +5,7 @@ ghost use Rattle.mg_asm.specs.Assembled.{assembled};
 ghost use Rattle.mg_asm.specs.Printed.{instruction_words, line_of, operand_text, printed, word_line};
 ghost use Rattle.mg_model.specs.Print.{hex_digit, hex_digits, hex_text, spaced};
 
-use mg_model::Instr;
-use mg_script::decode;
+use mg_script::{Instr, decode};
 use std::alloc::{AllocError, Global};
 
 /// An operand, as it is printed.

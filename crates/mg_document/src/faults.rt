@@ -5,7 +5,7 @@ ghost use Rattle.mg_document.specs.FaultText.{kind_name};
 use thiserror::Error;
 
 /// What is wrong with a reply that is needed.
-#[derive(Clone, Copy, Debug, PartialEq, Eq, Error)]
+#[derive(Clone, Copy, Debug, Drop, PartialEq, Eq, Error)]
 pub enum ReplyKind {
     /// It is no `ok` and a word, as `no Denied`.
     #[error("NoWord")]
@@ -29,7 +29,7 @@ impl ReplyKind {
 }
 
 /// Why there are no bytes.
-#[derive(Clone, Copy, Debug, PartialEq, Eq, Error)]
+#[derive(Clone, Copy, Debug, Drop, PartialEq, Eq, Error)]
 pub enum ReplyFault {
     /// There was not enough memory.
     #[error("there was not enough memory")]

@@ -20,9 +20,8 @@ mod words;
 pub use actions::{Action, advance, execute};
 pub use calls::spell;
 pub use costs::turns_search_as_calls;
+pub use mg_model::Instr;
 pub use resuming::{begin, call, resume};
 pub use settling::{refuse, settle};
 pub use turns::turns_are_calls;
 pub use words::{decode, encode};
-
-pub use mg_model::Instr;
