@@ -227,7 +227,7 @@ fn all_go_well<L: Ledger>(
 }
 
 /// Makes a volume of 64 frames.
-fn is_made<D: Disk>(disk: &mut D) -> bool {
+pub(crate) fn is_made<D: Disk>(disk: &mut D) -> bool {
     match Params::new(64, [0; 32], 1000, Tariff::usual(64)) {
         Some(params) => format(disk, &params).is_ok(),
         None => false,

@@ -5,6 +5,8 @@
 #![tactic(auto)]
 
 #[cfg(test)]
+mod failing;
+#[cfg(test)]
 mod kernels;
 #[cfg(test)]
 mod probes;

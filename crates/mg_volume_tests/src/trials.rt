@@ -80,7 +80,7 @@ fn is_stored<D: Disk, L: Ledger>(
     answered(kernel, disk, &Line { thread: 1, call }, steps) == Some(Reply::Done)
 }
 
-fn is_committed<D: Disk>(kernel: &mut Kernel, disk: &mut D) -> bool
+pub(crate) fn is_committed<D: Disk>(kernel: &mut Kernel, disk: &mut D) -> bool
     requires { StandsOn D.Disk kernel.old disk.old }
     ensures { result ≡ true → StandsOn D.Disk kernel.new disk.new }
 {
