@@ -5,8 +5,10 @@
 #![tactic(auto)]
 
 mod entering;
+mod listing;
 mod present;
 mod slots;
 
 pub use entering::{enter, leave};
+pub use listing::entries;
 pub use slots::{drop_slot, push_slot};

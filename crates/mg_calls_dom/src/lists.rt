@@ -10,10 +10,12 @@ ghost use Rattle.mg_model.specs.Limits.{search_limit};
 ghost use Rattle.mg_volume.specs.Calls.{IsSoundOn, Reads};
 ghost use Rattle.mg_volume.specs.Meaning.{now_of, objects_in, threads_in};
 
+use mg_apd::entries;
 use mg_disk::Disk;
 use mg_faults::Failed;
-use mg_model::limits::{ENTRY_LIMIT, PAGE_SIZE};
+use mg_model::limits::PAGE_SIZE;
 use mg_model::{ObjRow, Right, Slot, Steps};
+use mg_passwords::holds;
 use mg_volume::Volume;
 use std::sync::ledger::Ledger;
 
@@ -68,7 +70,7 @@ fn entry_opens<D: Disk, L: Ledger>(
         return Ok(false);
     }
     let password = list_word(v, disk, clist, 3 + 2 * j, steps)?;
-    Ok(sought.object.holds(password, sought.right, sought.period))
+    Ok(holds(&sought.object, password, sought.right, sought.period))
 }
 
 // Whether an entry of a capability list opens the object. The search stops at the first that does.
@@ -86,7 +88,7 @@ fn list_opens<D: Disk, L: Ledger>(
     ensures reads { Reads D.Disk v.old v.new disk.old disk.new steps.old steps.new }
     ensures cause { OnErr result (CountRose D.Disk disk.old disk.new) }
 {
-    let count = list_word(v, disk, clist, 0, steps)?.min(ENTRY_LIMIT);
+    let count = entries(list_word(v, disk, clist, 0, steps)?);
     for j in 0..count {
         if entry_opens(v, disk, clist, j, sought, steps)? {
             return Ok(true);
@@ -112,7 +114,7 @@ fn slot_opens<D: Disk, L: Ledger>(
     let Some(clist) = v.object(slot.base) else {
         return Ok(false);
     };
-    if !clist.holds(slot.password, Right::R, sought.period) {
+    if !holds(&clist, slot.password, Right::R, sought.period) {
         return Ok(false);
     }
     list_opens(v, disk, &clist, sought, steps)

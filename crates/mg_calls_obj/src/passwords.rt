@@ -10,7 +10,7 @@ ghost use Rattle.mg_volume.specs.Meaning.{objects_in, staged_of};
 
 use mg_model::limits::{DRAW_LIMIT, PASSWORD_LIMIT};
 use mg_model::{Globals, ObjRow, Pw, Refusal, Reply, Right, Rights};
-use mg_passwords::remove;
+use mg_passwords::{add, remove};
 use mg_vcache::VCache;
 use mg_volume::Volume;
 
@@ -79,10 +79,12 @@ fn with_password(object: ObjRow, password: u64, rights: Rights, until: u64) -> O
     ensures { result ≡ record object { passwords = object.passwords ++ record { password = password; rights = rights; until = until } ∷ [] } }
 {
     let mut row = object;
-    row.add_password(Pw {
+    let pw = Pw {
         password,
         rights,
         until,
-    });
+    };
+    // There is room.
+    let _ = add(&mut row, pw);
     row
 }

@@ -1,5 +1,5 @@
 // The frames of a volume.
-ghost use Rattle.std.specs.Prelude.{◌≡◌, ◌≢◌, ◌≤◌, ◌<◌, ◌==◌, if◌then◌else◌, IfOk, None, Some, false, length, map, position, slice_index, slice_set, true};
+ghost use Rattle.std.specs.Prelude.{◌≡◌, ◌≢◌, ◌≤◌, ◌<◌, ◌==◌, if◌then◌else◌, IfOk, None, Some, false, length, map, position, replicate, slice_index, slice_set, true};
 ghost use Rattle.std.specs.List.{list_any};
 ghost use Rattle.mg_index.specs.Pairs.{Ascends, IsExact};
 ghost use Rattle.mg_model.specs.Tests.{all_distinct};
@@ -25,6 +25,15 @@ impl Model for Frames {
 }
 
 impl Frames {
+    /// So many free frames, 65,536 at most. All memory that they will need is taken here.
+    pub fn new(alloc: Global, frames: u64) -> Result<Frames, AllocError>
+        requires { frames ≤ 65536 }
+        ensures { IfOk result (λ made. made ≡ replicate frames 0) }
+    {
+        let pages = Index::new(alloc, frames)?;
+        Ok(Frames { pages })
+    }
+
     /// Frames that hold these pages, 0 for a free one, 65,536 at most: none where a page stands twice. All memory that they
     /// will need is taken here.
     pub fn of(alloc: Global, pages: Vec<u64>) -> Result<Option<Frames>, AllocError>
@@ -61,8 +70,19 @@ impl Frames {
         self.pages.pairs()
     }
 
-    /// The frame that holds a page, which is not 0.
+    /// The frame that holds a page. None holds page 0.
     pub fn frame_of(&self, page: u64) -> Option<u64>
+        ensures zero { page ≡ 0 → result ≡ None }
+        ensures found { page ≢ 0 → result ≡ position (λ entry. entry == page) self.now }
+    {
+        if page == 0 {
+            return None;
+        }
+        self.bound_frame(page)
+    }
+
+    /// The frame that holds a page, which is not 0.
+    pub fn bound_frame(&self, page: u64) -> Option<u64>
         requires { page ≢ 0 }
         ensures { result ≡ position (λ entry. entry == page) self.now }
     {
@@ -75,6 +95,17 @@ impl Frames {
         ensures { result ≡ slice_index self.now frame }
     {
         self.pages.number_at(frame)
+    }
+
+    /// Binds a page that has no frame, and is not 0, to this frame, which is free.
+    pub fn put(&mut self, frame: u64, page: u64)
+        requires frame { frame < length self.old }
+        requires page { page ≢ 0 }
+        requires free { slice_index self.old frame ≡ 0 }
+        requires unbound { list_any (λ entry. entry == page) self.old ≡ false }
+        ensures { self.new ≡ slice_set self.old frame page }
+    {
+        self.pages.put(frame, page);
     }
 
     /// Binds a page that has no frame, and is not 0, to the lowest free frame, and gives that frame.

@@ -92,15 +92,23 @@ impl Objects {
     }
 
     /// The object of this rank in the order of the bases, 0 for the first.
-    pub fn nth(&self, i: usize) -> &ObjRow
+    pub fn nth(&self, i: usize) -> ObjRow
+        requires { i < length self.now }
+        ensures { HoldsAt (λ o. result ≡ o.1) self.now i }
+    {
+        *self.nth_ref(i)
+    }
+
+    /// As [`Objects::nth`], and lends the row.
+    pub fn nth_ref(&self, i: usize) -> &ObjRow
         requires { i < length self.now }
         ensures { HoldsAt (λ o. result.now ≡ o.1) self.now i }
     {
         row_of(&self.rows, self.bases.pairs(), i)
     }
 
-    /// The place of the object with this base.
-    pub fn place(&self, base: u64) -> Option<u64>
+    // The place of the object with this base.
+    fn place(&self, base: u64) -> Option<u64>
         ensures { result ≡ option_map (λ o. o.0) (find (λ o. o.1.base == base) self.now) }
     {
         let bases = &self.bases;
@@ -122,7 +130,14 @@ impl Objects {
     }
 
     /// The object with this base.
-    pub fn get(&self, base: u64) -> Option<&ObjRow>
+    pub fn get(&self, base: u64) -> Option<ObjRow>
+        ensures { result ≡ option_map (λ o. o.1) (find (λ o. o.1.base == base) self.now) }
+    {
+        self.get_ref(base).copied()
+    }
+
+    /// As [`Objects::get`], and lends the row.
+    pub fn get_ref(&self, base: u64) -> Option<&ObjRow>
         ensures { option_copied result ≡ option_map (λ o. o.1) (find (λ o. o.1.base == base) self.now) }
     {
         self.keep_places(base);
@@ -132,8 +147,15 @@ impl Objects {
         }
     }
 
-    /// The object that has this address. It halves what is left at each step.
-    pub fn covering(&self, a: u64) -> Option<&ObjRow>
+    /// The object that has this address.
+    pub fn covering(&self, a: u64) -> Option<ObjRow>
+        ensures { result ≡ option_map (λ o. o.1) (find (λ o. covers o.1 a) self.now) }
+    {
+        self.covering_ref(a).copied()
+    }
+
+    /// As [`Objects::covering`], and lends the row. It halves what is left at each step.
+    pub fn covering_ref(&self, a: u64) -> Option<&ObjRow>
         ensures { option_copied result ≡ option_map (λ o. o.1) (find (λ o. covers o.1 a) self.now) }
     {
         self.keep_rules();
@@ -141,12 +163,21 @@ impl Objects {
         if count == 0 {
             return None;
         }
-        let row = self.nth(count - 1);
+        let row = self.nth_ref(count - 1);
         if row.covers(a) { Some(row) } else { None }
     }
 
-    /// One object more, in the lowest place that is free, and gives that place. It shares no page with another.
-    pub fn insert(&mut self, row: ObjRow) -> u64
+    /// One object more, in the lowest place that is free. It shares no page with another.
+    pub fn insert(&mut self, r: ObjRow)
+        requires fewer_than_4096 { length self.old < object_limit }
+        requires apart { MeetsNone r self.old }
+        ensures { (place : ℕ) × (IsLowestFree place self.old) × (self.new ≡ into_place (place, r) self.old) }
+    {
+        let _place = self.put(r);
+    }
+
+    /// As [`Objects::insert`], and gives the place.
+    pub fn put(&mut self, row: ObjRow) -> u64
         requires fewer_than_4096 { length self.old < object_limit }
         requires apart { MeetsNone row self.old }
         ensures objects { self.new ≡ into_place (result, row) self.old }
@@ -158,8 +189,16 @@ impl Objects {
         place
     }
 
-    /// The object with this base goes, and its place is free. It gives that place, and the row.
-    pub fn remove(&mut self, base: u64) -> (u64, ObjRow)
+    /// The object with this base goes, and its place is free.
+    pub fn remove(&mut self, base: u64)
+        requires { list_any (λ o. o.1.base == base) self.old ≡ true }
+        ensures { self.new ≡ filter (λ o. not (o.1.base == base)) self.old }
+    {
+        let _gone = self.take(base);
+    }
+
+    /// As [`Objects::remove`], and gives the place that is free then, and the row.
+    pub fn take(&mut self, base: u64) -> (u64, ObjRow)
         requires { list_any (λ o. o.1.base == base) self.old ≡ true }
         ensures objects { self.new ≡ filter (λ o. not (o.1.base == base)) self.old }
         ensures gone { find (λ o. o.1.base == base) self.old ≡ Some result }
@@ -170,8 +209,17 @@ impl Objects {
         gone
     }
 
-    /// Another row for the object with its base, which has as many pages. It stands in the same place, and gives that.
-    pub fn update(&mut self, row: ObjRow) -> u64
+    /// Another row for the object with its base, which has as many pages. It stands in the same place.
+    pub fn update(&mut self, r: ObjRow)
+        requires there { list_any (λ o. o.1.base == r.base) self.old ≡ true }
+        requires pages { All (λ o. o.1.base ≡ r.base → o.1.pages ≡ r.pages) self.old }
+        ensures { self.new ≡ with_row r self.old }
+    {
+        let _place = self.replace(r);
+    }
+
+    /// As [`Objects::update`], and gives the place.
+    pub fn replace(&mut self, row: ObjRow) -> u64
         requires there { list_any (λ o. o.1.base == row.base) self.old ≡ true }
         requires pages { All (λ o. o.1.base ≡ row.base → o.1.pages ≡ row.pages) self.old }
         ensures objects { self.new ≡ with_row row self.old }

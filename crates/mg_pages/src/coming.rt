@@ -39,7 +39,7 @@ pub(crate) fn page_word<D: Disk>(
     ensures writes { WritesNothing D.Disk disk.old disk.new }
     ensures calls { DiskCalls D.Disk disk.old disk.new result }
 {
-    match frames.frame_of(page) {
+    match frames.bound_frame(page) {
         Some(frame) => blocks.word(disk, frame_block(frames.len(), frame), index),
         None => Ok(0),
     }

@@ -41,7 +41,7 @@ pub(crate) fn store_word<D: Disk>(
     ensures writes { WritesNothing D.Disk disk.old disk.new }
     ensures calls { DiskCalls D.Disk disk.old disk.new result }
 {
-    match frames.frame_of(page) {
+    match frames.bound_frame(page) {
         Some(frame) => blocks.set_word(disk, frame_block(frames.len(), frame), index, value),
         None => {
             begin(blocks, frames, page, index, value);

@@ -96,14 +96,14 @@ impl Space {
     pub fn get(&self, base: u64) -> Option<&ObjRow>
         ensures { option_copied result ≡ option_map (λ o. o.1) (find (λ o. o.1.base == base) self.now) }
     {
-        self.objects.get(base)
+        self.objects.get_ref(base)
     }
 
     /// The object that has this address.
     pub fn covering(&self, a: u64) -> Option<&ObjRow>
         ensures { option_copied result ≡ option_map (λ o. o.1) (find (λ o. covers o.1 a) self.now) }
     {
-        self.objects.covering(a)
+        self.objects.covering_ref(a)
     }
 
     /// How many pages all objects have.
@@ -141,7 +141,7 @@ impl Space {
         ensures place { IsLowestFree result self.old }
     {
         let (first, pages) = span_of(&row);
-        let place = self.objects.insert(row);
+        let place = self.objects.put(row);
         self.objects.keep_rules();
         self.free.take(first, pages);
         self.used += pages;
@@ -156,7 +156,7 @@ impl Space {
         ensures gone { find (λ o. o.1.base == base) self.old ≡ Some result }
     {
         self.objects.keep_rules();
-        let gone = self.objects.remove(base);
+        let gone = self.objects.take(base);
         let (first, pages) = span_of(&gone.1);
         self.free.give(first, pages);
         self.used -= pages;
@@ -174,7 +174,7 @@ impl Space {
     {
         self.objects.keep_rules();
         let old = replaced(&self.objects, &row);
-        let place = self.objects.update(row);
+        let place = self.objects.replace(row);
         self.objects.keep_rules();
         self.totals.subtract(&old);
         self.totals.add(&row);
@@ -188,7 +188,7 @@ fn replaced(objects: &Objects, row: &ObjRow) -> ObjRow
     ensures { option_map (λ o. o.1) (find (λ o. o.1.base == row.now.base) objects.now) ≡ Some result }
 {
     let base = row.base();
-    match objects.get(base) {
+    match objects.get_ref(base) {
         Some(old) => *old,
         None => unreachable!(),
     }
@@ -209,7 +209,7 @@ fn spans(alloc: Global, objects: &Objects) -> Result<Vec<(u64, u64)>, AllocError
 {
     let mut spans = Vec::with_capacity(alloc, objects.len())?;
     for i in 0..objects.len() {
-        spans.push(span_of(objects.nth(i)))?;
+        spans.push(span_of(objects.nth_ref(i)))?;
     }
     Ok(spans)
 }
@@ -220,7 +220,7 @@ fn pages_of(objects: &Objects) -> u64
 {
     let mut used = 0;
     for i in 0..objects.len() {
-        used += objects.nth(i).pages();
+        used += objects.nth_ref(i).pages();
     }
     used
 }

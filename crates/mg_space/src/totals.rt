@@ -42,7 +42,7 @@ impl Totals {
     {
         let mut totals = Totals::new(alloc)?;
         for i in 0..objects.len() {
-            totals.add(objects.nth(i));
+            totals.add(objects.nth_ref(i));
         }
         Ok(totals)
     }

@@ -14,7 +14,7 @@ returns-then-branch-clause-opens g c image told =
     let base = c.args.clist.now.base in
     let found = told_since g.D.Disk c.args.v.now c.loop-j.v c.args.disk.now c.loop-j.disk c.args.steps.now c.loop-j.steps c.in_ok-entry_opens.field-0 (λ state. opens c.args.sought.now (entry_at (words_based state.objects base) c.loop-j.j))
     c.loop-j.invariant.reads c.in_ok-entry_opens.ensures.opens image told in
-    entry-hit (λ entry. opens c.args.sought.now entry) (words_based (now_of c.args.v.now image).objects base) c.loop-j.j c.min-count.result c.loop-j-test.true (sym c.if-branch.true ∙ found) (c.loop-j.invariant.rest image told)
+    entry-hit (λ entry. opens c.args.sought.now entry) (words_based (now_of c.args.v.now image).objects base) c.loop-j.j c.entries-count.result c.loop-j-test.true (sym c.if-branch.true ∙ found) (c.loop-j.invariant.rest image told)
 
 pub returns-then-branch-clause-reads : goal.returns-then-branch-clause-reads
 returns-then-branch-clause-reads g c =
@@ -28,5 +28,5 @@ loop-j-preserved g c = record {
       let base = c.args.clist.now.base in
       let found = told_since g.D.Disk c.args.v.now c.loop-j.v c.args.disk.now c.loop-j.disk c.args.steps.now c.loop-j.steps c.in_ok-entry_opens.field-0 (λ state. opens c.args.sought.now (entry_at (words_based state.objects base) c.loop-j.j))
       c.loop-j.invariant.reads c.in_ok-entry_opens.ensures.opens image told in
-      entry-miss (λ entry. opens c.args.sought.now entry) (words_based (now_of c.args.v.now image).objects base) c.loop-j.j c.min-count.result c.loop-j-test.true (sym c.if-branch.false ∙ found) (c.loop-j.invariant.rest image told);
+      entry-miss (λ entry. opens c.args.sought.now entry) (words_based (now_of c.args.v.now image).objects base) c.loop-j.j c.entries-count.result c.loop-j-test.true (sym c.if-branch.false ∙ found) (c.loop-j.invariant.rest image told);
 }

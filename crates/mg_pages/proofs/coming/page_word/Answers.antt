@@ -31,7 +31,7 @@ returns-in-Some-clause-word g c =
     is image told (first_frame (length frames)) are
     ∙ block-word (block_at (coming_of store writes image) block) index c.requires.index
     ∙ ap (λ b. slice_index (block_words (block_at (coming_of store writes image) b)) index) at
-    ∙ ap (λ words. slice_index words index) (sym (page-in (coming_of store writes image) (length frames) frames c.args.page c.in-Some.frame (sym c.frame_of.ensures ∙ c.in-Some.is))))
+    ∙ ap (λ words. slice_index words index) (sym (page-in (coming_of store writes image) (length frames) frames c.args.page c.in-Some.frame (sym c.bound_frame.ensures ∙ c.in-Some.is))))
     c.word.ensures.word
 
 pub returns-in-Some-clause-keeps : goal.returns-in-Some-clause-keeps
@@ -43,7 +43,7 @@ pub returns-in-None-clause-word : goal.returns-in-None-clause-word
 returns-in-None-clause-word g c image told are =
     let frames = c.args.frames.now in
     let i = coming_of c.args.blocks.now.store c.args.blocks.now.writes image in
-    sym (ap (λ words. slice_index words c.args.index) (page-none i (length frames) frames c.args.page (sym c.frame_of.ensures ∙ c.in-None.is)) ∙ get_or-replicate {A = ℕ} 512 c.args.index 0 0 c.requires.index)
+    sym (ap (λ words. slice_index words c.args.index) (page-none i (length frames) frames c.args.page (sym c.bound_frame.ensures ∙ c.in-None.is)) ∙ get_or-replicate {A = ℕ} 512 c.args.index 0 0 c.requires.index)
 
 pub returns-in-None-clause-keeps : goal.returns-in-None-clause-keeps
 returns-in-None-clause-keeps g c = keeps-none (g.D.Disk.seen c.args.disk.now) (first_frame (length c.args.frames.now)) c.args.blocks.now

@@ -11,7 +11,7 @@ overflow_add-used c =
     let d : ℕ × ObjectRow = (0, no_row) in
     let e = c.len-i-end.ensures.count in
     let under : i < length objects = omega (arith, c.loop-i-test.true) in
-    let more = sum-more objects i d c.nth.result.now under (c.nth.ensures d) in
+    let more = sum-more objects i d c.nth_ref.result.now under (c.nth_ref.ensures d) in
     let part = sum-part objects (i + 1) (omega arith) (omega (arith, c.len-i-end.ensures.at_most_4096)) c.len-i-end.ensures.rows in
     omega (arith, c.loop-i.invariant, c.pages-used.ensures)
 
@@ -22,5 +22,5 @@ loop-i-preserved c =
     let d : ℕ × ObjectRow = (0, no_row) in
     let e = c.len-i-end.ensures.count in
     let under : i < length objects = omega (arith, c.loop-i-test.true) in
-    let more = sum-more objects i d c.nth.result.now under (c.nth.ensures d) in
+    let more = sum-more objects i d c.nth_ref.result.now under (c.nth_ref.ensures d) in
     omega (arith, c.loop-i.invariant, c.pages-used.ensures)

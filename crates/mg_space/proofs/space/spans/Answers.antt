@@ -19,7 +19,7 @@ loop-i-preserved c =
     pushed
     ∙ ap (λ xs. xs ++ c.span_of.result ∷ []) c.loop-i.invariant
     ∙ ap (λ (s : ℕ × ℕ). spans_in (take i objects) ++ s ∷ []) c.span_of.ensures.span
-    ∙ sym (spans-more objects i d c.nth.result.now under (c.nth.ensures d))
+    ∙ sym (spans-more objects i d c.nth_ref.result.now under (c.nth_ref.ensures d))
 
 pub returns-clause-taken : goal.returns-clause-taken
 returns-clause-taken c =

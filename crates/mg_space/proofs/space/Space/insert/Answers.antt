@@ -11,15 +11,15 @@ between new old objects is = subst (λ those. Between new old those) (sym is) (b
 
 pub take-requires : goal.take-requires
 take-requires c =
-    let objects = c.insert-place.new.self in
+    let objects = c.put-place.new.self in
     let taken = taken-spans objects c.keep_rules.ensures.at_most_4096 c.keep_rules.ensures.apart c.keep_rules.ensures.rows in
-    can-take (c.insert-place.result, c.args.row) c.self.inside.objects objects (between (c.insert-place.result, c.args.row) c.self.inside.objects objects c.insert-place.ensures.objects) c.span_of-first.result c.span_of-first.ensures.span c.self.inside.free c.self.invariant.free taken
+    can-take (c.put-place.result, c.args.row) c.self.inside.objects objects (between (c.put-place.result, c.args.row) c.self.inside.objects objects c.put-place.ensures.objects) c.span_of-first.result c.span_of-first.ensures.span c.self.inside.free c.self.invariant.free taken
 
 pub overflow_add-self : goal.overflow_add-self
 overflow_add-self c =
-    let objects = c.insert-place.new.self in
+    let objects = c.put-place.new.self in
     let fits = sum-fits objects c.keep_rules.ensures.at_most_4096 c.keep_rules.ensures.rows in
-    let more = sum-between (c.insert-place.result, c.args.row) c.self.inside.objects objects (between (c.insert-place.result, c.args.row) c.self.inside.objects objects c.insert-place.ensures.objects) in
+    let more = sum-between (c.put-place.result, c.args.row) c.self.inside.objects objects (between (c.put-place.result, c.args.row) c.self.inside.objects objects c.put-place.ensures.objects) in
     let t = c.self.invariant.total in
     let span = c.span_of-first.ensures.span in
     let pages : c.span_of-first.result.1 ≡ c.args.row.pages = rw span refl in
@@ -27,10 +27,10 @@ overflow_add-self c =
 
 pub add-requires : goal.add-requires
 add-requires c =
-    let objects = c.insert-place.new.self in
+    let objects = c.put-place.new.self in
     let fits = sum-fits objects c.keep_rules.ensures.at_most_4096 c.keep_rules.ensures.rows in
     let payer = c.args.row.account in
-    let more = paid-between (c.insert-place.result, c.args.row) c.self.inside.objects objects (between (c.insert-place.result, c.args.row) c.self.inside.objects objects c.insert-place.ensures.objects) payer in
+    let more = paid-between (c.put-place.result, c.args.row) c.self.inside.objects objects (between (c.put-place.result, c.args.row) c.self.inside.objects objects c.put-place.ensures.objects) payer in
     let few = paid-few payer objects in
     let own = share-own c.args.row in
     let total = c.self.invariant.paid payer in
@@ -38,14 +38,14 @@ add-requires c =
 
 pub invariant_of-self : goal.invariant_of-self
 invariant_of-self c =
-    let objects = c.insert-place.new.self in
+    let objects = c.put-place.new.self in
     let taken = taken-spans objects c.keep_rules.ensures.at_most_4096 c.keep_rules.ensures.apart c.keep_rules.ensures.rows in
-    let more = sum-between (c.insert-place.result, c.args.row) c.self.inside.objects objects (between (c.insert-place.result, c.args.row) c.self.inside.objects objects c.insert-place.ensures.objects) in
+    let more = sum-between (c.put-place.result, c.args.row) c.self.inside.objects objects (between (c.put-place.result, c.args.row) c.self.inside.objects objects c.put-place.ensures.objects) in
     let t = c.self.invariant.total in
     let pages : c.span_of-first.result.1 ≡ c.args.row.pages = rw c.span_of-first.ensures.span refl in
     record {
-      free = taken-now (c.insert-place.result, c.args.row) c.self.inside.objects objects (between (c.insert-place.result, c.args.row) c.self.inside.objects objects c.insert-place.ensures.objects) c.span_of-first.result c.span_of-first.ensures.span c.self.inside.free c.take.new.self c.self.invariant.free taken c.take.ensures;
+      free = taken-now (c.put-place.result, c.args.row) c.self.inside.objects objects (between (c.put-place.result, c.args.row) c.self.inside.objects objects c.put-place.ensures.objects) c.span_of-first.result c.span_of-first.ensures.span c.self.inside.free c.take.new.self c.self.invariant.free taken c.take.ensures;
       total = omega arith;
       paid = λ n. c.add.ensures n ∙ ap (λ paid. paid + share c.args.row n) (c.self.invariant.paid n)
-          ∙ sym (paid-between (c.insert-place.result, c.args.row) c.self.inside.objects objects (between (c.insert-place.result, c.args.row) c.self.inside.objects objects c.insert-place.ensures.objects) n);
+          ∙ sym (paid-between (c.put-place.result, c.args.row) c.self.inside.objects objects (between (c.put-place.result, c.args.row) c.self.inside.objects objects c.put-place.ensures.objects) n);
     }

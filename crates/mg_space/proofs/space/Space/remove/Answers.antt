@@ -14,33 +14,33 @@ between base gone old objects apart rows found is = subst (λ those. Between gon
 
 pub give-requires : goal.give-requires
 give-requires c =
-    can-give c.remove-gone.result c.remove-gone.new.self c.self.inside.objects (between c.args.base c.remove-gone.result c.self.inside.objects c.remove-gone.new.self c.keep_rules.ensures.apart c.keep_rules.ensures.rows c.remove-gone.ensures.gone c.remove-gone.ensures.objects) c.span_of-first.result c.span_of-first.ensures.span c.self.inside.free c.self.invariant.free
+    can-give c.take-gone.result c.take-gone.new.self c.self.inside.objects (between c.args.base c.take-gone.result c.self.inside.objects c.take-gone.new.self c.keep_rules.ensures.apart c.keep_rules.ensures.rows c.take-gone.ensures.gone c.take-gone.ensures.objects) c.span_of-first.result c.span_of-first.ensures.span c.self.inside.free c.self.invariant.free
 
 pub overflow_sub-self : goal.overflow_sub-self
 overflow_sub-self c =
-    let less = sum-between c.remove-gone.result c.remove-gone.new.self c.self.inside.objects (between c.args.base c.remove-gone.result c.self.inside.objects c.remove-gone.new.self c.keep_rules.ensures.apart c.keep_rules.ensures.rows c.remove-gone.ensures.gone c.remove-gone.ensures.objects) in
+    let less = sum-between c.take-gone.result c.take-gone.new.self c.self.inside.objects (between c.args.base c.take-gone.result c.self.inside.objects c.take-gone.new.self c.keep_rules.ensures.apart c.keep_rules.ensures.rows c.take-gone.ensures.gone c.take-gone.ensures.objects) in
     let t = c.self.invariant.total in
-    let pages : c.span_of-first.result.1 ≡ c.remove-gone.result.1.pages = rw c.span_of-first.ensures.span refl in
+    let pages : c.span_of-first.result.1 ≡ c.take-gone.result.1.pages = rw c.span_of-first.ensures.span refl in
     omega arith
 
 pub subtract-requires : goal.subtract-requires
 subtract-requires c =
-    let payer = c.remove-gone.result.1.account in
-    let less = paid-between c.remove-gone.result c.remove-gone.new.self c.self.inside.objects (between c.args.base c.remove-gone.result c.self.inside.objects c.remove-gone.new.self c.keep_rules.ensures.apart c.keep_rules.ensures.rows c.remove-gone.ensures.gone c.remove-gone.ensures.objects) payer in
-    let own = share-own c.remove-gone.result.1 in
+    let payer = c.take-gone.result.1.account in
+    let less = paid-between c.take-gone.result c.take-gone.new.self c.self.inside.objects (between c.args.base c.take-gone.result c.self.inside.objects c.take-gone.new.self c.keep_rules.ensures.apart c.keep_rules.ensures.rows c.take-gone.ensures.gone c.take-gone.ensures.objects) payer in
+    let own = share-own c.take-gone.result.1 in
     let total = c.self.invariant.paid payer in
     omega arith
 
 pub invariant_of-self : goal.invariant_of-self
 invariant_of-self c =
-    let less = sum-between c.remove-gone.result c.remove-gone.new.self c.self.inside.objects (between c.args.base c.remove-gone.result c.self.inside.objects c.remove-gone.new.self c.keep_rules.ensures.apart c.keep_rules.ensures.rows c.remove-gone.ensures.gone c.remove-gone.ensures.objects) in
+    let less = sum-between c.take-gone.result c.take-gone.new.self c.self.inside.objects (between c.args.base c.take-gone.result c.self.inside.objects c.take-gone.new.self c.keep_rules.ensures.apart c.keep_rules.ensures.rows c.take-gone.ensures.gone c.take-gone.ensures.objects) in
     let t = c.self.invariant.total in
-    let pages : c.span_of-first.result.1 ≡ c.remove-gone.result.1.pages = rw c.span_of-first.ensures.span refl in
+    let pages : c.span_of-first.result.1 ≡ c.take-gone.result.1.pages = rw c.span_of-first.ensures.span refl in
     record {
-      free = given-now c.remove-gone.result c.remove-gone.new.self c.self.inside.objects (between c.args.base c.remove-gone.result c.self.inside.objects c.remove-gone.new.self c.keep_rules.ensures.apart c.keep_rules.ensures.rows c.remove-gone.ensures.gone c.remove-gone.ensures.objects) c.span_of-first.result c.span_of-first.ensures.span c.self.inside.free c.give.new.self c.self.invariant.free c.give.ensures;
+      free = given-now c.take-gone.result c.take-gone.new.self c.self.inside.objects (between c.args.base c.take-gone.result c.self.inside.objects c.take-gone.new.self c.keep_rules.ensures.apart c.keep_rules.ensures.rows c.take-gone.ensures.gone c.take-gone.ensures.objects) c.span_of-first.result c.span_of-first.ensures.span c.self.inside.free c.give.new.self c.self.invariant.free c.give.ensures;
       total = omega arith;
       paid = λ n.
-          let more = paid-between c.remove-gone.result c.remove-gone.new.self c.self.inside.objects (between c.args.base c.remove-gone.result c.self.inside.objects c.remove-gone.new.self c.keep_rules.ensures.apart c.keep_rules.ensures.rows c.remove-gone.ensures.gone c.remove-gone.ensures.objects) n in
+          let more = paid-between c.take-gone.result c.take-gone.new.self c.self.inside.objects (between c.args.base c.take-gone.result c.self.inside.objects c.take-gone.new.self c.keep_rules.ensures.apart c.keep_rules.ensures.rows c.take-gone.ensures.gone c.take-gone.ensures.objects) n in
           let was = c.self.invariant.paid n in
           let left = c.subtract.ensures n in
           omega arith;

@@ -10,7 +10,7 @@ pub add-requires : goal.add-requires
 add-requires c =
     let objects = c.args.objects.now in
     let i = c.loop-i.i in
-    let row = c.nth.result.now in
+    let row = c.nth_ref.result.now in
     let e = c.len-i-end.ensures.count in
     let under : i < length objects = omega (arith, c.loop-i-test.true) in
     let few = paid-few row.account (take i objects) in
@@ -18,7 +18,7 @@ add-requires c =
     let total = c.loop-i.invariant row.account in
     let d : ℕ × ObjectRow = (0, no_row) in
     let own = (c.len-i-end.ensures.rows i d under).place.few in
-    let pages = ap (λ (r : ObjectRow). r.pages) (c.nth.ensures d) in
+    let pages = ap (λ (r : ObjectRow). r.pages) (c.nth_ref.ensures d) in
     omega arith
 
 pub loop-i-preserved : goal.loop-i-preserved
@@ -29,4 +29,4 @@ loop-i-preserved c =
     let d : ℕ × ObjectRow = (0, no_row) in
     let e = c.len-i-end.ensures.count in
     let under : i < length objects = omega (arith, c.loop-i-test.true) in
-    c.add.ensures n ∙ ap (λ paid. paid + share c.nth.result.now n) (c.loop-i.invariant n) ∙ sym (paid-more objects i d c.nth.result.now under (c.nth.ensures d) n)
+    c.add.ensures n ∙ ap (λ paid. paid + share c.nth_ref.result.now n) (c.loop-i.invariant n) ∙ sym (paid-more objects i d c.nth_ref.result.now under (c.nth_ref.ensures d) n)

@@ -5,7 +5,7 @@ use Rattle.mg_model.specs.State.{ObjectRow}
 use Rattle.mg_objects.specs.Held.{AreHeld, objects_in, with_row, whole}
 use Rattle.mg_objects.proofs.Keys.{found_row, held_update, within-table}
 use Rattle.mg_objects.proofs.Whole.{whole-at, whole-objects, whole-set}
-use Rattle.mg_objects.proofs.objects.Objects.update.Goals as goal
+use Rattle.mg_objects.proofs.objects.Objects.replace.Goals as goal
 
 pub found-kept-requires : goal.found-kept-requires
 found-kept-requires c = ap (λ (b : ℕ). list_any (λ (o : ℕ × ObjectRow). o.1.base == b) c.args.self.now) c.base.ensures.value ∙ c.requires.there

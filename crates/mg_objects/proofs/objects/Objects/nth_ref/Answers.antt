@@ -3,7 +3,7 @@ use Rattle.mg_model.specs.State.{ObjectRow}
 use Rattle.mg_objects.specs.Held.{key_of, objects_in, whole}
 use Rattle.mg_objects.proofs.Keys.{keys}
 use Rattle.mg_objects.proofs.Whole.{whole-objects}
-use Rattle.mg_objects.proofs.objects.Objects.nth.Goals as goal
+use Rattle.mg_objects.proofs.objects.Objects.nth_ref.Goals as goal
 
 pub row_of-requires-clause-at_most_4096_rows : goal.row_of-requires-clause-at_most_4096_rows
 row_of-requires-clause-at_most_4096_rows c = let at = ap length c.deref.ensures.value in let few = c.self.invariant.short in omega arith

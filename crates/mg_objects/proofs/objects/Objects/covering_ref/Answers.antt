@@ -5,7 +5,7 @@ use Rattle.std.proofs.lemmas.List.{get_or_default}
 use Rattle.mg_model.specs.Access.{covers}
 use Rattle.mg_model.specs.State.{ObjectRow}
 use Rattle.mg_objects.proofs.Apart.{covers-last, covers-no, covers-none}
-use Rattle.mg_objects.proofs.objects.Objects.covering.Goals as goal
+use Rattle.mg_objects.proofs.objects.Objects.covering_ref.Goals as goal
 
 blank : ℕ × ObjectRow
 blank = (0, record { base = 0; pages = 0; account = 0; passwords = []; entries = []; extension = None })
@@ -23,7 +23,7 @@ returns-then-covers c =
     let a = c.args.a in
     let n = c.count_up_to-count.result in
     let last = get_or now (n - 1) blank in
-    let row : c.nth-row.result.now ≡ last.1 = c.nth-row.ensures blank in
+    let row : c.nth_ref-row.result.now ≡ last.1 = c.nth_ref-row.ensures blank in
     let is : covers last.1 a ≡ true = ap (λ (r : ObjectRow). covers r a) (sym row) ∙ sym c.covers.ensures ∙ c.if-covers.true in
     let within = c.count_up_to-count.ensures.within in
     let some = c.if-count-eq0.false in
@@ -36,7 +36,7 @@ returns-else-covers c =
     let a = c.args.a in
     let n = c.count_up_to-count.result in
     let last = get_or now (n - 1) blank in
-    let row : c.nth-row.result.now ≡ last.1 = c.nth-row.ensures blank in
+    let row : c.nth_ref-row.result.now ≡ last.1 = c.nth_ref-row.ensures blank in
     let is : covers last.1 a ≡ false = ap (λ (r : ObjectRow). covers r a) (sym row) ∙ sym c.covers.ensures ∙ c.if-covers.false in
     let within = c.count_up_to-count.ensures.within in
     let some = c.if-count-eq0.false in

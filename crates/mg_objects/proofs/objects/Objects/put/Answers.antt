@@ -4,7 +4,7 @@ use Rattle.mg_model.specs.State.{ObjectRow}
 use Rattle.mg_objects.specs.Held.{AreHeld, IsLowestFree, MeetsNone, into_place, objects_in, whole}
 use Rattle.mg_objects.proofs.Keys.{base_unbound, held_insert, some_free}
 use Rattle.mg_objects.proofs.Whole.{lowest-within, whole-objects}
-use Rattle.mg_objects.proofs.objects.Objects.insert.Goals as goal
+use Rattle.mg_objects.proofs.objects.Objects.put.Goals as goal
 
 pub add-place-requires-clause-unbound : goal.add-place-requires-clause-unbound
 add-place-requires-clause-unbound c =

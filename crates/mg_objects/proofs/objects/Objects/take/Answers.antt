@@ -4,7 +4,7 @@ use Rattle.mg_model.specs.State.{ObjectRow}
 use Rattle.mg_objects.specs.Held.{AreHeld, objects_in, whole}
 use Rattle.mg_objects.proofs.Keys.{found_row, held_remove, within-table}
 use Rattle.mg_objects.proofs.Whole.{whole-at, whole-objects, whole-set}
-use Rattle.mg_objects.proofs.objects.Objects.remove.Goals as goal
+use Rattle.mg_objects.proofs.objects.Objects.take.Goals as goal
 
 pub index_mut-requires : goal.index_mut-requires
 index_mut-requires c =
