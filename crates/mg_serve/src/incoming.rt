@@ -16,7 +16,7 @@ use crate::machine::Machine;
 use crate::partial::PartialLine;
 use mg_disk::Disk;
 use mg_io::Sink;
-use mg_model::{Line, Steps};
+use mg_model::Steps;
 use std::sync::ledger::Ledger;
 
 /// One byte came.
@@ -95,37 +95,6 @@ pub(crate) fn take_bytes<M: Machine, D: Disk, K: Sink, L: Ledger>(
     Ok(())
 }
 
-/// One line is stepped, and the batch closes with it.
-fn line_and_close<M: Machine, D: Disk, K: Sink, L: Ledger>(
-    machine: &mut M,
-    disk: &mut D,
-    sink: &mut K,
-    owed: &mut Buffers,
-    line: &Line,
-    batch: u64,
-    steps: &mut Steps<L>,
-) -> Result<(), Ended>
-    requires live { IsTrue (M.is_live machine.old) }
-    requires stands { M.StandsOn D D.Disk machine.old disk.old }
-    requires staged { M.staged_of machine.old ≤ 28 }
-    requires open_batch { owed.old.count < batch }
-    requires small { batch ≤ 64 }
-    ensures steps { OnOk result (Runs (Session M.Machine D.Disk)
-        (record { machine = machine.old; disk = disk.old; owed = owed.old; taken = K.taken sink.old; steps = steps.old }) (line.now ∷ [])
-        (record { machine = machine.new; disk = disk.new; owed = owed.new; taken = K.taken sink.new; steps = steps.new })) }
-    ensures halts { IfErr result (λ e. Halts (Session M.Machine D.Disk) (Broken M.Machine D.Disk batch) e
-        (record { machine = machine.old; disk = disk.old; owed = owed.old; taken = K.taken sink.old; steps = steps.old }) (line.now ∷ [])
-        (record { machine = machine.new; disk = disk.new; owed = owed.new; taken = K.taken sink.new; steps = steps.new })) }
-    ensures keeps { Keeps M.Machine D.Disk K.Sink machine.old disk.old sink.old steps.old result machine.new disk.new sink.new steps.new }
-    ensures settled { OnOk result (NothingPending D.Disk disk.new) }
-    ensures staged { OnOk result (M.staged_of machine.new ≡ 0) }
-    ensures empty { OnOk result (owed.new ≡ no_replies) }
-    ensures only { IfErr result IsInside }
-{
-    take_line(machine, disk, sink, owed, line, batch, steps)?;
-    close(machine, disk, sink, owed)
-}
-
 /// The input ended: the last line, which may lack its newline, is stepped, and the batch closes.
 pub(crate) fn finish<M: Machine, D: Disk, K: Sink, L: Ledger>(
     machine: &mut M,
@@ -155,6 +124,12 @@ pub(crate) fn finish<M: Machine, D: Disk, K: Sink, L: Ledger>(
 {
     match part.finish() {
         None => close(machine, disk, sink, owed),
-        Some(line) => line_and_close(machine, disk, sink, owed, &line, batch, steps),
+        Some(line) => {
+            match take_line(machine, disk, sink, owed, &line, batch, steps) {
+                Ok(()) => {}
+                Err(ended) => return Err(ended),
+            }
+            close(machine, disk, sink, owed)
+        }
     }
 }
