@@ -22,7 +22,7 @@ use Rattle.mg_mirror_session.specs.Headline.{MirrorKeeps, OfSide, seen_behind, s
 use Rattle.mg_mirror_session.specs.Judged.{IsJudged, IsKind, first_fault}
 use Rattle.mg_model.specs.Volume.{Damaged, NotVolume, OldVolume, VolumeRead}
 use Rattle.mg_session.specs.Headline.{check_line}
-use Rattle.mg_session.specs.Unopened.{EndsWith, fault_line}
+use Rattle.mg_session.specs.Unopened.{EndsUnopenedBy, fault_line}
 use Rattle.mg_serve.specs.declared.status.Status.{Status}
 use Rattle.mg_serve.specs.declared.status.Status.TheVariants as status
 
@@ -200,7 +200,7 @@ module _ {D E S K F : Type 0} (d : disks.Ghosts D) (e : disks.Ghosts E) (input :
           fault_is : ForSome (seen_behind d e from left right) (λ image. first_fault image ≡ Some kind)
           fault_is image seen = sym (same_fault {F = F} d e from left left' right right' first (Some cause) left_count right_count room judged image seen) ∙ told
 
-      by_kind : (f : OpenFault) → IsKind (Some f) (first_fault first) → EndsWith f result → (result ≡ status.NoVolume → Appends (to.taken sink) (to.taken sink') (fault_line f))
+      by_kind : (f : OpenFault) → IsKind (Some f) (first_fault first) → EndsUnopenedBy f result → (result ≡ status.NoVolume → Appends (to.taken sink) (to.taken sink') (fault_line f))
           → AppendsPrefix (to.taken sink) (to.taken sink') (fault_line f) → MirrorKeeps d e input to from result None left left' right right' source source sink sink' steps steps
       by_kind fault.Not told ends put prefix = refused_as NotVolume tt told ends put prefix
       by_kind fault.Old told ends put prefix = refused_as OldVolume tt told ends put prefix
@@ -208,6 +208,6 @@ module _ {D E S K F : Type 0} (d : disks.Ghosts D) (e : disks.Ghosts E) (input :
       by_kind fault.Disk told ends put prefix = absurd told
       by_kind fault.Memory told ends put prefix = absurd told
 
-      pub refused : EndsWith cause result → (result ≡ status.NoVolume → Appends (to.taken sink) (to.taken sink') (fault_line cause)) → AppendsPrefix (to.taken sink) (to.taken sink') (fault_line cause)
+      pub refused : EndsUnopenedBy cause result → (result ≡ status.NoVolume → Appends (to.taken sink) (to.taken sink') (fault_line cause)) → AppendsPrefix (to.taken sink) (to.taken sink') (fault_line cause)
           → MirrorKeeps d e input to from result None left left' right right' source source sink sink' steps steps
       refused ends put prefix = by_kind cause (said_kind {F = F} d e from left left' right right' first (Some cause) left_count right_count room judged) ends put prefix

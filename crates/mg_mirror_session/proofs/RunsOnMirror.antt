@@ -15,7 +15,7 @@ use Rattle.mg_mirror.specs.declared.mirror.Side.TheVariants.{Left, Right}
 use Rattle.mg_mirror_session.proofs.Opening.{and_true, of_side}
 use Rattle.mg_mirror_session.proofs.Refusing.{of_side_too}
 use Rattle.mg_mirror_session.proofs.Through.{if_some_then, on_volume_then}
-use Rattle.mg_mirror_session.specs.Headline.{EndsWith, IsOpenedFrom, MirrorKeeps, RanOnMirror, last_line, seen_behind}
+use Rattle.mg_mirror_session.specs.Headline.{PutsSide, IsOpenedFrom, MirrorKeeps, RanOnMirror, last_line, seen_behind}
 use Rattle.mg_model.specs.Print.{text}
 use Rattle.mg_mirror_session.specs.Judged.{first_fault}
 use Rattle.mg_mirror_session.specs.Mirrored.{Two, mirror}
@@ -64,7 +64,7 @@ within_then limit left P Q then h = if_some_then left _ _ (λ input promise shor
 -- the disks, the source and the sink of a run
 module _ {D E S K : Type 0} (d : disks.Ghosts D) (e : disks.Ghosts E) (input : sources.Ghosts S) (to : sinks.Ghosts K) (from : Side) (left : D) (right : E) (opened closed : Two D E)
     (ran result : Status) (source source' : S) (sink replied sink' : K) (steps steps' : ℕ) (opens : IsOpenedFrom d e from left right opened) (blocks : closed.blocks ≡ opened.blocks)
-    (keeps : RunKeeps (mirror d e) input to 1 ran opened closed source source' sink replied steps steps') (ends : EndsWith to ran closed.alone result replied sink')
+    (keeps : RunKeeps (mirror d e) input to 1 ran opened closed source source' sink replied steps steps') (ends : PutsSide to ran closed.alone result replied sink')
     (before : CountGoesOn (to.faults sink) (to.faults replied) (to.is_spent sink) (to.is_spent replied)) (after : CountGoesOn (to.faults replied) (to.faults sink') (to.is_spent replied) (to.is_spent sink'))
     (both : 0 < closed.failed → BothRose (d.faults left) (d.faults closed.left) (d.is_spent closed.left) (e.faults right) (e.faults closed.right) (e.is_spent closed.right))
     (left_told : (t : Moment) (c : Image) → d.left_since closed.left t c → IsTrue (d.tells_stops closed.left)) (right_told : (t : Moment) (c : Image) → e.left_since closed.right t c → IsTrue (e.tells_stops closed.right)) where

@@ -63,7 +63,7 @@ last_line (Some Left) = codes "alone left" ++ 10 ∷ []
 last_line (Some Right) = codes "alone right" ++ 10 ∷ []
 
 -- What is put once a run has ended so, and how the whole ends.
-pub record EndsWith {K : Type 0} (to : sinks.Ghosts K) (ran : Status) (alone : Option Side) (result : Status) (replied sink' : K) : Type 0 where
+pub record PutsSide {K : Type 0} (to : sinks.Ghosts K) (ran : Status) (alone : Option Side) (result : Status) (replied sink' : K) : Type 0 where
   -- After a run that is done the line of the side is put, or the sink fails in it; after one that ended early nothing more is put.
   pub last : PutsLast to ran (last_line alone) result replied sink'
   -- Nor while both sides are in use.
@@ -111,7 +111,7 @@ pub record RanOnMirror {D E S K : Type 0} (d : disks.Ghosts D) (e : disks.Ghosts
   -- Of the mirror the run keeps what `run` keeps of a disk, in batches of one reply.
   pub keeps : RunKeeps (mirror d e) input to 1 ran opened closed source source' sink replied steps steps'
   -- Then the line of the side is put.
-  pub ends : EndsWith to ran alone result replied sink'
+  pub ends : PutsSide to ran alone result replied sink'
   -- What was put is a prefix of the replies to the whole input and that line; at the end it is all of them.
   pub prefix : OnVolume ((mirror d e).seen opened) (λ s. IfSome (input.left source) (λ bytes. AppendsPrefix (to.taken sink) (to.taken sink') (replies (text s) bytes ++ last_line alone)))
   pub done : result ≡ status.Done → OnVolume ((mirror d e).seen opened) (λ s. IfSome (input.left source) (λ bytes. (input.left source' ≡ Some []) × Appends (to.taken sink) (to.taken sink') (replies (text s) bytes ++ last_line alone)))

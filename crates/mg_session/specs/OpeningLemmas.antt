@@ -34,7 +34,7 @@ use Rattle.mg_serve.specs.declared.status.Status.TheVariants as status
 use Rattle.mg_serve.specs.Serving.{Serves, Traces}
 use Rattle.mg_serve.specs.Sessions.{Answers, AnswersLines, AnswersPrefix, AreAnswered, EndsSession, Holds, HoldsExactly, IsDoneOrMemory, IsPrefix, IsWithin, KeepsAnswered, SpellsAfter, TakesAtMost, input_limit, replies, taken_of}
 use Rattle.mg_session.specs.Headline.{EndsRun, EndsUnopened, IfState, IsWithinCost, LinesKeep, MayTell, OnVolume, TellsNone, TellsOfNone, check_line, summary_line}
-use Rattle.mg_session.specs.Unopened.{EndsWith, FaultTells, IsQuiet, fault_line}
+use Rattle.mg_session.specs.Unopened.{EndsUnopenedBy, FaultTells, TellsNothing, fault_line}
 
 -- before the first call
 none_put : (said : List Line → List ℕ) (left taken : Option (List ℕ)) → AnswersPrefix said left taken taken
@@ -64,7 +64,7 @@ first_answers said none result left taken early = record {
   lines_too_long = λ ended. none_lines said none left taken;
 }
 
-quiet_early : (f : OpenFault) (result : Status) → IsQuiet f → EndsWith f result → result ≢ status.Done
+quiet_early : (f : OpenFault) (result : Status) → TellsNothing f → EndsUnopenedBy f result → result ≢ status.Done
 quiet_early fault.Not result quiet ends = absurd quiet
 quiet_early fault.Old result quiet ends = absurd quiet
 quiet_early fault.Damaged result quiet ends = absurd quiet
@@ -99,7 +99,7 @@ fault_tells fault.Disk told n o d = tt
 fault_tells fault.Memory told n o d = tt
 
 -- what holds of a state holds where a fault says that there is none
-pub unopened : (f : OpenFault) (told : Option Image) (P : State → Type 0) → FaultTells f told → (IsQuiet f → (image : Image) → told ≡ Some image → (s : State) → volume image ≡ Is s → P s) → OnVolume told P
+pub unopened : (f : OpenFault) (told : Option Image) (P : State → Type 0) → FaultTells f told → (TellsNothing f → (image : Image) → told ≡ Some image → (s : State) → volume image ≡ Is s → P s) → OnVolume told P
 unopened fault.Not told P tells p = λ image is. subst (λ (v : VolumeRead). IfState v P) (sym (tells image is)) tt
 unopened fault.Old told P tells p = λ image is. subst (λ (v : VolumeRead). IfState v P) (sym (tells image is)) tt
 unopened fault.Damaged told P tells p = λ image is. subst (λ (v : VolumeRead). IfState v P) (sym (tells image is)) tt
@@ -107,19 +107,19 @@ unopened fault.Disk told P tells p = λ image is. any_state (volume image) P (λ
 unopened fault.Memory told P tells p = λ image is. any_state (volume image) P (λ s spelled. p tt image is s spelled)
 
 -- what the sink took where the volume was not opened
-unopened_answers : (said : State → List Line → List ℕ) → ((s : State) → said s [] ≡ []) → (f : OpenFault) (told : Option Image) (result : Status) (left taken taken' : Option (List ℕ)) → FaultTells f told → EndsWith f result → (IsQuiet f → taken' ≡ taken)
+unopened_answers : (said : State → List Line → List ℕ) → ((s : State) → said s [] ≡ []) → (f : OpenFault) (told : Option Image) (result : Status) (left taken taken' : Option (List ℕ)) → FaultTells f told → EndsUnopenedBy f result → (TellsNothing f → taken' ≡ taken)
     → OnVolume told (λ s. Answers (said s) result left left taken taken')
 unopened_answers said none f told result left taken taken' tells ends same =
     unopened f told (λ s. Answers (said s) result left left taken taken') tells
     (λ quiet image is s spelled. subst (λ (v : Option (List ℕ)). Answers (said s) result left left taken v) (sym (same quiet)) (first_answers (said s) (none s) result left taken (quiet_early f result quiet ends)))
 
 -- what a stop leaves of it
-unopened_exactly : {D : Type 0} (facts : Ghosts D) (kept : State → List Line → State) (f : OpenFault) (told : Option Image) (result : Status) (d' : D) (left taken taken' : Option (List ℕ)) → FaultTells f told → EndsWith f result
+unopened_exactly : {D : Type 0} (facts : Ghosts D) (kept : State → List Line → State) (f : OpenFault) (told : Option Image) (result : Status) (d' : D) (left taken taken' : Option (List ℕ)) → FaultTells f told → EndsUnopenedBy f result
     → OnVolume told (λ s. HoldsExactly facts (kept s) result d' left left taken taken')
 unopened_exactly facts kept f told result d' left taken taken' tells ends =
     unopened f told (λ s. HoldsExactly facts (kept s) result d' left left taken taken') tells (λ quiet image is s spelled. by_fault f quiet ends s)
   where
-    by_fault : (f : OpenFault) → IsQuiet f → EndsWith f result → (s : State) → HoldsExactly facts (kept s) result d' left left taken taken'
+    by_fault : (f : OpenFault) → TellsNothing f → EndsUnopenedBy f result → (s : State) → HoldsExactly facts (kept s) result d' left left taken taken'
     by_fault fault.Not quiet ends s = absurd quiet
     by_fault fault.Old quiet ends s = absurd quiet
     by_fault fault.Damaged quiet ends s = absurd quiet
@@ -156,7 +156,7 @@ told_without facts to summary result d d' k k' tells ends = record {
 
 -- an opening that found no volume wrote nothing
 pub untouched : {T : Type 0} (f : OpenFault) (W : Type 0) → (◌≡◌ {A = Result T OpenFault} (Err f) (Err fault.Not) → W) → (◌≡◌ {A = Result T OpenFault} (Err f) (Err fault.Old) → W)
-    → (◌≡◌ {A = Result T OpenFault} (Err f) (Err fault.Damaged) → W) → (IsQuiet f → ⊥) → W
+    → (◌≡◌ {A = Result T OpenFault} (Err f) (Err fault.Damaged) → W) → (TellsNothing f → ⊥) → W
 untouched fault.Not W n o d loud = n refl
 untouched fault.Old W n o d loud = o refl
 untouched fault.Damaged W n o d loud = d refl
@@ -183,8 +183,8 @@ opened_without facts to kernel result d mid d' k k' opens ends = record {
         ends
 
 -- a command that found no volume
-pub unopened_without : {D K : Type 0} (facts : Ghosts D) (to : sinks.Ghosts K) (f : OpenFault) (result : Status) (d d' : D) (k k' : K) → FaultTells f (facts.seen d) → EndsWith f result
-    → ((IsQuiet f → ⊥) → WritesNothing facts d d') → (result ≡ status.NoVolume → Appends (to.taken k) (to.taken k') (fault_line f)) → AppendsPrefix (to.taken k) (to.taken k') (fault_line f)
+pub unopened_without : {D K : Type 0} (facts : Ghosts D) (to : sinks.Ghosts K) (f : OpenFault) (result : Status) (d d' : D) (k k' : K) → FaultTells f (facts.seen d) → EndsUnopenedBy f result
+    → ((TellsNothing f → ⊥) → WritesNothing facts d d') → (result ≡ status.NoVolume → Appends (to.taken k) (to.taken k') (fault_line f)) → AppendsPrefix (to.taken k) (to.taken k') (fault_line f)
     → TellsOfNone facts to result d d' k k'
 unopened_without facts to f result d d' k k' tells ends writes put prefix = record {
   none = λ h. none f tells ends put h;
@@ -193,14 +193,14 @@ unopened_without facts to f result d d' k k' tells ends writes put prefix = reco
   not_opened_prefix = λ image is no_state. line f tells prefix image is;
 }
   where
-    none : (f : OpenFault) → FaultTells f (facts.seen d) → EndsWith f result → (result ≡ status.NoVolume → Appends (to.taken k) (to.taken k') (fault_line f)) → result ≡ status.NoVolume → TellsNone (facts.seen d) (to.taken k) (to.taken k')
+    none : (f : OpenFault) → FaultTells f (facts.seen d) → EndsUnopenedBy f result → (result ≡ status.NoVolume → Appends (to.taken k) (to.taken k') (fault_line f)) → result ≡ status.NoVolume → TellsNone (facts.seen d) (to.taken k) (to.taken k')
     none fault.Not tells ends put h = record { read = NotVolume; none = tt; is = tells; put = put h }
     none fault.Old tells ends put h = record { read = OldVolume; none = tt; is = tells; put = put h }
     none fault.Damaged tells ends put h = record { read = Damaged; none = tt; is = tells; put = put h }
     none fault.Disk tells ends put h = let e : result ≡ status.Disk = ends in absurd (cc)
     none fault.Memory tells ends put h = let e : result ≡ status.Memory = ends in absurd (cc)
 
-    loud : (f : OpenFault) → EndsWith f result → ((IsQuiet f → ⊥) → WritesNothing facts d d') → result ≡ status.NoVolume → WritesNothing facts d d'
+    loud : (f : OpenFault) → EndsUnopenedBy f result → ((TellsNothing f → ⊥) → WritesNothing facts d d') → result ≡ status.NoVolume → WritesNothing facts d d'
     loud fault.Not ends writes h = writes (λ quiet. quiet)
     loud fault.Old ends writes h = writes (λ quiet. quiet)
     loud fault.Damaged ends writes h = writes (λ quiet. quiet)
@@ -210,7 +210,7 @@ unopened_without facts to f result d d' k k' tells ends writes put prefix = reco
     either : (result ≡ status.NoVolume) ⊎ (result ≡ status.Sink) → EndsUnopened result
     either ends = ⊎_elim (λ none. inl none) (λ sink. inr (inr (inr sink))) ends
 
-    may_end : (f : OpenFault) → EndsWith f result → EndsUnopened result
+    may_end : (f : OpenFault) → EndsUnopenedBy f result → EndsUnopened result
     may_end fault.Not ends = either ends
     may_end fault.Old ends = either ends
     may_end fault.Damaged ends = either ends
@@ -268,7 +268,7 @@ module _ {D : Type 0} (facts : Ghosts D) (d mid : D) where
       record { moments = prefix_then d' left (kept o.state) (prefix_yet left image (kept o.state) (o.is ∙ ap (λ v. Is v) (sym (none o.state))) (first image is)) h.moments; held = h.held }
 
   -- an opening that failed
-  unopened_holds : (kept : State → List Line → State) → ((s : State) → kept s [] ≡ s) → (f : OpenFault) (left taken taken' : Option (List ℕ)) → FaultTells f (facts.seen d) → (IsQuiet f → taken' ≡ taken) → NothingPending facts d
+  unopened_holds : (kept : State → List Line → State) → ((s : State) → kept s [] ≡ s) → (f : OpenFault) (left taken taken' : Option (List ℕ)) → FaultTells f (facts.seen d) → (TellsNothing f → taken' ≡ taken) → NothingPending facts d
       → ForSome (facts.seen d) (λ image. Leaves facts d mid (λ c. volume c ≡ volume image)) → OnVolume (facts.seen d) (λ s. Holds facts (kept s) d mid left left taken taken')
   unopened_holds kept none f left taken taken' tells same only first =
       unopened f (facts.seen d) (λ s. Holds facts (kept s) d mid left left taken taken') tells (λ quiet image is s spelled.
@@ -293,7 +293,7 @@ within_any limit None P holds = tt
 within_any limit (Some input) P holds = λ short. holds
 
 -- how a command ends with a fault
-fault_ends : (f : OpenFault) (result : Status) → EndsWith f result → EndsUnopened result
+fault_ends : (f : OpenFault) (result : Status) → EndsUnopenedBy f result → EndsUnopened result
 fault_ends fault.Not result ends = ⊎_elim (λ none. inl none) (λ sink. inr (inr (inr sink))) ends
 fault_ends fault.Old result ends = ⊎_elim (λ none. inl none) (λ sink. inr (inr (inr sink))) ends
 fault_ends fault.Damaged result ends = ⊎_elim (λ none. inl none) (λ sink. inr (inr (inr sink))) ends
@@ -308,7 +308,7 @@ unopened_which : (result : Status) → EndsUnopened result → EndsRun result
 unopened_which result ends = ⊎_elim (λ none. inl none) (⊎_elim (λ memory. inr (inr (inl memory))) (⊎_elim (λ disk. inr (inr (inr (inl disk)))) (λ sink. inr (inr (inr (inr (inr (inl sink)))))))) ends
 
 -- a command that ended with no line of a fault, and not because the sink failed, had a fault that is quiet
-fault_quiet : (f : OpenFault) (result : Status) → EndsWith f result → (result ≡ status.NoVolume → ⊥) → (result ≡ status.Sink → ⊥) → IsQuiet f
+fault_quiet : (f : OpenFault) (result : Status) → EndsUnopenedBy f result → (result ≡ status.NoVolume → ⊥) → (result ≡ status.Sink → ⊥) → TellsNothing f
 fault_quiet fault.Not result ends no_line no_sink = ⊎_elim no_line no_sink ends
 fault_quiet fault.Old result ends no_line no_sink = ⊎_elim no_line no_sink ends
 fault_quiet fault.Damaged result ends no_line no_sink = ⊎_elim no_line no_sink ends
@@ -316,14 +316,14 @@ fault_quiet fault.Disk result ends no_line no_sink = tt
 fault_quiet fault.Memory result ends no_line no_sink = tt
 
 -- one that ended because the sink failed had another
-sink_is_loud : (f : OpenFault) (result : Status) → EndsWith f result → result ≡ status.Sink → IsQuiet f → ⊥
+sink_is_loud : (f : OpenFault) (result : Status) → EndsUnopenedBy f result → result ≡ status.Sink → TellsNothing f → ⊥
 sink_is_loud fault.Not result ends h quiet = quiet
 sink_is_loud fault.Old result ends h quiet = quiet
 sink_is_loud fault.Damaged result ends h quiet = quiet
 sink_is_loud fault.Disk result ends h quiet = let e : result ≡ status.Disk = ends in cc
 sink_is_loud fault.Memory result ends h quiet = let e : result ≡ status.Memory = ends in cc
 
-fault_disk : {T : Type 0} (f : OpenFault) (result : Status) → EndsWith f result → result ≡ status.Disk → ◌≡◌ {A = Result T OpenFault} (Err f) (Err fault.Disk)
+fault_disk : {T : Type 0} (f : OpenFault) (result : Status) → EndsUnopenedBy f result → result ≡ status.Disk → ◌≡◌ {A = Result T OpenFault} (Err f) (Err fault.Disk)
 fault_disk fault.Not result ends h = ⊎_elim (λ (e : result ≡ status.NoVolume). absurd (cc)) (λ (e : result ≡ status.Sink). absurd (cc)) ends
 fault_disk fault.Old result ends h = ⊎_elim (λ (e : result ≡ status.NoVolume). absurd (cc)) (λ (e : result ≡ status.Sink). absurd (cc)) ends
 fault_disk fault.Damaged result ends h = ⊎_elim (λ (e : result ≡ status.NoVolume). absurd (cc)) (λ (e : result ≡ status.Sink). absurd (cc)) ends
@@ -361,7 +361,7 @@ module _ {D S K : Type 0} (facts : Ghosts D) (from : sources.Ghosts S) (to : sin
       gone image seen no_state = let o = opens image seen in subst IsNoState o.is no_state
 
   -- no volume was opened, and the line of the fault was put, or a part of it
-  pub lines_unopened : (f : OpenFault) (result : Status) (d d' : D) (source : S) (sink sink' : K) → FaultTells f (facts.seen d) → EndsWith f result → ((IsQuiet f → ⊥) → WritesNothing facts d d') → (IsQuiet f → sink' ≡ sink)
+  pub lines_unopened : (f : OpenFault) (result : Status) (d d' : D) (source : S) (sink sink' : K) → FaultTells f (facts.seen d) → EndsUnopenedBy f result → ((TellsNothing f → ⊥) → WritesNothing facts d d') → (TellsNothing f → sink' ≡ sink)
       → (result ≡ status.NoVolume → Appends (to.taken sink) (to.taken sink') (fault_line f)) → AppendsPrefix (to.taken sink) (to.taken sink') (fault_line f)
       → (result ≡ status.Sink → Rose (to.faults sink) (to.faults sink') (to.is_spent sink')) → (◌≡◌ {A = Result Kernel OpenFault} (Err f) (Err fault.Disk) → CountRose facts d d')
       → (NothingPending facts d → ForSome (facts.seen d) (λ image. Leaves facts d d' (λ c. volume c ≡ volume image))) → ((s : State) → said s [] ≡ []) → ((s : State) → kept s [] ≡ s)
@@ -398,7 +398,7 @@ module _ {D S K : Type 0} (facts : Ghosts D) (from : sources.Ghosts S) (to : sin
             un));
       }
     where
-      quiet_volume : (f : OpenFault) (result : Status) → IsQuiet f → EndsWith f result → result ≡ status.NoVolume → ⊥
+      quiet_volume : (f : OpenFault) (result : Status) → TellsNothing f → EndsUnopenedBy f result → result ≡ status.NoVolume → ⊥
       quiet_volume fault.Not result q ends h = absurd q
       quiet_volume fault.Old result q ends h = absurd q
       quiet_volume fault.Damaged result q ends h = absurd q

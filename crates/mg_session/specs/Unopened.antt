@@ -26,17 +26,17 @@ FaultTells fault.Disk told = Unit {0}
 FaultTells fault.Memory told = Unit {0}
 
 -- it tells nothing of the image
-abbrev pub IsQuiet : OpenFault → Type 0
-IsQuiet fault.Not = ⊥
-IsQuiet fault.Old = ⊥
-IsQuiet fault.Damaged = ⊥
-IsQuiet fault.Disk = Unit {0}
-IsQuiet fault.Memory = Unit {0}
+abbrev pub TellsNothing : OpenFault → Type 0
+TellsNothing fault.Not = ⊥
+TellsNothing fault.Old = ⊥
+TellsNothing fault.Damaged = ⊥
+TellsNothing fault.Disk = Unit {0}
+TellsNothing fault.Memory = Unit {0}
 
 -- how a command ends with it
-abbrev pub EndsWith : OpenFault → Status → Type 0
-EndsWith fault.Not result = (result ≡ status.NoVolume) ⊎ (result ≡ status.Sink)
-EndsWith fault.Old result = (result ≡ status.NoVolume) ⊎ (result ≡ status.Sink)
-EndsWith fault.Damaged result = (result ≡ status.NoVolume) ⊎ (result ≡ status.Sink)
-EndsWith fault.Disk result = result ≡ status.Disk
-EndsWith fault.Memory result = result ≡ status.Memory
+abbrev pub EndsUnopenedBy : OpenFault → Status → Type 0
+EndsUnopenedBy fault.Not result = (result ≡ status.NoVolume) ⊎ (result ≡ status.Sink)
+EndsUnopenedBy fault.Old result = (result ≡ status.NoVolume) ⊎ (result ≡ status.Sink)
+EndsUnopenedBy fault.Damaged result = (result ≡ status.NoVolume) ⊎ (result ≡ status.Sink)
+EndsUnopenedBy fault.Disk result = result ≡ status.Disk
+EndsUnopenedBy fault.Memory result = result ≡ status.Memory

@@ -3,7 +3,7 @@ ghost use Rattle.std.specs.Prelude.{◌≡◌, ◌⊎◌};
 ghost use Rattle.std.specs.Io.KnownBytes.{Appends};
 ghost use Rattle.mg_faults.specs.Faults.{CountGoesOn, Rose};
 ghost use Rattle.mg_io.specs.Known.{AppendsPrefix};
-ghost use Rattle.mg_session.specs.Unopened.{EndsWith, IsQuiet, fault_line};
+ghost use Rattle.mg_session.specs.Unopened.{EndsUnopenedBy, TellsNothing, fault_line};
 
 use mg_check::OpenFault;
 use mg_io::{Sink, put_all};
@@ -11,10 +11,10 @@ use mg_serve::Status;
 
 /// Puts the line of a fault of the opening; of a fault of the disk and of a want of memory nothing is put.
 pub fn put_fault<K: Sink>(fault: OpenFault, sink: &mut K) -> Status
-    ensures ends { EndsWith fault result }
+    ensures ends { EndsUnopenedBy fault result }
     ensures put { result ≡ Status.NoVolume → Appends (K.taken sink.old) (K.taken sink.new) (fault_line fault) }
     ensures prefix { AppendsPrefix (K.taken sink.old) (K.taken sink.new) (fault_line fault) }
-    ensures quiet { IsQuiet fault → sink.new ≡ sink.old }
+    ensures quiet { TellsNothing fault → sink.new ≡ sink.old }
     ensures sink { result ≡ Status.Sink → Rose (K.faults sink.old) (K.faults sink.new) (K.is_spent sink.new) }
     ensures sink_count { CountGoesOn (K.faults sink.old) (K.faults sink.new) (K.is_spent sink.old) (K.is_spent sink.new) }
 {

@@ -19,7 +19,7 @@ use Rattle.mg_serve.specs.declared.status.Status.{Status}
 use Rattle.mg_serve.specs.declared.status.Status.TheVariants as status
 use Rattle.mg_serve.specs.Machines.{Commits, Says}
 use Rattle.mg_serve.specs.Serving.{IsTraced, Traces}
-use Rattle.mg_session.specs.Unopened.{EndsWith, IsQuiet}
+use Rattle.mg_session.specs.Unopened.{EndsUnopenedBy, TellsNothing}
 use Rattle.mg_window.specs.Attached.{Attached}
 use Rattle.mg_window.specs.Devices.{Held}
 use Rattle.mg_window_session.specs.declared.device_kernel.DeviceKernel.{DeviceKernel}
@@ -126,7 +126,7 @@ none_more m None taken = tt
 none_more m (Some input) None = tt
 none_more m (Some input) (Some before) = (0, record { least = let none = none_answered before in omega arith; most = omega arith }, omega arith, refl)
 
-pub fault_devices : (m : Equipped) (f : OpenFault) (result : Status) (left taken taken' : Option (List ℕ)) → IsQuiet f → EndsWith f result → taken' ≡ taken → LeavesDevices m result m.windows left taken taken'
+pub fault_devices : (m : Equipped) (f : OpenFault) (result : Status) (left taken taken' : Option (List ℕ)) → TellsNothing f → EndsUnopenedBy f result → taken' ≡ taken → LeavesDevices m result m.windows left taken taken'
 fault_devices m fault.Not result left taken taken' quiet ends same = absurd quiet
 fault_devices m fault.Old result left taken taken' quiet ends same = absurd quiet
 fault_devices m fault.Damaged result left taken taken' quiet ends same = absurd quiet

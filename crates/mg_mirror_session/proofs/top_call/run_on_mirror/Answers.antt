@@ -5,7 +5,7 @@ use Rattle.mg_mirror_session.proofs.Opening.{as_two, opened_from, opened_since}
 use Rattle.mg_mirror_session.proofs.RunsOnMirror.{both_rose_from, given_back, mirror_keeps}
 use Rattle.mg_mirror_session.proofs.Refusing.{no_fault, not_opened, read_left, read_right, refused, side_judged}
 use Rattle.mg_mirror_session.proofs.Through.{through}
-use Rattle.mg_mirror_session.specs.Headline.{EndsWith, MirrorKeeps}
+use Rattle.mg_mirror_session.specs.Headline.{PutsSide, MirrorKeeps}
 use Rattle.mg_mirror_session.specs.Mirrored.{mirror}
 use Rattle.mg_mirror_session.proofs.top_call.run_on_mirror.Goals as goal
 
@@ -62,7 +62,7 @@ returns g c =
     opens.blocks opens.left_serves opens.right_serves opens.left_kept opens.right_kept))
     c.run-ran.ensures.disk_blocks
     (through (mirror d e) (as_two d e g.O.Opened) g.S.Source g.K.Sink 1 c.run-ran.result c.in-Ok.mirror disk c.args.source.now c.run-ran.new.source c.args.sink.now c.run-ran.new.sink c.args.steps.now c.run-ran.new.steps c.run-ran.ensures.keeps)
-    (subst (λ a. EndsWith g.K.Sink c.run-ran.result a c.put_side-status.result c.run-ran.new.sink c.put_side-status.new.sink) c.alone-alone.ensures.alone c.put_side-status.ensures.ends)
+    (subst (λ a. PutsSide g.K.Sink c.run-ran.result a c.put_side-status.result c.run-ran.new.sink c.put_side-status.new.sink) c.alone-alone.ensures.alone c.put_side-status.ensures.ends)
     c.run-ran.ensures.sink_count c.put_side-status.ensures.sink_count
     (λ some. both_rose_from d e g.O.Opened.left_faults g.O.Opened.right_faults c.args.left disk.left c.sides-left.result.0 c.args.right disk.right c.sides-left.result.1 c.requires.left_faults c.requires.right_faults
     c.sides-left.ensures.left c.sides-left.ensures.right (c.sides-left.ensures.cause some))
