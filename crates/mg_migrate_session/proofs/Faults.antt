@@ -15,7 +15,7 @@ use Rattle.mg_migrate.specs.Version1.{Damaged1, NewVolume1, NotVolume1, OldVolum
 use Rattle.mg_migrate.specs.declared.migrating.MigrateFault.{MigrateFault}
 use Rattle.mg_migrate.specs.declared.migrating.MigrateFault.TheVariants as fault
 use Rattle.mg_migrate_session.specs.Headline.{HasPut, IfState1, MigrateKeeps}
-use Rattle.mg_migrate_session.specs.FaultText.{EndsWith, IsQuiet, fault_line}
+use Rattle.mg_migrate_session.specs.FaultText.{EndsUnmigratedBy, TellsNothingOld, fault_line}
 use Rattle.mg_migrate_session.proofs.Endings.{IsTold, disk_keeps, memory_keeps, small_state1, told_keeps, too_small}
 use Rattle.mg_model.specs.State.{State}
 use Rattle.mg_serve.specs.declared.status.Status.{Status}
@@ -35,8 +35,8 @@ pub fault_keeps : {D E K : Type 0} (d : disks.Ghosts D) (e : disks.Ghosts E) (to
     → (NothingPending d new → ForSome (d.seen new) (λ image. ForSome (e.seen old) (λ before. Leaves d new new' (MayMigrate image (volume1 before)))))
     → IsUntouched new new' (Err f) → (◌≡◌ {A = Result Summary MigrateFault} (Err f) (Err fault.OldDisk) → (new' ≡ new) ⊎ StandsClosed d new') → WritesNothing e old old'
     → (◌≡◌ {A = Result Summary MigrateFault} (Err f) (Err fault.OldDisk) → CountRose e old old') → (◌≡◌ {A = Result Summary MigrateFault} (Err f) (Err fault.NewDisk) → CountRose d new new')
-    → EndsWith f result → (HasPut result → Appends (to.taken sink) (to.taken sink') (fault_line f)) → AppendsPrefix (to.taken sink) (to.taken sink') (fault_line f)
-    → (IsQuiet f → sink' ≡ sink) → (result ≡ status.Sink → Rose (to.faults sink) (to.faults sink') (to.is_spent sink'))
+    → EndsUnmigratedBy f result → (HasPut result → Appends (to.taken sink) (to.taken sink') (fault_line f)) → AppendsPrefix (to.taken sink) (to.taken sink') (fault_line f)
+    → (TellsNothingOld f → sink' ≡ sink) → (result ≡ status.Sink → Rose (to.faults sink) (to.faults sink') (to.is_spent sink'))
     → MigrateKeeps d e to result new new' old old' sink sink'
 fault_keeps d e to fault.OldDisk result new new' old old' sink sink' told moments untouched closed kept old_rose new_rose ends put prefix quiet rose =
     disk_keeps d e to result new new' old old' sink sink' moments kept ends (inr (old_rose refl)) (λ no. closed refl) (quiet tt)

@@ -18,23 +18,23 @@ fault_line fault.Memory = []
 fault_line fault.NewDisk = []
 
 -- it tells nothing of the old image
-abbrev pub IsQuiet : MigrateFault → Type 0
-IsQuiet fault.OldDisk = Unit {0}
-IsQuiet fault.Not = ⊥
-IsQuiet fault.Old = ⊥
-IsQuiet fault.New = ⊥
-IsQuiet fault.Damaged = ⊥
-IsQuiet (fault.TooSmall need have) = ⊥
-IsQuiet fault.Memory = Unit {0}
-IsQuiet fault.NewDisk = Unit {0}
+abbrev pub TellsNothingOld : MigrateFault → Type 0
+TellsNothingOld fault.OldDisk = Unit {0}
+TellsNothingOld fault.Not = ⊥
+TellsNothingOld fault.Old = ⊥
+TellsNothingOld fault.New = ⊥
+TellsNothingOld fault.Damaged = ⊥
+TellsNothingOld (fault.TooSmall need have) = ⊥
+TellsNothingOld fault.Memory = Unit {0}
+TellsNothingOld fault.NewDisk = Unit {0}
 
 -- how the command ends with it
-abbrev pub EndsWith : MigrateFault → Status → Type 0
-EndsWith fault.OldDisk result = result ≡ status.Disk
-EndsWith fault.Not result = (result ≡ status.NoVolume) ⊎ (result ≡ status.Sink)
-EndsWith fault.Old result = (result ≡ status.NoVolume) ⊎ (result ≡ status.Sink)
-EndsWith fault.New result = (result ≡ status.NoVolume) ⊎ (result ≡ status.Sink)
-EndsWith fault.Damaged result = (result ≡ status.NoVolume) ⊎ (result ≡ status.Sink)
-EndsWith (fault.TooSmall need have) result = (result ≡ status.TooSmall) ⊎ (result ≡ status.Sink)
-EndsWith fault.Memory result = result ≡ status.Memory
-EndsWith fault.NewDisk result = result ≡ status.Disk
+abbrev pub EndsUnmigratedBy : MigrateFault → Status → Type 0
+EndsUnmigratedBy fault.OldDisk result = result ≡ status.Disk
+EndsUnmigratedBy fault.Not result = (result ≡ status.NoVolume) ⊎ (result ≡ status.Sink)
+EndsUnmigratedBy fault.Old result = (result ≡ status.NoVolume) ⊎ (result ≡ status.Sink)
+EndsUnmigratedBy fault.New result = (result ≡ status.NoVolume) ⊎ (result ≡ status.Sink)
+EndsUnmigratedBy fault.Damaged result = (result ≡ status.NoVolume) ⊎ (result ≡ status.Sink)
+EndsUnmigratedBy (fault.TooSmall need have) result = (result ≡ status.TooSmall) ⊎ (result ≡ status.Sink)
+EndsUnmigratedBy fault.Memory result = result ≡ status.Memory
+EndsUnmigratedBy fault.NewDisk result = result ≡ status.Disk

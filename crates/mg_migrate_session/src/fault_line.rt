@@ -4,7 +4,7 @@ ghost use Rattle.std.specs.Io.KnownBytes.{Appends};
 ghost use Rattle.mg_faults.specs.Faults.{Rose};
 ghost use Rattle.mg_io.specs.Known.{AppendsPrefix};
 ghost use Rattle.mg_migrate_session.specs.Headline.{HasPut};
-ghost use Rattle.mg_migrate_session.specs.FaultText.{EndsWith, IsQuiet, fault_line};
+ghost use Rattle.mg_migrate_session.specs.FaultText.{EndsUnmigratedBy, TellsNothingOld, fault_line};
 ghost use Rattle.mg_session.specs.Headline.{small_line};
 
 use mg_io::{Sink, put_all};
@@ -13,10 +13,10 @@ use mg_session::{Status, put_small};
 
 /// Puts the line of a fault of the migration; of a fault of a disk and of a want of memory nothing is put.
 pub(crate) fn put_fault<K: Sink>(fault: MigrateFault, sink: &mut K) -> Status
-    ensures ends { EndsWith fault result }
+    ensures ends { EndsUnmigratedBy fault result }
     ensures put { HasPut result → Appends (K.taken sink.old) (K.taken sink.new) (fault_line fault) }
     ensures prefix { AppendsPrefix (K.taken sink.old) (K.taken sink.new) (fault_line fault) }
-    ensures quiet { IsQuiet fault → sink.new ≡ sink.old }
+    ensures quiet { TellsNothingOld fault → sink.new ≡ sink.old }
     ensures sink { result ≡ Status.Sink → Rose (K.faults sink.old) (K.faults sink.new) (K.is_spent sink.new) }
 {
     match fault {
