@@ -4,7 +4,9 @@ pub mod Searching
 pub mod Known
 pub mod Fetching
 pub mod Served
+pub mod Backing
 -- Lemmas that crates above cite. None of them is part of a statement.
+pub mod BackingLemmas
 pub mod KnownLemmas
 pub mod LineLemmas
 pub mod ReachedLemmas

@@ -2,6 +2,7 @@
 ghost use Rattle.std.specs.Prelude.{List, ◌≡◌, ◌≤◌, ◌+◌, ◌%◌, ◌==◌, ◌++◌, ◌∷◌, [], ℕ, true, find, length, IfOk, IfSome, MatchResult, None, OnErr, OnOk, Some};
 ghost use Rattle.std.specs.Option.{ForSome};
 ghost use Rattle.mg_apd.specs.Refusals.{entered_slots};
+ghost use Rattle.mg_calls_dom.specs.Backing.{StayBacked};
 ghost use Rattle.mg_calls_dom.specs.Entering.{pdx_refusal};
 ghost use Rattle.mg_calls_dom.specs.Searching.{access_refusal};
 ghost use Rattle.mg_calls_dom.specs.Served.{CallServes, of_call};
@@ -67,7 +68,9 @@ pub fn ret(v: &mut Volume, c: &mut VCache, t: u64) -> Reply
     requires at_most_159_staged { staged_of v.old ≤ 159 }
     ensures does { CallStages (Answers (λ state. domains.ret state t)) 1 v.old v.new result }
     ensures seats { Drops (by_thread t) c.old c.new result }
+    ensures backed { StayBacked v.old v.new c.old c.new }
 {
+    steps_keep_backing();
     let mut row = row_of(v, t);
     match leave(&mut row) {
         Ok(count) => {

@@ -1,5 +1,6 @@
 // The calls on the slots that a thread runs under.
 ghost use Rattle.std.specs.Prelude.{◌≡◌, ◌≤◌, ◌-◌, ◌++◌, true, length, map, replicate};
+ghost use Rattle.mg_calls_dom.specs.Backing.{StayBacked};
 ghost use Rattle.mg_model.specs.Backed.{by_thread};
 ghost use Rattle.mg_model.specs.Domains as domains;
 ghost use Rattle.mg_vcache.specs.Drops.{Drops};
@@ -9,6 +10,7 @@ ghost use Rattle.mg_volume.specs.Staging.{lives};
 
 use crate::rows::row_of;
 use mg_apd::{drop_slot, push_slot};
+use mg_laws::steps_keep_backing;
 use mg_model::limits::SLOT_LIMIT;
 use mg_model::{Reply, Slot};
 use mg_vcache::VCache;
@@ -17,11 +19,14 @@ use mg_volume::Volume;
 /// One slot more for a thread's present frame, the last: a capability list, by its base, and the password that is to open it,
 /// neither of which is tested. Gives the number of the slot, from 0 on. A frame that has 8 slots is refused (SlotFull). No
 /// right that was found ends.
-pub fn apdadd(v: &mut Volume, t: u64, clist: u64, password: u64) -> Reply
+pub fn apdadd(v: &mut Volume, c: &mut VCache, t: u64, clist: u64, password: u64) -> Reply
     requires lives { lives v.old t ≡ true }
     requires at_most_159_staged { staged_of v.old ≤ 159 }
-    ensures { CallStages (Answers (λ state. domains.apdadd state t clist password)) 1 v.old v.new result }
+    ensures does { CallStages (Answers (λ state. domains.apdadd state t clist password)) 1 v.old v.new result }
+    ensures seats { c.new ≡ c.old }
+    ensures backed { StayBacked v.old v.new c.old c.new }
 {
+    steps_keep_backing();
     let mut row = row_of(v, t);
     let slot = Slot {
         base: clist,
@@ -43,7 +48,9 @@ pub fn apddel(v: &mut Volume, c: &mut VCache, t: u64, index: u64) -> Reply
     requires at_most_159_staged { staged_of v.old ≤ 159 }
     ensures does { CallStages (Answers (λ state. domains.apddel state t index)) 1 v.old v.new result }
     ensures seats { Drops (by_thread t) c.old c.new result }
+    ensures backed { StayBacked v.old v.new c.old c.new }
 {
+    steps_keep_backing();
     let mut row = row_of(v, t);
     match drop_slot(&mut row, index) {
         Ok(()) => {

@@ -1,5 +1,6 @@
 mod Rights
 mod InfoReplies
 mod Rows
+mod DropsBacked
 mod Doors
 mod NewObject

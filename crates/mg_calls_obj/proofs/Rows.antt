@@ -51,6 +51,14 @@ found_any test (r ∷ rows) object is = by_test (test r) refl (found_any test ro
         rest : test r ≡ false → find test (r ∷ rows) ≡ find test rows
         rest fails = rw fails refl
 
+pub found_passes : (test : ObjectRow → Bool) (rows : List ObjectRow) (object : ObjectRow) → find test rows ≡ Some object → test object ≡ true
+found_passes test [] object is = cc
+found_passes test (r ∷ rows) object is = by_test (test r) refl is (found_passes test rows object)
+  where
+    by_test : (v : Bool) → test r ≡ v → (if v then Some r else find test rows) ≡ Some object → (find test rows ≡ Some object → test object ≡ true) → test object ≡ true
+    by_test true e h later = let same : r ≡ object = cc in subst (λ (x : ObjectRow). test x ≡ true) same e
+    by_test false e h later = later h
+
 pub based_there : (rows : List ObjectRow) (object : ObjectRow) → find (λ (r : ObjectRow). r.base == object.base) rows ≡ Some object → has_base object.base rows ≡ true
 based_there rows object held = found_any (λ (r : ObjectRow). r.base == object.base) rows object held
 

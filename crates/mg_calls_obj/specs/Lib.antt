@@ -1,4 +1,5 @@
 -- Definitions.
 pub mod Door
+pub mod Based
 pub mod Creating
 pub mod Altering

@@ -13,7 +13,7 @@ use mg_volume::Volume;
 /// The address so many bytes behind an object's base is an entry of it, once, however often it is given. The refusals come in
 /// this order: an offset that is no multiple of 8, or is at or beyond the object's end (Range); an object with 16 entries, of
 /// which this address is none (Limit). No right that was found ends.
-pub fn entry(v: &mut Volume, object: ObjRow, off: u64) -> Reply
+pub(crate) fn entry_by_row(v: &mut Volume, object: ObjRow, off: u64) -> Reply
     requires held { find (λ row. row.base == object.base) (objects_in v.old) ≡ Some object }
     requires at_most_159_staged { staged_of v.old ≤ 159 }
     ensures { CallStages (Acts (λ state t a. calls.entry state t a off) Right.O object) 1 v.old v.new result }
@@ -31,7 +31,7 @@ pub fn entry(v: &mut Volume, object: ObjRow, off: u64) -> Reply
 }
 
 /// The object's extension is the slot of this list and password, or none where the list is 0. No right that was found ends.
-pub fn ext(v: &mut Volume, object: ObjRow, clist: u64, password: u64) -> Reply
+pub(crate) fn ext_by_row(v: &mut Volume, object: ObjRow, clist: u64, password: u64) -> Reply
     requires held { find (λ row. row.base == object.base) (objects_in v.old) ≡ Some object }
     requires at_most_159_staged { staged_of v.old ≤ 159 }
     ensures { CallStages (Acts (λ state t a. calls.ext state t a clist password) Right.O object) 1 v.old v.new result }
@@ -44,7 +44,7 @@ pub fn ext(v: &mut Volume, object: ObjRow, clist: u64, password: u64) -> Reply
 
 /// Another account pays for the object from now on. The refusals come in this order: no such account, or another password
 /// than its own (Account); an account that owes something (Debt). No right that was found ends.
-pub fn recharge(v: &mut Volume, object: ObjRow, account: u64, password: u64) -> Reply
+pub(crate) fn recharge_by_row(v: &mut Volume, object: ObjRow, account: u64, password: u64) -> Reply
     requires held { find (λ row. row.base == object.base) (objects_in v.old) ≡ Some object }
     requires at_most_159_staged { staged_of v.old ≤ 159 }
     ensures { CallStages (Acts (λ state t a. calls.recharge state t a account password) Right.O object) 1 v.old v.new result }

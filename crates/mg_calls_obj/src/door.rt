@@ -7,9 +7,9 @@ ghost use Rattle.mg_vcache.specs.Seats.{AllBacked};
 ghost use Rattle.mg_volume.specs.Calls.{CallStages, IsSoundOn};
 ghost use Rattle.mg_volume.specs.Meaning.{now_of, objects_in, staged_of};
 
-use crate::altering::{entry, ext, recharge};
-use crate::making::delete;
-use crate::passwords::{pwadd, pwdel};
+use crate::altering::{entry_by_row, ext_by_row, recharge_by_row};
+use crate::making::delete_by_row;
+use crate::passwords::{pwadd_by_row, pwdel_by_row};
 use mg_calls_dom::reach;
 use mg_disk::Disk;
 use mg_faults::Failed;
@@ -70,20 +70,20 @@ fn act(v: &mut Volume, c: &mut VCache, object: ObjRow, call: &Call) -> Reply
     ensures seats { EndsBy call.now object c.old c.new result }
 {
     match *call {
-        Call::Delete { .. } => delete(v, c, object),
-        Call::Pwadd { rights, until, .. } => pwadd(v, object, rights, until),
-        Call::Pwdel { password, .. } => pwdel(v, c, object, password),
-        Call::Entry { off, .. } => entry(v, object, off),
+        Call::Delete { .. } => delete_by_row(v, c, object),
+        Call::Pwadd { rights, until, .. } => pwadd_by_row(v, object, rights, until),
+        Call::Pwdel { password, .. } => pwdel_by_row(v, c, object, password),
+        Call::Entry { off, .. } => entry_by_row(v, object, off),
         Call::Ext {
             clist,
             password,
             ..
-        } => ext(v, object, clist, password),
+        } => ext_by_row(v, object, clist, password),
         Call::Recharge {
             account,
             password,
             ..
-        } => recharge(v, object, account, password),
+        } => recharge_by_row(v, object, account, password),
         _ => unreachable!(),
     }
 }

@@ -1,12 +1,14 @@
 // What is told of an object.
-ghost use Rattle.std.specs.Prelude.{List, ◌≡◌, ℕ};
+ghost use Rattle.std.specs.Prelude.{List, ◌≡◌, ℕ, true};
 ghost use Rattle.std.specs.Option.{ForSome};
 ghost use Rattle.mg_calls_dom.specs.Served.{CallReads, of_call};
+ghost use Rattle.mg_calls_obj.specs.Based.{OfBase, is_object};
 ghost use Rattle.mg_model.specs.ObjectCalls as calls;
 ghost use Rattle.mg_vcache.specs.Seats.{AllBacked};
 ghost use Rattle.mg_volume.specs.Calls.{IsSoundOn};
 ghost use Rattle.mg_volume.specs.Meaning.{now_of};
 
+use crate::based::object_at;
 use mg_calls_dom::reach;
 use mg_disk::Disk;
 use mg_faults::Failed;
@@ -19,10 +21,10 @@ use std::sync::ledger::Ledger;
 /// The rights in the order of their bits.
 const RIGHTS: [Right; 6] = [Right::R, Right::W, Right::X, Right::D, Right::P, Right::O];
 
-/// What is told of the object that has an address, to a thread with any right to it; one with none is refused (Denied), as
+/// What [`info`] tells of the object that has an address, to a thread with any right to it; one with none is refused (Denied), as
 /// where no such thread lives. Rights are tried in the order of their bits, and none behind the first that is given.
 /// [`Failed`] comes only where a call of the disk failed. The state stays.
-pub fn info<D: Disk, L: Ledger>(
+pub fn validated_info<D: Disk, L: Ledger>(
     v: &mut Volume,
     c: &mut VCache,
     disk: &mut D,
@@ -44,7 +46,18 @@ pub fn info<D: Disk, L: Ledger>(
     Ok(Reply::No(Refusal::Denied))
 }
 
-// What is told of it.
+/// What is told of the object with this base: its base, its pages, its account, how many passwords and entries it has, and whether
+/// it has an extension. Nothing changes.
+///
+/// Whether a thread has a right to it is not asked: [`validated_info`] asks.
+pub fn info(v: &Volume, base: u64) -> Reply
+    requires there { is_object v.now base ≡ true }
+    ensures { OfBase base v.now (λ object. result ≡ calls.about object) }
+{
+    about(&object_at(v, base))
+}
+
+// What is told of an object with this row.
 fn about(object: &ObjRow) -> Reply
     ensures { result ≡ calls.about object.now }
 {

@@ -12,7 +12,7 @@ use mg_volume::Volume;
 
 /// An object goes, and its pages read as zeros, should another object have them. All rights that were found for it or in it
 /// end.
-pub fn delete(v: &mut Volume, c: &mut VCache, object: ObjRow) -> Reply
+pub(crate) fn delete_by_row(v: &mut Volume, c: &mut VCache, object: ObjRow) -> Reply
     requires held { find (λ row. row.base == object.base) (objects_in v.old) ≡ Some object }
     requires at_most_30_staged { staged_of v.old ≤ 30 }
     ensures does { CallStages (Acts (λ state t a. calls.delete state t a) Right.D object) 129 v.old v.new result }

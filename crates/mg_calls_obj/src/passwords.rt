@@ -17,7 +17,12 @@ use mg_volume::Volume;
 /// One password more for an object, the next that is drawn, with these rights and this until, or none that it ever ends by.
 /// The refusals come in this order: an until that is not above the period, or is `2^24` or above (Past); an object with 32
 /// password rows, or no password left to draw (Limit). No right that was found ends.
-pub fn pwadd(v: &mut Volume, object: ObjRow, rights: Rights, until: Option<u64>) -> Reply
+pub(crate) fn pwadd_by_row(
+    v: &mut Volume,
+    object: ObjRow,
+    rights: Rights,
+    until: Option<u64>,
+) -> Reply
     requires held { find (λ row. row.base == object.base) (objects_in v.old) ≡ Some object }
     requires at_most_158_staged { staged_of v.old ≤ 158 }
     ensures { CallStages (Acts (λ state t a. calls.pwadd state t a rights until) Right.O object) 2 v.old v.new result }
@@ -37,7 +42,7 @@ pub fn pwadd(v: &mut Volume, object: ObjRow, rights: Rights, until: Option<u64>)
 
 /// Every password row of an object with this password goes, be it current or not, and with them all rights that were found
 /// for the object or in it. An object without one is refused (NoPassword).
-pub fn pwdel(v: &mut Volume, c: &mut VCache, object: ObjRow, password: u64) -> Reply
+pub(crate) fn pwdel_by_row(v: &mut Volume, c: &mut VCache, object: ObjRow, password: u64) -> Reply
     requires held { find (λ row. row.base == object.base) (objects_in v.old) ≡ Some object }
     requires at_most_159_staged { staged_of v.old ≤ 159 }
     ensures does { CallStages (Acts (λ state t a. calls.pwdel state t a password) Right.O object) 1 v.old v.new result }

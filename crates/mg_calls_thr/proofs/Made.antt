@@ -13,6 +13,7 @@ use Rattle.mg_laws.specs.Backing.{CallsKeepBacked}
 use Rattle.mg_model.specs.declared.calls.Call.TheVariants as call
 use Rattle.mg_model.specs.declared.replies.Refusal.{Refusal}
 use Rattle.mg_model.specs.declared.replies.Refusal.TheVariants.{Limit}
+use Rattle.mg_model.specs.declared.replies.Reply.{Reply}
 use Rattle.mg_model.specs.declared.replies.Reply.TheVariants.{Count, No}
 use Rattle.mg_model.specs.declared.rights.Right.TheVariants.{X}
 use Rattle.mg_model.specs.declared.seats.Seat.{Seat}
@@ -88,9 +89,9 @@ module _ (state : State) (t pc : ℕ) where
       neither true = refl
       neither false = refl
 
-  -- where it is done it ends no seat
-  pub making-backed : (new : State) (n : ℕ) (seats : List (Option Seat)) → make_thread state t pc ≡ (new, Count n) → IsWellFormed state → CallsKeepBacked (λ state t made. (thread_call state t made).0) → AllBacked state seats → AllBacked new seats
-  making-backed new n seats done formed keeps all =
+  -- it ends no seat
+  pub making-backed : (new : State) (reply : Reply) (seats : List (Option Seat)) → make_thread state t pc ≡ (new, reply) → IsWellFormed state → CallsKeepBacked (λ state t made. (thread_call state t made).0) → AllBacked state seats → AllBacked new seats
+  making-backed new reply seats done formed keeps all =
       let kept : KeepsBacked by_none state new = subst (λ (answer : Answer). KeepsBacked by_none state answer.0) done (keeps state t (call.Thread pc) formed) in
       backed_still state new seats kept all
 

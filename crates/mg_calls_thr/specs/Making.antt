@@ -1,8 +1,16 @@
 -- What a new thread is, by the row of its maker.
-use Rattle.std.specs.Prelude.{ℕ, ◌+◌, min, [], ◌∷◌, replicate}
+use Rattle.std.specs.Prelude.{ℕ, ◌≡◌, ◌+◌, min, [], ◌∷◌, replicate, None}
+use Rattle.mg_calls_dom.specs.Searching.{access_refusal}
+use Rattle.mg_disk.specs.Disk.{Image}
+use Rattle.mg_model.specs.declared.replies.Reply.{Reply}
+use Rattle.mg_model.specs.declared.rights.Right.TheVariants.{X}
 use Rattle.mg_model.specs.declared.threads.ThrState.TheVariants.{Ready}
 use Rattle.mg_model.specs.Access.{last_slots}
 use Rattle.mg_model.specs.State.{CallFrame, ThreadRow}
+use Rattle.mg_model.specs.Threads.{make_thread}
+use Rattle.mg_model.specs.WellFormed.{IsWellFormed}
+use Rattle.mg_volume.specs.Held.{VolumeHeld}
+use Rattle.mg_volume.specs.Meaning.{IsSpelledBy, now_of}
 
 -- its one frame: the slots of its maker's present frame
 abbrev pub first_frame : ThreadRow → CallFrame
@@ -18,3 +26,7 @@ first_row maker births pc = record {
   registers = replicate 8 0;
   frames = first_frame maker ∷ [];
 }
+
+-- the state and the reply are those of its row, where thread t may execute at the address
+abbrev pub Begins : ℕ → ℕ → VolumeHeld → VolumeHeld → Reply → Type 0
+Begins t pc old new reply = (image : Image) → IsSpelledBy old image → IsWellFormed (now_of old image) → access_refusal (now_of old image) t pc X ≡ None → make_thread (now_of old image) t pc ≡ (now_of new image, reply)

@@ -1,5 +1,6 @@
 // Threads are ended, and resumed.
 ghost use Rattle.std.specs.Prelude.{◌≡◌, ◌≤◌, ◌==◌, true};
+ghost use Rattle.mg_calls_dom.specs.Backing.{StayBacked};
 ghost use Rattle.mg_model.specs.Backed.{by_thread};
 ghost use Rattle.mg_model.specs.Threads as threads;
 ghost use Rattle.mg_vcache.specs.Drops.{Drops};
@@ -9,6 +10,7 @@ ghost use Rattle.mg_volume.specs.Staging.{lives};
 
 use crate::owning::not_own;
 use mg_calls_dom::row_of;
+use mg_laws::steps_keep_backing;
 use mg_model::{Refusal, Reply, ThrRow, ThrState};
 use mg_vcache::VCache;
 use mg_volume::Volume;
@@ -26,7 +28,9 @@ pub fn end(v: &mut Volume, c: &mut VCache, t: u64, i: u64) -> Reply
     requires at_most_159_staged { staged_of v.old ≤ 159 }
     ensures does { CallStages (Answers (λ state. threads.end_thread state t i)) 1 v.old v.new result }
     ensures seats { Drops (by_thread i) c.old c.new result }
+    ensures backed { StayBacked v.old v.new c.old c.new }
 {
+    steps_keep_backing();
     match not_own(v, t, i) {
         Some(word) => Reply::No(word),
         None => {

@@ -4,13 +4,16 @@
 //! point where the calling thread is known to live; what it read and staged is said in the words of `mg_volume`'s
 //! `specs/Calls.antt`. Whose a thread is, is told by births, which are never given twice, and not by numbers, which are.
 //!
-//! `make` alone makes an access: it says what that access keeps and counts, and ends no right that was found. `end` drops those
-//! of the thread that it ends, and `resume` none.
+//! `make` is its row behind the access to the address, and `validated_make` makes that access first: it alone makes one, says what it
+//! keeps and counts, and ends no right that was found. `end` drops those of the thread that it ends, and `resume` none. `pick` says
+//! which thread has the next turn.
 #![tactic(auto)]
 
 mod ending;
 mod making;
 mod owning;
+mod picking;
 
 pub use ending::{end, resume};
-pub use making::make;
+pub use making::{make, validated_make};
+pub use picking::pick;

@@ -1,14 +1,12 @@
 // Threads are made.
-ghost use Rattle.std.specs.Prelude.{List, ◌≡◌, ◌≤◌, ◌<◌, ◌+◌, ◌%◌, ◌||◌, ℕ, true, false, nat_le, length, IfSome, MatchOption, None};
+ghost use Rattle.std.specs.Prelude.{◌≡◌, ◌≤◌, ◌<◌, ◌+◌, ◌%◌, ◌||◌, true, false, nat_le, length, IfSome, MatchOption};
 ghost use Rattle.std.specs.Option.{ForSome};
-ghost use Rattle.mg_calls_dom.specs.Searching.{access_refusal};
 ghost use Rattle.mg_calls_dom.specs.Served.{CallServes, of_call};
-ghost use Rattle.mg_calls_thr.specs.Making.{first_frame, first_row};
+ghost use Rattle.mg_calls_thr.specs.Making.{Begins, first_frame, first_row};
 ghost use Rattle.mg_model.specs.Limits.{birth_limit, thread_limit};
 ghost use Rattle.mg_model.specs.Threads as threads;
-ghost use Rattle.mg_model.specs.WellFormed.{IsWellFormed};
 ghost use Rattle.mg_vcache.specs.Seats.{AllBacked};
-ghost use Rattle.mg_volume.specs.Calls.{IsSoundOn, Stages};
+ghost use Rattle.mg_volume.specs.Calls.{CallStages, IsSoundOn};
 ghost use Rattle.mg_volume.specs.Meaning.{counters_in, now_of, staged_of, threads_in};
 ghost use Rattle.mg_volume.specs.Staging.{lives};
 
@@ -22,14 +20,35 @@ use mg_vcache::VCache;
 use mg_volume::Volume;
 use std::sync::ledger::Ledger;
 
-/// A new thread, Ready at an address where thread t may execute, with registers 0 and one frame: the slots of t's present
-/// frame, and 0 to return to. Its number is the lowest that no thread has, 1 to 256; its birth is the next one, and its
-/// creator's is that of t. Gives the number. No right that was found ends.
+/// A new thread, Ready at an address, with registers 0 and one frame: the slots of thread t's present frame, and 0 to return to.
+/// Its number is the lowest that no thread has, 1 to 256; its birth is the next one, and its creator's is that of t. Gives the
+/// number. Where there are 256 threads, or no birth is left below `2^32`, it is refused (Limit), and nothing changes.
+///
+/// Whether t may execute at the address is not asked: [`validated_make`] asks.
+pub fn make(v: &mut Volume, t: u64, pc: u64) -> Reply
+    requires lives { lives v.old t ≡ true }
+    requires at_most_158_staged { staged_of v.old ≤ 158 }
+    requires aligned { pc % 8 ≡ 0 }
+    ensures { CallStages (Begins t pc) 2 v.old v.new result }
+{
+    match next_number(v) {
+        Some(number) => {
+            let counted = counted(v);
+            let row = first_row(&row_of(v, t), v.globals().births(), pc);
+            v.stage_globals(counted);
+            v.stage_thread(number, Some(row));
+            Reply::Count(number)
+        }
+        None => Reply::No(Refusal::Limit),
+    }
+}
+
+/// A new thread as by [`make`], where thread t may execute at the address. No right that was found ends.
 ///
 /// The refusals come in this order: an address that is no multiple of 8 (Align), before any word is read; no X (Denied); 256
 /// threads, or no birth left below `2^32` (Limit). [`Failed`] comes only where a call of the disk failed, and the state then
 /// stays, as where the call is refused.
-pub fn make<D: Disk, L: Ledger>(
+pub fn validated_make<D: Disk, L: Ledger>(
     v: &mut Volume,
     c: &mut VCache,
     disk: &mut D,
@@ -45,34 +64,8 @@ pub fn make<D: Disk, L: Ledger>(
 {
     steps_keep_backing();
     match word_object(v, c, disk, t, pc, Right::X, steps)? {
-        Ok(_) => match begin(v, t, pc) {
-            Some(number) => Ok(Reply::Count(number)),
-            None => Ok(Reply::No(Refusal::Limit)),
-        },
+        Ok(_) => Ok(make(v, t, pc)),
         Err(word) => Ok(Reply::No(word)),
-    }
-}
-
-// A thread begins at this address, made by thread t, where that one may execute there: its number; none where there may be no
-// more threads.
-fn begin(v: &mut Volume, t: u64, pc: u64) -> Option<u64>
-    requires lives { lives v.old t ≡ true }
-    requires at_most_158_staged { staged_of v.old ≤ 158 }
-    requires aligned { pc % 8 ≡ 0 }
-    ensures answers { (image : List (List ℕ)) → IsWellFormed (now_of v.old image) → access_refusal (now_of v.old image) t pc Right.X ≡ None
-        → MatchOption result (threads.make_thread (now_of v.old image) t pc ≡ (now_of v.new image, Reply.No Refusal.Limit)) (λ number. threads.make_thread (now_of v.old image) t pc ≡ (now_of v.new image, Reply.Count number)) }
-    ensures stages { Stages 2 v.old v.new }
-    ensures stays { result ≡ None → v.new ≡ v.old }
-{
-    match next_number(v) {
-        Some(number) => {
-            let counted = counted(v);
-            let row = first_row(&row_of(v, t), v.globals().births(), pc);
-            v.stage_globals(counted);
-            v.stage_thread(number, Some(row));
-            Some(number)
-        }
-        None => None,
     }
 }
 

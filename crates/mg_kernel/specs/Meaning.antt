@@ -1,16 +1,14 @@
 -- What a kernel is, as functions of the value and an image. The layers above see these words by their names.
 use Rattle.std.specs.Prelude.{◌≡◌, ◌≤◌, ℕ, Bool, List, Option}
 use Rattle.std.specs.Option.{ForSome}
-use Rattle.std.proofs.Common.{refl, sym, ap}
+use Rattle.std.proofs.Common.{ap}
 use Rattle.mg_calls_dom.specs.Known.{rows_know}
-use Rattle.mg_calls_dom.specs.KnownLemmas.{rows_tell}
 use Rattle.mg_disk.specs.Disk.{Image}
 use Rattle.mg_disk.specs.Stops.{NothingPending}
 use Rattle.mg_disk.specs.declared.disk.Disk.{Ghosts}
 use Rattle.mg_kernel.specs.declared.kernel.Kernel.{Kernel}
 use Rattle.mg_model.specs.declared.rights.Right.{Right}
 use Rattle.mg_model.specs.declared.seats.Seat.{Seat}
-use Rattle.mg_model.specs.Kept.{is_known}
 use Rattle.mg_model.specs.Keys.{Key}
 use Rattle.mg_model.specs.State.{State}
 use Rattle.mg_model.specs.Volume.{Is, volume}
@@ -67,11 +65,6 @@ pub record StandsOn {D : Type 0} (facts : Ghosts D) (k : Kernel) (disk : D) : Ty
   pub fits : ForSome (facts.seen disk) (λ image. IsSpelledBy k image)
   pub backed : ForSome (facts.seen disk) (λ image. AllBacked (now_of k image) (seats_in k))
 
--- an image that the kernel fits is a volume
-pub spelled_volume : (k : Kernel) (image : Image) → IsSpelledBy k image → (state : State) × (volume image ≡ Is state)
-unfolding IsSpelledBy
-spelled_volume k image is = laws.spelled_volume k.volume image is.fitting
-
 -- where nothing is staged the kernel's state is the one that is kept
 pub now_kept : (k : Kernel) (image : Image) → IsSpelledBy k image → staged_of k ≡ 0 → volume image ≡ Is (now_of k image)
 unfolding IsSpelledBy staged_of now_of
@@ -81,13 +74,3 @@ now_kept k image is none = laws.now_kept k.volume image is.fitting none
 pub same_keys : (a b : Kernel) → seats_in b ≡ seats_in a → (key : Key) → keeps_key b key ≡ keeps_key a key
 unfolding seats_in keeps_key
 same_keys a b same key = ap (λ seats. is_kept seats key) same
-
--- a key is kept in its seat
-pub kept_in : (k : Kernel) (key : Key) → keeps_key k key ≡ is_kept (seats_in k) key
-unfolding seats_in keeps_key
-kept_in k key = refl
-
--- the rows tell whether a key is kept
-pub knows_is : (k : Kernel) (image : Image) (t a : ℕ) (right : Right) → knows k t a right ≡ is_known (λ key. keeps_key k key) (now_of k image) (record { thread = t; address = a; right = right })
-unfolding knows keeps_key now_of
-knows_is k image t a right = sym (rows_tell k.volume image k.cache t a right)

@@ -12,8 +12,8 @@ use crate::turning::{next, turn};
 use crate::unasked::unasked;
 use mg_calls_bank::rent;
 use mg_calls_dom::{load, pdx, store};
-use mg_calls_obj::{info, on_object};
-use mg_calls_thr::make;
+use mg_calls_obj::{on_object, validated_info};
+use mg_calls_thr::validated_make;
 use mg_disk::Disk;
 use mg_faults::Failed;
 use mg_laws::steps_keep_backing;
@@ -68,9 +68,9 @@ pub(crate) fn dispatch<D: Disk, L: Ledger>(
     match *call {
         Call::Load { a } => load(v, c, disk, t, a, steps),
         Call::Store { a, value } => store(v, c, disk, t, a, value, steps),
-        Call::Info { base } => info(v, c, disk, t, base, steps),
+        Call::Info { base } => validated_info(v, c, disk, t, base, steps),
         Call::Pdx { a, mask } => pdx(v, c, disk, t, a, mask, steps),
-        Call::Thread { pc } => make(v, c, disk, t, pc, steps),
+        Call::Thread { pc } => validated_make(v, c, disk, t, pc, steps),
         Call::Delete { .. }
         | Call::Pwadd { .. }
         | Call::Pwdel { .. }

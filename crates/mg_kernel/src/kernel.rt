@@ -10,6 +10,7 @@ ghost use Rattle.mg_model.specs.Kept.{KeepsLine, Validates, access_limit, line_l
 ghost use Rattle.mg_model.specs.Limits.{seat_count};
 ghost use Rattle.mg_model.specs.Refused.{IsRefusal};
 ghost use Rattle.mg_model.specs.Step.{step};
+ghost use Rattle.mg_model.specs.Threads.{is_thread};
 ghost use Rattle.mg_model.specs.Volume.{Damaged, Is, NotVolume, OldVolume, volume};
 ghost use Rattle.mg_model.specs.Counts.{CountsAlike};
 ghost use Rattle.mg_model.specs.FewSlots.{HasFewSlots};
@@ -164,6 +165,16 @@ impl Kernel {
         ensures { (image : Image) → result ≡ is_some (based_at (now_of self.now image).objects base) }
     {
         self.volume.object(base).is_some()
+    }
+
+    /// Whether thread t lives. It reads no disk, and nothing changes.
+    pub fn lives(&self, t: u64) -> bool
+        ensures { (image : Image) → result ≡ is_thread (now_of self.now image) t }
+    {
+        match self.volume.frame(t) {
+            Some(_) => true,
+            None => false,
+        }
     }
 
     /// How many blocks are staged, 0 to 160.

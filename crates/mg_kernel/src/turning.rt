@@ -15,6 +15,7 @@ ghost use Rattle.mg_volume.specs.Meaning.{Keeps, now_of, staged_of, threads_in};
 
 use crate::answering::dispatch;
 use mg_calls_dom::fetch;
+use mg_calls_thr::pick;
 use mg_disk::Disk;
 use mg_faults::Failed;
 use mg_laws::{
@@ -72,7 +73,7 @@ pub(crate) fn next<D: Disk, L: Ledger>(
     backing_rests_on_the_domain();
     next_runs_the_least_ready_thread();
     turns_rest_on_no_cursor();
-    let Some(n) = v.next_ready() else {
+    let Some(n) = pick(v) else {
         return Ok(Reply::No(Refusal::Idle));
     };
     match v.thread(n) {

@@ -28,7 +28,7 @@ pub(crate) fn unasked(v: &mut Volume, c: &mut VCache, t: u64, call: &Call) -> Re
             account,
             password,
         } => create(v, pages, account, password),
-        Call::Apdadd { clist, password } => apdadd(v, t, clist, password),
+        Call::Apdadd { clist, password } => apdadd(v, c, t, clist, password),
         Call::Apddel { index } => apddel(v, c, t, index),
         Call::Apdlist => apdlist(v, t),
         Call::Ret => ret(v, c, t),

@@ -1,9 +1,12 @@
 use Rattle.std.specs.Prelude.{◌-◌, ◌==◌, find, length, None, Some}
 use Rattle.std.proofs.Common.{sym, ap, ◌∙◌, rules}
 use Rattle.mg_calls_dom.proofs.Entered.{leaving, ret-is}
+use Rattle.mg_calls_dom.specs.BackingLemmas.{drops_stay}
 use Rattle.mg_calls_dom.specs.ThreadLemmas.{change-gives, told-row}
+use Rattle.mg_model.specs.declared.calls.Call.TheVariants as call
 use Rattle.mg_model.specs.declared.replies.Reply.TheVariants.{Count}
 use Rattle.mg_model.specs.State.{Thread}
+use Rattle.mg_model.specs.Domains.{ret}
 use Rattle.mg_volume.specs.Meaning.{now_of, threads_in}
 use Rattle.mg_volume.specs.RunLemmas.{call_made, call_refused}
 use Rattle.mg_calls_dom.proofs.frames.ret.Goals as goal
@@ -22,3 +25,13 @@ pub returns-in-Err-clause-does : goal.returns-in-Err-clause-does
 returns-in-Err-clause-does c =
     call_refused _ _ _ _ (λ image spelled formed.
     ret-is (now_of c.args.v.now image) c.args.t c.row_of-row.result (told-row c.args.v.now image c.args.t c.row_of-row.result c.row_of-row.ensures) (Some c.in-Err.word) (sym c.in-Err.ensures.refusal))
+
+pub returns-in-Ok-clause-backed : goal.returns-in-Ok-clause-backed
+returns-in-Ok-clause-backed c =
+    let made = call.Ret in
+    drops_stay (λ state. ret state c.args.t) _ _ _ _ _ _ _ (λ state formed. c.steps_keep_backing.ensures.calls state c.args.t made formed) (returns-in-Ok-clause-does c) (search rules)
+
+pub returns-in-Err-clause-backed : goal.returns-in-Err-clause-backed
+returns-in-Err-clause-backed c =
+    let made = call.Ret in
+    drops_stay (λ state. ret state c.args.t) _ _ _ _ _ _ _ (λ state formed. c.steps_keep_backing.ensures.calls state c.args.t made formed) (returns-in-Err-clause-does c) (search rules)

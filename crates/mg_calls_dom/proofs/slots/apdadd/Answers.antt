@@ -1,16 +1,19 @@
 use Rattle.std.specs.Prelude.{◌++◌, ◌∷◌, ◌==◌, [], find, length, None, Some}
 use Rattle.std.proofs.Common.{sym, ap, ◌∙◌, rules}
 use Rattle.mg_calls_dom.proofs.SlotCalls.{apdadd-is, slotted}
+use Rattle.mg_calls_dom.specs.BackingLemmas.{same_stay}
 use Rattle.mg_calls_dom.specs.ThreadLemmas.{change-gives, told-row}
 use Rattle.mg_model.specs.declared.replies.Reply.TheVariants.{Count}
+use Rattle.mg_model.specs.declared.calls.Call.TheVariants as call
 use Rattle.mg_model.specs.Access.{last_slots}
 use Rattle.mg_model.specs.State.{Thread}
+use Rattle.mg_model.specs.Domains.{apdadd}
 use Rattle.mg_volume.specs.Meaning.{now_of, threads_in}
 use Rattle.mg_volume.specs.RunLemmas.{call_made, call_refused}
 use Rattle.mg_calls_dom.proofs.slots.apdadd.Goals as goal
 
-pub returns-in-Ok : goal.returns-in-Ok
-returns-in-Ok c =
+pub returns-in-Ok-clause-does : goal.returns-in-Ok-clause-does
+returns-in-Ok-clause-does c =
     call_made _ _ _ _ _ (λ no. no) tt (λ image spelled formed.
     let v = c.args.v.now in
     let t = c.args.t in
@@ -21,9 +24,19 @@ returns-in-Ok c =
     ∙ ap (λ s. (s, Count (length (last_slots row.frames)))) (sym now)
     ∙ ap (λ n. (now_of c.change_thread.new.self image, Count n)) (sym c.in-Ok.ensures.number)) (search rules)
 
-pub returns-in-Err : goal.returns-in-Err
-returns-in-Err c =
+pub returns-in-Err-clause-does : goal.returns-in-Err-clause-does
+returns-in-Err-clause-does c =
     call_refused _ _ _ _ (λ image spelled formed.
     let v = c.args.v.now in
     let row = c.row_of-row.result in
     apdadd-is (now_of v image) c.args.t row (told-row v image c.args.t row c.row_of-row.ensures) c.args.clist c.args.password (Some c.in-Err.word) c.in-Err.ensures.refusal)
+
+pub returns-in-Ok-clause-backed : goal.returns-in-Ok-clause-backed
+returns-in-Ok-clause-backed c =
+    let made = call.Apdadd c.args.clist c.args.password in
+    same_stay (λ state. apdadd state c.args.t c.args.clist c.args.password) _ _ _ _ _ (λ state formed. c.steps_keep_backing.ensures.calls state c.args.t made formed) (returns-in-Ok-clause-does c)
+
+pub returns-in-Err-clause-backed : goal.returns-in-Err-clause-backed
+returns-in-Err-clause-backed c =
+    let made = call.Apdadd c.args.clist c.args.password in
+    same_stay (λ state. apdadd state c.args.t c.args.clist c.args.password) _ _ _ _ _ (λ state formed. c.steps_keep_backing.ensures.calls state c.args.t made formed) (returns-in-Err-clause-does c)

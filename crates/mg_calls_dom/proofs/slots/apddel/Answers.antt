@@ -1,10 +1,13 @@
 use Rattle.std.specs.Prelude.{◌++◌, ◌==◌, suc, drop, find, take, None, Some}
 use Rattle.std.proofs.Common.{sym, ap, ◌∙◌, rules}
 use Rattle.mg_calls_dom.proofs.SlotCalls.{apddel-is, slotted}
+use Rattle.mg_calls_dom.specs.BackingLemmas.{drops_stay}
 use Rattle.mg_calls_dom.specs.ThreadLemmas.{change-gives, told-row}
+use Rattle.mg_model.specs.declared.calls.Call.TheVariants as call
 use Rattle.mg_model.specs.declared.replies.Reply.TheVariants.{Done}
 use Rattle.mg_model.specs.Access.{last_slots}
 use Rattle.mg_model.specs.State.{Thread}
+use Rattle.mg_model.specs.Domains.{apddel}
 use Rattle.mg_volume.specs.Meaning.{now_of, threads_in}
 use Rattle.mg_volume.specs.RunLemmas.{call_made, call_refused}
 use Rattle.mg_calls_dom.proofs.slots.apddel.Goals as goal
@@ -26,3 +29,13 @@ returns-in-Err-clause-does c =
     let v = c.args.v.now in
     let row = c.row_of-row.result in
     apddel-is (now_of v image) c.args.t row (told-row v image c.args.t row c.row_of-row.ensures) c.args.index (Some c.in-Err.word) c.in-Err.ensures.refusal)
+
+pub returns-in-Ok-clause-backed : goal.returns-in-Ok-clause-backed
+returns-in-Ok-clause-backed c =
+    let made = call.Apddel c.args.index in
+    drops_stay (λ state. apddel state c.args.t c.args.index) _ _ _ _ _ _ _ (λ state formed. c.steps_keep_backing.ensures.calls state c.args.t made formed) (returns-in-Ok-clause-does c) (search rules)
+
+pub returns-in-Err-clause-backed : goal.returns-in-Err-clause-backed
+returns-in-Err-clause-backed c =
+    let made = call.Apddel c.args.index in
+    drops_stay (λ state. apddel state c.args.t c.args.index) _ _ _ _ _ _ _ (λ state formed. c.steps_keep_backing.ensures.calls state c.args.t made formed) (returns-in-Err-clause-does c) (search rules)

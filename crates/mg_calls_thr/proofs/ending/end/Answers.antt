@@ -1,6 +1,9 @@
 use Rattle.std.proofs.Common.{sym, ap, ◌∙◌, rules}
+use Rattle.mg_calls_dom.specs.BackingLemmas.{drops_stay}
 use Rattle.mg_calls_thr.proofs.Ended.{end-done, end-first, end-refused}
+use Rattle.mg_model.specs.declared.calls.Call.TheVariants as call
 use Rattle.mg_model.specs.declared.replies.Reply.TheVariants.{Done}
+use Rattle.mg_model.specs.Threads.{end_thread}
 use Rattle.mg_volume.specs.Laws.{now_threads}
 use Rattle.mg_volume.specs.Meaning.{now_of, threads_in}
 use Rattle.mg_volume.specs.RunLemmas.{call_made, call_refused}
@@ -22,3 +25,18 @@ returns-else-is_first-clause-does c =
     call_made _ _ _ _ _ (λ no. no) tt (λ image spelled formed.
     let v = c.args.v.now in
     end-done (now_of v image) (threads_in v) (now_threads v image) c.args.t c.args.i (sym c.is_first.ensures ∙ c.if-is_first.false) (sym c.in-None.ensures.word) ∙ ap (λ s. (s, Done)) (sym (c.stage_thread.ensures.now image))) (search rules)
+
+pub returns-in-Some-clause-backed : goal.returns-in-Some-clause-backed
+returns-in-Some-clause-backed c =
+    let made = call.End c.args.i in
+    drops_stay (λ state. end_thread state c.args.t c.args.i) _ _ _ _ _ _ _ (λ state formed. c.steps_keep_backing.ensures.calls state c.args.t made formed) (returns-in-Some-clause-does c) (search rules)
+
+pub returns-then-is_first-clause-backed : goal.returns-then-is_first-clause-backed
+returns-then-is_first-clause-backed c =
+    let made = call.End c.args.i in
+    drops_stay (λ state. end_thread state c.args.t c.args.i) _ _ _ _ _ _ _ (λ state formed. c.steps_keep_backing.ensures.calls state c.args.t made formed) (returns-then-is_first-clause-does c) (search rules)
+
+pub returns-else-is_first-clause-backed : goal.returns-else-is_first-clause-backed
+returns-else-is_first-clause-backed c =
+    let made = call.End c.args.i in
+    drops_stay (λ state. end_thread state c.args.t c.args.i) _ _ _ _ _ _ _ (λ state formed. c.steps_keep_backing.ensures.calls state c.args.t made formed) (returns-else-is_first-clause-does c) (search rules)

@@ -1,83 +1,37 @@
-use Rattle.std.proofs.Common.{◌-◌, arith, sym, ap, subst, ◌∙◌, rules}
-use Rattle.std.specs.Prelude.{◌≡◌, ◌==◌}
-use Rattle.std.specs.Option.{ForSome}
-use Rattle.std.specs.List.{list_any}
-use Rattle.mg_calls_dom.specs.LineLemmas.{keeps_line, limit_line}
-use Rattle.mg_calls_dom.specs.ReachedLemmas.{same_threads}
-use Rattle.mg_calls_dom.specs.Searching.{access_refusal}
-use Rattle.mg_calls_dom.specs.ServedLemmas.{read_call, reads_serves}
-use Rattle.mg_calls_dom.specs.Served.{of_call}
-use Rattle.mg_calls_thr.proofs.Made.{make-denied, making-backed, no-words}
-use Rattle.mg_model.specs.declared.calls.Call.TheVariants as call
-use Rattle.mg_model.specs.declared.calls.Line.{Line}
-use Rattle.mg_model.specs.declared.replies.Reply.TheVariants.{Count, No}
-use Rattle.mg_model.specs.declared.rights.Right.TheVariants.{X}
-use Rattle.mg_model.specs.State.{Thread}
-use Rattle.mg_model.specs.Threads.{make_thread}
-use Rattle.mg_model.specs.WellFormed.{IsWellFormed}
-use Rattle.mg_vcache.specs.Seats.{AllBacked, is_kept}
-use Rattle.mg_volume.specs.Meaning.{now_of}
-use Rattle.mg_volume.specs.RunLemmas.{then_stages}
+use Rattle.std.specs.Prelude.{◌≤◌}
+use Rattle.std.proofs.Common.{ap, subst, ◌∙◌, rules}
+use Rattle.mg_calls_dom.specs.ThreadLemmas.{told-row}
+use Rattle.mg_calls_thr.proofs.Made.{born-by, counted-threads, joined, made, make-done, make-full}
+use Rattle.mg_calls_thr.specs.Making.{first_row}
+use Rattle.mg_model.specs.State.{Counters}
+use Rattle.mg_volume.specs.Laws.{now_counters, now_threads}
+use Rattle.mg_volume.specs.Meaning.{counters_in, now_of, threads_in}
+use Rattle.mg_volume.specs.RunLemmas.{call_made, call_refused}
 use Rattle.mg_calls_thr.proofs.making.make.Goals as goal
 
-pub begin-requires-clause-lives : goal.begin-requires-clause-lives
-begin-requires-clause-lives g c =
-    ap (λ threads. list_any (λ (thread : Thread). thread.number == c.args.t) threads) (same_threads c.args.v.now c.word_object.new.v c.word_object.ensures.reads.keeps) ∙ c.requires.lives
-
 pub returns-in-Some : goal.returns-in-Some
-returns-in-Some g c =
-    let answers : ForSome (g.D.Disk.seen c.args.disk.now) (λ image. make_thread (now_of c.args.v.now image) c.args.t c.args.pc ≡ (now_of c.begin.new.v image, Count c.in-Some.number)) = λ image told.
-    let same = c.word_object.ensures.reads.keeps.now image in
-    let refusal = rw c.in-Ok.is at (c.in_ok-word_object.ensures.refusal image told) in
-    ap (λ s. make_thread s c.args.t c.args.pc) (sym same)
-    ∙ c.in-Some.ensures.answers image (subst IsWellFormed (sym same) (c.requires.sound.formed image told)) (ap (λ s. access_refusal s c.args.t c.args.pc X) same ∙ refusal) in
-    record {
-      answers = answers;
-      refused = search rules;
-      failed = search rules;
-      slots = search rules;
-      backed = λ image told.
-          making-backed (now_of c.args.v.now image) c.args.t c.args.pc (now_of c.begin.new.v image) c.in-Some.number c.word_object.new.c (answers image told) (c.requires.sound.formed image told) c.steps_keep_backing.ensures.calls
-          (subst (λ s. AllBacked s c.word_object.new.c) (c.word_object.ensures.reads.keeps.now image) (c.word_object.ensures.backed image told));
-      keeps = λ image told.
-          let state = now_of c.args.v.now image in
-          let line : Line = record { thread = c.args.t; call = call.Thread c.args.pc } in
-          let own = no-words state c.args.t c.args.pc in
-          let (n, rose, words) = c.word_object.ensures.reads.counted in
-          keeps_line state line (λ key. is_kept c.args.c.now key) (λ key. is_kept c.word_object.new.c key) c.args.steps.now c.word_object.new.steps (c.word_object.new.steps - c.args.steps.now) (c.in_ok-word_object.ensures.rules image told) (omega arith);
-      limit = λ image told.
-          limit_line (now_of c.args.v.now image) (record { thread = c.args.t; call = call.Thread c.args.pc }) (λ key. is_kept c.args.c.now key) c.args.steps.now c.word_object.new.steps (c.word_object.ensures.limit image told);
-      serves = then_stages g.D.Disk 2 c.args.v.now c.word_object.new.v c.begin.new.v c.args.disk.now c.word_object.new.disk c.args.steps.now c.word_object.new.steps c.word_object.ensures.reads c.begin.ensures.stages;
-      cause = search rules;
-    }
+returns-in-Some c =
+    call_made _ _ _ _ _ (λ no. no) tt (λ image spelled formed may.
+    let v = c.args.v.now in
+    let state = now_of v image in
+    let t = c.args.t in
+    let pc = c.args.pc in
+    let counters = counters_in v in
+    let maker = c.row_of.result in
+    let mid = c.stage_globals.new.self in
+    let new = c.stage_thread.new.self in
+    let (room, number, absent) = c.in-Some.ensures.number in
+    let there = told-row v image t maker c.row_of.ensures in
+    let early = subst (λ (k : Counters). maker.birth ≤ k.births) (now_counters v image) (born-by state.counters.births t state.threads maker formed.threads.each there) in
+    let row = c.first_row-row.ensures ∙ ap (λ births. first_row maker births pc) (c.births.ensures ∙ ap (λ (k : Counters). k.births) c.globals.ensures) in
+    let staged = c.stage_globals.ensures.now image ∙ ap (λ (k : Counters). record state { counters = k }) c.counted-counted.ensures in
+    let same = counted-threads v mid c.counted-counted.result c.stage_globals.ensures.now in
+    let joins = c.stage_thread.ensures.now image ∙ joined (now_of mid image) (threads_in mid) (threads_in v) c.in-Some.number c.first_row-row.result (first_row maker counters.births pc) same absent row in
+    make-done state t pc (threads_in v) counters (now_threads v image) (now_counters v image) may room
+    ∙ made state t pc (threads_in v) counters (now_threads v image) (now_counters v image) (now_of mid image) (now_of new image) maker c.in-Some.number there early number staged joins) (search rules)
 
 pub returns-in-None : goal.returns-in-None
-returns-in-None g c = record {
-  answers = λ image told.
-      let same = c.word_object.ensures.reads.keeps.now image in
-      let refusal = rw c.in-Ok.is at (c.in_ok-word_object.ensures.refusal image told) in
-      ap (λ s. make_thread s c.args.t c.args.pc) (sym same)
-      ∙ c.in-None.ensures.answers image (subst IsWellFormed (sym same) (c.requires.sound.formed image told)) (ap (λ s. access_refusal s c.args.t c.args.pc X) same ∙ refusal);
-  refused = search rules;
-  failed = search rules;
-  slots = search rules;
-  backed = search rules;
-  keeps = λ image told.
-      let state = now_of c.args.v.now image in
-      let line : Line = record { thread = c.args.t; call = call.Thread c.args.pc } in
-      let own = no-words state c.args.t c.args.pc in
-      let (n, rose, words) = c.word_object.ensures.reads.counted in
-      keeps_line state line (λ key. is_kept c.args.c.now key) (λ key. is_kept c.word_object.new.c key) c.args.steps.now c.word_object.new.steps (c.word_object.new.steps - c.args.steps.now) (c.in_ok-word_object.ensures.rules image told) (omega arith);
-  limit = λ image told.
-      limit_line (now_of c.args.v.now image) (record { thread = c.args.t; call = call.Thread c.args.pc }) (λ key. is_kept c.args.c.now key) c.args.steps.now c.word_object.new.steps (c.word_object.ensures.limit image told);
-  serves = then_stages g.D.Disk 2 c.args.v.now c.word_object.new.v c.begin.new.v c.args.disk.now c.word_object.new.disk c.args.steps.now c.word_object.new.steps c.word_object.ensures.reads c.begin.ensures.stages;
-  cause = search rules;
-}
-
-pub returns-in-Err : goal.returns-in-Err
-returns-in-Err g c =
-    let made = call.Thread c.args.pc in
-    reads_serves g.D.Disk c.args.v.now c.word_object.new.v c.args.c.now c.word_object.new.c c.args.disk.now c.word_object.new.disk c.args.steps.now c.word_object.new.steps 2 (of_call c.args.t made) _
-    (read_call g.D.Disk c.args.v.now c.word_object.new.v c.args.c.now c.word_object.new.c c.args.disk.now c.word_object.new.disk c.args.steps.now c.word_object.new.steps c.args.t made (No c.in-Err.word) tt
-    (λ image told. make-denied (now_of c.args.v.now image) c.args.t c.args.pc c.in-Err.word (rw c.in-Err.is at (c.in_ok-word_object.ensures.refusal image told)))
-    c.word_object.ensures.backed c.in_ok-word_object.ensures.rules (λ image told. no-words (now_of c.args.v.now image) c.args.t c.args.pc) c.word_object.ensures.reads)
+returns-in-None c =
+    call_refused _ _ _ _ (λ image spelled formed may.
+    let v = c.args.v.now in
+    make-full (now_of v image) c.args.t c.args.pc (threads_in v) (counters_in v) (now_threads v image) (now_counters v image) may c.in-None.ensures.number)

@@ -18,7 +18,7 @@ pub returns-in-Create-clause-does : goal.returns-in-Create-clause-does
 returns-in-Create-clause-does c = made-by c.args.t 2 c.args.v.now c.create.new.v c.create.result c.args.call.now _ c.in-Create.is (omega arith) c.create.ensures
 
 pub returns-in-Apdadd-clause-does : goal.returns-in-Apdadd-clause-does
-returns-in-Apdadd-clause-does c = made-by c.args.t 1 c.args.v.now c.apdadd.new.v c.apdadd.result c.args.call.now _ c.in-Apdadd.is (omega arith) c.apdadd.ensures
+returns-in-Apdadd-clause-does c = made-by c.args.t 1 c.args.v.now c.apdadd.new.v c.apdadd.result c.args.call.now _ c.in-Apdadd.is (omega arith) c.apdadd.ensures.does
 
 pub returns-in-Apddel-clause-does : goal.returns-in-Apddel-clause-does
 returns-in-Apddel-clause-does c = made-by c.args.t 1 c.args.v.now c.apddel.new.v c.apddel.result c.args.call.now _ c.in-Apddel.is (omega arith) c.apddel.ensures.does

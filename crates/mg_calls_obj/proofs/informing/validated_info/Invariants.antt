@@ -11,7 +11,7 @@ use Rattle.mg_model.specs.State.{Thread}
 use Rattle.mg_vcache.specs.Seats.{is_kept}
 use Rattle.mg_volume.specs.Calls.{Reads}
 use Rattle.mg_volume.specs.Meaning.{now_of, threads_in}
-use Rattle.mg_calls_obj.proofs.informing.info.Given as goal
+use Rattle.mg_calls_obj.proofs.informing.validated_info.Given as goal
 
 abbrev pub rights : List Right
 rights = R ∷ W ∷ X ∷ D ∷ P ∷ O ∷ []

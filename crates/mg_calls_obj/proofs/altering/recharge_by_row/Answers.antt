@@ -6,7 +6,7 @@ use Rattle.mg_model.specs.State.{ObjectRow}
 use Rattle.mg_volume.specs.Laws.{now_accounts}
 use Rattle.mg_volume.specs.Meaning.{now_of, objects_in}
 use Rattle.mg_volume.specs.RunLemmas.{call_made, call_refused}
-use Rattle.mg_calls_obj.proofs.altering.recharge.Goals as goal
+use Rattle.mg_calls_obj.proofs.altering.recharge_by_row.Goals as goal
 
 pub returns-in-Some : goal.returns-in-Some
 returns-in-Some c =

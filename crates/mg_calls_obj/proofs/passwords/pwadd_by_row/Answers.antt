@@ -8,7 +8,7 @@ use Rattle.mg_model.specs.State.{Counters, ObjectRow}
 use Rattle.mg_volume.specs.Laws.{now_counters}
 use Rattle.mg_volume.specs.Meaning.{now_of, objects_in}
 use Rattle.mg_volume.specs.RunLemmas.{call_made, call_refused}
-use Rattle.mg_calls_obj.proofs.passwords.pwadd.Goals as goal
+use Rattle.mg_calls_obj.proofs.passwords.pwadd_by_row.Goals as goal
 
 pub returns-then-is_past : goal.returns-then-is_past
 returns-then-is_past c =

@@ -9,7 +9,7 @@ use Rattle.mg_model.specs.ObjectCalls.{has_password}
 use Rattle.mg_model.specs.State.{ObjectRow}
 use Rattle.mg_volume.specs.Meaning.{now_of, objects_in}
 use Rattle.mg_volume.specs.RunLemmas.{call_made}
-use Rattle.mg_calls_obj.proofs.passwords.pwdel.Goals as goal
+use Rattle.mg_calls_obj.proofs.passwords.pwdel_by_row.Goals as goal
 
 -- what was removed was there
 was_there : (has : Bool) (x : Unit {0}) → ◌≡◌ {A = Result (Unit {0}) Refusal} (Ok x) (if has then Ok tt else Err NoPassword) → has ≡ true

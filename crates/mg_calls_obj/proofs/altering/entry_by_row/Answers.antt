@@ -7,7 +7,7 @@ use Rattle.mg_model.specs.ObjectCalls.{with_entry}
 use Rattle.mg_model.specs.State.{ObjectRow}
 use Rattle.mg_volume.specs.Meaning.{now_of, objects_in}
 use Rattle.mg_volume.specs.RunLemmas.{call_made, call_refused}
-use Rattle.mg_calls_obj.proofs.altering.entry.Goals as goal
+use Rattle.mg_calls_obj.proofs.altering.entry_by_row.Goals as goal
 
 pub change-requires-clause-change : goal.change-requires-clause-change
 change-requires-clause-change c =

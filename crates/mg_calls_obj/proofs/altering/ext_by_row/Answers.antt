@@ -6,7 +6,7 @@ use Rattle.mg_model.specs.ObjectCalls.{extension_of}
 use Rattle.mg_model.specs.State.{ObjectRow}
 use Rattle.mg_volume.specs.Meaning.{now_of, objects_in}
 use Rattle.mg_volume.specs.RunLemmas.{call_made}
-use Rattle.mg_calls_obj.proofs.altering.ext.Goals as goal
+use Rattle.mg_calls_obj.proofs.altering.ext_by_row.Goals as goal
 
 pub returns : goal.returns
 returns c =

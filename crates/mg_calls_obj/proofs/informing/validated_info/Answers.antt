@@ -6,7 +6,7 @@ use Rattle.mg_calls_dom.specs.Searching.{allowed_row}
 use Rattle.mg_calls_dom.specs.ServedLemmas.{read_call}
 use Rattle.mg_calls_obj.proofs.Rights.{failed_limit, gone-since, limit-since, no-words, of, searched, taken_more, tries_end, tries_hit, tries_miss, valid-since}
 use Rattle.mg_calls_obj.proofs.InfoReplies.{info-denied, info-known}
-use Rattle.mg_calls_obj.proofs.informing.info.Invariants.{rights}
+use Rattle.mg_calls_obj.proofs.informing.validated_info.Invariants.{rights}
 use Rattle.mg_model.specs.declared.calls.Call.TheVariants as call
 use Rattle.mg_model.specs.declared.replies.Refusal.TheVariants.{Denied}
 use Rattle.mg_model.specs.declared.replies.Reply.TheVariants.{No}
@@ -17,7 +17,7 @@ use Rattle.mg_model.specs.Kept.{KeepsRules, Searches, Validates}
 use Rattle.mg_vcache.specs.Seats.{is_kept}
 use Rattle.mg_volume.specs.Meaning.{now_of}
 use Rattle.mg_volume.specs.RunLemmas.{reads_then, told_since}
-use Rattle.mg_calls_obj.proofs.informing.info.Goals as goal
+use Rattle.mg_calls_obj.proofs.informing.validated_info.Goals as goal
 
 pub returns-in_err-object : goal.returns-in_err-object
 returns-in_err-object g c = record {

@@ -4,7 +4,7 @@ use Rattle.std.proofs.Common.{ap, ◌∙◌}
 use Rattle.mg_calls_obj.proofs.Rows.{based_there}
 use Rattle.mg_model.specs.State.{ObjectRow}
 use Rattle.mg_volume.specs.Meaning.{objects_in}
-use Rattle.mg_calls_obj.proofs.making.delete.Goals as goal
+use Rattle.mg_calls_obj.proofs.making.delete_by_row.Goals as goal
 
 pub remove-requires-clause-there : goal.remove-requires-clause-there
 remove-requires-clause-there c =
