@@ -1,71 +1,88 @@
 // The bank.
-ghost use Rattle.std.specs.Prelude.{◌≡◌, ◌≤◌, ◌<◌, ◌+◌, ◌++◌, ◌∷◌, [], IfSome, is_some, length, true, vec_capacity};
-ghost use Rattle.mg_bank.specs.Bank.{credits_of};
+ghost use Rattle.std.specs.Prelude.{◌≡◌, ◌≤◌, ◌<◌, ◌+◌, ◌++◌, ◌∷◌, ◌==◌, [], ℕ, IfOk, if◌then◌else◌, IfSome, is_some, length, true, vec_capacity};
+ghost use Rattle.mg_bank.specs.Bank.{credits_of, pages_at};
 ghost use Rattle.mg_model.specs.Bank.{account_of, balance_of, given_to, opens, owed_by, taken_from, with_account};
 ghost use Rattle.mg_model.specs.Limits.{account_limit, credit_limit};
 
-use crate::rows::{give, row_of, take};
+use crate::rows::{give, put, row_of, take};
 use mg_model::AccRow;
+use mg_model::limits::ACCOUNT_LIMIT;
+use std::alloc::{AllocError, Global};
 use std::marker::Model;
 
-/// The accounts of a volume: at most 1,024, which have at most `2^62` credits together.
+// One place more than there are accounts: none has number 0.
+const PLACES: usize = 1025;
+
+/// The accounts of a volume: at most 1,024, which have at most `2^62` credits together; and for how many pages each pays.
 #[derive(Drop)]
 pub struct Bank {
     // The accounts, in room for as many as there may be.
     rows: Vec<AccRow>,
+    // How many pages account n pays for, in place n.
+    pages: Vec<u64>,
 }
 
 impl Model for Bank {
-    ghost use Rattle.std.specs.Prelude.{List};
     ghost use Rattle.std.specs.Vec.{vec_capacity};
-    ghost use Rattle.mg_bank.specs.Bank.{IsBank};
-    ghost use Rattle.mg_model.specs.declared.accounts.AccRow.{AccRow};
+    ghost use Rattle.mg_bank.specs.Bank.{BankHeld, IsBank};
 
-    ghost Value = { List AccRow };
+    ghost Value = { BankHeld };
 
-    ghost view = { λ bank. bank.rows.items };
+    ghost view = { λ bank. record { accounts = bank.rows.items; pages = bank.pages.items } };
 
-    ghost invariant = { λ bank. IsBank bank.rows.items (vec_capacity bank.rows) };
+    ghost invariant = { λ bank. IsBank bank.rows.items (vec_capacity bank.rows) bank.pages.items };
 }
 
 impl Bank {
-    /// The bank of these accounts, in their order. There is room for 1,024.
-    pub fn of(rows: Vec<AccRow>) -> Bank
+    /// No accounts, and room for 1,024. All memory that they will need is taken here.
+    pub fn new(alloc: Global) -> Result<Bank, AllocError>
+        ensures none { IfOk result (λ made. made.accounts ≡ []) }
+        ensures no_pages { IfOk result (λ made. (n : ℕ) → pages_at made.pages n ≡ 0) }
+    {
+        let rows = Vec::with_capacity(alloc, ACCOUNT_LIMIT)?;
+        Bank::of(alloc, rows)
+    }
+
+    /// The bank of these accounts, in their order, which pay for no pages. There is room for 1,024. All memory that it will need
+    /// beside them is taken here.
+    pub fn of(alloc: Global, rows: Vec<AccRow>) -> Result<Bank, AllocError>
         requires at_most_1024_rows { length rows.items ≤ account_limit }
         requires has_capacity { account_limit ≤ vec_capacity rows }
         requires credits { credits_of rows.items ≤ credit_limit }
-        ensures { result ≡ rows.items }
+        ensures accounts { IfOk result (λ made. made.accounts ≡ rows.items) }
+        ensures no_pages { IfOk result (λ made. (n : ℕ) → pages_at made.pages n ≡ 0) }
     {
-        Bank { rows }
+        let pages = vec![in alloc; 0; PLACES]?;
+        Ok(Bank { rows, pages })
     }
 
     /// Tells that there are 1,024 accounts at most, which have at most `2^62` credits together. It does nothing when it runs.
     pub fn keep_rules(&self)
-        ensures at_most_1024 { length self.now ≤ account_limit }
-        ensures credits { credits_of self.now ≤ credit_limit }
+        ensures at_most_1024 { length self.now.accounts ≤ account_limit }
+        ensures credits { credits_of self.now.accounts ≤ credit_limit }
     {
         let _rows = &self.rows;
     }
 
     /// How many accounts there are, 1,024 at most; they have at most `2^62` credits together.
     pub fn len(&self) -> u64
-        ensures count { result ≡ length self.now }
+        ensures count { result ≡ length self.now.accounts }
         ensures at_most_1024 { result ≤ account_limit }
-        ensures credits { credits_of self.now ≤ credit_limit }
+        ensures credits { credits_of self.now.accounts ≤ credit_limit }
     {
         self.rows.len() as u64
     }
 
     /// The accounts: account n stands at place n - 1.
     pub fn rows(&self) -> &[AccRow]
-        ensures { result.now ≡ self.now }
+        ensures { result.now ≡ self.now.accounts }
     {
         &self.rows
     }
 
     /// Account n, 1 to 1,024.
     pub fn row(&self, n: u64) -> Option<AccRow>
-        ensures found { result ≡ account_of self.now n }
+        ensures found { result ≡ account_of self.now.accounts n }
         ensures within_1_and_1024 { IfSome result (λ _. (1 ≤ n) × (n ≤ 1024)) }
     {
         row_of(&self.rows, n)
@@ -73,7 +90,7 @@ impl Bank {
 
     /// Whether this password opens account n. It opens none that is not there.
     pub fn opens(&self, n: u64, password: u64) -> bool
-        ensures opens { result ≡ opens self.now n password }
+        ensures opens { result ≡ opens self.now.accounts n password }
         ensures n_at_least_1 { result ≡ true → 1 ≤ n }
         ensures n_at_most_1024 { result ≡ true → n ≤ 1024 }
     {
@@ -85,7 +102,7 @@ impl Bank {
 
     /// The credits of account n, 0 where it is not there.
     pub fn balance_of(&self, n: u64) -> u64
-        ensures { result ≡ balance_of self.now n }
+        ensures { result ≡ balance_of self.now.accounts n }
     {
         match self.row(n) {
             Some(row) => row.balance,
@@ -95,7 +112,7 @@ impl Bank {
 
     /// What account n owes in rent, 0 where it is not there.
     pub fn owed_by(&self, n: u64) -> u64
-        ensures { result ≡ owed_by self.now n }
+        ensures { result ≡ owed_by self.now.accounts n }
     {
         match self.row(n) {
             Some(row) => row.owed,
@@ -103,40 +120,73 @@ impl Bank {
         }
     }
 
-    /// Another row for account n, with which all have at most `2^62` credits.
-    pub fn set(&mut self, n: u64, row: AccRow)
-        requires there { is_some (account_of self.old n) ≡ true }
-        requires credits { credits_of (with_account self.old n row) ≤ credit_limit }
-        ensures { self.new ≡ with_account self.old n row }
+    /// One account more, the last, with which all have at most `2^62` credits. There are fewer than 1,024.
+    pub fn push(&mut self, r: AccRow)
+        requires fewer_than_1024 { length self.old.accounts < account_limit }
+        requires credits { credits_of self.old.accounts + r.balance ≤ credit_limit }
+        ensures accounts { self.new.accounts ≡ self.old.accounts ++ r ∷ [] }
+        ensures pages { self.new.pages ≡ self.old.pages }
     {
-        self.rows[(n - 1) as usize] = row;
+        // There is room.
+        let _ = self.rows.push(r);
+    }
+
+    /// Another row for account n, with which all have at most `2^62` credits.
+    pub fn set(&mut self, n: u64, r: AccRow)
+        requires there { is_some (account_of self.old.accounts n) ≡ true }
+        requires credits { credits_of (with_account self.old.accounts n r) ≤ credit_limit }
+        ensures accounts { self.new.accounts ≡ with_account self.old.accounts n r }
+        ensures pages { self.new.pages ≡ self.old.pages }
+    {
+        put(&mut self.rows, n, r);
+    }
+
+    /// For how many pages account n pays: 0 where n is not from 1 to 1,024.
+    pub fn pages(&self, n: u64) -> u64
+        ensures { result ≡ pages_at self.now.pages n }
+    {
+        let pages = &self.pages;
+        if n >= PLACES as u64 {
+            return 0;
+        }
+        pages[n as usize]
+    }
+
+    /// Account n, at most 1,024, pays for so many pages. The accounts stay.
+    pub fn set_pages(&mut self, n: u64, pages: u64)
+        requires { n ≤ 1024 }
+        ensures pages { (k : ℕ) → pages_at self.new.pages k ≡ (if n == k then pages else pages_at self.old.pages k) }
+        ensures accounts { self.new.accounts ≡ self.old.accounts }
+    {
+        self.pages[n as usize] = pages;
     }
 
     /// Credits of one account go to another, which may be the same. The first has as many.
     pub fn transfer(&mut self, from: u64, to: u64, amount: u64)
-        requires from { is_some (account_of self.old from) ≡ true }
-        requires to { is_some (account_of self.old to) ≡ true }
-        requires enough { amount ≤ balance_of self.old from }
-        ensures accounts { self.new ≡ given_to (taken_from self.old from amount) to amount }
-        ensures count { length self.new ≡ length self.old }
-        ensures sum { credits_of self.new ≡ credits_of self.old }
+        requires from { is_some (account_of self.old.accounts from) ≡ true }
+        requires to { is_some (account_of self.old.accounts to) ≡ true }
+        requires enough { amount ≤ balance_of self.old.accounts from }
+        ensures accounts { self.new.accounts ≡ given_to (taken_from self.old.accounts from amount) to amount }
+        ensures count { length self.new.accounts ≡ length self.old.accounts }
+        ensures sum { credits_of self.new.accounts ≡ credits_of self.old.accounts }
+        ensures pages { self.new.pages ≡ self.old.pages }
     {
         take(&mut self.rows, from, amount);
         give(&mut self.rows, to, amount);
     }
 
     /// One account more, the last, with this password and credits of the payer, who has as many. There are fewer than 1,024.
-    pub fn open_account(&mut self, payer: u64, amount: u64, password: u64)
-        requires payer { is_some (account_of self.old payer) ≡ true }
-        requires enough { amount ≤ balance_of self.old payer }
-        requires fewer_than_1024 { length self.old < account_limit }
-        ensures accounts { self.new ≡ taken_from self.old payer amount ++ record { password = password; balance = amount; owed = 0 } ∷ [] }
-        ensures count { length self.new ≡ length self.old + 1 }
-        ensures sum { credits_of self.new ≡ credits_of self.old }
+    pub fn add_account(&mut self, payer: u64, amount: u64, password: u64)
+        requires payer { is_some (account_of self.old.accounts payer) ≡ true }
+        requires enough { amount ≤ balance_of self.old.accounts payer }
+        requires fewer_than_1024 { length self.old.accounts < account_limit }
+        ensures accounts { self.new.accounts ≡ taken_from self.old.accounts payer amount ++ record { password = password; balance = amount; owed = 0 } ∷ [] }
+        ensures count { length self.new.accounts ≡ length self.old.accounts + 1 }
+        ensures sum { credits_of self.new.accounts ≡ credits_of self.old.accounts }
+        ensures pages { self.new.pages ≡ self.old.pages }
     {
         take(&mut self.rows, payer, amount);
-        // There is room.
-        let _ = self.rows.push(AccRow {
+        self.push(AccRow {
             password,
             balance: amount,
             owed: 0,

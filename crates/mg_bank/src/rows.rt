@@ -1,7 +1,7 @@
 // A list of accounts: account n stands at place n - 1.
 ghost use Rattle.std.specs.Prelude.{◌≡◌, ◌≤◌, ◌+◌, IfSome, is_some, length, true};
 ghost use Rattle.mg_bank.specs.Bank.{credits_of};
-ghost use Rattle.mg_model.specs.Bank.{account_of, balance_of, given_to, taken_from};
+ghost use Rattle.mg_model.specs.Bank.{account_of, balance_of, given_to, taken_from, with_account};
 ghost use Rattle.mg_model.specs.Limits.{credit_limit};
 
 use mg_model::AccRow;
@@ -15,6 +15,14 @@ pub(crate) fn row_of(rows: &[AccRow], n: u64) -> Option<AccRow>
         return None;
     }
     Some(rows[(n - 1) as usize])
+}
+
+/// Another row for account n, which is there.
+pub(crate) fn put(rows: &mut [AccRow], n: u64, row: AccRow)
+    requires { is_some (account_of rows.old n) ≡ true }
+    ensures { rows.new ≡ with_account rows.old n row }
+{
+    rows[(n - 1) as usize] = row;
 }
 
 /// Credits are taken from account n, which has as many.

@@ -1,13 +1,14 @@
 -- What the calls on accounts make of their rows, by their tests.
-use Rattle.std.specs.Prelude.{◌≡◌, ◌+◌, ◌||◌, ◌++◌, ◌∷◌, [], ℕ, true, false, nat_le, nat_lt, not, cond, List, Option, None, Some, length, map, is_some}
+use Rattle.std.specs.Prelude.{◌≡◌, ◌+◌, ◌||◌, ◌++◌, ◌∷◌, [], ℕ, true, false, nat_le, nat_lt, not, cond, List, Option, None, Some, length, map}
 use Rattle.std.proofs.Common.{sym, ap, ◌∙◌}
-use Rattle.mg_calls_bank.specs.Refusals.{opening_refusal, paying_refusal}
+use Rattle.mg_bank.specs.Refusals as bank
+use Rattle.mg_calls_bank.specs.Refusals.{opening_refusal}
 use Rattle.mg_model.specs.declared.accounts.AccRow.{AccRow}
 use Rattle.mg_model.specs.declared.replies.Refusal.{Refusal}
 use Rattle.mg_model.specs.declared.replies.Refusal.TheVariants.{Account, Credit, Limit}
 use Rattle.mg_model.specs.declared.replies.Reply.{Reply}
 use Rattle.mg_model.specs.declared.replies.Reply.TheVariants.{Done, Funds, No, Opened}
-use Rattle.mg_model.specs.Bank.{account_of, balance_of, given_to, opens, owed_by, pages_of, taken_from}
+use Rattle.mg_model.specs.Bank.{balance_of, given_to, opens, owed_by, pages_of, taken_from}
 use Rattle.mg_model.specs.BankCalls.{balance, open_account, pay}
 use Rattle.mg_model.specs.Limits.{account_limit, draw_limit}
 use Rattle.mg_model.specs.ObjectCalls.{drawn, next_password}
@@ -27,13 +28,6 @@ opening_of accounts counters account password amount =
     ∷ (nat_le account_limit (length accounts) || nat_le draw_limit counters.draws, Limit)
     ∷ [])
 
-abbrev paying_of : List AccRow → ℕ → ℕ → ℕ → ℕ → Option Refusal
-paying_of accounts account password to amount =
-    first_refusal (
-    (not (opens accounts account password) || not (is_some (account_of accounts to)), Account)
-    ∷ (nat_lt (balance_of accounts account) amount, Credit)
-    ∷ [])
-
 -- what they do where none holds
 abbrev pub opened_of : State → ℕ → ℕ → Answer
 opened_of state account amount =
@@ -48,24 +42,24 @@ account-is v image account password amount word is =
     ap (λ r. unless_refused r state (opened_of state account amount))
     (ap (λ (a : List AccRow). opening_of a state.counters account password amount) (now_accounts v image) ∙ ap (λ (k : Counters). opening_of (accounts_in v) k account password amount) (now_counters v image) ∙ sym is)
 
-pub pay-is : (v : VolumeHeld) (image : List (List ℕ)) (account password to amount : ℕ) (word : Option Refusal) → word ≡ paying_refusal v account password to amount → pay (now_of v image) account password to amount ≡ unless_refused word (now_of v image) (paid_of (now_of v image) account to amount)
+pub pay-is : (v : VolumeHeld) (image : List (List ℕ)) (account password to amount : ℕ) (word : Option Refusal) → word ≡ bank.paying_refusal (accounts_in v) account password to amount → pay (now_of v image) account password to amount ≡ unless_refused word (now_of v image) (paid_of (now_of v image) account to amount)
 pay-is v image account password to amount word is =
     let state = now_of v image in
-    ap (λ r. unless_refused r state (paid_of state account to amount)) (ap (λ (a : List AccRow). paying_of a account password to amount) (now_accounts v image) ∙ sym is)
+    ap (λ r. unless_refused r state (paid_of state account to amount)) (ap (λ (a : List AccRow). bank.paying_refusal a account password to amount) (now_accounts v image) ∙ sym is)
 
 -- a draw leaves the accounts
 pub drawn-accounts : (old mid : VolumeHeld) → ((image : List (List ℕ)) → now_of mid image ≡ drawn (now_of old image)) → accounts_in mid ≡ accounts_in old
 drawn-accounts old mid now = sym (now_accounts mid []) ∙ ap (λ (s : State). s.accounts) (now []) ∙ now_accounts old []
 
 -- what is staged is the state behind it
-pub opened : (state mid new : State) (accounts : List AccRow) (account amount number fresh : ℕ) → accounts ≡ state.accounts → number ≡ length state.accounts → fresh ≡ next_password state → mid ≡ drawn state
-    → new ≡ record mid { accounts = taken_from accounts account amount ++ record { password = fresh; balance = amount; owed = 0 } ∷ [] } → opened_of state account amount ≡ (new, Opened (number + 1) fresh)
+pub opened : (state mid new : State) (accounts : List AccRow) (account amount number fresh : ℕ) → accounts ≡ state.accounts → number ≡ length state.accounts + 1 → fresh ≡ next_password state → mid ≡ drawn state
+    → new ≡ record mid { accounts = taken_from accounts account amount ++ record { password = fresh; balance = amount; owed = 0 } ∷ [] } → opened_of state account amount ≡ (new, Opened number fresh)
 opened state mid new accounts account amount number fresh same count fresh_is mid_is new_is =
-    ap (λ n. (record (drawn state) { accounts = taken_from state.accounts account amount ++ record { password = next_password state; balance = amount; owed = 0 } ∷ [] }, Opened (n + 1) (next_password state))) (sym count)
-    ∙ ap (λ f. (record (drawn state) { accounts = taken_from state.accounts account amount ++ record { password = f; balance = amount; owed = 0 } ∷ [] }, Opened (number + 1) f)) (sym fresh_is)
-    ∙ ap (λ (a : List AccRow). (record (drawn state) { accounts = taken_from a account amount ++ record { password = fresh; balance = amount; owed = 0 } ∷ [] }, Opened (number + 1) fresh)) (sym same)
-    ∙ ap (λ (s : State). (record s { accounts = taken_from accounts account amount ++ record { password = fresh; balance = amount; owed = 0 } ∷ [] }, Opened (number + 1) fresh)) (sym mid_is)
-    ∙ ap (λ (s : State). (s, Opened (number + 1) fresh)) (sym new_is)
+    ap (λ n. (record (drawn state) { accounts = taken_from state.accounts account amount ++ record { password = next_password state; balance = amount; owed = 0 } ∷ [] }, Opened n (next_password state))) (sym count)
+    ∙ ap (λ f. (record (drawn state) { accounts = taken_from state.accounts account amount ++ record { password = f; balance = amount; owed = 0 } ∷ [] }, Opened number f)) (sym fresh_is)
+    ∙ ap (λ (a : List AccRow). (record (drawn state) { accounts = taken_from a account amount ++ record { password = fresh; balance = amount; owed = 0 } ∷ [] }, Opened number fresh)) (sym same)
+    ∙ ap (λ (s : State). (record s { accounts = taken_from accounts account amount ++ record { password = fresh; balance = amount; owed = 0 } ∷ [] }, Opened number fresh)) (sym mid_is)
+    ∙ ap (λ (s : State). (s, Opened number fresh)) (sym new_is)
 
 pub paid : (state new : State) (accounts : List AccRow) (account to amount : ℕ) → accounts ≡ state.accounts → new ≡ record state { accounts = given_to (taken_from accounts account amount) to amount } → paid_of state account to amount ≡ (new, Done)
 paid state new accounts account to amount same new_is =

@@ -5,7 +5,7 @@ ghost use Rattle.mg_model.specs.BankCalls as calls;
 ghost use Rattle.mg_volume.specs.Calls.{Answers, CallStages};
 ghost use Rattle.mg_volume.specs.Meaning.{accounts_in, objects_in, staged_of};
 
-use crate::refusing::{opening, paying};
+use crate::refusing::opening;
 use mg_model::{Refusal, Reply};
 use mg_volume::Volume;
 
@@ -19,10 +19,11 @@ pub fn account(v: &mut Volume, account: u64, password: u64, amount: u64) -> Repl
     match opening(v, account, password, amount) {
         Some(word) => Reply::No(word),
         None => {
-            let number = v.account_count() + 1;
             let fresh = v.next_password();
-            v.open_account(account, amount, fresh);
-            Reply::Opened(number, fresh)
+            match v.open_account(account, password, amount, fresh) {
+                Ok(number) => Reply::Opened(number, fresh),
+                Err(_) => unreachable!(),
+            }
         }
     }
 }
@@ -33,12 +34,9 @@ pub fn pay(v: &mut Volume, account: u64, password: u64, to: u64, amount: u64) ->
     requires at_most_158_staged { staged_of v.old ≤ 158 }
     ensures { CallStages (Answers (λ state. calls.pay state account password to amount)) 2 v.old v.new result }
 {
-    match paying(v, account, password, to, amount) {
-        Some(word) => Reply::No(word),
-        None => {
-            v.pay(account, to, amount);
-            Reply::Done
-        }
+    match v.pay(account, password, to, amount) {
+        Ok(()) => Reply::Done,
+        Err(word) => Reply::No(word),
     }
 }
 

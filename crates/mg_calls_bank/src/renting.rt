@@ -1,5 +1,5 @@
 // Rent is collected.
-ghost use Rattle.std.specs.Prelude.{◌≡◌, ◌≤◌, ◌==◌};
+ghost use Rattle.std.specs.Prelude.{◌≡◌, ◌≤◌};
 ghost use Rattle.mg_model.specs.Backed.{by_each};
 ghost use Rattle.mg_model.specs.BankCalls as calls;
 ghost use Rattle.mg_model.specs.Limits.{period_limit};
@@ -7,8 +7,7 @@ ghost use Rattle.mg_vcache.specs.Drops.{Drops};
 ghost use Rattle.mg_volume.specs.Calls.{Answers, CallStages};
 ghost use Rattle.mg_volume.specs.Meaning.{counters_in, staged_of};
 
-use mg_model::limits::PERIOD_LIMIT;
-use mg_model::{Refusal, Reply};
+use mg_model::Reply;
 use mg_vcache::VCache;
 use mg_volume::Volume;
 
@@ -21,13 +20,14 @@ pub fn rent(v: &mut Volume, c: &mut VCache) -> Reply
     ensures seats { Drops by_each c.old c.new result }
 {
     let period = period(v);
-    if is_last(period) {
-        return Reply::No(Refusal::Calendar);
-    }
     let rate = v.rate();
-    let paid = v.collect();
-    c.drop_all();
-    Reply::Collected(period + 1, rate, paid)
+    match v.collect() {
+        Ok(paid) => {
+            c.drop_all();
+            Reply::Collected(period + 1, rate, paid)
+        }
+        Err(word) => Reply::No(word),
+    }
 }
 
 // The period, at most `2^24 - 1`.
@@ -38,11 +38,4 @@ fn period(v: &Volume) -> u64
     let globals = v.globals();
     globals.keep_rules();
     globals.period()
-}
-
-// Whether a period is the last.
-fn is_last(period: u64) -> bool
-    ensures { result ≡ (period == period_limit) }
-{
-    period == PERIOD_LIMIT
 }

@@ -1,39 +1,61 @@
 -- All accounts that are charged, one after another.
-use Rattle.std.proofs.Common.{◌≡◌, ℕ, zero, suc, ◌+◌, ◌-◌, ◌*◌, ◌^◌, ◌<◌, ◌≤◌, ◌==◌, List, [], ◌∷◌, Option, Some, None, filter, length, get_or, map, set, sum_by, take, refl, ap, sym, subst, ◌∙◌, arith}
+use Rattle.std.proofs.Common.{◌≡◌, ℕ, zero, suc, ◌+◌, ◌-◌, ◌*◌, ◌^◌, ◌<◌, ◌≤◌, ◌==◌, Bool, true, false, cond, if◌then◌else◌, List, [], ◌∷◌, Option, Some, None, filter, length, get_or, set, take, refl, ap, sym, subst, ◌∙◌, arith}
 use Rattle.std.specs.Option.{option_map_or}
+use Rattle.std.proofs.lemmas.Bool.{cond-false, cond-true, eq-eqb, ne_eqb}
 use Rattle.std.proofs.lemmas.List.Elements.{All-cons, All-head, All-nil, All-set, All-tail}
+use Rattle.std.proofs.lemmas.List.Sums.{sum_by-cons}
 use Rattle.std.proofs.lemmas.Nat.{mul-le}
 use Rattle.std.proofs.Math.Seq.{take-length}
 use Rattle.mg_bank.specs.AccountLemmas.{account_of-at, with_account-credits}
 use Rattle.mg_model.specs.AccountLemmas.{account_of-row}
-use Rattle.mg_bank.specs.Bank.{credits_of}
+use Rattle.mg_bank.specs.Bank.{credits_of, pages_at}
 use Rattle.mg_model.specs.declared.accounts.AccRow.{AccRow}
-use Rattle.mg_model.specs.Bank.{account_of, all_charged, all_paid, charged, given_to, owed_by, paid, pages_of, with_account}
-use Rattle.mg_model.specs.KeptListLemmas.{sum_by-filter-le}
+use Rattle.mg_model.specs.Bank.{account_of, all_charged, all_paid, charged, given_to, owed_by, paid, pages_of, used, with_account}
 use Rattle.mg_model.specs.Limits.{debt_limit, step_limit}
-use Rattle.mg_model.specs.State.{Object, ObjectRow}
-use Rattle.mg_rent.specs.Charging.{OweAtMost, charged_at, paid_at}
-use Rattle.mg_rent.specs.PaidLemmas.{paid-through, row_pages}
+use Rattle.mg_model.specs.State.{Object}
+use Rattle.mg_rent.specs.Charging.{ArePagesOf, OweAtMost, charged_at, paid_at}
 use Rattle.mg_rent.proofs.Mixed.{length-mixed, mixed, mixed-all, mixed-at, mixed-set}
-use Rattle.mg_space.specs.Space.{AreRowsOf}
 
--- the objects that rows alone make
-abbrev pub bare : List (ℕ × ObjectRow) → List Object
-bare rows = map (λ (o : ℕ × ObjectRow). record { row = o.1; words = [] }) rows
+-- an object of so many pages for each number from k on, which pays for it
+abbrev pub bare_from : ℕ → List ℕ → List Object
+bare_from k [] = []
+bare_from k (pages ∷ more) = record { row = record { base = 0; pages = pages; account = k; passwords = []; entries = []; extension = None }; words = [] } ∷ bare_from (k + 1) more
 
-bare-rows : (rows : List (ℕ × ObjectRow)) → AreRowsOf (bare rows) rows
-bare-rows [] = refl
-bare-rows (o ∷ rows) = ap (λ (more : List ObjectRow). o.1 ∷ more) (bare-rows rows)
+abbrev pub bare : List ℕ → List Object
+bare pages = bare_from 0 pages
 
-pub pages-of : (objects : List Object) (rows : List (ℕ × ObjectRow)) (number : ℕ) → AreRowsOf objects rows → pages_of objects number ≡ sum_by (λ (o : ℕ × ObjectRow). o.1.pages) (filter (λ (o : ℕ × ObjectRow). o.1.account == number) rows)
-pages-of objects rows number same =
-    paid-through (λ (object : Object). object.row) objects number ∙ ap (λ (bare_rows : List ObjectRow). row_pages bare_rows number) same ∙ sym (paid-through (λ (o : ℕ × ObjectRow). o.1) rows number)
+pages-cons : (object : Object) (objects : List Object) (n : ℕ) → pages_of (object ∷ objects) n ≡ (if object.row.account == n then object.row.pages else 0) + pages_of objects n
+pages-cons object objects n = at (object.row.account == n)
+  where
+    at : (b : Bool) → used (cond b (object ∷ filter (λ (o : Object). o.row.account == n) objects) (filter (λ (o : Object). o.row.account == n) objects)) ≡ cond b object.row.pages 0 + pages_of objects n
+    at true = sum_by-cons (λ (o : Object). o.row.pages) object (filter (λ (o : Object). o.row.account == n) objects)
+    at false = omega arith
 
-pub bare-pages : (objects : List Object) (rows : List (ℕ × ObjectRow)) → AreRowsOf objects rows → (number : ℕ) → pages_of objects number ≡ pages_of (bare rows) number
-bare-pages objects rows same number = pages-of objects rows number same ∙ sym (pages-of (bare rows) rows number (bare-rows rows))
+none-below : (k : ℕ) (pages : List ℕ) (n : ℕ) → n < k → pages_of (bare_from k pages) n ≡ 0
+none-below k [] n below = refl
+none-below k (p ∷ pages) n below =
+    let first = pages-cons (record { row = record { base = 0; pages = p; account = k; passwords = []; entries = []; extension = None }; words = [] }) (bare_from (k + 1) pages) n in
+    let other = cond-false (k == n) p 0 (ne_eqb k n (λ is. omega arith)) in
+    let rest = none-below (k + 1) pages n (omega arith) in
+    omega arith
 
-pub bare-paid_by : (rows : List (ℕ × ObjectRow)) (number : ℕ) → pages_of (bare rows) number ≡ sum_by (λ (o : ℕ × ObjectRow). o.1.pages) (filter (λ (o : ℕ × ObjectRow). o.1.account == number) rows)
-bare-paid_by rows number = pages-of (bare rows) rows number (bare-rows rows)
+bare-at : (k : ℕ) (pages : List ℕ) (j : ℕ) → pages_of (bare_from k pages) (k + j) ≡ pages_at pages j
+bare-at k [] j = refl
+bare-at k (p ∷ pages) zero =
+    let first = pages-cons (record { row = record { base = 0; pages = p; account = k; passwords = []; entries = []; extension = None }; words = [] }) (bare_from (k + 1) pages) (k + zero) in
+    let own = cond-true (k == k + zero) p 0 (eq-eqb k (k + zero) (omega arith)) in
+    let rest = none-below (k + 1) pages (k + zero) (omega arith) in
+    omega arith
+bare-at k (p ∷ pages) (suc j) =
+    let first = pages-cons (record { row = record { base = 0; pages = p; account = k; passwords = []; entries = []; extension = None }; words = [] }) (bare_from (k + 1) pages) (k + suc j) in
+    let other = cond-false (k == k + suc j) p 0 (ne_eqb k (k + suc j) (λ is. omega arith)) in
+    let e : k + suc j ≡ k + 1 + j = omega arith in
+    let at = ap (pages_of (bare_from (k + 1) pages)) e in
+    let rest = bare-at (k + 1) pages j in
+    omega arith
+
+pub bare-pages : (pages : List ℕ) (n : ℕ) → pages_of (bare pages) n ≡ pages_at pages n
+bare-pages pages n = let e : n ≡ 0 + n = omega arith in ap (pages_of (bare pages)) e ∙ bare-at 0 pages n
 
 -- what is due rests on the pages alone
 pub all_charged-same : (a b : List Object) (rate : ℕ) → ((number : ℕ) → pages_of a number ≡ pages_of b number) → (number : ℕ) (rows : List AccRow) → all_charged a rate number rows ≡ all_charged b rate number rows
@@ -136,13 +158,13 @@ charged-all objects rate old now sum i end are = record {
   credits = are.credits;
 }
 
--- for each way to see the rows as objects
-pub charged-of : (objects : List Object) (rows : List (ℕ × ObjectRow)) (rate : ℕ) (old now : List AccRow) (sum : ℕ) → AreRowsOf objects rows → AllCharged (bare rows) rate old now sum → AllCharged objects rate old now sum
-charged-of objects rows rate old now sum same all =
-    let pages : (number : ℕ) → pages_of (bare rows) number ≡ pages_of objects number = λ number. sym (bare-pages objects rows same number) in
+-- for all objects that have these pages
+pub charged-of : (objects : List Object) (pages : List ℕ) (rate : ℕ) (old now : List AccRow) (sum : ℕ) → ArePagesOf objects pages → AllCharged (bare pages) rate old now sum → AllCharged objects rate old now sum
+charged-of objects pages rate old now sum are all =
+    let same : (number : ℕ) → pages_of (bare pages) number ≡ pages_of objects number = λ number. bare-pages pages number ∙ are number in
     record {
-      accounts = all.accounts ∙ all_charged-same (bare rows) objects rate pages 1 old;
-      paid_is = all.paid_is ∙ all_paid-same (bare rows) objects rate pages 1 old;
+      accounts = all.accounts ∙ all_charged-same (bare pages) objects rate same 1 old;
+      paid_is = all.paid_is ∙ all_paid-same (bare pages) objects rate same 1 old;
       credits = all.credits;
     }
 
@@ -150,11 +172,20 @@ pub received : (objects : List Object) (rate : ℕ) (old now after : List AccRow
 received objects rate old now after sum all given = given ∙ ap (λ (rows : List AccRow). given_to rows 1 sum) all.accounts ∙ ap (given_to (all_charged objects rate 1 old) 1) all.paid_is
 
 -- what is due for a period
-pub due-few : (rows : List (ℕ × ObjectRow)) (rate number : ℕ) → sum_by (λ (o : ℕ × ObjectRow). o.1.pages) rows ≤ 65536 → rate ≤ step_limit → rate * sum_by (λ (o : ℕ × ObjectRow). o.1.pages) (filter (λ (o : ℕ × ObjectRow). o.1.account == number) rows) ≤ 2 ^ 36
-due-few rows rate number few low =
-    let part = sum_by-filter-le (λ (o : ℕ × ObjectRow). o.1.account == number) (λ (o : ℕ × ObjectRow). o.1.pages) rows in
-    let product = mul-le rate (sum_by (λ (o : ℕ × ObjectRow). o.1.pages) (filter (λ (o : ℕ × ObjectRow). o.1.account == number) rows)) step_limit 65536 low (omega arith) in
+pub due-few : (rate pages : ℕ) → pages ≤ 65536 → rate ≤ step_limit → rate * pages ≤ 2 ^ 36
+due-few rate pages few low =
+    let product = mul-le rate pages step_limit 65536 low few in
     omega arith
+
+-- where the pages that are kept are those of before
+pub kept-at : (kept now : List ℕ) (pages n : ℕ) → now ≡ kept → pages ≡ pages_at now n → pages ≡ pages_at kept n
+kept-at kept now pages n same is = is ∙ ap (λ (those : List ℕ). pages_at those n) same
+
+pub due-at : (kept now : List ℕ) (rate pages n : ℕ) → ((k : ℕ) → pages_at kept k ≤ 65536) → rate ≤ step_limit → now ≡ kept → pages ≡ pages_at now n → rate * pages ≤ 2 ^ 36
+due-at kept now rate pages n few low same is =
+    let at = kept-at kept now pages n same is in
+    let most = few n in
+    due-few rate pages (omega arith) low
 
 -- so no debt grows by more
 charged-owes : (most due : ℕ) (row : AccRow) → due ≤ 2 ^ 36 → row.owed ≤ most → (charged row due).owed ≤ most + 2 ^ 36
@@ -181,12 +212,12 @@ given-owe most number amount rows owed = at (account_of rows number) refl
         let one : (get_or rows (number - 1) row).owed ≤ most = owed (number - 1) row (omega arith) in
         All-set (λ (r : AccRow). r.owed ≤ most) rows (number - 1) (record row { balance = row.balance + amount }) (omega arith) owed
 
-pub debts-grow : (rows : List (ℕ × ObjectRow)) (rate period : ℕ) (old now after : List AccRow) (sum : ℕ) → sum_by (λ (o : ℕ × ObjectRow). o.1.pages) rows ≤ 65536 → rate ≤ step_limit → AllCharged (bare rows) rate old now sum → after ≡ given_to now 1 sum
+pub debts-grow : (pages : List ℕ) (rate period : ℕ) (old now after : List AccRow) (sum : ℕ) → ((n : ℕ) → pages_at pages n ≤ 65536) → rate ≤ step_limit → AllCharged (bare pages) rate old now sum → after ≡ given_to now 1 sum
     → OweAtMost (debt_limit period) old → OweAtMost (debt_limit (period + 1)) after
-debts-grow rows rate period old now after sum few low all given owed =
+debts-grow pages rate period old now after sum few low all given owed =
     let next : debt_limit period + 2 ^ 36 ≡ debt_limit (period + 1) = omega arith in
-    let due : (number : ℕ) → rate * pages_of (bare rows) number ≤ 2 ^ 36 = λ number. subst (λ pages. rate * pages ≤ 2 ^ 36) (sym (bare-paid_by rows number)) (due-few rows rate number few low) in
-    let charged_owe = all-owe (bare rows) rate (debt_limit period) due 1 old owed in
+    let due : (number : ℕ) → rate * pages_of (bare pages) number ≤ 2 ^ 36 = λ number. subst (λ p. rate * p ≤ 2 ^ 36) (sym (bare-pages pages number)) (due-few rate (pages_at pages number) (few number) low) in
+    let charged_owe = all-owe (bare pages) rate (debt_limit period) due 1 old owed in
     let P : List AccRow → Type 0 = OweAtMost (debt_limit period + 2 ^ 36) in
     let at_last = subst P (sym given) (given-owe (debt_limit period + 2 ^ 36) 1 sum now (subst P (sym all.accounts) charged_owe)) in
     subst (λ most. OweAtMost most after) next at_last

@@ -1,8 +1,10 @@
 -- One account that is charged, and what accounts owe.
-use Rattle.std.specs.Prelude.{◌≤◌, ℕ, All, List}
+use Rattle.std.specs.Prelude.{◌≡◌, ◌≤◌, ℕ, All, List}
 use Rattle.std.specs.Option.{option_map_or}
 use Rattle.mg_model.specs.declared.accounts.AccRow.{AccRow}
-use Rattle.mg_model.specs.Bank.{account_of, charged, paid, with_account}
+use Rattle.mg_bank.specs.Bank.{pages_at}
+use Rattle.mg_model.specs.Bank.{account_of, charged, paid, pages_of, with_account}
+use Rattle.mg_model.specs.State.{Object}
 
 -- the accounts after one of them was charged what is due
 abbrev pub charged_at : List AccRow → ℕ → ℕ → List AccRow
@@ -15,3 +17,7 @@ paid_at accounts number due = option_map_or (λ (row : AccRow). paid row due) (a
 -- none owes more than this
 abbrev pub OweAtMost : ℕ → List AccRow → Type 0
 OweAtMost most accounts = All (λ (row : AccRow). row.owed ≤ most) accounts
+
+-- each account pays for the pages of objects that a bank keeps for it
+abbrev pub ArePagesOf : List Object → List ℕ → Type 0
+ArePagesOf objects pages = (n : ℕ) → pages_at pages n ≡ pages_of objects n

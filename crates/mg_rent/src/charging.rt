@@ -31,10 +31,11 @@ fn charged(row: AccRow, due: u64) -> AccRow
 
 /// Charges account n what is due, and gives what it pays. An account that is not there pays nothing.
 pub(crate) fn charge(b: &mut Bank, n: u64, due: u64) -> u64
-    requires { owed_by b.old n + due < 2 ^ 64 }
-    ensures accounts { b.new ≡ charged_at b.old n due }
-    ensures paid { result ≡ paid_at b.old n due }
-    ensures sum { credits_of b.new + result ≡ credits_of b.old }
+    requires { owed_by b.old.accounts n + due < 2 ^ 64 }
+    ensures accounts { b.new.accounts ≡ charged_at b.old.accounts n due }
+    ensures paid { result ≡ paid_at b.old.accounts n due }
+    ensures sum { credits_of b.new.accounts + result ≡ credits_of b.old.accounts }
+    ensures pages { b.new.pages ≡ b.old.pages }
 {
     b.keep_rules();
     match b.row(n) {
@@ -48,10 +49,11 @@ pub(crate) fn charge(b: &mut Bank, n: u64, due: u64) -> u64
 
 /// Gives account n an amount, with which all have at most `2^62` credits.
 pub(crate) fn give(b: &mut Bank, n: u64, amount: u64)
-    requires there { is_some (account_of b.old n) ≡ true }
-    requires fits { credits_of b.old + amount ≤ credit_limit }
-    ensures accounts { b.new ≡ given_to b.old n amount }
-    ensures sum { credits_of b.new ≡ credits_of b.old + amount }
+    requires there { is_some (account_of b.old.accounts n) ≡ true }
+    requires fits { credits_of b.old.accounts + amount ≤ credit_limit }
+    ensures accounts { b.new.accounts ≡ given_to b.old.accounts n amount }
+    ensures sum { credits_of b.new.accounts ≡ credits_of b.old.accounts + amount }
+    ensures pages { b.new.pages ≡ b.old.pages }
 {
     match b.row(n) {
         Some(row) => {

@@ -1,35 +1,69 @@
 // The collection of the rent.
-ghost use Rattle.std.specs.Prelude.{◌≡◌, ◌≤◌, ◌+◌, ◌^◌, ℕ, List, length, sum_by};
-ghost use Rattle.mg_bank.specs.Bank.{credits_of};
-ghost use Rattle.mg_model.specs.Bank.{all_charged, all_paid, given_to};
-ghost use Rattle.mg_model.specs.Limits.{debt_limit, step_limit};
+ghost use Rattle.std.specs.Prelude.{◌≡◌, ◌≤◌, ◌+◌, ◌^◌, ◌==◌, ℕ, List, MatchResult, OnErr, OnOk, IfOk, false, length, true};
+ghost use Rattle.mg_bank.specs.Bank.{credits_of, pages_at};
+ghost use Rattle.mg_model.specs.Bank.{all_charged, all_paid, given_to, rate_of};
+ghost use Rattle.mg_model.specs.declared.replies.Refusal.TheVariants.{Calendar};
+ghost use Rattle.mg_model.specs.Limits.{debt_limit, period_limit, step_limit};
 ghost use Rattle.mg_model.specs.State.{Object};
-ghost use Rattle.mg_rent.specs.Charging.{OweAtMost};
-ghost use Rattle.mg_space.specs.Space.{AreRowsOf};
+ghost use Rattle.mg_rent.specs.Charging.{ArePagesOf, OweAtMost};
 
 use crate::charging::{charge, give};
+use crate::rates::rate;
 use mg_bank::Bank;
-use mg_space::Space;
+use mg_model::limits::PERIOD_LIMIT;
+use mg_model::{Refusal, Tariff};
 
-/// Collects the rent of a period, at this rate for each page, and gives the sum of what was paid. Each account is charged, from
+/// Whether the rent of a period may be collected: in the last, `2^24 - 1`, it is refused (Calendar).
+pub fn may_collect(period: u64) -> Result<(), Refusal>
+    ensures { MatchResult result (λ _. (period == period_limit) ≡ false) (λ word. (word ≡ Calendar) × ((period == period_limit) ≡ true)) }
+{
+    if period == PERIOD_LIMIT {
+        return Err(Refusal::Calendar);
+    }
+    Ok(())
+}
+
+/// Collects the rent of a period at the rate of the tariff for this number of pages in use, as [`charge_all`] does, and gives the
+/// sum of what was paid. In the last period it is refused ([`may_collect`]), and the bank stays. There is a treasury, no account
+/// owes more than the period times `2^36`, and none pays for more than 65,536 pages.
+pub fn collect(b: &mut Bank, t: &Tariff, used: u64, period: u64) -> Result<u64, Refusal>
+    requires treasury { 1 ≤ length b.old.accounts }
+    requires period { period ≤ period_limit }
+    requires owed { OweAtMost (debt_limit period) b.old.accounts }
+    requires pages { (n : ℕ) → pages_at b.old.pages n ≤ 65536 }
+    ensures refusal { MatchResult result (λ _. (period == period_limit) ≡ false) (λ word. (word ≡ Calendar) × ((period == period_limit) ≡ true)) }
+    ensures accounts { OnOk result ((objects : List Object) → ArePagesOf objects b.old.pages → b.new.accounts ≡ given_to (all_charged objects (rate_of t.now used) 1 b.old.accounts) 1 (all_paid objects (rate_of t.now used) 1 b.old.accounts)) }
+    ensures paid { IfOk result (λ paid. (objects : List Object) → ArePagesOf objects b.old.pages → paid ≡ all_paid objects (rate_of t.now used) 1 b.old.accounts) }
+    ensures debts { OnOk result (OweAtMost (debt_limit (period + 1)) b.new.accounts) }
+    ensures sum { credits_of b.new.accounts ≡ credits_of b.old.accounts }
+    ensures pages { b.new.pages ≡ b.old.pages }
+    ensures stays { OnErr result (b.new ≡ b.old) }
+{
+    may_collect(period)?;
+    Ok(charge_all(b, rate(t, used)))
+}
+
+/// Charges all accounts at this rate for each page, and gives the sum of what was paid. Each account is charged, from
 /// the first on, for the pages that it pays for: with what it owes already it pays what is due, all that it has at most, and owes
 /// the rest. Then account 1, the treasury, receives the sum. There is a treasury, no account owes more than `2^60`, the rate is at
-/// most `2^20`, and the objects have at most 65,536 pages. No object is looked at: the time is in the number of accounts.
-pub fn collect(b: &mut Bank, space: &Space, rate: u64) -> u64
-    requires treasury { 1 ≤ length b.old }
-    requires owed { OweAtMost (2 ^ 60) b.old }
+/// most `2^20`, and none pays for more than 65,536 pages. No object is looked at: the time is in the number of accounts.
+pub fn charge_all(b: &mut Bank, rate: u64) -> u64
+    requires treasury { 1 ≤ length b.old.accounts }
+    requires owed { OweAtMost (2 ^ 60) b.old.accounts }
     requires rate { rate ≤ step_limit }
-    requires pages { sum_by (λ o. o.1.pages) space.now ≤ 65536 }
-    ensures accounts { (objects : List Object) → AreRowsOf objects space.now → b.new ≡ given_to (all_charged objects rate 1 b.old) 1 (all_paid objects rate 1 b.old) }
-    ensures paid { (objects : List Object) → AreRowsOf objects space.now → result ≡ all_paid objects rate 1 b.old }
-    ensures debts { (period : ℕ) → OweAtMost (debt_limit period) b.old → OweAtMost (debt_limit (period + 1)) b.new }
-    ensures count { length b.new ≡ length b.old }
-    ensures sum { credits_of b.new ≡ credits_of b.old }
+    requires pages { (n : ℕ) → pages_at b.old.pages n ≤ 65536 }
+    ensures accounts { (objects : List Object) → ArePagesOf objects b.old.pages → b.new.accounts ≡ given_to (all_charged objects rate 1 b.old.accounts) 1 (all_paid objects rate 1 b.old.accounts) }
+    ensures paid { (objects : List Object) → ArePagesOf objects b.old.pages → result ≡ all_paid objects rate 1 b.old.accounts }
+    ensures debts { (period : ℕ) → OweAtMost (debt_limit period) b.old.accounts → OweAtMost (debt_limit (period + 1)) b.new.accounts }
+    ensures count { length b.new.accounts ≡ length b.old.accounts }
+    ensures sum { credits_of b.new.accounts ≡ credits_of b.old.accounts }
+    ensures pages { b.new.pages ≡ b.old.pages }
 {
     let count = b.len();
     let mut sum = 0;
     for i in 0..count {
-        sum += charge(b, i + 1, rate * space.paid_by(i + 1));
+        let pages = b.pages(i + 1);
+        sum += charge(b, i + 1, rate * pages);
     }
     give(b, 1, sum);
     sum

@@ -1,11 +1,13 @@
 //! Tests of rows, settings and places: bytes and numbers that no contract spells out.
 //!
-//! They stand above `mg_model`, `mg_rows`, `mg_layout`, `mg_index`, `mg_frames`, `mg_objects` and `mg_space`, over their public calls, so
-//! that those are proved once. A contract there says of each call what its definition answers; here are bytes of rows, a
+//! They stand above `mg_model`, `mg_rows`, `mg_layout`, `mg_index`, `mg_frames`, `mg_objects`, `mg_bank`, `mg_rent` and
+//! `mg_space`, over their public calls, so that those are proved once. A contract there says of each call what its definition answers; here are bytes of rows, a
 //! superblock and a fresh volume that were worked out by hand from docs/VOLUME.md, passwords that RFC 8439 prints, calls that
 //! take memory, and as many objects as there may be.
 #![tactic(auto)]
 
+#[cfg(test)]
+mod banks;
 #[cfg(test)]
 mod indexes;
 #[cfg(test)]

@@ -2,16 +2,37 @@
 ghost use Rattle.std.specs.Prelude.{◌≡◌, ◌==◌, true};
 ghost use Rattle.std.specs.List.{list_any};
 
+use mg_bank::Bank;
 use mg_model::ObjRow;
 use mg_model::limits::{FIRST_PAGE, PAGE_SIZE};
 use mg_space::Space;
 use std::alloc::Global;
+use std::marker::Model;
 
 /// How many objects there may be.
 const MOST: u64 = 4096;
 
 /// The pages of the plain list, from the lowest on that an object may have. The objects here have 34,816 at one time.
 const PAGES: usize = 60_000;
+
+/// Objects, and a bank that keeps for how many pages each account pays.
+#[derive(Drop)]
+struct Paid {
+    space: Space,
+    bank: Bank,
+}
+
+impl Model for Paid {
+    ghost use Rattle.std.specs.Prelude.{ℕ, List};
+    ghost use Rattle.mg_model.specs.State.{ObjectRow};
+    ghost use Rattle.mg_space.specs.Space.{ArePaid};
+
+    ghost Value = { List (ℕ × ObjectRow) };
+
+    ghost view = { λ paid. paid.space };
+
+    ghost invariant = { λ paid. ArePaid paid.bank.pages paid.space };
+}
 
 /// Where so many pages have room, 1 to 16: the lowest page of it, counted from the lowest that an object may have.
 fn first(space: &Space, pages: u64) -> Option<u64> {
@@ -22,12 +43,13 @@ fn first(space: &Space, pages: u64) -> Option<u64> {
 }
 
 /// One object more of so many pages, on the lowest pages with room, and its first page; None where there may be no more.
-fn made(space: &mut Space, pages: u64) -> Option<u64> {
+fn made(paid: &mut Paid, pages: u64) -> Option<u64> {
+    let space = &mut paid.space;
     if pages == 0 || pages > 16 || space.used() > 65_520 || space.len() as u64 >= MOST {
         return None;
     }
     let page = space.first(pages);
-    space.insert(ObjRow::new(PAGE_SIZE * page, pages, 1));
+    space.insert(ObjRow::new(PAGE_SIZE * page, pages, 1), &mut paid.bank);
     Some(page - FIRST_PAGE)
 }
 
@@ -42,12 +64,12 @@ fn is_there(space: &Space, base: u64) -> bool
 }
 
 /// Whether an object began at this page. It is gone then.
-fn is_removed(space: &mut Space, page: u64) -> bool {
+fn is_removed(paid: &mut Paid, page: u64) -> bool {
     let base = PAGE_SIZE.saturating_mul(FIRST_PAGE.saturating_add(page));
-    if !is_there(space, base) {
+    if !is_there(&paid.space, base) {
         return false;
     }
-    space.remove(base);
+    paid.space.remove(base, &mut paid.bank);
     true
 }
 
@@ -84,13 +106,13 @@ fn number_at(i: u64, count: u64, step: u64) -> usize {
 }
 
 /// Makes so many objects, and tells how many got the lowest pages that are free in the plain list.
-fn make(space: &mut Space, taken: &mut [bool], places: &mut [u64], count: u64, step: u64) -> u64 {
+fn make(paid: &mut Paid, taken: &mut [bool], places: &mut [u64], count: u64, step: u64) -> u64 {
     let mut right: u64 = 0;
     for i in 0..count {
         let number = number_at(i, count, step);
         let pages = pages_of(number as u64);
         let wanted = lowest(taken, pages);
-        let found = made(space, pages);
+        let found = made(paid, pages);
         if let (Some(page), Some(place)) = (found, places.get_mut(number)) {
             mark(taken, page, pages, true);
             *place = page;
@@ -103,13 +125,14 @@ fn make(space: &mut Space, taken: &mut [bool], places: &mut [u64], count: u64, s
 }
 
 /// Removes so many objects, and tells behind how many of these there was room for 1 and for 16 pages where the plain list has it.
-fn remove(space: &mut Space, taken: &mut [bool], places: &[u64], count: u64, step: u64) -> u64 {
+fn remove(paid: &mut Paid, taken: &mut [bool], places: &[u64], count: u64, step: u64) -> u64 {
     let mut right: u64 = 0;
     for i in 0..count {
         let number = number_at(i, count, step);
         let page = places.get(number).copied().unwrap_or(0);
-        if is_removed(space, page) {
+        if is_removed(paid, page) {
             mark(taken, page, pages_of(number as u64), false);
+            let space = &paid.space;
             if first(space, 1) == lowest(taken, 1) && first(space, 16) == lowest(taken, 16) {
                 right = right.saturating_add(1);
             }
@@ -122,31 +145,31 @@ fn remove(space: &mut Space, taken: &mut [bool], places: &[u64], count: u64, ste
 /// one more behind the two that made some; and the pages in use behind each.
 type Told = ([u64; 4], [bool; 2], [u64; 4]);
 
-fn told(space: &mut Space, taken: &mut [bool], places: &mut [u64]) -> Told {
-    let first = make(space, taken, places, MOST, 1);
-    let (one, all) = (made(space, 1).is_some(), space.used());
-    let second = remove(space, taken, places, MOST / 2, 3);
-    let half = space.used();
-    let third = make(space, taken, places, MOST / 2, 5);
-    let (more, again) = (made(space, 1).is_some(), space.used());
-    let fourth = remove(space, taken, places, MOST, 7);
+fn told(paid: &mut Paid, taken: &mut [bool], places: &mut [u64]) -> Told {
+    let first = make(paid, taken, places, MOST, 1);
+    let (one, all) = (made(paid, 1).is_some(), paid.space.used());
+    let second = remove(paid, taken, places, MOST / 2, 3);
+    let half = paid.space.used();
+    let third = make(paid, taken, places, MOST / 2, 5);
+    let (more, again) = (made(paid, 1).is_some(), paid.space.used());
+    let fourth = remove(paid, taken, places, MOST, 7);
     (
         [first, second, third, fourth],
         [one, more],
-        [all, half, again, space.used()],
+        [all, half, again, paid.space.used()],
     )
 }
 
-fn told_with_places(alloc: Global, space: &mut Space, taken: &mut [bool]) -> Option<Told> {
+fn told_with_places(alloc: Global, paid: &mut Paid, taken: &mut [bool]) -> Option<Told> {
     match vec![in alloc; 0; MOST as usize] {
-        Ok(mut places) => Some(told(space, taken, &mut places)),
+        Ok(mut places) => Some(told(paid, taken, &mut places)),
         Err(_) => None,
     }
 }
 
-fn told_beside_list(alloc: Global, space: &mut Space) -> Option<Told> {
+fn told_beside_list(alloc: Global, paid: &mut Paid) -> Option<Told> {
     match vec![in alloc; false; PAGES] {
-        Ok(mut taken) => told_with_places(alloc, space, &mut taken),
+        Ok(mut taken) => told_with_places(alloc, paid, &mut taken),
         Err(_) => None,
     }
 }
@@ -162,9 +185,23 @@ fn empty(alloc: Global) -> Option<Space> {
     }
 }
 
+/// The same with a bank.
+fn empty_paid(alloc: Global) -> Option<Paid> {
+    match Bank::new(alloc) {
+        Ok(mut bank) => match empty(alloc) {
+            Some(space) => {
+                space.bill(&mut bank);
+                Some(Paid { space, bank })
+            }
+            None => None,
+        },
+        Err(_) => None,
+    }
+}
+
 fn told_of_new(alloc: Global) -> Option<Told> {
-    match empty(alloc) {
-        Some(mut space) => told_beside_list(alloc, &mut space),
+    match empty_paid(alloc) {
+        Some(mut paid) => told_beside_list(alloc, &mut paid),
         None => None,
     }
 }

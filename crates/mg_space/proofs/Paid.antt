@@ -1,16 +1,17 @@
 -- For how many pages an account pays, and what a change of the objects makes of it.
-use Rattle.std.specs.Prelude.{◌≡◌, ◌≢◌, ◌+◌, ◌<◌, ◌≤◌, ◌==◌, ℕ, suc, Bool, true, false, List, [], ◌++◌, ◌∷◌, All, Option, Some, None, filter, find, if◌then◌else◌, length, not, replicate, slice_set, sum_by, take}
+use Rattle.std.specs.Prelude.{◌≡◌, ◌+◌, ◌<◌, ◌≤◌, ◌==◌, ℕ, suc, Bool, true, false, List, [], ◌++◌, ◌∷◌, All, Option, Some, None, filter, find, if◌then◌else◌, length, not, sum_by, take}
 use Rattle.std.specs.List.{list_any}
 use Rattle.std.specs.Option.{option_map}
 use Rattle.std.proofs.Common.{refl, sym, ap, ◌∙◌, subst, ⊎_elim, arith, get_or}
-use Rattle.std.proofs.lemmas.Bool.{cases_Bool, cases_eq, cases_lt, cond-false, cond-true, eq-eqb, eqb-true, ne_eqb, or_from}
-use Rattle.std.proofs.lemmas.List.{get_or-replicate, get_or-set_other, get_or-set_same, get_or_past, length-replicate, take_more}
+use Rattle.std.proofs.lemmas.Bool.{cases_Bool, cond-false, cond-true, eq-eqb, eqb-true, ne_eqb, or_from}
+use Rattle.std.proofs.lemmas.List.{take_more}
 use Rattle.std.proofs.lemmas.List.Elements.{All-head, All-tail}
 use Rattle.std.proofs.lemmas.List.Sums.{sum_by-cons}
+use Rattle.mg_bank.specs.Bank.{pages_at}
 use Rattle.mg_model.specs.Ranges.{IsObjectRow}
 use Rattle.mg_model.specs.State.{ObjectRow}
 use Rattle.mg_objects.specs.Held.{AreApart, with_row}
-use Rattle.mg_space.specs.Space.{paid_by, share, total_in}
+use Rattle.mg_space.specs.Space.{paid_by, share}
 use Rattle.mg_space.proofs.Spans.{Between, bases-rise, between-cons, between-without, none-based}
 
 paid-cons : (n : ℕ) (o : ℕ × ObjectRow) (objects : List (ℕ × ObjectRow)) → paid_by n (o ∷ objects) ≡ paid_by n objects + share o.1 n
@@ -126,56 +127,42 @@ between-row row gone (o ∷ objects) apart rows found = ⊎_elim here (later (be
         subst P (sym (cond-true (not (o.1.base == row.base)) (o ∷ W objects) (W objects) (ap not is)))
         (subst Q (sym (ap (λ x. x ∷ with_row row objects) (cond-false (o.1.base == row.base) (o.0, row) o is))) (between-cons (gone.0, row) o (W objects) (with_row row objects) (again found')))
 
--- the totals of no pages, and those where one is another
-pub none-total : (totals : List ℕ) → totals ≡ replicate 1025 0 → (n : ℕ) → total_in totals n ≡ 0
-none-total totals are n =
-    ap (λ (those : List ℕ). total_in those n) are
-    ∙ ⊎_elim (λ (low : n < 1025). get_or-replicate 1025 n 0 0 low) (λ (high : 1025 ≤ n). get_or_past (replicate 1025 0) n 0 (let l = length-replicate {A = ℕ} 1025 0 in omega arith)) (cases_lt n 1025)
-
-pub set-total : (totals : List ℕ) (n total : ℕ) → n < length totals → (k : ℕ) → total_in (slice_set totals n total) k ≡ (if n == k then total else total_in totals k)
-set-total totals n total within k = ⊎_elim here elsewhere (cases_eq n k)
-  where
-    here : n ≡ k → total_in (slice_set totals n total) k ≡ (if n == k then total else total_in totals k)
-    here is = ap (λ j. total_in (slice_set totals n total) j) (sym is) ∙ get_or-set_same totals n total 0 within ∙ sym (cond-true (n == k) total (total_in totals k) (eq-eqb n k is))
-
-    elsewhere : n ≢ k → total_in (slice_set totals n total) k ≡ (if n == k then total else total_in totals k)
-    elsewhere other = get_or-set_other totals n k total 0 (λ is. other (sym is)) ∙ sym (cond-false (n == k) total (total_in totals k) (ne_eqb n k other))
-
-pub added : (old new : List ℕ) (row : ObjectRow) (payer total : ℕ) → payer ≡ row.account → ((k : ℕ) → total_in new k ≡ (if payer == k then total else total_in old k)) → total ≡ total_in old payer + row.pages
-    → (n : ℕ) → total_in new n ≡ total_in old n + share row n
+-- one account pays for others than before
+pub added : (old new : List ℕ) (row : ObjectRow) (payer total : ℕ) → payer ≡ row.account → ((k : ℕ) → pages_at new k ≡ (if payer == k then total else pages_at old k)) → total ≡ pages_at old payer + row.pages
+    → (n : ℕ) → pages_at new n ≡ pages_at old n + share row n
 added old new row payer total pays are is n = ⊎_elim own other (cases_Bool (payer == n))
   where
-    own : (payer == n) ≡ true → total_in new n ≡ total_in old n + share row n
+    own : (payer == n) ≡ true → pages_at new n ≡ pages_at old n + share row n
     own it =
         let a = are n in
-        let b = cond-true (payer == n) total (total_in old n) it in
+        let b = cond-true (payer == n) total (pages_at old n) it in
         let s = cond-true (row.account == n) row.pages 0 (ap (λ p. p == n) (sym pays) ∙ it) in
-        let o = ap (total_in old) (eqb-true payer n it) in
+        let o = ap (pages_at old) (eqb-true payer n it) in
         omega arith
 
-    other : (payer == n) ≡ false → total_in new n ≡ total_in old n + share row n
+    other : (payer == n) ≡ false → pages_at new n ≡ pages_at old n + share row n
     other it =
         let a = are n in
-        let b = cond-false (payer == n) total (total_in old n) it in
+        let b = cond-false (payer == n) total (pages_at old n) it in
         let s = cond-false (row.account == n) row.pages 0 (ap (λ p. p == n) (sym pays) ∙ it) in
         omega arith
 
-pub subtracted : (old new : List ℕ) (row : ObjectRow) (payer total : ℕ) → payer ≡ row.account → ((k : ℕ) → total_in new k ≡ (if payer == k then total else total_in old k)) → total + row.pages ≡ total_in old payer
-    → (n : ℕ) → total_in old n ≡ total_in new n + share row n
+pub subtracted : (old new : List ℕ) (row : ObjectRow) (payer total : ℕ) → payer ≡ row.account → ((k : ℕ) → pages_at new k ≡ (if payer == k then total else pages_at old k)) → total + row.pages ≡ pages_at old payer
+    → (n : ℕ) → pages_at old n ≡ pages_at new n + share row n
 subtracted old new row payer total pays are is n = ⊎_elim own other (cases_Bool (payer == n))
   where
-    own : (payer == n) ≡ true → total_in old n ≡ total_in new n + share row n
+    own : (payer == n) ≡ true → pages_at old n ≡ pages_at new n + share row n
     own it =
         let a = are n in
-        let b = cond-true (payer == n) total (total_in old n) it in
+        let b = cond-true (payer == n) total (pages_at old n) it in
         let s = cond-true (row.account == n) row.pages 0 (ap (λ p. p == n) (sym pays) ∙ it) in
-        let o = ap (total_in old) (eqb-true payer n it) in
+        let o = ap (pages_at old) (eqb-true payer n it) in
         omega arith
 
-    other : (payer == n) ≡ false → total_in old n ≡ total_in new n + share row n
+    other : (payer == n) ≡ false → pages_at old n ≡ pages_at new n + share row n
     other it =
         let a = are n in
-        let b = cond-false (payer == n) total (total_in old n) it in
+        let b = cond-false (payer == n) total (pages_at old n) it in
         let s = cond-false (row.account == n) row.pages 0 (ap (λ p. p == n) (sym pays) ∙ it) in
         omega arith
 

@@ -1,6 +1,6 @@
 -- Objects with the pages between them.
 use Rattle.std.specs.Prelude.{◌≡◌, ◌==◌, ℕ, List, filter, if◌then◌else◌, map, sum_by}
-use Rattle.std.specs.List.{slice_index_or}
+use Rattle.mg_bank.specs.Bank.{pages_at}
 use Rattle.mg_model.specs.Objects.{page_of}
 use Rattle.mg_model.specs.State.{Object, ObjectRow}
 use Rattle.mg_ranges.specs.Gaps.{AreGapsOf}
@@ -20,12 +20,11 @@ paid_by n objects = sum_by (λ (o : ℕ × ObjectRow). o.1.pages) (filter (λ (o
 abbrev pub share : ObjectRow → ℕ → ℕ
 share row n = if row.account == n then row.pages else 0
 
--- the total of account n, which stands in place n
-abbrev pub total_in : List ℕ → ℕ → ℕ
-total_in totals n = slice_index_or totals n 0
+-- the pages that a bank keeps for each account are those of the objects for which it pays
+abbrev pub ArePaid : List ℕ → List (ℕ × ObjectRow) → Type 0
+ArePaid pages objects = (n : ℕ) → pages_at pages n ≡ paid_by n objects
 
--- objects, the gaps that they leave, how many pages they have, and for how many of them each account pays
-pub record IsSpace (objects : List (ℕ × ObjectRow)) (gaps : List (ℕ × ℕ)) (used : ℕ) (totals : List ℕ) : Type 0 where
+-- objects, the gaps that they leave, and how many pages they have
+pub record IsSpace (objects : List (ℕ × ObjectRow)) (gaps : List (ℕ × ℕ)) (used : ℕ) : Type 0 where
   pub free : AreGapsOf (spans_in objects) gaps
   pub total : used ≡ sum_by (λ (o : ℕ × ObjectRow). o.1.pages) objects
-  pub paid : (n : ℕ) → total_in totals n ≡ paid_by n objects

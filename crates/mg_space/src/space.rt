@@ -2,6 +2,7 @@
 ghost use Rattle.std.specs.Prelude.{◌≡◌, ◌≤◌, ◌<◌, ◌==◌, ◌+◌, ◌⊎◌, ℕ, All, IfOk, List, MatchOption, Some, filter, find, length, not, sum_by, true, vec_capacity};
 ghost use Rattle.std.specs.List.{list_any};
 ghost use Rattle.std.specs.Option.{option_copied, option_map};
+ghost use Rattle.mg_bank.specs.Bank.{pages_at};
 ghost use Rattle.mg_model.specs.Access.{covers};
 ghost use Rattle.mg_model.specs.Limits.{first_page, object_limit, page_end};
 ghost use Rattle.mg_model.specs.Objects.{lowest_free, page_behind, page_of};
@@ -9,9 +10,10 @@ ghost use Rattle.mg_model.specs.Ranges.{IsObjectRow};
 ghost use Rattle.mg_model.specs.State.{Object};
 ghost use Rattle.mg_objects.specs.Held.{AreApart, IsLowestFree, MeetsNone, into_place, objects_in, with_row};
 ghost use Rattle.mg_ranges.specs.Gaps.{AreTaken};
-ghost use Rattle.mg_space.specs.Space.{AreRowsOf, spans_in};
+ghost use Rattle.mg_space.specs.Space.{ArePaid, AreRowsOf, spans_in};
 
-use crate::totals::Totals;
+use crate::paying::{add, bill, subtract};
+use mg_bank::Bank;
 use mg_model::ObjRow;
 use mg_model::limits::PAGE_SIZE;
 use mg_objects::Objects;
@@ -26,8 +28,6 @@ pub struct Space {
     free: Ranges,
     // How many pages the objects have.
     used: u64,
-    // For how many of them each account pays.
-    totals: Totals,
 }
 
 impl Model for Space {
@@ -39,7 +39,7 @@ impl Model for Space {
 
     ghost view = { λ space. space.objects };
 
-    ghost invariant = { λ space. IsSpace space.objects space.free space.used space.totals };
+    ghost invariant = { λ space. IsSpace space.objects space.free space.used };
 }
 
 impl Space {
@@ -55,12 +55,10 @@ impl Space {
                 let spans = spans(alloc, &objects)?;
                 let free = Ranges::of(alloc, &spans)?;
                 let used = pages_of(&objects);
-                let totals = Totals::of(alloc, &objects)?;
                 Ok(Some(Space {
                     objects,
                     free,
                     used,
-                    totals,
                 }))
             }
             None => Ok(None),
@@ -113,11 +111,13 @@ impl Space {
         self.used
     }
 
-    /// For how many pages account n pays: 0 where n is not from 1 to 1,024.
-    pub fn paid_by(&self, n: u64) -> u64
-        ensures { result ≡ sum_by (λ o. o.1.pages) (filter (λ o. o.1.account == n) self.now) }
+    /// Sets in a bank, which has none, for how many pages each account pays.
+    pub fn bill(&self, bank: &mut Bank)
+        requires { (n : ℕ) → pages_at bank.old.pages n ≡ 0 }
+        ensures paid { ArePaid bank.new.pages self.now }
+        ensures accounts { bank.new.accounts ≡ bank.old.accounts }
     {
-        self.totals.get(n)
+        bill(bank, &self.objects);
     }
 
     /// The lowest page from which on so many pages, 1 to 1024, meet no object. All objects have at most 65,536 pages.
@@ -133,51 +133,62 @@ impl Space {
         self.free.first(pages)
     }
 
-    /// One object more, in the lowest place that is free, and gives that place. It shares no page with another.
-    pub fn insert(&mut self, row: ObjRow) -> u64
+    /// One object more, in the lowest place that is free, and gives that place. It shares no page with another. The bank keeps
+    /// for how many pages each account pays.
+    pub fn insert(&mut self, row: ObjRow, bank: &mut Bank) -> u64
         requires fewer_than_4096 { length self.old < object_limit }
         requires apart { MeetsNone row self.old }
+        requires paid { ArePaid bank.old.pages self.old }
         ensures objects { self.new ≡ into_place (result, row) self.old }
         ensures place { IsLowestFree result self.old }
+        ensures paid { ArePaid bank.new.pages self.new }
+        ensures accounts { bank.new.accounts ≡ bank.old.accounts }
     {
         let (first, pages) = span_of(&row);
         let place = self.objects.put(row);
         self.objects.keep_rules();
         self.free.take(first, pages);
         self.used += pages;
-        self.totals.add(&row);
+        add(bank, &row);
         place
     }
 
-    /// The object with this base goes, and its place and its pages are free. It gives that place, and the row.
-    pub fn remove(&mut self, base: u64) -> (u64, ObjRow)
-        requires { list_any (λ o. o.1.base == base) self.old ≡ true }
+    /// The object with this base goes, and its place and its pages are free. It gives that place, and the row. The bank keeps
+    /// for how many pages each account pays.
+    pub fn remove(&mut self, base: u64, bank: &mut Bank) -> (u64, ObjRow)
+        requires there { list_any (λ o. o.1.base == base) self.old ≡ true }
+        requires paid { ArePaid bank.old.pages self.old }
         ensures objects { self.new ≡ filter (λ o. not (o.1.base == base)) self.old }
         ensures gone { find (λ o. o.1.base == base) self.old ≡ Some result }
+        ensures paid { ArePaid bank.new.pages self.new }
+        ensures accounts { bank.new.accounts ≡ bank.old.accounts }
     {
         self.objects.keep_rules();
         let gone = self.objects.take(base);
         let (first, pages) = span_of(&gone.1);
         self.free.give(first, pages);
         self.used -= pages;
-        self.totals.subtract(&gone.1);
+        subtract(bank, &gone.1);
         gone
     }
 
     /// Another row for the object with its base, which has as many pages, perhaps of another payer. It stands in the same
-    /// place, and gives that.
-    pub fn update(&mut self, row: ObjRow) -> u64
+    /// place, and gives that. The bank keeps for how many pages each account pays.
+    pub fn update(&mut self, row: ObjRow, bank: &mut Bank) -> u64
         requires there { list_any (λ o. o.1.base == row.base) self.old ≡ true }
         requires pages { All (λ o. o.1.base ≡ row.base → o.1.pages ≡ row.pages) self.old }
+        requires paid { ArePaid bank.old.pages self.old }
         ensures objects { self.new ≡ with_row row self.old }
         ensures place { Some result ≡ option_map (λ o. o.0) (find (λ o. o.1.base == row.base) self.old) }
+        ensures paid { ArePaid bank.new.pages self.new }
+        ensures accounts { bank.new.accounts ≡ bank.old.accounts }
     {
         self.objects.keep_rules();
         let old = replaced(&self.objects, &row);
         let place = self.objects.replace(row);
         self.objects.keep_rules();
-        self.totals.subtract(&old);
-        self.totals.add(&row);
+        subtract(bank, &old);
+        add(bank, &row);
         place
     }
 }

@@ -1,13 +1,17 @@
 -- The rent is collected.
-use Rattle.std.specs.Prelude.{◌≡◌, ◌+◌, ℕ, Bool, List, [], ◌∷◌, map, sum_by}
-use Rattle.std.proofs.Common.{refl, sym, ap, ◌∙◌}
+use Rattle.std.specs.Prelude.{◌≡◌, ◌≤◌, ◌+◌, ◌==◌, ℕ, Bool, List, [], ◌∷◌, map, sum_by}
+use Rattle.std.proofs.Common.{refl, sym, ap, ◌∙◌, arith}
 use Rattle.std.proofs.lemmas.List.Sums.{sum_by-cons}
+use Rattle.mg_bank.specs.Bank.{pages_at}
 use Rattle.mg_disk.specs.Disk.{Image}
 use Rattle.mg_model.specs.declared.accounts.AccRow.{AccRow}
 use Rattle.mg_model.specs.Bank.{all_charged, all_paid, given_to, rate_now, rate_of, rent_accounts, rent_paid, used}
+use Rattle.mg_model.specs.KeptListLemmas.{sum_by-filter-le}
 use Rattle.mg_model.specs.State.{Counters, Object, ObjectRow, State}
 use Rattle.mg_pages.specs.Held.{PagesHeld}
-use Rattle.mg_space.specs.Space.{AreRowsOf}
+use Rattle.mg_rent.specs.Charging.{ArePagesOf}
+use Rattle.mg_rent.specs.PaidLemmas.{paid-through, row_pages}
+use Rattle.mg_space.specs.Space.{ArePaid, AreRowsOf}
 use Rattle.mg_volume.proofs.AccountsStaged.{accounts_now, with_accounts}
 use Rattle.mg_volume.specs.Held.{VolumeHeld}
 use Rattle.mg_volume.specs.Laws.{now_accounts, now_counters, now_rows, now_settings}
@@ -31,6 +35,18 @@ rate_is v image n is =
 pub objects_are : (v : VolumeHeld) (image : Image) → AreRowsOf (now_of v image).objects v.objects
 unfolding objects_in
 objects_are v image = now_rows v image
+
+-- the pages that a bank keeps are those of such objects
+pub pages-are : (objects : List Object) (rows : List (ℕ × ObjectRow)) (paid : List ℕ) → AreRowsOf objects rows → ArePaid paid rows → ArePagesOf objects paid
+pages-are objects rows paid same are n =
+    are n ∙ sym (paid-through (λ (object : Object). object.row) objects n ∙ ap (λ (bare : List ObjectRow). row_pages bare n) same ∙ sym (paid-through (λ (o : ℕ × ObjectRow). o.1) rows n))
+
+-- and no more than all objects have
+pub few-pages : (rows : List (ℕ × ObjectRow)) (paid : List ℕ) → ArePaid paid rows → sum_by (λ (o : ℕ × ObjectRow). o.1.pages) rows ≤ 65536 → (n : ℕ) → pages_at paid n ≤ 65536
+few-pages rows paid are few n =
+    let is = are n in
+    let part = sum_by-filter-le (λ (o : ℕ × ObjectRow). o.1.account == n) (λ (o : ℕ × ObjectRow). o.1.pages) rows in
+    omega arith
 
 accounts-are : (v : VolumeHeld) (image : Image) → v.accounts ≡ (now_of v image).accounts
 unfolding accounts_in

@@ -18,6 +18,7 @@ use Rattle.mg_model.specs.State.{Counters, ObjectRow, State, Thread, ThreadRow}
 use Rattle.mg_model.specs.Volume.{Is, account_row_bytes, accounts_fit, bound_pages, is_gated, live_rows, object_row_bytes, object_spelled, objects_fit, thread_row_bytes, threads_fit, volume}
 use Rattle.mg_objects.specs.Held.{by_base}
 use Rattle.mg_pages.specs.Meaning as pages
+use Rattle.mg_space.specs.Space.{ArePaid}
 use Rattle.mg_volume.specs.Held.{VolumeHeld}
 
 -- the parts of the state that do not lie in pages
@@ -90,6 +91,11 @@ pub record IsKept (v : VolumeHeld) : Type 0 where
   pub few_threads : length v.threads ≤ thread_rows
   pub inside : list_all (λ page. has_page v page) (bound_pages (pages.table_in v.pages)) ≡ true
   pub debts : All (λ (row : AccRow). row.owed ≤ debt_limit v.counters.period) v.accounts
+
+-- what a volume's value keeps: its parts their rules, and its bank for how many pages each account pays
+pub record IsVolume (v : VolumeHeld) (totals : List ℕ) : Type 0 where
+  pub kept : IsKept v
+  pub paid : ArePaid totals v.objects
 
 -- the image is a volume; what is coming spells the rows and the frame table that are held, and no other row
 pub record Spelled (v : VolumeHeld) (image : Image) : Type 0 where

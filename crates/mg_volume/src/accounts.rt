@@ -1,6 +1,8 @@
 // What a volume stages of its accounts.
-ghost use Rattle.std.specs.Prelude.{List, ◌≡◌, ◌≤◌, ◌<◌, ◌+◌, ◌-◌, ◌*◌, ◌/◌, ◌++◌, ◌∷◌, [], ℕ, is_some, length, true};
+ghost use Rattle.std.specs.Prelude.{List, ◌≡◌, ◌≤◌, ◌<◌, ◌+◌, ◌-◌, ◌*◌, ◌/◌, ◌++◌, ◌∷◌, ◌==◌, [], ℕ, IfOk, MatchResult, None, OnErr, OnOk, Some, false, is_some, length, true};
+ghost use Rattle.mg_bank.specs.Refusals.{opening_refusal, paying_refusal};
 ghost use Rattle.mg_model.specs.Bank.{account_of, all_paid, balance_of, given_to, rate_now, rent_accounts, rent_paid, taken_from};
+ghost use Rattle.mg_model.specs.declared.replies.Refusal.TheVariants.{Calendar};
 ghost use Rattle.mg_model.specs.Limits.{debt_limit, period_limit, step_limit};
 ghost use Rattle.mg_rent.specs.Charging.{OweAtMost};
 ghost use Rattle.mg_volume.specs.Calls.{Stages};
@@ -11,14 +13,16 @@ ghost use Rattle.mg_volume.specs.Staging.{ObjectsStillStaged};
 use crate::account_block::{stage_both, stage_first};
 use crate::volume::Volume;
 use mg_bank::Bank;
+use mg_model::Refusal;
+use mg_rent::{charge_all, may_collect, rate};
 
 // The block of the table that has the row of account n, which is there.
-fn block_of(accounts: &Bank, n: u64) -> u64
-    requires there { is_some (account_of accounts.now n) ≡ true }
+fn block_of(bank: &Bank, n: u64) -> u64
+    requires there { is_some (account_of bank.now.accounts n) ≡ true }
     ensures block { result ≡ (n - 1) / 64 }
     ensures below_16 { result < 16 }
 {
-    match accounts.row(n) {
+    match bank.row(n) {
         Some(_) => (n - 1) / 64,
         None => unreachable!(),
     }
@@ -34,9 +38,56 @@ fn block_count(accounts: u64) -> u64
 }
 
 impl Volume {
-    /// Stages one account more, the last, with this password and with credits of the payer, which is there and has as many.
-    /// There are fewer than 1,024 accounts. At most 158 blocks are staged, and two more at most then.
-    pub fn open_account(&mut self, payer: u64, amount: u64, password: u64)
+    /// Stages one account more, with the password fresh and n credits of account acc, which pw opens; gives its number, the last.
+    /// It owes nothing. The refusals come in this order: no such account, or another password than its own (Account); fewer
+    /// credits than n (Credit); 1,024 accounts (Limit). Nothing changes then. At most 158 blocks are staged, and two more at most
+    /// then.
+    #[tactic(auto, unfolding(crate::specs::Meaning::accounts_in))]
+    pub fn open_account(&mut self, acc: u64, pw: u64, n: u64, fresh: u64) -> Result<u64, Refusal>
+        requires at_most_158_staged { staged_of self.old ≤ 158 }
+        ensures refusal { MatchResult result (λ _. opening_refusal (accounts_in self.old) acc pw n ≡ None) (λ word. opening_refusal (accounts_in self.old) acc pw n ≡ Some word) }
+        ensures number { IfOk result (λ number. number ≡ length (accounts_in self.old) + 1) }
+        ensures now { OnOk result ((image : List (List ℕ)) → now_of self.new image ≡ record (now_of self.old image) { accounts = taken_from (accounts_in self.old) acc n ++ record { password = fresh; balance = n; owed = 0 } ∷ [] }) }
+        ensures rows { OnOk result (objects_in self.new ≡ objects_in self.old) }
+        ensures stages { OnOk result (Stages 2 self.old self.new) }
+        ensures objects { OnOk result (ObjectsStillStaged self.old self.new) }
+        ensures stays { OnErr result (self.new ≡ self.old) }
+    {
+        match self.bank().opening(acc, pw, n) {
+            Some(word) => Err(word),
+            None => {
+                let number = self.account_count() + 1;
+                self.add_account(acc, n, fresh);
+                Ok(number)
+            }
+        }
+    }
+
+    /// Stages that n credits of account acc, which pw opens, go to account to, which may be the same. The refusals come in this
+    /// order: no such account, another password than its own, or no account to pay to (Account); fewer credits than n (Credit).
+    /// Nothing changes then. At most 158 blocks are staged, and two more at most then.
+    #[tactic(auto, unfolding(crate::specs::Meaning::accounts_in))]
+    pub fn pay(&mut self, acc: u64, pw: u64, to: u64, n: u64) -> Result<(), Refusal>
+        requires at_most_158_staged { staged_of self.old ≤ 158 }
+        ensures refusal { MatchResult result (λ _. paying_refusal (accounts_in self.old) acc pw to n ≡ None) (λ word. paying_refusal (accounts_in self.old) acc pw to n ≡ Some word) }
+        ensures now { OnOk result ((image : List (List ℕ)) → now_of self.new image ≡ record (now_of self.old image) { accounts = given_to (taken_from (accounts_in self.old) acc n) to n }) }
+        ensures rows { OnOk result (objects_in self.new ≡ objects_in self.old) }
+        ensures stages { OnOk result (Stages 2 self.old self.new) }
+        ensures objects { OnOk result (ObjectsStillStaged self.old self.new) }
+        ensures stays { OnErr result (self.new ≡ self.old) }
+    {
+        match self.bank().paying(acc, pw, to, n) {
+            Some(word) => Err(word),
+            None => {
+                self.transfer(acc, to, n);
+                Ok(())
+            }
+        }
+    }
+
+    // Stages one account more, the last, with this password and with credits of the payer, which is there and has as many.
+    // There are fewer than 1,024 accounts. At most 158 blocks are staged, and two more at most then.
+    fn add_account(&mut self, payer: u64, amount: u64, password: u64)
         requires payer { is_some (account_of (accounts_in self.old) payer) ≡ true }
         requires enough { amount ≤ balance_of (accounts_in self.old) payer }
         requires fewer_than_1024_accounts { length (accounts_in self.old) < 1024 }
@@ -46,15 +97,15 @@ impl Volume {
         ensures stages { Stages 2 self.old self.new }
         ensures objects { ObjectsStillStaged self.old self.new }
     {
-        let first = block_of(&self.accounts, payer);
-        let count = self.accounts.len();
-        self.accounts.open_account(payer, amount, password);
-        stage_both(&mut self.pages, self.accounts.rows(), first, count / 64);
+        let first = block_of(&self.bank, payer);
+        let count = self.bank.len();
+        self.bank.add_account(payer, amount, password);
+        stage_both(&mut self.pages, self.bank.rows(), first, count / 64);
     }
 
-    /// Stages that credits of one account go to another, which may be the same. Both are there, and the first has as many. At
-    /// most 158 blocks are staged, and two more at most then.
-    pub fn pay(&mut self, from: u64, to: u64, amount: u64)
+    // Stages that credits of one account go to another, which may be the same. Both are there, and the first has as many. At
+    // most 158 blocks are staged, and two more at most then.
+    fn transfer(&mut self, from: u64, to: u64, amount: u64)
         requires from { is_some (account_of (accounts_in self.old) from) ≡ true }
         requires to { is_some (account_of (accounts_in self.old) to) ≡ true }
         requires enough { amount ≤ balance_of (accounts_in self.old) from }
@@ -64,10 +115,10 @@ impl Volume {
         ensures stages { Stages 2 self.old self.new }
         ensures objects { ObjectsStillStaged self.old self.new }
     {
-        let first = block_of(&self.accounts, from);
-        let second = block_of(&self.accounts, to);
-        self.accounts.transfer(from, to, amount);
-        stage_both(&mut self.pages, self.accounts.rows(), first, second);
+        let first = block_of(&self.bank, from);
+        let second = block_of(&self.bank, to);
+        self.bank.transfer(from, to, amount);
+        stage_both(&mut self.pages, self.bank.rows(), first, second);
     }
 
     /// The rate of the rent now: credits for each page of an account and period, at most `2^20`.
@@ -75,13 +126,33 @@ impl Volume {
         ensures rate { (image : List (List ℕ)) → result ≡ rate_now (now_of self.now image) }
         ensures at_most_step_limit { result ≤ step_limit }
     {
-        mg_rent::rate(&self.params().tariff(), self.used())
+        rate(&self.params().tariff(), self.used())
     }
 
     /// Begins the next period and stages its rent: each account pays for its pages what it can, with what it owes already, and
-    /// owes the rest; account 1 receives the sum, which is the answer. The period is below `2^24 - 1`. At most 143 blocks are
-    /// staged, and 17 more at most then.
-    pub fn collect(&mut self) -> u64
+    /// owes the rest; account 1 receives the sum, which is the answer. In the last period, `2^24 - 1`, it is refused (Calendar), and
+    /// nothing changes. At most 143 blocks are staged, and 17 more at most then.
+    pub fn collect(&mut self) -> Result<u64, Refusal>
+        requires at_most_143_staged { staged_of self.old ≤ 143 }
+        ensures refusal { MatchResult result (λ _. ((counters_in self.old).period == period_limit) ≡ false) (λ word. (word ≡ Calendar) × (((counters_in self.old).period == period_limit) ≡ true)) }
+        ensures now { OnOk result ((image : List (List ℕ)) → now_of self.new image ≡ record (now_of self.old image) { counters = record (counters_in self.old) { period = (counters_in self.old).period + 1 }; accounts = rent_accounts (now_of self.old image) }) }
+        ensures paid { IfOk result (λ paid. (image : List (List ℕ)) → paid ≡ rent_paid (now_of self.old image)) }
+        ensures rows { OnOk result (objects_in self.new ≡ objects_in self.old) }
+        ensures stages { OnOk result (Stages 17 self.old self.new) }
+        ensures objects { OnOk result (ObjectsStillStaged self.old self.new) }
+        ensures stays { OnErr result (self.new ≡ self.old) }
+    {
+        let globals = self.globals();
+        // It tells that the period is not above the last.
+        globals.keep_rules();
+        may_collect(globals.period())?;
+        Ok(self.begin_period())
+    }
+
+    // Begins the next period and stages its rent: each account pays for its pages what it can, with what it owes already, and
+    // owes the rest; account 1 receives the sum, which is the answer. The period is below `2^24 - 1`. At most 143 blocks are
+    // staged, and 17 more at most then.
+    fn begin_period(&mut self) -> u64
         requires before { (counters_in self.old).period < period_limit }
         requires at_most_143_staged { staged_of self.old ≤ 143 }
         ensures now { (image : List (List ℕ)) → now_of self.new image ≡ record (now_of self.old image) { counters = record (counters_in self.old) { period = (counters_in self.old).period + 1 }; accounts = rent_accounts (now_of self.old image) } }
@@ -102,7 +173,7 @@ impl Volume {
     fn debts_are_kept(&self)
         ensures { OweAtMost (debt_limit (counters_in self.now).period) (accounts_in self.now) }
     {
-        let _count = self.accounts.len();
+        let _count = self.bank.len();
     }
 
     // Stages the accounts after a collection at this rate, for a period that has begun, and gives the sum that was paid. None owes
@@ -121,10 +192,10 @@ impl Volume {
         // They tell that the period and the frames are in their ranges.
         let _draws = self.globals.draws();
         let _frames = self.params.frames();
-        let count = self.accounts.len();
-        let paid = mg_rent::collect(&mut self.accounts, &self.objects, rate);
+        let count = self.bank.len();
+        let paid = charge_all(&mut self.bank, rate);
         let blocks = block_count(count);
-        stage_first(&mut self.pages, self.accounts.rows(), blocks);
+        stage_first(&mut self.pages, self.bank.rows(), blocks);
         paid
     }
 }

@@ -43,7 +43,7 @@ impl Volume {
         ensures { (image : List (List ℕ)) → AreBytes image → IsSpelledBy self.now image → staged_of self.now ≡ 0 → is_sound (now_of self.now image) ≡ true → IsWellFormed (now_of self.now image) }
     {
         settings_keep_rules(&self.params);
-        accounts_keep_rules(self.accounts.rows());
+        accounts_keep_rules(self.bank.rows());
         self.threads.keep_rules();
         let _draws = self.globals.draws();
     }

@@ -4,20 +4,30 @@ ghost use Rattle.std.specs.List.{list_any};
 ghost use Rattle.mg_model.specs.Layout.{body_limit};
 ghost use Rattle.mg_model.specs.Objects.{page_of};
 ghost use Rattle.mg_pages.specs.Meaning.{IsSpelledBy, Releases, SameShape, StagesMore, Unbinds, staged_of, table_in, words_in};
+ghost use Rattle.mg_space.specs.Space.{ArePaid};
 ghost use Rattle.mg_volume.specs.StagesRows.{StagesRows};
 
 use crate::object_block::stage_row;
+use mg_bank::Bank;
 use mg_model::ObjRow;
 use mg_model::limits::PAGE_SIZE;
 use mg_pages::Pages;
 use mg_space::Space;
 
 /// Takes the object with this base out, and stages that its row is free. It gives that row, with its place.
-pub(crate) fn take_object(objects: &mut Space, pages: &mut Pages, base: u64) -> (u64, ObjRow)
+pub(crate) fn take_object(
+    objects: &mut Space,
+    bank: &mut Bank,
+    pages: &mut Pages,
+    base: u64,
+) -> (u64, ObjRow)
     requires there { list_any (λ o. o.1.base == base) objects.old ≡ true }
+    requires paid { ArePaid bank.old.pages objects.old }
     requires fewer_than_160_staged { staged_of pages.old < body_limit }
     ensures taken { find (λ o. o.1.base == base) objects.old ≡ Some result }
     ensures objects { objects.new ≡ filter (λ o. not (o.1.base == base)) objects.old }
+    ensures paid { ArePaid bank.new.pages objects.new }
+    ensures accounts { bank.new.accounts ≡ bank.old.accounts }
     ensures rows { StagesRows objects.new result.0 pages.old pages.new }
     ensures table { table_in pages.new ≡ table_in pages.old }
     ensures shape { SameShape pages.old pages.new }
@@ -27,7 +37,7 @@ pub(crate) fn take_object(objects: &mut Space, pages: &mut Pages, base: u64) -> 
 {
     // It tells that each place is one of the table.
     let _count = objects.len();
-    let taken = objects.remove(base);
+    let taken = objects.remove(base, bank);
     stage_row(pages, objects, taken.0);
     taken
 }

@@ -35,7 +35,7 @@ impl Volume {
     {
         // It tells that the row keeps its ranges.
         let _base = row.base();
-        let place = self.objects.update(row);
+        let place = self.objects.update(row, &mut self.bank);
         stage_row(&mut self.pages, &self.objects, place);
     }
 
@@ -53,7 +53,7 @@ impl Volume {
     {
         // It tells that the row keeps its ranges.
         let _base = row.base();
-        let place = self.objects.insert(row);
+        let place = self.objects.insert(row, &mut self.bank);
         stage_row(&mut self.pages, &self.objects, place);
     }
 
@@ -67,7 +67,7 @@ impl Volume {
         ensures stages { Stages 129 self.old self.new }
         ensures objects { ObjectsStillStaged self.old self.new }
     {
-        let taken = take_object(&mut self.objects, &mut self.pages, base);
+        let taken = take_object(&mut self.objects, &mut self.bank, &mut self.pages, base);
         release_object(&mut self.pages, &taken.1);
     }
 }

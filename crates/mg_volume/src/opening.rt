@@ -1,16 +1,18 @@
 // Opening a volume whose rows were read: its journal, and then its frame table.
 ghost use Rattle.std.specs.Prelude.{List, ℕ, ◌≡◌, ◌≢◌, ◌≤◌, true, IfOk, IfSome, IsSomeAnd, IsTrue, length, vec_capacity};
 ghost use Rattle.std.specs.Option.{ForSome};
+ghost use Rattle.mg_bank.specs.Bank.{credits_of};
 ghost use Rattle.mg_check.specs.RowsRead.{AreKept, ArePlaced, IsReadAs};
 ghost use Rattle.mg_disk.specs.Stops.{DiskCallsBy, Leaves, NothingPending};
 ghost use Rattle.mg_journal.specs.Contents.{SameContents};
 ghost use Rattle.mg_journal.specs.Looked.{Fits};
 ghost use Rattle.mg_model.specs.Layout.{thread_rows, total_blocks};
-ghost use Rattle.mg_model.specs.Limits.{object_limit};
+ghost use Rattle.mg_model.specs.Limits.{account_limit, credit_limit, object_limit};
 ghost use Rattle.mg_model.specs.Tests.{all_distinct};
 ghost use Rattle.mg_model.specs.Volume.{bound_pages, volume};
 ghost use Rattle.mg_objects.specs.Held.{AreApart, objects_in};
 ghost use Rattle.mg_pages.specs.Meaning.{store_of};
+ghost use Rattle.mg_space.specs.Space.{ArePaid};
 ghost use Rattle.mg_volume.specs.Meaning.{StandsOn, is_live, is_sound, now_of, staged_of};
 ghost use Rattle.mg_volume.specs.Numbered.{numbered};
 ghost use Rattle.mg_volume.specs.Opening.{Opens};
@@ -23,7 +25,7 @@ use mg_check::{OpenFault, VolumeRows};
 use mg_disk::Disk;
 use mg_faults::Failed;
 use mg_journal::{Store, View};
-use mg_model::{ObjRow, ThrRow};
+use mg_model::{AccRow, ObjRow, ThrRow};
 use mg_pages::Pages;
 use mg_space::Space;
 use std::alloc::Global;
@@ -32,7 +34,7 @@ use std::alloc::Global;
 #[derive(Drop)]
 struct Lists {
     objects: Space,
-    accounts: Bank,
+    bank: Bank,
     threads: Threads,
 }
 
@@ -41,26 +43,37 @@ fn lists_of(
     alloc: Global,
     table: Vec<Option<ObjRow>>,
     rows: Vec<(u64, ThrRow)>,
-    accounts: Bank,
+    accounts: Vec<AccRow>,
 ) -> Option<Lists>
     requires at_most_4096_rows { length table.items ≤ object_limit }
     requires has_capacity { object_limit ≤ vec_capacity table }
     requires apart { AreApart (objects_in table.items) }
     requires placed { ArePlaced thread_rows rows.items }
+    requires at_most_1024_accounts { length accounts.items ≤ account_limit }
+    requires has_account_capacity { account_limit ≤ vec_capacity accounts }
+    requires credits { credits_of accounts.items ≤ credit_limit }
     ensures objects { IfSome result (λ lists. lists.objects ≡ objects_in table.items) }
-    ensures accounts { IfSome result (λ lists. lists.accounts ≡ accounts) }
+    ensures accounts { IfSome result (λ lists. lists.bank.accounts ≡ accounts.items) }
+    ensures paid { IfSome result (λ lists. ArePaid lists.bank.pages lists.objects) }
     ensures threads { IfSome result (λ lists. lists.threads ≡ numbered rows.items) }
 {
     let threads = match Threads::of(alloc, &rows) {
         Ok(threads) => threads,
         Err(_) => return None,
     };
+    let mut bank = match Bank::of(alloc, accounts) {
+        Ok(bank) => bank,
+        Err(_) => return None,
+    };
     match Space::of(alloc, table) {
-        Ok(Some(objects)) => Some(Lists {
-            objects,
-            accounts,
-            threads,
-        }),
+        Ok(Some(objects)) => {
+            objects.bill(&mut bank);
+            Some(Lists {
+                objects,
+                bank,
+                threads,
+            })
+        }
         Ok(None) => unreachable!(),
         Err(_) => None,
     }
@@ -124,8 +137,7 @@ pub(crate) fn open_rows<D: Disk>(
 {
     // It tells that the credits are in their range.
     let _credits = rows.params.credits();
-    let accounts = Bank::of(rows.accounts);
-    let lists = match lists_of(alloc, rows.objects, rows.threads, accounts) {
+    let lists = match lists_of(alloc, rows.objects, rows.threads, rows.accounts) {
         Some(lists) => lists,
         None => return Err(OpenFault::Memory),
     };
@@ -134,7 +146,7 @@ pub(crate) fn open_rows<D: Disk>(
             params: rows.params,
             globals: rows.globals,
             objects: lists.objects,
-            accounts: lists.accounts,
+            bank: lists.bank,
             threads: lists.threads,
             pages,
         }),

@@ -2,6 +2,7 @@
 ghost use Rattle.std.specs.Prelude.{List, ◌≡◌, ◌≤◌, ◌<◌, ◌+◌, ◌-◌, ◌*◌, ◌==◌, ◌||◌, ℕ, true, false, nat_le, IfOk, IfSome, IsTrue, MatchOption, None, Some, filter, find, length, option_map, slice_get, sum_by};
 ghost use Rattle.std.specs.List.{list_all};
 ghost use Rattle.std.specs.Option.{ForSome};
+ghost use Rattle.mg_bank.specs.Bank.{pages_at};
 ghost use Rattle.mg_disk.specs.Stops.{DiskCallsBy, Leaves, NothingPending, WritesNothing};
 ghost use Rattle.mg_model.specs.Access.{covers};
 ghost use Rattle.mg_model.specs.Bank.{account_of, balance_of, opens, owed_by};
@@ -34,7 +35,7 @@ pub struct Volume {
     pub(crate) params: Params,
     pub(crate) globals: Globals,
     pub(crate) objects: Space,
-    pub(crate) accounts: Bank,
+    pub(crate) bank: Bank,
     pub(crate) threads: Threads,
     pub(crate) pages: Pages,
 }
@@ -44,11 +45,11 @@ impl Model for Volume {
 
     ghost Value = { VolumeHeld };
 
-    ghost use Rattle.mg_volume.specs.Meaning.{IsKept};
+    ghost use Rattle.mg_volume.specs.Meaning.{IsVolume};
 
-    ghost view = { λ v. record { settings = v.params; counters = v.globals; objects = v.objects; accounts = v.accounts; threads = v.threads; pages = v.pages } };
+    ghost view = { λ v. record { settings = v.params; counters = v.globals; objects = v.objects; accounts = v.bank.accounts; threads = v.threads; pages = v.pages } };
 
-    ghost invariant = { λ v. IsKept (record { settings = v.params; counters = v.globals; objects = v.objects; accounts = v.accounts; threads = v.threads; pages = v.pages }) };
+    ghost invariant = { λ v. IsVolume (record { settings = v.params; counters = v.globals; objects = v.objects; accounts = v.bank.accounts; threads = v.threads; pages = v.pages }) v.bank.pages };
 }
 
 impl Volume {
@@ -144,7 +145,7 @@ impl Volume {
     pub fn paid_by(&self, n: u64) -> u64
         ensures { result ≡ sum_by (λ row. row.pages) (filter (λ row. row.account == n) (objects_in self.now)) }
     {
-        self.objects.paid_by(n)
+        self.bank.pages(n)
     }
 
     /// The lowest page from which on so many pages, 1 to 1024, meet no object.
@@ -159,13 +160,22 @@ impl Volume {
         self.objects.first(pages)
     }
 
+    /// The accounts, and for how many pages each pays.
+    pub fn bank(&self) -> &Bank
+        ensures accounts { result.now.accounts ≡ accounts_in self.now }
+        ensures pages { (n : ℕ) → pages_at result.now.pages n ≡ sum_by (λ row. row.pages) (filter (λ row. row.account == n) (objects_in self.now)) }
+    {
+        let _objects = &self.objects;
+        &self.bank
+    }
+
     /// Account n, 1 to 1,024.
     #[tactic(auto, unfolding(crate::specs::Meaning::accounts_in))]
     pub fn account(&self, n: u64) -> Option<AccRow>
         ensures found { result ≡ account_of (accounts_in self.now) n }
         ensures within_1_and_1024 { IfSome result (λ _. (1 ≤ n) × (n ≤ 1024)) }
     {
-        self.accounts.row(n)
+        self.bank.row(n)
     }
 
     /// How many accounts there are, 1,024 at most.
@@ -174,7 +184,7 @@ impl Volume {
         ensures count { result ≡ length (accounts_in self.now) }
         ensures at_most_1024 { result ≤ 1024 }
     {
-        self.accounts.len()
+        self.bank.len()
     }
 
     /// Whether this password opens account n. It opens none that is not there.
@@ -184,7 +194,7 @@ impl Volume {
         ensures n_at_least_1 { result ≡ true → 1 ≤ n }
         ensures n_at_most_1024 { result ≡ true → n ≤ 1024 }
     {
-        self.accounts.opens(n, password)
+        self.bank.opens(n, password)
     }
 
     /// The credits of account n, 0 where it is not there.
@@ -192,7 +202,7 @@ impl Volume {
     pub fn balance_of(&self, n: u64) -> u64
         ensures { result ≡ balance_of (accounts_in self.now) n }
     {
-        self.accounts.balance_of(n)
+        self.bank.balance_of(n)
     }
 
     /// What account n owes in rent, 0 where it is not there.
@@ -200,7 +210,7 @@ impl Volume {
     pub fn owed_by(&self, n: u64) -> u64
         ensures { result ≡ owed_by (accounts_in self.now) n }
     {
-        self.accounts.owed_by(n)
+        self.bank.owed_by(n)
     }
 
     /// The thread with this number, 1 to 256.

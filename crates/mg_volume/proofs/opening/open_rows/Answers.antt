@@ -11,8 +11,8 @@ use Rattle.mg_volume.specs.Opening.{Opens}
 use Rattle.mg_volume.proofs.Opened.{ArePages, apart_is, credits_is, distinct_is, held_is, leaves_still, live_is, made_is, opens_now, same_objects, sound_is, staged_none, stands_now}
 use Rattle.mg_volume.proofs.opening.open_rows.Goals as goal
 
-pub of-accounts-requires-clause-credits : goal.of-accounts-requires-clause-credits
-of-accounts-requires-clause-credits g c =
+pub lists_of-requires-clause-credits : goal.lists_of-requires-clause-credits
+lists_of-requires-clause-credits g c =
     let sum = credits_is c.args.rows c.requires.kept in
     let credits = c.credits-credits.ensures in
     omega (arith, credits.value, credits.at_most_2_62)
@@ -29,10 +29,10 @@ invariant_of-result g c =
     let p = c.in-Ok.pages in
     let l = c.in-Some.lists in
     let held = c.in-Some.ensures in
-    let made = made_is rows p l.objects l.accounts l.threads (held.objects ∙ same_objects rows) (held.accounts ∙ c.of-accounts.ensures) held.threads in
+    let made = made_is rows p l.objects l.bank.accounts l.threads (held.objects ∙ same_objects rows) held.accounts held.threads in
     let said = c.in-Ok.ensures.opened in
     let P : VolumeHeld → Type 0 = λ v. IsKept v in
-    subst P (sym made) (held_is rows c.requires.kept p said.table said.frames)
+    record { kept = subst P (sym made) (held_is rows c.requires.kept p said.table said.frames); paid = held.paid }
 
 pub returns-in-Ok-clause-opens : goal.returns-in-Ok-clause-opens
 returns-in-Ok-clause-opens g c =
@@ -40,7 +40,7 @@ returns-in-Ok-clause-opens g c =
     let p = c.in-Ok.pages in
     let l = c.in-Some.lists in
     let held = c.in-Some.ensures in
-    let made = made_is rows p l.objects l.accounts l.threads (held.objects ∙ same_objects rows) (held.accounts ∙ c.of-accounts.ensures) held.threads in
+    let made = made_is rows p l.objects l.bank.accounts l.threads (held.objects ∙ same_objects rows) held.accounts held.threads in
     let said = c.in-Ok.ensures.opened in
     let same = c.requires.total in
     let are : ArePages rows (store_of p) p = record { store_is = refl; total = said.total ∙ same; frames = said.frames; table = said.table; coming = said.coming; spelled = said.spelled } in
@@ -53,7 +53,7 @@ returns-in-Ok-clause-stands g c =
     let p = c.in-Ok.pages in
     let l = c.in-Some.lists in
     let held = c.in-Some.ensures in
-    let made = made_is rows p l.objects l.accounts l.threads (held.objects ∙ same_objects rows) (held.accounts ∙ c.of-accounts.ensures) held.threads in
+    let made = made_is rows p l.objects l.bank.accounts l.threads (held.objects ∙ same_objects rows) held.accounts held.threads in
     let said = c.in-Ok.ensures.opened in
     let same = c.requires.total in
     let are : ArePages rows (store_of p) p = record { store_is = refl; total = said.total ∙ same; frames = said.frames; table = said.table; coming = said.coming; spelled = said.spelled } in
@@ -66,7 +66,7 @@ returns-in-Ok-clause-sound g c =
     let p = c.in-Ok.pages in
     let l = c.in-Some.lists in
     let held = c.in-Some.ensures in
-    let made = made_is rows p l.objects l.accounts l.threads (held.objects ∙ same_objects rows) (held.accounts ∙ c.of-accounts.ensures) held.threads in
+    let made = made_is rows p l.objects l.bank.accounts l.threads (held.objects ∙ same_objects rows) held.accounts held.threads in
     let said = c.in-Ok.ensures.opened in
     let P : VolumeHeld → Type 0 = λ v. (image : Image) → is_sound (now_of v image) ≡ true in
     subst P (sym made) (sound_is rows c.requires.kept p said.table said.frames)
@@ -77,7 +77,7 @@ returns-in-Ok-clause-staged g c =
     let p = c.in-Ok.pages in
     let l = c.in-Some.lists in
     let held = c.in-Some.ensures in
-    let made = made_is rows p l.objects l.accounts l.threads (held.objects ∙ same_objects rows) (held.accounts ∙ c.of-accounts.ensures) held.threads in
+    let made = made_is rows p l.objects l.bank.accounts l.threads (held.objects ∙ same_objects rows) held.accounts held.threads in
     let said = c.in-Ok.ensures.opened in
     ap staged_of made ∙ staged_none rows p said.staged
 
@@ -87,7 +87,7 @@ returns-in-Ok-clause-live g c =
     let p = c.in-Ok.pages in
     let l = c.in-Some.lists in
     let held = c.in-Some.ensures in
-    let made = made_is rows p l.objects l.accounts l.threads (held.objects ∙ same_objects rows) (held.accounts ∙ c.of-accounts.ensures) held.threads in
+    let made = made_is rows p l.objects l.bank.accounts l.threads (held.objects ∙ same_objects rows) held.accounts held.threads in
     let said = c.in-Ok.ensures.opened in
     ap is_live made ∙ live_is rows p said.live
 

@@ -33,7 +33,8 @@ add-requires c =
     let more = paid-between (c.put-place.result, c.args.row) c.self.inside.objects objects (between (c.put-place.result, c.args.row) c.self.inside.objects objects c.put-place.ensures.objects) payer in
     let few = paid-few payer objects in
     let own = share-own c.args.row in
-    let total = c.self.invariant.paid payer in
+    let paid = rw (← c.self.view_is) at c.requires.paid in
+    let total = paid payer in
     omega arith
 
 pub invariant_of-self : goal.invariant_of-self
@@ -46,6 +47,11 @@ invariant_of-self c =
     record {
       free = taken-now (c.put-place.result, c.args.row) c.self.inside.objects objects (between (c.put-place.result, c.args.row) c.self.inside.objects objects c.put-place.ensures.objects) c.span_of-first.result c.span_of-first.ensures.span c.self.inside.free c.take.new.self c.self.invariant.free taken c.take.ensures;
       total = omega arith;
-      paid = λ n. c.add.ensures n ∙ ap (λ paid. paid + share c.args.row n) (c.self.invariant.paid n)
-          ∙ sym (paid-between (c.put-place.result, c.args.row) c.self.inside.objects objects (between (c.put-place.result, c.args.row) c.self.inside.objects objects c.put-place.ensures.objects) n);
     }
+
+pub returns-clause-paid : goal.returns-clause-paid
+returns-clause-paid c =
+    let was = rw (← c.self.view_is) at c.requires.paid in
+    let objects = c.put-place.new.self in
+    λ n.
+    c.add.ensures.pages n ∙ ap (λ paid. paid + share c.args.row n) (was n) ∙ sym (paid-between (c.put-place.result, c.args.row) c.self.inside.objects objects (between (c.put-place.result, c.args.row) c.self.inside.objects objects c.put-place.ensures.objects) n)

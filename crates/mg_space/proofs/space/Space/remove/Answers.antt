@@ -28,7 +28,8 @@ subtract-requires c =
     let payer = c.take-gone.result.1.account in
     let less = paid-between c.take-gone.result c.take-gone.new.self c.self.inside.objects (between c.args.base c.take-gone.result c.self.inside.objects c.take-gone.new.self c.keep_rules.ensures.apart c.keep_rules.ensures.rows c.take-gone.ensures.gone c.take-gone.ensures.objects) payer in
     let own = share-own c.take-gone.result.1 in
-    let total = c.self.invariant.paid payer in
+    let paid = rw (← c.self.view_is) at c.requires.paid in
+    let total = paid payer in
     omega arith
 
 pub invariant_of-self : goal.invariant_of-self
@@ -39,9 +40,13 @@ invariant_of-self c =
     record {
       free = given-now c.take-gone.result c.take-gone.new.self c.self.inside.objects (between c.args.base c.take-gone.result c.self.inside.objects c.take-gone.new.self c.keep_rules.ensures.apart c.keep_rules.ensures.rows c.take-gone.ensures.gone c.take-gone.ensures.objects) c.span_of-first.result c.span_of-first.ensures.span c.self.inside.free c.give.new.self c.self.invariant.free c.give.ensures;
       total = omega arith;
-      paid = λ n.
-          let more = paid-between c.take-gone.result c.take-gone.new.self c.self.inside.objects (between c.args.base c.take-gone.result c.self.inside.objects c.take-gone.new.self c.keep_rules.ensures.apart c.keep_rules.ensures.rows c.take-gone.ensures.gone c.take-gone.ensures.objects) n in
-          let was = c.self.invariant.paid n in
-          let left = c.subtract.ensures n in
-          omega arith;
     }
+
+pub returns-clause-paid : goal.returns-clause-paid
+returns-clause-paid c =
+    let paid = rw (← c.self.view_is) at c.requires.paid in
+    λ n.
+    let more = paid-between c.take-gone.result c.take-gone.new.self c.self.inside.objects (between c.args.base c.take-gone.result c.self.inside.objects c.take-gone.new.self c.keep_rules.ensures.apart c.keep_rules.ensures.rows c.take-gone.ensures.gone c.take-gone.ensures.objects) n in
+    let was = paid n in
+    let left = c.subtract.ensures.pages n in
+    omega arith

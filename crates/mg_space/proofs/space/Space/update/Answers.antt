@@ -12,7 +12,8 @@ subtract-requires c =
     let change = row-changed c.args.row old c.self.inside.objects c.keep_rules.ensures.apart c.keep_rules.ensures.rows c.replaced-old.ensures payer in
     let was = change.before in
     let own = share-own old in
-    let total = c.self.invariant.paid payer in
+    let paid = rw (← c.self.view_is) at c.requires.paid in
+    let total = paid payer in
     omega arith
 
 pub add-requires : goal.add-requires
@@ -28,8 +29,9 @@ add-requires c =
     let few = paid-few payer objects in
     let fits = sum-fits objects c.keep_rules-2.ensures.at_most_4096 c.keep_rules-2.ensures.rows in
     let own = share-own row in
-    let total = c.self.invariant.paid payer in
-    let less = c.subtract.ensures payer in
+    let paid = rw (← c.self.view_is) at c.requires.paid in
+    let total = paid payer in
+    let less = c.subtract.ensures.pages payer in
     omega arith
 
 pub invariant_of-self : goal.invariant_of-self
@@ -47,13 +49,20 @@ invariant_of-self c =
     record {
       free = subst P (sym same) c.self.invariant.free;
       total = omega arith;
-      paid = λ n.
-          let change = row-changed row old objects c.keep_rules.ensures.apart c.keep_rules.ensures.rows c.replaced-old.ensures n in
-          let was = change.before in
-          let now = change.after in
-          let is = ap (paid_by n) c.replace-place.ensures.objects in
-          let total = c.self.invariant.paid n in
-          let less = c.subtract.ensures n in
-          let more = c.add.ensures n in
-          omega arith;
     }
+
+pub returns-clause-paid : goal.returns-clause-paid
+returns-clause-paid c =
+    let row = c.args.row in
+    let old = c.replaced-old.result in
+    let objects = c.self.inside.objects in
+    let paid = rw (← c.self.view_is) at c.requires.paid in
+    λ n.
+    let change = row-changed row old objects c.keep_rules.ensures.apart c.keep_rules.ensures.rows c.replaced-old.ensures n in
+    let was = change.before in
+    let now = change.after in
+    let is = ap (paid_by n) c.replace-place.ensures.objects in
+    let total = paid n in
+    let less = c.subtract.ensures.pages n in
+    let more = c.add.ensures.pages n in
+    omega arith

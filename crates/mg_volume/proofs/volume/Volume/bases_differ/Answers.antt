@@ -3,4 +3,4 @@ use Rattle.mg_volume.specs.contracts.volume.Volume.{the_view}
 use Rattle.mg_volume.proofs.volume.Volume.bases_differ.Goals as goal
 
 pub returns : goal.returns
-returns c = rw (← c.self.view_is) (rows_distinct (the_view c.self.inside) c.self.invariant)
+returns c = rw (← c.self.view_is) (rows_distinct (the_view c.self.inside) c.self.invariant.kept)

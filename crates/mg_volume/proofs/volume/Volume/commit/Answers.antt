@@ -22,7 +22,11 @@ pub commit-requires-clause-stands : goal.commit-requires-clause-stands
 commit-requires-clause-stands g c = pages_stand g.D.Disk (the_view c.self.inside) c.args.disk.now (rw (← c.self.view_is) at c.requires.stands)
 
 pub invariant_of-self : goal.invariant_of-self
-invariant_of-self g c = held_same (the_view c.self.inside) c.commit.new.self c.self.invariant c.commit.ensures.frames c.commit.ensures.table
+invariant_of-self g c = record {
+  kept =
+      held_same (the_view c.self.inside) c.commit.new.self c.self.invariant.kept c.commit.ensures.frames c.commit.ensures.table;
+  paid = c.self.invariant.paid;
+}
 
 pub returns-clause-any_moment : goal.returns-clause-any_moment
 returns-clause-any_moment g c image told =
@@ -34,7 +38,7 @@ returns-clause-any_moment g c image told =
     (λ left. SameContents (pages.total_of c.self.inside.pages) image left ⊎ HasContents (pages.total_of c.self.inside.pages) (pages.coming c.self.inside.pages image) left)
     (λ left. (volume left ≡ volume image) ⊎ (volume left ≡ Is (now_of v image)))
     (c.commit.ensures.any_moment image told)
-    (λ left may. left_volume v image left (stands.fits image told) c.self.invariant (sound image told) may))
+    (λ left may. left_volume v image left (stands.fits image told) c.self.invariant.kept (sound image told) may))
 
 pub returns-clause-done : goal.returns-clause-done
 returns-clause-done g c =
@@ -44,7 +48,7 @@ returns-clause-done g c =
     rw (← c.self.view_is)
     (on_ok_weaker c.commit.result
     (λ all image told.
-    held_now g.D.Disk c.args.disk.now c.commit.new.disk v c.commit.new.self stands c.self.invariant sound all.0.0 all.0.1 c.commit.ensures.total c.commit.ensures.table c.commit.ensures.frames image told (all.1 image told))
+    held_now g.D.Disk c.args.disk.now c.commit.new.disk v c.commit.new.self stands c.self.invariant.kept sound all.0.0 all.0.1 c.commit.ensures.total c.commit.ensures.table c.commit.ensures.frames image told (all.1 image told))
     (on_ok_both _ _ c.commit.result (on_ok_both _ _ c.commit.result c.commit.ensures.stands c.commit.ensures.staged) c.commit.ensures.done))
 
 pub returns-clause-rows : goal.returns-clause-rows
@@ -75,7 +79,7 @@ returns-clause-stands g c =
     let sound = rw (← c.self.view_is) at c.requires.sound in
     on_ok_weaker c.commit.result
     (λ all.
-    stands_now g.D.Disk c.args.disk.now c.commit.new.disk v c.commit.new.self stands c.self.invariant sound all.0.0 all.0.1 c.commit.ensures.total c.commit.ensures.table c.commit.ensures.frames all.1)
+    stands_now g.D.Disk c.args.disk.now c.commit.new.disk v c.commit.new.self stands c.self.invariant.kept sound all.0.0 all.0.1 c.commit.ensures.total c.commit.ensures.table c.commit.ensures.frames all.1)
     (on_ok_both _ _ c.commit.result (on_ok_both _ _ c.commit.result c.commit.ensures.stands c.commit.ensures.staged) c.commit.ensures.came_from)
 
 pub returns-clause-staged : goal.returns-clause-staged

@@ -11,28 +11,31 @@ pub set_word-requires-clause-stands : goal.set_word-requires-clause-stands
 set_word-requires-clause-stands g c = pages_stand g.D.Disk (the_view c.self.inside) c.args.disk.now (rw (← c.self.view_is) at c.requires.stands)
 
 pub set_word-requires-clause-page : goal.set_word-requires-clause-page
-set_word-requires-clause-page g c = some_page (the_view c.self.inside) c.args.page c.self.invariant (rw (← c.self.view_is) at c.requires.page)
+set_word-requires-clause-page g c = some_page (the_view c.self.inside) c.args.page c.self.invariant.kept (rw (← c.self.view_is) at c.requires.page)
 
 pub set_word-requires-clause-frame : goal.set_word-requires-clause-frame
-set_word-requires-clause-frame g c = frame_free (the_view c.self.inside) c.args.page c.self.invariant c.staged-staged.ensures.kept (rw (← c.self.view_is) at c.requires.page)
+set_word-requires-clause-frame g c = frame_free (the_view c.self.inside) c.args.page c.self.invariant.kept c.staged-staged.ensures.kept (rw (← c.self.view_is) at c.requires.page)
 
 pub set_word-requires-clause-at_most_158_staged : goal.set_word-requires-clause-at_most_158_staged
 unfolding staged_of
 set_word-requires-clause-at_most_158_staged g c = rw (← c.self.view_is) at c.requires.at_most_158_staged
 
 pub invariant_of-self : goal.invariant_of-self
-invariant_of-self g c =
-    let v = the_view c.self.inside in
-    let has = rw (← c.self.view_is) at c.requires.page in
-    held_again v c.set_word.new.self c.self.invariant c.set_word.ensures.shape.frames
-    (λ x other is. ⊎_elim (λ this. inl (ap (λ page. has_page v page) this ∙ has)) (λ before. inr before) (c.set_word.ensures.binds x is))
+invariant_of-self g c = record {
+  kept =
+      let v = the_view c.self.inside in
+      let has = rw (← c.self.view_is) at c.requires.page in
+      held_again v c.set_word.new.self c.self.invariant.kept c.set_word.ensures.shape.frames
+      (λ x other is. ⊎_elim (λ this. inl (ap (λ page. has_page v page) this ∙ has)) (λ before. inr before) (c.set_word.ensures.binds x is));
+  paid = c.self.invariant.paid;
+}
 
 pub returns-clause-sets : goal.returns-clause-sets
 returns-clause-sets g c =
     let v = the_view c.self.inside in
     rw (← c.self.view_is)
     (on_ok_weaker c.set_word.result
-    (λ sets image told. word_set v c.set_word.new.self image c.args.page c.args.index c.args.value c.self.invariant c.requires.index c.set_word.ensures.shape.frames (sets image told))
+    (λ sets image told. word_set v c.set_word.new.self image c.args.page c.args.index c.args.value c.self.invariant.kept c.requires.index c.set_word.ensures.shape.frames (sets image told))
     c.set_word.ensures.sets)
 
 pub returns-clause-failed : goal.returns-clause-failed

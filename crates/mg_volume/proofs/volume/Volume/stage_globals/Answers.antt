@@ -17,9 +17,12 @@ unfolding counters_in
 later v n is = is
 
 pub invariant_of-self : goal.invariant_of-self
-invariant_of-self c =
-    let v = the_view c.self.inside in
-    held_same (record v { counters = c.args.g }) c.stage.new.self (held_counters v c.args.g (later v c.args.g.period (rw (← c.self.view_is) at c.requires.period)) c.self.invariant) c.stage.ensures.shape.frames c.stage.ensures.table
+invariant_of-self c = record {
+  kept =
+      let v = the_view c.self.inside in
+      held_same (record v { counters = c.args.g }) c.stage.new.self (held_counters v c.args.g (later v c.args.g.period (rw (← c.self.view_is) at c.requires.period)) c.self.invariant.kept) c.stage.ensures.shape.frames c.stage.ensures.table;
+  paid = c.self.invariant.paid;
+}
 
 pub returns-clause-now : goal.returns-clause-now
 returns-clause-now c image =

@@ -12,9 +12,12 @@ pub stage-requires-clause-staged_or_fewer_than_160 : goal.stage-requires-clause-
 stage-requires-clause-staged_or_fewer_than_160 c = thread_room (the_view c.self.inside) c.args.t (rw (← c.self.view_is) at c.requires.staged_or_fewer_than_160)
 
 pub invariant_of-self : goal.invariant_of-self
-invariant_of-self c =
-    let v = the_view c.self.inside in
-    held_same (record v { threads = c.put.new.self }) c.stage.new.self (held_threads v c.put.new.self c.self.invariant c.keep_rules.ensures.at_most_256) c.stage.ensures.shape.frames c.stage.ensures.table
+invariant_of-self c = record {
+  kept =
+      let v = the_view c.self.inside in
+      held_same (record v { threads = c.put.new.self }) c.stage.new.self (held_threads v c.put.new.self c.self.invariant.kept c.keep_rules.ensures.at_most_256) c.stage.ensures.shape.frames c.stage.ensures.table;
+  paid = c.self.invariant.paid;
+}
 
 pub returns-clause-now : goal.returns-clause-now
 returns-clause-now c image =

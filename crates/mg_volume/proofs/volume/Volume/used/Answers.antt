@@ -10,4 +10,4 @@ returns-clause-used c = rw (← c.self.view_is) (c.used.ensures ∙ sum_bare (λ
 
 pub returns-clause-fit : goal.returns-clause-fit
 unfolding settings_in
-returns-clause-fit c = rw (← c.self.view_is) (let fit = c.self.invariant.used in omega (arith, c.used.ensures))
+returns-clause-fit c = rw (← c.self.view_is) (let fit = c.self.invariant.kept.used in omega (arith, c.used.ensures))

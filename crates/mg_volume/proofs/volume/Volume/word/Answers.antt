@@ -17,10 +17,14 @@ pub word-requires-clause-stands : goal.word-requires-clause-stands
 word-requires-clause-stands g c = pages_stand g.D.Disk (the_view c.self.inside) c.args.disk.now (rw (← c.self.view_is) at c.requires.stands)
 
 pub word-requires-clause-page : goal.word-requires-clause-page
-word-requires-clause-page g c = some_page (the_view c.self.inside) c.args.page c.self.invariant (rw (← c.self.view_is) at c.requires.page)
+word-requires-clause-page g c = some_page (the_view c.self.inside) c.args.page c.self.invariant.kept (rw (← c.self.view_is) at c.requires.page)
 
 pub invariant_of-self : goal.invariant_of-self
-invariant_of-self g c = held_same (the_view c.self.inside) c.word.new.self c.self.invariant c.word.ensures.keeps.shape.frames c.word.ensures.keeps.table
+invariant_of-self g c = record {
+  kept =
+      held_same (the_view c.self.inside) c.word.new.self c.self.invariant.kept c.word.ensures.keeps.shape.frames c.word.ensures.keeps.table;
+  paid = c.self.invariant.paid;
+}
 
 pub returns-clause-word : goal.returns-clause-word
 returns-clause-word g c =
@@ -29,7 +33,7 @@ returns-clause-word g c =
     (IfOk-weaker c.word.result
     (λ word. ForSome (g.D.Disk.seen c.args.disk.now) (λ image. word ≡ slice_index (pages.page_now c.self.inside.pages image c.args.page) c.args.index))
     (λ word. ForSome (g.D.Disk.seen c.args.disk.now) (λ image. word ≡ word_at (now_of v image).objects (4096 * c.args.page + 8 * c.args.index)))
-    (λ word is image told. is image told ∙ word_now v image c.args.page c.args.index c.self.invariant (rw (← c.self.view_is) at c.requires.page) c.requires.index)
+    (λ word is image told. is image told ∙ word_now v image c.args.page c.args.index c.self.invariant.kept (rw (← c.self.view_is) at c.requires.page) c.requires.index)
     c.word.ensures.word)
 
 pub returns-clause-reads : goal.returns-clause-reads

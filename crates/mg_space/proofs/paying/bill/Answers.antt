@@ -4,7 +4,7 @@ use Rattle.mg_model.specs.State.{ObjectRow}
 use Rattle.mg_space.specs.Space.{share}
 use Rattle.mg_space.proofs.Paid.{paid-few, paid-more}
 use Rattle.mg_space.proofs.Spans.{sum-part}
-use Rattle.mg_space.proofs.totals.Totals.of.Goals as goal
+use Rattle.mg_space.proofs.paying.bill.Goals as goal
 
 pub add-requires : goal.add-requires
 add-requires c =
@@ -15,7 +15,7 @@ add-requires c =
     let under : i < length objects = omega (arith, c.loop-i-test.true) in
     let few = paid-few row.account (take i objects) in
     let part = sum-part objects i (omega arith) (omega (arith, c.len-i-end.ensures.at_most_4096)) c.len-i-end.ensures.rows in
-    let total = c.loop-i.invariant row.account in
+    let total = c.loop-i.invariant.pages row.account in
     let d : ℕ × ObjectRow = (0, no_row) in
     let own = (c.len-i-end.ensures.rows i d under).place.few in
     let pages = ap (λ (r : ObjectRow). r.pages) (c.nth_ref.ensures d) in
@@ -23,10 +23,12 @@ add-requires c =
 
 pub loop-i-preserved : goal.loop-i-preserved
 loop-i-preserved c =
-    λ n.
     let objects = c.args.objects.now in
     let i = c.loop-i.i in
     let d : ℕ × ObjectRow = (0, no_row) in
     let e = c.len-i-end.ensures.count in
     let under : i < length objects = omega (arith, c.loop-i-test.true) in
-    c.add.ensures n ∙ ap (λ paid. paid + share c.nth_ref.result.now n) (c.loop-i.invariant n) ∙ sym (paid-more objects i d c.nth_ref.result.now under (c.nth_ref.ensures d) n)
+    record {
+      pages = λ n. c.add.ensures.pages n ∙ ap (λ paid. paid + share c.nth_ref.result.now n) (c.loop-i.invariant.pages n) ∙ sym (paid-more objects i d c.nth_ref.result.now under (c.nth_ref.ensures d) n);
+      accounts = c.add.ensures.accounts ∙ c.loop-i.invariant.accounts;
+    }

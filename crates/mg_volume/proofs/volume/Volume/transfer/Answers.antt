@@ -1,5 +1,6 @@
-use Rattle.std.proofs.Common.{◌≤◌, length, refl, subst, arith}
+use Rattle.std.proofs.Common.{◌≤◌, ◌∙◌, ap, length, refl, subst, arith}
 use Rattle.std.specs.Prelude.{List}
+use Rattle.mg_bank.specs.Bank.{pages_at}
 use Rattle.mg_model.specs.Layout.{account_rows}
 use Rattle.mg_model.specs.declared.accounts.AccRow.{AccRow}
 use Rattle.mg_volume.proofs.AccountLists.{are_both, paid_owe, paid_within}
@@ -8,7 +9,7 @@ use Rattle.mg_volume.proofs.StillStaged.{objects_wait}
 use Rattle.mg_volume.specs.Meaning.{accounts_in, staged_of}
 use Rattle.mg_volume.specs.StagesAccounts.{DifferWithin, StagesAccounts}
 use Rattle.mg_volume.specs.contracts.volume.Volume.{the_view}
-use Rattle.mg_volume.proofs.volume.Volume.pay.Goals as goal
+use Rattle.mg_volume.proofs.volume.Volume.transfer.Goals as goal
 
 pub block_of-first-requires : goal.block_of-first-requires
 unfolding accounts_in
@@ -34,41 +35,44 @@ pub stage_both-requires-clause-at_most_158_staged : goal.stage_both-requires-cla
 unfolding staged_of
 stage_both-requires-clause-at_most_158_staged c = rw (← c.self.view_is) at c.requires.at_most_158_staged
 
-few : (c : goal.After-stage_both) → length c.transfer.new.self ≤ account_rows
+few : (c : goal.After-stage_both) → length c.transfer.new.self.accounts ≤ account_rows
 few c =
-    let was = c.self.invariant.few_accounts in
+    let was = c.self.invariant.kept.few_accounts in
     let count = c.transfer.ensures.count in
     omega arith
 
-stages : (c : goal.After-stage_both) → StagesAccounts 2 (are_both c.block_of-first.result c.block_of-second.result) c.transfer.new.self c.self.inside.pages c.stage_both.new.pages
+stages : (c : goal.After-stage_both) → StagesAccounts 2 (are_both c.block_of-first.result c.block_of-second.result) c.transfer.new.self.accounts c.self.inside.pages c.stage_both.new.pages
 stages c = subst (λ (l : List AccRow). StagesAccounts 2 (are_both c.block_of-first.result c.block_of-second.result) l c.self.inside.pages c.stage_both.new.pages) c.rows.ensures c.stage_both.ensures
 
-within : (c : goal.After-stage_both) → DifferWithin (are_both c.block_of-first.result c.block_of-second.result) c.self.inside.accounts c.transfer.new.self
+within : (c : goal.After-stage_both) → DifferWithin (are_both c.block_of-first.result c.block_of-second.result) c.self.inside.bank.accounts c.transfer.new.self.accounts
 within c =
-    paid_within c.self.inside.accounts c.transfer.new.self c.args.from c.args.to c.args.amount c.block_of-first.result c.block_of-second.result c.transfer.ensures.accounts c.block_of-first.ensures.block
+    paid_within c.self.inside.bank.accounts c.transfer.new.self.accounts c.args.from c.args.to c.args.amount c.block_of-first.result c.block_of-second.result c.transfer.ensures.accounts c.block_of-first.ensures.block
     c.block_of-second.ensures.block
 
 pub invariant_of-self : goal.invariant_of-self
-invariant_of-self c =
-    let v = the_view c.self.inside in
-    let some = c.self.invariant.some_accounts in
-    let count = c.transfer.ensures.count in
-    accounts_held v c.stage_both.new.pages 2 (are_both c.block_of-first.result c.block_of-second.result) c.transfer.new.self (stages c) (within c) (few c) c.self.invariant (omega arith)
-    (paid_owe _ v.accounts c.transfer.new.self c.args.from c.args.to c.args.amount c.transfer.ensures.accounts c.self.invariant.debts)
+invariant_of-self c = record {
+  kept =
+      let v = the_view c.self.inside in
+      let some = c.self.invariant.kept.some_accounts in
+      let count = c.transfer.ensures.count in
+      accounts_held v c.stage_both.new.pages 2 (are_both c.block_of-first.result c.block_of-second.result) c.transfer.new.self.accounts (stages c) (within c) (few c) c.self.invariant.kept (omega arith)
+      (paid_owe _ v.accounts c.transfer.new.self.accounts c.args.from c.args.to c.args.amount c.transfer.ensures.accounts c.self.invariant.kept.debts);
+  paid = λ n. ap (λ pages. pages_at pages n) c.transfer.ensures.pages ∙ c.self.invariant.paid n;
+}
 
 pub returns-clause-now : goal.returns-clause-now
 unfolding accounts_in
 returns-clause-now c image =
-    rw (← c.self.view_is) (accounts_now (the_view c.self.inside) c.stage_both.new.pages 2 (are_both c.block_of-first.result c.block_of-second.result) c.transfer.new.self (stages c) image _ c.transfer.ensures.accounts)
+    rw (← c.self.view_is) (accounts_now (the_view c.self.inside) c.stage_both.new.pages 2 (are_both c.block_of-first.result c.block_of-second.result) c.transfer.new.self.accounts (stages c) image _ c.transfer.ensures.accounts)
 
 pub returns-clause-rows : goal.returns-clause-rows
-returns-clause-rows c = rw (← c.self.view_is) (accounts_objects (the_view c.self.inside) c.stage_both.new.pages c.transfer.new.self)
+returns-clause-rows c = rw (← c.self.view_is) (accounts_objects (the_view c.self.inside) c.stage_both.new.pages c.transfer.new.self.accounts)
 
 pub returns-clause-stages : goal.returns-clause-stages
 returns-clause-stages c =
-    rw (← c.self.view_is) (accounts_stages (the_view c.self.inside) c.stage_both.new.pages 2 (are_both c.block_of-first.result c.block_of-second.result) c.transfer.new.self (stages c) (within c) (few c))
+    rw (← c.self.view_is) (accounts_stages (the_view c.self.inside) c.stage_both.new.pages 2 (are_both c.block_of-first.result c.block_of-second.result) c.transfer.new.self.accounts (stages c) (within c) (few c))
 
 pub returns-clause-objects : goal.returns-clause-objects
 returns-clause-objects c =
     let v = the_view c.self.inside in
-    rw (← c.self.view_is) (objects_wait v (with_accounts v c.transfer.new.self c.stage_both.new.pages) refl c.stage_both.ensures.staged.still)
+    rw (← c.self.view_is) (objects_wait v (with_accounts v c.transfer.new.self.accounts c.stage_both.new.pages) refl c.stage_both.ensures.staged.still)

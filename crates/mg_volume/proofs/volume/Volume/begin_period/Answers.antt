@@ -6,7 +6,7 @@ use Rattle.mg_model.specs.declared.accounts.AccRow.{AccRow}
 use Rattle.mg_rent.specs.Charging.{OweAtMost}
 use Rattle.mg_volume.proofs.Collected.{collected_now, collected_paid, counters_then, next_counters}
 use Rattle.mg_volume.specs.Meaning.{accounts_in, counters_in, now_of}
-use Rattle.mg_volume.proofs.volume.Volume.collect.Goals as goal
+use Rattle.mg_volume.proofs.volume.Volume.begin_period.Goals as goal
 
 next : (c : goal.After-charge-arg-1) → c.set_period.new.self ≡ record (counters_in c.args.self.now) { period = (counters_in c.args.self.now).period + 1 }
 next c = next_counters c.globals-globals.result (counters_in c.args.self.now) c.set_period.new.self c.period.result c.set_period.ensures c.period.ensures c.globals-globals.ensures
