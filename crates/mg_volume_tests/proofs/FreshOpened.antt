@@ -1,15 +1,16 @@
 -- What is opened is fresh, where what it was opened from is.
-use Rattle.std.specs.Prelude.{◌≡◌, map, IsSomeAnd, Option, Some, None}
+use Rattle.std.specs.Prelude.{◌≡◌, ◌==◌, List, map, IsSomeAnd, Option, Some, None}
+use Rattle.std.specs.List.{list_any}
 use Rattle.std.specs.Option.{ForSome}
 use Rattle.std.proofs.Common.{refl, sym, ap, ◌∙◌}
 use Rattle.mg_disk.specs.Disk.{Image}
 use Rattle.mg_model.specs.Draw.{password_drawn}
 use Rattle.mg_model.specs.Fresh.{fresh}
 use Rattle.mg_model.specs.Settings.{Settings}
-use Rattle.mg_model.specs.State.{Object, State}
+use Rattle.mg_model.specs.State.{Object, State, Thread}
 use Rattle.mg_model.specs.Volume.{Is, VolumeRead, volume}
 use Rattle.mg_volume.specs.Held.{VolumeHeld}
-use Rattle.mg_volume.specs.Laws.{now_rows, now_settings}
+use Rattle.mg_volume.specs.Laws.{now_rows, now_settings, now_threads}
 use Rattle.mg_volume.specs.Meaning.{now_of, staged_of}
 use Rattle.mg_volume.specs.Opening.{Opens}
 use Rattle.mg_volume_tests.specs.Fresh.{IsFresh}
@@ -23,6 +24,7 @@ fresh_opened settings v before told is opens frames staged =
       password = password_drawn settings.seed 0;
       rows = sym (now_rows v opens.holds.image) ∙ ap (λ (s : State). map (λ (object : Object). object.row) s.objects) now;
       frames = ap (λ (s : Settings). s.frames) (sym (now_settings v opens.holds.image) ∙ ap (λ (s : State). s.settings) now) ∙ frames;
+      lives = ap (λ (threads : List Thread). list_any (λ (thread : Thread). thread.number == 1) threads) (sym (now_threads v opens.holds.image) ∙ ap (λ (s : State). s.threads) now);
       staged = staged;
     }
 

@@ -94,7 +94,9 @@ const READ_BEHIND: [Row; 1] = [Row::Loads {
 }];
 
 // Thread 1 empties the root's list.
-const LOCKED_OUT: [Row; 4] = [
+const LOCKED_OUT: [Row; 6] = [
+    Row::Lives(1, true),
+    Row::Lives(2, false),
     Row::Probes(true),
     Row::Store {
         a: ROOT,

@@ -15,8 +15,8 @@ const BASE: u64 = 0x1_0001_0000;
 
 const PAGES: u64 = 3;
 
-// A fresh volume of 64 frames, whose passwords are those of the seed 0.
-fn fresh(alloc: Global) -> Option<Volume>
+/// A fresh volume of 64 frames, whose passwords are those of the seed 0.
+pub(crate) fn fresh(alloc: Global) -> Option<Volume>
     ensures { IfSome result IsFresh }
 {
     let params = Params::new(64, [0; 32], 1000, Tariff::usual(64))?;

@@ -25,6 +25,8 @@ pub(crate) enum Row {
         value: u64,
         words: Option<u64>,
     },
+    /// Whether a thread lives.
+    Lives(u64, bool),
     /// All probes, where thread 1 still has the root or not.
     Probes(bool),
     Commit,
@@ -122,6 +124,7 @@ fn is_right<D: Disk, L: Ledger>(
         Row::Store { a, value, words } => {
             is_stored(kernel, disk, *a, *value, steps) && counts(kernel, *words)
         }
+        Row::Lives(thread, lives) => kernel.lives(*thread) == *lives,
         Row::Probes(are_allowed) => wrong_probe(kernel, disk, *are_allowed, steps).is_none(),
         Row::Commit => is_committed(kernel, disk),
     }
