@@ -1,8 +1,7 @@
 // The blocks of a fresh volume of version 1.
-ghost use Rattle.std.specs.Prelude.{◌≡◌, ◌<◌, ◌≤◌};
+ghost use Rattle.std.specs.Prelude.{◌≡◌, ◌<◌};
 ghost use Rattle.mg_migrate.specs.Fresh1.{fresh1_bytes, objects1_bytes};
 ghost use Rattle.mg_migrate.specs.Layout1.{total1_blocks};
-ghost use Rattle.mg_model.specs.Limits.{most_frames};
 
 use crate::superblock::write_super1;
 use mg_disk::Block;
@@ -18,7 +17,7 @@ pub fn fresh_block1(p: &Params, i: u64, out: &mut Block)
     requires { i < total1_blocks p.now.frames }
     ensures { out.new ≡ fresh1_bytes p.now i }
 {
-    frames_keep_limits(p);
+    p.keep_rules();
     if i == SUPER_BLOCK {
         write_super1(p, out);
     } else if i == FIRST_OBJECT_BLOCK {
@@ -28,13 +27,6 @@ pub fn fresh_block1(p: &Params, i: u64, out: &mut Block)
     } else {
         fresh_block(p, i + (TABLE_BLOCK - TABLE1_BLOCK), out);
     }
-}
-
-// A volume has no more frames than the limit. It does nothing.
-fn frames_keep_limits(p: &Params)
-    ensures { p.now.frames ≤ most_frames }
-{
-    let _frames = p.frames();
 }
 
 // The root object has one page, paid by account 1, and one password.
