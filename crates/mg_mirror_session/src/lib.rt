@@ -15,4 +15,3 @@ mod top_call;
 mod words;
 
 pub use top_call::{Mirrored, top_mirror};
-pub use words::read_words;

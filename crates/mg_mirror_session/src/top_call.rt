@@ -9,7 +9,7 @@ use crate::putting::put_side;
 use crate::words::read_words;
 use mg_disk::{BLOCK_SIZE, COPY_BLOCKS, Disk, Failed};
 use mg_io::{Sink, Source};
-use mg_mirror::{Mirror, Opened, Side};
+use mg_mirror::{Mirror, MirrorFailed, Opened, Side};
 use mg_model::Steps;
 use mg_session::{Status, put_fault, put_usage, run};
 use std::alloc::Global;
@@ -114,12 +114,12 @@ fn run_on_mirror<D: Disk, E: Disk, S: Source, K: Sink, L: Ledger, O: Opened>(
     }
     let mut mirror = match Mirror::<D, E, O>::open_behind(left, right, from, first) {
         Ok(mirror) => mirror,
-        Err(disks) => {
+        Err(MirrorFailed { left, right }) => {
             return Mirrored {
                 status: Status::Disk,
                 alone: None,
-                left: disks.left,
-                right: disks.right,
+                left,
+                right,
             };
         }
     };

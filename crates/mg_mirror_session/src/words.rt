@@ -7,7 +7,7 @@ use mg_mirror::Side;
 
 /// The side that a mirror is to be opened from, if the words, which are those behind the program's name, are `LEFT mirror RIGHT
 /// SIDE`. LEFT and RIGHT differ, and SIDE is `left` or `right`. None exactly where they are not.
-pub fn read_words(words: &[String]) -> Option<Side>
+pub(crate) fn read_words(words: &[String]) -> Option<Side>
     ensures { result ≡ mirror_of (words_of words.now) }
 {
     match words {
