@@ -1,13 +1,13 @@
 // The blocks of a volume: those of its journal's contents, those that wait for a commit over them, and frame blocks that are
 // kept in memory.
-ghost use Rattle.std.specs.Prelude.{[], ◌≡◌, ◌⊎◌, ◌≤◌, ◌<◌, ◌*◌, ℕ, List, IfOk, IsOk, IsSome, IsSomeAnd, MatchOption, None, OnErr, OnOk, is_ok, is_some, length, slice_set, true};
+ghost use Rattle.std.specs.Prelude.{[], ◌≡◌, ◌≢◌, ◌⊎◌, ◌≤◌, ◌<◌, ◌*◌, ℕ, List, IfOk, IsOk, IsSome, IsSomeAnd, MatchOption, None, OnErr, OnOk, is_ok, is_some, length, slice_set, true};
 ghost use Rattle.std.specs.List.{position};
 ghost use Rattle.std.specs.Option.{ForSome};
 ghost use Rattle.mg_disk.specs.Disk.{Image, block_at};
 ghost use Rattle.mg_disk.specs.Stops.{DiskCalls, Leaves, WritesNothing};
 ghost use Rattle.mg_journal.specs.Contents.{NewContents};
 ghost use Rattle.mg_journal.specs.Staged.{are_once, goes_to, staged, waiting};
-ghost use Rattle.mg_journal.specs.Standing.{OldOrNew, Stands, is_live, total_of};
+ghost use Rattle.mg_journal.specs.Standing.{IsLate, OldOrNew, Stands, is_live, total_of};
 ghost use Rattle.mg_model.specs.Bytes.{block_words, number_at};
 ghost use Rattle.mg_model.specs.Layout.{body_limit};
 ghost use Rattle.mg_model.specs.Replay.{homes_fit, written};
@@ -234,6 +234,7 @@ impl Blocks {
         ensures staged { OnOk result (self.new.writes ≡ []) }
         ensures failed { OnErr result (self.new.writes ≡ self.old.writes) }
         ensures kept { OnOk result ((r : Image) → total_of self.old.store ≤ length r → AreKept first r self.old.kept → AreKept first (written r self.old.writes) self.new.kept) }
+        ensures late { self.old.writes ≢ [] → OnOk result (ForSome (D.seen disk.old) (λ image. IsSomeAnd (D.seen disk.new) (IsLate image))) }
         ensures no_call { self.old.writes ≡ [] → (disk.new ≡ disk.old) × IsOk result }
         ensures calls { DiskCalls D.Disk disk.old disk.new result }
     {

@@ -175,8 +175,9 @@ impl Pages {
         self.blocks.stage(block, from);
     }
 
-    /// Makes what is staged durable. With nothing staged no call is made, and the answer is Ok. After [`Failed`], which comes
-    /// only where a call of the disk failed, the pages are not live: the disk has the old contents or the new.
+    /// Makes what is staged durable. It opens one of the journal's eight segments more, and writes no home; where all eight are open,
+    /// their homes are written first, and one is open then. With nothing staged no call is made, and the answer is Ok. After
+    /// [`Failed`], which comes only where a call of the disk failed, the pages are not live: the disk has the old contents or the new.
     pub fn commit<D: Disk>(&mut self, disk: &mut D) -> Result<(), Failed>
         requires live { is_live self.old ≡ true }
         requires stands { StandsOn D.Disk self.old disk.old }
@@ -192,6 +193,7 @@ impl Pages {
         ensures live { OnOk result (is_live self.new ≡ true) }
         ensures dead { OnErr result (is_live self.new ≡ false) }
         ensures words { words_in self.new ≡ words_in self.old }
+        ensures late { 0 < staged_of self.old → OnOk result (ForSome (D.seen disk.old) (λ image. IsSomeAnd (D.seen disk.new) (journal.IsLate image))) }
         ensures nothing { staged_of self.old ≡ 0 → (disk.new ≡ disk.old) × IsOk result }
         ensures calls { DiskCalls D.Disk disk.old disk.new result }
     {

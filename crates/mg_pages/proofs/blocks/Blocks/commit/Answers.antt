@@ -1,5 +1,5 @@
 use Rattle.std.proofs.Common.{◌≡◌, ◌∙◌, ap, subst, sym}
-use Rattle.std.specs.Prelude.{IsSomeAnd}
+use Rattle.std.specs.Prelude.{IsSomeAnd, [], ◌≢◌}
 use Rattle.mg_journal.specs.Contents.{NewContents}
 use Rattle.mg_journal.specs.Standing.{total_of}
 use Rattle.mg_model.specs.Replay.{homes_fit, written}
@@ -17,3 +17,6 @@ returns-in-Ok-clause-kept g c r long are =
     let same : c.as_slice.result.now ≡ now.writes = c.as_slice.ensures.same ∙ ap (λ (b : BlocksHeld). b.writes) c.self.view_is in
     subst (λ ws. AreKept c.args.first (written r ws) c.refresh.new.self) same
     (c.refresh.ensures (total_of now.store) r (ap (homes_fit (total_of now.store)) same ∙ c.requires.homes) long (subst (λ (b : BlocksHeld). AreKept c.args.first r b.kept) (sym c.self.view_is) are))
+
+pub returns-in-Ok-clause-late : goal.returns-in-Ok-clause-late
+returns-in-Ok-clause-late g c some = c.in-Ok.ensures.late (subst (λ (b : BlocksHeld). b.writes ≢ []) (sym c.self.view_is) some)

@@ -1,4 +1,4 @@
-use Rattle.std.proofs.Common.{◌≡◌, ◌≤◌, ◌∙◌, Bool, Err, Ok, Result, ap, false, length, refl, subst, sym, true}
+use Rattle.std.proofs.Common.{arith, ◌≡◌, ◌≤◌, ◌∙◌, Bool, Err, Ok, Result, ap, false, length, refl, subst, sym, true}
 use Rattle.std.specs.Prelude.{◌⊎◌, IsSomeAnd, OnErr, OnOk, is_ok}
 use Rattle.std.proofs.lemmas.List.{nil_from_length}
 use Rattle.std.proofs.lemmas.Result.{on_ok_weaker}
@@ -15,7 +15,7 @@ use Rattle.mg_pages.proofs.Sound.{sound-committed}
 use Rattle.mg_pages.proofs.Tables.{held}
 use Rattle.mg_pages.specs.Committing.{HasContents}
 use Rattle.mg_pages.specs.Kept.{AreKept}
-use Rattle.mg_pages.specs.Meaning.{StandsOn, coming, total_of}
+use Rattle.mg_pages.specs.Meaning.{StandsOn, coming, staged_of, total_of}
 use Rattle.mg_pages.proofs.pages.Pages.commit.Goals as goal
 
 when-ok : {T E : Type 0} (r : Result T E) (b : Bool) → b ≡ is_ok r → OnOk r (b ≡ true)
@@ -131,3 +131,10 @@ pub returns-clause-nothing : goal.returns-clause-nothing
 returns-clause-nothing g c none =
     let i = c.self.inside in
     c.commit.ensures.no_call (nil_from_length i.blocks.writes (sym (staged-is i.blocks.store i.frames i.blocks.writes i.count i.blocks.kept c.args.self.now c.self.view_is) ∙ none))
+
+pub returns-clause-late : goal.returns-clause-late
+returns-clause-late g c some =
+    let i = c.self.inside in
+    let count = staged-is i.blocks.store i.frames i.blocks.writes i.count i.blocks.kept c.args.self.now c.self.view_is in
+    c.commit.ensures.late (λ none.
+    let zero : staged_of c.args.self.now ≡ 0 = count ∙ ap (λ writes. length writes) none in omega arith)
