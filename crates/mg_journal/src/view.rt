@@ -95,13 +95,6 @@ impl View {
         self.table.clear();
     }
 
-    /// How many blocks the volume has.
-    pub fn total(&self) -> u64
-        ensures { result ≡ self.now.total }
-    {
-        self.total
-    }
-
     // The block that holds block `i` of the contents.
     fn place_of(&self, i: u64) -> u64
         requires below { i < self.now.total }
