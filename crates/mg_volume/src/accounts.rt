@@ -190,8 +190,8 @@ impl Volume {
         ensures objects { ObjectsStillStaged self.old self.new }
     {
         // They tell that the period and the frames are in their ranges.
-        let _draws = self.globals.draws();
-        let _frames = self.params.frames();
+        self.globals.keep_rules();
+        self.params.keep_rules();
         let count = self.bank.len();
         let paid = charge_all(&mut self.bank, rate);
         let blocks = block_count(count);

@@ -2,22 +2,12 @@
 ghost use Rattle.std.specs.Prelude.{List, ◌≡◌, ℕ, All, true};
 ghost use Rattle.mg_disk.specs.Disk.{AreBytes};
 ghost use Rattle.mg_model.specs.Ranges.{IsWord};
-ghost use Rattle.mg_model.specs.WellFormed.{IsSettings, IsWellFormed};
+ghost use Rattle.mg_model.specs.WellFormed.{IsWellFormed};
 ghost use Rattle.mg_model.specs.declared.accounts.AccRow.{AccRow};
 ghost use Rattle.mg_volume.specs.Meaning.{IsSpelledBy, is_sound, now_of, staged_of};
 
 use crate::volume::Volume;
-use mg_model::{AccRow, Params};
-
-// The settings are in their ranges.
-fn settings_keep_rules(params: &Params)
-    ensures { IsSettings params.now }
-{
-    let _frames = params.frames();
-    let _credits = params.credits();
-    let _seed = params.seed();
-    let _steps = params.tariff().steps();
-}
+use mg_model::AccRow;
 
 // A password has 64 bits.
 fn has_word(row: &AccRow)
@@ -42,9 +32,9 @@ impl Volume {
     pub fn is_formed(&self)
         ensures { (image : List (List ℕ)) → AreBytes image → IsSpelledBy self.now image → staged_of self.now ≡ 0 → is_sound (now_of self.now image) ≡ true → IsWellFormed (now_of self.now image) }
     {
-        settings_keep_rules(&self.params);
+        self.params.keep_rules();
         accounts_keep_rules(self.bank.rows());
         self.threads.keep_rules();
-        let _draws = self.globals.draws();
+        self.globals.keep_rules();
     }
 }

@@ -36,7 +36,7 @@ pub(crate) fn take_object(
     ensures spelled { (image : List (List ℕ)) → IsSpelledBy pages.old image → IsSpelledBy pages.new image }
 {
     // It tells that each place is one of the table.
-    let _count = objects.len();
+    objects.objects().keep_rules();
     let taken = objects.remove(base, bank);
     stage_row(pages, objects, taken.0);
     taken

@@ -34,7 +34,7 @@ impl Volume {
         ensures here { is_object_staged self.new row.base ≡ true }
     {
         // It tells that the row keeps its ranges.
-        let _base = row.base();
+        row.keep_rules();
         let place = self.objects.update(row, &mut self.bank);
         stage_row(&mut self.pages, &self.objects, place);
     }
@@ -52,7 +52,7 @@ impl Volume {
         ensures here { is_object_staged self.new row.base ≡ true }
     {
         // It tells that the row keeps its ranges.
-        let _base = row.base();
+        row.keep_rules();
         let place = self.objects.insert(row, &mut self.bank);
         stage_row(&mut self.pages, &self.objects, place);
     }

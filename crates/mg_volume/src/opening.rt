@@ -136,7 +136,7 @@ pub(crate) fn open_rows<D: Disk>(
     ensures calls { DiskCallsBy D.Disk disk.old disk.new (result ≡ Err OpenFault.Disk) }
 {
     // It tells that the credits are in their range.
-    let _credits = rows.params.credits();
+    rows.params.keep_rules();
     let lists = match lists_of(alloc, rows.objects, rows.threads, rows.accounts) {
         Some(lists) => lists,
         None => return Err(OpenFault::Memory),

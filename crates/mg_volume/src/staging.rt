@@ -61,6 +61,15 @@ impl Volume {
         self.threads.keep_rules();
     }
 
+    // A thread that lives has a number from 1 to 256.
+    fn keep_number(&self, t: u64)
+        requires { lives self.now t ≡ true }
+        ensures at_least_1 { 1 ≤ t }
+        ensures at_most_256 { t ≤ 256 }
+    {
+        let _frame = self.frame(t);
+    }
+
     /// Stages another row of thread t, which lives. Its block is staged already, or fewer than 160 are; one more is at most. The
     /// state is the one that any change gives which makes this row of the old one.
     pub fn change_thread(&mut self, t: u64, row: ThrRow)
@@ -74,8 +83,7 @@ impl Volume {
         ensures here { is_thread_staged self.new t ≡ true }
     {
         self.numbers_differ();
-        // It tells which numbers there are.
-        let _frame = self.frame(t);
+        self.keep_number(t);
         self.stage_thread(t, Some(row));
     }
 

@@ -95,7 +95,6 @@ impl Threads {
         ensures number { IsFreeNumber self.now result }
         ensures range { IfSome result (λ n. (1 ≤ n) × (n ≤ 256)) }
     {
-        let _rows = &self.rows;
         match first_free(&self.taken) {
             Some(place) => Some(place as u64 + 1),
             None => None,
@@ -107,7 +106,6 @@ impl Threads {
         requires { t ≤ 256 }
         ensures { result ≡ option_map (λ thread. thread.0) (find (λ thread. is_ready thread.1.state && nat_lt t thread.0) self.now) }
     {
-        let _rows = &self.rows;
         match first_true(&self.ready[t as usize..]) {
             Some(at) => Some(t + at as u64 + 1),
             None => None,
@@ -153,7 +151,7 @@ fn keep_range(row: &Option<ThrRow>)
     ensures { ForSome row.now IsThreadRow }
 {
     if let Some(row) = row {
-        let _birth = row.birth();
+        row.keep_rules();
     }
 }
 

@@ -156,7 +156,7 @@ impl Volume {
         ensures place { IsPlace (page_size * result) pages }
         ensures apart { list_all (λ other. nat_le (result + pages) (page_of other) || nat_le (page_behind other) result) (objects_in self.now) ≡ true }
     {
-        let _frames = self.params.frames();
+        self.params.keep_rules();
         self.objects.first(pages)
     }
 

@@ -63,7 +63,7 @@ impl Volume {
         ensures cause { OnErr result (CountRose D.Disk disk.old disk.new) }
         ensures parts { SameParts self.old self.new }
     {
-        let _staged = self.pages.staged();
+        self.pages.keep_rules();
         self.pages.set_word(disk, page, index, value, steps)
     }
 }

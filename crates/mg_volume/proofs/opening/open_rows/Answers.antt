@@ -14,8 +14,7 @@ use Rattle.mg_volume.proofs.opening.open_rows.Goals as goal
 pub lists_of-requires-clause-credits : goal.lists_of-requires-clause-credits
 lists_of-requires-clause-credits g c =
     let sum = credits_is c.args.rows c.requires.kept in
-    let credits = c.credits-credits.ensures in
-    omega (arith, credits.value, credits.at_most_2_62)
+    omega (arith, c.keep_rules.ensures.at_most_2_62_credits)
 
 pub lists_of-requires-clause-apart : goal.lists_of-requires-clause-apart
 lists_of-requires-clause-apart g c = let P : List (ℕ × ObjectRow) → Type 0 = AreApart in subst P (sym (same_objects c.args.rows)) (apart_is c.args.rows c.requires.kept)

@@ -40,7 +40,7 @@ invariant_of-self c = record {
       let v = the_view c.self.inside in
       let change = rw (← c.self.view_is) at c.requires.change in
       let put = is_put v c.args.row c.update-place.result c.self.invariant.kept change c.update-place.ensures.place in
-      rw (c.update-place.ensures.accounts) (put_held v c.args.row c.update-place.result c.self.invariant.kept put c.stage_row.new.pages c.update-place.new.self c.update-place.ensures.objects c.base-base.ensures.kept c.stage_row.ensures.shape.frames c.stage_row.ensures.table);
+      rw (c.update-place.ensures.accounts) (put_held v c.args.row c.update-place.result c.self.invariant.kept put c.stage_row.new.pages c.update-place.new.self c.update-place.ensures.objects c.keep_rules.ensures c.stage_row.ensures.shape.frames c.stage_row.ensures.table);
   paid = c.update-place.ensures.paid;
 }
 

@@ -21,8 +21,7 @@ stage_first-requires-clause-at_most_144_staged c = rw (← c.self.view_is) at c.
 pub charge_all-paid-requires-clause-pages : goal.charge_all-paid-requires-clause-pages
 charge_all-paid-requires-clause-pages c n =
     let fit = c.self.invariant.kept.used in
-    let frames = c.frames-frames.ensures in
-    few-pages c.self.inside.objects c.self.inside.bank.pages c.self.invariant.paid (omega (arith, frames.value, frames.at_most_65536)) n
+    few-pages c.self.inside.objects c.self.inside.bank.pages c.self.invariant.paid (omega (arith, c.keep_rules-2.ensures.at_most_65536_frames)) n
 
 few : (c : goal.After-stage_first) → length c.charge_all-paid.new.b.accounts ≤ account_rows
 few c =

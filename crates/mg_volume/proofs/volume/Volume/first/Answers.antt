@@ -10,7 +10,7 @@ use Rattle.mg_volume.proofs.RowTotals.{apart-bare}
 use Rattle.mg_volume.proofs.volume.Volume.first.Goals as goal
 
 pub first-requires-clause-at_most_65536_pages : goal.first-requires-clause-at_most_65536_pages
-first-requires-clause-at_most_65536_pages c = let fit = c.self.invariant.kept.used in omega (arith, c.frames-frames.ensures.value, c.frames-frames.ensures.at_most_65536)
+first-requires-clause-at_most_65536_pages c = let fit = c.self.invariant.kept.used in omega (arith, c.keep_rules.ensures.at_most_65536_frames)
 
 pub returns-clause-lowest : goal.returns-clause-lowest
 unfolding objects_in

@@ -14,7 +14,7 @@ pub set_word-requires-clause-page : goal.set_word-requires-clause-page
 set_word-requires-clause-page g c = some_page (the_view c.self.inside) c.args.page c.self.invariant.kept (rw (← c.self.view_is) at c.requires.page)
 
 pub set_word-requires-clause-frame : goal.set_word-requires-clause-frame
-set_word-requires-clause-frame g c = frame_free (the_view c.self.inside) c.args.page c.self.invariant.kept c.staged-staged.ensures.kept (rw (← c.self.view_is) at c.requires.page)
+set_word-requires-clause-frame g c = frame_free (the_view c.self.inside) c.args.page c.self.invariant.kept c.keep_rules.ensures (rw (← c.self.view_is) at c.requires.page)
 
 pub set_word-requires-clause-at_most_158_staged : goal.set_word-requires-clause-at_most_158_staged
 unfolding staged_of
