@@ -5,7 +5,8 @@ use Rattle.std.proofs.Common.{refl, ap, ◌∙◌, ⊎_elim}
 use Rattle.std.proofs.lemmas.Bool.{cases_Bool}
 use Rattle.mg_model.specs.declared.accounts.AccRow.{AccRow}
 use Rattle.mg_model.specs.Bytes.{are_zeros}
-use Rattle.mg_model.specs.Layout.{account_rows, globals_block, object_rows, thread_rows}
+use Rattle.mg_model.specs.Layout.{globals_block}
+use Rattle.mg_model.specs.Limits.{account_limit, thread_limit, object_limit}
 use Rattle.mg_model.specs.Replay.{block_of}
 use Rattle.mg_model.specs.Settings.{Settings}
 use Rattle.mg_model.specs.Spelling.{account_read, globals_read, object_read, thread_read}
@@ -89,24 +90,24 @@ module _ (settings : Settings) (image : List (List ℕ)) where
   no_state none = record { none = ap (reading settings image) none }
 
   pub without-counters : NoCounters image → HasNoState settings image
-  without-counters missing = no_state (ap (λ c. rows_from frames c (accounts account_rows) (threads thread_rows) (objects object_rows) whole) missing.none)
+  without-counters missing = no_state (ap (λ c. rows_from frames c (accounts account_limit) (threads thread_limit) (objects object_limit) whole) missing.none)
 
-  pub without-threads : NotSpelled (λ i. thread_read (thread_row_bytes image i)) thread_rows → HasNoState settings image
-  without-threads missing = no_state (ap (λ t. rows_from frames counters (accounts account_rows) t (objects object_rows) whole) missing.none ∙ no_threads frames whole counters (accounts account_rows) (objects object_rows))
+  pub without-threads : NotSpelled (λ i. thread_read (thread_row_bytes image i)) thread_limit → HasNoState settings image
+  without-threads missing = no_state (ap (λ t. rows_from frames counters (accounts account_limit) t (objects object_limit) whole) missing.none ∙ no_threads frames whole counters (accounts account_limit) (objects object_limit))
 
-  pub without-objects : NotSpelled (λ i. object_read (object_row_bytes image i)) object_rows → HasNoState settings image
-  without-objects missing = no_state (ap (λ o. rows_from frames counters (accounts account_rows) (threads thread_rows) o whole) missing.none ∙ no_objects frames whole counters (accounts account_rows) (threads thread_rows))
+  pub without-objects : NotSpelled (λ i. object_read (object_row_bytes image i)) object_limit → HasNoState settings image
+  without-objects missing = no_state (ap (λ o. rows_from frames counters (accounts account_limit) (threads thread_limit) o whole) missing.none ∙ no_objects frames whole counters (accounts account_limit) (threads thread_limit))
 
   pub without-zeros : HasRest image settings.frames → HasNoState settings image
-  without-zeros missing = no_state (no_table frames whole counters (accounts account_rows) (threads thread_rows) (objects object_rows) missing.rest)
+  without-zeros missing = no_state (no_table frames whole counters (accounts account_limit) (threads thread_limit) (objects object_limit) missing.rest)
 
-  pub without-accounts : NotSpelled (λ i. account_read (account_row_bytes image i)) account_rows → HasNoState settings image
-  without-accounts missing = no_state (ap (λ a. rows_from frames counters a (threads thread_rows) (objects object_rows) whole) missing.none ∙ no_accounts frames whole counters (threads thread_rows) (objects object_rows))
+  pub without-accounts : NotSpelled (λ i. account_read (account_row_bytes image i)) account_limit → HasNoState settings image
+  without-accounts missing = no_state (ap (λ a. rows_from frames counters a (threads thread_limit) (objects object_limit) whole) missing.none ∙ no_accounts frames whole counters (threads thread_limit) (objects object_limit))
 
   -- where an account stands behind a free row
-  pub with-gap : (rows : List (ℕ × AccRow)) → AreLive (λ i. account_read (account_row_bytes image i)) account_rows rows → has_no_gap 0 rows ≡ false → HasNoState settings image
+  pub with-gap : (rows : List (ℕ × AccRow)) → AreLive (λ i. account_read (account_row_bytes image i)) account_limit rows → has_no_gap 0 rows ≡ false → HasNoState settings image
   with-gap rows live gap = record {
     none =
-        ap (reading settings image) (ap (λ a. rows_from frames counters a (threads thread_rows) (objects object_rows) whole) live.are)
-        ∙ unfit settings image frames counters (threads thread_rows) (objects object_rows) whole rows gap;
+        ap (reading settings image) (ap (λ a. rows_from frames counters a (threads thread_limit) (objects object_limit) whole) live.are)
+        ∙ unfit settings image frames counters (threads thread_limit) (objects object_limit) whole rows gap;
   }

@@ -19,7 +19,8 @@ use Rattle.mg_check.specs.Tables.{is_paid, pages_in}
 use Rattle.mg_disk.specs.Disk.{Image}
 use Rattle.mg_model.specs.declared.accounts.AccRow.{AccRow}
 use Rattle.mg_model.specs.Bank.{used}
-use Rattle.mg_model.specs.Layout.{account_rows, globals_block, object_rows, thread_rows}
+use Rattle.mg_model.specs.Layout.{globals_block}
+use Rattle.mg_model.specs.Limits.{account_limit, thread_limit, object_limit}
 use Rattle.mg_model.specs.Replay.{block_of}
 use Rattle.mg_model.specs.Settings.{Settings}
 use Rattle.mg_model.specs.Spelling.{account_read, globals_read, object_read, thread_read}
@@ -171,9 +172,9 @@ module _ (rows : VolumeRows) where
 
 -- each table told
 pub tables-told : (rows : VolumeRows) (image : Image) → globals_read (block_of image globals_block) ≡ Some rows.globals
-    → AreLive (λ i. account_read (account_row_bytes image i)) account_rows (placed_from 0 rows.accounts.items)
-    → AreLive (λ i. thread_read (thread_row_bytes image i)) thread_rows rows.threads.items
-    → AreLive (λ i. object_read (object_row_bytes image i)) object_rows (objects_of rows)
+    → AreLive (λ i. account_read (account_row_bytes image i)) account_limit (placed_from 0 rows.accounts.items)
+    → AreLive (λ i. thread_read (thread_row_bytes image i)) thread_limit rows.threads.items
+    → AreLive (λ i. object_read (object_row_bytes image i)) object_limit (objects_of rows)
     → IsTable image rows.params.frames rows.table.items → AreTold rows image
 tables-told rows image counters accounts threads objects table = record {
   are =

@@ -3,12 +3,13 @@ use Rattle.std.specs.Prelude.{◌≡◌, ◌≤◌, ◌<◌, ◌+◌, ℕ, true,
 use Rattle.mg_check.specs.declared.volume_rows.VolumeRows.{VolumeRows}
 use Rattle.mg_disk.specs.Disk.{Image}
 use Rattle.mg_model.specs.declared.accounts.AccRow.{AccRow}
-use Rattle.mg_model.specs.Layout.{account_rows, object_rows, super_block, thread_rows, total_blocks}
+use Rattle.mg_model.specs.Layout.{super_block, total_blocks}
+use Rattle.mg_model.specs.Limits.{account_limit, thread_limit, object_limit}
 use Rattle.mg_model.specs.Ranges.{IsObjectRow}
 use Rattle.mg_model.specs.Replay.{block_of, replay}
 use Rattle.mg_model.specs.Spelling.{Spells, super_read}
 use Rattle.mg_model.specs.State.{ObjectRow, State}
-use Rattle.mg_model.specs.Volume.{Is, Rows, is_gated, rows_of, state_fits, state_spelled, volume}
+use Rattle.mg_model.specs.Volume.{Is, Rows, has_open_gate, rows_of, state_fits, state_spelled, volume}
 
 -- accounts with their places, from place i on
 abbrev pub placed_from : ℕ → List AccRow → List (ℕ × AccRow)
@@ -41,7 +42,7 @@ state_in rows replayed = state_spelled replayed rows.params (rows_in rows)
 
 -- the image is a volume with these settings; it replays to one that spells these rows and no other, and so to their state
 pub record IsReadAs (rows : VolumeRows) (image : Image) : Type 0 where
-  pub gated : is_gated image ≡ true
+  pub gated : has_open_gate image ≡ true
   pub super : super_read (block_of image super_block) ≡ Spells rows.params
   pub replayed : Image
   pub replay_is : replay image (total_blocks rows.params.frames) ≡ Some replayed
@@ -62,15 +63,15 @@ AreInRange objects = All (λ (o : ℕ × ObjectRow). IsObjectRow o.1) objects
 pub record AreHeld (rows : VolumeRows) : Type 0 where
   pub some_frames : 16 ≤ rows.params.frames
   pub few_frames : rows.params.frames ≤ 65536
-  pub few_accounts : length rows.accounts.items ≤ account_rows
-  pub threads : ArePlaced thread_rows rows.threads.items
-  pub places : length rows.objects.items ≤ object_rows
-  pub objects : ArePlaced object_rows (objects_of rows)
+  pub few_accounts : length rows.accounts.items ≤ account_limit
+  pub threads : ArePlaced thread_limit rows.threads.items
+  pub places : length rows.objects.items ≤ object_limit
+  pub objects : ArePlaced object_limit (objects_of rows)
   pub ranges : AreInRange (objects_of rows)
   pub entries : length rows.table.items ≡ rows.params.frames
-  pub room_accounts : account_rows ≤ vec_capacity rows.accounts
-  pub room_threads : thread_rows ≤ vec_capacity rows.threads
-  pub room_objects : object_rows ≤ vec_capacity rows.objects
+  pub room_accounts : account_limit ≤ vec_capacity rows.accounts
+  pub room_threads : thread_limit ≤ vec_capacity rows.threads
+  pub room_objects : object_limit ≤ vec_capacity rows.objects
 
 -- and they keep the rules that hold between rows, whatever words the frames have
 pub record AreKept (rows : VolumeRows) : Type 0 where

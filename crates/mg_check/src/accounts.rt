@@ -1,6 +1,7 @@
 // The table of accounts.
 ghost use Rattle.std.specs.Prelude.{◌≡◌, ◌≢◌, ◌≤◌, ◌+◌, ◌/◌, ◌%◌, IfOk, false, length, vec_capacity};
-ghost use Rattle.mg_model.specs.Layout.{account_rows, first_account_block};
+ghost use Rattle.mg_model.specs.Layout.{first_account_block};
+ghost use Rattle.mg_model.specs.Limits.{account_limit};
 ghost use Rattle.mg_model.specs.Volume.{has_no_gap};
 ghost use Rattle.mg_rows.specs.Blocks.{account_in};
 ghost use Rattle.mg_rows.specs.Laws.{IsAccountRow};
@@ -20,7 +21,7 @@ use std::alloc::Global;
 const IN_BLOCK: u64 = 64;
 
 impl TableRow for AccRow {
-    ghost ROWS = { account_rows };
+    ghost ROWS = { account_limit };
 
     const ROWS: u64 = ACCOUNT_LIMIT as u64;
 
@@ -50,7 +51,7 @@ pub(crate) fn without_places(
 ) -> Result<Vec<AccRow>, ViewFault>
     ensures same { IfOk result (λ accounts. placed_from 0 accounts.items ≡ rows.now) }
     ensures long { IfOk result (λ accounts. length accounts.items ≡ length rows.now) }
-    ensures has_capacity { IfOk result (λ accounts. account_rows ≤ vec_capacity accounts) }
+    ensures has_capacity { IfOk result (λ accounts. account_limit ≤ vec_capacity accounts) }
     ensures damaged { result ≡ Err ViewFault.Damaged → has_no_gap 0 rows.now ≡ false }
     ensures no_disk { result ≢ Err ViewFault.Disk }
 {

@@ -1,6 +1,7 @@
 // The table of objects.
 ghost use Rattle.std.specs.Prelude.{◌+◌, ◌/◌, ◌%◌};
-ghost use Rattle.mg_model.specs.Layout.{first_object_block, object_rows};
+ghost use Rattle.mg_model.specs.Layout.{first_object_block};
+ghost use Rattle.mg_model.specs.Limits.{object_limit};
 ghost use Rattle.mg_model.specs.Ranges.{IsObjectRow};
 ghost use Rattle.mg_rows.specs.Blocks.{object_in};
 
@@ -15,7 +16,7 @@ use mg_rows::{Spelled, object_in};
 const IN_BLOCK: u64 = 4;
 
 impl TableRow for ObjRow {
-    ghost ROWS = { object_rows };
+    ghost ROWS = { object_limit };
 
     const ROWS: u64 = OBJECT_LIMIT as u64;
 

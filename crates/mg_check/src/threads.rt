@@ -1,6 +1,7 @@
 // The table of threads.
 ghost use Rattle.std.specs.Prelude.{◌+◌};
-ghost use Rattle.mg_model.specs.Layout.{first_thread_block, thread_rows};
+ghost use Rattle.mg_model.specs.Layout.{first_thread_block};
+ghost use Rattle.mg_model.specs.Limits.{thread_limit};
 ghost use Rattle.mg_model.specs.Ranges.{IsThreadRow};
 ghost use Rattle.mg_model.specs.Spelling.{thread_read};
 
@@ -13,7 +14,7 @@ use mg_rows::{Spelled, read_thread};
 
 // A row is a block.
 impl TableRow for ThrRow {
-    ghost ROWS = { thread_rows };
+    ghost ROWS = { thread_limit };
 
     const ROWS: u64 = THREAD_LIMIT as u64;
 

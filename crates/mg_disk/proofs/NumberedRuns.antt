@@ -6,7 +6,7 @@ use Rattle.std.proofs.lemmas.Bool.{cases_lt}
 use Rattle.mg_faults.specs.Faults.{is_last}
 use Rattle.mg_disk.specs.Disk.{At}
 use Rattle.mg_disk.specs.Held.{BeenIn, LeftIn}
-use Rattle.mg_disk.specs.Memory.{FailsAt, Numbered, NumberedRun, counts_of, fails_of, more_reads, more_writes, number_of, one_read, one_write, room_of}
+use Rattle.mg_disk.specs.Memory.{FailsAt, Numbered, NumberedRun, counts_of, fails_of, more_reads, more_writes, calls_made, one_read, one_write, room_of}
 use Rattle.mg_disk.specs.declared.disk.Disk.{Ghosts}
 use Rattle.mg_disk.specs.declared.memory.Counts.{Counts}
 use Rattle.mg_disk.specs.declared.memory.MemDisk.{MemDisk}
@@ -44,31 +44,31 @@ no_error T E x is = cc
 -- so many calls passed
 pub record Passed (made : ℕ → Counts) (n : ℕ) (old new : MemDisk) : Type 0 where
   pub recorded : counts_of new ≡ made n
-  pub none : (j : ℕ) → j < n → FailsAt old (number_of old + j) → ⊥
+  pub none : (j : ℕ) → j < n → FailsAt old (calls_made old + j) → ⊥
   pub same_room : room_of new ≡ room_of old
   pub same_fails : fails_of new ≡ fails_of old
 
-module _ (made : ℕ → Counts) (old mid : MemDisk) (n : ℕ) (counted : sum_of (made n) ≡ number_of old + n) (passed : Passed made n old mid) where
-  number : number_of mid ≡ number_of old + n
+module _ (made : ℕ → Counts) (old mid : MemDisk) (n : ℕ) (counted : sum_of (made n) ≡ calls_made old + n) (passed : Passed made n old mid) where
+  number : calls_made mid ≡ calls_made old + n
   number = ap sum_of passed.recorded ∙ counted
 
-  as_old : FailsAt mid (number_of mid) → FailsAt old (number_of old + n)
+  as_old : FailsAt mid (calls_made mid) → FailsAt old (calls_made old + n)
   as_old h =
       let is = number in
       let room = passed.same_room in
-      ⊎_elim (λ past. inl (omega arith)) (λ among. inr (subst (Contains (fails_of old)) is (subst (λ numbers. Contains numbers (number_of mid)) passed.same_fails among))) h
+      ⊎_elim (λ past. inl (omega arith)) (λ among. inr (subst (Contains (fails_of old)) is (subst (λ numbers. Contains numbers (calls_made mid)) passed.same_fails among))) h
 
-  as_mid : FailsAt old (number_of old + n) → FailsAt mid (number_of mid)
+  as_mid : FailsAt old (calls_made old + n) → FailsAt mid (calls_made mid)
   as_mid h =
       let is = number in
       let room = passed.same_room in
-      ⊎_elim (λ past. inl (omega arith)) (λ among. inr (subst (λ numbers. Contains numbers (number_of mid)) (sym passed.same_fails) (subst (Contains (fails_of old)) (sym is) among))) h
+      ⊎_elim (λ past. inl (omega arith)) (λ among. inr (subst (λ numbers. Contains numbers (calls_made mid)) (sym passed.same_fails) (subst (Contains (fails_of old)) (sym is) among))) h
 
   -- one more that passes
   pub passed_more : {T E : Type 0} (new : MemDisk) (x : T) (one : Counts) → one ≡ made (n + 1) → Numbered {T = T} {E = E} mid new one (Ok x) → Passed made (n + 1) old new
   passed_more {T = T} {E = E} new x one is call = record {
-    recorded = ⊎_elim (λ room. call.recorded room ∙ is) (λ past. absurd (no_error T E x (call.exact.1 (inl past)))) (cases_lt (number_of mid) (room_of mid));
-    none = λ j low fails. ⊎_elim (λ before. passed.none j before fails) (λ here. no_error T E x (call.exact.1 (as_mid (let P : ℕ → Type 0 = λ i. FailsAt old (number_of old + i) in subst P (omega arith) fails)))) (cases_lt j n);
+    recorded = ⊎_elim (λ room. call.recorded room ∙ is) (λ past. absurd (no_error T E x (call.exact.1 (inl past)))) (cases_lt (calls_made mid) (room_of mid));
+    none = λ j low fails. ⊎_elim (λ before. passed.none j before fails) (λ here. no_error T E x (call.exact.1 (as_mid (let P : ℕ → Type 0 = λ i. FailsAt old (calls_made old + i) in subst P (omega arith) fails)))) (cases_lt j n);
     same_room = call.same_room ∙ passed.same_room;
     same_fails = call.same_fails ∙ passed.same_fails;
   }

@@ -16,8 +16,8 @@ abbrev pub counts_of : MemDisk → Counts
 counts_of disk = disk.made
 
 -- the number of the next call: how many were recorded
-abbrev pub number_of : MemDisk → ℕ
-number_of disk = disk.made.reads + disk.made.writes + disk.made.syncs
+abbrev pub calls_made : MemDisk → ℕ
+calls_made disk = disk.made.reads + disk.made.writes + disk.made.syncs
 
 abbrev pub room_of : MemDisk → ℕ
 room_of disk = disk.room
@@ -56,9 +56,9 @@ one_sync made = record made { syncs = made.syncs + 1 }
 
 -- a call: it fails exactly by its number, and past the room it changes nothing but the count of faults
 pub record Numbered {T E : Type 0} (old new : MemDisk) (made : Counts) (result : Result T E) : Type 0 where
-  pub exact : IsErr result ↔ ((room_of old ≤ number_of old) ⊎ Contains (fails_of old) (number_of old))
-  pub recorded : number_of old < room_of old → counts_of new ≡ made
-  pub past : room_of old ≤ number_of old → new ≡ record old { count = new.count }
+  pub exact : IsErr result ↔ ((room_of old ≤ calls_made old) ⊎ Contains (fails_of old) (calls_made old))
+  pub recorded : calls_made old < room_of old → counts_of new ≡ made
+  pub past : room_of old ≤ calls_made old → new ≡ record old { count = new.count }
   pub same_room : room_of new ≡ room_of old
   pub same_fails : fails_of new ≡ fails_of old
 
@@ -76,14 +76,14 @@ FailsAt disk number = (room_of disk ≤ number) ⊎ Contains (fails_of disk) num
 -- Of a run of calls this is the first that fails, and the last that is made; it is recorded where it is not past the room.
 pub record FailsFirst (old new : MemDisk) (made : ℕ → Counts) (calls k : ℕ) : Type 0 where
   pub one : k < calls
-  pub fails : FailsAt old (number_of old + k)
-  pub passed : (j : ℕ) → j < k → FailsAt old (number_of old + j) → ⊥
-  pub recorded : number_of old + k < room_of old → counts_of new ≡ made (k + 1)
-  pub past : room_of old ≤ number_of old + k → counts_of new ≡ made k
+  pub fails : FailsAt old (calls_made old + k)
+  pub passed : (j : ℕ) → j < k → FailsAt old (calls_made old + j) → ⊥
+  pub recorded : calls_made old + k < room_of old → counts_of new ≡ made (k + 1)
+  pub past : room_of old ≤ calls_made old + k → counts_of new ≡ made k
 
 -- So many calls of one kind, one after the other: each has a number of its own, and the run ends with the first that fails.
 pub record NumberedRun {T E : Type 0} (calls : ℕ) (old new : MemDisk) (made : ℕ → Counts) (result : Result T E) : Type 0 where
-  pub all : OnOk result ((counts_of new ≡ made calls) × ((j : ℕ) → j < calls → FailsAt old (number_of old + j) → ⊥))
+  pub all : OnOk result ((counts_of new ≡ made calls) × ((j : ℕ) → j < calls → FailsAt old (calls_made old + j) → ⊥))
   pub first : OnErr result ((k : ℕ) × FailsFirst old new made calls k)
   pub same_room : room_of new ≡ room_of old
   pub same_fails : fails_of new ≡ fails_of old

@@ -84,7 +84,7 @@ pub struct MemDisk {
 }
 
 impl MemDisk {
-    ghost use Rattle.mg_disk.specs.Memory.{counts_of, number_of, room_of, fails_of, content_of, one_write, one_sync, IsFresh, IsLeft};
+    ghost use Rattle.mg_disk.specs.Memory.{counts_of, calls_made, room_of, fails_of, content_of, one_write, one_sync, IsFresh, IsLeft};
     ghost use Rattle.mg_disk.specs.MemoryTurn.{IsTurn};
 
     /// A disk of that many blocks of zeros. All its memory is taken here, with room for a record of `room` calls.
@@ -166,7 +166,7 @@ impl MemDisk {
     }
 
     fn turn(&self) -> Turn
-        ensures { IsTurn result (room_of self.now) (fails_of self.now) (number_of self.now) }
+        ensures { IsTurn result (room_of self.now) (fails_of self.now) (calls_made self.now) }
     {
         let number = self.made.reads + self.made.writes + self.made.syncs;
         if number >= self.room {
@@ -191,7 +191,7 @@ impl MemDisk {
 
     /// Records a write, and makes it.
     fn put(&mut self, i: u64, block: &Block)
-        requires numbered { number_of self.old < room_of self.old }
+        requires numbered { calls_made self.old < room_of self.old }
         requires in_range { i < vec_len self.old.content }
         ensures content { self.new.content.items ≡ slice_set self.old.content.items i block.now }
         ensures events { self.new.events.items ≡ self.old.events.items ++ Event.Wrote i block.now ∷ [] }
@@ -208,7 +208,7 @@ impl MemDisk {
 
     /// Records a good sync, and makes it.
     fn settle(&mut self)
-        requires numbered { number_of self.old < room_of self.old }
+        requires numbered { calls_made self.old < room_of self.old }
         ensures content { self.new.content.items ≡ self.old.content.items }
         ensures synced { self.new.synced.items ≡ self.old.content.items }
         ensures touched { self.new.touched.items ≡ [] }
@@ -227,7 +227,7 @@ impl MemDisk {
 
 impl Disk for MemDisk {
     ghost use Rattle.mg_disk.specs.Calls.{IsRead, IsReadRun, IsWrite, IsWriteRun, IsSync};
-    ghost use Rattle.mg_disk.specs.Memory.{counts_of, number_of, room_of, content_of, Numbered, NumberedRun, more_reads, more_writes, one_read, one_write, one_sync};
+    ghost use Rattle.mg_disk.specs.Memory.{counts_of, calls_made, room_of, content_of, Numbered, NumberedRun, more_reads, more_writes, one_read, one_write, one_sync};
 
     ghost block_count = { λ d. vec_len d.content };
 
@@ -284,7 +284,7 @@ impl Disk for MemDisk {
         requires in_range { i < ⟦<MemDisk as Disk>⟧.block_count self.old }
         ensures meets { IsWrite ⟦<MemDisk as Disk>⟧ self.old self.new i from.now result }
         ensures numbered { Numbered self.old self.new (one_write (counts_of self.old)) result }
-        ensures gates { OnErr result (number_of self.old < room_of self.old → content_of self.new ≡ slice_set (content_of self.old) i gates_block) }
+        ensures gates { OnErr result (calls_made self.old < room_of self.old → content_of self.new ≡ slice_set (content_of self.old) i gates_block) }
     {
         match self.turn() {
             Turn::Past => self.fail(),

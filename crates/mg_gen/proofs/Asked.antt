@@ -10,7 +10,7 @@ use Rattle.mg_model.specs.Lines.{line_with, one, pwadd_of, three, two}
 use Rattle.mg_model.specs.Print.{hex_text}
 use Rattle.mg_model.specs.Words.{and_then, is_some_word, number_of, numbers_of, rights_of}
 use Rattle.mg_gen.specs.Asked.{LinesAreCalls, asked, drawn_line, entry_line, kind_line, line_asked, prepared_line}
-use Rattle.mg_gen.specs.Generated.{address_of, call_text, drawn_text, drawn_word, entry_text, kind_of, kind_text, line_text, object_base, object_password, prepared_text, root, stored, thread_of, treasury_password, value_of}
+use Rattle.mg_gen.specs.Generated.{address_of, call_text, drawn_text, drawn_word, entry_text, kind_of, kind_text, line_text, run_object_base, object_password, prepared_text, root, stored, thread_of, treasury_password, value_of}
 use Rattle.mg_gen.proofs.Numbers.{IsWord, decimal-word, hex-word}
 use Rattle.mg_text.specs.NumberLemmas.{High, number_of-back, number_of-hex}
 use Rattle.mg_gen.proofs.Spelled.{Spells, call-spells}
@@ -103,7 +103,7 @@ password-fits j = grind (arith, nat_tests)
 
 entry-spells : (m : ℕ) → m < 8 → Spells (entry_text m) (entry_line m)
 entry-spells m few =
-    by_test (m % 2 == 0) _ _ _ _ (λ _. stored-spells (root + 8 * (2 + 2 * (1 + m / 2))) (object_base (1 + m / 2)) (omega (arith, few)) (omega (arith, few)))
+    by_test (m % 2 == 0) _ _ _ _ (λ _. stored-spells (root + 8 * (2 + 2 * (1 + m / 2))) (run_object_base (1 + m / 2)) (omega (arith, few)) (omega (arith, few)))
     (λ _. stored-spells (root + 8 * (3 + 2 * (1 + m / 2))) (object_password (1 + m / 2)) (omega (arith, few)) (password-fits (1 + m / 2)))
 
 prepared-spells : (k : ℕ) → Spells (prepared_text k) (prepared_line k)

@@ -6,7 +6,7 @@ use Rattle.std.proofs.lemmas.Bool.{le-ltb}
 use Rattle.std.proofs.lemmas.Bool.Decides.{nat_tests}
 use Rattle.std.proofs.lemmas.List.{append-nil}
 use Rattle.mg_model.specs.declared.calls.Line.{Line}
-use Rattle.mg_model.specs.Lines.{bad_line, call_line, is_among, is_note, line_limit, line_of, line_of_words, lone_words, spelled_line, thread_line}
+use Rattle.mg_model.specs.Lines.{bad_line, call_line, is_among, is_note, longest_line, line_of, line_of_words, lone_words, spelled_line, thread_line}
 use Rattle.mg_model.specs.Print.{spaced}
 use Rattle.mg_model.specs.Words.{is_blank, is_some_word, number_of, split_at, words}
 use Rattle.mg_gen.specs.Generated.{call_text}
@@ -71,7 +71,7 @@ call-spells t word args asked fits is are few shared made = record {
       let short = first.few in
       let back = length-spaced (word ∷ args) (is, are) in
       let long = length-append (decimal t) (spaced (word ∷ args)) in
-      ap (λ (b : Bool). if b then Some bad_line else line_of_words (words (call_text t word args))) (le-ltb line_limit (length (call_text t word args)) (omega arith))
+      ap (λ (b : Bool). if b then Some bad_line else line_of_words (words (call_text t word args))) (le-ltb longest_line (length (call_text t word args)) (omega arith))
       ∙ ap line_of_words (words-back (decimal t) (word ∷ args) first (is, are))
       ∙ ap (λ (b : Bool). if b then None else Some (spelled_line (decimal t) (word ∷ args))) (no_note (decimal t) first.high)
       ∙ ap (λ (l : Line). Some l)

@@ -5,14 +5,14 @@ use Rattle.mg_model.specs.declared.calls.Call.TheVariants as call
 use Rattle.mg_model.specs.declared.calls.Line.{Line}
 use Rattle.mg_model.specs.Draw.{password_drawn}
 use Rattle.mg_model.specs.Lines.{line_of}
-use Rattle.mg_gen.specs.Generated.{address_of, drawn_word, kind_of, line_text, object_base, object_password, root, run_settings, thread_of, treasury_password, value_of}
+use Rattle.mg_gen.specs.Generated.{address_of, drawn_word, kind_of, line_text, run_object_base, object_password, root, run_settings, thread_of, treasury_password, value_of}
 
 abbrev pub asked : ℕ → Call → Line
 asked thread made = record { thread = thread; call = made }
 
 abbrev pub entry_line : ℕ → Line
 entry_line m =
-    if m % 2 == 0 then asked 1 (call.Store (root + 8 * (2 + 2 * (1 + m / 2))) (object_base (1 + m / 2)))
+    if m % 2 == 0 then asked 1 (call.Store (root + 8 * (2 + 2 * (1 + m / 2))) (run_object_base (1 + m / 2)))
     else asked 1 (call.Store (root + 8 * (3 + 2 * (1 + m / 2))) (object_password (1 + m / 2)))
 
 abbrev pub kind_line : ℕ → ℕ → ℕ → ℕ → Line

@@ -14,8 +14,8 @@ abbrev pub root : ℕ
 root = 0x0000000100000000
 
 -- the first address of object j, from 1 to 4
-abbrev pub object_base : ℕ → ℕ
-object_base j = root + 4096 + (j - 1) * (16 * 4096)
+abbrev pub run_object_base : ℕ → ℕ
+run_object_base j = root + 4096 + (j - 1) * (16 * 4096)
 
 -- The passwords are those that the zero seed draws: the second is the treasury's, and from the third on they are the objects'.
 abbrev pub treasury_password : ℕ
@@ -40,7 +40,7 @@ stored a value = call_text 1 (codes "store") (hex_text a ∷ hex_text value ∷ 
 -- password of each of the four are stored one after the other, m from 0 to 7.
 abbrev pub entry_text : ℕ → List ℕ
 entry_text m =
-    if m % 2 == 0 then stored (root + 8 * (2 + 2 * (1 + m / 2))) (object_base (1 + m / 2))
+    if m % 2 == 0 then stored (root + 8 * (2 + 2 * (1 + m / 2))) (run_object_base (1 + m / 2))
     else stored (root + 8 * (3 + 2 * (1 + m / 2))) (object_password (1 + m / 2))
 
 -- The word x that a line is drawn from is that of the generator SplitMix64, k + 1 steps behind the run's number. Its sums and
@@ -70,7 +70,7 @@ abbrev pub thread_of : ℕ → ℕ
 thread_of x = 1 + x % 32
 
 abbrev pub address_of : ℕ → ℕ
-address_of x = object_base (1 + x / 2 ^ 9 % 4) + 8 * (x / 2 ^ 11 % 8192)
+address_of x = run_object_base (1 + x / 2 ^ 9 % 4) + 8 * (x / 2 ^ 11 % 8192)
 
 abbrev pub value_of : ℕ → ℕ
 value_of x = x / 2 ^ 24 % 65536

@@ -1,6 +1,6 @@
 // From a run's number to the words that its lines are drawn from.
 ghost use Rattle.std.specs.Prelude.{◌≡◌, ◌^◌, ◌<◌, ◌≤◌};
-ghost use Rattle.mg_gen.specs.Generated.{address_of, drawn_word, generator_state, kind_of, object_base, shifted_in, thread_of, value_of};
+ghost use Rattle.mg_gen.specs.Generated.{address_of, drawn_word, generator_state, kind_of, run_object_base, shifted_in, thread_of, value_of};
 
 use mg_model::limits::{PAGE_SIZE, ROOT_BASE};
 
@@ -48,7 +48,7 @@ pub fn thread(x: u64) -> u64
 pub fn address(x: u64) -> u64
     ensures { result ≡ address_of x }
 {
-    object_base(1 + (x >> 9) % 4) + 8 * ((x >> 11) % 8192)
+    run_object_base(1 + (x >> 9) % 4) + 8 * ((x >> 11) % 8192)
 }
 
 /// Its value, below 65,536.
@@ -59,10 +59,10 @@ pub fn value(x: u64) -> u64
 }
 
 /// The first address of object j.
-pub fn object_base(j: u64) -> u64
+pub fn run_object_base(j: u64) -> u64
     requires from { 1 ≤ j }
     requires to { j ≤ 4 }
-    ensures value { result ≡ object_base j }
+    ensures value { result ≡ run_object_base j }
     ensures low { result < 2 ^ 33 }
 {
     ROOT_BASE + PAGE_SIZE + (j - 1) * (16 * PAGE_SIZE)

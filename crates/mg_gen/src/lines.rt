@@ -3,7 +3,7 @@ ghost use Rattle.std.specs.Prelude.{◌≡◌, ◌++◌, ◌∷◌, ◌<◌, ◌
 ghost use Rattle.mg_gen.specs.Generated.{drawn_text, entry_text, kind_text, line_text, object_password, prepared_text, stored};
 ghost use Rattle.arrayvec.specs.ArrayVec.{array_vec_len};
 
-use crate::drawing::{address, draw, kind, object_base, thread, value};
+use crate::drawing::{address, draw, kind, run_object_base, thread, value};
 use crate::writing::push_call;
 use arrayvec::ArrayVec;
 use mg_model::limits::ROOT_BASE;
@@ -60,7 +60,7 @@ fn push_entry(m: u64, out: &mut ArrayVec<u8, 256>)
 {
     let j = 1 + m / 2;
     if m % 2 == 0 {
-        push_store(ROOT_BASE + 8 * (2 + 2 * j), object_base(j), out);
+        push_store(ROOT_BASE + 8 * (2 + 2 * j), run_object_base(j), out);
     } else {
         push_store(ROOT_BASE + 8 * (3 + 2 * j), object_password(j), out);
     }

@@ -14,7 +14,8 @@ use Rattle.mg_laws.proofs.Keeps.{unless_refused-keeps}
 use Rattle.mg_laws.proofs.KeepsRows.{frames_of-row, thread-formed, with_thread-keeps}
 use Rattle.mg_model.specs.ObjectCalls.{is_aligned, is_entry, no_row, row_at}
 use Rattle.mg_laws.proofs.Passed.{unrefused}
-use Rattle.mg_model.specs.Ranges.{IsCallFrame, IsSlot, IsThreadRow, IsWord, first_back}
+use Rattle.mg_model.specs.Ranges.{IsCallFrame, IsSlot, IsThreadRow, IsWord}
+use Rattle.mg_model.specs.Tests.{first_back}
 use Rattle.mg_model.specs.State.{CallFrame, Object, State, Thread, ThreadRow}
 use Rattle.mg_model.specs.WellFormed.{IsObject, IsWellFormed}
 

@@ -1,16 +1,18 @@
 -- What a collection of rent keeps: no balance is lost, and no account owes more than its periods make.
-use Rattle.std.proofs.Common.{◌≡◌, ℕ, zero, suc, ◌+◌, ◌*◌, ◌^◌, ◌<◌, ◌≤◌, ◌==◌, nat_le, nat_lt, ◌&&◌, Bool, true, cond, List, [], ◌∷◌, length, All, refl, ap, arith}
-use Rattle.std.proofs.lemmas.Bool.{and_parts, cond_both, eqb-true, leb-true}
+use Rattle.std.proofs.Common.{◌≡◌, ℕ, zero, suc, ◌+◌, ◌*◌, ◌^◌, ◌<◌, ◌≤◌, ◌==◌, nat_le, nat_lt, ◌&&◌, Bool, true, cond, List, [], ◌∷◌, length, All, refl, ap, sym, subst, ◌∙◌, arith}
+use Rattle.std.proofs.lemmas.Bool.{and_parts, cond_both, leb-true}
 use Rattle.std.proofs.lemmas.List.Elements.{All-cons, All-from_get_or, All-head, All-nil, All-tail}
 use Rattle.std.proofs.lemmas.List.Sums.{sum_by-cons}
 use Rattle.std.proofs.lemmas.Nat.{mul-le}
 use Rattle.mg_model.specs.declared.accounts.AccRow.{AccRow}
-use Rattle.mg_model.specs.Bank.{all_charged, all_paid, charged, paid, pages_of, rate_from, rate_of, used}
+use Rattle.mg_model.specs.Bank.{all_charged, all_paid, charged, paid, pages_of, rate_of, used}
+use Rattle.mg_model.specs.StepwiseLemmas.{from_at, rate_at, rate_from, rate_of-from, tariff_places}
+use Rattle.mg_model.specs.SuperblockLemmas.{tariff-four}
 use Rattle.mg_laws.proofs.KeptAccounts.{total}
 use Rattle.mg_model.specs.KeptListLemmas.{sum_by-filter-le}
 use Rattle.mg_model.specs.State.{Object}
 use Rattle.mg_model.specs.Limits.{step_limit}
-use Rattle.mg_model.specs.Tariff.{from_at, is_tariff, rate_at}
+use Rattle.mg_model.specs.Tariff.{is_tariff}
 use Rattle.mg_model.specs.WellFormed.{IsAccount}
 
 -- no rate of these steps is above the limit
@@ -41,12 +43,13 @@ record AreLow (tariff : List (ℕ × ℕ)) : Type 0 where
 
 tariff-low : (tariff : List (ℕ × ℕ)) → is_tariff tariff ≡ true → AreLow tariff
 tariff-low tariff is =
-    let parts = and_parts (length tariff == 4 && rise tariff) (is_low tariff 0 && is_low tariff 1 && is_low tariff 2 && is_low tariff 3) is in
+    let long = tariff-four tariff is in
+    let parts = and_parts (rise tariff) (is_low tariff 0 && is_low tariff 1 && is_low tariff 2 && is_low tariff 3) (sym (tariff_places tariff long) ∙ is) in
     let three = and_parts (is_low tariff 0 && is_low tariff 1 && is_low tariff 2) (is_low tariff 3) parts.1 in
     let two = and_parts (is_low tariff 0 && is_low tariff 1) (is_low tariff 2) three.0 in
     let one = and_parts (is_low tariff 0) (is_low tariff 1) two.0 in
     record {
-      four = eqb-true (length tariff) 4 (and_parts (length tariff == 4) (rise tariff) parts.0).0;
+      four = long;
       first = leb-true (rate_at tariff 0) step_limit one.0;
       second = leb-true (rate_at tariff 1) step_limit one.1;
       third = leb-true (rate_at tariff 2) step_limit two.1;
@@ -61,7 +64,7 @@ rate_at-few tariff low (suc (suc (suc zero))) within = low.fourth
 rate_at-few tariff low (suc (suc (suc (suc k)))) within = let four = low.four in absurd (omega arith)
 
 pub rate_of-few : (tariff : List (ℕ × ℕ)) (pages : ℕ) → is_tariff tariff ≡ true → rate_of tariff pages ≤ step_limit
-rate_of-few tariff pages is = rate_from-few 0 tariff pages (omega arith) (All-from_get_or (λ (step : ℕ × ℕ). step.1 ≤ step_limit) tariff (0, 0) (rate_at-few tariff (tariff-low tariff is)))
+rate_of-few tariff pages is = subst (λ rate. rate ≤ step_limit) (sym (rate_of-from tariff pages)) (rate_from-few 0 tariff pages (omega arith) (All-from_get_or (λ (step : ℕ × ℕ). step.1 ≤ step_limit) tariff (0, 0) (rate_at-few tariff (tariff-low tariff is))))
 
 -- what one account owes for a period
 pub due-few : (objects : List Object) (rate number : ℕ) → used objects ≤ 65536 → rate ≤ step_limit → rate * pages_of objects number ≤ 2 ^ 36

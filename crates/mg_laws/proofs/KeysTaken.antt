@@ -6,7 +6,7 @@ use Rattle.std.proofs.lemmas.Option.{none-some}
 use Rattle.std.specs.Option.{option_or}
 use Rattle.mg_laws.proofs.KeysSeats.{elsewhere-has_seat, first-append, first-splits, is_last, last_is, none-elsewhere, seat-first, splits-first}
 use Rattle.mg_model.specs.Keys.{Key, first_at, has_seat, seat_of}
-use Rattle.mg_model.specs.Warmth.{Event, IsQuiet, TellsTaken, WasTaken, is_disturbing, is_recent, recent, taken_in}
+use Rattle.mg_model.specs.Warmth.{Event, DisturbsNothing, TellsTaken, WasTaken, is_disturbing, is_recent, recent, taken_in}
 
 -- the key has its seat now
 abbrev IsLast : List Event → Key → Type 0
@@ -19,7 +19,7 @@ pub last-recent : (past : List Event) (key : Key) → IsLast past key → is_rec
 last-recent past key is = is_last key (first_at (seat_of key) (recent past)) is
 
 -- the line took it last
-taken-here : (event : Event) (past : List Event) (key : Key) → IsQuiet event → first_at (seat_of key) (taken_in event) ≡ Some key → WasTaken (event ∷ past) key
+taken-here : (event : Event) (past : List Event) (key : Key) → DisturbsNothing event → first_at (seat_of key) (taken_in event) ≡ Some key → WasTaken (event ∷ past) key
 taken-here event past key quiet first =
     let s = first-splits key (taken_in event) first in record {
       later = [];
@@ -27,7 +27,7 @@ taken-here event past key quiet first =
       older = past;
       split = refl;
       quiet = quiet;
-      all_quiet = All-nil IsQuiet;
+      all_quiet = All-nil DisturbsNothing;
       after = s.after;
       before = s.before;
       took = s.split;
@@ -36,14 +36,14 @@ taken-here event past key quiet first =
     }
 
 -- an earlier one did, and this line left it
-taken-earlier : (event : Event) (past : List Event) (key : Key) → IsQuiet event → has_seat (taken_in event) key ≡ true → WasTaken past key → WasTaken (event ∷ past) key
+taken-earlier : (event : Event) (past : List Event) (key : Key) → DisturbsNothing event → has_seat (taken_in event) key ≡ true → WasTaken past key → WasTaken (event ∷ past) key
 taken-earlier event past key quiet leaves w = record {
   later = event ∷ w.later;
   event = w.event;
   older = w.older;
   split = ap (λ v. event ∷ v) w.split;
   quiet = w.quiet;
-  all_quiet = All-cons IsQuiet event w.later quiet w.all_quiet;
+  all_quiet = All-cons DisturbsNothing event w.later quiet w.all_quiet;
   after = w.after;
   before = w.before;
   took = w.took;
@@ -59,25 +59,25 @@ last-taken (event ∷ past) key is =
     (λ quiet last. by_line quiet (first_at (seat_of key) (taken_in event)) refl (sym (first-append (seat_of key) (taken_in event) (recent past)) ∙ last) (last-taken past key))
     is
   where
-    by_line : IsQuiet event → (o : Option Key) → first_at (seat_of key) (taken_in event) ≡ o → option_or o (first_at (seat_of key) (recent past)) ≡ Some key
+    by_line : DisturbsNothing event → (o : Option Key) → first_at (seat_of key) (taken_in event) ≡ o → option_or o (first_at (seat_of key) (recent past)) ≡ Some key
         → (IsLast past key → WasTaken past key) → WasTaken (event ∷ past) key
     by_line quiet (Some x) there last earlier = taken-here event past key quiet (there ∙ last)
     by_line quiet None none last earlier = taken-earlier event past key quiet (elsewhere-has_seat key (taken_in event) (none-elsewhere key (taken_in event) none)) (earlier last)
 
 -- a line that does not disturb
-quiet-recent : (event : Event) (past : List Event) → IsQuiet event → recent (event ∷ past) ≡ taken_in event ++ recent past
+quiet-recent : (event : Event) (past : List Event) → DisturbsNothing event → recent (event ∷ past) ≡ taken_in event ++ recent past
 quiet-recent event past quiet = cond-false (is_disturbing event.state event.line) [] (taken_in event ++ recent past) quiet
 
-taken-last : (key : Key) (later : List Event) (event : Event) (older : List Event) (after before : List Key) → IsQuiet event → All IsQuiet later
+taken-last : (key : Key) (later : List Event) (event : Event) (older : List Event) (after before : List Key) → DisturbsNothing event → All DisturbsNothing later
     → taken_in event ≡ after ++ key ∷ before → has_seat after key ≡ true → All (λ other. has_seat (taken_in other) key ≡ true) later → IsLast (later ++ event ∷ older) key
 taken-last key [] event older after before quiet all took seat seats =
     ap (λ keys. first_at (seat_of key) keys)
     (quiet-recent event older quiet ∙ ap (λ keys. keys ++ recent older) took ∙ append_assoc after (key ∷ before) (recent older))
     ∙ splits-first key after (before ++ recent older) seat
 taken-last key (x ∷ later) event older after before quiet all took seat seats =
-    ap (λ keys. first_at (seat_of key) keys) (quiet-recent x (later ++ event ∷ older) (All-head IsQuiet x later all))
+    ap (λ keys. first_at (seat_of key) keys) (quiet-recent x (later ++ event ∷ older) (All-head DisturbsNothing x later all))
     ∙ seat-first key (taken_in x) (recent (later ++ event ∷ older)) (All-head (λ other. has_seat (taken_in other) key ≡ true) x later seats)
-    (taken-last key later event older after before quiet (All-tail IsQuiet x later all) took seat (All-tail (λ other. has_seat (taken_in other) key ≡ true) x later seats))
+    (taken-last key later event older after before quiet (All-tail DisturbsNothing x later all) took seat (All-tail (λ other. has_seat (taken_in other) key ≡ true) x later seats))
 
 pub tells_taken : TellsTaken is_recent
 tells_taken past key = (

@@ -1,5 +1,5 @@
 -- The lines of any input have their arguments in range.
-use Rattle.std.proofs.Common.{ℕ, ◌+◌, ◌/◌, ◌%◌, ◌^◌, ◌≤◌, ◌≡◌, ◌≢◌, cond, eqb, leb, ltb, List, [], ◌∷◌, length, Option, Some, None, refl, subst, arith, All}
+use Rattle.std.proofs.Common.{ℕ, ◌+◌, ◌/◌, ◌%◌, ◌^◌, ◌≤◌, ◌≡◌, ◌≢◌, cond, eqb, leb, ltb, List, [], ◌∷◌, length, Option, Some, None, refl, subst, sym, arith, All}
 use Rattle.std.proofs.lemmas.Bool.{cond_both, eqb-false, leb-true, ltb-true}
 use Rattle.std.proofs.lemmas.List.Elements.{All-cons, All-head, All-nil}
 use Rattle.std.proofs.lemmas.Option.{same_Some}
@@ -13,7 +13,8 @@ use Rattle.mg_model.specs.Lines.{Row, bad_line, call_by, call_line, call_table, 
 use Rattle.mg_model.specs.Ranges.{IsWord}
 use Rattle.mg_model.specs.Rights.{IsRights}
 use Rattle.mg_model.specs.WellFormed.{HasRanges, IsInRange}
-use Rattle.mg_model.specs.Words.{and_then, below_word, hex_part, is_newline, letter_weight, number_of, numbers_of, rights_from, rights_of, same_bytes, split_at, value_of_digits, words}
+use Rattle.mg_model.specs.Words.{and_then, below_word, hex_part, is_newline, letter_weight, number_of, numbers_of, rights_of, same_bytes, split_at, value_of_digits, words}
+use Rattle.mg_model.specs.StepwiseLemmas.{rights_from, rights_of-from}
 
 -- what follows of an option holds of what follows of its value
 and_then-some : {X Y : Type 0} (Q : Y → Type 0) (o : Option X) (f : X → Option Y) → ((x : X) → o ≡ Some x → ForSome (f x) Q) → ForSome (and_then o f) Q
@@ -70,10 +71,11 @@ rights_from-rights bits (b ∷ bytes) is =
 rights_of-rights : (word : List ℕ) → ForSome (rights_of word) IsRights
 rights_of-rights [] = λ bits none. absurd (cc)
 rights_of-rights (b ∷ bytes) =
-    and_then-some IsRights (letter_weight b) (λ weight. cond (eqb (0 / weight % 2) 1) None (rights_from (0 + weight) bytes))
+    subst (λ rights. ForSome rights IsRights) (sym (rights_of-from (b ∷ bytes)))
+    (and_then-some IsRights (letter_weight b) (λ weight. cond (eqb (0 / weight % 2) 1) None (rights_from (0 + weight) bytes))
     (λ weight found. cond_both (eqb (0 / weight % 2) 1) None (rights_from (0 + weight) bytes) (λ o. ForSome o IsRights)
     (λ _ other none. absurd (cc))
-    (λ other. rights_from-rights (0 + weight) bytes (letter_weight-bits b 0 (omega arith) weight found (eqb-false _ _ other))))
+    (λ other. rights_from-rights (0 + weight) bytes (letter_weight-bits b 0 (omega arith) weight found (eqb-false _ _ other)))))
 
 -- a call of so many numbers
 form0-ranges : (made : Call) → HasRanges made → (args : List (List ℕ)) → HasRanges (form0 made args)

@@ -13,8 +13,8 @@ use Rattle.mg_model.specs.BytesLemmas.{length-words_bytes, padded_to-full}
 use Rattle.mg_model.specs.Draw.{password_drawn}
 use Rattle.mg_model.specs.DrawnLemmas.{drawn-IsWord}
 use Rattle.mg_model.specs.Fresh.{first_thread, fresh, root_base, root_object, root_words}
-use Rattle.mg_model.specs.Layout.{account_rows, first_account_block, first_frame, first_object_block, first_thread_block, gate_open, globals_block, object_rows, segment_count, segment_gate, super_block, table_block, table_blocks, thread_rows}
-use Rattle.mg_model.specs.Limits.{first_page}
+use Rattle.mg_model.specs.Layout.{first_account_block, first_frame, first_object_block, first_thread_block, gate_open, globals_block, segment_count, segment_gate, super_block, table_block, table_blocks}
+use Rattle.mg_model.specs.Limits.{first_page, account_limit, thread_limit, object_limit}
 use Rattle.mg_model.specs.Ranges.{IsWord}
 use Rattle.mg_model.specs.Replay.{block_of, is_open}
 use Rattle.mg_model.specs.RowLemmas.{account-live, account_fields-written, are_zeros-drop, are_zeros-replicate, block_words-words, globals-read, live_rows-first, object-live, read-free, table_entries-zeros, thread-live, words_bytes-zeros, zeros-behind, zeros-in}
@@ -85,8 +85,8 @@ module _ (settings : Settings) (image : List (List ℕ)) (keeps : IsSettings set
       accounts_are : accounts_bytes (fresh settings) ≡ account_bytes treasury ++ replicate 4032 0
       accounts_are = refl
 
-  accounts_read : live_rows (λ i. account_read (account_row_bytes image i)) 0 account_rows ≡ Some ((0, treasury) ∷ [])
-  accounts_read = live_rows-first (λ i. account_read (account_row_bytes image i)) account_rows 1023 treasury refl first rest
+  accounts_read : live_rows (λ i. account_read (account_row_bytes image i)) 0 account_limit ≡ Some ((0, treasury) ∷ [])
+  accounts_read = live_rows-first (λ i. account_read (account_row_bytes image i)) account_limit 1023 treasury refl first rest
     where
       bytes : account_row_bytes image 0 ≡ account_bytes treasury
       bytes = ap (take 64) accounts_block
@@ -97,7 +97,7 @@ module _ (settings : Settings) (image : List (List ℕ)) (keeps : IsSettings set
           (ap account_fields bytes ∙ account_fields-written treasury (drawn-IsWord settings.seed 1) (let c = few_frames.2 in omega arith) (omega arith))
           (sym bytes)
 
-      rest : (j : ℕ) → 1 ≤ j → j < account_rows → account_read (account_row_bytes image j) ≡ Some None
+      rest : (j : ℕ) → 1 ≤ j → j < account_limit → account_read (account_row_bytes image j) ≡ Some None
       rest j low high = read-free (account_row_bytes image j) _ (⊎_elim near far (cases_lt j 64))
         where
           near : j < 64 → are_zeros (account_row_bytes image j) ≡ true
@@ -121,8 +121,8 @@ module _ (settings : Settings) (image : List (List ℕ)) (keeps : IsSettings set
               }))
 
   -- thread 1
-  threads_read : live_rows (λ i. thread_read (thread_row_bytes image i)) 0 thread_rows ≡ Some ((0, (first_thread (password_drawn settings.seed 0)).row) ∷ [])
-  threads_read = live_rows-first (λ i. thread_read (thread_row_bytes image i)) thread_rows 255 (first_thread (password_drawn settings.seed 0)).row refl first rest
+  threads_read : live_rows (λ i. thread_read (thread_row_bytes image i)) 0 thread_limit ≡ Some ((0, (first_thread (password_drawn settings.seed 0)).row) ∷ [])
+  threads_read = live_rows-first (λ i. thread_read (thread_row_bytes image i)) thread_limit 255 (first_thread (password_drawn settings.seed 0)).row refl first rest
     where
       bytes : thread_row_bytes image 0 ≡ thread_bytes (first_thread (password_drawn settings.seed 0)).row
       bytes = row_block first_thread_block (omega arith) (omega arith) ∙ at_threads settings (fresh settings)
@@ -134,7 +134,7 @@ module _ (settings : Settings) (image : List (List ℕ)) (keeps : IsSettings set
           refl
           (sym bytes)
 
-      rest : (j : ℕ) → 1 ≤ j → j < thread_rows → thread_read (thread_row_bytes image j) ≡ Some None
+      rest : (j : ℕ) → 1 ≤ j → j < thread_limit → thread_read (thread_row_bytes image j) ≡ Some None
       rest j low high =
           read-free (thread_row_bytes image j) _
           (ap are_zeros (zero_block (first_thread_block + j) (omega arith) (omega arith) (record {
@@ -155,8 +155,8 @@ module _ (settings : Settings) (image : List (List ℕ)) (keeps : IsSettings set
       objects_are : objects_bytes (fresh settings) ≡ object_bytes (root_object (password_drawn settings.seed 0)).row ++ replicate 3072 0
       objects_are = refl
 
-  objects_read : live_rows (λ i. object_read (object_row_bytes image i)) 0 object_rows ≡ Some ((0, (root_object (password_drawn settings.seed 0)).row) ∷ [])
-  objects_read = live_rows-first (λ i. object_read (object_row_bytes image i)) object_rows 4095 (root_object (password_drawn settings.seed 0)).row refl first rest
+  objects_read : live_rows (λ i. object_read (object_row_bytes image i)) 0 object_limit ≡ Some ((0, (root_object (password_drawn settings.seed 0)).row) ∷ [])
+  objects_read = live_rows-first (λ i. object_read (object_row_bytes image i)) object_limit 4095 (root_object (password_drawn settings.seed 0)).row refl first rest
     where
       bytes : object_row_bytes image 0 ≡ object_bytes (root_object (password_drawn settings.seed 0)).row
       bytes = ap (take 1024) objects_block
@@ -168,7 +168,7 @@ module _ (settings : Settings) (image : List (List ℕ)) (keeps : IsSettings set
           refl
           (sym bytes)
 
-      rest : (j : ℕ) → 1 ≤ j → j < object_rows → object_read (object_row_bytes image j) ≡ Some None
+      rest : (j : ℕ) → 1 ≤ j → j < object_limit → object_read (object_row_bytes image j) ≡ Some None
       rest j low high = read-free (object_row_bytes image j) _ (⊎_elim near far (cases_lt j 4))
         where
           near : j < 4 → are_zeros (object_row_bytes image j) ≡ true

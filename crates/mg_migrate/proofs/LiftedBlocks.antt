@@ -6,7 +6,8 @@ use Rattle.std.proofs.lemmas.List.{append-nil, take_at}
 use Rattle.std.proofs.lemmas.List.FromFn.{get_or-map-range_with_len, length-map-range_with_len}
 use Rattle.mg_model.specs.Bytes.{bytes_at, padded_to}
 use Rattle.mg_model.specs.BytesLemmas.{bytes_at-behind, padded_to-full}
-use Rattle.mg_model.specs.Layout.{first_frame, first_object_block, gate_open, globals_block, object_rows, segment_count, segment_gate, super_block, table_block, total_blocks}
+use Rattle.mg_model.specs.Layout.{first_frame, first_object_block, gate_open, globals_block, segment_count, segment_gate, super_block, table_block, total_blocks}
+use Rattle.mg_model.specs.Limits.{object_limit}
 use Rattle.mg_model.specs.Replay.{block_of, is_open, replay}
 use Rattle.mg_model.specs.Settings.{Settings}
 use Rattle.mg_model.specs.Spelling.{super_bytes}
@@ -107,7 +108,7 @@ row-in-lifted block half k few =
     ∙ row-of block half k few
 
 -- row i becomes row i
-pub object-row-lifted : (settings : Settings) (r : List (List ℕ)) (i : ℕ) → i < object_rows → object_row_bytes (lifted settings r) i ≡ lifted_row (object1_row_bytes r i)
+pub object-row-lifted : (settings : Settings) (r : List (List ℕ)) (i : ℕ) → i < object_limit → object_row_bytes (lifted settings r) i ≡ lifted_row (object1_row_bytes r i)
 object-row-lifted settings r i few =
     let j = first_object_block + i / 4 in
     let place : block_of (lifted settings r) j ≡ lifted_objects (block_of r (first_object_block + (j - first_object_block) / 2)) ((j - first_object_block) % 2) =

@@ -9,7 +9,8 @@ use Rattle.std.proofs.lemmas.List.Folds.{list_all-map}
 use Rattle.mg_model.specs.declared.accounts.AccRow.{AccRow}
 use Rattle.mg_model.specs.Bank.{used}
 use Rattle.mg_model.specs.Bytes.{are_zeros, block_words}
-use Rattle.mg_model.specs.Layout.{account_rows, first_frame, globals_block, object_rows, table_block, table_blocks, thread_rows, total_blocks}
+use Rattle.mg_model.specs.Layout.{first_frame, globals_block, table_block, table_blocks, total_blocks}
+use Rattle.mg_model.specs.Limits.{account_limit, thread_limit, object_limit}
 use Rattle.mg_model.specs.Objects.{page_of, with_object}
 use Rattle.mg_model.specs.Replay.{block_of}
 use Rattle.mg_model.specs.Settings.{Settings}
@@ -99,21 +100,21 @@ module _ (settings : Settings) (r : List (List ℕ)) where
   rows-lifted =
       let frames = settings.frames in
       let counters : globals_read (block_of l globals_block) ≡ globals_read (block_of r globals_block) = ap globals_read (row-block globals_block (omega arith) (omega arith)) in
-      let accounts : live_rows (λ i. account_read (account_row_bytes l i)) 0 account_rows ≡ live_rows (λ i. account_read (account_row_bytes r i)) 0 account_rows =
-      live_rows-same (λ i. account_read (account_row_bytes l i)) (λ i. account_read (account_row_bytes r i)) 0 account_rows
+      let accounts : live_rows (λ i. account_read (account_row_bytes l i)) 0 account_limit ≡ live_rows (λ i. account_read (account_row_bytes r i)) 0 account_limit =
+      live_rows-same (λ i. account_read (account_row_bytes l i)) (λ i. account_read (account_row_bytes r i)) 0 account_limit
       (λ j low high. ap (λ (b : List ℕ). account_read (take 64 (drop (64 * (j % 64)) b))) (row-block (1299 + j / 64) (omega arith) (omega arith))) in
-      let threads : live_rows (λ i. thread_read (thread_row_bytes l i)) 0 thread_rows ≡ live_rows (λ i. thread_read (thread_row_bytes r i)) 0 thread_rows =
-      live_rows-same (λ i. thread_read (thread_row_bytes l i)) (λ i. thread_read (thread_row_bytes r i)) 0 thread_rows (λ j low high. ap thread_read (row-block (1315 + j) (omega arith) (omega arith))) in
-      let objects : live_rows (λ i. object_read (object_row_bytes l i)) 0 object_rows ≡ option_map (map lift_placed) (live_rows (λ i. object1_read (object1_row_bytes r i)) 0 object_rows) =
-      live_rows-lifted (λ i. object_read (object_row_bytes l i)) (λ i. object1_read (object1_row_bytes r i)) 0 object_rows
+      let threads : live_rows (λ i. thread_read (thread_row_bytes l i)) 0 thread_limit ≡ live_rows (λ i. thread_read (thread_row_bytes r i)) 0 thread_limit =
+      live_rows-same (λ i. thread_read (thread_row_bytes l i)) (λ i. thread_read (thread_row_bytes r i)) 0 thread_limit (λ j low high. ap thread_read (row-block (1315 + j) (omega arith) (omega arith))) in
+      let objects : live_rows (λ i. object_read (object_row_bytes l i)) 0 object_limit ≡ option_map (map lift_placed) (live_rows (λ i. object1_read (object1_row_bytes r i)) 0 object_limit) =
+      live_rows-lifted (λ i. object_read (object_row_bytes l i)) (λ i. object1_read (object1_row_bytes r i)) 0 object_limit
       (λ j low high. ap object_read (object-row-lifted settings r j (omega arith)) ∙ lifted-read (object1_row_bytes r j)) in
       let whole : whole_table l frames ≡ whole_table1 r frames = table-lifted table_block table1_block (table_blocks frames) (omega arith) (omega arith) (omega arith) in
-      ap (λ counters. rows_from frames counters (live_rows (λ i. account_read (account_row_bytes l i)) 0 account_rows) (live_rows (λ i. thread_read (thread_row_bytes l i)) 0 thread_rows) (live_rows (λ i. object_read (object_row_bytes l i)) 0 object_rows) (whole_table l frames)) counters
-      ∙ ap (λ accounts. rows_from frames (globals_read (block_of r globals_block)) accounts (live_rows (λ i. thread_read (thread_row_bytes l i)) 0 thread_rows) (live_rows (λ i. object_read (object_row_bytes l i)) 0 object_rows) (whole_table l frames)) accounts
-      ∙ ap (λ threads. rows_from frames (globals_read (block_of r globals_block)) (live_rows (λ i. account_read (account_row_bytes r i)) 0 account_rows) threads (live_rows (λ i. object_read (object_row_bytes l i)) 0 object_rows) (whole_table l frames)) threads
-      ∙ ap (λ objects. rows_from frames (globals_read (block_of r globals_block)) (live_rows (λ i. account_read (account_row_bytes r i)) 0 account_rows) (live_rows (λ i. thread_read (thread_row_bytes r i)) 0 thread_rows) objects (whole_table l frames)) objects
-      ∙ ap (λ whole. rows_from frames (globals_read (block_of r globals_block)) (live_rows (λ i. account_read (account_row_bytes r i)) 0 account_rows) (live_rows (λ i. thread_read (thread_row_bytes r i)) 0 thread_rows) (option_map (map lift_placed) (live_rows (λ i. object1_read (object1_row_bytes r i)) 0 object_rows)) whole) whole
-      ∙ rows_from-lifted frames (globals_read (block_of r globals_block)) (live_rows (λ i. account_read (account_row_bytes r i)) 0 account_rows) (live_rows (λ i. thread_read (thread_row_bytes r i)) 0 thread_rows) (live_rows (λ i. object1_read (object1_row_bytes r i)) 0 object_rows) (whole_table1 r frames)
+      ap (λ counters. rows_from frames counters (live_rows (λ i. account_read (account_row_bytes l i)) 0 account_limit) (live_rows (λ i. thread_read (thread_row_bytes l i)) 0 thread_limit) (live_rows (λ i. object_read (object_row_bytes l i)) 0 object_limit) (whole_table l frames)) counters
+      ∙ ap (λ accounts. rows_from frames (globals_read (block_of r globals_block)) accounts (live_rows (λ i. thread_read (thread_row_bytes l i)) 0 thread_limit) (live_rows (λ i. object_read (object_row_bytes l i)) 0 object_limit) (whole_table l frames)) accounts
+      ∙ ap (λ threads. rows_from frames (globals_read (block_of r globals_block)) (live_rows (λ i. account_read (account_row_bytes r i)) 0 account_limit) threads (live_rows (λ i. object_read (object_row_bytes l i)) 0 object_limit) (whole_table l frames)) threads
+      ∙ ap (λ objects. rows_from frames (globals_read (block_of r globals_block)) (live_rows (λ i. account_read (account_row_bytes r i)) 0 account_limit) (live_rows (λ i. thread_read (thread_row_bytes r i)) 0 thread_limit) objects (whole_table l frames)) objects
+      ∙ ap (λ whole. rows_from frames (globals_read (block_of r globals_block)) (live_rows (λ i. account_read (account_row_bytes r i)) 0 account_limit) (live_rows (λ i. thread_read (thread_row_bytes r i)) 0 thread_limit) (option_map (map lift_placed) (live_rows (λ i. object1_read (object1_row_bytes r i)) 0 object_limit)) whole) whole
+      ∙ rows_from-lifted frames (globals_read (block_of r globals_block)) (live_rows (λ i. account_read (account_row_bytes r i)) 0 account_limit) (live_rows (λ i. thread_read (thread_row_bytes r i)) 0 thread_limit) (live_rows (λ i. object1_read (object1_row_bytes r i)) 0 object_limit) (whole_table1 r frames)
 
   -- the words of pages
   page-lifted : (table : List ℕ) (page : ℕ) → length table ≤ settings.frames → page_words l settings.frames table page ≡ page1_words r settings.frames table page
@@ -204,8 +205,8 @@ fitting-lifted rows state = ap (λ t. if t then Is (lift state) else Damaged) (f
 pub replayed-lifted : (settings : Settings) (r : List (List ℕ)) → replayed_volume settings (lifted settings r) ≡ lift_volume (replayed1_volume settings r)
 replayed-lifted settings r =
     ap (λ rows. option_map_or (λ rows. fitting rows (state_spelled (lifted settings r) settings rows)) rows Damaged) (rows-lifted settings r)
-    ∙ spelled (rows1_of r settings.frames) (λ rows is. short_table settings.frames (globals_read (block_of r globals_block)) (live_rows (λ i. account_read (account_row_bytes r i)) 0 account_rows)
-    (live_rows (λ i. thread_read (thread_row_bytes r i)) 0 thread_rows) (live_rows (λ i. object1_read (object1_row_bytes r i)) 0 object_rows) (whole_table1 r settings.frames) rows is)
+    ∙ spelled (rows1_of r settings.frames) (λ rows is. short_table settings.frames (globals_read (block_of r globals_block)) (live_rows (λ i. account_read (account_row_bytes r i)) 0 account_limit)
+    (live_rows (λ i. thread_read (thread_row_bytes r i)) 0 thread_limit) (live_rows (λ i. object1_read (object1_row_bytes r i)) 0 object_limit) (whole_table1 r settings.frames) rows is)
   where
     spelled : (o : Option Rows) → ((rows : Rows) → o ≡ Some rows → length rows.table ≤ settings.frames)
         → option_map_or (λ rows. fitting rows (state_spelled (lifted settings r) settings rows)) (option_map lift_rows o) Damaged ≡ lift_volume (option_map_or (λ rows. fitting rows (state1_spelled r settings rows)) o Damaged)

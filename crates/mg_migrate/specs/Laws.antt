@@ -1,7 +1,7 @@
 -- What is true of lifted images.
 use Rattle.std.specs.Prelude.{◌≡◌, ℕ, ◌+◌, ◌<◌, ◌≤◌, List, Some}
-use Rattle.mg_model.specs.Layout.{first_frame, first_object_block, globals_block, object_rows, super_block, table_block, table_blocks}
-use Rattle.mg_model.specs.Limits.{most_frames}
+use Rattle.mg_model.specs.Layout.{first_frame, first_object_block, globals_block, super_block, table_block, table_blocks}
+use Rattle.mg_model.specs.Limits.{most_frames, object_limit}
 use Rattle.mg_model.specs.Replay.{block_of, replay}
 use Rattle.mg_model.specs.Settings.{Settings}
 use Rattle.mg_model.specs.Volume.{object_row_bytes, replayed_volume, volume}
@@ -22,7 +22,7 @@ LiftedIsReplayed = (settings : Settings) (replayed : List (List ℕ)) (total : �
 -- What a lifted image has where: each row of the objects under its number, the globals, the accounts and the threads in their blocks,
 -- and each entry of the frame table and each frame under its number.
 pub record KeepsPlaces (settings : Settings) (replayed : List (List ℕ)) : Type 0 where
-  pub objects : (i : ℕ) → i < object_rows → object_row_bytes (lifted settings replayed) i ≡ lifted_row (object1_row_bytes replayed i)
+  pub objects : (i : ℕ) → i < object_limit → object_row_bytes (lifted settings replayed) i ≡ lifted_row (object1_row_bytes replayed i)
   pub rows : (i : ℕ) → globals_block ≤ i → i < first_object_block → block_of (lifted settings replayed) i ≡ block_of replayed i
   pub entries : (i : ℕ) → i < table_blocks settings.frames → block_of (lifted settings replayed) (table_block + i) ≡ block_of replayed (table1_block + i)
   pub frames : (f : ℕ) → f < settings.frames → block_of (lifted settings replayed) (first_frame settings.frames + f) ≡ block_of replayed (first_frame1 settings.frames + f)

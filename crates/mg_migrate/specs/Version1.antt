@@ -2,13 +2,14 @@
 use Rattle.std.specs.Prelude.{ℕ, zero, suc, ◌+◌, ◌==◌, nat_le, List, [], ◌∷◌, ◌++◌, drop, if◌then◌else◌, length, map, position, replicate, take, Option, Some, None}
 use Rattle.std.specs.Option.{option_map_or}
 use Rattle.mg_model.specs.Bytes.{are_zeros, block_words}
-use Rattle.mg_model.specs.Layout.{account_rows, first_object_block, globals_block, object_rows, super_block, table_blocks, thread_rows}
+use Rattle.mg_model.specs.Layout.{first_object_block, globals_block, super_block, table_blocks}
+use Rattle.mg_model.specs.Limits.{account_limit, thread_limit, object_limit}
 use Rattle.mg_model.specs.Objects.{page_of, with_object}
 use Rattle.mg_model.specs.Replay.{block_of, replay}
 use Rattle.mg_model.specs.Settings.{Settings}
 use Rattle.mg_model.specs.Spelling.{account_read, globals_read, thread_read}
 use Rattle.mg_model.specs.State.{Object, ObjectRow, State}
-use Rattle.mg_model.specs.Volume.{Damaged, Is, NotVolume, OldVolume, Rows, VolumeRead, account_row_bytes, accounts_spelled, fitting, is_gated, live_rows, row_bytes, table_entries, thread_row_bytes, threads_spelled}
+use Rattle.mg_model.specs.Volume.{Damaged, Is, NotVolume, OldVolume, Rows, VolumeRead, account_row_bytes, accounts_spelled, fitting, has_open_gate, live_rows, row_bytes, table_entries, thread_row_bytes, threads_spelled}
 use Rattle.mg_model.specs.Words.{and_then}
 use Rattle.mg_migrate.specs.Layout1.{first_frame1, object1_size, table1_block, total1_blocks}
 use Rattle.mg_migrate.specs.Spelling1.{BadSuper1, NewSuper1, NotSuper1, OldSuper1, Spells1, Super1Read, lift_row, object1_read, super1_read}
@@ -31,9 +32,9 @@ whole_table1 image frames = table_entries image table1_block (table_blocks frame
 abbrev pub rows1_of : List (List ℕ) → ℕ → Option Rows
 rows1_of image frames =
     and_then (globals_read (block_of image globals_block)) (λ counters.
-    and_then (live_rows (λ i. account_read (account_row_bytes image i)) 0 account_rows) (λ accounts.
-    and_then (live_rows (λ i. thread_read (thread_row_bytes image i)) 0 thread_rows) (λ threads.
-    and_then (live_rows (λ i. object1_read (object1_row_bytes image i)) 0 object_rows) (λ objects.
+    and_then (live_rows (λ i. account_read (account_row_bytes image i)) 0 account_limit) (λ accounts.
+    and_then (live_rows (λ i. thread_read (thread_row_bytes image i)) 0 thread_limit) (λ threads.
+    and_then (live_rows (λ i. object1_read (object1_row_bytes image i)) 0 object_limit) (λ objects.
     if are_zeros (drop frames (whole_table1 image frames))
     then Some record { counters = counters; accounts = accounts; threads = threads; objects = objects; table = take frames (whole_table1 image frames) }
     else None))))
@@ -88,7 +89,7 @@ volume1_behind image BadSuper1 = Damaged1
 volume1_behind image (Spells1 settings) = as_volume1 (settled1_volume image settings)
 
 unfoldable pub volume1 : List (List ℕ) → Volume1Read
-volume1 image = if is_gated image then volume1_behind image (super1_read (block_of image super_block)) else NotVolume1
+volume1 image = if has_open_gate image then volume1_behind image (super1_read (block_of image super_block)) else NotVolume1
 
 -- the state with passwords that never end, and all else as it was
 abbrev pub lift_object : Object → Object

@@ -7,7 +7,7 @@ use Rattle.mg_disk.specs.Disk.{HasBlocks, Image}
 use Rattle.mg_model.specs.Layout.{gate_open, super_block}
 use Rattle.mg_model.specs.Replay.{block_of}
 use Rattle.mg_model.specs.Spelling.{BadSuper, NotSuper, OldSuper, Spells, SuperRead, super_read}
-use Rattle.mg_model.specs.Volume.{Damaged, NotVolume, OldVolume, VolumeRead, gate_byte, is_gated, volume, volume_behind}
+use Rattle.mg_model.specs.Volume.{Damaged, NotVolume, OldVolume, VolumeRead, gate_byte, has_open_gate, volume, volume_behind}
 use Rattle.mg_mirror_session.specs.Judged.{first_fault, super_fault}
 
 some_inj : {A : Type 0} (x y : A) → Some x ≡ Some y → x ≡ y
@@ -30,7 +30,7 @@ gated_fault image false super kind is = some_inj NotVolume kind is
 
 pub fault_volume : (image : Image) (kind : VolumeRead) → first_fault image ≡ Some kind → volume image ≡ kind
 unfolding first_fault volume
-fault_volume image kind is = gated_fault image (is_gated image) (super_read (block_of image super_block)) kind is
+fault_volume image kind is = gated_fault image (has_open_gate image) (super_read (block_of image super_block)) kind is
 
 -- the cases
 fault_by : Bool → List ℕ → Option VolumeRead
@@ -57,7 +57,7 @@ unfolding first_fault fault_by
 fault-same a b long long' each =
     ap (λ two. fault_by (two && gate_byte a == gate_open) (block_of a super_block)) (le-leb 2 (length a) long ∙ sym (le-leb 2 (length b) long'))
     ∙ ap (λ (gate : List ℕ). fault_by (nat_le 2 (length b) && slice_index gate 0 == gate_open) (block_of a super_block)) (each 0 (omega arith))
-    ∙ ap (λ block. fault_by (is_gated b) block) (each super_block (omega arith))
+    ∙ ap (λ block. fault_by (has_open_gate b) block) (each super_block (omega arith))
 
 -- a run of first blocks, cut where the smaller disk ends
 pub fault-read : (n room : ℕ) (first image : Image) → 2 ≤ room → length first ≡ min n room → n ≤ length image → HasBlocks 0 first image → first_fault first ≡ first_fault (take n image)

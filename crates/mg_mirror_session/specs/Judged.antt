@@ -9,7 +9,7 @@ use Rattle.mg_disk.specs.declared.disk.Disk as disks
 use Rattle.mg_model.specs.Layout.{super_block}
 use Rattle.mg_model.specs.Replay.{block_of}
 use Rattle.mg_model.specs.Spelling.{BadSuper, NotSuper, OldSuper, Spells, SuperRead, super_read}
-use Rattle.mg_model.specs.Volume.{Damaged, NotVolume, OldVolume, VolumeRead, is_gated}
+use Rattle.mg_model.specs.Volume.{Damaged, NotVolume, OldVolume, VolumeRead, has_open_gate}
 
 -- the kind of none that a superblock tells of, if it does
 abbrev pub super_fault : SuperRead → Option VolumeRead
@@ -21,7 +21,7 @@ super_fault (Spells settings) = None
 -- The kind of none that the first two blocks of an image tell of: the gate, which has to be open, and the superblock. None where they
 -- tell of no fault; then the blocks behind them say whether it holds a volume.
 unfoldable pub first_fault : Image → Option VolumeRead
-first_fault image = if is_gated image then super_fault (super_read (block_of image super_block)) else Some NotVolume
+first_fault image = if has_open_gate image then super_fault (super_read (block_of image super_block)) else Some NotVolume
 
 -- a fault of opening is of this kind, or neither is one
 abbrev pub IsKind : Option OpenFault → Option VolumeRead → Type 0

@@ -1,5 +1,5 @@
 -- Accounts, pages and rent.
-use Rattle.std.specs.Prelude.{ℕ, zero, suc, ◌+◌, ◌-◌, ◌*◌, ◌==◌, nat_le, min, Bool, false, List, [], ◌∷◌, if◌then◌else◌, filter, sum_by, slice_get, slice_set, Option, None}
+use Rattle.std.specs.Prelude.{ℕ, zero, suc, ◌+◌, ◌-◌, ◌*◌, ◌==◌, nat_le, min, Bool, false, List, [], ◌∷◌, filter, find, reverse, sum_by, slice_get, slice_set, Option, None}
 use Rattle.std.specs.Option.{option_map_or}
 use Rattle.mg_model.specs.declared.accounts.AccRow.{AccRow}
 use Rattle.mg_model.specs.State.{State, Object}
@@ -40,13 +40,9 @@ used objects = sum_by (λ (object : Object). object.row.pages) objects
 abbrev pub pages_of : List Object → ℕ → ℕ
 pages_of objects number = used (filter (λ (object : Object). object.row.account == number) objects)
 
--- the rate of the last step that holds at so many pages in use, else the one before
-abbrev pub rate_from : ℕ → List (ℕ × ℕ) → ℕ → ℕ
-rate_from before [] pages = before
-rate_from before ((from, rate) ∷ steps) pages = rate_from (if nat_le from pages then rate else before) steps pages
-
+-- the rate of the last step that holds at so many pages in use
 abbrev pub rate_of : List (ℕ × ℕ) → ℕ → ℕ
-rate_of tariff pages = rate_from 0 tariff pages
+rate_of tariff pages = option_map_or (λ (step : ℕ × ℕ). step.1) (find (λ (step : ℕ × ℕ). nat_le step.0 pages) (reverse tariff)) 0
 
 -- what an account pays of what is due: all that it has, at most
 abbrev pub paid : AccRow → ℕ → ℕ

@@ -2,7 +2,7 @@
 use Rattle.std.specs.Prelude.{ℕ, ◌+◌, ◌*◌, ◌^◌, List}
 use Rattle.rand_chacha.specs.ChaCha.{word_at, key_of}
 
--- word n of the key stream of a seed
+-- word n of the key stream of a seed: its blocks have 10 double rounds each, and their nonce is 0
 abbrev pub stream_word : List ℕ → ℕ → ℕ
 stream_word seed n = word_at 10 (key_of seed) 0 n
 

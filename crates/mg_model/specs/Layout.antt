@@ -52,15 +52,9 @@ first_account_block = 1299
 abbrev pub account_size : ℕ
 account_size = 64
 
-abbrev pub account_rows : ℕ
-account_rows = 1024
-
 -- 256 threads, a block each
 abbrev pub first_thread_block : ℕ
 first_thread_block = 1315
-
-abbrev pub thread_rows : ℕ
-thread_rows = 256
 
 -- 4,096 objects, 1,024 bytes each
 abbrev pub first_object_block : ℕ
@@ -68,9 +62,6 @@ first_object_block = 1571
 
 abbrev pub object_size : ℕ
 object_size = 1024
-
-abbrev pub object_rows : ℕ
-object_rows = 4096
 
 -- the frame table, 8 bytes a frame
 abbrev pub table_block : ℕ

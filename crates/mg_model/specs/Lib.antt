@@ -51,6 +51,7 @@ pub mod DrawnLemmas
 pub mod FilledLemmas
 pub mod KeptListLemmas
 pub mod RowLemmas
+pub mod StepwiseLemmas
 pub mod SuperblockLemmas
 pub mod RowTestLemmas
 pub mod VolumeLemmas

@@ -137,12 +137,12 @@ line_of_words [] = None
 line_of_words (first ∷ more) = if is_note first then None else Some (spelled_line first more)
 
 -- a longer line is Bad, whatever it holds
-abbrev pub line_limit : ℕ
-line_limit = 256
+abbrev pub longest_line : ℕ
+longest_line = 256
 
 -- the line that a piece of the input spells
 abbrev pub line_of : List ℕ → Option Line
-line_of bytes = if nat_lt line_limit (length bytes) then Some bad_line else line_of_words (words bytes)
+line_of bytes = if nat_lt longest_line (length bytes) then Some bad_line else line_of_words (words bytes)
 
 -- The lines of an input. The last line may lack its newline: the piece behind the last newline is one more, and an empty
 -- piece spells no line.

@@ -13,7 +13,7 @@ page_of row = row.base / 4096
 abbrev pub page_behind : ObjectRow → ℕ
 page_behind row = row.base / 4096 + row.pages
 
--- whether so many pages from this one on meet no page of the object
+-- whether none of the n pages from this one on is a page of the object
 abbrev pub is_apart : ℕ → ℕ → Object → Bool
 is_apart page n object = nat_le (page + n) (page_of object.row) || nat_le (page_behind object.row) page
 
@@ -26,8 +26,8 @@ abbrev pub least : ℕ → List ℕ → ℕ
 least n [] = n
 least n (m ∷ ms) = least (min n m) ms
 
--- The least page from `first_page` on at which n pages meet no object. It is the first page or one right behind an
--- object, so the least is taken among those.
+-- The least page from `first_page` on at which n pages meet no object, and `page_end` where there is none below it. It is the first
+-- page or one right behind an object, so the least is taken among those: that no lower page is free is the law `free_pages_are_found`.
 abbrev pub lowest_free : List Object → ℕ → ℕ
 lowest_free objects n = least page_end (filter (λ page. is_free objects n page) (first_page ∷ map (λ (object : Object). page_behind object.row) objects))
 

@@ -1,11 +1,12 @@
 -- What the fields of a live row keep.
-use Rattle.std.specs.Prelude.{◌≡◌, ◌≢◌, ℕ, ◌+◌, ◌*◌, ◌/◌, ◌%◌, ◌^◌, ◌<◌, ◌≤◌, List, [], length, slice_index_or, All, AllPairs}
+use Rattle.std.specs.Prelude.{◌≡◌, ◌≢◌, ℕ, ◌+◌, ◌*◌, ◌/◌, ◌%◌, ◌^◌, ◌<◌, ◌≤◌, length, All, AllPairs}
 use Rattle.std.specs.Option.{ForSome}
 use Rattle.mg_model.specs.declared.slots.Pw.{Pw}
 use Rattle.mg_model.specs.declared.slots.Slot.{Slot}
 use Rattle.mg_model.specs.Limits.{account_limit, birth_limit, draw_limit, entry_point_limit, first_page, frame_limit, never, object_page_limit, page_end, password_limit, period_limit, slot_limit, thread_limit}
 use Rattle.mg_model.specs.Rights.{IsRights}
 use Rattle.mg_model.specs.State.{ObjectRow, CallFrame, ThreadRow, Counters}
+use Rattle.mg_model.specs.Tests.{first_back}
 
 -- a number of 64 bits
 abbrev pub IsWord : ℕ → Type 0
@@ -56,10 +57,6 @@ pub record IsCallFrame (frame : CallFrame) : Type 0 where
   pub aligned : frame.back % 8 ≡ 0
   pub few : length frame.slots ≤ slot_limit
   pub slots : All IsSlot frame.slots
-
--- where the first frame returns to
-abbrev pub first_back : List CallFrame → ℕ
-first_back frames = (slice_index_or frames 0 (record { back = 0; slots = [] })).back
 
 pub record IsThreadRow (row : ThreadRow) : Type 0 where
   pub birth : IsWord row.birth

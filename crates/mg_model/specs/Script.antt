@@ -12,24 +12,24 @@ where_so false instr = None
 abbrev pub is_register : ℕ → Bool
 is_register field = nat_lt field 8
 
--- the instruction of these fields: registers in use are below 8, and fields not in use are 0
+-- the instruction of this code and these fields: registers in use are below 8, and fields not in use are 0
 abbrev pub instruction_of : ℕ → ℕ → ℕ → ℕ → ℕ → Option Instr
-instruction_of word a b c i =
-    if word == 0 then where_so (a == 0 && b == 0 && c == 0 && i == 0) op.Halt
-    else if word == 1 then where_so (is_register a && b == 0 && c == 0) (op.Set a i)
-    else if word == 2 then where_so (is_register a && b == 0 && c == 0) (op.High a i)
-    else if word == 3 then where_so (is_register a && is_register b && is_register c && i == 0) (op.Add a b c)
-    else if word == 4 then where_so (is_register a && is_register b && is_register c && i == 0) (op.Sub a b c)
-    else if word == 5 then where_so (is_register a && is_register b && is_register c && i == 0) (op.Lt a b c)
-    else if word == 6 then where_so (is_register a && is_register b && c == 0) (op.Load a b i)
-    else if word == 7 then where_so (is_register a && is_register b && c == 0) (op.Store a b i)
-    else if word == 8 then where_so (a == 0 && b == 0 && c == 0) (op.Jump i)
-    else if word == 9 then where_so (is_register a && b == 0 && c == 0) (op.Jz a i)
-    else if word == 10 then where_so (is_register a && b == 0 && c == 0) (op.Jnz a i)
-    else if word == 11 then where_so (is_register a && is_register b && c == 0 && i == 0) (op.Pdx a b)
-    else if word == 12 then where_so (a == 0 && b == 0 && c == 0 && i == 0) op.Ret
-    else if word == 13 then where_so (a == 0 && b == 0 && c == 0 && i == 0) op.Yield
-    else if word == 14 then where_so (a == 0 && b == 0 && c == 0 && i == 0) op.Sys
+instruction_of code a b c i =
+    if code == 0 then where_so (a == 0 && b == 0 && c == 0 && i == 0) op.Halt
+    else if code == 1 then where_so (is_register a && b == 0 && c == 0) (op.Set a i)
+    else if code == 2 then where_so (is_register a && b == 0 && c == 0) (op.High a i)
+    else if code == 3 then where_so (is_register a && is_register b && is_register c && i == 0) (op.Add a b c)
+    else if code == 4 then where_so (is_register a && is_register b && is_register c && i == 0) (op.Sub a b c)
+    else if code == 5 then where_so (is_register a && is_register b && is_register c && i == 0) (op.Lt a b c)
+    else if code == 6 then where_so (is_register a && is_register b && c == 0) (op.Load a b i)
+    else if code == 7 then where_so (is_register a && is_register b && c == 0) (op.Store a b i)
+    else if code == 8 then where_so (a == 0 && b == 0 && c == 0) (op.Jump i)
+    else if code == 9 then where_so (is_register a && b == 0 && c == 0) (op.Jz a i)
+    else if code == 10 then where_so (is_register a && b == 0 && c == 0) (op.Jnz a i)
+    else if code == 11 then where_so (is_register a && is_register b && c == 0 && i == 0) (op.Pdx a b)
+    else if code == 12 then where_so (a == 0 && b == 0 && c == 0 && i == 0) op.Ret
+    else if code == 13 then where_so (a == 0 && b == 0 && c == 0 && i == 0) op.Yield
+    else if code == 14 then where_so (a == 0 && b == 0 && c == 0 && i == 0) op.Sys
     else None
 
 -- the instruction that a word spells

@@ -68,7 +68,7 @@ passwords_at bytes k (suc n) =
 abbrev pub extension_at : List ℕ → Option Slot
 extension_at bytes = if number_at bytes object_extended == 1 then Some record { base = number_at bytes object_extension_base; password = number_at bytes object_extension_password } else None
 
--- the fields; of a count past its limit one more is read, which no rule lets pass
+-- The fields that these bytes have. Where a count is above its limit, one row more than the limit is read: `is_object_row` refuses that.
 abbrev pub object_fields : List ℕ → ObjectRow
 object_fields bytes = record {
   base = number_at bytes object_base;

@@ -1,7 +1,7 @@
 -- Lemmas that crates above need: the superblock is read back as it was written.
 use Rattle.std.specs.Prelude.{◌≡◌, ℕ, zero, suc, ◌+◌, ◌-◌, ◌^◌, ◌<◌, ◌≤◌, ◌&&◌, IsTrue, true, false, All, List, [], ◌∷◌, ◌++◌, if◌then◌else◌, length, replicate, slice_index_or}
 use Rattle.std.proofs.Common.{refl, sym, ap, subst, ◌∙◌, arith, add_assoc, append_assoc}
-use Rattle.std.proofs.lemmas.Bool.{and_from, and_parts, eqb-true, lt-ltb, le-ltb}
+use Rattle.std.proofs.lemmas.Bool.{and_from, lt-ltb, le-ltb}
 use Rattle.std.proofs.lemmas.Bool.Decides.{nat_tests}
 use Rattle.std.proofs.lemmas.List.{take_at}
 use Rattle.std.proofs.lemmas.List.Elements.{All-cons, All-head, All-nil, All-tail}
@@ -41,7 +41,12 @@ steps_at-first (step ∷ steps) ys fit =
 
 -- a tariff has four steps, and its numbers are at most 2 ^ 20
 pub tariff-four : (steps : List (ℕ × ℕ)) → IsTrue (is_tariff steps) → length steps ≡ 4
-tariff-four steps rule = eqb-true (length steps) 4 (and_parts _ _ (and_parts _ _ rule).0).0
+tariff-four [] rule = absurd (cc)
+tariff-four (a ∷ []) rule = absurd (cc)
+tariff-four (a ∷ b ∷ []) rule = absurd (cc)
+tariff-four (a ∷ b ∷ c ∷ []) rule = absurd (cc)
+tariff-four (a ∷ b ∷ c ∷ d ∷ []) rule = refl
+tariff-four (a ∷ b ∷ c ∷ d ∷ e ∷ steps) rule = absurd (cc)
 
 -- what a tariff of four steps keeps, as facts
 record AreBounded (a b c d : ℕ × ℕ) : Type 0 where

@@ -1,11 +1,10 @@
 -- What the fields of a live row and the counters keep, as tests that compute; `Ranges` says the same as facts.
-use Rattle.std.specs.Prelude.{ℕ, ◌+◌, ◌*◌, ◌/◌, ◌%◌, ◌==◌, ◌&&◌, nat_le, nat_lt, Bool, true, not, List, [], ◌∷◌, length}
+use Rattle.std.specs.Prelude.{ℕ, ◌+◌, ◌*◌, ◌/◌, ◌%◌, ◌==◌, ◌&&◌, nat_le, nat_lt, Bool, true, not, List, [], ◌∷◌, length, slice_index_or}
 use Rattle.std.specs.Option.{option_map_or}
 use Rattle.std.specs.List.{list_all, list_any}
 use Rattle.mg_model.specs.declared.slots.Pw.{Pw}
 use Rattle.mg_model.specs.declared.slots.Slot.{Slot}
 use Rattle.mg_model.specs.Limits.{account_limit, all_rights, birth_limit, draw_limit, entry_point_limit, first_page, frame_limit, never, object_page_limit, page_end, password_limit, period_limit, slot_limit, thread_limit}
-use Rattle.mg_model.specs.Ranges.{first_back}
 use Rattle.mg_model.specs.State.{CallFrame, Counters, ObjectRow, ThreadRow}
 
 -- no number stands there twice
@@ -32,6 +31,10 @@ is_object_row row =
 
 abbrev pub is_call_frame : CallFrame → Bool
 is_call_frame frame = frame.back % 8 == 0 && nat_le (length frame.slots) slot_limit
+
+-- where the first frame returns to
+abbrev pub first_back : List CallFrame → ℕ
+first_back frames = (slice_index_or frames 0 (record { back = 0; slots = [] })).back
 
 abbrev pub is_thread_row : ThreadRow → Bool
 is_thread_row row =

@@ -16,7 +16,8 @@ use Rattle.mg_model.specs.State.{State, Thread}
 abbrev pub is_thread : State → ℕ → Bool
 is_thread state t = is_some (thread_of state t)
 
--- the lowest number from this one on that no thread has; the threads stand in the order of their numbers
+-- The least number from this one on that no thread has; the threads stand in the order of their numbers. That it is the least is the law
+-- `free_numbers_are_least`.
 abbrev pub free_number_from : ℕ → List Thread → ℕ
 free_number_from n [] = n
 free_number_from n (thread ∷ threads) = if thread.number == n then free_number_from (n + 1) threads else n

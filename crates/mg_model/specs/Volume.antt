@@ -5,8 +5,8 @@ use Rattle.std.specs.List.{list_all, list_any}
 use Rattle.mg_model.specs.declared.accounts.AccRow.{AccRow}
 use Rattle.mg_model.specs.Bank.{used}
 use Rattle.mg_model.specs.Bytes.{are_zeros, block_words, bytes_at}
-use Rattle.mg_model.specs.Layout.{account_rows, account_size, first_account_block, first_frame, first_object_block, first_thread_block, gate_block, gate_open, globals_block, object_rows, object_size, super_block, table_block, table_blocks, thread_rows, total_blocks}
-use Rattle.mg_model.specs.Limits.{debt_limit}
+use Rattle.mg_model.specs.Layout.{account_size, first_account_block, first_frame, first_object_block, first_thread_block, gate_block, gate_open, globals_block, object_size, super_block, table_block, table_blocks, total_blocks}
+use Rattle.mg_model.specs.Limits.{debt_limit, account_limit, thread_limit, object_limit}
 use Rattle.mg_model.specs.Objects.{page_behind, page_of, with_object}
 use Rattle.mg_model.specs.Replay.{block_of, replay}
 use Rattle.mg_model.specs.Settings.{Settings}
@@ -67,9 +67,9 @@ pub record Rows : Type 0 where
 abbrev pub rows_of : List (List ℕ) → ℕ → Option Rows
 rows_of image frames =
     and_then (globals_read (block_of image globals_block)) (λ counters.
-    and_then (live_rows (λ i. account_read (account_row_bytes image i)) 0 account_rows) (λ accounts.
-    and_then (live_rows (λ i. thread_read (thread_row_bytes image i)) 0 thread_rows) (λ threads.
-    and_then (live_rows (λ i. object_read (object_row_bytes image i)) 0 object_rows) (λ objects.
+    and_then (live_rows (λ i. account_read (account_row_bytes image i)) 0 account_limit) (λ accounts.
+    and_then (live_rows (λ i. thread_read (thread_row_bytes image i)) 0 thread_limit) (λ threads.
+    and_then (live_rows (λ i. object_read (object_row_bytes image i)) 0 object_limit) (λ objects.
     if are_zeros (drop frames (whole_table image frames))
     then Some record { counters = counters; accounts = accounts; threads = threads; objects = objects; table = table_of image frames }
     else None))))
@@ -187,12 +187,12 @@ abbrev pub gate_byte : List (List ℕ) → ℕ
 gate_byte image = slice_index (block_of image gate_block) 0
 
 -- an image has the gate's block and the one behind it, and its gate is open: as a test, and as facts
-abbrev pub is_gated : List (List ℕ) → Bool
-is_gated image = nat_le 2 (length image) && gate_byte image == gate_open
+abbrev pub has_open_gate : List (List ℕ) → Bool
+has_open_gate image = nat_le 2 (length image) && gate_byte image == gate_open
 
 pub record IsOpened (image : List (List ℕ)) : Type 0 where
   pub long : 2 ≤ length image
   pub gate : gate_byte image ≡ gate_open
 
 unfoldable pub volume : List (List ℕ) → VolumeRead
-volume image = if is_gated image then volume_behind image (super_read (block_of image super_block)) else NotVolume
+volume image = if has_open_gate image then volume_behind image (super_read (block_of image super_block)) else NotVolume

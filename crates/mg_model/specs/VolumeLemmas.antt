@@ -7,7 +7,8 @@ use Rattle.std.proofs.lemmas.Bool.Decides.{nat_tests}
 use Rattle.std.proofs.lemmas.List.{get_or-set_other, get_or-set_same, length-set, length-take}
 use Rattle.mg_model.specs.declared.accounts.AccRow.{AccRow}
 use Rattle.mg_model.specs.Bytes.{are_zeros, block_words, bytes_at, number_at}
-use Rattle.mg_model.specs.Layout.{account_rows, body_limit, first_account_block, first_frame, first_object_block, first_thread_block, gate_open, globals_block, object_rows, segment_body, segment_count, segment_gate, segment_index, super_block, table_block, table_blocks, thread_rows, total_blocks}
+use Rattle.mg_model.specs.Layout.{body_limit, first_account_block, first_frame, first_object_block, first_thread_block, gate_open, globals_block, segment_body, segment_count, segment_gate, segment_index, super_block, table_block, table_blocks, total_blocks}
+use Rattle.mg_model.specs.Limits.{account_limit, thread_limit, object_limit}
 use Rattle.mg_model.specs.Objects.{page_of, with_object}
 use Rattle.mg_model.specs.Replay.{block_of, body_count, home_of, homes_fit, is_open, replay, segment_fits, segments_fit, writes_from, writes_of, writes_since, written}
 use Rattle.mg_model.specs.Settings.{Settings}
@@ -155,16 +156,16 @@ table_entries-same n a b block (suc m) same low high =
 
 -- the rows and the table of two images that agree on everything below the frames
 module _ (n : ℕ) (a b : List (List ℕ)) (same : AgreeWhole n a b) where
-  account_row-same : (i : ℕ) → i < account_rows → account_row_bytes a i ≡ account_row_bytes b i
+  account_row-same : (i : ℕ) → i < account_limit → account_row_bytes a i ≡ account_row_bytes b i
   account_row-same i few =
       let l = same.long in
       let place : first_account_block + i / 64 < n = omega arith in
       ap (λ (block : List ℕ). bytes_at block (64 * (i % 64)) 64) (same.blocks.each (first_account_block + i / 64) (omega arith) place)
 
-  thread_row-same : (i : ℕ) → i < thread_rows → thread_row_bytes a i ≡ thread_row_bytes b i
+  thread_row-same : (i : ℕ) → i < thread_limit → thread_row_bytes a i ≡ thread_row_bytes b i
   thread_row-same i few = let l = same.long in same.blocks.each (first_thread_block + i) (omega arith) (omega arith)
 
-  object_row-same : (i : ℕ) → i < object_rows → object_row_bytes a i ≡ object_row_bytes b i
+  object_row-same : (i : ℕ) → i < object_limit → object_row_bytes a i ≡ object_row_bytes b i
   object_row-same i few =
       let l = same.long in
       let place : first_object_block + i / 4 < n = omega arith in
@@ -185,9 +186,9 @@ rows_from frames counters accounts threads objects whole =
 rows_are : (image : List (List ℕ)) (frames : ℕ)
     → rows_of image frames
     ≡ rows_from frames (globals_read (block_of image globals_block))
-    (live_rows (λ i. account_read (account_row_bytes image i)) 0 account_rows)
-    (live_rows (λ i. thread_read (thread_row_bytes image i)) 0 thread_rows)
-    (live_rows (λ i. object_read (object_row_bytes image i)) 0 object_rows)
+    (live_rows (λ i. account_read (account_row_bytes image i)) 0 account_limit)
+    (live_rows (λ i. thread_read (thread_row_bytes image i)) 0 thread_limit)
+    (live_rows (λ i. object_read (object_row_bytes image i)) 0 object_limit)
     (whole_table image frames)
 rows_are image frames = refl
 
@@ -196,18 +197,18 @@ rows-same : (n frames : ℕ) (a b : List (List ℕ)) → AgreeWhole n a b → fi
 rows-same n frames a b same within =
     let l = same.long in
     let counters : globals_read (block_of a globals_block) ≡ globals_read (block_of b globals_block) = ap globals_read (same.blocks.each globals_block (omega arith) (omega arith)) in
-    let accounts : live_rows (λ i. account_read (account_row_bytes a i)) 0 account_rows ≡ live_rows (λ i. account_read (account_row_bytes b i)) 0 account_rows =
-    live_rows-same (λ i. account_read (account_row_bytes a i)) (λ i. account_read (account_row_bytes b i)) 0 account_rows (λ j low high. ap account_read (account_row-same n a b same j (omega arith))) in
-    let threads : live_rows (λ i. thread_read (thread_row_bytes a i)) 0 thread_rows ≡ live_rows (λ i. thread_read (thread_row_bytes b i)) 0 thread_rows =
-    live_rows-same (λ i. thread_read (thread_row_bytes a i)) (λ i. thread_read (thread_row_bytes b i)) 0 thread_rows (λ j low high. ap thread_read (thread_row-same n a b same j (omega arith))) in
-    let objects : live_rows (λ i. object_read (object_row_bytes a i)) 0 object_rows ≡ live_rows (λ i. object_read (object_row_bytes b i)) 0 object_rows =
-    live_rows-same (λ i. object_read (object_row_bytes a i)) (λ i. object_read (object_row_bytes b i)) 0 object_rows (λ j low high. ap object_read (object_row-same n a b same j (omega arith))) in
+    let accounts : live_rows (λ i. account_read (account_row_bytes a i)) 0 account_limit ≡ live_rows (λ i. account_read (account_row_bytes b i)) 0 account_limit =
+    live_rows-same (λ i. account_read (account_row_bytes a i)) (λ i. account_read (account_row_bytes b i)) 0 account_limit (λ j low high. ap account_read (account_row-same n a b same j (omega arith))) in
+    let threads : live_rows (λ i. thread_read (thread_row_bytes a i)) 0 thread_limit ≡ live_rows (λ i. thread_read (thread_row_bytes b i)) 0 thread_limit =
+    live_rows-same (λ i. thread_read (thread_row_bytes a i)) (λ i. thread_read (thread_row_bytes b i)) 0 thread_limit (λ j low high. ap thread_read (thread_row-same n a b same j (omega arith))) in
+    let objects : live_rows (λ i. object_read (object_row_bytes a i)) 0 object_limit ≡ live_rows (λ i. object_read (object_row_bytes b i)) 0 object_limit =
+    live_rows-same (λ i. object_read (object_row_bytes a i)) (λ i. object_read (object_row_bytes b i)) 0 object_limit (λ j low high. ap object_read (object_row-same n a b same j (omega arith))) in
     let whole : whole_table a frames ≡ whole_table b frames = table_entries-same n a b table_block (table_blocks frames) same.blocks (omega arith) (omega arith) in
-    ap (λ counters. rows_from frames counters (live_rows (λ i. account_read (account_row_bytes a i)) 0 account_rows) (live_rows (λ i. thread_read (thread_row_bytes a i)) 0 thread_rows) (live_rows (λ i. object_read (object_row_bytes a i)) 0 object_rows) (whole_table a frames)) counters
-    ∙ ap (λ accounts. rows_from frames (globals_read (block_of b globals_block)) accounts (live_rows (λ i. thread_read (thread_row_bytes a i)) 0 thread_rows) (live_rows (λ i. object_read (object_row_bytes a i)) 0 object_rows) (whole_table a frames)) accounts
-    ∙ ap (λ threads. rows_from frames (globals_read (block_of b globals_block)) (live_rows (λ i. account_read (account_row_bytes b i)) 0 account_rows) threads (live_rows (λ i. object_read (object_row_bytes a i)) 0 object_rows) (whole_table a frames)) threads
-    ∙ ap (λ objects. rows_from frames (globals_read (block_of b globals_block)) (live_rows (λ i. account_read (account_row_bytes b i)) 0 account_rows) (live_rows (λ i. thread_read (thread_row_bytes b i)) 0 thread_rows) objects (whole_table a frames)) objects
-    ∙ ap (λ whole. rows_from frames (globals_read (block_of b globals_block)) (live_rows (λ i. account_read (account_row_bytes b i)) 0 account_rows) (live_rows (λ i. thread_read (thread_row_bytes b i)) 0 thread_rows) (live_rows (λ i. object_read (object_row_bytes b i)) 0 object_rows) whole) whole
+    ap (λ counters. rows_from frames counters (live_rows (λ i. account_read (account_row_bytes a i)) 0 account_limit) (live_rows (λ i. thread_read (thread_row_bytes a i)) 0 thread_limit) (live_rows (λ i. object_read (object_row_bytes a i)) 0 object_limit) (whole_table a frames)) counters
+    ∙ ap (λ accounts. rows_from frames (globals_read (block_of b globals_block)) accounts (live_rows (λ i. thread_read (thread_row_bytes a i)) 0 thread_limit) (live_rows (λ i. object_read (object_row_bytes a i)) 0 object_limit) (whole_table a frames)) accounts
+    ∙ ap (λ threads. rows_from frames (globals_read (block_of b globals_block)) (live_rows (λ i. account_read (account_row_bytes b i)) 0 account_limit) threads (live_rows (λ i. object_read (object_row_bytes a i)) 0 object_limit) (whole_table a frames)) threads
+    ∙ ap (λ objects. rows_from frames (globals_read (block_of b globals_block)) (live_rows (λ i. account_read (account_row_bytes b i)) 0 account_limit) (live_rows (λ i. thread_read (thread_row_bytes b i)) 0 thread_limit) objects (whole_table a frames)) objects
+    ∙ ap (λ whole. rows_from frames (globals_read (block_of b globals_block)) (live_rows (λ i. account_read (account_row_bytes b i)) 0 account_limit) (live_rows (λ i. thread_read (thread_row_bytes b i)) 0 thread_limit) (live_rows (λ i. object_read (object_row_bytes b i)) 0 object_limit) whole) whole
 
 -- the table has an entry for each frame at most
 short_table : (frames : ℕ) (counters : Option Counters) (accounts : Option (List (ℕ × AccRow))) (threads : Option (List (ℕ × ThreadRow))) (objects : Option (List (ℕ × ObjectRow))) (whole : List ℕ) (t : Bool) (rows : Rows)
@@ -227,8 +228,8 @@ short_table frames (Some c) (Some a) (Some h) (Some o) whole true rows tested is
 
 pub table_short : (image : List (List ℕ)) (frames : ℕ) (rows : Rows) → rows_of image frames ≡ Some rows → length rows.table ≤ frames
 table_short image frames rows is =
-    short_table frames (globals_read (block_of image globals_block)) (live_rows (λ i. account_read (account_row_bytes image i)) 0 account_rows) (live_rows (λ i. thread_read (thread_row_bytes image i)) 0 thread_rows)
-    (live_rows (λ i. object_read (object_row_bytes image i)) 0 object_rows) (whole_table image frames) (are_zeros (drop frames (whole_table image frames))) rows refl is
+    short_table frames (globals_read (block_of image globals_block)) (live_rows (λ i. account_read (account_row_bytes image i)) 0 account_limit) (live_rows (λ i. thread_read (thread_row_bytes image i)) 0 thread_limit)
+    (live_rows (λ i. object_read (object_row_bytes image i)) 0 object_limit) (whole_table image frames) (are_zeros (drop frames (whole_table image frames))) rows refl is
 
 -- the frames
 position-below : (p : ℕ → Bool) (xs : List ℕ) (k : ℕ) → position p xs ≡ Some k → k < length xs
@@ -278,8 +279,8 @@ replayed-same settings a b same =
     let frames = settings.frames in
     let whole : AgreeWhole (total_blocks frames) a b = record { blocks = same; long = omega arith } in
     map_or-same (λ rows. fitting rows (state_spelled a settings rows)) (λ rows. fitting rows (state_spelled b settings rows)) (rows_of a frames) Damaged
-    (λ rows is. spelled-same settings a b rows same (short_table frames (globals_read (block_of a globals_block)) (live_rows (λ i. account_read (account_row_bytes a i)) 0 account_rows) (live_rows (λ i. thread_read (thread_row_bytes a i)) 0 thread_rows)
-    (live_rows (λ i. object_read (object_row_bytes a i)) 0 object_rows) (whole_table a frames) (are_zeros (drop frames (whole_table a frames))) rows refl is))
+    (λ rows is. spelled-same settings a b rows same (short_table frames (globals_read (block_of a globals_block)) (live_rows (λ i. account_read (account_row_bytes a i)) 0 account_limit) (live_rows (λ i. thread_read (thread_row_bytes a i)) 0 thread_limit)
+    (live_rows (λ i. object_read (object_row_bytes a i)) 0 object_limit) (whole_table a frames) (are_zeros (drop frames (whole_table a frames))) rows refl is))
     ∙ ap (λ rows. option_map_or (λ rows. fitting rows (state_spelled b settings rows)) rows Damaged) (rows-same (total_blocks frames) frames a b whole (omega arith))
 
 -- two images that are long enough
@@ -381,18 +382,18 @@ settled-closed settings image long closed =
 -- the rows, each read
 pub record AreRead (image : List (List ℕ)) (frames : ℕ) (counters : Counters) (accounts : List (ℕ × AccRow)) (threads : List (ℕ × ThreadRow)) (objects : List (ℕ × ObjectRow)) (whole : List ℕ) : Type 0 where
   pub counters_are : globals_read (block_of image globals_block) ≡ Some counters
-  pub accounts_are : live_rows (λ i. account_read (account_row_bytes image i)) 0 account_rows ≡ Some accounts
-  pub threads_are : live_rows (λ i. thread_read (thread_row_bytes image i)) 0 thread_rows ≡ Some threads
-  pub objects_are : live_rows (λ i. object_read (object_row_bytes image i)) 0 object_rows ≡ Some objects
+  pub accounts_are : live_rows (λ i. account_read (account_row_bytes image i)) 0 account_limit ≡ Some accounts
+  pub threads_are : live_rows (λ i. thread_read (thread_row_bytes image i)) 0 thread_limit ≡ Some threads
+  pub objects_are : live_rows (λ i. object_read (object_row_bytes image i)) 0 object_limit ≡ Some objects
   pub whole_is : whole_table image frames ≡ whole
   pub rest : are_zeros (drop frames whole) ≡ true
 
 pub rows-read : (image : List (List ℕ)) (frames : ℕ) (counters : Counters) (accounts : List (ℕ × AccRow)) (threads : List (ℕ × ThreadRow)) (objects : List (ℕ × ObjectRow)) (whole : List ℕ)
     → AreRead image frames counters accounts threads objects whole → rows_of image frames ≡ Some (rows_with counters accounts threads objects (take frames whole))
 rows-read image frames counters accounts threads objects whole are =
-    ap (λ c. rows_from frames c (live_rows (λ i. account_read (account_row_bytes image i)) 0 account_rows) (live_rows (λ i. thread_read (thread_row_bytes image i)) 0 thread_rows) (live_rows (λ i. object_read (object_row_bytes image i)) 0 object_rows) (whole_table image frames)) are.counters_are
-    ∙ ap (λ a. rows_from frames (Some counters) a (live_rows (λ i. thread_read (thread_row_bytes image i)) 0 thread_rows) (live_rows (λ i. object_read (object_row_bytes image i)) 0 object_rows) (whole_table image frames)) are.accounts_are
-    ∙ ap (λ t. rows_from frames (Some counters) (Some accounts) t (live_rows (λ i. object_read (object_row_bytes image i)) 0 object_rows) (whole_table image frames)) are.threads_are
+    ap (λ c. rows_from frames c (live_rows (λ i. account_read (account_row_bytes image i)) 0 account_limit) (live_rows (λ i. thread_read (thread_row_bytes image i)) 0 thread_limit) (live_rows (λ i. object_read (object_row_bytes image i)) 0 object_limit) (whole_table image frames)) are.counters_are
+    ∙ ap (λ a. rows_from frames (Some counters) a (live_rows (λ i. thread_read (thread_row_bytes image i)) 0 thread_limit) (live_rows (λ i. object_read (object_row_bytes image i)) 0 object_limit) (whole_table image frames)) are.accounts_are
+    ∙ ap (λ t. rows_from frames (Some counters) (Some accounts) t (live_rows (λ i. object_read (object_row_bytes image i)) 0 object_limit) (whole_table image frames)) are.threads_are
     ∙ ap (λ o. rows_from frames (Some counters) (Some accounts) (Some threads) o (whole_table image frames)) are.objects_are
     ∙ ap (λ w. rows_from frames (Some counters) (Some accounts) (Some threads) (Some objects) w) are.whole_is
     ∙ ap (λ b. if b then Some (rows_with counters accounts threads objects (take frames whole)) else None) are.rest

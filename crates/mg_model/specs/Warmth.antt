@@ -108,8 +108,8 @@ cost_behind past state (line ∷ more) = line_cost past state line + cost_behind
 abbrev pub cost : State → List Line → ℕ
 cost state lines = cost_behind [] state lines
 
-abbrev pub IsQuiet : Event → Type 0
-IsQuiet event = is_disturbing event.state event.line ≡ false
+abbrev pub DisturbsNothing : Event → Type 0
+DisturbsNothing event = is_disturbing event.state event.line ≡ false
 
 -- `is_recent` in plain words: an earlier line took the key, neither it nor a later one disturbs, and the key's seat was
 -- taken by no other key since, be it in that line or in a later one.
@@ -118,8 +118,8 @@ pub record WasTaken (past : List Event) (key : Key) : Type 0 where
   pub event : Event
   pub older : List Event
   pub split : past ≡ later ++ event ∷ older
-  pub quiet : IsQuiet event
-  pub all_quiet : All IsQuiet later
+  pub quiet : DisturbsNothing event
+  pub all_quiet : All DisturbsNothing later
   pub after : List Key
   pub before : List Key
   pub took : taken_in event ≡ after ++ key ∷ before

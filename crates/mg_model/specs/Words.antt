@@ -1,7 +1,9 @@
 -- From bytes to words, and from a word to what it spells.
-use Rattle.std.specs.Prelude.{ℕ, ◌+◌, ◌-◌, ◌*◌, ◌/◌, ◌%◌, ◌^◌, ◌==◌, ◌&&◌, ◌||◌, nat_le, nat_lt, Bool, true, false, List, [], ◌∷◌, length, if◌then◌else◌, filter, Option, Some, None}
+use Rattle.std.specs.Prelude.{ℕ, ◌+◌, ◌-◌, ◌*◌, ◌^◌, ◌==◌, ◌&&◌, ◌||◌, nat_le, nat_lt, Bool, true, false, List, [], ◌∷◌, length, if◌then◌else◌, filter, sum_by, Option, Some, None}
 use Rattle.std.specs.Option.{option_map_or}
+use Rattle.std.specs.List.{filter_map}
 use Rattle.std.specs.Cmp.Lexicographic.{pointwise}
+use Rattle.mg_model.specs.Tests.{all_distinct}
 
 -- a byte goes to the front of the first piece
 abbrev pub onto_first : ℕ → List (List ℕ) → List (List ℕ)
@@ -81,14 +83,11 @@ letter_weight b =
     else if b == 79 then Some 32
     else None
 
--- the rights that these letters spell beside those that were read; no letter comes twice
-abbrev pub rights_from : ℕ → List ℕ → Option ℕ
-rights_from bits [] = Some bits
-rights_from bits (b ∷ bytes) = and_then (letter_weight b) (λ weight. if bits / weight % 2 == 1 then None else rights_from (bits + weight) bytes)
-
--- the rights that a word of one to six letters spells
+-- the rights that a word of one to six letters spells: each letter is known, none comes twice, and their bits are added up
 abbrev pub rights_of : List ℕ → Option ℕ
-rights_of word = if is_some_word word then rights_from 0 word else None
+rights_of word =
+    let weights = filter_map letter_weight word in
+    if is_some_word word && (length weights == length word && all_distinct weights) then Some (sum_by (λ weight. weight) weights) else None
 
 abbrev pub same_bytes : List ℕ → List ℕ → Bool
 same_bytes xs ys = pointwise ◌==◌ xs ys

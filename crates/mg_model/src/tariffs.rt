@@ -27,6 +27,7 @@ impl Model for Tariff {
 
 impl Tariff {
     /// The tariff with these steps; None exactly where they break its rule.
+    #[tactic(auto, using(crate::specs::StepwiseLemmas::tariff_places))]
     pub fn new(steps: [(u64, u64); 4]) -> Option<Tariff>
         ensures { result ≡ (if is_tariff steps then Some steps else None) }
     {

@@ -9,7 +9,7 @@ use Rattle.std.proofs.lemmas.List.Folds.{list_any-append}
 use Rattle.mg_model.specs.declared.calls.Line.{Line}
 use Rattle.mg_model.specs.Ended.{all_but_last, ended_lines}
 use Rattle.mg_model.specs.Words.{split_at, onto_first, is_newline, words}
-use Rattle.mg_model.specs.Lines.{bad_line, line_limit, line_of, line_of_words, lines}
+use Rattle.mg_model.specs.Lines.{bad_line, longest_line, line_of, line_of_words, lines}
 
 -- bytes go to the front of the first piece
 abbrev pub all_onto_first : List ℕ → List (List ℕ) → List (List ℕ)
@@ -107,20 +107,20 @@ lines-last bytes none = ap (filter_map line_of) (split_at-whole is_newline bytes
     one (Some x) = refl
 
 -- a line that is too long is bad, whatever it holds
-pub line_of-long : (bytes : List ℕ) → line_limit < length bytes → line_of bytes ≡ Some bad_line
+pub line_of-long : (bytes : List ℕ) → longest_line < length bytes → line_of bytes ≡ Some bad_line
 line_of-long bytes long =
-    let yes : nat_lt line_limit (length bytes) ≡ true = search rules in
+    let yes : nat_lt longest_line (length bytes) ≡ true = search rules in
     ap (λ v. if v then Some bad_line else line_of_words (words bytes)) yes
 
 -- so its further bytes change nothing
-pub lines-long : (bytes : List ℕ) (b : ℕ) (rest : List ℕ) → list_any is_newline bytes ≡ false → is_newline b ≡ false → line_limit < length bytes
+pub lines-long : (bytes : List ℕ) (b : ℕ) (rest : List ℕ) → list_any is_newline bytes ≡ false → is_newline b ≡ false → longest_line < length bytes
     → lines (bytes ++ b ∷ rest) ≡ lines (bytes ++ rest)
 lines-long bytes b rest none off long =
     ap (filter_map line_of) (split_at-append is_newline bytes (b ∷ rest) none ∙ ap (λ v. all_onto_first bytes (if v then [] ∷ split_at is_newline rest else onto_first b (split_at is_newline rest))) off)
     ∙ dropped (split_at is_newline rest)
     ∙ sym (ap (filter_map line_of) (split_at-append is_newline bytes rest none))
   where
-    longer : (more : List ℕ) → line_limit < length (bytes ++ more)
+    longer : (more : List ℕ) → longest_line < length (bytes ++ more)
     longer more = omega (arith, length-append bytes more)
 
     dropped : (pieces : List (List ℕ)) → filter_map line_of (all_onto_first bytes (onto_first b pieces)) ≡ filter_map line_of (all_onto_first bytes pieces)

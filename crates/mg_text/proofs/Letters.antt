@@ -3,8 +3,8 @@ use Rattle.std.proofs.Common.{◌≡◌, ℕ, ◌+◌, ◌/◌, ◌%◌, ◌<◌
 use Rattle.std.proofs.lemmas.List.{drop_all}
 use Rattle.std.proofs.lemmas.Bool.Decides.{nat_tests}
 use Rattle.mg_model.specs.Rights.{IsRights}
-use Rattle.mg_model.specs.Words.{and_then, letter_weight, rights_from, rights_of}
-use Rattle.mg_text.specs.Letters.{IsBit}
+use Rattle.mg_model.specs.Words.{and_then, letter_weight, rights_of}
+use Rattle.mg_model.specs.StepwiseLemmas.{IsBit, rights_from, rights_of-from}
 
 -- a bit that is free among the six
 free_below : (bits bit : ℕ) → IsBit bit → bits < 64 → (bits / bit % 2 ≡ 1 → ⊥) → bits + bit < 64
@@ -47,7 +47,7 @@ rights_from-more bits i bit w h e once =
 -- a word with a letter
 pub rights_of-some : (i : ℕ) (w : List ℕ) → i < length w → rights_of w ≡ rights_from 0 w
 rights_of-some i [] h = absurd (omega (arith, h))
-rights_of-some i (b ∷ w) h = refl
+rights_of-some i (b ∷ w) h = rights_of-from (b ∷ w)
 
 -- the set of the bits that were read
 made : (r : Option ℕ) (bits : ℕ) (w : List ℕ) → IfSome r (λ n. n ≡ bits) → (IsSome r ↔ IsRights bits) → rights_from 0 w ≡ Some bits → bits < 64 → length w ≤ bits
@@ -57,7 +57,7 @@ made (Some n) bits [] given some read few letters =
     absurd (let h = some.0 refl in let none : 0 ≡ bits = cc in omega (arith, h.some, none))
 made None bits (b ∷ w) given some read few letters =
     absurd (let h = some.1 (record { some = omega (arith, letters); six = omega (arith, few) }) in cc)
-made (Some n) bits (b ∷ w) given some read few letters = ap (λ v. Some v) given ∙ sym read
+made (Some n) bits (b ∷ w) given some read few letters = ap (λ v. Some v) given ∙ sym read ∙ sym (rights_of-from (b ∷ w))
 
 pub rights-made : (r : Option ℕ) (bits i : ℕ) (w : List ℕ) → IfSome r (λ n. n ≡ bits) → (IsSome r ↔ IsRights bits) → rights_from 0 w ≡ rights_from bits (drop i w)
     → length w ≤ i → bits < 64 → i ≤ bits → r ≡ rights_of w

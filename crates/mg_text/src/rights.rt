@@ -1,7 +1,7 @@
 // From letters to rights.
 ghost use Rattle.std.specs.Prelude.{◌≡◌, ◌<◌, ◌/◌, ◌%◌, ◌==◌, IfSome};
 ghost use Rattle.mg_model.specs.Words.{letter_weight, rights_of};
-ghost use Rattle.mg_text.specs.Letters.{IsBit};
+ghost use Rattle.mg_model.specs.StepwiseLemmas.{IsBit};
 
 use mg_model::Rights;
 

@@ -89,12 +89,12 @@ fn seat_at(thread: u64, base: u64, right: Right) -> usize
     ensures seat { result ≡ seat_of (record { thread = thread; base = base; right = right }) }
     ensures within { result < 256 }
 {
-    let rest = PAGE_STRIDE * (base / PAGE_SIZE) + RIGHT_STRIDE * number_of(right);
+    let rest = PAGE_STRIDE * (base / PAGE_SIZE) + RIGHT_STRIDE * right_number(right);
     (thread.wrapping_add(rest) % SEAT_COUNT as u64) as usize
 }
 
 // The number of a right, in the order of their bits.
-fn number_of(right: Right) -> u64
+fn right_number(right: Right) -> u64
     ensures number { result ≡ right_number right }
     ensures below_6 { result < 6 }
 {

@@ -6,8 +6,8 @@ use Rattle.std.proofs.lemmas.List.{get_or-set_other, get_or-set_same}
 use Rattle.mg_check.specs.RowsRead.{placed_from}
 use Rattle.mg_disk.specs.Disk.{Image}
 use Rattle.mg_model.specs.declared.accounts.AccRow.{AccRow}
-use Rattle.mg_model.specs.Layout.{account_rows, first_account_block, first_thread_block, globals_block}
-use Rattle.mg_model.specs.Limits.{debt_limit}
+use Rattle.mg_model.specs.Layout.{first_account_block, first_thread_block, globals_block}
+use Rattle.mg_model.specs.Limits.{debt_limit, account_limit}
 use Rattle.mg_model.specs.Replay.{block_of}
 use Rattle.mg_model.specs.Spelling.{Read, account_read, globals_read}
 use Rattle.mg_model.specs.Volume.{account_row_bytes, live_rows}
@@ -31,14 +31,14 @@ use Rattle.mg_volume.specs.StagesAccounts.{DifferWithin, HasAccounts, StagesAcco
 
 -- Rows in blocks are the accounts of a list where each block that a test names has the rows of the list, and the other blocks had
 -- them before.
-pub accounts_told : (f g : ℕ → Read AccRow) (named : ℕ → Bool) (old new : List AccRow) → live_rows f 0 account_rows ≡ Some (placed_from 0 old) → length new ≤ account_rows → DifferWithin named old new
-    → ((i : ℕ) → i < account_rows → named (i / 64) ≡ true → g i ≡ Some (slice_get new i)) → ((i : ℕ) → i < account_rows → named (i / 64) ≡ false → g i ≡ f i)
-    → live_rows g 0 account_rows ≡ Some (placed_from 0 new)
+pub accounts_told : (f g : ℕ → Read AccRow) (named : ℕ → Bool) (old new : List AccRow) → live_rows f 0 account_limit ≡ Some (placed_from 0 old) → length new ≤ account_limit → DifferWithin named old new
+    → ((i : ℕ) → i < account_limit → named (i / 64) ≡ true → g i ≡ Some (slice_get new i)) → ((i : ℕ) → i < account_limit → named (i / 64) ≡ false → g i ≡ f i)
+    → live_rows g 0 account_limit ≡ Some (placed_from 0 new)
 accounts_told f g named old new are few within here rest =
-    let all = told f 0 account_rows (placed_from 0 old) are in
-    tell g 0 account_rows (placed_from 0 new)
+    let all = told f 0 account_limit (placed_from 0 old) are in
+    tell g 0 account_limit (placed_from 0 new)
     (record {
-      placed = accounts_rise 0 account_rows new (omega arith);
+      placed = accounts_rise 0 account_limit new (omega arith);
       each = λ i low high.
           ⊎_elim
           (λ is. here i high is ∙ ap (λ o. Some o) (sym (account_here i new)))
@@ -58,7 +58,7 @@ module _ (v : VolumeHeld) (p : PagesHeld) (most : ℕ) (named : ℕ → Bool) (r
       (objects_behind (pages.coming p image) (pages.coming v.pages image) v.settings.frames (pages.table_in v.pages) v.objects (λ k above. stages.beside image k (inr (omega arith))))
       ∙ ap (λ accounts. record (now_of v image) { accounts = accounts }) same
 
-  pub accounts_spelled : DifferWithin named v.accounts rows → length rows ≤ account_rows → IsSpelledBy v image → IsSpelledBy (with_accounts v rows p) image
+  pub accounts_spelled : DifferWithin named v.accounts rows → length rows ≤ account_limit → IsSpelledBy v image → IsSpelledBy (with_accounts v rows p) image
   unfolding IsSpelledBy
   accounts_spelled within few is =
       let s : Spelled v image = is in
@@ -178,7 +178,7 @@ pub next_staged : (p q r : PagesHeld) (k : ℕ) (rows : List AccRow) → StagesA
 next_staged p q r k rows first second = staged_then p q r k 1 (λ i. nat_lt i k) (λ i. i == k) (λ i. nat_lt i (k + 1)) rows first second (next_named k)
 
 -- what a call that stages accounts does to the volume
-module _ (v : VolumeHeld) (p : PagesHeld) (most : ℕ) (named : ℕ → Bool) (rows : List AccRow) (stages : StagesAccounts most named rows v.pages p) (within : DifferWithin named v.accounts rows) (few : length rows ≤ account_rows) where
+module _ (v : VolumeHeld) (p : PagesHeld) (most : ℕ) (named : ℕ → Bool) (rows : List AccRow) (stages : StagesAccounts most named rows v.pages p) (within : DifferWithin named v.accounts rows) (few : length rows ≤ account_limit) where
   pub accounts_stages : Stages most v (with_accounts v rows p)
   accounts_stages = stages_is v (with_accounts v rows p) most refl stages.shape stages.words stages.staged (λ image was. accounts_spelled v p most named rows stages image within few was)
 

@@ -7,7 +7,7 @@ use Rattle.std.proofs.lemmas.List.{get_or-take, get_or_default, length-replicate
 use Rattle.std.proofs.lemmas.List.Elements.{All-cons, All-head, All-nil, All-replicate, All-set, All-tail}
 use Rattle.mg_check.specs.RowsRead as check
 use Rattle.mg_model.specs.KeptListLemmas.{AllPairs-head, AllPairs-tail}
-use Rattle.mg_model.specs.Layout.{thread_rows}
+use Rattle.mg_model.specs.Limits.{thread_limit}
 use Rattle.mg_model.specs.Ranges.{IsThreadRow}
 use Rattle.mg_model.specs.State.{ThreadRow}
 use Rattle.mg_model.specs.Volume.{with_live}
@@ -179,15 +179,15 @@ placed-rows {R} low high ((i, r) ∷ xs) from below rise = (
       (AllPairs-tail (λ (x y : ℕ × R). x.0 < y.0) (i, r) xs rise),
 )
 
-pub next_row : (rows : List (ℕ × ThreadRow)) (i : ℕ) (o : ℕ × ThreadRow) → check.ArePlaced thread_rows rows → i < length rows → o ≡ get_or rows i o → rows_with (o.0 + 1) (Some o.1) (numbered (take i rows)) ≡ numbered (take (i + 1) rows)
+pub next_row : (rows : List (ℕ × ThreadRow)) (i : ℕ) (o : ℕ × ThreadRow) → check.ArePlaced thread_limit rows → i < length rows → o ≡ get_or rows i o → rows_with (o.0 + 1) (Some o.1) (numbered (take i rows)) ≡ numbered (take (i + 1) rows)
 next_row rows i o placed under at =
-    sym (numbered_set 0 thread_rows o.0 (Some o.1) (take i rows) (placed-rows 0 thread_rows (take i rows) (λ k d few. omega arith) below rise))
+    sym (numbered_set 0 thread_limit o.0 (Some o.1) (take i rows) (placed-rows 0 thread_limit (take i rows) (λ k d few. omega arith) below rise))
     ∙ ap numbered (set-behind o.0 o.1 (take i rows) low ∙ ap (λ x. take i rows ++ x ∷ []) at ∙ sym (take_more rows i o under))
   where
     read : (k : ℕ) (d : ℕ × ThreadRow) → k < length (take i rows) → (k < i) × (k < length rows) × (get_or (take i rows) k d ≡ get_or rows k d)
     read k d few = let l = length-take i rows in (omega arith, omega arith, get_or-take i rows k d (omega arith))
 
-    below : All (λ (x : ℕ × ThreadRow). x.0 < thread_rows) (take i rows)
+    below : All (λ (x : ℕ × ThreadRow). x.0 < thread_limit) (take i rows)
     below k d few = let r = read k d few in let b = placed.below k d r.1 in let e = ap (λ (x : ℕ × ThreadRow). x.0) r.2 in omega arith
 
     low : All (λ (x : ℕ × ThreadRow). x.0 < o.0) (take i rows)

@@ -3,7 +3,7 @@ use Rattle.std.specs.Prelude.{◌≡◌, ◌+◌, ◌≤◌, ◌<◌, ◌==◌, 
 use Rattle.std.specs.List.{list_any}
 use Rattle.std.proofs.Common.{sym, ap, ◌∙◌, ⊎_elim, arith}
 use Rattle.std.proofs.lemmas.Bool.{cases_eq}
-use Rattle.mg_model.specs.Layout.{object_rows}
+use Rattle.mg_model.specs.Limits.{object_limit}
 use Rattle.mg_model.specs.State.{ObjectRow}
 use Rattle.mg_objects.specs.Held.{IsLowestFree}
 use Rattle.mg_volume.specs.Staging.{free_from, free_place}
@@ -21,4 +21,4 @@ lowest-from objects place at (suc n) low high free taken =
     (cases_eq at place)
 
 pub lowest_is : (objects : List (ℕ × ObjectRow)) (place : ℕ) → IsLowestFree place objects → place ≡ free_place objects
-lowest_is objects place is = sym (lowest-from objects place 0 object_rows (omega arith) (let w = is.within in omega arith) is.free is.lowest)
+lowest_is objects place is = sym (lowest-from objects place 0 object_limit (omega arith) (let w = is.within in omega arith) is.free is.lowest)

@@ -6,7 +6,7 @@ use Rattle.std.proofs.lemmas.Bool.{cases_Bool}
 use Rattle.std.proofs.lemmas.List.{length-set}
 use Rattle.std.proofs.lemmas.List.Elements.{All-set}
 use Rattle.std.proofs.lemmas.List.Sums.{sum_by-set}
-use Rattle.mg_model.specs.Layout.{object_rows}
+use Rattle.mg_model.specs.Limits.{object_limit}
 use Rattle.mg_model.specs.Objects.{page_behind, page_of}
 use Rattle.mg_model.specs.Ranges.{IsObjectRow}
 use Rattle.mg_model.specs.State.{ObjectRow}
@@ -56,13 +56,13 @@ apart-set (o ∷ next ∷ os) (suc zero) d new few base same =
 apart-set (o ∷ next ∷ os) (suc (suc i)) d new few base same =
     ap (λ b. nat_le (page_behind o.1) (page_of next.1) && b) (apart-set (next ∷ os) (suc i) d new (omega arith) base same)
 
-pub held_change : (v : VolumeHeld) (i : ℕ) (d : ℕ × ObjectRow) (p : ℕ) (row : ObjectRow) → IsKept v → IsObjectRow row → i < length v.objects → p < object_rows → row.base ≡ (get_or v.objects i d).1.base
+pub held_change : (v : VolumeHeld) (i : ℕ) (d : ℕ × ObjectRow) (p : ℕ) (row : ObjectRow) → IsKept v → IsObjectRow row → i < length v.objects → p < object_limit → row.base ≡ (get_or v.objects i d).1.base
     → (get_or v.objects i d).1.pages ≡ row.pages → IsKept (record v { objects = set v.objects i (p, row) })
 unfolding objects_in
 held_change v i d p row held is few low base same = record {
   frames = held.frames;
   rows = All-set (λ (o : ℕ × ObjectRow). IsObjectRow o.1) v.objects i (p, row) is held.rows;
-  places = All-set (λ (o : ℕ × ObjectRow). o.0 < object_rows) v.objects i (p, row) low held.places;
+  places = All-set (λ (o : ℕ × ObjectRow). o.0 < object_limit) v.objects i (p, row) low held.places;
   apart = apart-set v.objects i d (p, row) few base (sym same) ∙ held.apart;
   used = (let sum = sum_by-set (λ (o : ℕ × ObjectRow). o.1.pages) v.objects i (p, row) d few in let used = held.used in omega arith);
   few_objects = (let long = length-set v.objects i (p, row) in let most = held.few_objects in omega arith);

@@ -7,7 +7,8 @@ use Rattle.std.proofs.lemmas.Bool.{both_ways, cases_Bool, eq-eqb, eqb-true, ne_e
 use Rattle.std.proofs.lemmas.List.{get_or-map, length-map, map-set}
 use Rattle.std.proofs.lemmas.List.Elements.{All-cons, All-get_or, All-map, All-nil, All-weaker}
 use Rattle.mg_disk.specs.Disk.{Image}
-use Rattle.mg_model.specs.Layout.{first_object_block, object_rows}
+use Rattle.mg_model.specs.Layout.{first_object_block}
+use Rattle.mg_model.specs.Limits.{object_limit}
 use Rattle.mg_model.specs.Objects as model
 use Rattle.mg_model.specs.Ranges.{IsObjectRow}
 use Rattle.mg_model.specs.State.{ObjectRow}
@@ -87,8 +88,8 @@ module _ (v : VolumeHeld) (i : ℕ) (d : ℕ × ObjectRow) (row : ObjectRow) (ke
   same = sym (ap (λ (o : ℕ × ObjectRow). o.1.pages) stands.there) ∙ stands.pages
 
   -- its row has a place
-  pub changed_low : d.0 < object_rows
-  changed_low = subst (λ (o : ℕ × ObjectRow). o.0 < object_rows) (sym there) (All-get_or (λ (o : ℕ × ObjectRow). o.0 < object_rows) v.objects i d few kept.places)
+  pub changed_low : d.0 < object_limit
+  changed_low = subst (λ (o : ℕ × ObjectRow). o.0 < object_limit) (sym there) (All-get_or (λ (o : ℕ × ObjectRow). o.0 < object_limit) v.objects i d few kept.places)
 
   place-is : place_for row.base v.objects ≡ d.0
   place-is =
@@ -188,7 +189,7 @@ pages_same v row kept change = same-pages row v.objects (bases_distinct v kept) 
 
 -- the volume with it
 module _ (v : VolumeHeld) (row : ObjectRow) (place : ℕ) (kept : IsKept v) (put : IsPut v row place) where
-  pub put_low : place < object_rows
+  pub put_low : place < object_limit
   put_low = (let low = changed_low v put.index put.old row kept put.stands in let e = put.at in omega arith)
 
   pub put_room : is_object_staged v row.base ≡ true → pages.is_staged v.pages (first_object_block + place / 4) ≡ true

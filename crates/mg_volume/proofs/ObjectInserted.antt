@@ -8,7 +8,8 @@ use Rattle.std.proofs.lemmas.List.{length-map, replicate-append-replicate}
 use Rattle.std.proofs.lemmas.List.Elements.{All-cons, All-head, All-nil, All-tail}
 use Rattle.mg_disk.specs.Disk.{Image}
 use Rattle.mg_model.specs.Bytes.{block_words}
-use Rattle.mg_model.specs.Layout.{first_frame, first_object_block, object_rows}
+use Rattle.mg_model.specs.Layout.{first_frame, first_object_block}
+use Rattle.mg_model.specs.Limits.{object_limit}
 use Rattle.mg_model.specs.Objects.{page_behind, page_of, with_object}
 use Rattle.mg_model.specs.Ranges.{IsObjectRow}
 use Rattle.mg_model.specs.Replay.{block_of}
@@ -59,7 +60,7 @@ unmap P [] all = All-nil (λ (o : ℕ × ObjectRow). P o.1)
 unmap P (o ∷ os) all = All-cons (λ (o : ℕ × ObjectRow). P o.1) o os (All-head P o.1 (bare_rows os) all) (unmap P os (All-tail P o.1 (bare_rows os) all))
 
 -- there are fewer objects than rows, and the new one meets none of them
-pub join_few : (v : VolumeHeld) (row : ObjectRow) → MayJoin (objects_in v) (settings_in v).frames row → length v.objects < object_rows
+pub join_few : (v : VolumeHeld) (row : ObjectRow) → MayJoin (objects_in v) (settings_in v).frames row → length v.objects < object_limit
 unfolding objects_in
 join_few v row join = (let long = length-map v.objects (λ (o : ℕ × ObjectRow). o.1) in let f = join.few in omega arith)
 
@@ -80,7 +81,7 @@ module _ (v : VolumeHeld) (row : ObjectRow) (place : ℕ) (is : IsObjectRow row)
   at = lowest_is v.objects place lowest
 
   -- there is a free row
-  pub inserted_low : place < object_rows
+  pub inserted_low : place < object_limit
   inserted_low = lowest.within
 
   free : is_taken v.objects place ≡ false
@@ -125,7 +126,7 @@ module _ (v : VolumeHeld) (row : ObjectRow) (place : ℕ) (is : IsObjectRow row)
     inserted_held frames table = record {
       frames = frames ∙ kept.frames;
       rows = subst (All (λ (o : ℕ × ObjectRow). IsObjectRow o.1)) (sym put) (into-all (λ (o : ℕ × ObjectRow). IsObjectRow o.1) (place, row) v.objects is kept.rows);
-      places = subst (All (λ (o : ℕ × ObjectRow). o.0 < object_rows)) (sym put) (into-all (λ (o : ℕ × ObjectRow). o.0 < object_rows) (place, row) v.objects inserted_low kept.places);
+      places = subst (All (λ (o : ℕ × ObjectRow). o.0 < object_limit)) (sym put) (into-all (λ (o : ℕ × ObjectRow). o.0 < object_limit) (place, row) v.objects inserted_low kept.places);
       apart = ap (λ l. rows_apart (bare_rows l)) put ∙ ap rows_apart (into_rows (place, row) v.objects) ∙ apart_with row is (objects_in v) (kept_rows v kept) join.apart kept.apart;
       used =
           (let s = ap (λ l. sum_by (λ (o : ℕ × ObjectRow). o.1.pages) l) put ∙ into_sum (λ (o : ℕ × ObjectRow). o.1.pages) (place, row) v.objects in
@@ -151,12 +152,12 @@ module _ (v : VolumeHeld) (row : ObjectRow) (place : ℕ) (is : IsObjectRow row)
     inserted_spelled image spelled fitting frames staged =
         let s : Spelled v image = spelled in
         let placed = placed_of v image s in
-        let none : row_at place s.objects ≡ None = sym (by_base_row place s.objects (placed_distinct 0 object_rows s.objects placed)) ∙ ap (row_at place) s.ordered ∙ none_at place v.objects free in
+        let none : row_at place s.objects ≡ None = sym (by_base_row place s.objects (placed_distinct 0 object_limit s.objects placed)) ∙ ap (row_at place) s.ordered ∙ none_at place v.objects free in
         let differ : All (λ (o : ℕ × ObjectRow). o.1.base ≢ row.base) s.objects = from_by_base (λ (o : ℕ × ObjectRow). o.1.base ≢ row.base) s.objects (subst (All (λ (o : ℕ × ObjectRow). o.1.base ≢ row.base)) (sym s.ordered) others) in
         let order : by_base (row_set place (Some row) s.objects) ≡ objects = set_order place row s.objects none differ ∙ ap (into_place (place, row)) s.ordered ∙ sym put in
         let low = inserted_low in
         objects_staged v p image (place / 4) staged.bytes (row_set place (Some row) s.objects) objects s fitting frames (staged.coming image) (omega arith)
-        (set_placed 0 object_rows place (Some row) s.objects placed (omega arith) low) order staged.rows
+        (set_placed 0 object_limit place (Some row) s.objects placed (omega arith) low) order staged.rows
         (λ j other. set_other j place (Some row) s.objects (λ same. other (ap (λ k. k / 4) same)))
 
     -- its pages are bound nowhere

@@ -5,7 +5,8 @@ use Rattle.std.proofs.lemmas.Bool.{and_parts, cases_eq, eq-eqb, leb-true, ne_eqb
 use Rattle.std.proofs.lemmas.List.{get_or-set_other}
 use Rattle.std.proofs.lemmas.List.Elements.{All-cons, All-get_or, All-head, All-nil, All-tail, All-weaker}
 use Rattle.mg_disk.specs.Disk.{Image}
-use Rattle.mg_model.specs.Layout.{first_account_block, first_object_block, first_thread_block, globals_block, object_rows}
+use Rattle.mg_model.specs.Layout.{first_account_block, first_object_block, first_thread_block, globals_block}
+use Rattle.mg_model.specs.Limits.{object_limit}
 use Rattle.mg_model.specs.Objects.{page_behind, page_of, with_row}
 use Rattle.mg_model.specs.Ranges.{IsObjectRow}
 use Rattle.mg_model.specs.Replay.{block_of}
@@ -28,12 +29,12 @@ use Rattle.mg_volume.proofs.Staged.{agree, objects_apart, set_apart, set_there}
 abbrev pub with_objects : VolumeHeld → List (ℕ × ObjectRow) → PagesHeld → VolumeHeld
 with_objects v objects p = record v { objects = objects; pages = p }
 
-rows-told : (f g : ℕ → Read ObjectRow) (quad : ℕ) (rows rows' : List (ℕ × ObjectRow)) → live_rows f 0 object_rows ≡ Some rows → ArePlaced 0 object_rows rows'
-    → ((j : ℕ) → j < object_rows → j / 4 ≡ quad → g j ≡ Some (row_at j rows')) → ((j : ℕ) → j < object_rows → j / 4 ≢ quad → g j ≡ f j) → ((j : ℕ) → j / 4 ≢ quad → row_at j rows' ≡ row_at j rows)
-    → live_rows g 0 object_rows ≡ Some rows'
+rows-told : (f g : ℕ → Read ObjectRow) (quad : ℕ) (rows rows' : List (ℕ × ObjectRow)) → live_rows f 0 object_limit ≡ Some rows → ArePlaced 0 object_limit rows'
+    → ((j : ℕ) → j < object_limit → j / 4 ≡ quad → g j ≡ Some (row_at j rows')) → ((j : ℕ) → j < object_limit → j / 4 ≢ quad → g j ≡ f j) → ((j : ℕ) → j / 4 ≢ quad → row_at j rows' ≡ row_at j rows)
+    → live_rows g 0 object_limit ≡ Some rows'
 rows-told f g quad rows rows' is placed here there others =
-    let all = told f 0 object_rows rows is in
-    tell g 0 object_rows rows'
+    let all = told f 0 object_limit rows is in
+    tell g 0 object_limit rows'
     (record {
       placed = placed;
       each = λ j low high.
@@ -43,7 +44,7 @@ rows-told f g quad rows rows' is placed here there others =
 
 -- four rows were staged, as they are held now
 pub objects_staged : (v : VolumeHeld) (p : PagesHeld) (image : Image) (quad : ℕ) (bytes : List ℕ) (rows' objects' : List (ℕ × ObjectRow)) (s : Spelled v image) → pages.IsSpelledBy p image → pages.frame_count p ≡ pages.frame_count v.pages
-    → pages.coming p image ≡ slice_set (pages.coming v.pages image) (first_object_block + quad) bytes → quad < 1024 → ArePlaced 0 object_rows rows' → by_base rows' ≡ objects'
+    → pages.coming p image ≡ slice_set (pages.coming v.pages image) (first_object_block + quad) bytes → quad < 1024 → ArePlaced 0 object_limit rows' → by_base rows' ≡ objects'
     → ((j : ℕ) → j < 4 → object_in bytes j ≡ Some (row_at (4 * quad + j) objects')) → ((j : ℕ) → j / 4 ≢ quad → row_at j rows' ≡ row_at j s.objects)
     → Spelled (with_objects v objects' p) image
 objects_staged v p image quad bytes rows' objects' s fitting frames coming few placed order block others =
@@ -71,7 +72,7 @@ objects_staged v p image quad bytes rows' objects' s fitting frames coming few p
           ∙ block (j % 4) (omega arith)
           ∙ ap (λ k. Some (row_at k objects')) whole
           ∙ ap (λ l. Some (row_at j l)) (sym order)
-          ∙ ap (λ o. Some o) (by_base_row j rows' (placed_distinct 0 object_rows rows' placed)))
+          ∙ ap (λ o. Some o) (by_base_row j rows' (placed_distinct 0 object_limit rows' placed)))
           (λ j within other.
           ap (λ (i : Image). object_in (block_of i (first_object_block + j / 4)) (j % 4)) coming
           ∙ ap (λ (b : List ℕ). object_in b (j % 4)) (get_or-set_other r at (first_object_block + j / 4) bytes [] (λ is. other (omega arith))))
@@ -81,20 +82,20 @@ objects_staged v p image quad bytes rows' objects' s fitting frames coming few p
       is = s.is;
     }
 
-pub placed_of : (v : VolumeHeld) (image : Image) (s : Spelled v image) → ArePlaced 0 object_rows s.objects
-placed_of v image s = (told (λ i. object_read (object_row_bytes (pages.coming v.pages image) i)) 0 object_rows s.objects s.objects_are).placed
+pub placed_of : (v : VolumeHeld) (image : Image) (s : Spelled v image) → ArePlaced 0 object_limit s.objects
+placed_of v image s = (told (λ i. object_read (object_row_bytes (pages.coming v.pages image) i)) 0 object_limit s.objects s.objects_are).placed
 
 pub distinct_of : (v : VolumeHeld) (image : Image) → Spelled v image → DistinctBy (λ (y : ℕ × ObjectRow). y.0) v.objects
-distinct_of v image s = subst (DistinctBy (λ (y : ℕ × ObjectRow). y.0)) s.ordered (by_base_distinct s.objects (placed_distinct 0 object_rows s.objects (placed_of v image s)))
+distinct_of v image s = subst (DistinctBy (λ (y : ℕ × ObjectRow). y.0)) s.ordered (by_base_distinct s.objects (placed_distinct 0 object_limit s.objects (placed_of v image s)))
 
 placed-below : (low high : ℕ) (rows : List (ℕ × ObjectRow)) → ArePlaced low high rows → All (λ (y : ℕ × ObjectRow). y.0 < high) rows
 placed-below low high [] placed = All-nil (λ (y : ℕ × ObjectRow). y.0 < high)
 placed-below low high ((i, r) ∷ rows) placed = All-cons (λ (y : ℕ × ObjectRow). y.0 < high) (i, r) rows placed.1 (placed-below (i + 1) high rows placed.2)
 
-pub place_below : (v : VolumeHeld) (image : Image) (i : ℕ) (d : ℕ × ObjectRow) → Spelled v image → i < length v.objects → (get_or v.objects i d).0 < object_rows
+pub place_below : (v : VolumeHeld) (image : Image) (i : ℕ) (d : ℕ × ObjectRow) → Spelled v image → i < length v.objects → (get_or v.objects i d).0 < object_limit
 place_below v image i d s few =
-    All-get_or (λ (y : ℕ × ObjectRow). y.0 < object_rows) v.objects i d few
-    (subst (All (λ (y : ℕ × ObjectRow). y.0 < object_rows)) s.ordered (by_base_all (λ (y : ℕ × ObjectRow). y.0 < object_rows) s.objects (placed-below 0 object_rows s.objects (placed_of v image s))))
+    All-get_or (λ (y : ℕ × ObjectRow). y.0 < object_limit) v.objects i d few
+    (subst (All (λ (y : ℕ × ObjectRow). y.0 < object_limit)) s.ordered (by_base_all (λ (y : ℕ × ObjectRow). y.0 < object_limit) s.objects (placed-below 0 object_limit s.objects (placed_of v image s))))
 
 -- a row in the place of the one with its base
 pub change_spelled : (v : VolumeHeld) (p : PagesHeld) (image : Image) (i : ℕ) (d : ℕ × ObjectRow) (row : ObjectRow) (bytes : List ℕ) → IsSpelledBy v image → pages.IsSpelledBy p image → pages.frame_count p ≡ pages.frame_count v.pages
@@ -108,13 +109,13 @@ change_spelled v p image i d row bytes is fitting frames few base coming block =
     let below = place_below v image i d s few in
     let placed = placed_of v image s in
     let there : row_at place s.objects ≡ Some (get_or v.objects i d).1 =
-    sym (by_base_row place s.objects (placed_distinct 0 object_rows s.objects placed)) ∙ ap (row_at place) s.ordered ∙ row_of_index v.objects i d (distinct_of v image s) few in
+    sym (by_base_row place s.objects (placed_distinct 0 object_limit s.objects placed)) ∙ ap (row_at place) s.ordered ∙ row_of_index v.objects i d (distinct_of v image s) few in
     let order : by_base (row_set place (Some row) s.objects) ≡ set v.objects i (place, row) =
-    changed_order object_rows place row (get_or v.objects i d).1 s.objects placed there base
+    changed_order object_limit place row (get_or v.objects i d).1 s.objects placed there base
     ∙ ap (map (put_at place row)) s.ordered
     ∙ sym (set_is (λ (y : ℕ × ObjectRow). y.0) (λ y. (place, row)) place v.objects i d (distinct_of v image s) few refl) in
     objects_staged v p image (place / 4) bytes (row_set place (Some row) s.objects) (set v.objects i (place, row)) s fitting frames coming (omega arith)
-    (set_placed 0 object_rows place (Some row) s.objects placed (omega arith) below) order block
+    (set_placed 0 object_limit place (Some row) s.objects placed (omega arith) below) order block
     (λ j other. set_other j place (Some row) s.objects (λ is. other (ap (λ k. k / 4) is)))
 
 -- objects that lie apart have bases of their own
@@ -186,7 +187,7 @@ module _ (v : VolumeHeld) (p : PagesHeld) (image : Image) (i : ℕ) (d : ℕ × 
       → now_of (with_objects v (set v.objects i (d.0, row)) p) image ≡ record (now_of v image) { objects = with_row row.base (λ old. row) (now_of v image).objects }
   unfolding now_of threads_in
   change_now kept there table base same staged =
-      let below : d.0 < object_rows = subst (λ (x : ℕ × ObjectRow). x.0 < object_rows) (sym there) (All-get_or (λ (o : ℕ × ObjectRow). o.0 < object_rows) v.objects i d few kept.places) in
+      let below : d.0 < object_limit = subst (λ (x : ℕ × ObjectRow). x.0 < object_limit) (sym there) (All-get_or (λ (o : ℕ × ObjectRow). o.0 < object_limit) v.objects i d few kept.places) in
       let r = pages.coming v.pages image in
       let frames = v.settings.frames in
       let t = pages.table_in v.pages in

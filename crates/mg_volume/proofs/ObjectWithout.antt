@@ -8,7 +8,8 @@ use Rattle.std.proofs.lemmas.List.Elements.{All-filter, All-get_or, All-head, Al
 use Rattle.std.proofs.lemmas.List.Kept.{AllPairs-filter}
 use Rattle.mg_disk.specs.Disk.{Image}
 use Rattle.mg_model.specs.KeptListLemmas.{All-both, length-filter-le, sum_by-filter-le}
-use Rattle.mg_model.specs.Layout.{first_object_block, object_rows}
+use Rattle.mg_model.specs.Layout.{first_object_block}
+use Rattle.mg_model.specs.Limits.{object_limit}
 use Rattle.mg_model.specs.Objects.{page_behind, page_of, without_object}
 use Rattle.mg_model.specs.Ranges.{IsObjectRow}
 use Rattle.mg_model.specs.State.{Object, ObjectRow}
@@ -41,7 +42,7 @@ pub record Goes (v : VolumeHeld) (i : ℕ) (gone : ℕ × ObjectRow) (os : List 
   pub row : IsObjectRow gone.1
   pub within : i < length v.objects
   pub at : gone ≡ get_or v.objects i gone
-  pub place : gone.0 < object_rows
+  pub place : gone.0 < object_limit
   pub others : All (λ (y : ℕ × ObjectRow). IsOrApart gone.1 y.1) v.objects
   pub removed : os ≡ remove v.objects i
   pub rest : os ≡ without gone.1.base v.objects
@@ -62,7 +63,7 @@ goes v base gone os kept found rest =
         row = subst (λ (x : ℕ × ObjectRow). IsObjectRow x.1) (sym at) (All-get_or (λ (o : ℕ × ObjectRow). IsObjectRow o.1) v.objects i gone few kept.rows);
         within = few;
         at = at;
-        place = subst (λ (x : ℕ × ObjectRow). x.0 < object_rows) (sym at) (All-get_or (λ (o : ℕ × ObjectRow). o.0 < object_rows) v.objects i gone few kept.places);
+        place = subst (λ (x : ℕ × ObjectRow). x.0 < object_limit) (sym at) (All-get_or (λ (o : ℕ × ObjectRow). o.0 < object_limit) v.objects i gone few kept.places);
         others = subst (λ (x : ℕ × ObjectRow). All (λ (y : ℕ × ObjectRow). IsOrApart x.1 y.1) v.objects) (sym at) (others_apart v.objects i gone pairs few);
         removed = left ∙ sym (remove_is (λ (y : ℕ × ObjectRow). y.1.base) gone.1.base v.objects i gone (bases_differ v.objects kept.rows pairs) few (ap (λ (x : ℕ × ObjectRow). x.1.base) (sym at)));
         rest = left;
@@ -157,7 +158,7 @@ module _ (v : VolumeHeld) (i : ℕ) (gone : ℕ × ObjectRow) (os : List (ℕ ×
       (record {
         frames = frames ∙ kept.frames;
         rows = All-filter stays (λ (o : ℕ × ObjectRow). IsObjectRow o.1) v.objects kept.rows;
-        places = All-filter stays (λ (o : ℕ × ObjectRow). o.0 < object_rows) v.objects kept.places;
+        places = All-filter stays (λ (o : ℕ × ObjectRow). o.0 < object_limit) v.objects kept.places;
         apart = pairs_apart (without gone.1.base v.objects) (AllPairs-filter LiesBefore stays v.objects (apart_pairs v.objects kept.apart));
         used = (let sum = sum_by-filter-le stays (λ (o : ℕ × ObjectRow). o.1.pages) v.objects in let used = kept.used in omega arith);
         few_objects = (let few = length-filter-le stays v.objects in let most = kept.few_objects in omega arith);
@@ -195,11 +196,11 @@ module _ (v : VolumeHeld) (i : ℕ) (gone : ℕ × ObjectRow) (os : List (ℕ ×
       let below = g.place in
       let placed = placed_of v image s in
       let order : by_base (row_set place None s.objects) ≡ os =
-      ap by_base (row_set_none 0 object_rows place s.objects placed)
+      ap by_base (row_set_none 0 object_limit place s.objects placed)
       ∙ filter_order (λ (y : ℕ × ObjectRow). not (y.0 == place)) s.objects
       ∙ ap (filter (λ (y : ℕ × ObjectRow). not (y.0 == place))) s.ordered
       ∙ sym (g.removed ∙ remove_is (λ (y : ℕ × ObjectRow). y.0) place v.objects i gone (distinct_of v image s) g.within (ap (λ (x : ℕ × ObjectRow). x.0) (sym g.at))) in
-      objects_staged v middle image (place / 4) staged.bytes (row_set place None s.objects) os s fitting frames (staged.coming image) (omega arith) (set_placed 0 object_rows place None s.objects placed (omega arith) below) order staged.rows
+      objects_staged v middle image (place / 4) staged.bytes (row_set place None s.objects) os s fitting frames (staged.coming image) (omega arith) (set_placed 0 object_limit place None s.objects placed (omega arith) below) order staged.rows
       (λ j other. set_other j place None s.objects (λ is. other (ap (λ k. k / 4) is)))
 
   pub spelled_without : (middle p : PagesHeld) (image : Image) → IsSpelledBy v image → pages.IsSpelledBy middle image → pages.frame_count middle ≡ pages.frame_count v.pages → StagesRows os gone.0 v.pages middle

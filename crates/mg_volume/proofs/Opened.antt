@@ -16,8 +16,8 @@ use Rattle.mg_journal.specs.Standing as journal
 use Rattle.mg_journal.specs.Held.{Store}
 use Rattle.mg_model.specs.declared.accounts.AccRow.{AccRow}
 use Rattle.mg_model.specs.Bytes.{are_zeros}
-use Rattle.mg_model.specs.Layout.{account_rows, globals_block, object_rows, thread_rows, total_blocks}
-use Rattle.mg_model.specs.Limits.{debt_limit}
+use Rattle.mg_model.specs.Layout.{globals_block, total_blocks}
+use Rattle.mg_model.specs.Limits.{debt_limit, account_limit, thread_limit, object_limit}
 use Rattle.mg_model.specs.Ranges.{IsObjectRow}
 use Rattle.mg_model.specs.Replay.{block_of, replay}
 use Rattle.mg_model.specs.Spelling.{account_read, globals_read, object_read, thread_read}
@@ -199,7 +199,7 @@ module _ (rows : VolumeRows) (kept : AreKept rows) where
     held_is = record {
       frames = same_frames;
       rows = by_base_all (λ (o : ℕ × ObjectRow). IsObjectRow o.1) (objects_of rows) kept.held.ranges;
-      places = by_base_all (λ (o : ℕ × ObjectRow). o.0 < object_rows) (objects_of rows) kept.held.objects.below;
+      places = by_base_all (λ (o : ℕ × ObjectRow). o.0 < object_limit) (objects_of rows) kept.held.objects.below;
       apart = apart-rows;
       used = used-rows;
       few_objects = (let few = kept.held.objects.few in let same = by-base-length (objects_of rows) in omega arith);
@@ -210,7 +210,7 @@ module _ (rows : VolumeRows) (kept : AreKept rows) where
       debts = accounts-are.1;
     }
       where
-        few-threads : length (numbered rows.threads.items) ≤ thread_rows
+        few-threads : length (numbered rows.threads.items) ≤ thread_limit
         few-threads = (let few = kept.held.threads.few in let same : length (numbered rows.threads.items) ≡ length rows.threads.items = length-numbered rows.threads.items in omega arith)
 
         inside : list_all (λ page. has_page (holding rows p) page) (bound_pages (pages.table_in p)) ≡ true
@@ -261,12 +261,12 @@ module _ (rows : VolumeRows) (kept : AreKept rows) (store : Store) (p : PagesHel
           gated = is_there.whole.gated;
           super = is_there.whole.super;
           counters_are = ap (λ (i : Image). globals_read (block_of i globals_block)) coming_is ∙ parts.counters_are;
-          accounts_are = ap (λ (i : Image). live_rows (λ k. account_read (account_row_bytes i k)) 0 account_rows) coming_is ∙ parts.accounts_are;
+          accounts_are = ap (λ (i : Image). live_rows (λ k. account_read (account_row_bytes i k)) 0 account_limit) coming_is ∙ parts.accounts_are;
           threads = rows.threads.items;
-          threads_are = ap (λ (i : Image). live_rows (λ k. thread_read (thread_row_bytes i k)) 0 thread_rows) coming_is ∙ parts.threads_are;
+          threads_are = ap (λ (i : Image). live_rows (λ k. thread_read (thread_row_bytes i k)) 0 thread_limit) coming_is ∙ parts.threads_are;
           numbered = refl;
           objects = objects_of rows;
-          objects_are = ap (λ (i : Image). live_rows (λ k. object_read (object_row_bytes i k)) 0 object_rows) coming_is ∙ parts.objects_are;
+          objects_are = ap (λ (i : Image). live_rows (λ k. object_read (object_row_bytes i k)) 0 object_limit) coming_is ∙ parts.objects_are;
           ordered = refl;
           kept = state_in rows read.replayed;
           is = is_there.same ∙ read.is;

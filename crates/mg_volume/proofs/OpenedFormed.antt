@@ -11,7 +11,7 @@ use Rattle.mg_disk.specs.Disk.{AreBytes, Image}
 use Rattle.mg_model.specs.declared.accounts.AccRow.{AccRow}
 use Rattle.mg_model.specs.Bank.{used}
 use Rattle.mg_model.specs.KeptListLemmas.{All-both, All-change, All-unmap, AllPairs-change, AllPairs-head, AllPairs-nil, AllPairs-tail}
-use Rattle.mg_model.specs.Layout.{thread_rows}
+use Rattle.mg_model.specs.Limits.{thread_limit}
 use Rattle.mg_model.specs.Objects.{page_behind, page_of}
 use Rattle.mg_model.specs.Ranges.{IsCounters, IsObjectRow, IsThreadRow, IsWord}
 use Rattle.mg_model.specs.Spelling.{thread_read}
@@ -150,7 +150,7 @@ spelled v image is = is
 
 placed : (v : VolumeHeld) (image : Image) → Spelled v image → ArePlaced 1 257 v.threads
 placed v image s =
-    subst (ArePlaced 1 257) s.numbered (shifted 0 256 s.threads (told (λ i. thread_read (thread_row_bytes (pages.coming v.pages image) i)) 0 thread_rows s.threads s.threads_are).placed)
+    subst (ArePlaced 1 257) s.numbered (shifted 0 256 s.threads (told (λ i. thread_read (thread_row_bytes (pages.coming v.pages image) i)) 0 thread_limit s.threads s.threads_are).placed)
 
 pub opened_formed : (v : VolumeHeld) (image : Image) → IsKept v → IsSettings v.settings → IsCounters v.counters → All (λ (row : AccRow). IsWord row.password) v.accounts → All (λ (t : ℕ × ThreadRow). IsThreadRow t.1) v.threads
     → AreBytes image → IsSpelledBy v image → staged_of v ≡ 0 → is_sound (now_of v image) ≡ true → IsWellFormed (now_of v image)

@@ -9,7 +9,8 @@ use Rattle.mg_disk.specs.Disk.{Image, SeenBut}
 use Rattle.mg_journal.specs.Contents.{InJournal, SameContents}
 use Rattle.mg_model.specs.declared.accounts.AccRow.{AccRow}
 use Rattle.mg_model.specs.Bytes.{are_zeros}
-use Rattle.mg_model.specs.Layout.{account_rows, first_frame, globals_block, object_rows, thread_rows, total_blocks}
+use Rattle.mg_model.specs.Layout.{first_frame, globals_block, total_blocks}
+use Rattle.mg_model.specs.Limits.{account_limit, thread_limit, object_limit}
 use Rattle.mg_model.specs.Replay.{block_of, replay}
 use Rattle.mg_model.specs.Spelling.{account_read, globals_read, object_read, thread_read}
 use Rattle.mg_model.specs.State.{Counters, ObjectRow, ThreadRow}
@@ -49,13 +50,13 @@ split frames (Some c) (Some a) (Some h) (Some o) whole true rows tested read =
 
 abbrev pub RowParts : Image → ℕ → Rows → Type 0
 RowParts r frames rows =
-    Parts frames (globals_read (block_of r globals_block)) (live_rows (λ i. account_read (account_row_bytes r i)) 0 account_rows) (live_rows (λ i. thread_read (thread_row_bytes r i)) 0 thread_rows)
-    (live_rows (λ i. object_read (object_row_bytes r i)) 0 object_rows) (whole_table r frames) rows
+    Parts frames (globals_read (block_of r globals_block)) (live_rows (λ i. account_read (account_row_bytes r i)) 0 account_limit) (live_rows (λ i. thread_read (thread_row_bytes r i)) 0 thread_limit)
+    (live_rows (λ i. object_read (object_row_bytes r i)) 0 object_limit) (whole_table r frames) rows
 
 pub row_parts : (r : Image) (frames : ℕ) (rows : Rows) → rows_of r frames ≡ Some rows → RowParts r frames rows
 row_parts r frames rows read =
-    split frames (globals_read (block_of r globals_block)) (live_rows (λ i. account_read (account_row_bytes r i)) 0 account_rows) (live_rows (λ i. thread_read (thread_row_bytes r i)) 0 thread_rows)
-    (live_rows (λ i. object_read (object_row_bytes r i)) 0 object_rows) (whole_table r frames) (are_zeros (drop frames (whole_table r frames))) rows refl read
+    split frames (globals_read (block_of r globals_block)) (live_rows (λ i. account_read (account_row_bytes r i)) 0 account_limit) (live_rows (λ i. thread_read (thread_row_bytes r i)) 0 thread_limit)
+    (live_rows (λ i. object_read (object_row_bytes r i)) 0 object_limit) (whole_table r frames) (are_zeros (drop frames (whole_table r frames))) rows refl read
 
 -- the image that was read has as many blocks as its settings ask for
 pub read_set : (rows : VolumeRows) (image : Image) → IsReadAs rows image → IsSet rows.params image

@@ -3,7 +3,8 @@ use Rattle.std.specs.Prelude.{◌≡◌, ◌+◌, ◌-◌, ◌≤◌, ◌<◌, �
 use Rattle.std.proofs.Common.{sym, ap, ◌∙◌, arith}
 use Rattle.std.proofs.lemmas.List.{get_or-set_other}
 use Rattle.mg_disk.specs.Disk.{Image}
-use Rattle.mg_model.specs.Layout.{first_account_block, first_object_block, first_thread_block, globals_block, table_block, thread_rows}
+use Rattle.mg_model.specs.Layout.{first_account_block, first_object_block, first_thread_block, globals_block, table_block}
+use Rattle.mg_model.specs.Limits.{thread_limit}
 use Rattle.mg_model.specs.Replay.{block_of}
 use Rattle.mg_model.specs.Spelling.{globals_read, thread_read}
 use Rattle.mg_model.specs.State.{ThreadRow}
@@ -26,7 +27,7 @@ with_threads v rows p = record v { threads = rows; pages = p }
 module _ (v : VolumeHeld) (p : PagesHeld) (image : Image) (t place : ℕ) (row : Option ThreadRow) (rows : List (ℕ × ThreadRow)) (bytes : List ℕ)
     (number : place + 1 ≡ t) (few : place < 256) (coming : pages.coming p image ≡ slice_set (pages.coming v.pages image) (first_thread_block + t - 1) bytes) (put : rows ≡ rows_with t row v.threads) where
   placed : (s : Spelled v image) → ArePlaced 0 256 s.threads
-  placed s = (told (λ i. thread_read (thread_row_bytes (pages.coming v.pages image) i)) 0 thread_rows s.threads s.threads_are).placed
+  placed s = (told (λ i. thread_read (thread_row_bytes (pages.coming v.pages image) i)) 0 thread_limit s.threads s.threads_are).placed
 
   pub thread_now : pages.table_in p ≡ pages.table_in v.pages → now_of (with_threads v rows p) image ≡ record (now_of v image) { threads = threads_with t row (threads_in v) }
   unfolding now_of threads_in
@@ -49,7 +50,7 @@ module _ (v : VolumeHeld) (p : PagesHeld) (image : Image) (t place : ℕ) (row :
         accounts_are = accounts_within (pages.coming p image) r (agree r (slice_set r block bytes) (pages.coming p image) coming first_account_block first_thread_block (set_apart r block first_account_block first_thread_block bytes (λ k low high is. omega arith))) ∙ s.accounts_are;
         threads = row_set place row s.threads;
         threads_are =
-            told_set (λ i. thread_read (thread_row_bytes r i)) (λ i. thread_read (thread_row_bytes (pages.coming p image) i)) thread_rows place row s.threads s.threads_are few
+            told_set (λ i. thread_read (thread_row_bytes r i)) (λ i. thread_read (thread_row_bytes (pages.coming p image) i)) thread_limit place row s.threads s.threads_are few
             (let here : first_thread_block + place ≡ block = omega arith in
             ap (λ k. thread_read (block_of (pages.coming p image) k)) here ∙ ap (λ (i : Image). thread_read (block_of i block)) coming ∙ ap thread_read (set_there v image block bytes s (omega arith)) ∙ read)
             (λ j within other. ap (λ (i : Image). thread_read (block_of i (first_thread_block + j))) coming ∙ ap thread_read (get_or-set_other r block (first_thread_block + j) bytes _ (λ is. other (omega arith))));
@@ -66,7 +67,7 @@ module _ (v : VolumeHeld) (p : PagesHeld) (image : Image) (t place : ℕ) (row :
       }
 
 -- other threads are held as well
-pub held_threads : (v : VolumeHeld) (rows : List (ℕ × ThreadRow)) → IsKept v → length rows ≤ thread_rows → IsKept (record v { threads = rows })
+pub held_threads : (v : VolumeHeld) (rows : List (ℕ × ThreadRow)) → IsKept v → length rows ≤ thread_limit → IsKept (record v { threads = rows })
 unfolding objects_in
 held_threads v rows held few = record {
   frames = held.frames;

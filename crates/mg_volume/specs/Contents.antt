@@ -7,13 +7,14 @@ use Rattle.std.proofs.lemmas.Bool.Decides.{nat_tests}
 use Rattle.mg_disk.specs.Disk.{Image, SameBut, SeenBut}
 use Rattle.mg_journal.specs.Contents.{InJournal, SameContents}
 use Rattle.mg_model.specs.Bytes.{block_words}
-use Rattle.mg_model.specs.Layout.{account_rows, first_account_block, first_frame, first_object_block, first_thread_block, gate_block, gate_open, globals_block, object_rows, super_block, table_block, table_blocks, thread_rows, total_blocks}
+use Rattle.mg_model.specs.Layout.{first_account_block, first_frame, first_object_block, first_thread_block, gate_block, gate_open, globals_block, super_block, table_block, table_blocks, total_blocks}
+use Rattle.mg_model.specs.Limits.{account_limit, thread_limit, object_limit}
 use Rattle.mg_model.specs.Objects.{page_of, with_object}
 use Rattle.mg_model.specs.Replay.{block_of, replay}
 use Rattle.mg_model.specs.Settings.{Settings}
 use Rattle.mg_model.specs.Spelling.{Spells, account_read, globals_read, object_read, super_read, thread_read}
 use Rattle.mg_model.specs.State.{ObjectRow}
-use Rattle.mg_model.specs.Volume.{Damaged, Rows, account_row_bytes, fitting, is_gated, live_rows, object_row_bytes, objects_spelled, page_words, pages_words, replayed_volume, rows_of, state_spelled, table_entries, thread_row_bytes, volume, volume_behind, whole_table, IsOpened, gate_byte}
+use Rattle.mg_model.specs.Volume.{Damaged, Rows, account_row_bytes, fitting, has_open_gate, live_rows, object_row_bytes, objects_spelled, page_words, pages_words, replayed_volume, rows_of, state_spelled, table_entries, thread_row_bytes, volume, volume_behind, whole_table, IsOpened, gate_byte}
 use Rattle.mg_model.specs.VolumeLemmas.{live_rows-same, rows_from, state_with, table_short, volume-opened}
 use Rattle.mg_pages.specs.ComingLemmas.{length_replay, replay_low}
 use Rattle.mg_pages.specs.Committing.{HasContents}
@@ -22,6 +23,16 @@ use Rattle.mg_rows.specs.Blocks.{account_in, object_in}
 -- two images with the same blocks behind the journal and below n
 pub record AgreeBehind (n : ℕ) (a b : Image) : Type 0 where
   pub each : (k : ℕ) → globals_block ≤ k → k < n → block_of a k ≡ block_of b k
+
+-- two images with the same blocks from one place to another
+pub record AgreeIn (low high : ℕ) (a b : Image) : Type 0 where
+  pub each : (k : ℕ) → low ≤ k → k < high → block_of a k ≡ block_of b k
+
+-- an image with an open gate, a superblock that spells these settings, and as many blocks as they ask for
+pub record IsSet (settings : Settings) (image : Image) : Type 0 where
+  pub gated : has_open_gate image ≡ true
+  pub super : super_read (block_of image super_block) ≡ Spells settings
+  pub long : total_blocks settings.frames ≤ length image
 
 pub same_behind : (n : ℕ) (a b : Image) → SameBut InJournal a b → AgreeBehind n a b
 same_behind n a b same = record { each = λ k low high. sym (same.others k (λ inside. let below = inside.1 in omega arith)) }
@@ -32,41 +43,37 @@ table-same n a b block (suc m) same low high =
     ap (λ (bytes : List ℕ). block_words bytes ++ table_entries a (block + 1) m) (same.each block low (omega arith))
     ∙ ap (λ entries. block_words (block_of b block) ++ entries) (table-same n a b (block + 1) m same (omega arith) (omega arith))
 
--- two images with the same blocks from one place to another
-pub record AgreeIn (low high : ℕ) (a b : Image) : Type 0 where
-  pub each : (k : ℕ) → low ≤ k → k < high → block_of a k ≡ block_of b k
-
 -- the rows
-pub accounts_within : (a b : Image) → AgreeIn first_account_block first_thread_block a b → live_rows (λ i. account_read (account_row_bytes a i)) 0 account_rows ≡ live_rows (λ i. account_read (account_row_bytes b i)) 0 account_rows
-accounts_within a b same = live_rows-same (λ i. account_read (account_row_bytes a i)) (λ i. account_read (account_row_bytes b i)) 0 account_rows one
+pub accounts_within : (a b : Image) → AgreeIn first_account_block first_thread_block a b → live_rows (λ i. account_read (account_row_bytes a i)) 0 account_limit ≡ live_rows (λ i. account_read (account_row_bytes b i)) 0 account_limit
+accounts_within a b same = live_rows-same (λ i. account_read (account_row_bytes a i)) (λ i. account_read (account_row_bytes b i)) 0 account_limit one
   where
-    one : (i : ℕ) → 0 ≤ i → i < 0 + account_rows → account_read (account_row_bytes a i) ≡ account_read (account_row_bytes b i)
+    one : (i : ℕ) → 0 ≤ i → i < 0 + account_limit → account_read (account_row_bytes a i) ≡ account_read (account_row_bytes b i)
     one i low high =
         let place : first_account_block + i / 64 < first_thread_block = omega arith in
         ap (λ (block : List ℕ). account_in block (i % 64)) (same.each (first_account_block + i / 64) (omega arith) place)
 
-pub threads_within : (a b : Image) → AgreeIn first_thread_block first_object_block a b → live_rows (λ i. thread_read (thread_row_bytes a i)) 0 thread_rows ≡ live_rows (λ i. thread_read (thread_row_bytes b i)) 0 thread_rows
-threads_within a b same = live_rows-same (λ i. thread_read (thread_row_bytes a i)) (λ i. thread_read (thread_row_bytes b i)) 0 thread_rows one
+pub threads_within : (a b : Image) → AgreeIn first_thread_block first_object_block a b → live_rows (λ i. thread_read (thread_row_bytes a i)) 0 thread_limit ≡ live_rows (λ i. thread_read (thread_row_bytes b i)) 0 thread_limit
+threads_within a b same = live_rows-same (λ i. thread_read (thread_row_bytes a i)) (λ i. thread_read (thread_row_bytes b i)) 0 thread_limit one
   where
-    one : (i : ℕ) → 0 ≤ i → i < 0 + thread_rows → thread_read (thread_row_bytes a i) ≡ thread_read (thread_row_bytes b i)
+    one : (i : ℕ) → 0 ≤ i → i < 0 + thread_limit → thread_read (thread_row_bytes a i) ≡ thread_read (thread_row_bytes b i)
     one i low high = ap thread_read (same.each (first_thread_block + i) (omega arith) (omega arith))
 
-pub objects_within : (a b : Image) → AgreeIn first_object_block table_block a b → live_rows (λ i. object_read (object_row_bytes a i)) 0 object_rows ≡ live_rows (λ i. object_read (object_row_bytes b i)) 0 object_rows
-objects_within a b same = live_rows-same (λ i. object_read (object_row_bytes a i)) (λ i. object_read (object_row_bytes b i)) 0 object_rows one
+pub objects_within : (a b : Image) → AgreeIn first_object_block table_block a b → live_rows (λ i. object_read (object_row_bytes a i)) 0 object_limit ≡ live_rows (λ i. object_read (object_row_bytes b i)) 0 object_limit
+objects_within a b same = live_rows-same (λ i. object_read (object_row_bytes a i)) (λ i. object_read (object_row_bytes b i)) 0 object_limit one
   where
-    one : (i : ℕ) → 0 ≤ i → i < 0 + object_rows → object_read (object_row_bytes a i) ≡ object_read (object_row_bytes b i)
+    one : (i : ℕ) → 0 ≤ i → i < 0 + object_limit → object_read (object_row_bytes a i) ≡ object_read (object_row_bytes b i)
     one i low high =
         let place : first_object_block + i / 4 < table_block = omega arith in
         ap (λ (block : List ℕ). object_in block (i % 4)) (same.each (first_object_block + i / 4) (omega arith) place)
 
 module _ (a b : Image) (same : AgreeBehind table_block a b) where
-  pub accounts-same : live_rows (λ i. account_read (account_row_bytes a i)) 0 account_rows ≡ live_rows (λ i. account_read (account_row_bytes b i)) 0 account_rows
+  pub accounts-same : live_rows (λ i. account_read (account_row_bytes a i)) 0 account_limit ≡ live_rows (λ i. account_read (account_row_bytes b i)) 0 account_limit
   accounts-same = accounts_within a b (record { each = λ k low high. same.each k (omega arith) (omega arith) })
 
-  pub threads-same : live_rows (λ i. thread_read (thread_row_bytes a i)) 0 thread_rows ≡ live_rows (λ i. thread_read (thread_row_bytes b i)) 0 thread_rows
+  pub threads-same : live_rows (λ i. thread_read (thread_row_bytes a i)) 0 thread_limit ≡ live_rows (λ i. thread_read (thread_row_bytes b i)) 0 thread_limit
   threads-same = threads_within a b (record { each = λ k low high. same.each k (omega arith) (omega arith) })
 
-  pub objects-same : live_rows (λ i. object_read (object_row_bytes a i)) 0 object_rows ≡ live_rows (λ i. object_read (object_row_bytes b i)) 0 object_rows
+  pub objects-same : live_rows (λ i. object_read (object_row_bytes a i)) 0 object_limit ≡ live_rows (λ i. object_read (object_row_bytes b i)) 0 object_limit
   objects-same = objects_within a b (record { each = λ k low high. same.each k (omega arith) high })
 
 -- and the table
@@ -79,11 +86,11 @@ module _ (frames : ℕ) (a b : Image) (same : AgreeBehind (first_frame frames) a
 
   pub rows_behind : rows_of a frames ≡ rows_of b frames
   rows_behind =
-      ap (λ counters. rows_from frames counters (live_rows (λ i. account_read (account_row_bytes a i)) 0 account_rows) (live_rows (λ i. thread_read (thread_row_bytes a i)) 0 thread_rows) (live_rows (λ i. object_read (object_row_bytes a i)) 0 object_rows) (whole_table a frames)) (ap globals_read (same.each globals_block (omega arith) (omega arith)))
-      ∙ ap (λ accounts. rows_from frames (globals_read (block_of b globals_block)) accounts (live_rows (λ i. thread_read (thread_row_bytes a i)) 0 thread_rows) (live_rows (λ i. object_read (object_row_bytes a i)) 0 object_rows) (whole_table a frames)) (accounts-same a b low)
-      ∙ ap (λ threads. rows_from frames (globals_read (block_of b globals_block)) (live_rows (λ i. account_read (account_row_bytes b i)) 0 account_rows) threads (live_rows (λ i. object_read (object_row_bytes a i)) 0 object_rows) (whole_table a frames)) (threads-same a b low)
-      ∙ ap (λ objects. rows_from frames (globals_read (block_of b globals_block)) (live_rows (λ i. account_read (account_row_bytes b i)) 0 account_rows) (live_rows (λ i. thread_read (thread_row_bytes b i)) 0 thread_rows) objects (whole_table a frames)) (objects-same a b low)
-      ∙ ap (λ whole. rows_from frames (globals_read (block_of b globals_block)) (live_rows (λ i. account_read (account_row_bytes b i)) 0 account_rows) (live_rows (λ i. thread_read (thread_row_bytes b i)) 0 thread_rows) (live_rows (λ i. object_read (object_row_bytes b i)) 0 object_rows) whole) whole-same
+      ap (λ counters. rows_from frames counters (live_rows (λ i. account_read (account_row_bytes a i)) 0 account_limit) (live_rows (λ i. thread_read (thread_row_bytes a i)) 0 thread_limit) (live_rows (λ i. object_read (object_row_bytes a i)) 0 object_limit) (whole_table a frames)) (ap globals_read (same.each globals_block (omega arith) (omega arith)))
+      ∙ ap (λ accounts. rows_from frames (globals_read (block_of b globals_block)) accounts (live_rows (λ i. thread_read (thread_row_bytes a i)) 0 thread_limit) (live_rows (λ i. object_read (object_row_bytes a i)) 0 object_limit) (whole_table a frames)) (accounts-same a b low)
+      ∙ ap (λ threads. rows_from frames (globals_read (block_of b globals_block)) (live_rows (λ i. account_read (account_row_bytes b i)) 0 account_limit) threads (live_rows (λ i. object_read (object_row_bytes a i)) 0 object_limit) (whole_table a frames)) (threads-same a b low)
+      ∙ ap (λ objects. rows_from frames (globals_read (block_of b globals_block)) (live_rows (λ i. account_read (account_row_bytes b i)) 0 account_limit) (live_rows (λ i. thread_read (thread_row_bytes b i)) 0 thread_limit) objects (whole_table a frames)) (objects-same a b low)
+      ∙ ap (λ whole. rows_from frames (globals_read (block_of b globals_block)) (live_rows (λ i. account_read (account_row_bytes b i)) 0 account_limit) (live_rows (λ i. thread_read (thread_row_bytes b i)) 0 thread_limit) (live_rows (λ i. object_read (object_row_bytes b i)) 0 object_limit) whole) whole-same
 
 map_or-same : {T U : Type 0} (f g : T → U) (o : Option T) (d : U) → ((x : T) → o ≡ Some x → f x ≡ g x) → option_map_or f o d ≡ option_map_or g o d
 map_or-same f g None d same = refl
@@ -127,13 +134,7 @@ replayed_same settings a b same =
     (λ rows is. spelled_behind settings a b rows same (table_short a frames rows is))
     ∙ ap (λ rows. option_map_or (λ rows. fitting rows (state_spelled b settings rows)) rows Damaged) (rows_behind frames a b low)
 
--- an image with an open gate, a superblock that spells these settings, and as many blocks as they ask for
-pub record IsSet (settings : Settings) (image : Image) : Type 0 where
-  pub gated : is_gated image ≡ true
-  pub super : super_read (block_of image super_block) ≡ Spells settings
-  pub long : total_blocks settings.frames ≤ length image
-
-pub opened : (image : Image) → is_gated image ≡ true → IsOpened image
+pub opened : (image : Image) → has_open_gate image ≡ true → IsOpened image
 opened image gated =
     let parts = and_parts (nat_le 2 (length image)) (gate_byte image == gate_open) gated in
     record { long = leb-true 2 (length image) parts.0; gate = eqb-true (gate_byte image) gate_open parts.1 }

@@ -7,15 +7,15 @@ use Rattle.mg_disk.specs.Disk.{Image}
 use Rattle.mg_disk.specs.Stops.{NothingPending}
 use Rattle.mg_disk.specs.declared.disk.Disk.{Ghosts}
 use Rattle.mg_model.specs.declared.accounts.AccRow.{AccRow}
-use Rattle.mg_model.specs.Layout.{account_rows, globals_block, object_rows, super_block, thread_rows}
-use Rattle.mg_model.specs.Limits.{debt_limit}
+use Rattle.mg_model.specs.Layout.{globals_block, super_block}
+use Rattle.mg_model.specs.Limits.{debt_limit, account_limit, thread_limit, object_limit}
 use Rattle.mg_model.specs.Objects.{page_behind, page_of}
 use Rattle.mg_model.specs.Replay.{block_of}
 use Rattle.mg_model.specs.Settings.{Settings}
 use Rattle.mg_model.specs.Ranges.{IsObjectRow}
 use Rattle.mg_model.specs.Spelling.{Spells, account_read, globals_read, object_read, super_read, thread_read}
 use Rattle.mg_model.specs.State.{Counters, ObjectRow, State, Thread, ThreadRow}
-use Rattle.mg_model.specs.Volume.{Is, account_row_bytes, accounts_fit, bound_pages, is_gated, live_rows, object_row_bytes, object_spelled, objects_fit, thread_row_bytes, threads_fit, volume}
+use Rattle.mg_model.specs.Volume.{Is, account_row_bytes, accounts_fit, bound_pages, has_open_gate, live_rows, object_row_bytes, object_spelled, objects_fit, thread_row_bytes, threads_fit, volume}
 use Rattle.mg_objects.specs.Held.{by_base}
 use Rattle.mg_pages.specs.Meaning as pages
 use Rattle.mg_space.specs.Space.{ArePaid}
@@ -82,13 +82,13 @@ rows_apart (row ∷ next ∷ rows) = nat_le (page_behind row) (page_of next) && 
 pub record IsKept (v : VolumeHeld) : Type 0 where
   pub frames : pages.frame_count v.pages ≡ v.settings.frames
   pub rows : All (λ (o : ℕ × ObjectRow). IsObjectRow o.1) v.objects
-  pub places : All (λ (o : ℕ × ObjectRow). o.0 < object_rows) v.objects
+  pub places : All (λ (o : ℕ × ObjectRow). o.0 < object_limit) v.objects
   pub apart : rows_apart (objects_in v) ≡ true
   pub used : sum_by (λ (o : ℕ × ObjectRow). o.1.pages) v.objects ≤ v.settings.frames
-  pub few_objects : length v.objects ≤ object_rows
+  pub few_objects : length v.objects ≤ object_limit
   pub some_accounts : 1 ≤ length v.accounts
-  pub few_accounts : length v.accounts ≤ account_rows
-  pub few_threads : length v.threads ≤ thread_rows
+  pub few_accounts : length v.accounts ≤ account_limit
+  pub few_threads : length v.threads ≤ thread_limit
   pub inside : list_all (λ page. has_page v page) (bound_pages (pages.table_in v.pages)) ≡ true
   pub debts : All (λ (row : AccRow). row.owed ≤ debt_limit v.counters.period) v.accounts
 
@@ -101,15 +101,15 @@ pub record IsVolume (v : VolumeHeld) (totals : List ℕ) : Type 0 where
 pub record Spelled (v : VolumeHeld) (image : Image) : Type 0 where
   pub fitting : pages.IsSpelledBy v.pages image
   pub frames : pages.frame_count v.pages ≡ v.settings.frames
-  pub gated : is_gated image ≡ true
+  pub gated : has_open_gate image ≡ true
   pub super : super_read (block_of image super_block) ≡ Spells v.settings
   pub counters_are : globals_read (block_of (pages.coming v.pages image) globals_block) ≡ Some v.counters
-  pub accounts_are : live_rows (λ i. account_read (account_row_bytes (pages.coming v.pages image) i)) 0 account_rows ≡ Some (placed_from 0 v.accounts)
+  pub accounts_are : live_rows (λ i. account_read (account_row_bytes (pages.coming v.pages image) i)) 0 account_limit ≡ Some (placed_from 0 v.accounts)
   pub threads : List (ℕ × ThreadRow)
-  pub threads_are : live_rows (λ i. thread_read (thread_row_bytes (pages.coming v.pages image) i)) 0 thread_rows ≡ Some threads
+  pub threads_are : live_rows (λ i. thread_read (thread_row_bytes (pages.coming v.pages image) i)) 0 thread_limit ≡ Some threads
   pub numbered : map (λ (t : ℕ × ThreadRow). (t.0 + 1, t.1)) threads ≡ v.threads
   pub objects : List (ℕ × ObjectRow)
-  pub objects_are : live_rows (λ i. object_read (object_row_bytes (pages.coming v.pages image) i)) 0 object_rows ≡ Some objects
+  pub objects_are : live_rows (λ i. object_read (object_row_bytes (pages.coming v.pages image) i)) 0 object_limit ≡ Some objects
   pub ordered : by_base objects ≡ v.objects
   pub kept : State
   pub is : volume image ≡ Is kept

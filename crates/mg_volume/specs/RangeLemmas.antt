@@ -5,7 +5,7 @@ use Rattle.std.proofs.Common.{refl, ap, ◌∙◌, subst}
 use Rattle.std.proofs.lemmas.Bool.{and_from, and_parts}
 use Rattle.mg_disk.specs.Disk.{Image}
 use Rattle.mg_model.specs.Bytes.{are_zeros}
-use Rattle.mg_model.specs.Layout.{object_rows}
+use Rattle.mg_model.specs.Limits.{object_limit}
 use Rattle.mg_model.specs.Spelling.{Read, object_bytes, object_fields, object_read}
 use Rattle.mg_model.specs.State.{ObjectRow}
 use Rattle.mg_model.specs.Tests.{is_object_row}
@@ -75,4 +75,4 @@ held_rows v image is =
     mapped v.objects
     ∙ subst (λ (rows : List (ℕ × ObjectRow)). all_kept rows ≡ true) is.ordered
     (by_base-kept is.objects
-    (rows-kept (λ i. object_read (object_row_bytes (pages.coming v.pages image) i)) (λ k row h. live-kept (object_row_bytes (pages.coming v.pages image) k) row h) 0 object_rows is.objects is.objects_are))
+    (rows-kept (λ i. object_read (object_row_bytes (pages.coming v.pages image) i)) (λ k row h. live-kept (object_row_bytes (pages.coming v.pages image) k) row h) 0 object_limit is.objects is.objects_are))

@@ -26,6 +26,11 @@ abbrev pub row_set : {R : Type 0} → ℕ → Option R → List (ℕ × R) → L
 row_set p new [] = with_live p new []
 row_set p new ((i, r) ∷ rows) = if nat_lt p i then with_live p new ((i, r) ∷ rows) else if p == i then with_live p new rows else (i, r) ∷ row_set p new rows
 
+-- what live rows tell
+pub record AreTold {R : Type 0} (f : ℕ → Read R) (i n : ℕ) (rows : List (ℕ × R)) : Type 0 where
+  pub placed : ArePlaced i (i + n) rows
+  pub each : (j : ℕ) → i ≤ j → j < i + n → f j ≡ Some (row_at j rows)
+
 pub placed_wider : {R : Type 0} (low low' high high' : ℕ) (rows : List (ℕ × R)) → low' ≤ low → high ≡ high' → ArePlaced low high rows → ArePlaced low' high' rows
 placed_wider low low' high high' [] wide same placed = tt
 placed_wider low low' high high' ((i, r) ∷ rows) wide same placed =
@@ -45,11 +50,6 @@ row_here i r rows = ap (λ b. if b then Some r else row_at i rows) (eq-eqb i i r
 
 row_behind : {R : Type 0} (i j : ℕ) (r : R) (rows : List (ℕ × R)) → i ≢ j → row_at j ((i, r) ∷ rows) ≡ row_at j rows
 row_behind i j r rows other = ap (λ b. if b then Some r else row_at j rows) (ne_eqb i j other)
-
--- what live rows tell
-pub record AreTold {R : Type 0} (f : ℕ → Read R) (i n : ℕ) (rows : List (ℕ × R)) : Type 0 where
-  pub placed : ArePlaced i (i + n) rows
-  pub each : (j : ℕ) → i ≤ j → j < i + n → f j ≡ Some (row_at j rows)
 
 told-more : {R : Type 0} (f : ℕ → Read R) (i n : ℕ) (row : Option R) (rest : List (ℕ × R)) → f i ≡ Some row → AreTold f (i + 1) n rest → AreTold f i (suc n) (with_live i row rest)
 told-more f i n None rest here told = record {

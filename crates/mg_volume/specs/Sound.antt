@@ -22,6 +22,31 @@ use Rattle.mg_check.specs.RowsRead.{placed_from}
 use Rattle.mg_objects.specs.Held.{by_base, into_place}
 use Rattle.mg_volume.specs.Meaning.{IsKept, Spelled, has_page, is_page_in, is_sound, now_of, objects_in, rows_apart, threads_in}
 
+-- objects in the order of their bases
+abbrev pub all_spelled : Image → ℕ → List ℕ → List (ℕ × ObjectRow) → List Object
+all_spelled r frames table os = map (λ (o : ℕ × ObjectRow). object_spelled r frames table o.1) os
+
+-- the rules between objects, of their rows alone
+abbrev pub rows_fit : ℕ → ℕ → List ObjectRow → Bool
+rows_fit frames accounts rows =
+    rows_apart rows
+    && list_all (λ (row : ObjectRow). nat_le row.account accounts) rows
+    && nat_le (sum_by (λ (row : ObjectRow). row.pages) rows) frames
+
+-- whether a state is sound, of the rows that are held
+abbrev pub are_sound : Settings → Counters → List (ℕ × ObjectRow) → List AccRow → List (ℕ × ThreadRow) → Bool
+are_sound settings counters objects accounts threads =
+    accounts_fit settings.credits counters.period accounts
+    && rows_fit settings.frames (length accounts) (map (λ (o : ℕ × ObjectRow). o.1) objects)
+    && threads_fit counters.births (map (λ (t : ℕ × ThreadRow). record { number = t.0; row = t.1 }) threads)
+
+abbrev pub is_sound_held : VolumeHeld → Bool
+is_sound_held v = are_sound v.settings v.counters v.objects v.accounts v.threads
+
+-- what an image spells where it has a state
+abbrev made : VolumeHeld → List Object → List AccRow → List Thread → State
+made v objects accounts threads = record { settings = v.settings; counters = v.counters; objects = objects; accounts = accounts; threads = threads }
+
 -- accounts in their places
 pub accounts-placed : (i : ℕ) (accounts : List AccRow) → accounts_spelled (placed_from i accounts) ≡ accounts
 accounts-placed i [] = refl
@@ -35,10 +60,6 @@ no-gap i (row ∷ rows) = and_from (i == i) (has_no_gap (i + 1) (placed_from (i 
 pub threads-numbered : (rows : List (ℕ × ThreadRow)) → threads_spelled rows ≡ map (λ (t : ℕ × ThreadRow). record { number = t.0; row = t.1 }) (map (λ (t : ℕ × ThreadRow). (t.0 + 1, t.1)) rows)
 threads-numbered [] = refl
 threads-numbered (t ∷ rows) = ap (λ rest. record { number = t.0 + 1; row = t.1 } ∷ rest) (threads-numbered rows)
-
--- objects in the order of their bases
-abbrev pub all_spelled : Image → ℕ → List ℕ → List (ℕ × ObjectRow) → List Object
-all_spelled r frames table os = map (λ (o : ℕ × ObjectRow). object_spelled r frames table o.1) os
 
 module _ (r : Image) (frames : ℕ) (table : List ℕ) where
   pub object-placed : (o : ℕ × ObjectRow) (os : List (ℕ × ObjectRow)) → with_object (object_spelled r frames table o.1) (all_spelled r frames table os) ≡ all_spelled r frames table (into_place o os)
@@ -64,13 +85,6 @@ module _ (r : Image) (frames : ℕ) (table : List ℕ) where
   rows-spelled [] = refl
   rows-spelled (o ∷ os) = ap (λ (rows : List ObjectRow). o.1 ∷ rows) (rows-spelled os)
 
--- the rules between objects, of their rows alone
-abbrev pub rows_fit : ℕ → ℕ → List ObjectRow → Bool
-rows_fit frames accounts rows =
-    rows_apart rows
-    && list_all (λ (row : ObjectRow). nat_le row.account accounts) rows
-    && nat_le (sum_by (λ (row : ObjectRow). row.pages) rows) frames
-
 apart-rows : (objects : List Object) → are_apart objects ≡ rows_apart (map (λ (object : Object). object.row) objects)
 apart-rows [] = refl
 apart-rows (object ∷ []) = refl
@@ -90,16 +104,6 @@ used-rows (object ∷ objects) =
 pub objects-fit : (frames accounts : ℕ) (objects : List Object) → objects_fit frames accounts objects ≡ rows_fit frames accounts (map (λ (object : Object). object.row) objects)
 objects-fit frames accounts objects = (let a = apart-rows objects in let p = paid-rows accounts objects in let u = used-rows objects in cc)
 
--- whether a state is sound, of the rows that are held
-abbrev pub are_sound : Settings → Counters → List (ℕ × ObjectRow) → List AccRow → List (ℕ × ThreadRow) → Bool
-are_sound settings counters objects accounts threads =
-    accounts_fit settings.credits counters.period accounts
-    && rows_fit settings.frames (length accounts) (map (λ (o : ℕ × ObjectRow). o.1) objects)
-    && threads_fit counters.births (map (λ (t : ℕ × ThreadRow). record { number = t.0; row = t.1 }) threads)
-
-abbrev pub is_sound_held : VolumeHeld → Bool
-is_sound_held v = are_sound v.settings v.counters v.objects v.accounts v.threads
-
 pub sound_is : (v : VolumeHeld) (image : Image) → is_sound (now_of v image) ≡ is_sound_held v
 unfolding now_of threads_in
 sound_is v image =
@@ -117,10 +121,6 @@ in-object r frames table page (o ∷ os) = ap (λ t. is_page_in page o.1 || t) (
 pub all-same : {X : Type 0} (p q : X → Bool) → ((x : X) → p x ≡ q x) → (xs : List X) → list_all p xs ≡ list_all q xs
 all-same p q same [] = refl
 all-same p q same (x ∷ xs) = ap (λ t. t && list_all p xs) (same x) ∙ ap (λ t. q x && t) (all-same p q same xs)
-
--- what an image spells where it has a state
-abbrev made : VolumeHeld → List Object → List AccRow → List Thread → State
-made v objects accounts threads = record { settings = v.settings; counters = v.counters; objects = objects; accounts = accounts; threads = threads }
 
 fitting-is : (rows : Rows) (state kept : State) → fitting rows state ≡ Is kept → state ≡ kept
 fitting-is rows state kept fits = ⊎_elim fit unfit (cases_Bool (state_fits rows state))

@@ -3,7 +3,8 @@ use Rattle.std.specs.Prelude.{◌≡◌, ◌⊎◌, ◌+◌, ◌*◌, ◌/◌, �
 use Rattle.mg_disk.specs.Disk.{Image}
 use Rattle.mg_model.specs.declared.accounts.AccRow.{AccRow}
 use Rattle.mg_model.specs.Bank.{all_charged, all_paid, given_to}
-use Rattle.mg_model.specs.Layout.{account_rows, first_account_block, first_thread_block}
+use Rattle.mg_model.specs.Layout.{first_account_block, first_thread_block}
+use Rattle.mg_model.specs.Limits.{account_limit}
 use Rattle.mg_model.specs.Replay.{block_of}
 use Rattle.mg_model.specs.State.{State}
 use Rattle.mg_pages.specs.Held.{PagesHeld}
@@ -31,7 +32,7 @@ pub record StagesAccounts (most : ℕ) (named : ℕ → Bool) (rows : List AccRo
 
 -- rows that differ from these in blocks alone that a test names
 pub record DifferWithin (named : ℕ → Bool) (old new : List AccRow) : Type 0 where
-  pub each : (i : ℕ) → i < account_rows → named (i / 64) ≡ false → slice_get new i ≡ slice_get old i
+  pub each : (i : ℕ) → i < account_limit → named (i / 64) ≡ false → slice_get new i ≡ slice_get old i
 
 -- the state after a collection at this rate
 abbrev pub at_rate : ℕ → State → State

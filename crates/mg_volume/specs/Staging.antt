@@ -2,7 +2,8 @@
 use Rattle.std.specs.Prelude.{◌≡◌, ◌+◌, ◌-◌, ◌*◌, ◌/◌, ◌≤◌, ◌<◌, ◌||◌, nat_le, nat_lt, ℕ, zero, suc, Bool, true, List, [], ◌∷◌, Some, if◌then◌else◌, find, length, map, replicate, sum_by, IsSomeAnd, Option, None, filter, not, ◌==◌}
 use Rattle.std.specs.List.{list_all, list_any}
 use Rattle.std.specs.Option.{option_map_or}
-use Rattle.mg_model.specs.Layout.{first_object_block, first_thread_block, globals_block, object_rows}
+use Rattle.mg_model.specs.Layout.{first_object_block, first_thread_block, globals_block}
+use Rattle.mg_model.specs.Limits.{object_limit}
 use Rattle.mg_model.specs.Objects.{page_behind, page_of}
 use Rattle.mg_model.specs.State.{Object, ObjectRow, Thread, ThreadRow}
 use Rattle.mg_model.specs.Threads.{with_new_thread}
@@ -32,7 +33,7 @@ free_from objects place zero = place
 free_from objects place (suc n) = if list_any (λ (o : ℕ × ObjectRow). o.0 == place) objects then free_from objects (place + 1) n else place
 
 abbrev pub free_place : List (ℕ × ObjectRow) → ℕ
-free_place objects = free_from objects 0 object_rows
+free_place objects = free_from objects 0 object_limit
 
 -- the place of the row of the object with this base, or of the row that it will have where it is not there
 abbrev pub place_for : ℕ → List (ℕ × ObjectRow) → ℕ
@@ -64,7 +65,7 @@ is_apart_from rows row = list_all (λ (other : ObjectRow). nat_le (page_behind r
 -- an object may join these: it meets none of them, there is a row for it, and there are frames for its pages
 pub record MayJoin (rows : List ObjectRow) (frames : ℕ) (row : ObjectRow) : Type 0 where
   pub apart : is_apart_from rows row ≡ true
-  pub few : length rows < object_rows
+  pub few : length rows < object_limit
   pub fit : sum_by (λ (other : ObjectRow). other.pages) rows + row.pages ≤ frames
 
 -- one of them may have another row: as many pages from the same base on

@@ -6,8 +6,8 @@ ghost use Rattle.mg_check.specs.RowsRead.{AreKept, ArePlaced, IsReadAs};
 ghost use Rattle.mg_disk.specs.Stops.{DiskCallsBy, Leaves, NothingPending};
 ghost use Rattle.mg_journal.specs.Contents.{SameContents};
 ghost use Rattle.mg_journal.specs.Looked.{Fits};
-ghost use Rattle.mg_model.specs.Layout.{thread_rows, total_blocks};
-ghost use Rattle.mg_model.specs.Limits.{account_limit, credit_limit, object_limit};
+ghost use Rattle.mg_model.specs.Layout.{total_blocks};
+ghost use Rattle.mg_model.specs.Limits.{account_limit, credit_limit, object_limit, thread_limit};
 ghost use Rattle.mg_model.specs.Tests.{all_distinct};
 ghost use Rattle.mg_model.specs.Volume.{bound_pages, volume};
 ghost use Rattle.mg_objects.specs.Held.{AreApart, objects_in};
@@ -48,7 +48,7 @@ fn lists_of(
     requires at_most_4096_rows { length table.items ≤ object_limit }
     requires has_capacity { object_limit ≤ vec_capacity table }
     requires apart { AreApart (objects_in table.items) }
-    requires placed { ArePlaced thread_rows rows.items }
+    requires placed { ArePlaced thread_limit rows.items }
     requires at_most_1024_accounts { length accounts.items ≤ account_limit }
     requires has_account_capacity { account_limit ≤ vec_capacity accounts }
     requires credits { credits_of accounts.items ≤ credit_limit }

@@ -2,7 +2,7 @@
 ghost use Rattle.std.specs.Prelude.{◌≡◌, ◌≤◌, ◌==◌, ◌&&◌, false, nat_lt, not, [], All, IfOk, IfSome, None, find, length, position, replicate};
 ghost use Rattle.std.specs.Option.{ForSome, option_copied, option_map};
 ghost use Rattle.mg_check.specs.RowsRead.{ArePlaced};
-ghost use Rattle.mg_model.specs.Layout.{thread_rows};
+ghost use Rattle.mg_model.specs.Limits.{thread_limit};
 ghost use Rattle.mg_model.specs.Ranges.{IsThreadRow};
 ghost use Rattle.mg_model.specs.Turn.{is_ready};
 ghost use Rattle.mg_volume.specs.Numbered.{IsFreeNumber, has_turn, numbered, rows_with};
@@ -51,7 +51,7 @@ impl Threads {
 
     /// The threads of these rows, each with the place of its row. All memory that they will need is taken here.
     pub(crate) fn of(alloc: Global, rows: &[(u64, ThrRow)]) -> Result<Threads, AllocError>
-        requires { ArePlaced thread_rows rows.now }
+        requires { ArePlaced thread_limit rows.now }
         ensures { IfOk result (λ threads. threads ≡ numbered rows.now) }
     {
         let mut threads = Threads::new(alloc)?;

@@ -4,11 +4,11 @@ use Rattle.std.proofs.Common.{refl, sym, ap, ◌∙◌, rules}
 use Rattle.mg_calls_obj.proofs.Rows.{change_gives, pwdel-is, staged-is, without_password}
 use Rattle.mg_model.specs.declared.replies.Refusal.{Refusal}
 use Rattle.mg_model.specs.declared.replies.Refusal.TheVariants.{NoPassword}
-use Rattle.mg_model.specs.declared.replies.Reply.TheVariants.{Done}
+use Rattle.mg_model.specs.declared.replies.Reply.TheVariants.{Done, No}
 use Rattle.mg_model.specs.ObjectCalls.{has_password}
 use Rattle.mg_model.specs.State.{ObjectRow}
 use Rattle.mg_volume.specs.Meaning.{now_of, objects_in}
-use Rattle.mg_volume.specs.RunLemmas.{call_made}
+use Rattle.mg_volume.specs.RunLemmas.{call_made, call_refused}
 use Rattle.mg_calls_obj.proofs.passwords.pwdel_by_row.Goals as goal
 
 -- what was removed was there
@@ -28,3 +28,17 @@ returns-in-Ok-clause-does c =
     let rows = objects_in c.args.v.now in
     let now = c.change.ensures.now (without_password password) (change_gives rows rows object new refl c.requires.held base (without_password password) (sym c.remove.ensures.list)) image in
     pwdel-is state t a object named may password true has ∙ staged-is state (now_of c.change.new.self image) object new (without_password password) Done base now) (search rules)
+
+-- what could not be removed was not there, and is refused so
+was_missing : (has : Bool) (word : Refusal) → ◌≡◌ {A = Result (Unit {0}) Refusal} (Err word) (if has then Ok tt else Err NoPassword) → (has ≡ false) × (word ≡ NoPassword)
+was_missing true word is = cc
+was_missing false word is = (refl, cc)
+
+pub returns-in-Err-clause-does : goal.returns-in-Err-clause-does
+returns-in-Err-clause-does c =
+    call_refused _ _ _ _ (λ image t a spelled formed named may.
+    let password = c.args.password in
+    let object : ObjectRow = c.args.object in
+    let missing = was_missing (list_any (λ pw. has_password password pw) object.passwords) c.in-Err.word c.in-Err.ensures.refused in
+    let state = now_of c.args.v.now image in
+    pwdel-is state t a object named may password false missing.0 ∙ ap (λ word. (state, No word)) (sym missing.1))

@@ -1,5 +1,5 @@
 use Rattle.std.proofs.Common.{◌≡◌, ◌≤◌, length, take, vec_capacity}
-use Rattle.mg_model.specs.Layout.{account_rows}
+use Rattle.mg_model.specs.Limits.{account_limit}
 use Rattle.mg_check.specs.RowsRead.{placed_from}
 use Rattle.mg_check.proofs.accounts.without_places.Given as goal
 
@@ -8,5 +8,5 @@ abbrev pub invariant-loop-place : goal.invariant-loop-place
 invariant-loop-place l = record {
   same : placed_from 0 l.accounts.items ≡ take l.place-index l.rows;
   long : length l.accounts.items ≡ l.place-index;
-  room : account_rows ≤ vec_capacity l.accounts;
+  room : account_limit ≤ vec_capacity l.accounts;
 }

@@ -1,6 +1,6 @@
 use Rattle.std.proofs.Common.{◌≡◌, Err, subst, sym, ◌∙◌}
 use Rattle.std.proofs.lemmas.Result.{err_from_is_err_and}
-use Rattle.mg_model.specs.Layout.{account_rows}
+use Rattle.mg_model.specs.Limits.{account_limit}
 use Rattle.mg_model.specs.Spelling.{account_read}
 use Rattle.mg_model.specs.Volume.{account_row_bytes}
 use Rattle.mg_check.specs.TableTold.{HasRest, IsTable}
@@ -48,7 +48,7 @@ returns-in_err-accounts-clause-damaged g c is r told =
     let first = p.1 in
     let same = p.2 in
     let damaged : c.without_places.result ≡ Err fault.Damaged = cc in
-    with-gap c.args.p.now r c.deref.result.now (subst (AreLive (λ i. account_read (account_row_bytes r i)) account_rows) (sym c.deref.ensures.value) (c.in_ok-placed.ensures.told r (same_contents g.D.Disk (g.C.Contents.of c.args.view.now) c.args.disk.now c.read_counters.new.disk c.read_counters.ensures.reads ∙ told))) (c.without_places.ensures.damaged damaged)
+    with-gap c.args.p.now r c.deref.result.now (subst (AreLive (λ i. account_read (account_row_bytes r i)) account_limit) (sym c.deref.ensures.value) (c.in_ok-placed.ensures.told r (same_contents g.D.Disk (g.C.Contents.of c.args.view.now) c.args.disk.now c.read_counters.new.disk c.read_counters.ensures.reads ∙ told))) (c.without_places.ensures.damaged damaged)
 
 pub returns-in_err-threads-clause-damaged : goal.returns-in_err-threads-clause-damaged
 returns-in_err-threads-clause-damaged g c is r told =
@@ -80,7 +80,7 @@ returns-in_err-table-clause-damaged g c is r told =
 pub returns-clause-told : goal.returns-clause-told
 returns-clause-told g c r told =
     tables-told _ r (c.in_ok-globals.ensures.told r told)
-    (subst (AreLive (λ i. account_read (account_row_bytes r i)) account_rows) (sym (c.in_ok-accounts.ensures.same ∙ c.deref.ensures.value)) (c.in_ok-placed.ensures.told r (same_contents g.D.Disk (g.C.Contents.of c.args.view.now) c.args.disk.now c.read_counters.new.disk c.read_counters.ensures.reads ∙ told)))
+    (subst (AreLive (λ i. account_read (account_row_bytes r i)) account_limit) (sym (c.in_ok-accounts.ensures.same ∙ c.deref.ensures.value)) (c.in_ok-placed.ensures.told r (same_contents g.D.Disk (g.C.Contents.of c.args.view.now) c.args.disk.now c.read_counters.new.disk c.read_counters.ensures.reads ∙ told)))
     (c.in_ok-threads.ensures.told r (same_contents g.D.Disk (g.C.Contents.of c.args.view.now) c.args.disk.now c.read_all.new.disk (only_then g.D.Disk c.args.disk.now c.read_counters.new.disk c.read_all.new.disk c.read_counters.ensures.reads c.read_all.ensures.reads) ∙ told))
     (c.in_ok-objects.ensures.told r (same_contents g.D.Disk (g.C.Contents.of c.args.view.now) c.args.disk.now c.read_all-2.new.disk (only_then g.D.Disk c.args.disk.now c.read_all.new.disk c.read_all-2.new.disk (only_then g.D.Disk c.args.disk.now c.read_counters.new.disk c.read_all.new.disk c.read_counters.ensures.reads c.read_all.ensures.reads) c.read_all-2.ensures.reads) ∙ told))
     (subst (λ n. IsTable r n c.in_ok-table.table.items) c.frames-frames.ensures.value (c.in_ok-table.ensures.told r (same_contents g.D.Disk (g.C.Contents.of c.args.view.now) c.args.disk.now c.read_places.new.disk (only_then g.D.Disk c.args.disk.now c.read_all-2.new.disk c.read_places.new.disk (only_then g.D.Disk c.args.disk.now c.read_all.new.disk c.read_all-2.new.disk (only_then g.D.Disk c.args.disk.now c.read_counters.new.disk c.read_all.new.disk c.read_counters.ensures.reads c.read_all.ensures.reads) c.read_all-2.ensures.reads) c.read_places.ensures.reads) ∙ told)))

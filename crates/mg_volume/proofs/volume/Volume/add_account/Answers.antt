@@ -1,7 +1,7 @@
 use Rattle.std.proofs.Common.{◌≤◌, ◌<◌, ◌/◌, ◌∙◌, ap, length, refl, subst, arith}
 use Rattle.std.specs.Prelude.{List}
 use Rattle.mg_bank.specs.Bank.{pages_at}
-use Rattle.mg_model.specs.Layout.{account_rows}
+use Rattle.mg_model.specs.Limits.{account_limit}
 use Rattle.mg_model.specs.declared.accounts.AccRow.{AccRow}
 use Rattle.mg_volume.proofs.AccountLists.{are_both, opened_owe, opened_within}
 use Rattle.mg_volume.proofs.AccountsStaged.{accounts_held, accounts_now, accounts_objects, accounts_stages, with_accounts}
@@ -38,7 +38,7 @@ pub stage_both-requires-clause-at_most_158_staged : goal.stage_both-requires-cla
 unfolding staged_of
 stage_both-requires-clause-at_most_158_staged c = rw (← c.self.view_is) at c.requires.at_most_158_staged
 
-few : (c : goal.After-stage_both) → length c.add_account.new.self.accounts ≤ account_rows
+few : (c : goal.After-stage_both) → length c.add_account.new.self.accounts ≤ account_limit
 unfolding accounts_in
 few c =
     let less : length c.self.inside.bank.accounts < 1024 = rw (← c.self.view_is) at c.requires.fewer_than_1024_accounts in

@@ -1,8 +1,7 @@
 use Rattle.std.proofs.Common.{◌≡◌, ◌≤◌, ◌+◌, ◌-◌, ◌∙◌, ap, length, refl, subst, arith}
 use Rattle.std.specs.Prelude.{List, nat_lt}
 use Rattle.mg_bank.specs.Bank.{pages_at}
-use Rattle.mg_model.specs.Layout.{account_rows}
-use Rattle.mg_model.specs.Limits.{debt_limit}
+use Rattle.mg_model.specs.Limits.{account_limit, debt_limit}
 use Rattle.mg_model.specs.declared.accounts.AccRow.{AccRow}
 use Rattle.mg_rent.specs.Charging.{OweAtMost}
 use Rattle.mg_volume.proofs.AccountLists.{all_within}
@@ -23,7 +22,7 @@ charge_all-paid-requires-clause-pages c n =
     let fit = c.self.invariant.kept.used in
     few-pages c.self.inside.objects c.self.inside.bank.pages c.self.invariant.paid (omega (arith, c.keep_rules-2.ensures.at_most_65536_frames)) n
 
-few : (c : goal.After-stage_first) → length c.charge_all-paid.new.b.accounts ≤ account_rows
+few : (c : goal.After-stage_first) → length c.charge_all-paid.new.b.accounts ≤ account_limit
 few c =
     let was = c.self.invariant.kept.few_accounts in
     let count = c.charge_all-paid.ensures.count in
