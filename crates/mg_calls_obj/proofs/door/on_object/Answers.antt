@@ -1,11 +1,11 @@
-use Rattle.std.specs.Prelude.{◌≡◌, ◌≤◌, ◌+◌, ◌-◌, ℕ, Some}
+use Rattle.std.specs.Prelude.{◌≡◌, ◌≤◌, ◌+◌, ◌-◌, ℕ, None, Some}
 use Rattle.std.specs.Option.{ForSome}
 use Rattle.std.proofs.Common.{arith, sym, ap, subst, ◌∙◌, rules}
-use Rattle.mg_calls_dom.specs.ReachedLemmas.{gone_held, reached_allowed, reached_at, reached_lives}
+use Rattle.mg_calls_dom.specs.ReachedLemmas.{gone_held, reached_allowed, reached_at, reached_lives, reached_none}
 use Rattle.mg_calls_dom.specs.Searching.{allowed_row}
 use Rattle.mg_calls_dom.specs.ServedLemmas.{read_call, reads_serves}
 use Rattle.mg_calls_dom.specs.Served.{of_call}
-use Rattle.mg_calls_obj.proofs.Doors.{at_door, door-done, door-limit, door-rules, ends_backed, is-line}
+use Rattle.mg_calls_obj.proofs.Doors.{at_door, denied, door-done, door-limit, door-rules, ends_backed, is-line}
 use Rattle.mg_calls_obj.specs.Door.{asked, named}
 use Rattle.mg_model.specs.declared.rights.Right.{Right}
 use Rattle.mg_model.specs.Access.{allowed}
@@ -42,7 +42,13 @@ returns-in-None g c =
     let made = c.args.call.now in
     let t = c.args.t in
     reads_serves g.D.Disk c.args.v.now c.reach.new.v c.args.c.now c.reach.new.c c.args.disk.now c.reach.new.disk c.args.steps.now c.reach.new.steps 129 (of_call t made) _
-    (read_call g.D.Disk c.args.v.now c.reach.new.v c.args.c.now c.reach.new.c c.args.disk.now c.reach.new.disk c.args.steps.now c.reach.new.steps t made _ tt (search rules) c.reach.ensures.backed
+    (read_call g.D.Disk c.args.v.now c.reach.new.v c.args.c.now c.reach.new.c c.args.disk.now c.reach.new.disk c.args.steps.now c.reach.new.steps t made _ tt
+    (λ image told.
+    let state = now_of c.args.v.now image in
+    let P : ℕ → Right → Type 0 = λ b r. None ≡ allowed_row state t b r in
+    let found = at_door P made c.wanted-place.result c.wanted-place.ensures (sym c.in-None.is ∙ c.in_ok-object.ensures.row image told) in
+    denied made state t c.requires.on (reached_none state t (named made) (asked made) found))
+    c.reach.ensures.backed
     (λ image told.
     let state = now_of c.args.v.now image in
     let P : ℕ → Right → Type 0 = λ b r. Validates state (record { thread = t; address = b; right = r }) (λ key. is_kept c.args.c.now key) (λ key. is_kept c.reach.new.c key) (c.reach.new.steps - c.args.steps.now) in
