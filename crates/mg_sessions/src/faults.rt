@@ -52,14 +52,33 @@ pub fn fail_run(
 ) -> Option<u64> {
     let first = count_disk_calls(report.alloc(), stage.line, disk, b"")?;
     let last = count_disk_calls(report.alloc(), stage.line, disk, stage.part.run)?;
-    let trial = Trial {
-        line: stage.line,
-        input: stage.part.run,
-        wanted,
-    };
+    let trial = trial_of(stage, wanted);
     match held(report.alloc(), disk) {
         Some(mut volume) => fail_kinds(report, &trial, &mut volume, bench, first, last),
         None => None,
+    }
+}
+
+/// Fails each take and each put of a run, one a run, and gives how many failed.
+pub fn fail_streams(
+    report: &mut Report,
+    stage: &Stage<'_>,
+    disk: &MemDisk,
+    wanted: &Wanted,
+    bench: &mut Bench,
+) -> Option<u64> {
+    let trial = trial_of(stage, wanted);
+    match held(report.alloc(), disk) {
+        Some(mut volume) => fail_takes_and_puts(report, &trial, &mut volume, bench),
+        None => None,
+    }
+}
+
+fn trial_of<'a>(stage: &Stage<'a>, wanted: &'a Wanted) -> Trial<'a> {
+    Trial {
+        line: stage.line,
+        input: stage.part.run,
+        wanted,
     }
 }
 
@@ -86,9 +105,19 @@ fn fail_kinds(
     last: u64,
 ) -> Option<u64> {
     let calls = fail_calls(report, trial, volume, bench, Failing::Disk, first, last)?;
+    let streams = fail_takes_and_puts(report, trial, volume, bench)?;
+    Some(calls.saturating_add(streams))
+}
+
+fn fail_takes_and_puts(
+    report: &mut Report,
+    trial: &Trial<'_>,
+    volume: &mut ScratchDisk,
+    bench: &mut Bench,
+) -> Option<u64> {
     let takes = fail_calls(report, trial, volume, bench, Failing::Take, 0, MOST_CALLS)?;
     let puts = fail_calls(report, trial, volume, bench, Failing::Put, 0, MOST_CALLS)?;
-    Some(calls.saturating_add(takes).saturating_add(puts))
+    Some(takes.saturating_add(puts))
 }
 
 /// Fails the calls of one kind, one a run, from the first of these numbers to the one before the last, or to the first that the

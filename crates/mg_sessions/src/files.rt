@@ -181,6 +181,13 @@ fn compare_session(report: &mut Report, session: &Session<'_>) -> Option<Compare
         Some(batch) => Some(sweep_all(report, session, Sweep::Faults, batch)?),
         None => None,
     };
+    let faults = match session.settings.streams {
+        Some(batch) => {
+            let more = sweep_all(report, session, Sweep::Streams, batch)?;
+            Some(faults.unwrap_or(0).saturating_add(more))
+        }
+        None => faults,
+    };
     Some(Compared {
         answers: count(session.file, Kind::Answers),
         stops,

@@ -4,7 +4,8 @@
 //! it is answered has to be what stands in it, and what is told of the volume behind it, and answered to the same lines once
 //! more, has to be the same each time. Where the file asks for stops, the disk is stopped after each call that follows the
 //! opening; what is opened then has to answer the rest as the whole run did. Where it asks for faults, each call of the disk, the
-//! source and the sink fails once, and what the volume holds then has to do the same. `docs/SESSIONS.md` has the form of a file.
+//! source and the sink fails once, or of the last two alone, and what the volume holds then has to do the same. `docs/SESSIONS.md`
+//! has the form of a file.
 #![tactic(auto)]
 
 mod bench;

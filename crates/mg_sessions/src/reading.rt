@@ -3,7 +3,7 @@ use crate::lines::{Line, is_newline, line_of};
 use crate::session::{Session, Settings};
 use std::str;
 
-/// The batch of a sweep of stops or faults that names none.
+/// The batch of a sweep that names none.
 const BATCH: &str = "8";
 
 /// Why a file is no session: a line, from 1, and what is wrong there.
@@ -94,6 +94,7 @@ fn set<'a>(settings: &mut Settings<'a>, text: &'a [u8]) -> Option<&'static str> 
         "check" => settings.check = Some(value),
         "stops" => settings.stops = Some(batch(value)),
         "faults" => settings.faults = Some(batch(value)),
+        "streams" => settings.streams = Some(batch(value)),
         "saves" => settings.saves = true,
         _ => return Some("no such setting"),
     }

@@ -16,6 +16,8 @@ pub struct Settings<'a> {
     pub stops: Option<&'a str>,
     /// The batch under which each call fails once; None asks for no faults.
     pub faults: Option<&'a str>,
+    /// The batch under which each take and each put fails once, and no call of the disk; None asks for none of these.
+    pub streams: Option<&'a str>,
     /// Whether the runs are to make fewer syncs with batches of 64 lines than with one line each.
     pub saves: bool,
 }
@@ -38,6 +40,7 @@ impl<'a> Settings<'a> {
             check: None,
             stops: None,
             faults: None,
+            streams: None,
             saves: false,
         }
     }

@@ -1,6 +1,6 @@
 // A session each of whose runs is made with a stop, or with a fault, at each call.
 use crate::bench::Bench;
-use crate::faults::fail_run;
+use crate::faults::{fail_run, fail_streams};
 use crate::kept::{Stage, Wanted, put_wanted};
 use crate::parts::{count_runs, part_of};
 use crate::report::Report;
@@ -17,6 +17,8 @@ pub enum Sweep {
     Stops,
     /// It fails.
     Faults,
+    /// It fails, if it is a take or a put.
+    Streams,
 }
 
 /// The words of the commands of a sweep.
@@ -118,6 +120,7 @@ fn sweep_calls(
     match sweep {
         Sweep::Stops => stop_run(report, stage, disk, wanted, bench),
         Sweep::Faults => fail_run(report, stage, disk, wanted, bench),
+        Sweep::Streams => fail_streams(report, stage, disk, wanted, bench),
     }
 }
 
