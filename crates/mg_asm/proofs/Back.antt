@@ -24,7 +24,7 @@ use Rattle.mg_model.specs.Print.{hex_text, spaced}
 use Rattle.mg_model.specs.Ranges.{IsWord}
 use Rattle.mg_model.specs.Script.{decoded}
 use Rattle.mg_model.specs.Words.{is_newline, is_some_word, split_at}
-use Rattle.mg_script.specs.DecodedReads.{decoded-registers, decoded-word}
+use Rattle.mg_script.specs.DecodedLemmas.{decoded-registers, decoded-word}
 use Rattle.mg_script.specs.Encoded.{HasRegisters, encoded}
 
 -- no byte cuts

@@ -16,7 +16,7 @@ use Rattle.mg_model.specs.Refused.{Answer, first_refusal, unless_refused}
 use Rattle.mg_model.specs.State.{Counters, Object, ObjectRow, State}
 use Rattle.mg_rent.specs.PaidLemmas.{paid-through, row_pages}
 use Rattle.mg_volume.specs.Held.{VolumeHeld}
-use Rattle.mg_volume.specs.Laws.{now_accounts, now_counters}
+use Rattle.mg_volume.specs.StateLemmas.{now_accounts, now_counters}
 use Rattle.mg_volume.specs.Meaning.{accounts_in, now_of}
 
 -- the tests, of what they look at

@@ -13,7 +13,7 @@ use Rattle.mg_model.specs.WellFormed.{IsWellFormed}
 use Rattle.mg_model.specs.Volume.{accounts_fit, are_apart, threads_fit}
 use Rattle.mg_volume.specs.Held.{VolumeHeld}
 use Rattle.mg_volume.specs.FormedLemmas.{formed_sound}
-use Rattle.mg_volume.specs.Laws.{now_rows}
+use Rattle.mg_volume.specs.StateLemmas.{now_rows}
 use Rattle.mg_volume.specs.Meaning.{IsSpelledBy, is_sound, now_of, objects_in}
 use Rattle.mg_volume.specs.RangeLemmas.{held_rows}
 use Rattle.mg_volume.specs.RunLemmas.{told_rows}

@@ -13,7 +13,7 @@ use Rattle.mg_model.specs.ObjectCalls.{no_row, row_at}
 use Rattle.mg_model.specs.State.{Object, ObjectRow, State, Thread}
 use Rattle.mg_model.specs.Threads.{is_thread}
 use Rattle.mg_volume.specs.Held.{VolumeHeld}
-use Rattle.mg_volume.specs.Laws.{now_threads}
+use Rattle.mg_volume.specs.StateLemmas.{now_threads}
 use Rattle.mg_volume.specs.Meaning.{Keeps, now_of, threads_in}
 use Rattle.mg_volume.specs.RunLemmas.{told_thread}
 

@@ -17,7 +17,7 @@ use Rattle.mg_model.specs.Refused.{Answer, first_refusal, unless_refused}
 use Rattle.mg_model.specs.Settings.{Settings}
 use Rattle.mg_model.specs.State.{Counters, Object, ObjectRow, State}
 use Rattle.mg_volume.specs.Held.{VolumeHeld}
-use Rattle.mg_volume.specs.Laws.{now_accounts, now_counters, now_rows, now_settings}
+use Rattle.mg_volume.specs.StateLemmas.{now_accounts, now_counters, now_rows, now_settings}
 use Rattle.mg_volume.specs.Meaning.{accounts_in, counters_in, now_of, objects_in, settings_in}
 use Rattle.mg_volume.specs.Staging.{blank}
 

@@ -31,7 +31,7 @@ use Rattle.mg_model.specs.WellFormed.{IsThread, IsWellFormed}
 use Rattle.mg_vcache.specs.SeatLemmas.{backed_still}
 use Rattle.mg_vcache.specs.Seats.{AllBacked}
 use Rattle.mg_volume.specs.Held.{VolumeHeld}
-use Rattle.mg_volume.specs.Laws.{now_threads}
+use Rattle.mg_volume.specs.StateLemmas.{now_threads}
 use Rattle.mg_volume.specs.Meaning.{now_of, threads_in}
 use Rattle.mg_volume.specs.Staging.{threads_with}
 

@@ -33,19 +33,6 @@ pub record HoldsOpen (total opened : ℕ) (table : List (ℕ × ℕ)) (image : I
 unfoldable pub IsFitting : Store → Image → Type 0
 IsFitting store image = HoldsOpen store.total store.opened store.table image
 
--- where a store fits, the journal can be replayed
-pub fitting_replays : (store : Store) (image : Image) → IsFitting store image → (r : Image) × (replay image (total_of store) ≡ Some r)
-unfolding IsFitting
-fitting_replays store image fits = (written image (open_writes image), replay-some store.total image fits.fits.fit)
-
-pub fits_held : (store : Store) (image : Image) → HoldsOpen store.total store.opened store.table image → IsFitting store image
-unfolding IsFitting
-fits_held store image held = held
-
-pub held_fits : (store : Store) (image : Image) → IsFitting store image → HoldsOpen store.total store.opened store.table image
-unfolding IsFitting
-held_fits store image fits = fits
-
 -- the volume is on the disk, nothing is pending, and the store fits what reads give
 pub record Stands {D : Type 0} (facts : Ghosts D) (store : Store) (disk : D) : Type 0 where
   pub journal : globals_block ≤ total_of store
@@ -70,3 +57,16 @@ open_count image = open_since image 0 segment_count
 pub record IsLate (a b : Image) : Type 0 where
   pub more : open_count a < segment_count → (open_count b ≡ open_count a + 1) × SameBut InJournal a b
   pub again : open_count a ≡ segment_count → open_count b ≡ 1
+
+-- where a store fits, the journal can be replayed
+pub fitting_replays : (store : Store) (image : Image) → IsFitting store image → (r : Image) × (replay image (total_of store) ≡ Some r)
+unfolding IsFitting
+fitting_replays store image fits = (written image (open_writes image), replay-some store.total image fits.fits.fit)
+
+pub fits_held : (store : Store) (image : Image) → HoldsOpen store.total store.opened store.table image → IsFitting store image
+unfolding IsFitting
+fits_held store image held = held
+
+pub held_fits : (store : Store) (image : Image) → IsFitting store image → HoldsOpen store.total store.opened store.table image
+unfolding IsFitting
+held_fits store image fits = fits

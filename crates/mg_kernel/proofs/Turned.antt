@@ -32,7 +32,7 @@ use Rattle.mg_vcache.specs.Seats.{AllBacked}
 use Rattle.mg_vcache.specs.SeatLemmas.{backed_still}
 use Rattle.mg_volume.specs.Calls.{Serves, Stages}
 use Rattle.mg_volume.specs.Held.{VolumeHeld}
-use Rattle.mg_volume.specs.Laws.{staged_stands}
+use Rattle.mg_volume.specs.StateLemmas.{staged_stands}
 use Rattle.mg_volume.specs.Meaning.{Keeps, now_of, threads_in, words_in}
 use Rattle.mg_volume.specs.RunLemmas.{still_then, told_thread}
 use Rattle.mg_volume.specs.Staging.{lives as lives_held}

@@ -14,7 +14,7 @@ use Rattle.mg_model.specs.State.{State}
 use Rattle.mg_model.specs.Volume.{Is, volume}
 use Rattle.mg_model.specs.WellFormed.{IsWellFormed}
 use Rattle.mg_vcache.specs.Seats.{AllBacked, is_kept}
-use Rattle.mg_volume.specs.Laws as laws
+use Rattle.mg_volume.specs.StateLemmas as laws
 use Rattle.mg_volume.specs.Meaning as held
 
 -- the machine's state

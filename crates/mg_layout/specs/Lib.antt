@@ -5,4 +5,4 @@ pub mod FreshBelow
 pub mod MayFormat
 pub mod Laws
 -- A lemma that crates above cite. It is part of no statement.
-pub mod Words
+pub mod WordLemmas

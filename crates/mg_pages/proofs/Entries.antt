@@ -9,7 +9,7 @@ use Rattle.mg_model.specs.Layout.{table_block, table_blocks}
 use Rattle.mg_model.specs.RowLemmas.{are_zeros-replicate}
 use Rattle.mg_model.specs.Volume.{table_entries, table_of, whole_table}
 use Rattle.mg_pages.proofs.Numbers.{number-of}
-use Rattle.mg_pages.specs.Lengths.{length-numbers}
+use Rattle.mg_pages.specs.LengthLemmas.{length-numbers}
 use Rattle.mg_pages.specs.Entries.{HoldsTable}
 
 long-block : (bytes : List ℕ) → length (block_words bytes) ≡ 512

@@ -4,7 +4,7 @@ use Rattle.std.proofs.Common.{sym, ap, ◌∙◌, ⊎_elim, arith, get_or}
 use Rattle.std.proofs.lemmas.Bool.{cases_eq}
 use Rattle.std.proofs.lemmas.List.{ext_get_or, get_or-set_other, get_or-set_same, length-set}
 use Rattle.mg_model.specs.Bytes.{block_words, number_at, numbers_at}
-use Rattle.mg_pages.specs.Lengths.{length-numbers}
+use Rattle.mg_pages.specs.LengthLemmas.{length-numbers}
 
 pub number-of : (bytes : List ℕ) (from n i : ℕ) → i < n → get_or (numbers_at bytes from n) i 0 ≡ number_at bytes (from + 8 * i)
 number-of bytes from zero i below = absurd (omega arith)

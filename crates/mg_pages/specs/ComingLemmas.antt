@@ -13,7 +13,7 @@ use Rattle.mg_model.specs.Layout.{body_limit, globals_block, segment_count}
 use Rattle.mg_model.specs.Replay.{block_of, body_count, homes_fit, is_open, replay, segment_fits, segments_fit, writes_of, writes_since, written}
 use Rattle.mg_model.specs.VolumeLemmas.{length-written}
 use Rattle.mg_pages.specs.Held.{PagesHeld}
-use Rattle.mg_pages.specs.Laws.{replays}
+use Rattle.mg_pages.specs.SpelledLemmas.{replays}
 use Rattle.mg_pages.specs.Meaning.{IsSpelledBy, coming, replayed, total_of}
 
 -- no home lies before the globals

@@ -8,5 +8,5 @@ pub mod Parts
 pub mod Committing
 -- Lemmas that crates above cite. None of them is part of a statement.
 pub mod ComingLemmas
-pub mod Laws
-pub mod Lengths
+pub mod LengthLemmas
+pub mod SpelledLemmas

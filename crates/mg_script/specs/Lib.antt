@@ -4,4 +4,4 @@ pub mod Actions
 pub mod Turns
 pub mod TurnCosts
 -- Lemmas that crates above cite: what is decoded has its registers and is spelled by its word.
-pub mod DecodedReads
+pub mod DecodedLemmas

@@ -1,3 +1,3 @@
 -- Lemmas that crates above cite: numbers that are printed, and the words of a line, taken one by one.
 pub mod NumberLemmas
-pub mod Pieces
+pub mod PieceLemmas

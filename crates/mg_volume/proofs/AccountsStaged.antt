@@ -13,7 +13,7 @@ use Rattle.mg_model.specs.Spelling.{Read, account_read, globals_read}
 use Rattle.mg_model.specs.Volume.{account_row_bytes, live_rows}
 use Rattle.mg_pages.specs.ComingLemmas.{length_coming}
 use Rattle.mg_pages.specs.Held.{PagesHeld}
-use Rattle.mg_pages.specs.Laws as laws
+use Rattle.mg_pages.specs.SpelledLemmas as laws
 use Rattle.mg_pages.specs.Meaning as pages
 use Rattle.mg_rent.specs.Charging.{OweAtMost}
 use Rattle.mg_rows.specs.Blocks.{account_in}

@@ -9,7 +9,7 @@ use Rattle.mg_model.specs.Objects.{with_row}
 use Rattle.mg_model.specs.State.{Object, ObjectRow}
 use Rattle.mg_volume.proofs.FoundOwn.{rows_distinct}
 use Rattle.mg_volume.specs.Held.{VolumeHeld}
-use Rattle.mg_volume.specs.Laws.{now_rows}
+use Rattle.mg_volume.specs.StateLemmas.{now_rows}
 use Rattle.mg_volume.specs.Meaning.{IsKept, now_of, objects_in}
 use Rattle.mg_volume.specs.RowLists.{DistinctBy}
 use Rattle.mg_volume.specs.Staging.{MayChange}

@@ -14,7 +14,7 @@ use Rattle.mg_rent.specs.PaidLemmas.{paid-through, row_pages}
 use Rattle.mg_space.specs.Space.{ArePaid, AreRowsOf}
 use Rattle.mg_volume.proofs.AccountsStaged.{accounts_now, with_accounts}
 use Rattle.mg_volume.specs.Held.{VolumeHeld}
-use Rattle.mg_volume.specs.Laws.{now_accounts, now_counters, now_rows, now_settings}
+use Rattle.mg_volume.specs.StateLemmas.{now_accounts, now_counters, now_rows, now_settings}
 use Rattle.mg_volume.specs.Meaning.{accounts_in, counters_in, now_of, objects_in, settings_in}
 use Rattle.mg_volume.specs.StagesAccounts.{StagesAccounts, at_rate}
 

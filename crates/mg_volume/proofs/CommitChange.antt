@@ -15,12 +15,12 @@ use Rattle.mg_model.specs.Volume.{Is, object_spelled, volume, whole_table}
 use Rattle.mg_pages.specs.ComingLemmas.{length_coming, low_coming}
 use Rattle.mg_pages.specs.Committing.{HasContents}
 use Rattle.mg_pages.specs.Held.{PagesHeld}
-use Rattle.mg_pages.specs.Laws as laws
+use Rattle.mg_pages.specs.SpelledLemmas as laws
 use Rattle.mg_pages.specs.Meaning as pages
 use Rattle.mg_volume.proofs.StandingPages.{spelled_again, with_pages}
 use Rattle.mg_volume.specs.Contents.{AgreeBehind, IsSet, contents_set, pages_words_behind, same_behind, set_as, volume_contents, volume_of_contents}
 use Rattle.mg_volume.specs.Held.{VolumeHeld}
-use Rattle.mg_volume.specs.Laws.{set_of}
+use Rattle.mg_volume.specs.StateLemmas.{set_of}
 use Rattle.mg_volume.specs.Meaning.{IsKept, IsSpelledBy, Spelled, StandsOn, is_sound, now_of, threads_in, total_of}
 use Rattle.mg_volume.specs.Opening.{Holds}
 use Rattle.mg_volume.specs.Sound.{all_spelled, coming_volume}

@@ -28,7 +28,7 @@ use Rattle.mg_model.specs.Volume.{Rows, account_row_bytes, accounts_fit, bound_p
 use Rattle.mg_objects.specs.Held as held
 use Rattle.mg_objects.specs.Held.{AreApart, by_base}
 use Rattle.mg_pages.specs.Held.{PagesHeld}
-use Rattle.mg_pages.specs.Laws as laws
+use Rattle.mg_pages.specs.SpelledLemmas as laws
 use Rattle.mg_pages.specs.Meaning as pages
 use Rattle.mg_volume.proofs.BareRows.{sum_bare}
 use Rattle.mg_volume.proofs.ObjectLists.{by_base_all}

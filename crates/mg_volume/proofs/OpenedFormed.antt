@@ -20,8 +20,8 @@ use Rattle.mg_model.specs.Tests.{all_distinct}
 use Rattle.mg_model.specs.RowTestLemmas.{distinct-tells, list_all-tells}
 use Rattle.mg_model.specs.Volume.{accounts_fit, are_apart, begins_with_first, object_spelled, objects_fit, page_words, pages_words, thread_row_bytes, threads_fit}
 use Rattle.mg_model.specs.WellFormed.{AreAccounts, AreObjects, AreThreads, IsAccount, IsBefore, IsFirst, IsObject, IsSettings, IsThread, IsWellFormed}
-use Rattle.mg_pages.specs.Laws as laws
-use Rattle.mg_pages.specs.Lengths.{length-page}
+use Rattle.mg_pages.specs.SpelledLemmas as laws
+use Rattle.mg_pages.specs.LengthLemmas.{length-page}
 use Rattle.mg_pages.specs.Meaning as pages
 use Rattle.mg_volume.proofs.Found.{as_thread}
 use Rattle.mg_volume.proofs.ImageBytes.{pages-words, replay-bytes}

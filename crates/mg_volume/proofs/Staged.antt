@@ -13,7 +13,7 @@ use Rattle.mg_model.specs.Spelling.{globals_read}
 use Rattle.mg_model.specs.State.{Counters, ObjectRow}
 use Rattle.mg_pages.specs.ComingLemmas.{length_coming}
 use Rattle.mg_pages.specs.Held.{PagesHeld}
-use Rattle.mg_pages.specs.Laws as laws
+use Rattle.mg_pages.specs.SpelledLemmas as laws
 use Rattle.mg_pages.specs.Meaning as pages
 use Rattle.mg_volume.specs.Contents.{AgreeIn, accounts_within, objects_within, threads_within}
 use Rattle.mg_volume.specs.Held.{VolumeHeld}

@@ -12,7 +12,7 @@ use Rattle.mg_pages.specs.Held.{PagesHeld}
 use Rattle.mg_pages.specs.Meaning as pages
 use Rattle.mg_volume.specs.Contents.{AgreeBehind, IsSet, accounts-same, objects-same, threads-same}
 use Rattle.mg_volume.specs.Held.{VolumeHeld}
-use Rattle.mg_volume.specs.Laws.{set_of}
+use Rattle.mg_volume.specs.StateLemmas.{set_of}
 use Rattle.mg_volume.specs.Meaning.{IsSpelledBy, Spelled, StandsOn, total_of}
 
 abbrev pub with_pages : VolumeHeld → PagesHeld → VolumeHeld

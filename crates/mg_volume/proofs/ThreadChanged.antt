@@ -10,7 +10,7 @@ use Rattle.mg_model.specs.Threads.{with_new_thread}
 use Rattle.mg_volume.proofs.Found.{as_thread}
 use Rattle.mg_volume.proofs.ObjectLists.{change-none, distinct_map}
 use Rattle.mg_volume.specs.Held.{VolumeHeld}
-use Rattle.mg_volume.specs.Laws.{now_threads}
+use Rattle.mg_volume.specs.StateLemmas.{now_threads}
 use Rattle.mg_volume.specs.Meaning.{now_of, threads_in}
 use Rattle.mg_volume.specs.RowLists.{DistinctBy}
 use Rattle.mg_volume.specs.Staging.{threads_with}

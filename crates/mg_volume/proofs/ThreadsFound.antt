@@ -11,7 +11,7 @@ use Rattle.mg_volume.proofs.Found.{as_thread, find-mapped}
 use Rattle.mg_volume.proofs.ThreadLists.{any-mapped}
 use Rattle.mg_volume.proofs.ThreadSearch.{takes_turn}
 use Rattle.mg_volume.specs.Held.{VolumeHeld}
-use Rattle.mg_volume.specs.Laws.{now_counters, now_threads}
+use Rattle.mg_volume.specs.StateLemmas.{now_counters, now_threads}
 use Rattle.mg_volume.specs.Meaning.{counters_in, now_of, threads_in}
 use Rattle.mg_volume.specs.Numbered.{IsFreeNumber}
 use Rattle.mg_volume.specs.Staging.{lives}

@@ -14,7 +14,7 @@ pub mod Sound
 -- Lemmas that crates above cite, and what these rest on. None of them is part of a statement.
 pub mod Contents
 pub mod FormedLemmas
-pub mod Laws
 pub mod PageWordLemmas
 pub mod RangeLemmas
 pub mod RunLemmas
+pub mod StateLemmas

@@ -13,7 +13,7 @@ use Rattle.mg_model.specs.Objects.{page_behind, page_of, with_word, word_at, wor
 use Rattle.mg_model.specs.Ranges.{IsObjectRow}
 use Rattle.mg_model.specs.State.{ObjectRow}
 use Rattle.mg_model.specs.Volume.{object_spelled, page_words, pages_words}
-use Rattle.mg_pages.specs.Lengths.{length-page}
+use Rattle.mg_pages.specs.LengthLemmas.{length-page}
 use Rattle.mg_volume.specs.Meaning.{is_page_in}
 use Rattle.mg_volume.specs.Sound.{all_spelled}
 

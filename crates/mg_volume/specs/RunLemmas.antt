@@ -19,7 +19,7 @@ use Rattle.mg_model.specs.State.{Counters, Object, ObjectRow, State, Thread}
 use Rattle.mg_model.specs.WellFormed.{IsWellFormed}
 use Rattle.mg_volume.specs.Calls.{CallStages, IsSoundOn, Reads, Serves, Stages}
 use Rattle.mg_volume.specs.Held.{VolumeHeld}
-use Rattle.mg_volume.specs.Laws.{now_counters, now_rows, now_threads, staged_stands}
+use Rattle.mg_volume.specs.StateLemmas.{now_counters, now_rows, now_threads, staged_stands}
 use Rattle.mg_volume.specs.Meaning.{Keeps, SameShape, StandsOn, counters_in, now_of, objects_in, threads_in, words_in}
 use Rattle.mg_volume.specs.Staging.{StillStaged}
 

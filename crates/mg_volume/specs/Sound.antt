@@ -15,7 +15,7 @@ use Rattle.mg_model.specs.State.{Counters, Object, ObjectRow, State, Thread, Thr
 use Rattle.mg_model.specs.Tests.{all_distinct}
 use Rattle.mg_model.specs.Volume.{Damaged, Is, Rows, accounts_fit, accounts_spelled, are_apart, bound_pages, fitting, has_no_gap, is_page_of, object_spelled, objects_fit, objects_spelled, replayed_volume, rows_of, state_fits, state_spelled, table_of, threads_fit, threads_spelled, whole_table}
 use Rattle.mg_model.specs.VolumeLemmas.{rows-read, rows_with}
-use Rattle.mg_pages.specs.Laws as laws
+use Rattle.mg_pages.specs.SpelledLemmas as laws
 use Rattle.mg_pages.specs.Meaning as pages
 use Rattle.mg_volume.specs.Held.{VolumeHeld}
 use Rattle.mg_check.specs.RowsRead.{placed_from}

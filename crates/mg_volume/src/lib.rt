@@ -5,7 +5,7 @@
 //! no contract.
 //!
 //! `specs/Meaning.antt` has the words of the contracts: the state `now_of` a volume and an image, and when a volume stands
-//! on a disk. `specs/Staging.antt` has those on what may be staged, and on what waits for a commit. `specs/Laws.antt` says what
+//! on a disk. `specs/Staging.antt` has those on what may be staged, and on what waits for a commit. `specs/StateLemmas.antt` says what
 //! may be known of them.
 #![tactic(auto)]
 

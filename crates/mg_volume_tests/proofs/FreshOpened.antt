@@ -10,7 +10,7 @@ use Rattle.mg_model.specs.Settings.{Settings}
 use Rattle.mg_model.specs.State.{Object, State, Thread}
 use Rattle.mg_model.specs.Volume.{Is, VolumeRead, volume}
 use Rattle.mg_volume.specs.Held.{VolumeHeld}
-use Rattle.mg_volume.specs.Laws.{now_rows, now_settings, now_threads}
+use Rattle.mg_volume.specs.StateLemmas.{now_rows, now_settings, now_threads}
 use Rattle.mg_volume.specs.Meaning.{now_of, staged_of}
 use Rattle.mg_volume.specs.Opening.{Opens}
 use Rattle.mg_volume_tests.specs.Fresh.{IsFresh}

@@ -1,7 +1,7 @@
 use Rattle.std.proofs.Common.{◌≡◌, ◌<◌, arith}
 use Rattle.std.proofs.lemmas.Bool.Decides.{nat_tests}
 use Rattle.mg_asm.specs.Tokens.{is_gap}
-use Rattle.mg_text.specs.Pieces.{pieces-found, pieces-lacking}
+use Rattle.mg_text.specs.PieceLemmas.{pieces-found, pieces-lacking}
 use Rattle.mg_asm.proofs.tokens.next_token.Goals as goal
 
 pub returns-then-is_empty-clause-none : goal.returns-then-is_empty-clause-none

@@ -1,6 +1,6 @@
 use Rattle.std.proofs.Common.{sym, ◌∙◌, rules}
 use Rattle.mg_calls_bank.proofs.AccountRows.{balance-closed, balance-told}
-use Rattle.mg_volume.specs.Laws.{now_accounts, now_rows}
+use Rattle.mg_volume.specs.StateLemmas.{now_accounts, now_rows}
 use Rattle.mg_volume.specs.Meaning.{accounts_in, now_of, objects_in}
 use Rattle.mg_volume.specs.RunLemmas.{call_refused}
 use Rattle.mg_calls_bank.proofs.banking.balance.Goals as goal

@@ -5,7 +5,7 @@ use Rattle.mg_model.specs.BankCalls.{pay}
 use Rattle.mg_model.specs.declared.replies.Reply.TheVariants.{No}
 use Rattle.mg_volume.specs.Calls.{Answers, CallStages}
 use Rattle.mg_volume.specs.Held.{VolumeHeld}
-use Rattle.mg_volume.specs.Laws.{now_accounts}
+use Rattle.mg_volume.specs.StateLemmas.{now_accounts}
 use Rattle.mg_volume.specs.Meaning.{accounts_in, now_of}
 use Rattle.mg_volume.specs.RunLemmas.{call_made, call_refused}
 use Rattle.mg_calls_bank.proofs.banking.pay.Goals as goal

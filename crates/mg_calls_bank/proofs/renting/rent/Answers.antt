@@ -8,7 +8,7 @@ use Rattle.mg_model.specs.Limits.{period_limit}
 use Rattle.mg_model.specs.State.{Counters}
 use Rattle.mg_volume.specs.Calls.{Answers, CallStages}
 use Rattle.mg_volume.specs.Held.{VolumeHeld}
-use Rattle.mg_volume.specs.Laws.{now_counters}
+use Rattle.mg_volume.specs.StateLemmas.{now_counters}
 use Rattle.mg_volume.specs.Meaning.{counters_in, now_of}
 use Rattle.mg_volume.specs.RunLemmas.{call_made, call_refused}
 use Rattle.mg_calls_bank.proofs.renting.rent.Goals as goal

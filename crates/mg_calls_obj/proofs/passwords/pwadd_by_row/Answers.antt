@@ -5,7 +5,7 @@ use Rattle.mg_model.specs.declared.replies.Reply.TheVariants.{Value}
 use Rattle.mg_model.specs.Limits.{draw_limit, never, password_limit}
 use Rattle.mg_model.specs.ObjectCalls.{all_drawn, drawn, is_past}
 use Rattle.mg_model.specs.State.{Counters, ObjectRow}
-use Rattle.mg_volume.specs.Laws.{now_counters}
+use Rattle.mg_volume.specs.StateLemmas.{now_counters}
 use Rattle.mg_volume.specs.Meaning.{now_of, objects_in}
 use Rattle.mg_volume.specs.RunLemmas.{call_made, call_refused}
 use Rattle.mg_calls_obj.proofs.passwords.pwadd_by_row.Goals as goal

@@ -5,7 +5,7 @@ use Rattle.mg_calls_thr.proofs.Ended.{resume-by}
 use Rattle.mg_model.specs.declared.replies.Reply.TheVariants.{Done}
 use Rattle.mg_model.specs.declared.threads.ThrState.TheVariants.{Ready}
 use Rattle.mg_model.specs.State.{Thread, ThreadRow}
-use Rattle.mg_volume.specs.Laws.{now_threads}
+use Rattle.mg_volume.specs.StateLemmas.{now_threads}
 use Rattle.mg_volume.specs.Meaning.{now_of, threads_in}
 use Rattle.mg_volume.specs.RunLemmas.{call_made, call_refused}
 use Rattle.mg_calls_thr.proofs.ending.resume.Goals as goal

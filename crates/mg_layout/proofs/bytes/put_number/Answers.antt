@@ -1,7 +1,7 @@
 use Rattle.std.proofs.Common.{rules, arith, ◌≡◌, ◌+◌, ◌-◌, length}
 use Rattle.mg_model.specs.Bytes.{word_bytes}
 use Rattle.mg_layout.proofs.Spliced.{spliced}
-use Rattle.mg_layout.specs.Words.{beside}
+use Rattle.mg_layout.specs.WordLemmas.{beside}
 use Rattle.mg_layout.proofs.bytes.put_number.Goals as goal
 
 pub returns-clause-put : goal.returns-clause-put

@@ -3,7 +3,7 @@ use Rattle.std.proofs.Math.Nat.{mul-div_cancel_left, mul-mod_right}
 use Rattle.mg_disk.specs.Disk.{Image}
 use Rattle.mg_model.specs.Objects.{lowest_free}
 use Rattle.mg_volume.specs.Held.{VolumeHeld}
-use Rattle.mg_volume.specs.Laws.{now_rows}
+use Rattle.mg_volume.specs.StateLemmas.{now_rows}
 use Rattle.mg_volume.specs.Meaning.{now_of, objects_in}
 use Rattle.mg_volume.specs.contracts.volume.Volume.{the_view}
 use Rattle.mg_volume.proofs.RowTotals.{apart-bare}

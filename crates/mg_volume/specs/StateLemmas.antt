@@ -7,7 +7,7 @@ use Rattle.mg_model.specs.State.{Object, State}
 use Rattle.mg_model.specs.Volume.{Is, volume}
 use Rattle.mg_model.specs.Layout.{total_blocks}
 use Rattle.mg_model.specs.Replay.{replay}
-use Rattle.mg_pages.specs.Laws as laws
+use Rattle.mg_pages.specs.SpelledLemmas as laws
 use Rattle.mg_pages.specs.Meaning as pages
 use Rattle.mg_volume.specs.Contents.{IsSet, volume_of_replay}
 use Rattle.mg_volume.specs.Held.{VolumeHeld}
