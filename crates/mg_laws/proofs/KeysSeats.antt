@@ -5,7 +5,8 @@ use Rattle.std.proofs.lemmas.List.Folds.{find-append, list_all-append}
 use Rattle.std.specs.Option.{option_map_or, option_or}
 use Rattle.mg_model.specs.declared.rights.Right.{Right}
 use Rattle.mg_model.specs.declared.rights.Right.TheVariants.{R, W, X, D, P, O}
-use Rattle.mg_model.specs.Keys.{Key, first_at, has_seat, is_elsewhere, is_key, right_number, seat_of}
+use Rattle.mg_model.specs.Keys.{Key, first_at, has_seat, is_elsewhere, is_key, seat_of}
+use Rattle.mg_model.specs.Rights.{right_number}
 
 -- the right with this number
 abbrev right_at : ℕ → Right

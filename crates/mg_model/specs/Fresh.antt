@@ -5,6 +5,7 @@ use Rattle.mg_model.specs.Draw.{password_drawn}
 use Rattle.mg_model.specs.Objects.{new_object}
 use Rattle.mg_model.specs.Settings.{Settings}
 use Rattle.mg_model.specs.State.{State, Object, Thread}
+use Rattle.mg_model.specs.Threads.{new_thread}
 
 -- where the root object lies
 abbrev pub root_base : ℕ
@@ -18,19 +19,11 @@ root_words password = 1 ∷ 0 ∷ root_base ∷ password ∷ replicate 508 0
 abbrev pub root_object : ℕ → Object
 root_object password = record { row = (new_object root_base 1 1 password).row; words = root_words password }
 
--- the first thread runs under the root's own password
+-- the first thread is Stopped, and runs under the root's own password
 abbrev pub first_thread : ℕ → Thread
-first_thread password = record {
-  number = 1;
-  row = record {
-    birth = 1;
-    creator = 0;
-    pc = 0;
-    state = Stopped;
-    registers = replicate 8 0;
-    frames = record { back = 0; slots = record { base = root_base; password = password } ∷ [] } ∷ [];
-  };
-}
+first_thread password =
+    let new = new_thread 1 1 0 0 (record { base = root_base; password = password } ∷ []) in
+    record new { row = record new.row { state = Stopped } }
 
 -- the fresh state of these settings: two passwords are drawn, for the root object and for the treasury
 abbrev pub fresh : Settings → State

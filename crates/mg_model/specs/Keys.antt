@@ -3,10 +3,10 @@ use Rattle.std.specs.Prelude.{ℕ, ◌+◌, ◌*◌, ◌/◌, ◌%◌, ◌==◌,
 use Rattle.std.specs.Option.{option_to_list}
 use Rattle.std.specs.List.{list_all}
 use Rattle.mg_model.specs.declared.rights.Right.{Right}
-use Rattle.mg_model.specs.declared.rights.Right.TheVariants.{R, W, X, D, P, O}
 use Rattle.mg_model.specs.Access.{at}
 use Rattle.mg_model.specs.Accesses.{Access, is_allowed}
 use Rattle.mg_model.specs.Limits.{page_size, page_stride, right_stride, seat_count}
+use Rattle.mg_model.specs.Rights.{right_number}
 use Rattle.mg_model.specs.State.{Object, State}
 
 -- a thread, the base of an object, and a right: all addresses of the object have one key
@@ -14,15 +14,6 @@ pub record Key : Type 0 where
   pub thread : ℕ
   pub base : ℕ
   pub right : Right
-
--- the rights are numbered in the order of their bits
-abbrev pub right_number : Right → ℕ
-right_number R = 0
-right_number W = 1
-right_number X = 2
-right_number D = 3
-right_number P = 4
-right_number O = 5
 
 abbrev pub seat_of : Key → ℕ
 seat_of key = (key.thread + page_stride * (key.base / page_size) + right_stride * right_number key.right) % seat_count

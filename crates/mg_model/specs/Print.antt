@@ -1,17 +1,17 @@
 -- Replies as text.
-use Rattle.std.specs.Prelude.{ℕ, zero, suc, ◌+◌, ◌/◌, ◌%◌, nat_lt, List, [], ◌∷◌, ◌++◌, if◌then◌else◌, codes, count_by, map, take}
+use Rattle.std.specs.Prelude.{ℕ, zero, suc, ◌+◌, ◌-◌, ◌/◌, ◌%◌, nat_lt, List, [], ◌∷◌, ◌++◌, if◌then◌else◌, codes, count_by, map, slice_index_or, take}
 use Rattle.std.specs.Fmt.{decimal}
 use Rattle.mg_model.specs.declared.calls.Line.{Line}
 use Rattle.mg_model.specs.declared.replies.After.{After}
 use Rattle.mg_model.specs.declared.replies.After.TheVariants as after
 use Rattle.mg_model.specs.declared.replies.Refusal.{Refusal}
-use Rattle.mg_model.specs.declared.replies.Refusal.TheVariants as refusal
 use Rattle.mg_model.specs.declared.replies.Reply.{Reply}
 use Rattle.mg_model.specs.declared.replies.Reply.TheVariants as reply
 use Rattle.mg_model.specs.declared.threads.Fault.{Fault}
 use Rattle.mg_model.specs.declared.threads.Fault.TheVariants as fault
 use Rattle.mg_model.specs.State.{State}
 use Rattle.mg_model.specs.Step.{step}
+use Rattle.mg_model.specs.Turn.{refusal_number}
 use Rattle.mg_model.specs.Words.{is_newline}
 
 -- a hexadecimal digit in lower case
@@ -27,29 +27,16 @@ hex_digits (suc n) w = hex_digits n (w / 16) ++ hex_digit (w % 16) ∷ []
 unfoldable pub hex_text : ℕ → List ℕ
 hex_text w = codes "0x" ++ hex_digits 16 w
 
+-- the words of the refusals, in the order of their numbers, the first of which is 1
+abbrev pub refusal_words : List (List ℕ)
+refusal_words =
+    codes "Syntax" ∷ codes "NoThread" ∷ codes "Align" ∷ codes "Denied" ∷ codes "Size" ∷ codes "Account" ∷ codes "Debt"
+    ∷ codes "Limit" ∷ codes "Full" ∷ codes "NoPassword" ∷ codes "Range" ∷ codes "SlotFull" ∷ codes "NoSlot"
+    ∷ codes "NoEntry" ∷ codes "Depth" ∷ codes "NoFrame" ∷ codes "NotYours" ∷ codes "NotReady" ∷ codes "Idle"
+    ∷ codes "Credit" ∷ codes "Calendar" ∷ codes "Past" ∷ []
+
 abbrev pub refusal_text : Refusal → List ℕ
-refusal_text refusal.Syntax = codes "Syntax"
-refusal_text refusal.NoThread = codes "NoThread"
-refusal_text refusal.Align = codes "Align"
-refusal_text refusal.Denied = codes "Denied"
-refusal_text refusal.Size = codes "Size"
-refusal_text refusal.Account = codes "Account"
-refusal_text refusal.Debt = codes "Debt"
-refusal_text refusal.Limit = codes "Limit"
-refusal_text refusal.Full = codes "Full"
-refusal_text refusal.NoPassword = codes "NoPassword"
-refusal_text refusal.Range = codes "Range"
-refusal_text refusal.SlotFull = codes "SlotFull"
-refusal_text refusal.NoSlot = codes "NoSlot"
-refusal_text refusal.NoEntry = codes "NoEntry"
-refusal_text refusal.Depth = codes "Depth"
-refusal_text refusal.NoFrame = codes "NoFrame"
-refusal_text refusal.NotYours = codes "NotYours"
-refusal_text refusal.NotReady = codes "NotReady"
-refusal_text refusal.Idle = codes "Idle"
-refusal_text refusal.Credit = codes "Credit"
-refusal_text refusal.Calendar = codes "Calendar"
-refusal_text refusal.Past = codes "Past"
+refusal_text word = slice_index_or refusal_words (refusal_number word - 1) []
 
 abbrev pub fault_text : Fault → List ℕ
 fault_text fault.Align = codes "Align"

@@ -10,7 +10,7 @@ use Rattle.mg_model.specs.declared.threads.Fault.TheVariants as fault
 use Rattle.mg_model.specs.declared.threads.ThrState.{ThrState}
 use Rattle.mg_model.specs.declared.threads.ThrState.TheVariants.{Ready, Stopped, Faulted}
 use Rattle.mg_model.specs.Bytes.{are_zeros, bytes_at, number_at, numbers_at, padded_to, words_bytes}
-use Rattle.mg_model.specs.Layout.{account_balance, account_owed, account_password, account_size, block_size, frame_size, frame_slot_count, frame_slots, globals_births, globals_cursor, globals_draws, globals_period, magic, object_account, object_base, object_end, object_entries, object_entry_count, object_extended, object_extension_base, object_extension_password, object_pages, object_password_count, object_passwords, object_rights, object_size, object_untils, slot_password, slot_size, step_size, super_credits, super_frames, super_seed, super_tariff, super_version, thread_birth, thread_creator, thread_frame_count, thread_frames, thread_pc, thread_registers, thread_state, version}
+use Rattle.mg_model.specs.Layout.{account_size, block_size, magic, object_size, version}
 use Rattle.mg_model.specs.Limits.{entry_point_limit, frame_limit, password_limit, slot_limit}
 use Rattle.mg_model.specs.Settings.{Settings, within_limits}
 use Rattle.mg_model.specs.State.{CallFrame, Counters, ObjectRow, ThreadRow}
@@ -35,7 +35,7 @@ abbrev pub account_bytes : AccRow → List ℕ
 account_bytes row = padded_to account_size (words_bytes (1 ∷ row.password ∷ row.balance ∷ row.owed ∷ []))
 
 abbrev pub account_fields : List ℕ → AccRow
-account_fields bytes = record { password = number_at bytes account_password; balance = number_at bytes account_balance; owed = number_at bytes account_owed }
+account_fields bytes = record { password = number_at bytes 8; balance = number_at bytes 16; owed = number_at bytes 24 }
 
 abbrev pub account_read : List ℕ → Read AccRow
 account_read bytes = free_or bytes (live_if true (account_bytes (account_fields bytes)) bytes (account_fields bytes))
@@ -52,30 +52,30 @@ object_head row =
 
 abbrev pub object_bytes : ObjectRow → List ℕ
 object_bytes row =
-    padded_to object_passwords (object_head row)
-    ++ (padded_to (object_rights - object_passwords) (words_bytes (map (λ (pw : Pw). pw.password) row.passwords))
-    ++ (padded_to (object_entries - object_rights) (map (λ (pw : Pw). pw.rights) row.passwords)
-    ++ (padded_to (object_untils - object_entries) (words_bytes row.entries)
-    ++ (padded_to (object_end - object_untils) (words_bytes (map (λ (pw : Pw). pw.until) row.passwords))
-    ++ replicate (object_size - object_end) 0))))
+    padded_to 80 (object_head row)
+    ++ (padded_to 256 (words_bytes (map (λ (pw : Pw). pw.password) row.passwords))
+    ++ (padded_to 32 (map (λ (pw : Pw). pw.rights) row.passwords)
+    ++ (padded_to 128 (words_bytes row.entries)
+    ++ (padded_to 256 (words_bytes (map (λ (pw : Pw). pw.until) row.passwords))
+    ++ replicate 272 0))))
 
 -- the password rows that begin at place k, so many of them
 abbrev pub passwords_at : List ℕ → ℕ → ℕ → List Pw
 passwords_at bytes k zero = []
 passwords_at bytes k (suc n) =
-    record { password = number_at bytes (object_passwords + 8 * k); rights = slice_index bytes (object_rights + k); until = number_at bytes (object_untils + 8 * k) } ∷ passwords_at bytes (k + 1) n
+    record { password = number_at bytes (80 + 8 * k); rights = slice_index bytes (336 + k); until = number_at bytes (496 + 8 * k) } ∷ passwords_at bytes (k + 1) n
 
 abbrev pub extension_at : List ℕ → Option Slot
-extension_at bytes = if number_at bytes object_extended == 1 then Some record { base = number_at bytes object_extension_base; password = number_at bytes object_extension_password } else None
+extension_at bytes = if number_at bytes 48 == 1 then Some record { base = number_at bytes 56; password = number_at bytes 64 } else None
 
 -- The fields that these bytes have. Where a count is above its limit, one row more than the limit is read: `is_object_row` refuses that.
 abbrev pub object_fields : List ℕ → ObjectRow
 object_fields bytes = record {
-  base = number_at bytes object_base;
-  pages = number_at bytes object_pages;
-  account = number_at bytes object_account;
-  passwords = passwords_at bytes 0 (min (number_at bytes object_password_count) (password_limit + 1));
-  entries = numbers_at bytes object_entries (min (number_at bytes object_entry_count) (entry_point_limit + 1));
+  base = number_at bytes 8;
+  pages = number_at bytes 16;
+  account = number_at bytes 24;
+  passwords = passwords_at bytes 0 (min (number_at bytes 32) (password_limit + 1));
+  entries = numbers_at bytes 368 (min (number_at bytes 40) (entry_point_limit + 1));
   extension = extension_at bytes;
 }
 
@@ -103,32 +103,32 @@ slot_words slot = slot.base ∷ slot.password ∷ []
 
 -- a frame of a thread
 abbrev pub frame_bytes : CallFrame → List ℕ
-frame_bytes frame = padded_to frame_size (words_bytes (frame.back ∷ length frame.slots ∷ flat_map slot_words frame.slots))
+frame_bytes frame = padded_to 144 (words_bytes (frame.back ∷ length frame.slots ∷ flat_map slot_words frame.slots))
 
 abbrev pub thread_bytes : ThreadRow → List ℕ
 thread_bytes row =
-    padded_to thread_registers (words_bytes (1 ∷ row.birth ∷ row.creator ∷ row.pc ∷ state_number row.state ∷ length row.frames ∷ []))
-    ++ padded_to (block_size - thread_registers) (words_bytes row.registers ++ flat_map frame_bytes row.frames)
+    padded_to 64 (words_bytes (1 ∷ row.birth ∷ row.creator ∷ row.pc ∷ state_number row.state ∷ length row.frames ∷ []))
+    ++ padded_to (block_size - 64) (words_bytes row.registers ++ flat_map frame_bytes row.frames)
 
 abbrev pub slots_at : List ℕ → ℕ → ℕ → List Slot
 slots_at bytes offset zero = []
-slots_at bytes offset (suc n) = record { base = number_at bytes offset; password = number_at bytes (offset + slot_password) } ∷ slots_at bytes (offset + slot_size) n
+slots_at bytes offset (suc n) = record { base = number_at bytes offset; password = number_at bytes (offset + 8) } ∷ slots_at bytes (offset + 16) n
 
 abbrev pub frame_at : List ℕ → ℕ → CallFrame
-frame_at bytes offset = record { back = number_at bytes offset; slots = slots_at bytes (offset + frame_slots) (min (number_at bytes (offset + frame_slot_count)) (slot_limit + 1)) }
+frame_at bytes offset = record { back = number_at bytes offset; slots = slots_at bytes (offset + 16) (min (number_at bytes (offset + 8)) (slot_limit + 1)) }
 
 abbrev pub frames_at : List ℕ → ℕ → ℕ → List CallFrame
 frames_at bytes offset zero = []
-frames_at bytes offset (suc n) = frame_at bytes offset ∷ frames_at bytes (offset + frame_size) n
+frames_at bytes offset (suc n) = frame_at bytes offset ∷ frames_at bytes (offset + 144) n
 
 abbrev pub thread_fields : List ℕ → ThreadRow
 thread_fields bytes = record {
-  birth = number_at bytes thread_birth;
-  creator = number_at bytes thread_creator;
-  pc = number_at bytes thread_pc;
-  state = state_numbered (number_at bytes thread_state);
-  registers = numbers_at bytes thread_registers 8;
-  frames = frames_at bytes thread_frames (min (number_at bytes thread_frame_count) (frame_limit + 1));
+  birth = number_at bytes 8;
+  creator = number_at bytes 16;
+  pc = number_at bytes 24;
+  state = state_numbered (number_at bytes 32);
+  registers = numbers_at bytes 64 8;
+  frames = frames_at bytes 128 (min (number_at bytes 40) (frame_limit + 1));
 }
 
 abbrev pub thread_read : List ℕ → Read ThreadRow
@@ -139,7 +139,7 @@ abbrev pub globals_bytes : Counters → List ℕ
 globals_bytes counters = padded_to block_size (words_bytes (counters.draws ∷ counters.period ∷ counters.cursor ∷ counters.births ∷ []))
 
 abbrev pub globals_fields : List ℕ → Counters
-globals_fields bytes = record { draws = number_at bytes globals_draws; period = number_at bytes globals_period; cursor = number_at bytes globals_cursor; births = number_at bytes globals_births }
+globals_fields bytes = record { draws = number_at bytes 0; period = number_at bytes 8; cursor = number_at bytes 16; births = number_at bytes 24 }
 
 abbrev pub globals_read : List ℕ → Option Counters
 globals_read bytes =
@@ -151,14 +151,14 @@ step_words steps = flat_map (λ (step : ℕ × ℕ). step.0 ∷ step.1 ∷ []) s
 
 abbrev pub super_bytes : Settings → List ℕ
 super_bytes settings =
-    magic ++ padded_to (block_size - super_version) (words_bytes (version ∷ settings.frames ∷ settings.credits ∷ []) ++ (settings.seed ++ words_bytes (step_words settings.tariff)))
+    magic ++ padded_to (block_size - 8) (words_bytes (version ∷ settings.frames ∷ settings.credits ∷ []) ++ (settings.seed ++ words_bytes (step_words settings.tariff)))
 
 abbrev pub steps_at : List ℕ → ℕ → ℕ → List (ℕ × ℕ)
 steps_at bytes offset zero = []
-steps_at bytes offset (suc n) = (number_at bytes offset, number_at bytes (offset + 8)) ∷ steps_at bytes (offset + step_size) n
+steps_at bytes offset (suc n) = (number_at bytes offset, number_at bytes (offset + 8)) ∷ steps_at bytes (offset + 16) n
 
 abbrev pub super_fields : List ℕ → Settings
-super_fields bytes = record { frames = number_at bytes super_frames; seed = bytes_at bytes super_seed 32; credits = number_at bytes super_credits; tariff = steps_at bytes super_tariff 4 }
+super_fields bytes = record { frames = number_at bytes 16; seed = bytes_at bytes 32 32; credits = number_at bytes 24; tariff = steps_at bytes 64 4 }
 
 abbrev pub are_settings : Settings → Bool
 are_settings settings = within_limits settings.frames settings.credits && is_tariff settings.tariff
@@ -172,7 +172,7 @@ pub data SuperRead : Type 0 where
 
 abbrev pub super_read : List ℕ → SuperRead
 super_read bytes =
-    if not (same_bytes magic (bytes_at bytes 0 super_version)) then NotSuper
-    else if nat_lt (number_at bytes super_version) version then OldSuper
+    if not (same_bytes magic (bytes_at bytes 0 8)) then NotSuper
+    else if nat_lt (number_at bytes 8) version then OldSuper
     else if are_settings (super_fields bytes) && same_bytes (super_bytes (super_fields bytes)) bytes then Spells (super_fields bytes)
     else BadSuper

@@ -109,18 +109,14 @@ spelled thread =
 
 -- the values that an ok reply leaves in registers, in order; the bases of slots, and what a turn came to, are none
 abbrev pub values_of : Reply → List ℕ
-values_of (reply.No word) = []
-values_of reply.Done = []
 values_of (reply.Value w) = w ∷ []
 values_of (reply.Count n) = n ∷ []
 values_of (reply.Made base password) = base ∷ password ∷ []
 values_of (reply.Opened number password) = number ∷ password ∷ []
 values_of (reply.About base pages account passwords entries extension) = base ∷ pages ∷ account ∷ passwords ∷ entries ∷ extension ∷ []
-values_of (reply.Slots count bases) = []
-values_of (reply.Turned state) = []
-values_of (reply.Ran number state) = []
 values_of (reply.Funds balance owed pages) = balance ∷ owed ∷ pages ∷ []
 values_of (reply.Collected period rate paid) = period ∷ rate ∷ paid ∷ []
+values_of _ = []
 
 -- these values stand in the registers from one on
 abbrev pub with_registers : ThreadRow → ℕ → List ℕ → ThreadRow

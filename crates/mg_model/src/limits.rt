@@ -1,4 +1,4 @@
-// The limits of the machine. `specs/Limits.antt` has the same numbers under the same names.
+// The limits of the machine. The definitions take them from here, under the same names in small letters (`specs/Limits.antt`).
 
 /// The bytes of a page.
 pub const PAGE_SIZE: u64 = 4096;

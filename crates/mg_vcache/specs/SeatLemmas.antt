@@ -11,7 +11,8 @@ use Rattle.mg_model.specs.declared.rights.Right.{Right}
 use Rattle.mg_model.specs.declared.rights.Right.TheVariants as right
 use Rattle.mg_model.specs.declared.seats.Seat.{Seat}
 use Rattle.mg_model.specs.Backed.{IsBacked, KeepsBacked, by_none}
-use Rattle.mg_model.specs.Keys.{Key, is_key, right_number, seat_of}
+use Rattle.mg_model.specs.Keys.{Key, is_key, seat_of}
+use Rattle.mg_model.specs.Rights.{right_number}
 use Rattle.mg_model.specs.Refused.{IsRefusal}
 use Rattle.mg_model.specs.State.{State}
 use Rattle.mg_model.specs.Warmth.{is_ok}

@@ -1,7 +1,8 @@
 // The cache.
 ghost use Rattle.std.specs.Prelude.{List, ◌≡◌, ◌<◌, ℕ, true, IfOk, None, Some, replicate, slice_set};
 ghost use Rattle.mg_model.specs.Backed.{by_each, by_thread, by_via};
-ghost use Rattle.mg_model.specs.Keys.{right_number, seat_of};
+ghost use Rattle.mg_model.specs.Keys.{seat_of};
+ghost use Rattle.mg_model.specs.Rights.{right_number};
 ghost use Rattle.mg_model.specs.Limits.{seat_count};
 ghost use Rattle.mg_vcache.specs.Seats.{is_kept, without};
 
