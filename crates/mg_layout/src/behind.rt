@@ -8,10 +8,11 @@ ghost use Rattle.mg_layout.specs.FreshBelow.{fresh_until, with_block};
 ghost use Rattle.mg_layout.specs.FreshImage.{is_written};
 
 use crate::fresh::fresh_block;
-use crate::geometry::{FIRST_SEGMENT, GLOBALS_BLOCK, Geometry, SEGMENT_SIZE, SUPER_BLOCK};
+use crate::geometry::Geometry;
 use mg_disk::{BLOCK_SIZE, Disk};
 use mg_faults::Failed;
 use mg_model::Params;
+use mg_model::layout::{FIRST_SEGMENT, GLOBALS_BLOCK, SEGMENT_SIZE, SUPER_BLOCK};
 
 /// Writes the blocks behind the gate and makes sure of them.
 pub(crate) fn write_behind<D: Disk>(disk: &mut D, p: &Params) -> Result<(), Failed>

@@ -10,10 +10,11 @@ ghost use Rattle.mg_layout.specs.MayFormat.{IsUntouchedSmall, MayFormat, ReadsFr
 
 use crate::behind::write_behind;
 use crate::fresh::fresh_block;
-use crate::geometry::{GATE_BLOCK, Geometry};
+use crate::geometry::Geometry;
 use mg_disk::{BLOCK_SIZE, Disk, write_firmly};
 use mg_faults::Failed;
 use mg_model::Params;
+use mg_model::layout::GATE_BLOCK;
 use thiserror::Error;
 
 /// Why no volume was made.

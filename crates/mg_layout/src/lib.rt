@@ -25,11 +25,11 @@ pub use bytes::{are_zeros, number_at, put_number};
 pub use filling::Filling;
 pub use formatting::{FormatFault, format};
 pub use fresh::fresh_block;
-pub use geometry::{
-    BLOCK_WORDS, BODY_LIMIT, FIRST_ACCOUNT_BLOCK, FIRST_OBJECT_BLOCK, FIRST_SEGMENT,
-    FIRST_THREAD_BLOCK, GATE_BLOCK, GLOBALS_BLOCK, Geometry, SEGMENT_COUNT, SEGMENT_SIZE,
-    SUPER_BLOCK, TABLE_BLOCK,
-};
+pub use geometry::{BLOCK_WORDS, Geometry};
 pub use laws::images_are_read;
 pub use mg_disk::GATE_OPEN;
+pub use mg_model::layout::{
+    BODY_LIMIT, FIRST_ACCOUNT_BLOCK, FIRST_OBJECT_BLOCK, FIRST_SEGMENT, FIRST_THREAD_BLOCK,
+    GATE_BLOCK, GLOBALS_BLOCK, SEGMENT_COUNT, SEGMENT_SIZE, SUPER_BLOCK, TABLE_BLOCK,
+};
 pub use superblock::{MAGIC, Super, read_super, write_super};

@@ -9,13 +9,11 @@ ghost use Rattle.mg_layout.specs.SuperBlock.{IsSuper};
 use crate::bytes::number_at;
 use crate::filling::Filling;
 use mg_disk::{BLOCK_SIZE, Block};
+use mg_model::layout::VERSION;
 use mg_model::{Params, Tariff};
 
 /// The eight bytes that a superblock begins with.
 pub const MAGIC: [u8; 8] = *b"MUNGIVOL";
-
-/// The version of the layout that is written here.
-const VERSION: u64 = 2;
 
 /// What a superblock spells.
 #[derive(Clone, Copy, Debug, PartialEq, Eq)]

@@ -27,6 +27,7 @@ mod few;
 mod frames;
 mod globals;
 mod instructions;
+pub mod layout;
 pub mod limits;
 mod objects;
 mod replies;

@@ -8,9 +8,7 @@ use crate::bytes::copy_to;
 use crate::spelled::Spelled;
 use mg_layout::{Filling, are_zeros, number_at};
 use mg_model::AccRow;
-
-/// The bytes of an account's row.
-const ROW: usize = 64;
+use mg_model::layout::ACCOUNT_SIZE;
 
 /// What 64 bytes spell of an account.
 pub fn read_account(b: &[u8]) -> Option<Spelled<AccRow>>
@@ -41,12 +39,12 @@ pub fn write_account(r: Option<&AccRow>, out: &mut [u8])
 {
     match r {
         Some(row) => copy_to(&spelling(row), out),
-        None => copy_to(&[0; ROW], out),
+        None => copy_to(&[0; ACCOUNT_SIZE], out),
     }
 }
 
 // The bytes of this account.
-fn spelling(row: &AccRow) -> [u8; ROW]
+fn spelling(row: &AccRow) -> [u8; ACCOUNT_SIZE]
     ensures spelled { result ≡ account_bytes row.now }
     ensures read_back { account_read result ≡ Some (Some row.now) }
 {

@@ -8,13 +8,8 @@ use crate::accounts::{read_account, write_account};
 use crate::objects::{read_object, write_object};
 use crate::spelled::Spelled;
 use mg_disk::Block;
+use mg_model::layout::{ACCOUNT_SIZE, OBJECT_SIZE};
 use mg_model::{AccRow, ObjRow};
-
-/// The bytes of an object's row: a block has 4.
-const OBJECT_SIZE: usize = 1024;
-
-/// The bytes of an account's row: a block has 64.
-const ACCOUNT_SIZE: usize = 64;
 
 /// What row `j` of a block spells of an object.
 pub fn object_in(block: &Block, j: u64) -> Option<Spelled<ObjRow>>

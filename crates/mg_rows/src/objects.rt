@@ -11,10 +11,8 @@ use crate::bytes::copy_to;
 use crate::object_parts::fields;
 use crate::spelled::Spelled;
 use mg_layout::{Filling, are_zeros};
+use mg_model::layout::OBJECT_SIZE;
 use mg_model::{ObjRow, Pw, Slot};
-
-/// The bytes of an object's row.
-const ROW: usize = 1024;
 
 /// Spells an object, or a free row, in 1,024 bytes. It is read back.
 pub fn write_object(r: Option<&ObjRow>, out: &mut [u8])
@@ -24,7 +22,7 @@ pub fn write_object(r: Option<&ObjRow>, out: &mut [u8])
 {
     match r {
         Some(row) => copy_to(&spelling(row), out),
-        None => copy_to(&[0; ROW], out),
+        None => copy_to(&[0; OBJECT_SIZE], out),
     }
 }
 
@@ -56,7 +54,7 @@ fn is_spelling(row: &ObjRow, b: &[u8]) -> bool
 }
 
 // The bytes of this object.
-fn spelling(row: &ObjRow) -> [u8; ROW]
+fn spelling(row: &ObjRow) -> [u8; OBJECT_SIZE]
     ensures spelled { result ≡ object_bytes row.now }
     ensures read_back { object_read result ≡ Some (Some row.now) }
 {
@@ -70,7 +68,7 @@ fn spelling(row: &ObjRow) -> [u8; ROW]
 }
 
 // What an object's row begins with.
-fn add_head(row: &ObjRow, filling: &mut Filling<ROW>)
+fn add_head(row: &ObjRow, filling: &mut Filling<OBJECT_SIZE>)
     requires { filling.old ≡ [] }
     ensures spelled { filling.new ≡ padded_to 80 (object_head row.now) }
     ensures long { length filling.new ≡ 80 }
@@ -97,7 +95,7 @@ fn extension_words(ext: Option<Slot>) -> [u64; 3]
     }
 }
 
-fn add_passwords(passwords: &[Pw], filling: &mut Filling<ROW>)
+fn add_passwords(passwords: &[Pw], filling: &mut Filling<OBJECT_SIZE>)
     requires at_most_32_passwords { length passwords.now ≤ 32 }
     requires fits_in_row { length filling.old + 256 ≤ 1024 }
     ensures value { filling.new ≡ filling.old ++ padded_to 256 (words_bytes (map (λ pw. pw.password) passwords.now)) }
@@ -109,7 +107,7 @@ fn add_passwords(passwords: &[Pw], filling: &mut Filling<ROW>)
     filling.skip(256 - 8 * passwords.len());
 }
 
-fn add_rights(passwords: &[Pw], filling: &mut Filling<ROW>)
+fn add_rights(passwords: &[Pw], filling: &mut Filling<OBJECT_SIZE>)
     requires at_most_32_passwords { length passwords.now ≤ 32 }
     requires fits_in_row { length filling.old + 32 ≤ 1024 }
     ensures value { filling.new ≡ filling.old ++ padded_to 32 (map (λ pw. pw.rights) passwords.now) }
@@ -121,7 +119,7 @@ fn add_rights(passwords: &[Pw], filling: &mut Filling<ROW>)
     filling.skip(32 - passwords.len());
 }
 
-fn add_entries(entries: &[u64], filling: &mut Filling<ROW>)
+fn add_entries(entries: &[u64], filling: &mut Filling<OBJECT_SIZE>)
     requires at_most_16_entries { length entries.now ≤ 16 }
     requires fits_in_row { length filling.old + 128 ≤ 1024 }
     ensures value { filling.new ≡ filling.old ++ padded_to 128 (words_bytes entries.now) }
@@ -131,7 +129,7 @@ fn add_entries(entries: &[u64], filling: &mut Filling<ROW>)
     filling.skip(128 - 8 * entries.len());
 }
 
-fn add_untils(passwords: &[Pw], filling: &mut Filling<ROW>)
+fn add_untils(passwords: &[Pw], filling: &mut Filling<OBJECT_SIZE>)
     requires at_most_32_passwords { length passwords.now ≤ 32 }
     requires fits_in_row { length filling.old + 256 ≤ 1024 }
     ensures value { filling.new ≡ filling.old ++ padded_to 256 (words_bytes (map (λ pw. pw.until) passwords.now)) }
