@@ -8,7 +8,7 @@ use Rattle.mg_model.specs.declared.slots.Pw.{Pw}
 use Rattle.mg_model.specs.declared.slots.Slot.{Slot}
 use Rattle.mg_model.specs.declared.rights.Right.{Right}
 use Rattle.mg_model.specs.declared.rights.Right.TheVariants.{R}
-use Rattle.mg_model.specs.Limits.{entry_limit}
+use Rattle.mg_model.specs.declared.limits.TheConstants.{ENTRY_LIMIT as entry_limit}
 use Rattle.mg_model.specs.Rights.{has_right}
 use Rattle.mg_model.specs.State.{State, Object, ObjectRow, Thread, CallFrame}
 

@@ -12,7 +12,7 @@ use Rattle.mg_model.specs.declared.seats.Seat.{Seat}
 use Rattle.mg_model.specs.declared.slots.Slot.{Slot}
 use Rattle.mg_model.specs.Access.{based_at, domain_of, entries_of, holds}
 use Rattle.mg_model.specs.Accesses.{fetched, turning}
-use Rattle.mg_model.specs.Limits.{page_size}
+use Rattle.mg_model.specs.declared.limits.TheConstants.{PAGE_SIZE as page_size}
 use Rattle.mg_model.specs.ObjectCalls.{row_at}
 use Rattle.mg_model.specs.Script.{operand}
 use Rattle.mg_model.specs.State.{Object, State, Thread, ThreadRow}

@@ -3,7 +3,7 @@ use Rattle.std.specs.Prelude.{ℕ, ◌+◌, ◌==◌, ◌||◌, nat_le, nat_lt, 
 use Rattle.mg_model.specs.declared.replies.Refusal.TheVariants.{Account, Credit, Limit, Calendar}
 use Rattle.mg_model.specs.declared.replies.Reply.TheVariants.{Done, Opened, Funds, Collected}
 use Rattle.mg_model.specs.Bank.{account_of, balance_of, given_to, opens, owed_by, pages_of, rate_now, rent_accounts, rent_paid, taken_from}
-use Rattle.mg_model.specs.Limits.{account_limit, period_limit}
+use Rattle.mg_model.specs.declared.limits.TheConstants.{ACCOUNT_LIMIT as account_limit, PERIOD_LIMIT as period_limit}
 use Rattle.mg_model.specs.ObjectCalls.{all_drawn, drawn, next_password}
 use Rattle.mg_model.specs.Refused.{Answer, row}
 use Rattle.mg_model.specs.State.{State}

@@ -6,7 +6,7 @@ use Rattle.mg_model.specs.declared.replies.Reply.TheVariants.{Done, Count, Slots
 use Rattle.mg_model.specs.declared.rights.Right.TheVariants.{P}
 use Rattle.mg_model.specs.declared.slots.Slot.{Slot}
 use Rattle.mg_model.specs.Access.{allowed, domain_of, thread_of}
-use Rattle.mg_model.specs.Limits.{frame_limit, slot_limit}
+use Rattle.mg_model.specs.declared.limits.TheConstants.{FRAME_LIMIT as frame_limit, SLOT_LIMIT as slot_limit}
 use Rattle.mg_model.specs.ObjectCalls.{is_aligned, is_entry, row_at}
 use Rattle.mg_model.specs.Refused.{Answer, row}
 use Rattle.mg_model.specs.State.{State, Thread, ThreadRow, CallFrame}

@@ -6,7 +6,7 @@ use Rattle.std.specs.Option.{option_map_or}
 use Rattle.mg_model.specs.declared.calls.Line.{Line}
 use Rattle.mg_model.specs.Accesses.{Access, accesses, words_of}
 use Rattle.mg_model.specs.Keys.{Key, first_at, has_seat, is_elsewhere, key_of, seat_of, taken, taken_by}
-use Rattle.mg_model.specs.Limits.{search_limit}
+use Rattle.mg_model.specs.declared.limits.TheConstants.{SEARCH_LIMIT as search_limit}
 use Rattle.mg_model.specs.State.{State}
 use Rattle.mg_model.specs.Step.{step}
 use Rattle.mg_model.specs.Warmth.{Event, failing, is_disturbing, is_recent}

@@ -5,7 +5,7 @@ use Rattle.std.specs.List.{list_all}
 use Rattle.mg_model.specs.declared.rights.Right.{Right}
 use Rattle.mg_model.specs.Access.{at}
 use Rattle.mg_model.specs.Accesses.{Access, is_allowed}
-use Rattle.mg_model.specs.Limits.{page_size, page_stride, right_stride, seat_count}
+use Rattle.mg_model.specs.declared.limits.TheConstants.{PAGE_SIZE as page_size, PAGE_STRIDE as page_stride, RIGHT_STRIDE as right_stride, SEAT_COUNT as seat_count}
 use Rattle.mg_model.specs.Rights.{right_number}
 use Rattle.mg_model.specs.State.{Object, State}
 

@@ -1,12 +1,83 @@
--- The limits of the machine. `src/limits.rt` has their numbers, and says what each one bounds.
+-- The limits of the machine by name, for the crates above: `src/limits.rt` has their numbers, and says what each one bounds. The
+-- definitions here take them from there.
 use Rattle.std.specs.Prelude.{ℕ, ◌*◌}
-use Rattle.mg_model.specs.declared.limits.TheConstants.{DEBT_LIMIT}
-pub use Rattle.mg_model.specs.declared.limits.TheConstants.{PAGE_SIZE as page_size, FIRST_PAGE as first_page, PAGE_END as page_end, OBJECT_LIMIT as object_limit, OBJECT_PAGE_LIMIT as object_page_limit, PASSWORD_LIMIT as password_limit, ENTRY_POINT_LIMIT as entry_point_limit, ALL_RIGHTS as all_rights, ENTRY_LIMIT as entry_limit}
-pub use Rattle.mg_model.specs.declared.limits.TheConstants.{SLOT_LIMIT as slot_limit, FRAME_LIMIT as frame_limit, THREAD_LIMIT as thread_limit, BIRTH_LIMIT as birth_limit}
-pub use Rattle.mg_model.specs.declared.limits.TheConstants.{ACCOUNT_LIMIT as account_limit, PERIOD_LIMIT as period_limit, NEVER as never, DRAW_LIMIT as draw_limit}
-pub use Rattle.mg_model.specs.declared.limits.TheConstants.{LEAST_FRAMES as least_frames, MOST_FRAMES as most_frames, CREDIT_LIMIT as credit_limit, STEP_LIMIT as step_limit}
-pub use Rattle.mg_model.specs.declared.limits.TheConstants.{SEAT_COUNT as seat_count, PAGE_STRIDE as page_stride, RIGHT_STRIDE as right_stride, SEARCH_LIMIT as search_limit}
+use Rattle.mg_model.specs.declared.limits.TheConstants.{PAGE_SIZE, FIRST_PAGE, PAGE_END, OBJECT_LIMIT, OBJECT_PAGE_LIMIT, PASSWORD_LIMIT, ENTRY_POINT_LIMIT, ALL_RIGHTS, ENTRY_LIMIT, SLOT_LIMIT, FRAME_LIMIT, THREAD_LIMIT, ACCOUNT_LIMIT, PERIOD_LIMIT, NEVER, DRAW_LIMIT, BIRTH_LIMIT, DEBT_LIMIT, LEAST_FRAMES, MOST_FRAMES, CREDIT_LIMIT, STEP_LIMIT, SEAT_COUNT, PAGE_STRIDE, RIGHT_STRIDE, SEARCH_LIMIT}
 
 -- what an account may owe by a period
 abbrev pub debt_limit : ℕ → ℕ
 debt_limit period = period * DEBT_LIMIT
+
+abbrev pub page_size : ℕ
+page_size = PAGE_SIZE
+
+abbrev pub first_page : ℕ
+first_page = FIRST_PAGE
+
+abbrev pub page_end : ℕ
+page_end = PAGE_END
+
+abbrev pub object_limit : ℕ
+object_limit = OBJECT_LIMIT
+
+abbrev pub object_page_limit : ℕ
+object_page_limit = OBJECT_PAGE_LIMIT
+
+abbrev pub password_limit : ℕ
+password_limit = PASSWORD_LIMIT
+
+abbrev pub entry_point_limit : ℕ
+entry_point_limit = ENTRY_POINT_LIMIT
+
+abbrev pub all_rights : ℕ
+all_rights = ALL_RIGHTS
+
+abbrev pub entry_limit : ℕ
+entry_limit = ENTRY_LIMIT
+
+abbrev pub slot_limit : ℕ
+slot_limit = SLOT_LIMIT
+
+abbrev pub frame_limit : ℕ
+frame_limit = FRAME_LIMIT
+
+abbrev pub thread_limit : ℕ
+thread_limit = THREAD_LIMIT
+
+abbrev pub account_limit : ℕ
+account_limit = ACCOUNT_LIMIT
+
+abbrev pub period_limit : ℕ
+period_limit = PERIOD_LIMIT
+
+abbrev pub never : ℕ
+never = NEVER
+
+abbrev pub draw_limit : ℕ
+draw_limit = DRAW_LIMIT
+
+abbrev pub birth_limit : ℕ
+birth_limit = BIRTH_LIMIT
+
+abbrev pub least_frames : ℕ
+least_frames = LEAST_FRAMES
+
+abbrev pub most_frames : ℕ
+most_frames = MOST_FRAMES
+
+abbrev pub credit_limit : ℕ
+credit_limit = CREDIT_LIMIT
+
+abbrev pub step_limit : ℕ
+step_limit = STEP_LIMIT
+
+abbrev pub seat_count : ℕ
+seat_count = SEAT_COUNT
+
+abbrev pub page_stride : ℕ
+page_stride = PAGE_STRIDE
+
+abbrev pub right_stride : ℕ
+right_stride = RIGHT_STRIDE
+
+abbrev pub search_limit : ℕ
+search_limit = SEARCH_LIMIT

@@ -11,7 +11,7 @@ use Rattle.mg_model.specs.declared.slots.Slot.{Slot}
 use Rattle.mg_model.specs.Access.{allowed, at}
 use Rattle.mg_model.specs.Bank.{opens, owed_by, used}
 use Rattle.mg_model.specs.Draw.{password_drawn}
-use Rattle.mg_model.specs.Limits.{draw_limit, entry_point_limit, never, object_limit, object_page_limit, password_limit}
+use Rattle.mg_model.specs.declared.limits.TheConstants.{DRAW_LIMIT as draw_limit, ENTRY_POINT_LIMIT as entry_point_limit, NEVER as never, OBJECT_LIMIT as object_limit, OBJECT_PAGE_LIMIT as object_page_limit, PASSWORD_LIMIT as password_limit}
 use Rattle.mg_model.specs.Objects.{lowest_free, new_object, with_object, without_object, with_row, with_word, word_at}
 use Rattle.mg_model.specs.Refused.{Answer, row}
 use Rattle.mg_model.specs.State.{State, Object, ObjectRow}

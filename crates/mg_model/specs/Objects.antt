@@ -4,7 +4,7 @@ use Rattle.std.specs.Option.{option_map_or}
 use Rattle.std.specs.List.{list_all}
 use Rattle.mg_model.specs.State.{Object, ObjectRow}
 use Rattle.mg_model.specs.Access.{covers, at}
-use Rattle.mg_model.specs.Limits.{all_rights, first_page, never, page_end}
+use Rattle.mg_model.specs.declared.limits.TheConstants.{ALL_RIGHTS as all_rights, FIRST_PAGE as first_page, NEVER as never, PAGE_END as page_end}
 
 -- the page of a base, and the page right behind an object
 abbrev pub page_of : ObjectRow → ℕ

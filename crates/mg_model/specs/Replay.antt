@@ -2,7 +2,8 @@
 use Rattle.std.specs.Prelude.{ℕ, zero, suc, ◌+◌, ◌*◌, ◌==◌, ◌&&◌, nat_le, nat_lt, Bool, true, List, [], ◌∷◌, ◌++◌, if◌then◌else◌, slice_index, slice_index_or, slice_set, Option, Some, None}
 use Rattle.std.specs.List.{list_all}
 use Rattle.mg_model.specs.Bytes.{number_at}
-use Rattle.mg_model.specs.Layout.{body_limit, gate_open, globals_block, segment_body, segment_count, segment_gate, segment_index}
+use Rattle.mg_model.specs.declared.layout.TheConstants.{BODY_LIMIT as body_limit, GLOBALS_BLOCK as globals_block, SEGMENT_COUNT as segment_count}
+use Rattle.mg_model.specs.Layout.{gate_open, segment_body, segment_gate, segment_index}
 
 -- an image is a list of blocks, each a list of bytes; past its end every block is empty
 abbrev pub block_of : List (List ℕ) → ℕ → List ℕ

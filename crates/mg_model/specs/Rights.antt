@@ -2,7 +2,7 @@
 use Rattle.std.specs.Prelude.{ℕ, ◌/◌, ◌%◌, ◌^◌, ◌==◌, ◌≤◌, Bool}
 use Rattle.mg_model.specs.declared.rights.Right.{Right}
 use Rattle.mg_model.specs.declared.rights.Right.TheVariants.{R, W, X, D, P, O}
-use Rattle.mg_model.specs.Limits.{all_rights}
+use Rattle.mg_model.specs.declared.limits.TheConstants.{ALL_RIGHTS as all_rights}
 
 -- the rights are numbered in the order of their bits
 abbrev pub right_number : Right → ℕ

@@ -10,8 +10,9 @@ use Rattle.mg_model.specs.declared.threads.Fault.TheVariants as fault
 use Rattle.mg_model.specs.declared.threads.ThrState.{ThrState}
 use Rattle.mg_model.specs.declared.threads.ThrState.TheVariants.{Ready, Stopped, Faulted}
 use Rattle.mg_model.specs.Bytes.{are_zeros, bytes_at, number_at, numbers_at, padded_to, words_bytes}
-use Rattle.mg_model.specs.Layout.{account_size, block_size, magic, object_size, version}
-use Rattle.mg_model.specs.Limits.{entry_point_limit, frame_limit, password_limit, slot_limit}
+use Rattle.mg_model.specs.declared.layout.TheConstants.{ACCOUNT_SIZE as account_size, OBJECT_SIZE as object_size, VERSION as version}
+use Rattle.mg_model.specs.Layout.{block_size, magic}
+use Rattle.mg_model.specs.declared.limits.TheConstants.{ENTRY_POINT_LIMIT as entry_point_limit, FRAME_LIMIT as frame_limit, PASSWORD_LIMIT as password_limit, SLOT_LIMIT as slot_limit}
 use Rattle.mg_model.specs.Settings.{Settings, within_limits}
 use Rattle.mg_model.specs.State.{CallFrame, Counters, ObjectRow, ThreadRow}
 use Rattle.mg_model.specs.Tariff.{is_tariff}

@@ -11,7 +11,7 @@ use Rattle.std.proofs.lemmas.List.Elements.{All-cons, All-head, All-nil, All-tai
 use Rattle.std.proofs.lemmas.List.Folds.{find-append}
 use Rattle.std.proofs.lemmas.List.Sums.{sum_by-cons}
 use Rattle.mg_model.specs.Bank.{rate_of}
-use Rattle.mg_model.specs.Limits.{step_limit}
+use Rattle.mg_model.specs.declared.limits.TheConstants.{STEP_LIMIT as step_limit}
 use Rattle.mg_model.specs.Tariff.{is_tariff}
 use Rattle.mg_model.specs.Tests.{all_distinct}
 use Rattle.mg_model.specs.Words.{and_then, is_some_word, letter_weight, rights_of}

@@ -1,6 +1,6 @@
 -- The tariff of the rent: steps of (pages in use, rate).
 use Rattle.std.specs.Prelude.{ℕ, ◌*◌, ◌/◌, ◌==◌, ◌&&◌, nat_le, nat_lt, Bool, false, List, [], ◌∷◌}
-use Rattle.mg_model.specs.Limits.{step_limit}
+use Rattle.mg_model.specs.declared.limits.TheConstants.{STEP_LIMIT as step_limit}
 
 -- four steps, the first from 0, each next one from more pages
 abbrev pub is_tariff : List (ℕ × ℕ) → Bool

@@ -4,7 +4,7 @@ use Rattle.std.specs.Option.{option_map_or}
 use Rattle.std.specs.List.{list_all, list_any}
 use Rattle.mg_model.specs.declared.slots.Pw.{Pw}
 use Rattle.mg_model.specs.declared.slots.Slot.{Slot}
-use Rattle.mg_model.specs.Limits.{account_limit, all_rights, birth_limit, draw_limit, entry_point_limit, first_page, frame_limit, never, object_page_limit, page_end, password_limit, period_limit, slot_limit, thread_limit}
+use Rattle.mg_model.specs.declared.limits.TheConstants.{ACCOUNT_LIMIT as account_limit, ALL_RIGHTS as all_rights, BIRTH_LIMIT as birth_limit, DRAW_LIMIT as draw_limit, ENTRY_POINT_LIMIT as entry_point_limit, FIRST_PAGE as first_page, FRAME_LIMIT as frame_limit, NEVER as never, OBJECT_PAGE_LIMIT as object_page_limit, PAGE_END as page_end, PASSWORD_LIMIT as password_limit, PERIOD_LIMIT as period_limit, SLOT_LIMIT as slot_limit, THREAD_LIMIT as thread_limit}
 use Rattle.mg_model.specs.State.{CallFrame, Counters, ObjectRow, ThreadRow}
 
 -- no number stands there twice

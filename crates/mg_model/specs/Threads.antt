@@ -8,7 +8,7 @@ use Rattle.mg_model.specs.declared.slots.Slot.{Slot}
 use Rattle.mg_model.specs.declared.threads.ThrState.TheVariants.{Ready}
 use Rattle.mg_model.specs.Access.{allowed, domain_of, thread_of}
 use Rattle.mg_model.specs.Domains.{with_thread}
-use Rattle.mg_model.specs.Limits.{birth_limit, thread_limit}
+use Rattle.mg_model.specs.declared.limits.TheConstants.{BIRTH_LIMIT as birth_limit, THREAD_LIMIT as thread_limit}
 use Rattle.mg_model.specs.ObjectCalls.{is_aligned}
 use Rattle.mg_model.specs.Refused.{Answer, row}
 use Rattle.mg_model.specs.State.{State, Thread}

@@ -19,7 +19,7 @@ use Rattle.mg_model.specs.declared.threads.ThrState.TheVariants.{Ready, Stopped,
 use Rattle.mg_model.specs.Access.{allowed}
 use Rattle.mg_model.specs.BankCalls.{balance, open_account, pay}
 use Rattle.mg_model.specs.Domains.{apdadd, apddel, apdlist, pdx, ret, row_of, with_thread}
-use Rattle.mg_model.specs.Limits.{all_rights}
+use Rattle.mg_model.specs.declared.limits.TheConstants.{ALL_RIGHTS as all_rights}
 use Rattle.mg_model.specs.ObjectCalls.{create, delete, entry, ext, info, is_aligned, load, pwadd, pwdel, recharge, store}
 use Rattle.mg_model.specs.Objects.{with_word, word_at}
 use Rattle.mg_model.specs.Refused.{Answer, row}

@@ -5,8 +5,10 @@ use Rattle.std.specs.List.{list_all, list_any}
 use Rattle.mg_model.specs.declared.accounts.AccRow.{AccRow}
 use Rattle.mg_model.specs.Bank.{used}
 use Rattle.mg_model.specs.Bytes.{are_zeros, block_words, bytes_at}
-use Rattle.mg_model.specs.Layout.{account_size, first_account_block, first_frame, first_object_block, first_thread_block, gate_block, gate_open, globals_block, object_size, super_block, table_block, table_blocks, total_blocks}
-use Rattle.mg_model.specs.Limits.{debt_limit, account_limit, thread_limit, object_limit}
+use Rattle.mg_model.specs.declared.layout.TheConstants.{ACCOUNT_SIZE as account_size, FIRST_ACCOUNT_BLOCK as first_account_block, FIRST_OBJECT_BLOCK as first_object_block, FIRST_THREAD_BLOCK as first_thread_block, GATE_BLOCK as gate_block, GLOBALS_BLOCK as globals_block, OBJECT_SIZE as object_size, SUPER_BLOCK as super_block, TABLE_BLOCK as table_block}
+use Rattle.mg_model.specs.Layout.{first_frame, gate_open, table_blocks, total_blocks}
+use Rattle.mg_model.specs.declared.limits.TheConstants.{ACCOUNT_LIMIT as account_limit, THREAD_LIMIT as thread_limit, OBJECT_LIMIT as object_limit}
+use Rattle.mg_model.specs.Limits.{debt_limit}
 use Rattle.mg_model.specs.Objects.{page_behind, page_of, with_object}
 use Rattle.mg_model.specs.Replay.{block_of, replay}
 use Rattle.mg_model.specs.Settings.{Settings}

@@ -7,8 +7,9 @@ use Rattle.std.proofs.lemmas.Bool.Decides.{nat_tests}
 use Rattle.std.proofs.lemmas.List.{get_or-set_other, get_or-set_same, length-set, length-take}
 use Rattle.mg_model.specs.declared.accounts.AccRow.{AccRow}
 use Rattle.mg_model.specs.Bytes.{are_zeros, block_words, bytes_at, number_at}
-use Rattle.mg_model.specs.Layout.{body_limit, first_account_block, first_frame, first_object_block, first_thread_block, gate_open, globals_block, segment_body, segment_count, segment_gate, segment_index, super_block, table_block, table_blocks, total_blocks}
-use Rattle.mg_model.specs.Limits.{account_limit, thread_limit, object_limit}
+use Rattle.mg_model.specs.declared.layout.TheConstants.{BODY_LIMIT as body_limit, FIRST_ACCOUNT_BLOCK as first_account_block, FIRST_OBJECT_BLOCK as first_object_block, FIRST_THREAD_BLOCK as first_thread_block, GLOBALS_BLOCK as globals_block, SEGMENT_COUNT as segment_count, SUPER_BLOCK as super_block, TABLE_BLOCK as table_block}
+use Rattle.mg_model.specs.Layout.{first_frame, gate_open, segment_body, segment_gate, segment_index, table_blocks, total_blocks}
+use Rattle.mg_model.specs.declared.limits.TheConstants.{ACCOUNT_LIMIT as account_limit, THREAD_LIMIT as thread_limit, OBJECT_LIMIT as object_limit}
 use Rattle.mg_model.specs.Objects.{page_of, with_object}
 use Rattle.mg_model.specs.Replay.{block_of, body_count, home_of, homes_fit, is_open, replay, segment_fits, segments_fit, writes_from, writes_of, writes_since, written}
 use Rattle.mg_model.specs.Settings.{Settings}

@@ -17,7 +17,7 @@ use Rattle.mg_model.specs.declared.rights.Right.TheVariants.{W}
 use Rattle.mg_model.specs.Access.{allowed}
 use Rattle.mg_model.specs.Accesses.{Access, accesses, fetched, turning, words_of}
 use Rattle.mg_model.specs.Keys.{Key, first_at, has_seat, is_key, key_of, seat_of, taken_by}
-use Rattle.mg_model.specs.Limits.{page_size, search_limit}
+use Rattle.mg_model.specs.declared.limits.TheConstants.{PAGE_SIZE as page_size, SEARCH_LIMIT as search_limit}
 use Rattle.mg_model.specs.ObjectCalls.{is_aligned}
 use Rattle.mg_model.specs.Script.{operand}
 use Rattle.mg_model.specs.State.{Object, State, Thread, ThreadRow}

@@ -6,7 +6,8 @@ use Rattle.mg_model.specs.declared.calls.Call.TheVariants as call
 use Rattle.mg_model.specs.declared.calls.Line.{Line}
 use Rattle.mg_model.specs.Bank.{used}
 use Rattle.mg_model.specs.Domains.{row_of}
-use Rattle.mg_model.specs.Limits.{account_limit, debt_limit, object_limit, thread_limit}
+use Rattle.mg_model.specs.declared.limits.TheConstants.{ACCOUNT_LIMIT as account_limit, OBJECT_LIMIT as object_limit, THREAD_LIMIT as thread_limit}
+use Rattle.mg_model.specs.Limits.{debt_limit}
 use Rattle.mg_model.specs.Objects.{page_of, page_behind}
 use Rattle.mg_model.specs.Ranges.{IsCounters, IsObjectRow, IsThreadRow, IsWord}
 use Rattle.mg_model.specs.Rights.{IsRights}

@@ -6,16 +6,16 @@
 //!
 //! The definition stands in `specs/`. To read it whole, read in the order of `specs/Lib.antt`:
 //!
-//! 1. `Limits`, `State`, `Access` and `Objects`: what the machine holds, and who may reach what.
+//! 1. `src/limits.rt`, `State`, `Access` and `Objects`: its limits, what it holds, and who may reach what.
 //! 2. The rows of the table of calls, each with its refusals in their order: `ObjectCalls`, `Domains`, `Threads` and
 //!    `BankCalls`, over `Draw`, `Bank` and `Refused`.
 //! 3. `Script` and `Turn`: what a thread does in its turn. `Step`: what a line does.
 //! 4. What the validation cache may spare and must not change: `Accesses`, `Keys`, `Warmth`, `Kept` and `Backed`.
 //! 5. `Words`, `Lines` and `Print`: from bytes to calls, and from replies to bytes. `Fresh`: where the machine begins.
 //!    `WellFormed`: what every state keeps.
-//! 6. `Layout`, `Spelling`, `Replay` and `Volume`: which state an image of a disk spells.
+//! 6. `src/layout.rt`, `Layout`, `Spelling`, `Replay` and `Volume`: which state an image of a disk spells.
 //!
-//! The other files have words that these rest on, as `Settings`, `Tariff`, `Rights`, `Ranges`, `Tests`, `Bytes` and `Ended`, and
+//! The other files have words that these rest on, as `Limits`, `Settings`, `Tariff`, `Rights`, `Ranges`, `Tests`, `Bytes` and `Ended`, and
 //! lemmas that crates above cite. Laws on the definitions are the contracts of `mg_laws`, and sessions that are computed by them
 //! stand in `mg_worked`.
 #![tactic(auto)]
