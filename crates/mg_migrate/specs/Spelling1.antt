@@ -3,7 +3,7 @@
 use Rattle.std.specs.Prelude.{ℕ, zero, suc, ◌+◌, ◌-◌, ◌*◌, ◌&&◌, nat_le, nat_lt, Bool, not, min, List, [], ◌∷◌, ◌++◌, if◌then◌else◌, length, map, replicate, slice_index, Option, option_map}
 use Rattle.mg_model.specs.declared.slots.Pw.{Pw}
 use Rattle.mg_model.specs.Bytes.{bytes_at, number_at, numbers_at, padded_to, words_bytes}
-use Rattle.mg_model.specs.Layout.{block_size, magic, object_account, object_base, object_entry_count, object_pages, object_password_count, object_passwords, super_version}
+use Rattle.mg_model.specs.Layout.{block_size, magic}
 use Rattle.mg_model.specs.Limits.{entry_point_limit, never}
 use Rattle.mg_model.specs.Settings.{Settings}
 use Rattle.mg_model.specs.Spelling.{Read, are_settings, extension_at, free_or, live_if, object_head, step_words, super_fields}
@@ -15,7 +15,7 @@ use Rattle.mg_migrate.specs.Layout1.{object1_end, object1_entries, object1_right
 -- the superblock: it differs in its version alone
 abbrev pub super1_bytes : Settings → List ℕ
 super1_bytes settings =
-    magic ++ padded_to (block_size - super_version) (words_bytes (version1 ∷ settings.frames ∷ settings.credits ∷ []) ++ (settings.seed ++ words_bytes (step_words settings.tariff)))
+    magic ++ padded_to (block_size - 8) (words_bytes (version1 ∷ settings.frames ∷ settings.credits ∷ []) ++ (settings.seed ++ words_bytes (step_words settings.tariff)))
 
 -- What a superblock spells to who looks for version 1: none, one of an older version, one of a newer version, a damaged one, or
 -- the settings of a volume.
@@ -28,17 +28,17 @@ pub data Super1Read : Type 0 where
 
 abbrev pub super1_read : List ℕ → Super1Read
 super1_read bytes =
-    if not (same_bytes magic (bytes_at bytes 0 super_version)) then NotSuper1
-    else if nat_lt (number_at bytes super_version) version1 then OldSuper1
-    else if nat_lt version1 (number_at bytes super_version) then NewSuper1
+    if not (same_bytes magic (bytes_at bytes 0 8)) then NotSuper1
+    else if nat_lt (number_at bytes 8) version1 then OldSuper1
+    else if nat_lt version1 (number_at bytes 8) then NewSuper1
     else if are_settings (super_fields bytes) && same_bytes (super1_bytes (super_fields bytes)) bytes then Spells1 (super_fields bytes)
     else BadSuper1
 
 -- an object
 abbrev pub object1_bytes : ObjectRow → List ℕ
 object1_bytes row =
-    padded_to object_passwords (object_head row)
-    ++ (padded_to (object1_rights - object_passwords) (words_bytes (map (λ (pw : Pw). pw.password) row.passwords))
+    padded_to 80 (object_head row)
+    ++ (padded_to (object1_rights - 80) (words_bytes (map (λ (pw : Pw). pw.password) row.passwords))
     ++ (padded_to (object1_entries - object1_rights) (map (λ (pw : Pw). pw.rights) row.passwords)
     ++ (padded_to (object1_end - object1_entries) (words_bytes row.entries)
     ++ replicate (object1_size - object1_end) 0)))
@@ -47,16 +47,16 @@ object1_bytes row =
 abbrev pub passwords1_at : List ℕ → ℕ → ℕ → List Pw
 passwords1_at bytes k zero = []
 passwords1_at bytes k (suc n) =
-    record { password = number_at bytes (object_passwords + 8 * k); rights = slice_index bytes (object1_rights + k); until = 0 } ∷ passwords1_at bytes (k + 1) n
+    record { password = number_at bytes (80 + 8 * k); rights = slice_index bytes (object1_rights + k); until = 0 } ∷ passwords1_at bytes (k + 1) n
 
 -- the fields; of a count past its limit one more is read, which no rule lets pass
 abbrev pub object1_fields : List ℕ → ObjectRow
 object1_fields bytes = record {
-  base = number_at bytes object_base;
-  pages = number_at bytes object_pages;
-  account = number_at bytes object_account;
-  passwords = passwords1_at bytes 0 (min (number_at bytes object_password_count) (password1_limit + 1));
-  entries = numbers_at bytes object1_entries (min (number_at bytes object_entry_count) (entry_point_limit + 1));
+  base = number_at bytes 8;
+  pages = number_at bytes 16;
+  account = number_at bytes 24;
+  passwords = passwords1_at bytes 0 (min (number_at bytes 32) (password1_limit + 1));
+  entries = numbers_at bytes object1_entries (min (number_at bytes 40) (entry_point_limit + 1));
   extension = extension_at bytes;
 }
 

@@ -31,7 +31,7 @@ live_if rule written bytes row = if rule && same_bytes written bytes then Some (
 abbrev pub free_or : {R : Type 0} → List ℕ → Read R → Read R
 free_or bytes live = if are_zeros bytes then Some None else live
 
--- An account. Each row lists its words in the order of their places; `Layout` names the places where they are read.
+-- An account. Each row lists its words in the order of their places; where one is read, the byte at which it begins stands beside it.
 abbrev pub account_bytes : AccRow → List ℕ
 account_bytes row = padded_to account_size (words_bytes (1 ∷ row.password ∷ row.balance ∷ row.owed ∷ []))
 
@@ -41,7 +41,8 @@ account_fields bytes = record { password = number_at bytes 8; balance = number_a
 abbrev pub account_read : List ℕ → Read AccRow
 account_read bytes = free_or bytes (live_if true (account_bytes (account_fields bytes)) bytes (account_fields bytes))
 
--- an object
+-- An object: nine words, the last three of them its extension, and from byte 80 on four columns with room for 32 passwords, their
+-- rights in a byte each, 16 entries and 32 untils.
 abbrev pub object_head : ObjectRow → List ℕ
 object_head row =
     words_bytes (
@@ -83,7 +84,7 @@ object_fields bytes = record {
 abbrev pub object_read : List ℕ → Read ObjectRow
 object_read bytes = free_or bytes (live_if (is_object_row (object_fields bytes)) (object_bytes (object_fields bytes)) bytes (object_fields bytes))
 
--- a thread: a block
+-- a thread: a block, with six words, its registers from byte 64 on, and its frames from byte 128 on
 abbrev pub state_number : ThrState → ℕ
 state_number Ready = 0
 state_number Stopped = 1
@@ -102,7 +103,7 @@ state_numbered n =
 abbrev pub slot_words : Slot → List ℕ
 slot_words slot = slot.base ∷ slot.password ∷ []
 
--- a frame of a thread
+-- a frame of a thread: where it returns to, how many slots it has, and the slots, each a base and a password
 abbrev pub frame_bytes : CallFrame → List ℕ
 frame_bytes frame = padded_to 144 (words_bytes (frame.back ∷ length frame.slots ∷ flat_map slot_words frame.slots))
 
@@ -146,7 +147,7 @@ abbrev pub globals_read : List ℕ → Option Counters
 globals_read bytes =
     if are_counters (globals_fields bytes) && same_bytes (globals_bytes (globals_fields bytes)) bytes then Some (globals_fields bytes) else None
 
--- the superblock
+-- The superblock: the magic, the version, the frames, the credits, the seed of 32 bytes, and four steps of two words.
 abbrev pub step_words : List (ℕ × ℕ) → List ℕ
 step_words steps = flat_map (λ (step : ℕ × ℕ). step.0 ∷ step.1 ∷ []) steps
 
