@@ -1,14 +1,16 @@
 #!/usr/bin/env python3
-"""Measures the program in one run on one machine: durable stores beside SQLite, openings beside reading the file, lines a second
-that are kept nowhere, instructions a line, and calls of the disk.
+"""Measures the program in one run on one machine: durable stores beside the least that the protocol asks of the disk and beside SQLite,
+openings beside reading the file, lines a second that are kept nowhere, instructions a line, and calls of the disk.
 
     bench/measure.py [--program PATH] [--folder FOLDER] [--seconds S] [--svg FILE]
     bench/measure.py --full [--program PATH] [--mirror PATH] [--folder FOLDER]
 
-It puts one table. A rate of mungi is that of a run less a run on no lines, both with the page cache warm; a rate of SQLite is that of
-the same number of updates of one row each, with journal_mode WAL and synchronous FULL, in transactions of as many updates as a batch has
-lines. A row fills a page of SQLite's as a store's page fills one of mungi's. Instructions are counted by valgrind's callgrind and calls by
-strace; where one of them is not there, its rows are left out, and that is said on standard error. --svg draws the ratios to SQLite.
+It puts one table. A rate of mungi is that of a run less a run on no lines, both with the page cache warm. The floor is the rate of
+bench/floor.c, which makes just the calls of the system that the protocol asks for; the system's C compiler builds it. A rate of SQLite
+is that of the same number of updates of one row each, with journal_mode WAL and synchronous FULL, in transactions of as many updates as
+a batch has lines. A row fills a page of SQLite's as a store's page fills one of mungi's. Instructions are counted by valgrind's callgrind
+and calls by strace. Where one of these tools is not there, its rows are left out, and that is said on standard error. --svg draws the
+ratios to the floor and to SQLite.
 
 With --full it measures a full volume instead: 65,536 frames, 4,096 objects, 61,426 pages and 256 threads. Openings stand beside `cat`
 of the blocks up to the end of the frame table, least of 20 with the page cache warm, and of 5 where it is dropped before each, which
@@ -37,8 +39,8 @@ CREDITS = str(2**62)
 LOAD = "1 load 0x100000000"
 STORE = "1 store 0x100000008 7"
 PAGES = (1, 24, 1000)
-# What is wanted of the ratio to SQLite: a line a commit, and 64, over so many pages.
-WANTED = {(1, 1): 0.6, (1, 24): 0.6, (1, 1000): 0.6, (64, 1): 2.0, (64, 24): 1.5, (64, 1000): 2.0}
+# What is wanted of the ratio to the floor.
+WANTED = 0.9
 
 
 def text_of(lines):
@@ -83,6 +85,27 @@ def store_rate(program, volume, pages, batch, seconds):
         took, put = mungi(program, [volume, "run", str(batch)], lines)
         assert put == ["ok"] * count
         return took
+
+    return rate(run, seconds)
+
+
+def floor_of(folder):
+    """The program that makes just the calls of the protocol, built in this folder; none where there is no C compiler."""
+    compiler = shutil.which("cc")
+    if compiler is None:
+        print("cc is not there: no floor", file=sys.stderr)
+        return None
+    subprocess.run([compiler, "-O2", "-o", f"{folder}/floor", str(TOP / "bench/floor.c")], check=True)
+    return f"{folder}/floor"
+
+
+def floor_rate(floor, volume, pages, batch, seconds):
+    """Stores a second of the floor, on a copy of a volume with so many pages."""
+    shutil.copy(volume, volume + ".floor")
+
+    def run(count):
+        done = subprocess.run([floor, volume + ".floor", str(count), str(batch), str(pages)], stdout=subprocess.PIPE, check=True)
+        return float(done.stdout)
 
     return rate(run, seconds)
 
@@ -134,14 +157,28 @@ def dry_rate(program, line, objects, seconds):
     return rate(run, seconds)
 
 
-def instructions(program, line, objects):
-    """Instructions a line: those of 3,000 less those of 1,000, over 2,000."""
-    counts = []
-    for count in (1000, 3000):
-        command = ["valgrind", "--tool=callgrind", "--callgrind-out-file=/dev/null", program, *dry()]
-        done = subprocess.run(command, input=text_of(machine_with(objects) + [line] * count), stdout=subprocess.DEVNULL, stderr=subprocess.PIPE, check=True)
-        counts.append(int(re.search(rb"Collected : (\d+)", done.stderr)[1]))
-    return (counts[1] - counts[0]) / 2000
+def counted(command, lines=()):
+    """The instructions of a command on these lines."""
+    command = ["valgrind", "--tool=callgrind", "--callgrind-out-file=/dev/null", *command]
+    done = subprocess.run(command, input=text_of(lines), stdout=subprocess.DEVNULL, stderr=subprocess.PIPE, check=True)
+    return int(re.search(rb"Collected : (\d+)", done.stderr)[1])
+
+
+def instructions(program, line, before=()):
+    """Instructions a line behind some others: those of 3,000 less those of 1,000, over 2,000."""
+    few, many = (counted([program, *dry()], [*before, *[line] * count]) for count in (1000, 3000))
+    return (many - few) / 2000
+
+
+def generated(program):
+    """Instructions of a line of `gen`, on average."""
+    few, many = (counted([program, "x", "gen", "7", str(count)]) for count in (1000, 3000))
+    return (many - few) / 2000
+
+
+def jumping(threads):
+    """Lines that make so many threads, each of which jumps to its own word for ever."""
+    return ["1 store 0x100000200 0x8", *["1 thread 0x100000200"] * threads]
 
 
 def disk_calls(program, volume, lines):
@@ -241,22 +278,22 @@ def copies_beside_cp(name, command, source, target):
 
 
 def picture(ratios):
-    """The ratios to SQLite as bars, each with a mark at the one that is wanted."""
-    left, wide, step = 210, 170, 34
+    """The ratios to the floor and to SQLite as bars, with a mark at what is wanted of the first."""
+    left, wide, step = 210, 240, 56
     parts = []
-    for place, ((batch, pages), ratio) in enumerate(ratios.items()):
+    for place, ((batch, pages), (floor, other)) in enumerate(ratios.items()):
         y = 40 + step * place
         label = f"{batch} to a commit, {pages:,} page{'s' if pages > 1 else ''}"
-        parts.append(f'<text x="{left - 8}" y="{y + 14}" text-anchor="end">{label}</text>')
-        parts.append(f'<rect x="{left}" y="{y}" width="{wide * ratio:.0f}" height="20" fill="#4878a8"/>')
-        parts.append(f'<text x="{left + wide * ratio + 6:.0f}" y="{y + 14}">{ratio:.2f}</text>')
-        x = left + wide * WANTED[(batch, pages)]
-        parts.append(f'<line x1="{x:.0f}" y1="{y - 4}" x2="{x:.0f}" y2="{y + 24}" stroke="#b03030" stroke-width="2"/>')
+        parts.append(f'<text x="{left - 8}" y="{y + 25}" text-anchor="end">{label}</text>')
+        for ratio, at, colour, name in ((floor, y, "#4878a8", "floor"), (other, y + 22, "#9aa4ae", "SQLite")):
+            if ratio is not None:
+                parts.append(f'<rect x="{left}" y="{at}" width="{wide * ratio:.0f}" height="18" fill="{colour}"/>')
+                parts.append(f'<text x="{left + wide * ratio + 6:.0f}" y="{at + 14}">{ratio:.2f} of {name}</text>')
     height = 40 + step * len(ratios) + 10
-    x = left + wide
-    parts.append(f'<line x1="{x}" y1="30" x2="{x}" y2="{height - 8}" stroke="#888" stroke-dasharray="3 3"/>')
-    parts.append(f'<text x="{left}" y="20">durable stores a second over SQLite\'s updates; red: wanted; dashed: as many</text>')
-    return f'<svg xmlns="http://www.w3.org/2000/svg" width="660" height="{height}" font-family="sans-serif" font-size="13">\n' + "\n".join(parts) + "\n</svg>\n"
+    for x, colour in ((left + wide, "#888"), (left + wide * WANTED, "#b03030")):
+        parts.append(f'<line x1="{x:.0f}" y1="30" x2="{x:.0f}" y2="{height - 8}" stroke="{colour}" stroke-dasharray="3 3"/>')
+    parts.append(f'<text x="{left}" y="20">durable stores a second over the floor\'s and over SQLite\'s updates; red: wanted of the floor</text>')
+    return f'<svg xmlns="http://www.w3.org/2000/svg" width="760" height="{height}" font-family="sans-serif" font-size="13">\n' + "\n".join(parts) + "\n</svg>\n"
 
 
 def row(name, figure, beside="", ratio=""):
@@ -287,13 +324,17 @@ def main():
     row("---", "---", "---", "---")
     ratios = {}
     with tempfile.TemporaryDirectory(dir=words.folder) as folder:
-        volume = folder + "/vol"
+        volume, floor = folder + "/vol", floor_of(folder)
         for batch in (1, 64):
             for pages in PAGES:
+                name = f"durable stores a second, {batch} to a commit, {pages:,} pages"
                 ours = store_rate(program, volume, pages, batch, words.seconds)
+                least_calls = floor and floor_rate(floor, volume, pages, batch, words.seconds)
                 theirs = sqlite_rate(folder + "/base", pages, batch, words.seconds)
-                ratios[(batch, pages)] = ours / theirs
-                row(f"durable stores a second, {batch} to a commit, {pages:,} pages", f"{ours:,.0f}", f"SQLite {theirs:,.0f}", f"{ours / theirs:.2f}")
+                ratios[(batch, pages)] = (ours / least_calls if floor else None, ours / theirs)
+                if floor:
+                    row(name, f"{ours:,.0f}", f"floor {least_calls:,.0f}", f"{ours / least_calls:.2f}")
+                row(name, f"{ours:,.0f}", f"SQLite {theirs:,.0f}", f"{ours / theirs:.2f}")
         opening, reading = least([program, volume, "run"]), least(["cat", volume])
         row(f"opening a volume of {os.stat(volume).st_size >> 20} MB", f"{1000 * opening:.1f} ms", f"`cat` of it {1000 * reading:.1f} ms", f"{opening / reading:.1f}")
         if shutil.which("strace"):
@@ -308,10 +349,15 @@ def main():
     row("stores a second under `dry`", f"{dry_rate(program, STORE, 1, words.seconds):,.0f}")
     row("lines a second of `gen`", f"{1000000 / (mungi(program, ['x', 'gen', '7', '1000000'])[0] - mungi(program, ['x', 'gen', '7', '0'])[0]):,.0f}")
     if shutil.which("valgrind"):
-        counts = {objects: instructions(program, LOAD, objects) for objects in (1, 64, 4096)}
-        for objects, count in counts.items():
-            row(f"instructions of a load, {objects:,} objects", f"{count:,.0f}", "1 object", f"{count / counts[1]:.2f}")
-        row("instructions of a store", f"{instructions(program, STORE, 1):,.0f}")
+        loads = {objects: instructions(program, LOAD, machine_with(objects)) for objects in (1, 64, 4096)}
+        for objects, count in loads.items():
+            row(f"instructions of a load, {objects:,} objects", f"{count:,.0f}", "1 object", f"{count / loads[1]:.2f}")
+        row("instructions of a store into a first page", f"{instructions(program, STORE):,.0f}")
+        row("instructions of a turn that jumps", f"{instructions(program, '2 turn', jumping(1)):,.0f}")
+        turns = {threads: instructions(program, "next", jumping(threads)) for threads in (1, 255)}
+        for threads, count in turns.items():
+            row(f"instructions of `next`, the same, {threads:,} Ready", f"{count:,.0f}", "1 Ready", f"{count / turns[1]:.2f}")
+        row("instructions of a line of `gen`, on average", f"{generated(program):,.0f}")
     else:
         print("valgrind is not there: no counts of instructions", file=sys.stderr)
     if words.svg:
