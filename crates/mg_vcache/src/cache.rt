@@ -6,28 +6,32 @@ ghost use Rattle.mg_model.specs.Rights.{right_number};
 ghost use Rattle.mg_model.specs.Limits.{seat_count};
 ghost use Rattle.mg_vcache.specs.Seats.{is_kept, without};
 
-use crate::dropping::{Ended, drop_ended};
+use crate::dropping::{Ended, drop_ended, drop_in_row};
+use crate::marks::{MARK_COUNT, list_row, mark, thread_row};
 use mg_model::limits::{PAGE_SIZE, PAGE_STRIDE, RIGHT_STRIDE, SEAT_COUNT};
 use mg_model::{Right, Seat};
 use std::alloc::{AllocError, Global};
 use std::marker::Model;
 
-/// 256 seats, in each of which one right may be kept.
+/// 256 seats, in each of which one right may be kept. Marks tell where those of a list, an object or a thread may be, so that
+/// a drop reads few seats.
 #[derive(Drop)]
 pub struct VCache {
     seats: Vec<Option<Seat>>,
+    marks: Vec<bool>,
 }
 
 impl Model for VCache {
     ghost use Rattle.std.specs.Prelude.{List, Option, ◌≡◌, length};
     ghost use Rattle.mg_model.specs.Limits.{seat_count};
     ghost use Rattle.mg_model.specs.declared.seats.Seat.{Seat};
+    ghost use Rattle.mg_vcache.specs.Marks.{AreMarked};
 
     ghost Value = { List (Option Seat) };
 
     ghost view = { λ cache. cache.seats.items };
 
-    ghost invariant = { λ cache. length cache.seats.items ≡ seat_count };
+    ghost invariant = { λ cache. (length cache.seats.items ≡ seat_count) × (length cache.marks.items ≡ 2048) × AreMarked cache.seats.items cache.marks.items };
 }
 
 impl VCache {
@@ -36,7 +40,8 @@ impl VCache {
         ensures { IfOk result (λ cache. cache ≡ replicate seat_count None) }
     {
         let seats = Vec::from_array(alloc, [None; SEAT_COUNT])?;
-        Ok(VCache { seats })
+        let marks = Vec::from_array(alloc, [false; MARK_COUNT])?;
+        Ok(VCache { seats, marks })
     }
 
     /// Whether this right is kept: its seat was filled with this thread, base and right last, and not dropped since.
@@ -60,21 +65,33 @@ impl VCache {
             right,
             via,
         };
-        self.seats[seat_at(thread, base, right)] = Some(seat);
+        let place = seat_at(thread, base, right);
+        mark(&mut self.marks, place, &seat);
+        self.seats[place] = Some(seat);
     }
 
     /// Drops what is kept of this thread, and nothing else.
     pub fn drop_thread(&mut self, thread: u64)
         ensures { self.new ≡ without (by_thread thread) self.old }
     {
-        drop_ended(&mut self.seats, Ended::Thread(thread));
+        drop_in_row(
+            &mut self.seats,
+            &mut self.marks,
+            Ended::Thread(thread),
+            thread_row(thread),
+        );
     }
 
     /// Drops each right that the capability list with this base gave or that is to the object with this base, and nothing else.
     pub fn drop_via(&mut self, via: u64)
         ensures { self.new ≡ without (by_via via) self.old }
     {
-        drop_ended(&mut self.seats, Ended::Via(via));
+        drop_in_row(
+            &mut self.seats,
+            &mut self.marks,
+            Ended::Via(via),
+            list_row(via),
+        );
     }
 
     /// Drops all.

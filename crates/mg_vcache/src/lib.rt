@@ -7,5 +7,6 @@
 
 mod cache;
 mod dropping;
+mod marks;
 
 pub use cache::VCache;
