@@ -149,19 +149,20 @@ pub fn push_word(out: &mut ArrayVec<u8, 256>, w: u64)
     ensures short { array_vec_len out.new ≤ array_vec_len out.old + 19 }
 {
     push_text(out, b" 0x");
-    push_digits(out, 16, w);
+    push_text(out, &hex_digits(w));
 }
 
-/// The last n hexadecimal digits of w.
-fn push_digits(out: &mut Buffer, n: u8, w: u64)
-    requires { array_vec_len out.old + n ≤ 256 }
-    ensures text { out.new.items ≡ out.old.items ++ hex_digits n w }
-    ensures len { array_vec_len out.new ≡ array_vec_len out.old + n }
+/// The hexadecimal digits of a word.
+fn hex_digits(w: u64) -> [u8; 16]
+    ensures { result ≡ hex_digits 16 w }
 {
-    if n > 0 {
-        push_digits(out, n - 1, w / 16);
-        out.push(hex_glyph((w % 16) as u8));
+    let mut digits = [b'0'; 16];
+    let mut rest = w;
+    for i in 0..16 {
+        digits[15 - i] = hex_glyph((rest % 16) as u8);
+        rest /= 16;
     }
+    digits
 }
 
 fn hex_glyph(d: u8) -> u8
