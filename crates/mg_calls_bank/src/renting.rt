@@ -1,31 +1,24 @@
 // Rent is collected.
 ghost use Rattle.std.specs.Prelude.{◌≡◌, ◌≤◌};
-ghost use Rattle.mg_model.specs.Backed.{by_each};
 ghost use Rattle.mg_model.specs.BankCalls as calls;
 ghost use Rattle.mg_model.specs.Limits.{period_limit};
-ghost use Rattle.mg_vcache.specs.Drops.{Drops};
 ghost use Rattle.mg_volume.specs.Calls.{Answers, CallStages};
 ghost use Rattle.mg_volume.specs.Meaning.{counters_in, staged_of};
 
 use mg_model::Reply;
-use mg_vcache::VCache;
 use mg_volume::Volume;
 
 /// The rent of a period is collected, and the next period begins: each account pays for its pages at the rate of the tariff,
-/// and the treasury, account 1, gets the sum. In the last period it is refused (Calendar). All rights that were found end,
-/// since passwords may end with the period.
-pub fn rent(v: &mut Volume, c: &mut VCache) -> Reply
+/// and the treasury, account 1, gets the sum. In the last period it is refused (Calendar). Who keeps rights that were found
+/// drops them all after it, unless it is refused, since passwords may end with the period.
+pub fn rent(v: &mut Volume) -> Reply
     requires at_most_143_staged { staged_of v.old ≤ 143 }
-    ensures does { CallStages (Answers (λ state. calls.rent state)) 17 v.old v.new result }
-    ensures seats { Drops by_each c.old c.new result }
+    ensures { CallStages (Answers (λ state. calls.rent state)) 17 v.old v.new result }
 {
     let period = period(v);
     let rate = v.rate();
     match v.collect() {
-        Ok(paid) => {
-            c.drop_all();
-            Reply::Collected(period + 1, rate, paid)
-        }
+        Ok(paid) => Reply::Collected(period + 1, rate, paid),
         Err(word) => Reply::No(word),
     }
 }

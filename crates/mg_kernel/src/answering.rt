@@ -8,9 +8,9 @@ ghost use Rattle.mg_volume.specs.Calls.{IsSoundOn};
 ghost use Rattle.mg_volume.specs.Meaning.{now_of, staged_of};
 ghost use Rattle.mg_volume.specs.Staging.{lives};
 
+use crate::renting::collect;
 use crate::turning::{next, turn};
 use crate::unasked::unasked;
-use mg_calls_bank::rent;
 use mg_calls_dom::{load, pdx, store};
 use mg_calls_obj::{on_object, validated_info};
 use mg_calls_thr::validated_make;
@@ -40,7 +40,7 @@ pub(crate) fn answer<D: Disk, L: Ledger>(
         Call::Bad => Ok(Reply::No(Refusal::Syntax)),
         Call::Turn => turn(v, c, disk, line.thread, steps),
         Call::Next => next(v, c, disk, steps),
-        Call::Rent => Ok(rent(v, c)),
+        Call::Rent => Ok(collect(v, c)),
         _ => match v.frame(line.thread) {
             Some(_) => dispatch(v, c, disk, line.thread, &line.call, steps),
             None => Ok(Reply::No(Refusal::NoThread)),

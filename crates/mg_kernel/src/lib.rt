@@ -14,6 +14,7 @@ mod answering;
 mod kernel;
 mod machine;
 mod ranges;
+mod renting;
 mod turning;
 mod unasked;
 

@@ -13,16 +13,16 @@ use Rattle.mg_volume.specs.Meaning.{counters_in, now_of}
 use Rattle.mg_volume.specs.RunLemmas.{call_made, call_refused}
 use Rattle.mg_calls_bank.proofs.renting.rent.Goals as goal
 
-pub returns-in-Ok-clause-does : goal.returns-in-Ok-clause-does
-returns-in-Ok-clause-does c =
+pub returns-in-Ok : goal.returns-in-Ok
+returns-in-Ok c =
     call_made _ _ _ _ _ (λ no. no) tt (λ image spelled formed.
     let v = c.args.v.now in
     let early = ap (λ p. p == period_limit) c.period-period.ensures.period ∙ c.in-Ok.ensures.refusal in
     rent-done (now_of v image) (now_of c.collect.new.self image) (counters_in v) c.period-period.result c.rate-rate.result c.in-Ok.paid (sym (now_counters v image)) c.period-period.ensures.period early
     (c.rate-rate.ensures.rate image) (c.in-Ok.ensures.paid image) (c.in-Ok.ensures.now image)) (search rules)
 
-pub returns-in-Err-clause-does : goal.returns-in-Err-clause-does
-returns-in-Err-clause-does c =
+pub returns-in-Err : goal.returns-in-Err
+returns-in-Err c =
     let v = c.args.v.now in
     let refusal = c.in-Err.ensures.refusal in
     let last = ap (λ p. p == period_limit) c.period-period.ensures.period ∙ refusal.1 in

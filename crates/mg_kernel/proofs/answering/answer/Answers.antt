@@ -29,12 +29,12 @@ returns-in-Rent g c = record {
   slots = search rules;
   backed = λ image told.
       let state = now_of c.args.v.now image in
-      let new = now_of c.rent.new.v image in
+      let new = now_of c.collect.new.v image in
       let formed = c.requires.sound.formed image told in
-      let answer = c.rent.ensures.does.answers image (c.requires.sound.stands.fits image told) formed in
+      let answer = c.collect.ensures.does.answers image (c.requires.sound.stands.fits image told) formed in
       let keeps : KeepsBacked by_each state new =
       subst (λ s. KeepsBacked by_each state s) (ap (λ (a : Answer). a.0) answer) (c.steps_keep_backing.ensures.steps state (record { thread = 0; call = call.Rent }) formed) in
-      drops_backed by_each state new c.args.c.now c.rent.new.c c.rent.result keeps c.rent.ensures.seats (λ refused. ap (λ v. now_of v image) (c.rent.ensures.does.refused refused)) (c.requires.backed image told);
+      drops_backed by_each state new c.args.c.now c.collect.new.c c.collect.result keeps c.collect.ensures.seats (λ refused. ap (λ v. now_of v image) (c.collect.ensures.does.refused refused)) (c.requires.backed image told);
   keeps = search rules;
   limit = search rules;
   serves = search rules;
