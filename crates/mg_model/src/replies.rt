@@ -5,7 +5,7 @@ ghost use Rattle.mg_model.specs.Turn.{refusal_number};
 use crate::threads::Fault;
 
 /// Why a call is refused. A refused call changes nothing.
-#[derive(Clone, Copy, Debug, PartialEq, Eq)]
+#[derive(Clone, Copy, Debug, Drop, PartialEq, Eq)]
 pub enum Refusal {
     Syntax,
     NoThread,
