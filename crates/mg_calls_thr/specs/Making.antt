@@ -23,7 +23,7 @@ first_row maker births pc = record {
   creator = min maker.birth births;
   pc = pc;
   state = Ready;
-  registers = replicate 8 0;
+  regs = replicate 8 0;
   frames = first_frame maker ∷ [];
 }
 

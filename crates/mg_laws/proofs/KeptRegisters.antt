@@ -23,7 +23,7 @@ word-in_list words k all =
     ⊎_elim (λ within. All-get_or IsWord words k 0 within all) (λ past. subst IsWord (sym (get_or_past words k 0 past)) (omega arith)) (cases_lt k (length words))
 
 pub register-word : (row : ThreadRow) (k : ℕ) → IsThreadRow row → IsWord (register row k)
-register-word row k is = word-in_list row.registers k is.registers
+register-word row k is = word-in_list row.regs k is.registers
 
 pub kept_same : (row : ThreadRow) → IsThreadRow row → KeepsRow row row
 kept_same row is = record { row = is; birth = refl; creator = refl }
@@ -40,8 +40,8 @@ kept_register row next k value kept word =
         creator = is.creator;
         pc = is.pc;
         aligned = is.aligned;
-        eight = length-set next.registers k value ∙ is.eight;
-        registers = All-set IsWord next.registers k value word is.registers;
+        eight = length-set next.regs k value ∙ is.eight;
+        registers = All-set IsWord next.regs k value word is.registers;
         some_frame = is.some_frame;
         few_frames = is.few_frames;
         frames = is.frames;

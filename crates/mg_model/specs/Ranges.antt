@@ -63,8 +63,8 @@ pub record IsThreadRow (row : ThreadRow) : Type 0 where
   pub creator : row.creator < row.birth
   pub pc : IsWord row.pc
   pub aligned : row.pc % 8 ≡ 0
-  pub eight : length row.registers ≡ 8
-  pub registers : All IsWord row.registers
+  pub eight : length row.regs ≡ 8
+  pub registers : All IsWord row.regs
   pub some_frame : 1 ≤ length row.frames
   pub few_frames : length row.frames ≤ frame_limit
   pub frames : All IsCallFrame row.frames

@@ -41,10 +41,10 @@ abbrev pub word_end : ℕ
 word_end = 2 ^ 64
 
 abbrev pub register : ThreadRow → ℕ → ℕ
-register thread k = slice_index thread.registers k
+register thread k = slice_index thread.regs k
 
 abbrev pub with_register : ThreadRow → ℕ → ℕ → ThreadRow
-with_register thread k value = record thread { registers = slice_set thread.registers k value }
+with_register thread k value = record thread { regs = slice_set thread.regs k value }
 
 -- the address that a load or a store names
 abbrev pub operand : ThreadRow → ℕ → ℕ → ℕ

@@ -110,7 +110,7 @@ frame_bytes frame = padded_to 144 (words_bytes (frame.back ∷ length frame.slot
 abbrev pub thread_bytes : ThreadRow → List ℕ
 thread_bytes row =
     padded_to 64 (words_bytes (1 ∷ row.birth ∷ row.creator ∷ row.pc ∷ state_number row.state ∷ length row.frames ∷ []))
-    ++ padded_to (block_size - 64) (words_bytes row.registers ++ flat_map frame_bytes row.frames)
+    ++ padded_to (block_size - 64) (words_bytes row.regs ++ flat_map frame_bytes row.frames)
 
 abbrev pub slots_at : List ℕ → ℕ → ℕ → List Slot
 slots_at bytes offset zero = []
@@ -129,7 +129,7 @@ thread_fields bytes = record {
   creator = number_at bytes 16;
   pc = number_at bytes 24;
   state = state_numbered (number_at bytes 32);
-  registers = numbers_at bytes 64 8;
+  regs = numbers_at bytes 64 8;
   frames = frames_at bytes 128 (min (number_at bytes 40) (frame_limit + 1));
 }
 

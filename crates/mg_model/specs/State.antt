@@ -31,7 +31,7 @@ pub record ThreadRow : Type 0 where
   pub creator : ℕ
   pub pc : ℕ
   pub state : ThrState
-  pub registers : List ℕ
+  pub regs : List ℕ
   pub frames : List CallFrame
 
 pub record Thread : Type 0 where

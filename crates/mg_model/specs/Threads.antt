@@ -45,7 +45,7 @@ new_thread number birth creator pc slots = record {
     creator = creator;
     pc = pc;
     state = Ready;
-    registers = replicate 8 0;
+    regs = replicate 8 0;
     frames = record { back = 0; slots = slots } ∷ [];
   };
 }

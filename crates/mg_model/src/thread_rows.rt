@@ -25,7 +25,7 @@ pub struct ThrRow {
     creator: u64,
     pc: u64,
     state: ThrState,
-    registers: [u64; 8],
+    regs: [u64; 8],
     frames: Few<Frame, FRAME_LIMIT>,
 }
 
@@ -35,11 +35,11 @@ impl Model for ThrRow {
 
     ghost Value = { ThreadRow };
 
-    ghost view = { λ row. record { birth = row.birth; creator = row.creator; pc = row.pc; state = row.state; registers = row.registers; frames = row.frames } };
+    ghost view = { λ row. record { birth = row.birth; creator = row.creator; pc = row.pc; state = row.state; regs = row.regs; frames = row.frames } };
 
-    ghost invariant = { λ row. IsThreadRow (record { birth = row.birth; creator = row.creator; pc = row.pc; state = row.state; registers = row.registers; frames = row.frames }) };
+    ghost invariant = { λ row. IsThreadRow (record { birth = row.birth; creator = row.creator; pc = row.pc; state = row.state; regs = row.regs; frames = row.frames }) };
 
-    ghost inverse = { λ row. record { birth = row.birth; creator = row.creator; pc = row.pc; state = row.state; registers = row.registers; frames = row.frames } };
+    ghost inverse = { λ row. record { birth = row.birth; creator = row.creator; pc = row.pc; state = row.state; regs = row.regs; frames = row.frames } };
 }
 
 impl ThrRow {
@@ -49,7 +49,7 @@ impl ThrRow {
         requires created { creator < birth }
         requires aligned { pc % 8 ≡ 0 }
         requires bottom { first.back ≡ 0 }
-        ensures { result ≡ record { birth = birth; creator = creator; pc = pc; state = ThrState.Ready; registers = replicate 8 0; frames = first ∷ [] } }
+        ensures { result ≡ record { birth = birth; creator = creator; pc = pc; state = ThrState.Ready; regs = replicate 8 0; frames = first ∷ [] } }
     {
         let mut frames = Few::new();
         frames.add(first);
@@ -58,7 +58,7 @@ impl ThrRow {
             creator,
             pc,
             state: ThrState::Ready,
-            registers: [0; 8],
+            regs: [0; 8],
             frames,
         }
     }
@@ -100,18 +100,18 @@ impl ThrRow {
     }
 
     /// Its registers.
-    pub fn registers(&self) -> [u64; 8]
-        ensures { result ≡ self.now.registers }
+    pub fn regs(&self) -> [u64; 8]
+        ensures { result ≡ self.now.regs }
     {
-        self.registers
+        self.regs
     }
 
     /// The register with this number.
     pub fn register(&self, number: usize) -> u64
         requires { number < 8 }
-        ensures { result ≡ slice_index self.now.registers number }
+        ensures { result ≡ slice_index self.now.regs number }
     {
-        self.registers[number]
+        self.regs[number]
     }
 
     /// Its frames; the last is the present one.
@@ -146,9 +146,9 @@ impl ThrRow {
     /// Another value in the register with this number.
     pub fn set_register(&mut self, number: usize, value: u64)
         requires { number < 8 }
-        ensures { self.new ≡ record self.old { registers = slice_set self.old.registers number value } }
+        ensures { self.new ≡ record self.old { regs = slice_set self.old.regs number value } }
     {
-        self.registers[number] = value;
+        self.regs[number] = value;
     }
 
     /// One frame more, which becomes the present one.

@@ -193,21 +193,21 @@ module _ (bytes : List ℕ) where
       ∙ ap (λ (v : List Slot). record { back = old.back; slots = v }) (sym more)
 
   abbrev with_registers : ThreadRow → List ℕ → ThreadRow
-  with_registers row registers = record row { registers = registers }
+  with_registers row registers = record row { regs = registers }
 
-  pub row-more : (old mid new : ThreadRow) (i v : ℕ) → i < length old.registers → v ≡ number_at bytes (64 + 8 * i)
-      → mid ≡ with_registers old (numbers_at bytes 64 i ++ drop i old.registers) → new ≡ with_registers mid (set mid.registers i v)
-      → new ≡ with_registers old (numbers_at bytes 64 (i + 1) ++ drop (i + 1) old.registers)
+  pub row-more : (old mid new : ThreadRow) (i v : ℕ) → i < length old.regs → v ≡ number_at bytes (64 + 8 * i)
+      → mid ≡ with_registers old (numbers_at bytes 64 i ++ drop i old.regs) → new ≡ with_registers mid (set mid.regs i v)
+      → new ≡ with_registers old (numbers_at bytes 64 (i + 1) ++ drop (i + 1) old.regs)
   row-more old mid new i v within is e_mid e_new =
       e_new
-      ∙ ap (λ (m : ThreadRow). with_registers m (set m.registers i v)) e_mid
-      ∙ ap (with_registers old) (register-more old.registers i v within is)
+      ∙ ap (λ (m : ThreadRow). with_registers m (set m.regs i v)) e_mid
+      ∙ ap (with_registers old) (register-more old.regs i v within is)
 
-  pub row-registers : (old new : ThreadRow) (n : ℕ) → n ≡ 8 → length old.registers ≡ 8 → new ≡ with_registers old (numbers_at bytes 64 n ++ drop n old.registers) → new ≡ with_registers old (numbers_at bytes 64 8)
+  pub row-registers : (old new : ThreadRow) (n : ℕ) → n ≡ 8 → length old.regs ≡ 8 → new ≡ with_registers old (numbers_at bytes 64 n ++ drop n old.regs) → new ≡ with_registers old (numbers_at bytes 64 8)
   row-registers old new n is eight e_new =
-      let all : length old.registers ≤ n = omega arith in
+      let all : length old.regs ≤ n = omega arith in
       e_new
-      ∙ ap (λ v. with_registers old (numbers_at bytes 64 n ++ v)) (drop_all n old.registers all)
+      ∙ ap (λ v. with_registers old (numbers_at bytes 64 n ++ v)) (drop_all n old.regs all)
       ∙ ap (with_registers old) (append-nil (numbers_at bytes 64 n))
       ∙ ap (λ k. with_registers old (numbers_at bytes 64 k)) is
 
@@ -270,13 +270,13 @@ module _ (bytes : List ℕ) where
       (and_parts (a && p) f (and_parts (a && p && f) (number_at bytes 128 == 0) is).0).1
 
   pub row-begun : (new row : ThreadRow) (first : CallFrame) (birth creator pc : ℕ) (state : ThrState)
-      → new ≡ with_registers row (numbers_at bytes 64 8) → row ≡ record { birth = birth; creator = creator; pc = pc; state = state; registers = replicate 8 0; frames = first ∷ [] }
+      → new ≡ with_registers row (numbers_at bytes 64 8) → row ≡ record { birth = birth; creator = creator; pc = pc; state = state; regs = replicate 8 0; frames = first ∷ [] }
       → birth ≡ number_at bytes 8 → creator ≡ number_at bytes 16 → pc ≡ number_at bytes 24 → state ≡ state_numbered (number_at bytes 32) → first ≡ frame_at bytes 128
       → new ≡ with_frames bytes 1
   row-begun new row first birth creator pc state e_new e_row e_birth e_creator e_pc e_state e_first =
       e_new
       ∙ ap (λ (r : ThreadRow). with_registers r (numbers_at bytes 64 8)) e_row
-      ∙ thread_same (record { birth = birth; creator = creator; pc = pc; state = state; registers = numbers_at bytes 64 8; frames = first ∷ [] }) (with_frames bytes 1) e_birth e_creator e_pc e_state refl (ap (λ f. f ∷ []) e_first)
+      ∙ thread_same (record { birth = birth; creator = creator; pc = pc; state = state; regs = numbers_at bytes 64 8; frames = first ∷ [] }) (with_frames bytes 1) e_birth e_creator e_pc e_state refl (ap (λ f. f ∷ []) e_first)
 
   -- what is answered with the other frames
   pub fields-found : (n : ℕ) (result : Option ThreadRow) → n ≡ number_at bytes 40 → 1 ≤ n → n ≤ 16 → begins bytes ≡ true

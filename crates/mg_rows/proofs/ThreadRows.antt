@@ -119,14 +119,14 @@ state-few (Faulted fault.Align) = omega arith
 state-few (Faulted fault.Denied) = omega arith
 state-few (Faulted fault.Opcode) = omega arith
 
-pub thread_same : (a b : ThreadRow) → a.birth ≡ b.birth → a.creator ≡ b.creator → a.pc ≡ b.pc → a.state ≡ b.state → a.registers ≡ b.registers → a.frames ≡ b.frames → a ≡ b
+pub thread_same : (a b : ThreadRow) → a.birth ≡ b.birth → a.creator ≡ b.creator → a.pc ≡ b.pc → a.state ≡ b.state → a.regs ≡ b.regs → a.frames ≡ b.frames → a ≡ b
 thread_same a b birth creator pc state registers frames =
-    ap (λ v. record { birth = v; creator = a.creator; pc = a.pc; state = a.state; registers = a.registers; frames = a.frames }) birth
-    ∙ ap (λ v. record { birth = b.birth; creator = v; pc = a.pc; state = a.state; registers = a.registers; frames = a.frames }) creator
-    ∙ ap (λ v. record { birth = b.birth; creator = b.creator; pc = v; state = a.state; registers = a.registers; frames = a.frames }) pc
-    ∙ ap (λ v. record { birth = b.birth; creator = b.creator; pc = b.pc; state = v; registers = a.registers; frames = a.frames }) state
-    ∙ ap (λ v. record { birth = b.birth; creator = b.creator; pc = b.pc; state = b.state; registers = v; frames = a.frames }) registers
-    ∙ ap (λ v. record { birth = b.birth; creator = b.creator; pc = b.pc; state = b.state; registers = b.registers; frames = v }) frames
+    ap (λ v. record { birth = v; creator = a.creator; pc = a.pc; state = a.state; regs = a.regs; frames = a.frames }) birth
+    ∙ ap (λ v. record { birth = b.birth; creator = v; pc = a.pc; state = a.state; regs = a.regs; frames = a.frames }) creator
+    ∙ ap (λ v. record { birth = b.birth; creator = b.creator; pc = v; state = a.state; regs = a.regs; frames = a.frames }) pc
+    ∙ ap (λ v. record { birth = b.birth; creator = b.creator; pc = b.pc; state = v; regs = a.regs; frames = a.frames }) state
+    ∙ ap (λ v. record { birth = b.birth; creator = b.creator; pc = b.pc; state = b.state; regs = v; frames = a.frames }) registers
+    ∙ ap (λ v. record { birth = b.birth; creator = b.creator; pc = b.pc; state = b.state; regs = b.regs; frames = v }) frames
 
 module _ (row : ThreadRow) (is : IsThreadRow row) where
   -- the head, the registers, and the frames with zeros behind them
@@ -134,7 +134,7 @@ module _ (row : ThreadRow) (is : IsThreadRow row) where
   head = padded_to 64 (words_bytes (head_words row))
 
   abbrev registers : List ℕ
-  registers = words_bytes row.registers
+  registers = words_bytes row.regs
 
   abbrev frames : List ℕ
   frames = flat_map frame_bytes row.frames
@@ -145,15 +145,15 @@ module _ (row : ThreadRow) (is : IsThreadRow row) where
   parts : thread_bytes row ≡ head ++ (registers ++ (frames ++ zeros))
   parts = ap (λ v. head ++ v) (append_assoc registers frames zeros)
 
-  registers-back : numbers_at (thread_bytes row) 64 8 ≡ row.registers
+  registers-back : numbers_at (thread_bytes row) 64 8 ≡ row.regs
   registers-back =
       ap (λ v. numbers_at v 64 8) parts
       ∙ numbers_at-behind head (registers ++ (frames ++ zeros)) 64 0 8 refl
       ∙ ap (numbers_at (registers ++ (frames ++ zeros)) 0) (sym is.eight)
-      ∙ numbers_at-first row.registers (frames ++ zeros) is.registers
+      ∙ numbers_at-first row.regs (frames ++ zeros) is.registers
 
   long-registers : length (head ++ registers) ≡ 128
-  long-registers = let e = length-words_bytes row.registers in let n = is.eight in let f = length-append head registers in omega arith
+  long-registers = let e = length-words_bytes row.regs in let n = is.eight in let f = length-append head registers in omega arith
 
   frames-back : frames_at (thread_bytes row) 128 (length row.frames) ≡ row.frames
   frames-back =
@@ -192,7 +192,7 @@ added f xs i x new mid old within is e_mid e_new =
 
 pub thread-spelled : (row : ThreadRow) (whole s1 s2 s3 registers : List ℕ) (frames : List CallFrame) → whole ≡ padded_to 4096 s3
     → s1 ≡ padded_to 64 (words_bytes (head_words row)) → s2 ≡ s1 ++ words_bytes registers → s3 ≡ s2 ++ flat_map frame_bytes frames
-    → registers ≡ row.registers → frames ≡ row.frames → whole ≡ thread_bytes row
+    → registers ≡ row.regs → frames ≡ row.frames → whole ≡ thread_bytes row
 thread-spelled row whole s1 s2 s3 registers frames is e1 e2 e3 e_registers e_frames =
     let first = padded_to 64 (words_bytes (head_words row)) in
     is
@@ -201,5 +201,5 @@ thread-spelled row whole s1 s2 s3 registers frames is e1 e2 e3 e_registers e_fra
     ∙ ap (λ v. v ++ flat_map frame_bytes frames) (e2 ∙ ap (λ v. v ++ words_bytes registers) e1)
     ∙ append_assoc first (words_bytes registers) (flat_map frame_bytes frames)
     ∙ ap (λ (v : List ℕ). first ++ (words_bytes v ++ flat_map frame_bytes frames)) e_registers
-    ∙ ap (λ (v : List CallFrame). first ++ (words_bytes row.registers ++ flat_map frame_bytes v)) e_frames)
-    ∙ padded_to-append 64 4032 first (words_bytes row.registers ++ flat_map frame_bytes row.frames) refl
+    ∙ ap (λ (v : List CallFrame). first ++ (words_bytes row.regs ++ flat_map frame_bytes v)) e_frames)
+    ∙ padded_to-append 64 4032 first (words_bytes row.regs ++ flat_map frame_bytes row.frames) refl

@@ -16,7 +16,7 @@ with_frames bytes n = record {
   creator = number_at bytes 16;
   pc = number_at bytes 24;
   state = state_numbered (number_at bytes 32);
-  registers = numbers_at bytes 64 8;
+  regs = numbers_at bytes 64 8;
   frames = frames_at bytes 128 n;
 }
 

@@ -77,7 +77,7 @@ fn spelling(row: &ThrRow) -> Block
 {
     let mut filling = Filling::new();
     add_head(row, &mut filling);
-    filling.add_words(&row.registers());
+    filling.add_words(&row.regs());
     add_frames(row.frames(), &mut filling);
     filling.whole()
 }
@@ -202,8 +202,8 @@ fn state_numbered(number: u64) -> ThrState
 }
 
 fn set_registers(row: &mut ThrRow, b: &Block)
-    requires { length row.old.registers ≡ 8 }
-    ensures { row.new ≡ record row.old { registers = numbers_at b.now 64 8 } }
+    requires { length row.old.regs ≡ 8 }
+    ensures { row.new ≡ record row.old { regs = numbers_at b.now 64 8 } }
 {
     for place in 0..8 {
         row.set_register(place, number_at(b, 64 + 8 * place));

@@ -11,7 +11,7 @@ pub fn spell(r: &ThrRow) -> Call
     ensures value { result ≡ spelled r.now }
     ensures calls { is_spelled result ≡ true }
 {
-    let [number, first, second, third, fourth, ..] = r.registers();
+    let [number, first, second, third, fourth, ..] = r.regs();
     match number {
         1 => Call::Load { a: first },
         2 => Call::Store {

@@ -5,8 +5,8 @@ use Rattle.mg_rows.proofs.threads.spelling.Goals as goal
 
 is_spelled : (c : goal.After-whole) → c.whole.result ≡ thread_bytes c.args.row.now
 is_spelled c =
-    thread-spelled c.args.row.now c.whole.result c.add_head.new.filling c.add_words.new.self c.add_frames.new.filling c.registers.result c.frames.result.now
-    c.whole.ensures c.add_head.ensures.spelled c.add_words.ensures.value c.add_frames.ensures.value c.registers.ensures c.frames.ensures
+    thread-spelled c.args.row.now c.whole.result c.add_head.new.filling c.add_words.new.self c.add_frames.new.filling c.regs.result c.frames.result.now
+    c.whole.ensures c.add_head.ensures.spelled c.add_words.ensures.value c.add_frames.ensures.value c.regs.ensures c.frames.ensures
 
 pub returns-clause-spelled : goal.returns-clause-spelled
 returns-clause-spelled c = is_spelled c
