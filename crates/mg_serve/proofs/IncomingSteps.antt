@@ -1,15 +1,14 @@
 -- How bytes that come one after another add up.
-use Rattle.std.specs.Prelude.{ℕ, ◌<◌, ◌+◌, ◌%◌, ◌^◌, ◌≡◌, false, length, take, drop, List, [], ◌∷◌, ◌++◌, Some, None, Result, Ok, Err}
+use Rattle.std.specs.Prelude.{ℕ, ◌+◌, ◌%◌, ◌^◌, ◌≡◌, false, List, [], ◌∷◌, ◌++◌, Some, None, Result, Ok, Err}
 use Rattle.std.specs.Option.{option_to_list}
 use Rattle.std.specs.List.{list_any}
-use Rattle.std.proofs.Common.{refl, sym, ap, ◌∙◌, append_assoc, append-nil, arith, get_or, subst}
-use Rattle.std.proofs.lemmas.List.{take-append-drop, take_more}
+use Rattle.std.proofs.Common.{refl, sym, ap, ◌∙◌, append_assoc, append-nil, arith, subst}
 use Rattle.mg_disk.specs.Stops.{CountGoes}
 use Rattle.mg_disk.specs.declared.disk.Disk.{Ghosts}
 use Rattle.mg_faults.specs.Faults.{CountGoesOn, count_then, then_rose}
 use Rattle.mg_io.specs.declared.traits.Sink as sinks
 use Rattle.mg_model.specs.declared.calls.Line.{Line}
-use Rattle.mg_serve.proofs.Cutting.{lines-ended, lines-last}
+use Rattle.mg_serve.proofs.Cutting.{lines-last}
 use Rattle.mg_model.specs.Lines.{line_of, lines}
 use Rattle.mg_model.specs.Words.{is_newline}
 use Rattle.mg_model.specs.Counts.{CountsAlike}
@@ -27,13 +26,6 @@ alike_none words steps = (0, omega arith, ap (λ v. v % 2 ^ 64) (omega arith))
 pub alike_then : (a b c x y z : ℕ) → CountsAlike a b x y → CountsAlike b c y z → CountsAlike a c x z
 alike_then a b c x y z (n, first, words) (m, second, more) = (n + m, omega arith, omega arith)
 
--- how a newline cuts behind a part that spells a line
-line_cut : (part : List ℕ) (b : ℕ) (part' : List ℕ) (line : Line) → b ≡ 10 → part' ≡ [] → list_any is_newline part ≡ false → line_of part ≡ Some line
-    → (rest : List ℕ) → lines (part ++ b ∷ rest) ≡ line ∷ lines (part' ++ rest)
-line_cut part b part' line newline empty whole some rest =
-    ap (λ v. lines (part ++ v ∷ rest)) newline ∙ lines-ended part rest whole
-    ∙ ap (λ o. option_to_list o ++ lines rest) some ∙ ap (λ v. line ∷ lines (v ++ rest)) (sym empty)
-
 module _ {M D : Type 0} (Session : Entry M D → List Line → Point M D → Type 0) where
   Runs-none : (p : Point M D) → Runs Session p [] p
   Runs-none p = λ entry sofar a. subst (λ (v : List Line). Session entry v p) (sym (append-nil sofar)) a
@@ -44,20 +36,14 @@ module _ {M D : Type 0} (Session : Entry M D → List Line → Point M D → Typ
   pub Goes-none : (p : Point M D) (part : List ℕ) → Goes Session p part [] p part
   Goes-none p part = record { ls = []; cuts = λ rest. refl; steps = Runs-none p }
 
-  -- a byte that ends no line
-  pub Goes-byte : (p : Point M D) (part : List ℕ) (b : ℕ) (part' : List ℕ) → ((rest : List ℕ) → lines (part ++ b ∷ rest) ≡ lines (part' ++ rest)) → Goes Session p part (b ∷ []) p part'
-  Goes-byte p part b part' same = record { ls = []; cuts = same; steps = Runs-none p }
+  -- bytes that end no line, or one that spells nothing
+  pub Goes-on : (p : Point M D) (part bytes part' : List ℕ) → ((rest : List ℕ) → lines (part ++ (bytes ++ rest)) ≡ lines (part' ++ rest)) → Goes Session p part bytes p part'
+  Goes-on p part bytes part' same = record { ls = []; cuts = same; steps = Runs-none p }
 
-  -- a newline behind a part that spells no line
-  pub Goes-note : (p : Point M D) (part : List ℕ) (b : ℕ) (part' : List ℕ) → b ≡ 10 → part' ≡ [] → list_any is_newline part ≡ false → line_of part ≡ None → Goes Session p part (b ∷ []) p part'
-  Goes-note p part b part' newline empty whole none =
-      Goes-byte p part b part' (λ rest. ap (λ v. lines (part ++ v ∷ rest)) newline ∙ lines-ended part rest whole
-      ∙ ap (λ o. option_to_list o ++ lines rest) none ∙ ap (λ v. lines (v ++ rest)) (sym empty))
-
-  -- a newline behind a part that spells a line
-  pub Goes-line : (p : Point M D) (part : List ℕ) (b : ℕ) (q : Point M D) (part' : List ℕ) (line : Line) → b ≡ 10 → part' ≡ [] → list_any is_newline part ≡ false → line_of part ≡ Some line
-      → Runs Session p (line ∷ []) q → Goes Session p part (b ∷ []) q part'
-  Goes-line p part b q part' line newline empty whole some g = record { ls = line ∷ []; cuts = line_cut part b part' line newline empty whole some; steps = g }
+  -- bytes that end a line
+  pub Goes-line : (p : Point M D) (part bytes : List ℕ) (q : Point M D) (part' : List ℕ) (line : Line) → ((rest : List ℕ) → lines (part ++ (bytes ++ rest)) ≡ line ∷ lines (part' ++ rest)) → Runs Session p (line ∷ []) q
+      → Goes Session p part bytes q part'
+  Goes-line p part bytes q part' line cuts g = record { ls = line ∷ []; cuts = cuts; steps = g }
 
   pub Goes-then : (p : Point M D) (part xs : List ℕ) (q : Point M D) (part' ys : List ℕ) (r : Point M D) (part'' : List ℕ) → Goes Session p part xs q part' → Goes Session q part' ys r part'' → Goes Session p part (xs ++ ys) r part''
   Goes-then p part xs q part' ys r part'' g h = record {
@@ -67,11 +53,11 @@ module _ {M D : Type 0} (Session : Entry M D → List Line → Point M D → Typ
     steps = Runs-then p g.ls q h.ls r g.steps h.steps;
   }
 
-  -- one byte more of a piece
-  pub Goes-next : (p : Point M D) (part bytes : List ℕ) (i : ℕ) (q : Point M D) (part' : List ℕ) (r : Point M D) (part'' : List ℕ) → i < length bytes
-      → Goes Session p part (take i bytes) q part' → Goes Session q part' (get_or bytes i 0 ∷ []) r part'' → Goes Session p part (take (i + 1) bytes) r part''
-  Goes-next p part bytes i q part' r part'' within g h =
-      subst (λ (v : List ℕ). Goes Session p part v r part'') (sym (take_more bytes i 0 within)) (Goes-then p part (take i bytes) q part' (get_or bytes i 0 ∷ []) r part'' g h)
+  -- all of a piece
+  pub Goes-all : (p : Point M D) (part bytes done rest : List ℕ) (q : Point M D) (part' part'' : List ℕ) → done ++ rest ≡ bytes → Goes Session p part done q part' → ((more : List ℕ) → lines (part' ++ (rest ++ more)) ≡ lines (part'' ++ more))
+      → Goes Session p part bytes q part''
+  Goes-all p part bytes done rest q part' part'' split g same =
+      subst (λ (v : List ℕ). Goes Session p part v q part'') split (Goes-then p part done q part' rest q part'' g (Goes-on q part' rest part'' same))
 
   -- the last part, which no newline ends
   pub Runs-last : (p : Point M D) (part : List ℕ) (q : Point M D) (line : Line) → list_any is_newline part ≡ false → line_of part ≡ Some line → Runs Session p (line ∷ []) q → Runs Session p (lines part) q
@@ -87,12 +73,12 @@ module _ {M D : Type 0} (Session : Entry M D → List Line → Point M D → Typ
   Runs-halts : (e : Ended) (p : Point M D) (xs : List Line) (q : Point M D) (ys : List Line) (r : Point M D) → Runs Session p xs q → Halts Session Broken e q ys r → Halts Session Broken e p (xs ++ ys) r
   Runs-halts e p xs q ys r g h = λ entry sofar a. subst (λ (v : List Line). (put : List ℕ) × Broken e entry v put r) (append_assoc sofar xs ys) (h entry (sofar ++ xs) (g entry sofar a))
 
-  pub Breaks-line : (e : Ended) (p : Point M D) (part : List ℕ) (b : ℕ) (part' : List ℕ) (line : Line) (q : Point M D) → b ≡ 10 → part' ≡ [] → list_any is_newline part ≡ false → line_of part ≡ Some line
-      → Halts Session Broken e p (line ∷ []) q → Breaks Session Broken e p part (b ∷ []) q
-  Breaks-line e p part b part' line q newline empty whole some h = record {
+  pub Breaks-line : (e : Ended) (p : Point M D) (part bytes part' : List ℕ) (line : Line) (q : Point M D) → ((rest : List ℕ) → lines (part ++ (bytes ++ rest)) ≡ line ∷ lines (part' ++ rest)) → Halts Session Broken e p (line ∷ []) q
+      → Breaks Session Broken e p part bytes q
+  Breaks-line e p part bytes part' line q cuts h = record {
     ls = line ∷ [];
     behind = part';
-    cuts = line_cut part b part' line newline empty whole some;
+    cuts = cuts;
     halts = h;
   }
 
@@ -114,12 +100,11 @@ module _ {M D : Type 0} (Session : Entry M D → List Line → Point M D → Typ
     halts = h.halts;
   }
 
-  pub Breaks-next : (e : Ended) (p : Point M D) (part bytes : List ℕ) (i : ℕ) (q : Point M D) (part' : List ℕ) (r : Point M D) → i < length bytes
-      → Goes Session p part (take i bytes) q part' → Breaks Session Broken e q part' (get_or bytes i 0 ∷ []) r → Breaks Session Broken e p part bytes r
-  Breaks-next e p part bytes i q part' r within g h =
-      let front : Breaks Session Broken e p part (take (i + 1) bytes) r =
-      subst (λ (v : List ℕ). Breaks Session Broken e p part v r) (sym (take_more bytes i 0 within)) (Goes-breaks e p part (take i bytes) q part' (get_or bytes i 0 ∷ []) r g h) in
-      subst (λ (v : List ℕ). Breaks Session Broken e p part v r) (take-append-drop (i + 1) bytes) (Breaks-more e p part (take (i + 1) bytes) (drop (i + 1) bytes) r front)
+  pub Breaks-next : (e : Ended) (p : Point M D) (part bytes done rest ended more : List ℕ) (q : Point M D) (part' : List ℕ) (r : Point M D) → done ++ rest ≡ bytes → rest ≡ ended ++ more
+      → Goes Session p part done q part' → Breaks Session Broken e q part' ended r → Breaks Session Broken e p part bytes r
+  Breaks-next e p part bytes done rest ended more q part' r split next g h =
+      subst (λ (v : List ℕ). Breaks Session Broken e p part v r) (append_assoc done ended more ∙ ap (λ v. done ++ v) (sym next) ∙ split)
+      (Breaks-more e p part (done ++ ended) more r (Goes-breaks e p part done q part' ended r g h))
 
   pub Halts-last : (e : Ended) (p : Point M D) (part : List ℕ) (q : Point M D) (line : Line) → list_any is_newline part ≡ false → line_of part ≡ Some line → Halts Session Broken e p (line ∷ []) q
       → Halts Session Broken e p (lines part) q

@@ -7,3 +7,4 @@ mod PartialLemmas
 mod ReadingSteps
 mod Results
 mod SessionSteps
+pub mod NextLines

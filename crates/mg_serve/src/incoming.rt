@@ -1,6 +1,6 @@
 // Bytes come, and the lines that they end are stepped.
-ghost use Rattle.std.specs.Prelude.{◌≡◌, ◌<◌, ◌≤◌, [], ◌∷◌, false, Err, IfErr, IsTrue, OnOk};
-ghost use Rattle.std.specs.List.{list_any};
+ghost use Rattle.std.specs.Prelude.{◌≡◌, ◌<◌, ◌≤◌, [], ◌∷◌, ◌++◌, false, length, not, Err, IfErr, IfNone, IfSome, IsTrue, OnOk};
+ghost use Rattle.std.specs.List.{list_any, prefix_len};
 ghost use Rattle.mg_disk.specs.Stops.{NothingPending};
 ghost use Rattle.mg_model.specs.Lines.{lines};
 ghost use Rattle.mg_model.specs.Words.{is_newline};
@@ -19,14 +19,14 @@ use mg_io::Sink;
 use mg_model::Steps;
 use std::sync::ledger::Ledger;
 
-/// One byte came.
-fn take_byte<M: Machine, D: Disk, K: Sink, L: Ledger>(
+/// The rest of a line came, and its newline.
+fn take_ended<M: Machine, D: Disk, K: Sink, L: Ledger>(
     machine: &mut M,
     disk: &mut D,
     sink: &mut K,
     owed: &mut Buffers,
     part: &mut PartialLine,
-    b: u8,
+    rest: &[u8],
     batch: u64,
     steps: &mut Steps<L>,
 ) -> Result<(), Ended>
@@ -35,11 +35,12 @@ fn take_byte<M: Machine, D: Disk, K: Sink, L: Ledger>(
     requires staged { M.staged_of machine.old ≤ 28 }
     requires open_batch { owed.old.count < batch }
     requires small { batch ≤ 64 }
+    requires no_newline { list_any is_newline rest.now ≡ false }
     ensures goes { OnOk result (Goes (Session M.Machine D.Disk)
-        (record { machine = machine.old; disk = disk.old; owed = owed.old; taken = K.taken sink.old; steps = steps.old }) part.old (b ∷ [])
+        (record { machine = machine.old; disk = disk.old; owed = owed.old; taken = K.taken sink.old; steps = steps.old }) part.old (rest.now ++ 10 ∷ [])
         (record { machine = machine.new; disk = disk.new; owed = owed.new; taken = K.taken sink.new; steps = steps.new }) part.new) }
     ensures breaks { IfErr result (λ e. Breaks (Session M.Machine D.Disk) (Broken M.Machine D.Disk batch) e
-        (record { machine = machine.old; disk = disk.old; owed = owed.old; taken = K.taken sink.old; steps = steps.old }) part.old (b ∷ [])
+        (record { machine = machine.old; disk = disk.old; owed = owed.old; taken = K.taken sink.old; steps = steps.old }) part.old (rest.now ++ 10 ∷ [])
         (record { machine = machine.new; disk = disk.new; owed = owed.new; taken = K.taken sink.new; steps = steps.new })) }
     ensures whole { list_any is_newline part.new ≡ false }
     ensures keeps { Keeps M.Machine D.Disk K.Sink machine.old disk.old sink.old steps.old result machine.new disk.new sink.new steps.new }
@@ -47,11 +48,7 @@ fn take_byte<M: Machine, D: Disk, K: Sink, L: Ledger>(
     ensures open_batch { OnOk result (owed.new.count < batch) }
     ensures only { IfErr result IsInside }
 {
-    if b != b'\n' {
-        part.add(b);
-        return Ok(());
-    }
-    match part.finish() {
+    match part.finish_with(rest) {
         None => Ok(()),
         Some(line) => take_line(machine, disk, sink, owed, &line, batch, steps),
     }
@@ -86,13 +83,43 @@ pub(crate) fn take_bytes<M: Machine, D: Disk, K: Sink, L: Ledger>(
     ensures open_batch { OnOk result (owed.new.count < batch) }
     ensures only { IfErr result IsInside }
 {
-    for b in bytes {
-        match take_byte(machine, disk, sink, owed, part, *b, batch, steps) {
-            Ok(()) => {}
-            Err(ended) => return Err(ended),
+    let mut rest = bytes;
+    loop {
+        match next_ended(rest) {
+            None => {
+                part.add_all(rest);
+                return Ok(());
+            }
+            Some((line, more)) => {
+                match take_ended(machine, disk, sink, owed, part, line, batch, steps) {
+                    Ok(()) => rest = more,
+                    Err(ended) => return Err(ended),
+                }
+            }
         }
     }
-    Ok(())
+}
+
+// The bytes before the first newline and those behind it; None where there is none.
+fn next_ended(bytes: &[u8]) -> Option<(&[u8], &[u8])>
+    ensures none { IfNone result (list_any is_newline bytes.now ≡ false) }
+    ensures line { IfSome result (λ p. list_any is_newline p.0.now ≡ false) }
+    ensures split { IfSome result (λ p. bytes.now ≡ (p.0.now ++ 10 ∷ []) ++ p.1.now) }
+{
+    let count = before_newline(bytes);
+    if count < bytes.len() {
+        Some((&bytes[..count], &bytes[count + 1..]))
+    } else {
+        None
+    }
+}
+
+// How many bytes stand before the first newline.
+fn before_newline(bytes: &[u8]) -> usize
+    ensures count { result ≡ prefix_len (λ b. not (is_newline b)) bytes.now }
+    ensures within { result ≤ length bytes.now }
+{
+    bytes.iter().take_while(|b| **b != b'\n').count()
 }
 
 /// The input ended: the last line, which may lack its newline, is stepped, and the batch closes.

@@ -1,11 +1,13 @@
-use Rattle.std.proofs.Common.{arith, refl, ◌∙◌}
+use Rattle.std.proofs.Common.{◌∷◌, ◌++◌, [], List, ℕ, refl, sym, ap, ◌∙◌, append_assoc}
 use Rattle.mg_faults.specs.Faults.{count_none, count_then}
 use Rattle.mg_serve.specs.Serving.{Broken, Session}
-use Rattle.mg_serve.proofs.IncomingSteps.{Breaks-next, Goes-next, Goes-none, alike_none, alike_then, keeps_then}
+use Rattle.mg_serve.proofs.IncomingSteps.{Breaks-next, Goes-all, Goes-none, Goes-then, alike_none, alike_then, keeps_then}
 use Rattle.mg_serve.proofs.incoming.take_bytes.Goals as goal
 
-pub loop-b-init : goal.loop-b-init
-loop-b-init g c = record {
+pub loop-part-init : goal.loop-part-init
+loop-part-init g c = record {
+  done = [];
+  split = refl;
   goes = Goes-none (Session g.M.Machine g.D.Disk) (record { machine = c.args.machine.now; disk = c.args.disk.now; owed = c.args.owed.now; taken = g.K.Sink.taken c.args.sink.now; steps = c.args.steps.now }) c.args.part.now;
   whole = c.requires.whole;
   live = c.requires.live;
@@ -18,25 +20,33 @@ loop-b-init g c = record {
   sink_count = count_none _ _;
 }
 
-pub loop-b-preserved : goal.loop-b-preserved
-loop-b-preserved g c = record {
-  goes = Goes-next (Session g.M.Machine g.D.Disk) (record { machine = c.args.machine.now; disk = c.args.disk.now; owed = c.args.owed.now; taken = g.K.Sink.taken c.args.sink.now; steps = c.args.steps.now }) c.args.part.now c.args.bytes.now c.loop-b.b-index (record { machine = c.loop-b.machine; disk = c.loop-b.disk; owed = c.loop-b.owed; taken = g.K.Sink.taken c.loop-b.sink; steps = c.loop-b.steps }) c.loop-b.part (record { machine = c.take_byte.new.machine; disk = c.take_byte.new.disk; owed = c.take_byte.new.owed; taken = g.K.Sink.taken c.take_byte.new.sink; steps = c.take_byte.new.steps }) c.take_byte.new.part (omega arith) c.loop-b.invariant.goes c.in-Ok.ensures.goes;
-  whole = c.in-Ok.ensures.whole;
-  live = c.in-Ok.ensures.keeps.live;
-  stands = c.in-Ok.ensures.keeps.stands;
-  staged = c.in-Ok.ensures.staged;
-  open_batch = c.in-Ok.ensures.open_batch;
-  counted = alike_then (g.M.Machine.words_in c.args.machine.now) (g.M.Machine.words_in c.loop-b.machine) (g.M.Machine.words_in c.take_byte.new.machine) c.args.steps.now c.loop-b.steps c.take_byte.new.steps c.loop-b.invariant.counted c.in-Ok.ensures.keeps.counted;
-  blocks = c.in-Ok.ensures.keeps.calls.blocks ∙ c.loop-b.invariant.blocks;
-  disk_count = count_then _ _ _ _ _ _ c.loop-b.invariant.disk_count c.in-Ok.ensures.keeps.calls.count;
-  sink_count = count_then _ _ _ _ _ _ c.loop-b.invariant.sink_count c.in-Ok.ensures.keeps.sink_count;
-}
+pub loop-part-preserved : goal.loop-part-preserved
+loop-part-preserved g c =
+    let done = c.loop-part.invariant.done in
+    let ended : List ℕ = c.in-Some.line.now ++ 10 ∷ [] in
+    record {
+      done = done ++ ended;
+      split = append_assoc done ended c.in-Some.more.now ∙ ap (λ v. done ++ v) (sym c.in-Some.ensures.split) ∙ c.loop-part.invariant.split;
+      goes = Goes-then (Session g.M.Machine g.D.Disk) (record { machine = c.args.machine.now; disk = c.args.disk.now; owed = c.args.owed.now; taken = g.K.Sink.taken c.args.sink.now; steps = c.args.steps.now }) c.args.part.now done (record { machine = c.loop-part.machine; disk = c.loop-part.disk; owed = c.loop-part.owed; taken = g.K.Sink.taken c.loop-part.sink; steps = c.loop-part.steps }) c.loop-part.part ended (record { machine = c.take_ended.new.machine; disk = c.take_ended.new.disk; owed = c.take_ended.new.owed; taken = g.K.Sink.taken c.take_ended.new.sink; steps = c.take_ended.new.steps }) c.take_ended.new.part c.loop-part.invariant.goes c.in-Ok.ensures.goes;
+      whole = c.in-Ok.ensures.whole;
+      live = c.in-Ok.ensures.keeps.live;
+      stands = c.in-Ok.ensures.keeps.stands;
+      staged = c.in-Ok.ensures.staged;
+      open_batch = c.in-Ok.ensures.open_batch;
+      counted = alike_then (g.M.Machine.words_in c.args.machine.now) (g.M.Machine.words_in c.loop-part.machine) (g.M.Machine.words_in c.take_ended.new.machine) c.args.steps.now c.loop-part.steps c.take_ended.new.steps c.loop-part.invariant.counted c.in-Ok.ensures.keeps.counted;
+      blocks = c.in-Ok.ensures.keeps.calls.blocks ∙ c.loop-part.invariant.blocks;
+      disk_count = count_then _ _ _ _ _ _ c.loop-part.invariant.disk_count c.in-Ok.ensures.keeps.calls.count;
+      sink_count = count_then _ _ _ _ _ _ c.loop-part.invariant.sink_count c.in-Ok.ensures.keeps.sink_count;
+    }
+
+pub returns-in-None-clause-goes : goal.returns-in-None-clause-goes
+returns-in-None-clause-goes g c = Goes-all (Session g.M.Machine g.D.Disk) (record { machine = c.args.machine.now; disk = c.args.disk.now; owed = c.args.owed.now; taken = g.K.Sink.taken c.args.sink.now; steps = c.args.steps.now }) c.args.part.now c.args.bytes.now c.loop-part.invariant.done c.loop-part.rest.now (record { machine = c.loop-part.machine; disk = c.loop-part.disk; owed = c.loop-part.owed; taken = g.K.Sink.taken c.loop-part.sink; steps = c.loop-part.steps }) c.loop-part.part c.add_all.new.self c.loop-part.invariant.split c.loop-part.invariant.goes c.add_all.ensures.same
 
 pub returns-in-Err-clause-breaks : goal.returns-in-Err-clause-breaks
 returns-in-Err-clause-breaks g c =
-    Breaks-next (Session g.M.Machine g.D.Disk) (Broken g.M.Machine g.D.Disk c.args.batch) c.in-Err.ended (record { machine = c.args.machine.now; disk = c.args.disk.now; owed = c.args.owed.now; taken = g.K.Sink.taken c.args.sink.now; steps = c.args.steps.now }) c.args.part.now c.args.bytes.now c.loop-b.b-index (record { machine = c.loop-b.machine; disk = c.loop-b.disk; owed = c.loop-b.owed; taken = g.K.Sink.taken c.loop-b.sink; steps = c.loop-b.steps }) c.loop-b.part (record { machine = c.take_byte.new.machine; disk = c.take_byte.new.disk; owed = c.take_byte.new.owed; taken = g.K.Sink.taken c.take_byte.new.sink; steps = c.take_byte.new.steps }) (omega arith) c.loop-b.invariant.goes c.in-Err.ensures.breaks
+    Breaks-next (Session g.M.Machine g.D.Disk) (Broken g.M.Machine g.D.Disk c.args.batch) c.in-Err.ended (record { machine = c.args.machine.now; disk = c.args.disk.now; owed = c.args.owed.now; taken = g.K.Sink.taken c.args.sink.now; steps = c.args.steps.now }) c.args.part.now c.args.bytes.now c.loop-part.invariant.done c.loop-part.rest.now (c.in-Some.line.now ++ 10 ∷ []) c.in-Some.more.now (record { machine = c.loop-part.machine; disk = c.loop-part.disk; owed = c.loop-part.owed; taken = g.K.Sink.taken c.loop-part.sink; steps = c.loop-part.steps }) c.loop-part.part (record { machine = c.take_ended.new.machine; disk = c.take_ended.new.disk; owed = c.take_ended.new.owed; taken = g.K.Sink.taken c.take_ended.new.sink; steps = c.take_ended.new.steps }) c.loop-part.invariant.split c.in-Some.ensures.split c.loop-part.invariant.goes c.in-Err.ensures.breaks
 
 pub returns-in-Err-clause-keeps : goal.returns-in-Err-clause-keeps
 returns-in-Err-clause-keeps g c =
-    keeps_then g.M.Machine g.D.Disk g.K.Sink c.args.machine.now c.loop-b.machine c.take_byte.new.machine c.args.disk.now c.loop-b.disk c.take_byte.new.disk c.args.sink.now c.loop-b.sink c.take_byte.new.sink c.args.steps.now c.loop-b.steps c.take_byte.new.steps _
-    c.loop-b.invariant.counted c.loop-b.invariant.blocks c.loop-b.invariant.disk_count c.loop-b.invariant.sink_count c.in-Err.ensures.keeps
+    keeps_then g.M.Machine g.D.Disk g.K.Sink c.args.machine.now c.loop-part.machine c.take_ended.new.machine c.args.disk.now c.loop-part.disk c.take_ended.new.disk c.args.sink.now c.loop-part.sink c.take_ended.new.sink c.args.steps.now c.loop-part.steps c.take_ended.new.steps _
+    c.loop-part.invariant.counted c.loop-part.invariant.blocks c.loop-part.invariant.disk_count c.loop-part.invariant.sink_count c.in-Err.ensures.keeps

@@ -1,4 +1,4 @@
-use Rattle.std.proofs.Common.{◌≡◌, ◌<◌, ◌≤◌, false, take}
+use Rattle.std.proofs.Common.{◌≡◌, ◌<◌, ◌≤◌, ◌++◌, ℕ, List, false, length}
 use Rattle.std.specs.Prelude.{IsTrue}
 use Rattle.std.specs.List.{list_any}
 use Rattle.mg_disk.specs.Stops.{CountGoes}
@@ -9,9 +9,11 @@ use Rattle.mg_serve.specs.Incoming.{Goes}
 use Rattle.mg_serve.specs.Serving.{Session}
 use Rattle.mg_serve.proofs.incoming.take_bytes.Given as goal
 
-abbrev pub invariant-loop-b : goal.invariant-loop-b
-invariant-loop-b g l = record {
-  goes : Goes (Session g.M.Machine g.D.Disk) (record { machine = l.initial.machine; disk = l.initial.disk; owed = l.initial.owed; taken = g.K.Sink.taken l.initial.sink; steps = l.initial.steps }) l.initial.part (take l.b-index l.bytes) (record { machine = l.machine; disk = l.disk; owed = l.owed; taken = g.K.Sink.taken l.sink; steps = l.steps }) l.part;
+abbrev pub invariant-loop-part : goal.invariant-loop-part
+invariant-loop-part g l = record {
+  done : List ℕ;
+  split : done ++ l.rest ≡ l.bytes;
+  goes : Goes (Session g.M.Machine g.D.Disk) (record { machine = l.initial.machine; disk = l.initial.disk; owed = l.initial.owed; taken = g.K.Sink.taken l.initial.sink; steps = l.initial.steps }) l.initial.part (done) (record { machine = l.machine; disk = l.disk; owed = l.owed; taken = g.K.Sink.taken l.sink; steps = l.steps }) l.part;
   whole : list_any is_newline l.part ≡ false;
   live : IsTrue (g.M.Machine.is_live l.machine);
   stands : g.M.Machine.StandsOn _ g.D.Disk l.machine l.disk;
@@ -22,3 +24,6 @@ invariant-loop-b g l = record {
   disk_count : CountGoes g.D.Disk l.initial.disk l.disk;
   sink_count : CountGoesOn (g.K.Sink.faults l.initial.sink) (g.K.Sink.faults l.sink) (g.K.Sink.is_spent l.initial.sink) (g.K.Sink.is_spent l.sink);
 }
+
+abbrev pub decreases-loop-part : goal.decreases-loop-part
+decreases-loop-part g l = length l.rest
