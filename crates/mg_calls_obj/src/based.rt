@@ -1,6 +1,7 @@
 // The calls on an object, by its base.
 ghost use Rattle.std.specs.Prelude.{◌≡◌, ◌≤◌, ◌==◌, true, find, Some};
-ghost use Rattle.mg_calls_obj.specs.Based.{ActsBacked, OfBase, based, is_object};
+ghost use Rattle.mg_calls_dom.specs.Backing.{StayBacked};
+ghost use Rattle.mg_calls_obj.specs.Based.{OfBase, based, is_object};
 ghost use Rattle.mg_model.specs.Backed.{by_via};
 ghost use Rattle.mg_model.specs.ObjectCalls as calls;
 ghost use Rattle.mg_vcache.specs.Drops.{Drops};
@@ -10,21 +11,20 @@ ghost use Rattle.mg_volume.specs.Meaning.{objects_in, staged_of};
 use crate::altering::{entry_by_row, ext_by_row, recharge_by_row};
 use crate::making::delete_by_row;
 use crate::passwords::{pwadd_by_row, pwdel_by_row};
-use mg_laws::steps_keep_backing;
 use mg_model::{ObjRow, Reply, Right, Rights};
 use mg_vcache::VCache;
 use mg_volume::Volume;
 
 /// The object with this base goes, and its pages read as zeros, should another object have them. All rights that were found for it
-/// or in it end. Whether a thread has the right is not asked, here as in the calls below: `on_object` asks.
+/// or in it end, and the others stay ones that the state gives. Whether a thread has the right is not asked, here as in the calls
+/// below: `on_object` asks.
 pub fn delete(v: &mut Volume, c: &mut VCache, base: u64) -> Reply
     requires there { is_object v.old base ≡ true }
     requires at_most_30_staged { staged_of v.old ≤ 30 }
     ensures does { OfBase base v.old (λ object. CallStages (Acts (λ state t a. calls.delete state t a) Right.D object) 129 v.old v.new result) }
     ensures seats { Drops (by_via base) c.old c.new result }
-    ensures backed { OfBase base v.old (λ object. ActsBacked Right.D object v.old v.new c.old c.new) }
+    ensures backed { StayBacked v.old v.new c.old c.new }
 {
-    steps_keep_backing();
     let object = object_at(v, base);
     delete_by_row(v, c, object)
 }
@@ -42,15 +42,14 @@ pub fn pwadd(v: &mut Volume, base: u64, rights: Rights, until: Option<u64>) -> R
 }
 
 /// Every password row with this password goes of the object with this base, be it current or not, and with them all rights that
-/// were found for the object or in it. An object without one is refused (NoPassword).
+/// were found for the object or in it; the others stay ones that the state gives. An object without one is refused (NoPassword).
 pub fn pwdel(v: &mut Volume, c: &mut VCache, base: u64, password: u64) -> Reply
     requires there { is_object v.old base ≡ true }
     requires at_most_159_staged { staged_of v.old ≤ 159 }
     ensures does { OfBase base v.old (λ object. CallStages (Acts (λ state t a. calls.pwdel state t a password) Right.O object) 1 v.old v.new result) }
     ensures seats { Drops (by_via base) c.old c.new result }
-    ensures backed { OfBase base v.old (λ object. ActsBacked Right.O object v.old v.new c.old c.new) }
+    ensures backed { StayBacked v.old v.new c.old c.new }
 {
-    steps_keep_backing();
     let object = object_at(v, base);
     pwdel_by_row(v, c, object, password)
 }

@@ -1,11 +1,13 @@
 // Objects are made, and unmade.
 ghost use Rattle.std.specs.Prelude.{◌≡◌, ◌≤◌, ◌==◌, find, Some};
+ghost use Rattle.mg_calls_obj.specs.Based.{KeepsOthers};
 ghost use Rattle.mg_vcache.specs.Drops.{Drops};
 ghost use Rattle.mg_model.specs.Backed.{by_via};
 ghost use Rattle.mg_model.specs.ObjectCalls as calls;
 ghost use Rattle.mg_volume.specs.Calls.{Acts, CallStages};
 ghost use Rattle.mg_volume.specs.Meaning.{objects_in, staged_of};
 
+use mg_laws::objects_end_their_own_seats;
 use mg_model::{ObjRow, Reply, Right};
 use mg_vcache::VCache;
 use mg_volume::Volume;
@@ -17,7 +19,9 @@ pub(crate) fn delete_by_row(v: &mut Volume, c: &mut VCache, object: ObjRow) -> R
     requires at_most_30_staged { staged_of v.old ≤ 30 }
     ensures does { CallStages (Acts (λ state t a. calls.delete state t a) Right.D object) 129 v.old v.new result }
     ensures seats { Drops (by_via object.base) c.old c.new result }
+    ensures others { KeepsOthers object.base v.old v.new }
 {
+    objects_end_their_own_seats();
     let base = object.base();
     v.remove(base);
     c.drop_via(base);

@@ -1,5 +1,6 @@
 // Passwords are added to an object, and taken away.
 ghost use Rattle.std.specs.Prelude.{◌≡◌, ◌≤◌, ◌<◌, ◌==◌, ◌||◌, ◌++◌, ◌∷◌, [], nat_le, find, length, Some};
+ghost use Rattle.mg_calls_obj.specs.Based.{KeepsOthers};
 ghost use Rattle.mg_vcache.specs.Drops.{Drops};
 ghost use Rattle.mg_model.specs.Backed.{by_via};
 ghost use Rattle.mg_model.specs.Limits.{draw_limit, never, password_limit};
@@ -8,6 +9,7 @@ ghost use Rattle.mg_model.specs.Ranges.{IsObjectRow};
 ghost use Rattle.mg_volume.specs.Calls.{Acts, CallStages};
 ghost use Rattle.mg_volume.specs.Meaning.{objects_in, staged_of};
 
+use mg_laws::objects_end_their_own_seats;
 use mg_model::limits::{DRAW_LIMIT, PASSWORD_LIMIT};
 use mg_model::{Globals, ObjRow, Pw, Refusal, Reply, Right, Rights};
 use mg_passwords::{add, remove};
@@ -47,7 +49,9 @@ pub(crate) fn pwdel_by_row(v: &mut Volume, c: &mut VCache, object: ObjRow, passw
     requires at_most_159_staged { staged_of v.old ≤ 159 }
     ensures does { CallStages (Acts (λ state t a. calls.pwdel state t a password) Right.O object) 1 v.old v.new result }
     ensures seats { Drops (by_via object.base) c.old c.new result }
+    ensures others { KeepsOthers object.base v.old v.new }
 {
+    objects_end_their_own_seats();
     let mut row = object;
     match remove(&mut row, password) {
         Ok(()) => {

@@ -18,7 +18,7 @@ use Rattle.mg_model.specs.Backed.{KeepsBacked, by_none, by_via, by_word, held_at
 use Rattle.mg_model.specs.KeptListLemmas.{All-both}
 use Rattle.mg_model.specs.Limits.{never}
 use Rattle.mg_model.specs.ObjectCalls.{create, delete, drawn, entry, ext, extension_of, has_password, is_entry, next_password, pwadd, pwdel, recharge, row_at, store, with_entry, with_row_at}
-use Rattle.mg_model.specs.Objects.{lowest_free, new_object, with_object, with_word, without_object}
+use Rattle.mg_model.specs.Objects.{lowest_free, new_object, with_object, with_row, with_word, without_object}
 use Rattle.mg_model.specs.State.{Object, ObjectRow, State}
 use Rattle.mg_model.specs.WellFormed.{IsObject, IsWellFormed}
 
@@ -62,16 +62,18 @@ pwadd-backed state t b rights until =
     (λ _ seat _. with_row-backed state (with_row_at (drawn state) b change) (row_at state b).base change seat refl refl refl (λ row. refl) (none seat.via) (none seat.base))
 
 -- a change of the row with this base ends the seats that its list gave, and those for its object
+pub change-backed : (state : State) (base : ℕ) (change : ObjectRow → ObjectRow) → ((row : ObjectRow) → (change row).base ≡ row.base) → KeepsBacked (by_via base) state (record state { objects = with_row base change state.objects })
+change-backed state base change same seat stays =
+    let others = or_parts (eqb seat.via base) (eqb seat.base base) stays in
+    with_row-backed state (record state { objects = with_row base change state.objects }) base change seat refl refl refl same
+    (λ it. absurd (eqb-false _ _ others.0 (sym it)))
+    (λ it. absurd (eqb-false _ _ others.1 (sym it)))
+
 pub pwdel-backed : (state : State) (t b password : ℕ) → KeepsBacked (by_via (row_at state b).base) state (pwdel state t b password).0
 pwdel-backed state t b password =
-    let x = (row_at state b).base in
+    let base = (row_at state b).base in
     let change : ObjectRow → ObjectRow = λ object. record object { passwords = filter (λ pw. not (has_password password pw)) object.passwords } in
-    unless_refused-backed (by_via x) state _ (with_row_at state b change, _)
-    (λ _ seat stays.
-    let others = or_parts (eqb seat.via x) (eqb seat.base x) stays in
-    with_row-backed state (with_row_at state b change) x change seat refl refl refl (λ row. refl)
-    (λ same. absurd (eqb-false _ _ others.0 (sym same)))
-    (λ same. absurd (eqb-false _ _ others.1 (sym same))))
+    unless_refused-backed (by_via base) state _ (with_row_at state b change, _) (λ _. change-backed state base change (λ row. refl))
 
 -- one object less
 find-without_object : (x base : ℕ) (objects : List Object) → base ≢ x → based_at (without_object x objects) base ≡ based_at objects base
@@ -79,16 +81,19 @@ find-without_object x base objects other =
     find-filter (λ (o : Object). eqb o.row.base base) (λ (o : Object). not (eqb o.row.base x))
     (λ o same. ap not (ne_eqb o.row.base x (λ it. other (sym (eqb-true _ _ same) ∙ it)))) objects
 
+pub gone-backed : (state : State) (base : ℕ) → KeepsBacked (by_via base) state (record state { objects = without_object base state.objects })
+gone-backed state base seat stays =
+    let new : State = record state { objects = without_object base state.objects } in
+    let others = or_parts (eqb seat.via base) (eqb seat.base base) stays in
+    let via : based_at new.objects seat.via ≡ based_at state.objects seat.via = find-without_object base seat.via state.objects (eqb-false _ _ others.0) in
+    let object : based_at new.objects seat.base ≡ based_at state.objects seat.base = find-without_object base seat.base state.objects (eqb-false _ _ others.1) in
+    found-backed state new seat refl refl via object
+
 pub delete-backed : (state : State) (t b : ℕ) → KeepsBacked (by_via (row_at state b).base) state (delete state t b).0
 delete-backed state t b =
-    let x = (row_at state b).base in
-    let new : State = record state { objects = without_object x state.objects } in
-    unless_refused-backed (by_via x) state _ (new, _)
-    (λ _ seat stays.
-    let others = or_parts (eqb seat.via x) (eqb seat.base x) stays in
-    let via : based_at new.objects seat.via ≡ based_at state.objects seat.via = find-without_object x seat.via state.objects (eqb-false _ _ others.0) in
-    let base : based_at new.objects seat.base ≡ based_at state.objects seat.base = find-without_object x seat.base state.objects (eqb-false _ _ others.1) in
-    found-backed state new seat refl refl via base)
+    let base = (row_at state b).base in
+    let new : State = record state { objects = without_object base state.objects } in
+    unless_refused-backed (by_via base) state _ (new, _) (λ _. gone-backed state base)
 
 -- one object more: another base finds what it found
 find-with_object : (new : Object) (base : ℕ) (objects : List Object) → new.row.base ≢ base → based_at (with_object new objects) base ≡ based_at objects base

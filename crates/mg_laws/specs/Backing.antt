@@ -7,9 +7,10 @@ use Rattle.mg_model.specs.declared.rights.Right.{Right}
 use Rattle.mg_model.specs.declared.seats.Seat.{Seat}
 use Rattle.mg_model.specs.declared.slots.Slot.{Slot}
 use Rattle.mg_model.specs.Access.{at, domain_of, entries_under, holds}
-use Rattle.mg_model.specs.Backed.{IsBacked, KeepsBacked, by_list, by_none, by_word, ended_by, ended_by_call}
+use Rattle.mg_model.specs.Backed.{IsBacked, KeepsBacked, by_list, by_none, by_via, by_word, ended_by, ended_by_call}
 use Rattle.mg_model.specs.Domains.{row_of, with_thread}
-use Rattle.mg_model.specs.State.{Object, State, ThreadRow}
+use Rattle.mg_model.specs.Objects.{with_row, without_object}
+use Rattle.mg_model.specs.State.{Object, ObjectRow, State, ThreadRow}
 use Rattle.mg_model.specs.WellFormed.{IsWellFormed}
 
 -- a line leaves each seat backed that was backed, but for those that it ends
@@ -54,3 +55,11 @@ BackingRestsOnDomain =
 -- so a change of a thread's row that leaves its frames ends none
 abbrev pub FramesKeepBacked : Type 0
 FramesKeepBacked = (state : State) (t : ℕ) (change : ThreadRow → ThreadRow) → ((row : ThreadRow) → row_of state t ≡ Some row → (change row).frames ≡ row.frames) → KeepsBacked by_none state (with_thread state t change)
+
+-- an object that goes ends no seats but those that its list gave and those that are for it, in any state
+abbrev pub GoneKeepsOthers : Type 0
+GoneKeepsOthers = (state : State) (base : ℕ) → KeepsBacked (by_via base) state (record state { objects = without_object base state.objects })
+
+-- nor does another row in place of the object's own, with the same base
+abbrev pub ChangeKeepsOthers : Type 0
+ChangeKeepsOthers = (state : State) (base : ℕ) (change : ObjectRow → ObjectRow) → ((row : ObjectRow) → (change row).base ≡ row.base) → KeepsBacked (by_via base) state (record state { objects = with_row base change state.objects })

@@ -1,5 +1,5 @@
 // Laws on what the seats of the validation cache rest on.
-ghost use Rattle.mg_laws.specs.Backing.{AllowedIsBacked, BackedAllows, BackingRestsOnDomain, CallsKeepBacked, EndsOneList, FramesKeepBacked, OpeningBacks, StepsKeepBacked};
+ghost use Rattle.mg_laws.specs.Backing.{AllowedIsBacked, BackedAllows, BackingRestsOnDomain, CallsKeepBacked, ChangeKeepsOthers, EndsOneList, FramesKeepBacked, GoneKeepsOthers, OpeningBacks, StepsKeepBacked};
 ghost use Rattle.mg_model.specs.Access.{allowed};
 ghost use Rattle.mg_model.specs.Step.{step};
 ghost use Rattle.mg_model.specs.Turn.{thread_call};
@@ -30,4 +30,11 @@ pub fn stores_end_one_list()
 pub fn backing_rests_on_the_domain()
     ensures rests { BackingRestsOnDomain }
     ensures frames { FramesKeepBacked }
+{}
+
+/// An object that goes, or whose row changes but for the base, ends no seats but those that its list gave or that are for it.
+/// This holds of every state, whoever may reach the object.
+pub fn objects_end_their_own_seats()
+    ensures gone { GoneKeepsOthers }
+    ensures changed { ChangeKeepsOthers }
 {}

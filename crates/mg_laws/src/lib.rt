@@ -20,7 +20,8 @@ ghost use Rattle.mg_model.specs.Turn.{next, thread_call, turn_state};
 ghost use Rattle.mg_model.specs.WellFormed.{KeepsWellFormed};
 
 pub use backing::{
-    backed_seats_are_allowed, backing_rests_on_the_domain, steps_keep_backing, stores_end_one_list,
+    backed_seats_are_allowed, backing_rests_on_the_domain, objects_end_their_own_seats,
+    steps_keep_backing, stores_end_one_list,
 };
 pub use costs::{
     accesses_go_on, accesses_keep_the_rules_of_a_line, costs_add_up, lines_cost_no_more,

@@ -1,19 +1,8 @@
-use Rattle.std.specs.Prelude.{IfSome}
-use Rattle.std.proofs.Common.{subst, sym}
-use Rattle.mg_calls_obj.proofs.DropsBacked.{acts_backed}
-use Rattle.mg_calls_obj.specs.Based.{ActsBacked}
-use Rattle.mg_model.specs.declared.calls.Call.TheVariants as call
-use Rattle.mg_model.specs.declared.rights.Right.TheVariants.{D}
-use Rattle.mg_model.specs.ObjectCalls.{delete}
+use Rattle.mg_calls_obj.proofs.DropsBacked.{others_stay}
 use Rattle.mg_model.specs.State.{ObjectRow}
 use Rattle.mg_calls_obj.proofs.based.delete.Goals as goal
 
 pub returns-clause-backed : goal.returns-clause-backed
 returns-clause-backed c =
-    let object = c.object_at-object.result in
-    let old = c.args.v.now in
-    let new = c.delete_by_row.new.v in
-    let seats = c.args.c.now in
-    let left = c.delete_by_row.new.c in
-    subst (λ o. IfSome o (λ (object : ObjectRow). ActsBacked D object old new seats left)) (sym c.object_at-object.ensures.held)
-    (acts_backed (λ state t a. delete state t a) D object 129 old new seats left c.delete_by_row.result (λ state t a formed. c.steps_keep_backing.ensures.calls state t (call.Delete a) formed) c.delete_by_row.ensures.does c.delete_by_row.ensures.seats)
+    let object : ObjectRow = c.object_at-object.result in
+    others_stay object.base c.args.v.now c.delete_by_row.new.v c.args.c.now c.delete_by_row.new.c c.delete_by_row.result c.delete_by_row.ensures.others c.delete_by_row.ensures.does.refused c.delete_by_row.ensures.seats

@@ -1,6 +1,7 @@
 use Rattle.std.specs.Prelude.{◌≡◌, Bool, true, false, if◌then◌else◌, Result, Ok, Err}
 use Rattle.std.specs.List.{list_any}
 use Rattle.std.proofs.Common.{refl, sym, ap, ◌∙◌, rules}
+use Rattle.mg_calls_obj.proofs.DropsBacked.{change_keeps}
 use Rattle.mg_calls_obj.proofs.Rows.{change_gives, pwdel-is, staged-is, without_password}
 use Rattle.mg_model.specs.declared.replies.Refusal.{Refusal}
 use Rattle.mg_model.specs.declared.replies.Refusal.TheVariants.{NoPassword}
@@ -28,6 +29,19 @@ returns-in-Ok-clause-does c =
     let rows = objects_in c.args.v.now in
     let now = c.change.ensures.now (without_password password) (change_gives rows rows object new refl c.requires.held base (without_password password) (sym c.remove.ensures.list)) image in
     pwdel-is state t a object named may password true has ∙ staged-is state (now_of c.change.new.self image) object new (without_password password) Done base now) (search rules)
+
+pub returns-in-Ok-clause-others : goal.returns-in-Ok-clause-others
+returns-in-Ok-clause-others c = λ image.
+    let object : ObjectRow = c.args.object in
+    let new : ObjectRow = c.remove.new.r in
+    let password = c.args.password in
+    let base : new.base ≡ object.base = ap (λ (r : ObjectRow). r.base) c.remove.ensures.list in
+    let rows = objects_in c.args.v.now in
+    let now = c.change.ensures.now (without_password password) (change_gives rows rows object new refl c.requires.held base (without_password password) (sym c.remove.ensures.list)) image in
+    change_keeps c.objects_end_their_own_seats.ensures.changed (now_of c.args.v.now image) (now_of c.change.new.self image) new.base object.base (without_password password) (λ row. refl) base now
+
+pub returns-in-Err-clause-others : goal.returns-in-Err-clause-others
+returns-in-Err-clause-others c = λ image seat stays backed. backed
 
 -- what could not be removed was not there, and is refused so
 was_missing : (has : Bool) (word : Refusal) → ◌≡◌ {A = Result (Unit {0}) Refusal} (Err word) (if has then Ok tt else Err NoPassword) → (has ≡ false) × (word ≡ NoPassword)
