@@ -3,14 +3,15 @@ use Rattle.std.proofs.Common.{◌≡◌, ℕ, ◌+◌, ◌-◌, ◌*◌, ◌/◌
 use Rattle.std.specs.Fmt.{decimal}
 use Rattle.std.specs.Option.{option_map_or}
 use Rattle.std.proofs.lemmas.Bool.{and_parts, leb-true, ltb-true}
-use Rattle.std.proofs.lemmas.Bool.Decides.{nat_tests}
 use Rattle.mg_model.specs.declared.calls.Call.TheVariants as call
 use Rattle.mg_model.specs.declared.calls.Line.{Line}
 use Rattle.mg_model.specs.Lines.{line_with, one, pwadd_of, three, two}
 use Rattle.mg_model.specs.Print.{hex_text}
 use Rattle.mg_model.specs.Words.{and_then, is_some_word, number_of, numbers_of, rights_of}
-use Rattle.mg_gen.specs.Asked.{LinesAreCalls, asked, drawn_line, entry_line, kind_line, line_asked, prepared_line}
-use Rattle.mg_gen.specs.Generated.{address_of, call_text, drawn_text, drawn_word, entry_text, kind_of, kind_text, line_text, run_object_base, object_password, prepared_text, root, stored, thread_of, treasury_password, value_of}
+use Rattle.mg_model.specs.Fresh.{root_base}
+use Rattle.mg_gen.specs.Asked.{LinesAreCalls, address_of, asked, drawn_line, entry_value, kind_line, kind_of, line_asked, prepared_line, thread_of, value_of}
+use Rattle.mg_gen.specs.Generated.{call_text, drawn_text, drawn_word, entry_text, kind_text, line_text, prepared_text, run_object_base, run_password, stored}
+use Rattle.mg_gen.proofs.Passwords.{password-fits}
 use Rattle.mg_gen.proofs.Numbers.{IsWord, decimal-word, hex-word}
 use Rattle.mg_text.specs.NumberLemmas.{High, number_of-back, number_of-hex}
 use Rattle.mg_gen.proofs.Spelled.{Spells, call-spells}
@@ -77,6 +78,9 @@ pwadd-spells t a ft fa =
     (hex-word a, (letters (codes "R") refl refl refl, tt)) (omega arith) refl
     (ap (λ o. line_with t (pwadd_of o (rights_of (codes "R")) (Some None))) (number_of-hex a fa))
 
+treasury-fits : run_password 1 < 2 ^ 64
+treasury-fits = password-fits 1 (omega arith) (omega arith)
+
 -- by a test of the table
 by_test : (b : Bool) (x y : List ℕ) (p q : Line) → (b ≡ true → Spells x p) → (b ≡ false → Spells y q) → Spells (if b then x else y) (if b then p else q)
 by_test true x y p q holds fails = holds refl
@@ -87,7 +91,7 @@ kind-spells kind t a v ft fa fv =
     by_test (nat_lt kind 6) _ _ _ _ (λ _. load-spells t a ft fa) (λ _.
     by_test (nat_lt kind 11) _ _ _ _ (λ _. store-spells t a v (decimal v) ft fa (decimal-word v fv) (number_of-back v fv)) (λ _.
     by_test (kind == 11) _ _ _ _ (λ _. info-spells t a ft fa) (λ _.
-    by_test (kind == 12) _ _ _ _ (λ _. balance-spells t 1 treasury_password ft (omega arith) (omega arith)) (λ _.
+    by_test (kind == 12) _ _ _ _ (λ _. balance-spells t 1 (run_password 1) ft (omega arith) treasury-fits) (λ _.
     by_test (kind == 13) _ _ _ _ (λ _. record { is = refl }) (λ _.
     by_test (kind == 14) _ _ _ _ (λ _. record { is = refl }) (λ _.
     pwadd-spells t a ft fa))))))
@@ -98,20 +102,22 @@ drawn-spells x = kind-spells (kind_of x) (thread_of x) (address_of x) (value_of 
 stored-spells : (a v : ℕ) → a < 2 ^ 64 → v < 2 ^ 64 → Spells (stored a v) (asked 1 (call.Store a v))
 stored-spells a v fa fv = store-spells 1 a v (hex_text v) (omega arith) fa (hex-word v) (number_of-hex v fv)
 
-password-fits : (j : ℕ) → object_password j < 2 ^ 64
-password-fits j = grind (arith, nat_tests)
+value-by : (b : Bool) (x y : ℕ) → (b ≡ true → x < 2 ^ 64) → (b ≡ false → y < 2 ^ 64) → (if b then x else y) < 2 ^ 64
+value-by true x y holds fails = holds refl
+value-by false x y holds fails = fails refl
 
-entry-spells : (m : ℕ) → m < 8 → Spells (entry_text m) (entry_line m)
-entry-spells m few =
-    by_test (m % 2 == 0) _ _ _ _ (λ _. stored-spells (root + 8 * (2 + 2 * (1 + m / 2))) (run_object_base (1 + m / 2)) (omega (arith, few)) (omega (arith, few)))
-    (λ _. stored-spells (root + 8 * (3 + 2 * (1 + m / 2))) (object_password (1 + m / 2)) (omega (arith, few)) (password-fits (1 + m / 2)))
+value-fits : (m : ℕ) → m < 8 → entry_value m < 2 ^ 64
+value-fits m few = value-by (m % 2 == 0) (run_object_base (1 + m / 2)) (run_password (2 + m / 2)) (λ _. omega (arith, few)) (λ _. password-fits (2 + m / 2) (omega arith) (omega (arith, few)))
+
+entry-spells : (m : ℕ) → m < 8 → Spells (entry_text m) (asked 1 (call.Store (root_base + 8 * (4 + m)) (entry_value m)))
+entry-spells m few = stored-spells (root_base + 8 * (4 + m)) (entry_value m) (omega (arith, few)) (value-fits m few)
 
 prepared-spells : (k : ℕ) → Spells (prepared_text k) (prepared_line k)
 prepared-spells k =
-    by_test (nat_lt k 31) _ _ _ _ (λ _. thread-spells 1 root (omega arith) (omega arith)) (λ _.
-    by_test (nat_lt k 35) _ _ _ _ (λ _. create-spells 1 16 1 treasury_password (omega arith) (omega arith) (omega arith) (omega arith)) (λ _.
+    by_test (nat_lt k 31) _ _ _ _ (λ _. thread-spells 1 root_base (omega arith) (omega arith)) (λ _.
+    by_test (nat_lt k 35) _ _ _ _ (λ _. create-spells 1 16 1 (run_password 1) (omega arith) (omega arith) (omega arith) treasury-fits) (λ _.
     by_test (nat_lt k 43) _ _ _ _ (λ e. entry-spells (k - 35) (let h = ltb-true k 43 e in omega (arith, h))) (λ _.
-    stored-spells root 5 (omega arith) (omega arith))))
+    stored-spells root_base 5 (omega arith) (omega arith))))
 
 line-spells : (number k : ℕ) → Spells (line_text number k) (line_asked number k)
 line-spells number k = by_test (nat_lt k 44) _ _ _ _ (λ _. prepared-spells k) (λ _. drawn-spells (drawn_word number k))

@@ -3,7 +3,8 @@ use Rattle.std.proofs.Common.{◌≡◌, ℕ, zero, suc, ◌+◌, ◌<◌, List,
 use Rattle.std.proofs.lemmas.List.{append-nil, get_or-map}
 use Rattle.mg_model.specs.declared.replies.Refusal.TheVariants as refusal
 use Rattle.mg_model.specs.Print.{refusal_text}
-use Rattle.mg_gen.specs.Summary.{count_line, count_lines, refusals, row_words}
+use Rattle.mg_gen.specs.Summary.{refusals}
+use Rattle.mg_gen.specs.Tallies.{count_line, count_lines, row_words}
 
 -- one line more
 pub lines_more : (words : List (List ℕ)) (counts : List ℕ) (i : ℕ) → i < length words → i < length counts

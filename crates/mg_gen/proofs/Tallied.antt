@@ -5,7 +5,7 @@ use Rattle.std.proofs.lemmas.List.{ext_get_or, get_or-set_other, get_or-set_same
 use Rattle.std.proofs.lemmas.List.FromFn.{get_or-map-range_with_len}
 use Rattle.std.proofs.lemmas.List.Sums.{count_by-le-length, sum_by_push}
 use Rattle.mg_model.specs.declared.replies.Reply.{Reply}
-use Rattle.mg_gen.specs.Summary.{row_of, tally_of}
+use Rattle.mg_gen.specs.Tallies.{row_of, tally_of}
 
 -- how many of these replies are counted in a row
 abbrev counted : ℕ → List Reply → ℕ

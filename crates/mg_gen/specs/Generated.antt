@@ -1,6 +1,8 @@
 -- The lines of a generated run: what the line of a place k, from 0, is in the run of a number.
 use Rattle.std.specs.Prelude.{ℕ, ◌+◌, ◌-◌, ◌*◌, ◌/◌, ◌%◌, ◌^◌, ◌==◌, nat_lt, List, [], ◌∷◌, ◌++◌, if◌then◌else◌, codes, bit_xor, replicate}
 use Rattle.std.specs.Fmt.{decimal}
+use Rattle.mg_model.specs.Draw.{password_drawn}
+use Rattle.mg_model.specs.Fresh.{root_base}
 use Rattle.mg_model.specs.Print.{hex_text, spaced}
 use Rattle.mg_model.specs.Settings.{Settings}
 use Rattle.mg_model.specs.Tariff.{usual_tariff}
@@ -9,24 +11,14 @@ use Rattle.mg_model.specs.Tariff.{usual_tariff}
 abbrev pub run_settings : Settings
 run_settings = record { frames = 4096; seed = replicate 32 0; credits = 2 ^ 40; tariff = usual_tariff 4096 }
 
--- Its root object has one page, and the four objects that the run makes lie behind it, 16 pages each.
-abbrev pub root : ℕ
-root = 0x0000000100000000
-
--- the first address of object j, from 1 to 4
+-- Its root object has one page, and the four objects that the run makes lie behind it, 16 pages each: the first address of object j,
+-- from 1 to 4.
 abbrev pub run_object_base : ℕ → ℕ
-run_object_base j = root + 4096 + (j - 1) * (16 * 4096)
+run_object_base j = root_base + 4096 + (j - 1) * (16 * 4096)
 
--- The passwords are those that the zero seed draws: the second is the treasury's, and from the third on they are the objects'.
-abbrev pub treasury_password : ℕ
-treasury_password = 0x28bd8653e56a5d40
-
-abbrev pub object_password : ℕ → ℕ
-object_password j =
-    if j == 1 then 0x1aed8da0b819d2bd
-    else if j == 2 then 0xc70d778bccef36a8
-    else if j == 3 then 0x8d4857517c5941da
-    else 0x374ad8b83fe02477
+-- The passwords are those that the zero seed draws: password 1 is the treasury's, and from 2 on they are the objects'.
+unfoldable pub run_password : ℕ → ℕ
+run_password k = password_drawn run_settings.seed k
 
 -- a call of a thread: its number, the call word, and the arguments behind it, with single spaces
 abbrev pub call_text : ℕ → List ℕ → List (List ℕ) → List ℕ
@@ -39,41 +31,20 @@ stored a value = call_text 1 (codes "store") (hex_text a ∷ hex_text value ∷ 
 -- The root object's page is the capability list of thread 1, whose first entry is the root itself: entry j names object j. Base and
 -- password of each of the four are stored one after the other, m from 0 to 7.
 abbrev pub entry_text : ℕ → List ℕ
-entry_text m =
-    if m % 2 == 0 then stored (root + 8 * (2 + 2 * (1 + m / 2))) (run_object_base (1 + m / 2))
-    else stored (root + 8 * (3 + 2 * (1 + m / 2))) (object_password (1 + m / 2))
-
--- The word x that a line is drawn from is that of the generator SplitMix64, k + 1 steps behind the run's number. Its sums and
--- products are those of words, modulo 2 ^ 64.
-abbrev pub word_sum : ℕ → ℕ → ℕ
-word_sum a b = (a + b) % 2 ^ 64
-
-abbrev pub word_product : ℕ → ℕ → ℕ
-word_product a b = a * b % 2 ^ 64
+entry_text m = stored (root_base + 8 * (4 + m)) (if m % 2 == 0 then run_object_base (1 + m / 2) else run_password (2 + m / 2))
 
 -- the exclusive or of a word and of the same word shifted to the right
 abbrev pub shifted_in : ℕ → ℕ → ℕ
 shifted_in shift a = bit_xor a (a / 2 ^ shift)
 
-abbrev pub generator_state : ℕ → ℕ → ℕ
-generator_state number k = word_sum number (word_product (word_sum k 1) 0x9e3779b97f4a7c15)
+-- this, times a factor, as a word
+abbrev pub mixed : ℕ → ℕ → ℕ → ℕ
+mixed shift factor a = shifted_in shift a * factor % 2 ^ 64
 
+-- The word x that a line is drawn from is that of the generator SplitMix64, k + 1 steps behind the run's number.
 unfoldable pub drawn_word : ℕ → ℕ → ℕ
 drawn_word number k =
-    shifted_in 31 (word_product (shifted_in 27 (word_product (shifted_in 30 (generator_state number k)) 0xbf58476d1ce4e5b9)) 0x94d049bb133111eb)
-
--- what x says of its line: the kind, the thread, the address and the value
-abbrev pub kind_of : ℕ → ℕ
-kind_of x = x / 2 ^ 5 % 16
-
-abbrev pub thread_of : ℕ → ℕ
-thread_of x = 1 + x % 32
-
-abbrev pub address_of : ℕ → ℕ
-address_of x = run_object_base (1 + x / 2 ^ 9 % 4) + 8 * (x / 2 ^ 11 % 8192)
-
-abbrev pub value_of : ℕ → ℕ
-value_of x = x / 2 ^ 24 % 65536
+    shifted_in 31 (mixed 27 0x94d049bb133111eb (mixed 30 0xbf58476d1ce4e5b9 ((number + (k + 1) * 0x9e3779b97f4a7c15) % 2 ^ 64)))
 
 -- the line of a kind from 0 to 15
 abbrev pub kind_text : ℕ → ℕ → ℕ → ℕ → List ℕ
@@ -81,22 +52,23 @@ kind_text kind thread a value =
     if nat_lt kind 6 then call_text thread (codes "load") (hex_text a ∷ [])
     else if nat_lt kind 11 then call_text thread (codes "store") (hex_text a ∷ decimal value ∷ [])
     else if kind == 11 then call_text thread (codes "info") (hex_text a ∷ [])
-    else if kind == 12 then call_text thread (codes "balance") (decimal 1 ∷ hex_text treasury_password ∷ [])
+    else if kind == 12 then call_text thread (codes "balance") (decimal 1 ∷ hex_text (run_password 1) ∷ [])
     else if kind == 13 then codes "rent"
     else if kind == 14 then codes "next"
     else call_text thread (codes "pwadd") (hex_text a ∷ codes "R" ∷ [])
 
+-- what the word x says of its line: the kind, the thread, the address and the value
 abbrev pub drawn_text : ℕ → List ℕ
-drawn_text x = kind_text (kind_of x) (thread_of x) (address_of x) (value_of x)
+drawn_text x = kind_text (x / 2 ^ 5 % 16) (1 + x % 32) (run_object_base (1 + x / 2 ^ 9 % 4) + 8 * (x / 2 ^ 11 % 8192)) (x / 2 ^ 24 % 65536)
 
 -- The first 44 lines make 31 threads more and the four objects, enter these in the list, and store the root's first word: it is the
 -- first instruction of each thread.
 abbrev pub prepared_text : ℕ → List ℕ
 prepared_text k =
-    if nat_lt k 31 then call_text 1 (codes "thread") (hex_text root ∷ [])
-    else if nat_lt k 35 then call_text 1 (codes "create") (decimal 16 ∷ decimal 1 ∷ hex_text treasury_password ∷ [])
+    if nat_lt k 31 then call_text 1 (codes "thread") (hex_text root_base ∷ [])
+    else if nat_lt k 35 then call_text 1 (codes "create") (decimal 16 ∷ decimal 1 ∷ hex_text (run_password 1) ∷ [])
     else if nat_lt k 43 then entry_text (k - 35)
-    else stored root 5
+    else stored root_base 5
 
 -- line k of a run, without its newline
 abbrev pub line_text : ℕ → ℕ → List ℕ

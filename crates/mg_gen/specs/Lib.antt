@@ -1,5 +1,6 @@
--- Definitions, in the order in which one reads them: the lines of a generated run, the calls that these ask for, and what is told of
--- the replies to them.
+-- Definitions, in the order in which one reads them: the lines of a generated run, and what is told of the replies to them. `Asked`
+-- and `Tallies` say the same by calls and by rows, as the code makes them.
 pub mod Generated
-pub mod Asked
 pub mod Summary
+pub mod Asked
+pub mod Tallies

@@ -1,6 +1,7 @@
 // From a run's number to the words that its lines are drawn from.
 ghost use Rattle.std.specs.Prelude.{◌≡◌, ◌^◌, ◌<◌, ◌≤◌};
-ghost use Rattle.mg_gen.specs.Generated.{address_of, drawn_word, generator_state, kind_of, run_object_base, shifted_in, thread_of, value_of};
+ghost use Rattle.mg_gen.specs.Asked.{address_of, generator_state, kind_of, thread_of, value_of};
+ghost use Rattle.mg_gen.specs.Generated.{drawn_word, run_object_base, shifted_in};
 
 use mg_model::limits::{PAGE_SIZE, ROOT_BASE};
 

@@ -1,9 +1,11 @@
 // The line of a place in a run.
 ghost use Rattle.std.specs.Prelude.{◌≡◌, ◌++◌, ◌∷◌, ◌<◌, ◌≤◌, []};
-ghost use Rattle.mg_gen.specs.Generated.{drawn_text, entry_text, kind_text, line_text, object_password, prepared_text, stored};
+ghost use Rattle.mg_gen.specs.Asked.{entry_value, password_number};
+ghost use Rattle.mg_gen.specs.Generated.{drawn_text, entry_text, kind_text, line_text, prepared_text, run_password, stored};
 ghost use Rattle.arrayvec.specs.ArrayVec.{array_vec_len};
 
 use crate::drawing::{address, draw, kind, run_object_base, thread, value};
+use crate::laws::passwords_are_drawn;
 use crate::writing::push_call;
 use arrayvec::ArrayVec;
 use mg_model::limits::ROOT_BASE;
@@ -11,9 +13,6 @@ use mg_text::{push_number, push_text, push_word};
 
 /// From which place on the lines are drawn.
 const DRAWN_FROM: u64 = 44;
-
-/// The password of the treasury.
-const TREASURY: u64 = 0x28bd_8653_e56a_5d40;
 
 /// Writes line `k` of the run of a number, with its newline, into an empty buffer. The longest lines, the stores among the
 /// first 44, have 46 bytes.
@@ -43,7 +42,7 @@ fn push_prepared(k: u64, out: &mut ArrayVec<u8, 256>)
         push_call(1, b"create", out);
         push_number(out, 16);
         push_number(out, 1);
-        push_word(out, TREASURY);
+        push_word(out, password(1));
     } else if k < 43 {
         push_entry(k - 35, out);
     } else {
@@ -51,29 +50,47 @@ fn push_prepared(k: u64, out: &mut ArrayVec<u8, 256>)
     }
 }
 
-/// The store of a base, for an even `m`, or of a password, for an odd one.
+/// The store of place m of the entries.
 fn push_entry(m: u64, out: &mut ArrayVec<u8, 256>)
     requires empty { out.old.items ≡ [] }
     requires m_below_8 { m < 8 }
     ensures text { out.new.items ≡ entry_text m }
     ensures short { array_vec_len out.new ≤ 200 }
 {
-    let j = 1 + m / 2;
+    push_store(ROOT_BASE + 8 * (4 + m), entry_value(m), out);
+}
+
+/// A base, for an even `m`, or a password, for an odd one.
+fn entry_value(m: u64) -> u64
+    requires m_below_8 { m < 8 }
+    ensures { result ≡ entry_value m }
+{
     if m % 2 == 0 {
-        push_store(ROOT_BASE + 8 * (2 + 2 * j), run_object_base(j), out);
+        run_object_base(1 + m / 2)
     } else {
-        push_store(ROOT_BASE + 8 * (3 + 2 * j), object_password(j), out);
+        password(2 + m / 2)
     }
 }
 
-/// The password of object j.
-fn object_password(j: u64) -> u64
-    ensures { result ≡ object_password j }
+/// Password k that the seed draws, from 1 on.
+fn password(k: u64) -> u64
+    requires from { 1 ≤ k }
+    requires to { k ≤ 5 }
+    ensures { result ≡ run_password k }
 {
-    match j {
-        1 => 0x1aed_8da0_b819_d2bd,
-        2 => 0xc70d_778b_ccef_36a8,
-        3 => 0x8d48_5751_7c59_41da,
+    passwords_are_drawn();
+    password_number(k)
+}
+
+/// The number of that password.
+fn password_number(k: u64) -> u64
+    ensures { result ≡ password_number k }
+{
+    match k {
+        1 => 0x28bd_8653_e56a_5d40,
+        2 => 0x1aed_8da0_b819_d2bd,
+        3 => 0xc70d_778b_ccef_36a8,
+        4 => 0x8d48_5751_7c59_41da,
         _ => 0x374a_d8b8_3fe0_2477,
     }
 }
@@ -117,7 +134,7 @@ fn push_kind(kind: u64, thread: u64, a: u64, value: u64, out: &mut ArrayVec<u8, 
     } else if kind == 12 {
         push_call(thread, b"balance", out);
         push_number(out, 1);
-        push_word(out, TREASURY);
+        push_word(out, password(1));
     } else if kind == 13 {
         push_text(out, b"rent");
     } else if kind == 14 {

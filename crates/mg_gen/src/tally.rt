@@ -2,7 +2,7 @@
 ghost use Rattle.std.specs.Prelude.{◌≡◌, ◌+◌, ◌-◌, ◌^◌, ◌<◌, ◌≤◌, ◌++◌, ◌∷◌, [], List, length};
 ghost use Rattle.arrayvec.specs.ArrayVec.{array_vec_len};
 ghost use Rattle.mg_model.specs.declared.replies.Reply.{Reply};
-ghost use Rattle.mg_gen.specs.Summary.{count_line, row_of, tally_of, tally_text};
+ghost use Rattle.mg_gen.specs.Tallies.{count_line, row_of, tally_of, tally_text};
 
 use arrayvec::ArrayVec;
 use mg_model::{Refusal, Reply};
@@ -54,7 +54,7 @@ impl Model for Tally {
 
 impl Tally {
     /// Of no replies.
-    #[tactic(auto, unfolding(crate::specs::Summary::tally_of))]
+    #[tactic(auto, unfolding(crate::specs::Tallies::tally_of))]
     pub fn new() -> Self
         ensures { result ≡ tally_of [] }
     {

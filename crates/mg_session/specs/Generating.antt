@@ -2,7 +2,7 @@
 use Rattle.std.specs.Prelude.{ℕ, ◌≡◌, ◌≤◌, ◌<◌, ◌+◌, ◌-◌, ◌^◌, List, [], ◌∷◌, ◌++◌, length, Some, IsTrue}
 use Rattle.mg_disk.specs.Disk.{Image}
 use Rattle.mg_disk.specs.declared.disk.Disk.{Ghosts}
-use Rattle.mg_gen.specs.Summary.{tally_of}
+use Rattle.mg_gen.specs.Tallies.{tally_of}
 use Rattle.mg_kernel.specs.declared.kernel.Kernel.{Kernel}
 use Rattle.mg_kernel.specs.Meaning.{StandsOn, is_live, keeps_key, now_of, staged_of}
 use Rattle.mg_model.specs.declared.calls.Line.{Line}

@@ -1,6 +1,6 @@
 -- What the program promises: the words and the records of the clauses of `top` and of `serve`, in the order in which
 -- docs/PROMISES.md tells them. An object that does not tell its content has None for it; a promise on content is then empty.
-use Rattle.std.specs.Prelude.{ℕ, ◌+◌, ◌<◌, ◌≤◌, ◌≡◌, ◌≢◌, ◌⊎◌, List, [], ◌∷◌, ◌++◌, map, codes, Option, IfSome, IsSomeAnd}
+use Rattle.std.specs.Prelude.{ℕ, ◌+◌, ◌<◌, ◌≤◌, ◌≡◌, ◌≢◌, ◌⊎◌, List, [], ◌∷◌, ◌++◌, codes, filter_map, Option, IfSome, IsSomeAnd}
 use Rattle.std.specs.Fmt.{decimal}
 use Rattle.std.specs.Io.KnownBytes.{Appends}
 use Rattle.std.specs.List.{range_with_len}
@@ -11,9 +11,8 @@ use Rattle.mg_disk.specs.Disk.{Image}
 use Rattle.mg_disk.specs.Stops.{CountRose, Leaves, NothingPending, WritesNothing}
 use Rattle.mg_disk.specs.declared.disk.Disk as disks
 use Rattle.mg_faults.specs.Faults.{Rose}
-use Rattle.mg_gen.specs.Asked.{line_asked}
-use Rattle.mg_gen.specs.Generated.{run_settings}
-use Rattle.mg_gen.specs.Summary.{tally_of, tally_text}
+use Rattle.mg_gen.specs.Generated.{line_text, run_settings}
+use Rattle.mg_gen.specs.Summary.{summary_text}
 use Rattle.mg_io.specs.Known.{AppendsPrefix}
 use Rattle.mg_io.specs.declared.traits.Sink as sinks
 use Rattle.mg_io.specs.declared.traits.Source as sources
@@ -24,7 +23,7 @@ use Rattle.mg_model.specs.Draw.{password_drawn}
 use Rattle.mg_model.specs.Ended.{ended_lines}
 use Rattle.mg_model.specs.Fresh.{fresh, root_base}
 use Rattle.mg_model.specs.Layout.{total_blocks}
-use Rattle.mg_model.specs.Lines.{lines}
+use Rattle.mg_model.specs.Lines.{line_of, lines}
 use Rattle.mg_model.specs.Print.{hex_text, ok_text, spaced, text}
 use Rattle.mg_model.specs.Settings.{Settings}
 use Rattle.mg_model.specs.State.{State}
@@ -142,22 +141,18 @@ pub record DryKeeps {S K : Type 0} (from : sources.Ghosts S) (to : sinks.Ghosts 
 
 -- `VOLUME gen NUMBER LINES`
 
--- so many lines of the run of a number, from its first on
+-- so many lines of the run of a number, from its first on, as they are read
 abbrev pub run_lines : ℕ → ℕ → List Line
-run_lines number count = map (λ k. line_asked number k) (range_with_len 0 count)
+run_lines number count = filter_map (λ k. line_of (line_text number k)) (range_with_len 0 count)
 
 -- the machine's replies to these lines
 abbrev pub replies_from : State → List Line → List Reply
 replies_from s [] = []
 replies_from s (line ∷ more) = (step s line).1 ∷ replies_from (step s line).0 more
 
--- the fresh state that such a run begins with
-abbrev pub run_state : State
-run_state = fresh run_settings
-
--- what is put of a run: a line for `ok` and one for each refusal, each with the number of replies that were so
+-- what is put of a run from the fresh state: a line for `ok` and one for each refusal, each with the number of replies that were so
 abbrev pub run_text : ℕ → ℕ → List ℕ
-run_text number count = tally_text (tally_of (replies_from run_state (run_lines number count)))
+run_text number count = summary_text (replies_from (fresh run_settings) (run_lines number count))
 
 -- how it may end
 abbrev pub EndsGen : Status → Type 0
@@ -169,7 +164,7 @@ pub record GenKeeps {K : Type 0} (to : sinks.Ghosts K) (number count : ℕ) (res
   pub done : result ≡ status.Done → Appends (to.taken sink) (to.taken sink') (run_text number count)
   pub prefix : AppendsPrefix (to.taken sink) (to.taken sink') (run_text number count)
   -- At each status the counter rose by no more than the generated lines may cost.
-  pub cost : steps' ≤ steps + cost run_state (run_lines number count)
+  pub cost : steps' ≤ steps + cost (fresh run_settings) (run_lines number count)
   pub which : EndsGen result
   -- Where memory was wanting nothing was put; the sink failed only where its count rose.
   pub memory : result ≡ status.Memory → sink' ≡ sink

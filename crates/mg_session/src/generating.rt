@@ -5,7 +5,7 @@ ghost use Rattle.std.specs.Option.{ForSome};
 ghost use Rattle.mg_disk.specs.Stops.{DiskCalls};
 ghost use Rattle.mg_faults.specs.Faults.{Rose};
 ghost use Rattle.mg_gen.specs.Asked.{line_asked};
-ghost use Rattle.mg_gen.specs.Summary.{tally_of, tally_text};
+ghost use Rattle.mg_gen.specs.Tallies.{tally_of, tally_text};
 ghost use Rattle.mg_io.specs.Known.{AppendsPrefix};
 ghost use Rattle.mg_kernel.specs.Meaning.{StandsOn, is_live, now_of, staged_of};
 ghost use Rattle.mg_model.specs.Warmth.{cost};
@@ -15,7 +15,7 @@ ghost use Rattle.mg_session.specs.Headline.{GenKeeps, replies_from, run_lines};
 use arrayvec::ArrayVec;
 use mg_disk::{Disk, ScratchDisk};
 use mg_faults::Failed;
-use mg_gen::{Tally, line, lines_are_calls, settings};
+use mg_gen::{Tally, counts_add_up, line, lines_are_calls, settings};
 use mg_io::{Sink, put_all};
 use mg_kernel::{Kernel, OpenFault};
 use mg_laws::{costs_add_up, warm_keys_are_kept};
@@ -38,6 +38,7 @@ pub fn count_run<K: Sink, L: Ledger>(
     requires count_at_most_1000000 { count ≤ 1000000 }
     ensures { GenKeeps K.Sink number count result sink.old sink.new steps.old steps.new }
 {
+    counts_add_up();
     let (mut disk, mut kernel) = match fresh_machine(alloc, &settings()) {
         Some(machine) => machine,
         None => return Status::Memory,
@@ -86,6 +87,7 @@ fn tally_lines<D: Disk, L: Ledger>(
     ensures calls { DiskCalls D.Disk disk.old disk.new result }
 {
     warm_keys_are_kept();
+    lines_are_calls();
     let mut tally = Tally::new();
     for k in 0..count {
         let line = generated_line(number, k);

@@ -1,8 +1,5 @@
-use Rattle.std.proofs.Common.{refl}
-use Rattle.rand_chacha.specs.Block.{block_word, column_round, diagonal_round, double_rounds, quarter_round}
-use Rattle.rand_core.specs.Steps.{u32_at}
+use Rattle.mg_gen.proofs.Passwords.{passwords-drawn}
 use Rattle.mg_gen.proofs.laws.passwords_are_drawn.Goals as goal
 
 pub returns : goal.returns
-unfolding block_word double_rounds quarter_round column_round diagonal_round u32_at
-returns c = refl
+returns c = passwords-drawn

@@ -1,5 +1,5 @@
 use Rattle.std.proofs.Common.{◌+◌, ◌++◌, get_or, take, ap, sym, ◌∙◌, arith}
-use Rattle.mg_gen.specs.Summary.{count_line, count_lines, row_words}
+use Rattle.mg_gen.specs.Tallies.{count_line, count_lines, row_words}
 use Rattle.mg_gen.proofs.Rows.{lines_more, word-at}
 use Rattle.mg_gen.proofs.tally.push_counts.Goals as goal
 

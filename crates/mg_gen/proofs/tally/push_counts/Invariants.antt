@@ -1,6 +1,6 @@
 use Rattle.std.proofs.Common.{◌≡◌, ◌+◌, ◌*◌, ◌≤◌, take}
 use Rattle.arrayvec.specs.ArrayVec.{array_vec_len}
-use Rattle.mg_gen.specs.Summary.{count_lines, row_words}
+use Rattle.mg_gen.specs.Tallies.{count_lines, row_words}
 use Rattle.mg_gen.proofs.tally.push_counts.Given as goal
 
 abbrev pub invariant-loop-i : goal.invariant-loop-i

@@ -18,7 +18,7 @@ loop-k-init g c = record {
 
 pub loop-k-preserved : goal.loop-k-preserved
 loop-k-preserved g c = record {
-  counted = Counted-more g.D.Disk (λ image. now_of c.args.kernel.now image) (λ image. g.D.Disk.seen c.args.disk.now ≡ Some image) c.args.number c.loop-k.k c.args.steps.now
+  counted = Counted-more g.D.Disk c.lines_are_calls.ensures (λ image. now_of c.args.kernel.now image) (λ image. g.D.Disk.seen c.args.disk.now ≡ Some image) c.args.number c.loop-k.k c.args.steps.now
       (record { kernel = c.loop-k.kernel; disk = c.loop-k.disk; counts = c.loop-k.tally; steps = c.loop-k.steps })
       (record { kernel = c.count_line.new.kernel; disk = c.count_line.new.disk; counts = c.count_line.new.tally; steps = c.count_line.new.steps })
       (omega (arith, c.requires.count_at_most_1000000, c.loop-k-test.true))
