@@ -2,7 +2,7 @@
 ghost use Rattle.std.specs.Prelude.{◌≡◌, false, true};
 ghost use Rattle.mg_migrate_session.specs.Commands.{is_migrate};
 ghost use Rattle.mg_migrate_session.specs.Headline.{MigrateKeeps, NoMigrateKeeps};
-ghost use Rattle.mg_session.specs.Commands.{words_of};
+ghost use Rattle.mg_session.specs.ByCommand.{words_of};
 
 use crate::fault_line::put_fault;
 use crate::words::is_migrate;

@@ -2,7 +2,7 @@
 ghost use Rattle.std.specs.Prelude.{◌≡◌, IfSome, None};
 ghost use Rattle.mg_mirror_session.specs.Commands.{mirror_of};
 ghost use Rattle.mg_mirror_session.specs.Headline.{MirrorKeeps, NoMirrorKeeps};
-ghost use Rattle.mg_session.specs.Commands.{words_of};
+ghost use Rattle.mg_session.specs.ByCommand.{words_of};
 
 use crate::judging::read_first;
 use crate::putting::put_side;

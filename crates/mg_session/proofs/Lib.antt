@@ -1,4 +1,5 @@
 mod GeneratedSteps
+mod Joined
 mod Results
 mod Seed
 mod Spelled

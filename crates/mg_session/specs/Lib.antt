@@ -2,6 +2,7 @@
 pub mod Commands
 pub mod Headline
 -- What the parts of a session do.
+pub mod ByCommand
 pub mod Forms
 pub mod Generating
 pub mod Unopened

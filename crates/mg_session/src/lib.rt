@@ -8,9 +8,9 @@
 //! The loop from bytes to replies is that of `mg_serve`; here a kernel is one of its machines, and [`serve`] is that loop over it.
 //!
 //! The definitions stand in `specs/`: `Commands` (what the words spell) and `Headline` (what each command keeps, in one
-//! record, which is a clause of [`top`], and the words of it); for the layers below it `Generating` (a generated run)
-//! and `Unopened` (what a fault of the opening tells). `OpeningLemmas` joins an
-//! opening and a session.
+//! record, which is a clause of [`top`], and the words of it); for the layers below it `ByCommand` (the words of each command),
+//! `Generating` (a generated run) and `Unopened` (what a fault of the opening tells). `OpeningLemmas` joins an opening and a
+//! session.
 #![tactic(auto)]
 
 mod checking;

@@ -1,6 +1,6 @@
 // All that is done with device windows.
 ghost use Rattle.std.specs.Prelude.{◌≡◌, IsTrue, false};
-ghost use Rattle.mg_session.specs.Commands.{words_of};
+ghost use Rattle.mg_session.specs.ByCommand.{words_of};
 ghost use Rattle.mg_window.specs.Attached.{seen};
 ghost use Rattle.mg_window_session.specs.Commands.{asks_for};
 ghost use Rattle.mg_window_session.specs.Headline.{DevKeeps, NoDevKeeps};

@@ -1,5 +1,5 @@
 use Rattle.std.proofs.Common.{sym, ◌∙◌, arith}
-use Rattle.mg_session.specs.Commands.{words_of}
+use Rattle.mg_session.specs.ByCommand.{words_of}
 use Rattle.mg_session.proofs.Spelled.{format_of-five, format_of-nine, format_of-other, item, length-words_of, tariff_of-four}
 use Rattle.mg_session.proofs.words.format.Goals as goal
 use Rattle.mg_session.proofs.words.format.Goals.{in_default-via-then-words-lt5, in_default-via-else-words-lt5+else-words-lt6+then-words-lt9, in_default-via-else-words-lt5+else-words-lt6+else-words-lt9+else-words-lt10}

@@ -1,5 +1,5 @@
 use Rattle.std.proofs.Common.{sym, ◌∙◌, arith}
-use Rattle.mg_session.specs.Commands.{words_of}
+use Rattle.mg_session.specs.ByCommand.{words_of}
 use Rattle.mg_session.proofs.Spelled.{gen_of-four, gen_of-other, item, length-words_of}
 use Rattle.mg_session.proofs.words.generated.Goals as goal
 
