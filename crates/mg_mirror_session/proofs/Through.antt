@@ -53,7 +53,7 @@ module _ {M N : Type 0} (facts : disks.Ghosts N) (view : M → N) where
   }
 
   exactly : (s : State) (result : Status) (m' : M) (left left' taken taken' : Option (List ℕ)) → HoldsExactly seen_through (after s) result m' left left' taken taken' → HoldsExactly facts (after s) result (view m') left left' taken taken'
-  exactly s result m' left left' taken taken' h = record { held_source = h.held_source; held_too_long = h.held_too_long; held_sink = h.held_sink }
+  exactly s result m' left left' taken taken' h = record { held_taking = h.held_taking; held_sink = h.held_sink }
 
   none : {K : Type 0} (to : sinks.Ghosts K) (result : Status) (m m' : M) (k k' : K) → TellsOfNone seen_through to result m m' k k' → TellsOfNone facts to result (view m) (view m') k k'
   none to result m m' k k' h = record {

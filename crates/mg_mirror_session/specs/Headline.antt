@@ -15,9 +15,10 @@ use Rattle.mg_mirror.specs.declared.mirror.Side.{Side}
 use Rattle.mg_mirror.specs.declared.mirror.Side.TheVariants.{Left, Right}
 use Rattle.mg_mirror_session.specs.Judged.{first_fault}
 use Rattle.mg_mirror_session.specs.Mirrored.{Two, mirror}
+use Rattle.mg_model.specs.Lines.{lines}
 use Rattle.mg_model.specs.Print.{text}
 use Rattle.mg_model.specs.Volume.{VolumeRead, volume}
-use Rattle.mg_serve.specs.Sessions.{IsDoneOrMemory, IsWithin, input_limit, replies}
+use Rattle.mg_serve.specs.Sessions.{IsDoneOrMemory, IsWithin, input_limit}
 use Rattle.mg_session.specs.Headline.{EndsRun, OnVolume, PutsLast, RunKeeps, UsageKeeps, check_line}
 use Rattle.mg_serve.specs.declared.status.Status.{Status}
 use Rattle.mg_serve.specs.declared.status.Status.TheVariants as status
@@ -113,8 +114,8 @@ pub record RanOnMirror {D E S K : Type 0} (d : disks.Ghosts D) (e : disks.Ghosts
   -- Then the line of the side is put.
   pub ends : PutsSide to ran alone result replied sink'
   -- What was put is a prefix of the replies to the whole input and that line; at the end it is all of them.
-  pub prefix : OnVolume ((mirror d e).seen opened) (λ s. IfSome (input.left source) (λ bytes. AppendsPrefix (to.taken sink) (to.taken sink') (replies (text s) bytes ++ last_line alone)))
-  pub done : result ≡ status.Done → OnVolume ((mirror d e).seen opened) (λ s. IfSome (input.left source) (λ bytes. (input.left source' ≡ Some []) × Appends (to.taken sink) (to.taken sink') (replies (text s) bytes ++ last_line alone)))
+  pub prefix : OnVolume ((mirror d e).seen opened) (λ s. IfSome (input.left source) (λ bytes. AppendsPrefix (to.taken sink) (to.taken sink') (text s (lines bytes) ++ last_line alone)))
+  pub done : result ≡ status.Done → OnVolume ((mirror d e).seen opened) (λ s. IfSome (input.left source) (λ bytes. (input.left source' ≡ Some []) × Appends (to.taken sink) (to.taken sink') (text s (lines bytes) ++ last_line alone)))
   -- What a stop may leave now of a disk that is in use, cut to the mirror's blocks, it may leave of the mirror: what is kept of the mirror is kept of that disk.
   pub left_held : alone ≢ Some Right → IsTrue (e.tells_stops right') → (c : Image) → CutOf opened.blocks (d.left_since left' (d.moment left')) c → (mirror d e).left_since closed ((mirror d e).moment closed) c
   pub right_held : alone ≢ Some Left → IsTrue (d.tells_stops left') → (c : Image) → CutOf opened.blocks (e.left_since right' (e.moment right')) c → (mirror d e).left_since closed ((mirror d e).moment closed) c

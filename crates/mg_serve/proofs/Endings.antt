@@ -1,7 +1,7 @@
 -- From how a session ended to the records of what it keeps.
-use Rattle.std.specs.Prelude.{ℕ, ◌+◌, ◌≡◌, true, List, Option, Some, None, Result, Ok, Err, IfErr, IfSome, IsOk, OnOk}
+use Rattle.std.specs.Prelude.{ℕ, ◌+◌, ◌≡◌, ◌≢◌, ◌⊎◌, true, List, Option, Some, None, Result, Ok, Err, IfErr, IfSome, IsOk, OnOk}
 use Rattle.std.specs.Option.{ForSome}
-use Rattle.std.proofs.Common.{arith, inl, inr, refl}
+use Rattle.std.proofs.Common.{arith, inl, inr, refl, ⊎_elim}
 use Rattle.mg_disk.specs.Stops.{CountRose, NothingPending}
 use Rattle.mg_disk.specs.declared.disk.Disk.{Ghosts}
 use Rattle.mg_faults.specs.Faults.{Rose}
@@ -9,14 +9,26 @@ use Rattle.mg_io.specs.declared.traits.Sink as sinks
 use Rattle.mg_io.specs.declared.traits.Source as sources
 use Rattle.mg_serve.specs.declared.ended.Ended.{Ended}
 use Rattle.mg_serve.specs.declared.ended.Ended.TheVariants as ended
-use Rattle.mg_serve.specs.Sessions.{Answers, Ends, EndsSession, Holds, HoldsExactly, IsDoneOrMemory, IsWithin, KeepsExactly, SpellsAfter, TakesMore, status_at, status_of}
+use Rattle.mg_serve.specs.Parts.{KeepsExactly, SpellsAfter, TakesMore}
+use Rattle.mg_serve.specs.Sessions.{Answers, Ends, EndsSession, EndsTaking, Holds, HoldsExactly, IsDoneOrMemory, IsWithin, status_at, status_of}
 use Rattle.mg_serve.specs.declared.machine.Machine as machines
+use Rattle.mg_serve.specs.declared.status.Status.{Status}
 use Rattle.mg_serve.specs.declared.status.Status.TheVariants as status
 use Rattle.mg_serve.specs.Readings.{Finishes, Stops}
 use Rattle.mg_serve.specs.Machines.{Entry, Point}
 use Rattle.mg_serve.specs.Serving.{Broken, Serves, Session, Traces}
 use Rattle.mg_serve.specs.Waiting.{Waiting}
 use Rattle.mg_serve.proofs.Outcomes.{disk_exactly, disk_lines, finishes_all, finishes_kept, finishes_stops, finishes_traces, finishes_within, not_more, sink_one, source_exactly, source_few, source_lines, source_within, stops_bound, stops_held, stops_moments, stops_prefix, stops_traces, too_long_exactly, too_long_few, too_long_lines, too_long_more, within_more}
+
+-- at another status
+not_taking : (r : Status) → r ≢ status.Source → r ≢ status.TooLong → EndsTaking r → ⊥
+not_taking r source too_long h = ⊎_elim source too_long h
+
+no_lines : (r : Status) → r ≢ status.Disk → r ≢ status.Source → r ≢ status.TooLong → (r ≡ status.Disk) ⊎ EndsTaking r → ⊥
+no_lines r disk source too_long h = ⊎_elim disk (λ taking. not_taking r source too_long taking) h
+
+not_within : (r : Status) → r ≢ status.Done → r ≢ status.Source → (r ≡ status.Done) ⊎ (r ≡ status.Source) → ⊥
+not_within r done source h = ⊎_elim done source h
 
 module _ {M D : Type 0} (is : machines.Ghosts M) (facts : Ghosts D) (entry : Entry M D) (limit batch : ℕ) (left left' : Option (List ℕ)) (p : Point M D) where
   -- it ended early
@@ -31,47 +43,36 @@ module _ {M D : Type 0} (is : machines.Ghosts M) (facts : Ghosts D) (entry : Ent
   answers_early ended.Disk w = λ image seen. record {
     prefix = stops_prefix is facts entry limit batch (limit + 4096) ended.Disk left left' p w image seen;
     done = λ h. absurd (cc);
-    lines_disk = λ h. disk_lines is facts entry limit batch (limit + 4096) left left' p w image seen;
-    lines_source = λ h. absurd (cc);
-    lines_too_long = λ h. absurd (cc);
+    first_lines = λ h. disk_lines is facts entry limit batch (limit + 4096) left left' p w image seen;
   }
   answers_early ended.Source w = λ image seen. record {
     prefix = stops_prefix is facts entry limit batch (limit + 4096) ended.Source left left' p w image seen;
     done = λ h. absurd (cc);
-    lines_disk = λ h. absurd (cc);
-    lines_source = λ h. source_lines is facts entry limit batch (limit + 4096) left left' p w image seen;
-    lines_too_long = λ h. absurd (cc);
+    first_lines = λ h. source_lines is facts entry limit batch (limit + 4096) left left' p w image seen;
   }
   answers_early ended.Sink w = λ image seen. record {
     prefix = stops_prefix is facts entry limit batch (limit + 4096) ended.Sink left left' p w image seen;
     done = λ h. absurd (cc);
-    lines_disk = λ h. absurd (cc);
-    lines_source = λ h. absurd (cc);
-    lines_too_long = λ h. absurd (cc);
+    first_lines = λ h. absurd (no_lines status.Sink (λ e. cc) (λ e. cc) (λ e. cc) h);
   }
   answers_early ended.TooLong w = λ image seen. record {
     prefix = stops_prefix is facts entry limit batch (limit + 4096) ended.TooLong left left' p w image seen;
     done = λ h. absurd (cc);
-    lines_disk = λ h. absurd (cc);
-    lines_source = λ h. absurd (cc);
-    lines_too_long = λ h. too_long_lines is facts entry limit batch (limit + 4096) left left' p w image seen;
+    first_lines = λ h. too_long_lines is facts entry limit batch (limit + 4096) left left' p w image seen;
   }
 
   exactly_early : (e : Ended) → Early e → ForSome (facts.seen entry.disk) (λ image. HoldsExactly facts (is.kept entry.machine image) (status_at e) p.disk left left' entry.taken p.taken)
-  exactly_early ended.Disk w = λ image seen. record { held_source = λ h. absurd (cc); held_too_long = λ h. absurd (cc); held_sink = λ h. absurd (cc) }
+  exactly_early ended.Disk w = λ image seen. record { held_taking = λ h. absurd (not_taking status.Disk (λ e. cc) (λ e. cc) h); held_sink = λ h. absurd (cc) }
   exactly_early ended.Source w = λ image seen. record {
-    held_source = λ h. source_exactly is facts entry limit batch (limit + 4096) left left' p w image seen;
-    held_too_long = λ h. absurd (cc);
+    held_taking = λ h. source_exactly is facts entry limit batch (limit + 4096) left left' p w image seen;
     held_sink = λ h. absurd (cc);
   }
   exactly_early ended.Sink w = λ image seen. record {
-    held_source = λ h. absurd (cc);
-    held_too_long = λ h. absurd (cc);
+    held_taking = λ h. absurd (not_taking status.Sink (λ e. cc) (λ e. cc) h);
     held_sink = λ h. sink_one is facts entry limit batch (limit + 4096) left left' p w image seen;
   }
   exactly_early ended.TooLong w = λ image seen. record {
-    held_source = λ h. absurd (cc);
-    held_too_long = λ h. too_long_exactly is facts entry limit batch (limit + 4096) left left' p w image seen;
+    held_taking = λ h. too_long_exactly is facts entry limit batch (limit + 4096) left left' p w image seen;
     held_sink = λ h. absurd (cc);
   }
 
@@ -86,9 +87,7 @@ module _ {M D : Type 0} (is : machines.Ghosts M) (facts : Ghosts D) (entry : Ent
   session_answers (Ok x) f stands w = λ image seen. record {
     prefix = stops_prefix is facts entry limit batch (limit + 4096) ended.Sink left left' p (like_early f stands) image seen;
     done = λ h. finishes_all is facts entry limit batch (limit + 4096) left left' p f image seen;
-    lines_disk = λ h. absurd (cc);
-    lines_source = λ h. absurd (cc);
-    lines_too_long = λ h. absurd (cc);
+    first_lines = λ h. absurd (no_lines status.Done (λ e. cc) (λ e. cc) (λ e. cc) h);
   }
   session_answers (Err e) f stands w = answers_early e w
 
@@ -104,7 +103,7 @@ module _ {M D : Type 0} (is : machines.Ghosts M) (facts : Ghosts D) (entry : Ent
 
   pub session_exactly : {T : Type 0} (r : Result T Ended) → IfErr r Early
       → ForSome (facts.seen entry.disk) (λ image. HoldsExactly facts (is.kept entry.machine image) (status_of r) p.disk left left' entry.taken p.taken)
-  session_exactly (Ok x) w = λ image seen. record { held_source = λ h. absurd (cc); held_too_long = λ h. absurd (cc); held_sink = λ h. absurd (cc) }
+  session_exactly (Ok x) w = λ image seen. record { held_taking = λ h. absurd (not_taking status.Done (λ e. cc) (λ e. cc) h); held_sink = λ h. absurd (cc) }
   session_exactly (Err e) w = exactly_early e w
 
   pub session_at_disk : {T : Type 0} (r : Result T Ended) → IfErr r Early → r ≡ Err ended.Disk → is.is_live p.machine ≡ true
@@ -179,47 +178,39 @@ module _ {M D S K : Type 0} (is : machines.Ghosts M) (facts : Ghosts D) (from : 
       → (e ≡ ended.Source → Rose (from.faults source) (from.faults source') (from.is_spent source')) → (e ≡ ended.Sink → Rose (to.faults sink) (to.faults sink') (to.is_spent sink'))
       → Ends from to batch limit (status_at e) source source' sink sink'
   ends_early ended.Disk w source_rose sink_rose = record {
-    few_source = λ h. absurd (cc);
-    few_too_long = λ h. absurd (cc);
+    few = λ h. absurd (not_taking status.Disk (λ e. cc) (λ e. cc) h);
     memory = λ h. absurd (cc);
     source_failed = λ h. absurd (cc);
     sink_failed = λ h. absurd (cc);
     too_long = λ h. absurd (cc);
-    within_done = λ h. absurd (cc);
-    within_source = λ h. absurd (cc);
+    within = λ h. absurd (not_within status.Disk (λ e. cc) (λ e. cc) h);
     bounded = stops_bound is facts old limit batch (limit + 4096) ended.Disk (from.left source) (from.left source') new w;
   }
   ends_early ended.Source w source_rose sink_rose = record {
-    few_source = λ h. source_few is facts old limit batch (limit + 4096) (from.left source) (from.left source') new w;
-    few_too_long = λ h. absurd (cc);
+    few = λ h. source_few is facts old limit batch (limit + 4096) (from.left source) (from.left source') new w;
     memory = λ h. absurd (cc);
     source_failed = λ h. source_rose refl;
     sink_failed = λ h. absurd (cc);
     too_long = λ h. absurd (cc);
-    within_done = λ h. absurd (cc);
-    within_source = λ h. source_within is facts old limit batch (limit + 4096) (from.left source) (from.left source') new w;
+    within = λ h. source_within is facts old limit batch (limit + 4096) (from.left source) (from.left source') new w;
     bounded = stops_bound is facts old limit batch (limit + 4096) ended.Source (from.left source) (from.left source') new w;
   }
   ends_early ended.Sink w source_rose sink_rose = record {
-    few_source = λ h. absurd (cc);
-    few_too_long = λ h. absurd (cc);
+    few = λ h. absurd (not_taking status.Sink (λ e. cc) (λ e. cc) h);
     memory = λ h. absurd (cc);
     source_failed = λ h. absurd (cc);
     sink_failed = λ h. sink_rose refl;
     too_long = λ h. absurd (cc);
-    within_done = λ h. absurd (cc);
-    within_source = λ h. absurd (cc);
+    within = λ h. absurd (not_within status.Sink (λ e. cc) (λ e. cc) h);
     bounded = stops_bound is facts old limit batch (limit + 4096) ended.Sink (from.left source) (from.left source') new w;
   }
   ends_early ended.TooLong w source_rose sink_rose = record {
-    few_source = λ h. absurd (cc);
-    few_too_long = λ h. too_long_few is facts old limit batch (limit + 4096) (from.left source) (from.left source') new w;
+    few = λ h. too_long_few is facts old limit batch (limit + 4096) (from.left source) (from.left source') new w;
     memory = λ h. absurd (cc);
     source_failed = λ h. absurd (cc);
     sink_failed = λ h. absurd (cc);
     too_long = λ h. too_long_more is facts old limit batch (limit + 4096) (from.left source) (from.left source') new w;
-    within_done = λ h. absurd (cc);
-    within_source = λ h. absurd (cc);
+    within = λ h. absurd (not_within status.TooLong (λ e. cc) (λ e. cc) h);
     bounded = stops_bound is facts old limit batch (limit + 4096) ended.TooLong (from.left source) (from.left source') new w;
   }
 
@@ -227,14 +218,12 @@ module _ {M D S K : Type 0} (is : machines.Ghosts M) (facts : Ghosts D) (from : 
       → (r ≡ Err ended.Source → Rose (from.faults source) (from.faults source') (from.is_spent source')) → (r ≡ Err ended.Sink → Rose (to.faults sink) (to.faults sink') (to.is_spent sink'))
       → Ends from to batch limit (status_of r) source source' sink sink'
   session_ends (Ok x) f w source_rose sink_rose = record {
-    few_source = λ h. absurd (cc);
-    few_too_long = λ h. absurd (cc);
+    few = λ h. absurd (not_taking status.Done (λ e. cc) (λ e. cc) h);
     memory = λ h. absurd (cc);
     source_failed = λ h. absurd (cc);
     sink_failed = λ h. absurd (cc);
     too_long = λ h. absurd (cc);
-    within_done = λ h. finishes_within is facts old limit batch (limit + 4096) (from.left source) (from.left source') new f;
-    within_source = λ h. absurd (cc);
+    within = λ h. finishes_within is facts old limit batch (limit + 4096) (from.left source) (from.left source') new f;
     bounded = within_more (from.left source) (from.left source') limit 4096 (finishes_within is facts old limit batch (limit + 4096) (from.left source) (from.left source') new f);
   }
   session_ends (Err e) f w source_rose sink_rose = ends_early e w (λ h. source_rose (let s : e ≡ ended.Source = h in cc)) (λ h. sink_rose (let s : e ≡ ended.Sink = h in cc))

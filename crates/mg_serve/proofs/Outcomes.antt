@@ -17,7 +17,8 @@ use Rattle.mg_model.specs.State.{State}
 use Rattle.mg_model.specs.Volume.{Is, volume}
 use Rattle.mg_serve.specs.declared.ended.Ended.{Ended}
 use Rattle.mg_serve.specs.declared.ended.Ended.TheVariants as ended
-use Rattle.mg_serve.specs.Sessions.{AnswersAll, AnswersLines, AnswersPrefix, AreAnswered, FewUnanswered, IsAnswered, IsCut, IsPrefix, IsWithin, KeepsAnswered, KeepsExactly, KeepsOne, SpellsAfter, TakesAtMost, TakesMore, replies, status_at, taken_of}
+use Rattle.mg_serve.specs.Parts.{AnswersAll, AnswersLines, AnswersPrefix, AreAnswered, FewUnanswered, IsPrefix, KeepsAnswered, KeepsExactly, KeepsOne, SpellsAfter, TakesMore, replies}
+use Rattle.mg_serve.specs.Sessions.{IsAnswered, IsCut, IsWithin, TakesAtMost, status_at, taken_of}
 use Rattle.mg_serve.specs.declared.machine.Machine as machines
 use Rattle.mg_serve.specs.declared.status.Status.{Status}
 use Rattle.mg_serve.specs.declared.status.Status.TheVariants as status

@@ -21,7 +21,7 @@ use Rattle.mg_serve.specs.declared.ended.Ended.TheVariants as ended
 use Rattle.mg_serve.specs.declared.machine.Machine as machines
 use Rattle.mg_serve.specs.Machines.{Commits, Entry, Point, Says}
 use Rattle.mg_serve.specs.Serving.{Broken, Held, IsAfter, IsBetween, PutsWhole, Session, Stands}
-use Rattle.mg_serve.specs.Sessions.{IsPrefix}
+use Rattle.mg_serve.specs.Parts.{IsPrefix}
 use Rattle.mg_serve.specs.Waiting.{Waiting, no_replies}
 
 some_image : (a b : Image) → Some a ≡ Some b → b ≡ a

@@ -1,5 +1,6 @@
 -- Definitions, in the order in which one reads them. First what a session keeps, in words for the layers above.
 pub mod Sessions
+pub mod Parts
 pub mod Serving
 -- What the parts of a session do.
 pub mod Machines

@@ -21,7 +21,8 @@ use Rattle.mg_serve.specs.declared.machine.Machine as machines
 use Rattle.mg_serve.specs.declared.status.Status.{Status}
 use Rattle.mg_serve.specs.declared.status.Status.TheVariants as status
 use Rattle.mg_serve.specs.Machines.{Entry, Point}
-use Rattle.mg_serve.specs.Sessions.{Answers, Ends, EndsSession, Holds, HoldsExactly, IsCut, IsDoneOrMemory, IsPrefix, IsWithin, SpellsAfter, UnlessDisk, taken_of}
+use Rattle.mg_serve.specs.Parts.{IsPrefix, SpellsAfter}
+use Rattle.mg_serve.specs.Sessions.{Answers, Ends, EndsSession, Holds, HoldsExactly, IsCut, IsDoneOrMemory, IsWithin, UnlessDisk, taken_of}
 
 -- What each call within a session keeps, whatever comes of it: unless the disk failed the machine is live and stands on the disk;
 -- the two counts of words rise by as much; and the disk and the sink failed only where their counts rose.

@@ -72,10 +72,6 @@ input_limit = 2 ^ 32
 abbrev pub TakesAtMost : ℕ → Option (List ℕ) → Option (List ℕ) → Type 0
 TakesAtMost limit left left' = IfSome left (λ input. IsSomeAnd left' (λ rest. length input ≤ limit + length rest))
 
--- more bytes were taken
-abbrev pub TakesMore : ℕ → Option (List ℕ) → Option (List ℕ) → Type 0
-TakesMore limit left left' = IfSome left (λ input. IsSomeAnd left' (λ rest. limit + length rest < length input))
-
 -- the input has no more than so many bytes, where it is told
 abbrev pub IsWithin : ℕ → Option (List ℕ) → Type 0 → Type 0
 IsWithin limit left promise = IfSome left (λ input. length input ≤ limit → promise)
@@ -84,111 +80,66 @@ IsWithin limit left promise = IfSome left (λ input. length input ≤ limit → 
 abbrev pub taken_of : List ℕ → List ℕ → List ℕ
 taken_of input rest = take (length input - length rest) input
 
--- the last of the lines that were taken was cut: bytes are left behind it, or the source failed, or too much came
+-- the session ended as it took bytes: the source failed, or gave too much
+abbrev pub EndsTaking : Status → Type 0
+EndsTaking result = (result ≡ status.Source) ⊎ (result ≡ status.TooLong)
+
+-- the last of the lines that were taken was cut: bytes are left behind it, or the session ended so
 abbrev pub IsCut : Status → List ℕ → Type 0
-IsCut result rest = (rest ≢ []) ⊎ ((result ≡ status.Source) ⊎ (result ≡ status.TooLong))
+IsCut result rest = (rest ≢ []) ⊎ EndsTaking result
 
 -- A session: what is put
 -- A machine is told by two functions of the lines that it takes: `said`, the text of its replies to them, and `kept`, the
 -- state of its volume after them. For a kernel in the state `s` they are `text s` and `after s`.
 
--- the replies to an input
-abbrev pub replies : (List Line → List ℕ) → List ℕ → List ℕ
-replies said input = said (lines input)
-
--- what the sink took is a prefix of the replies to the whole input
-abbrev pub AnswersPrefix : (List Line → List ℕ) → Option (List ℕ) → Option (List ℕ) → Option (List ℕ) → Type 0
-AnswersPrefix said left taken taken' = IfSome left (λ input. AppendsPrefix taken taken' (replies said input))
-
--- the whole input was read, and all of it is answered
-abbrev pub AnswersAll : (List Line → List ℕ) → Option (List ℕ) → Option (List ℕ) → Option (List ℕ) → Option (List ℕ) → Type 0
-AnswersAll said left left' taken taken' = IfSome left (λ input. (left' ≡ Some []) × Appends taken taken' (replies said input))
-
--- what the sink took is the replies to some first lines of the input, and no part of another
-abbrev pub AnswersLines : (List Line → List ℕ) → Option (List ℕ) → Option (List ℕ) → Option (List ℕ) → Type 0
-AnswersLines said left taken taken' = IfSome left (λ input. (k : ℕ) × (k ≤ length (lines input)) × Appends taken taken' (said (take k (lines input))))
-
 -- What the sink took of a session that ended with this status.
 pub record Answers (said : List Line → List ℕ) (result : Status) (left left' taken taken' : Option (List ℕ)) : Type 0 where
   -- At each status it is a prefix of the replies to the whole input.
-  pub prefix : AnswersPrefix said left taken taken'
+  pub prefix : IfSome left (λ input. AppendsPrefix taken taken' (said (lines input)))
   -- At the end the source was read whole, and the sink took the replies to all of it.
-  pub done : result ≡ status.Done → AnswersAll said left left' taken taken'
+  pub done : result ≡ status.Done → IfSome left (λ input. (left' ≡ Some []) × Appends taken taken' (said (lines input)))
   -- Where the disk or the source failed, or too much came, it is the replies to some first lines, each of them whole.
-  pub lines_disk : result ≡ status.Disk → AnswersLines said left taken taken'
-  pub lines_source : result ≡ status.Source → AnswersLines said left taken taken'
-  pub lines_too_long : result ≡ status.TooLong → AnswersLines said left taken taken'
-
--- reads give an image that spells the state after the whole input
-abbrev pub SpellsAfter : (List Line → State) → List ℕ → Option Image → Type 0
-SpellsAfter kept input told = IsSomeAnd told (λ image. volume image ≡ Is (kept (lines input)))
+  pub first_lines : (result ≡ status.Disk) ⊎ EndsTaking result → IfSome left (λ input. (k : ℕ) × (k ≤ length (lines input)) × Appends taken taken' (said (take k (lines input))))
 
 -- A session: what a stop leaves
 
--- the image spells the state after some first ones of the lines
-abbrev pub IsPrefix : (List Line → State) → List Line → Image → Type 0
-IsPrefix kept ls c = (k : ℕ) × (k ≤ length ls) × (volume c ≡ Is (kept (take k ls)))
-
--- so many lines at least are answered
-abbrev pub AreAnswered : Option (List ℕ) → Option (List ℕ) → ℕ → Type 0
-AreAnswered taken taken' k = IfSome taken (λ before. IsSomeAnd taken' (λ now. answered (drop (length before) now) ≤ k))
-
 -- among so many first lines of an input are all that are answered, and none that did not come
 pub record IsAnswered (input rest : List ℕ) (taken taken' : Option (List ℕ)) (k : ℕ) : Type 0 where
-  pub all_answered : AreAnswered taken taken' k
+  pub all_answered : IfSome taken (λ before. IsSomeAnd taken' (λ now. answered (drop (length before) now) ≤ k))
   pub came : k ≤ length (lines (taken_of input rest))
-
--- At a stop now the volume has the state after some first lines: among them are all that are answered, and all came.
-abbrev pub KeepsAnswered : (Image → Type 0) → (List Line → State) → Option (List ℕ) → Option (List ℕ) → Option (List ℕ) → Option (List ℕ) → Type 0
-KeepsAnswered left_now kept left left' taken taken' = IfSome left (λ input. IsSomeAnd left' (λ rest. (c : Image) → left_now c →
-    (k : ℕ) × IsAnswered input rest taken taken' k × (volume c ≡ Is (kept (take k (lines input))))))
-
--- At a stop now the volume has the state after the answered lines and no others.
-abbrev pub KeepsExactly : (Image → Type 0) → (List Line → State) → Option (List ℕ) → Option (List ℕ) → Option (List ℕ) → Type 0
-KeepsExactly left_now kept left taken taken' = IfSome left (λ input. IfSome taken (λ before. IsSomeAnd taken' (λ now. (c : Image) → left_now c →
-    volume c ≡ Is (kept (take (answered (drop (length before) now)) (lines input))))))
-
--- Whatever a stop leaves now, it is one and the same state: that after some first lines, as above.
-abbrev pub KeepsOne : (Image → Type 0) → (List Line → State) → Option (List ℕ) → Option (List ℕ) → Option (List ℕ) → Option (List ℕ) → Type 0
-KeepsOne left_now kept left left' taken taken' = IfSome left (λ input. IsSomeAnd left' (λ rest.
-    (k : ℕ) × IsAnswered input rest taken taken' k × ((c : Image) → left_now c → volume c ≡ Is (kept (take k (lines input))))))
 
 -- What a stop leaves of a session.
 pub record Holds {D : Type 0} (facts : disks.Ghosts D) (kept : List Line → State) (disk disk' : D) (left left' taken taken' : Option (List ℕ)) : Type 0 where
   -- At each moment it leaves the state after some first lines.
-  pub moments : IfSome left (λ input. Leaves facts disk disk' (IsPrefix kept (lines input)))
+  pub moments : IfSome left (λ input. Leaves facts disk disk' (λ c. (k : ℕ) × (k ≤ length (lines input)) × (volume c ≡ Is (kept (take k (lines input))))))
   -- At the end, whatever the status, these are at least the answered lines, and all of them came.
-  pub held : KeepsAnswered (facts.left_since disk' (facts.moment disk')) kept left left' taken taken'
+  pub held : IfSome left (λ input. IsSomeAnd left' (λ rest. (c : Image) → facts.left_since disk' (facts.moment disk') c →
+      (k : ℕ) × IsAnswered input rest taken taken' k × (volume c ≡ Is (kept (take k (lines input))))))
 
 -- What a stop leaves once a session ended, and not by the disk.
 pub record HoldsExactly {D : Type 0} (facts : disks.Ghosts D) (kept : List Line → State) (result : Status) (disk' : D) (left left' taken taken' : Option (List ℕ)) : Type 0 where
   -- Where the source failed, or gave too much, the answered lines are held and no others.
-  pub held_source : result ≡ status.Source → KeepsExactly (facts.left_since disk' (facts.moment disk')) kept left taken taken'
-  pub held_too_long : result ≡ status.TooLong → KeepsExactly (facts.left_since disk' (facts.moment disk')) kept left taken taken'
-  -- Where the sink failed there is one state.
-  pub held_sink : result ≡ status.Sink → KeepsOne (facts.left_since disk' (facts.moment disk')) kept left left' taken taken'
+  pub held_taking : EndsTaking result → IfSome left (λ input. IfSome taken (λ before. IsSomeAnd taken' (λ now. (c : Image) → facts.left_since disk' (facts.moment disk') c →
+      volume c ≡ Is (kept (take (answered (drop (length before) now)) (lines input))))))
+  -- Where the sink failed it is one and the same state, after some first lines as at the end of every session.
+  pub held_sink : result ≡ status.Sink → IfSome left (λ input. IsSomeAnd left' (λ rest. (k : ℕ) × IsAnswered input rest taken taken' k
+      × ((c : Image) → facts.left_since disk' (facts.moment disk') c → volume c ≡ Is (kept (take k (lines input))))))
 
 -- A session: when each status comes
 
--- of the lines that are ended among the first `limit` bytes taken, fewer calls than `most` are unanswered
-abbrev pub FewUnanswered : ℕ → ℕ → Option (List ℕ) → Option (List ℕ) → Option (List ℕ) → Option (List ℕ) → Type 0
-FewUnanswered most limit left left' taken taken' =
-    IfSome left (λ input. IsSomeAnd left' (λ rest. IfSome taken (λ before. IsSomeAnd taken' (λ now.
-    length (ended_lines (take limit (taken_of input rest))) < answered (drop (length before) now) + most))))
-
 -- How a session in batches of so many replies ends, and how much of the input it takes, whatever reads tell.
 pub record Ends {S K : Type 0} (from : sources.Ghosts S) (to : sinks.Ghosts K) (batch limit : ℕ) (result : Status) (source source' : S) (sink sink' : K) : Type 0 where
-  -- Where the source failed, or gave too much, few calls are unanswered.
-  pub few_source : result ≡ status.Source → FewUnanswered batch limit (from.left source) (from.left source') (to.taken sink) (to.taken sink')
-  pub few_too_long : result ≡ status.TooLong → FewUnanswered batch limit (from.left source) (from.left source') (to.taken sink) (to.taken sink')
+  -- Where the source failed, or gave too much, fewer calls than a batch are unanswered of the lines that are ended among the first
+  -- `limit` bytes taken.
+  pub few : EndsTaking result → IfSome (from.left source) (λ input. IsSomeAnd (from.left source') (λ rest. IfSome (to.taken sink) (λ before. IsSomeAnd (to.taken sink') (λ now.
+      length (ended_lines (take limit (taken_of input rest))) < answered (drop (length before) now) + batch))))
   -- Memory is wanting only before anything was taken or put.
   pub memory : result ≡ status.Memory → (source' ≡ source) × (sink' ≡ sink)
   -- The source and the sink failed only where their counts rose.
   pub source_failed : result ≡ status.Source → Rose (from.faults source) (from.faults source') (from.is_spent source')
   pub sink_failed : result ≡ status.Sink → Rose (to.faults sink) (to.faults sink') (to.is_spent sink')
   -- The input is too long exactly where more was taken than a session may, unless a call failed.
-  pub too_long : result ≡ status.TooLong → TakesMore limit (from.left source) (from.left source')
-  pub within_done : result ≡ status.Done → TakesAtMost limit (from.left source) (from.left source')
-  pub within_source : result ≡ status.Source → TakesAtMost limit (from.left source) (from.left source')
+  pub too_long : result ≡ status.TooLong → IfSome (from.left source) (λ input. IsSomeAnd (from.left source') (λ rest. limit + length rest < length input))
+  pub within : (result ≡ status.Done) ⊎ (result ≡ status.Source) → TakesAtMost limit (from.left source) (from.left source')
   -- At each status no more is taken than that, and a piece.
   pub bounded : TakesAtMost (limit + 4096) (from.left source) (from.left source')

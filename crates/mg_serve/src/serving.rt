@@ -5,7 +5,8 @@ ghost use Rattle.mg_disk.specs.Stops.{CountGoes, CountRose, DiskCallsBy};
 ghost use Rattle.mg_faults.specs.Faults.{CountGoesOn, Rose};
 ghost use Rattle.mg_model.specs.Counts.{CountsAlike};
 ghost use Rattle.mg_serve.specs.Serving.{Serves};
-ghost use Rattle.mg_serve.specs.Sessions.{IsWithin, KeepsExactly, UnlessDisk, input_limit, status_of};
+ghost use Rattle.mg_serve.specs.Parts.{KeepsExactly};
+ghost use Rattle.mg_serve.specs.Sessions.{IsWithin, UnlessDisk, input_limit, status_of};
 
 use crate::buffers::Buffers;
 use crate::ended::Ended;

@@ -1,6 +1,6 @@
 -- What the program promises: the words and the records of the clauses of `top` and of `serve`, in the order in which
 -- docs/PROMISES.md tells them. An object that does not tell its content has None for it; a promise on content is then empty.
-use Rattle.std.specs.Prelude.{ℕ, ◌+◌, ◌<◌, ◌≤◌, ◌≡◌, ◌≢◌, ◌⊎◌, List, [], ◌∷◌, ◌++◌, codes, filter_map, Option, IfSome, IsSomeAnd}
+use Rattle.std.specs.Prelude.{ℕ, ◌+◌, ◌<◌, ◌≤◌, ◌≡◌, ◌≢◌, ◌⊎◌, List, [], ◌∷◌, ◌++◌, codes, filter_map, length, Option, IfSome, IsSomeAnd}
 use Rattle.std.specs.Fmt.{decimal}
 use Rattle.std.specs.Io.KnownBytes.{Appends}
 use Rattle.std.specs.List.{range_with_len}
@@ -30,18 +30,18 @@ use Rattle.mg_model.specs.State.{State}
 use Rattle.mg_model.specs.Step.{after, step}
 use Rattle.mg_model.specs.Volume.{Damaged, Is, NotVolume, OldVolume, VolumeRead, volume}
 use Rattle.mg_model.specs.Warmth.{cost}
-use Rattle.mg_serve.specs.Sessions.{Answers, Ends, Holds, HoldsExactly, IsCut, IsDoneOrMemory, IsWithin, SpellsAfter, input_limit, taken_of}
+use Rattle.mg_serve.specs.Sessions.{Answers, Ends, EndsTaking, Holds, HoldsExactly, IsDoneOrMemory, input_limit, taken_of}
 use Rattle.mg_serve.specs.declared.status.Status.{Status}
 use Rattle.mg_serve.specs.declared.status.Status.TheVariants as status
 
 -- A session: what it costs
 
--- the counter of words rose by no more than the lines of the bytes that were taken may cost, and a last one that was cut is not
--- among them
+-- the counter of words rose by no more than the lines of the bytes that were taken may cost; where bytes are left behind the last
+-- one, or the source failed, or too much came, that line was cut and is not among them
 abbrev pub IsWithinCost : State → Status → Option (List ℕ) → Option (List ℕ) → ℕ → ℕ → Type 0
 IsWithinCost s result left left' steps steps' =
     IfSome left (λ input. IsSomeAnd left' (λ rest. (steps' ≤ steps + cost s (lines (taken_of input rest)))
-    × (IsCut result rest → steps' ≤ steps + cost s (ended_lines (taken_of input rest)))))
+    × ((rest ≢ []) ⊎ EndsTaking result → steps' ≤ steps + cost s (ended_lines (taken_of input rest)))))
 
 -- `VOLUME run` and `VOLUME run BATCH`
 
@@ -99,7 +99,7 @@ EndsRun result =
 pub record LinesKeep {D S K : Type 0} (facts : disks.Ghosts D) (from : sources.Ghosts S) (to : sinks.Ghosts K) (said : State → List Line → List ℕ) (kept_after : State → List Line → State) (batch : ℕ) (result : Status) (disk disk' : D) (source source' : S) (sink sink' : K) : Type 0 where
   pub answers : OnVolume (facts.seen disk) (λ s. Answers (said s) result (from.left source) (from.left source') (to.taken sink) (to.taken sink'))
   -- At the end reads give the state after all lines.
-  pub kept : result ≡ status.Done → OnVolume (facts.seen disk) (λ s. IfSome (from.left source) (λ input. SpellsAfter (kept_after s) input (facts.seen disk')))
+  pub kept : result ≡ status.Done → OnVolume (facts.seen disk) (λ s. IfSome (from.left source) (λ input. IsSomeAnd (facts.seen disk') (λ image. volume image ≡ Is (kept_after s (lines input)))))
   pub holds : NothingPending facts disk → OnVolume (facts.seen disk) (λ s. Holds facts (kept_after s) disk disk' (from.left source) (from.left source') (to.taken sink) (to.taken sink'))
   pub holds_exactly : OnVolume (facts.seen disk) (λ s. HoldsExactly facts (kept_after s) result disk' (from.left source) (from.left source') (to.taken sink) (to.taken sink'))
   pub ends : Ends from to batch input_limit result source source' sink sink'
@@ -117,7 +117,7 @@ pub record LinesKeep {D S K : Type 0} (facts : disks.Ghosts D) (from : sources.G
   pub not_opened_leaves : NothingPending facts disk → ForSome (facts.seen disk) (λ image. IsNoState (volume image) → Leaves facts disk disk' (λ c. volume c ≡ volume image))
   -- Where reads give a volume, no call failed and the input is not too long, all is done, or memory was wanting.
   pub complete : OnVolume (facts.seen disk) (λ _. (CountRose facts disk disk' → ⊥) → (Rose (from.faults source) (from.faults source') (from.is_spent source') → ⊥)
-      → (Rose (to.faults sink) (to.faults sink') (to.is_spent sink') → ⊥) → IsWithin input_limit (from.left source) (IsDoneOrMemory result))
+      → (Rose (to.faults sink) (to.faults sink') (to.is_spent sink') → ⊥) → IfSome (from.left source) (λ input. length input ≤ input_limit → IsDoneOrMemory result))
 
 -- What `run` keeps, in batches of so many replies: the machine's replies are `text`, and its states `after`.
 pub record RunKeeps {D S K : Type 0} (facts : disks.Ghosts D) (from : sources.Ghosts S) (to : sinks.Ghosts K) (batch : ℕ) (result : Status) (disk disk' : D) (source source' : S) (sink sink' : K) (steps steps' : ℕ) : Type 0 where
@@ -137,7 +137,7 @@ pub record DryKeeps {S K : Type 0} (from : sources.Ghosts S) (to : sinks.Ghosts 
   pub others : (result ≢ status.Usage) × (result ≢ status.NoVolume) × (result ≢ status.Disk) × (result ≢ status.TooSmall)
   -- Where no call failed and the input is not too long, all is done, or memory was wanting.
   pub complete : (Rose (from.faults source) (from.faults source') (from.is_spent source') → ⊥)
-      → (Rose (to.faults sink) (to.faults sink') (to.is_spent sink') → ⊥) → IsWithin input_limit (from.left source) (IsDoneOrMemory result)
+      → (Rose (to.faults sink) (to.faults sink') (to.is_spent sink') → ⊥) → IfSome (from.left source) (λ input. length input ≤ input_limit → IsDoneOrMemory result)
 
 -- `VOLUME gen NUMBER LINES`
 

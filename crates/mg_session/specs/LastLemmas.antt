@@ -6,7 +6,8 @@ use Rattle.mg_faults.specs.Faults.{CountGoesOn, Rose, then_rose}
 use Rattle.mg_io.specs.Known.{Appends-then, AppendsPrefix, AppendsPrefix-longer}
 use Rattle.mg_io.specs.declared.traits.Sink as sinks
 use Rattle.mg_model.specs.declared.calls.Line.{Line}
-use Rattle.mg_serve.specs.Sessions.{Answers, IsDoneOrMemory, replies}
+use Rattle.mg_serve.specs.Parts.{replies}
+use Rattle.mg_serve.specs.Sessions.{Answers, IsDoneOrMemory}
 use Rattle.mg_serve.specs.declared.status.Status.{Status}
 use Rattle.mg_serve.specs.declared.status.Status.TheVariants as status
 use Rattle.mg_session.specs.Headline.{EndsRun, PutsLast}

@@ -32,7 +32,8 @@ use Rattle.mg_serve.specs.declared.machine.Machine as machines
 use Rattle.mg_serve.specs.declared.status.Status.{Status}
 use Rattle.mg_serve.specs.declared.status.Status.TheVariants as status
 use Rattle.mg_serve.specs.Serving.{Serves, Traces}
-use Rattle.mg_serve.specs.Sessions.{Answers, AnswersLines, AnswersPrefix, AreAnswered, EndsSession, Holds, HoldsExactly, IsDoneOrMemory, IsPrefix, IsWithin, KeepsAnswered, SpellsAfter, TakesAtMost, input_limit, replies, taken_of}
+use Rattle.mg_serve.specs.Parts.{AnswersLines, AnswersPrefix, AreAnswered, IsPrefix, KeepsAnswered, SpellsAfter, replies}
+use Rattle.mg_serve.specs.Sessions.{Answers, EndsSession, EndsTaking, Holds, HoldsExactly, IsDoneOrMemory, IsWithin, TakesAtMost, input_limit, taken_of}
 use Rattle.mg_session.specs.Headline.{EndsRun, EndsUnopened, IfState, IsWithinCost, LinesKeep, MayTell, OnVolume, TellsNone, TellsOfNone, check_line, summary_line}
 use Rattle.mg_session.specs.Unopened.{EndsUnopenedBy, FaultTells, TellsNothing, fault_line}
 
@@ -59,9 +60,7 @@ first_answers : (said : List Line → List ℕ) → said [] ≡ [] → (result :
 first_answers said none result left taken early = record {
   prefix = none_put said left taken;
   done = λ ended. absurd (early ended);
-  lines_disk = λ ended. none_lines said none left taken;
-  lines_source = λ ended. none_lines said none left taken;
-  lines_too_long = λ ended. none_lines said none left taken;
+  first_lines = λ ended. none_lines said none left taken;
 }
 
 quiet_early : (f : OpenFault) (result : Status) → TellsNothing f → EndsUnopenedBy f result → result ≢ status.Done
@@ -113,6 +112,9 @@ unopened_answers said none f told result left taken taken' tells ends same =
     unopened f told (λ s. Answers (said s) result left left taken taken') tells
     (λ quiet image is s spelled. subst (λ (v : Option (List ℕ)). Answers (said s) result left left taken v) (sym (same quiet)) (first_answers (said s) (none s) result left taken (quiet_early f result quiet ends)))
 
+not_taking : (result : Status) → EndsTaking result → result ≢ status.Source → result ≢ status.TooLong → ⊥
+not_taking result taking source too_long = ⊎_elim source too_long taking
+
 -- what a stop leaves of it
 unopened_exactly : {D : Type 0} (facts : Ghosts D) (kept : State → List Line → State) (f : OpenFault) (told : Option Image) (result : Status) (d' : D) (left taken taken' : Option (List ℕ)) → FaultTells f told → EndsUnopenedBy f result
     → OnVolume told (λ s. HoldsExactly facts (kept s) result d' left left taken taken')
@@ -123,8 +125,8 @@ unopened_exactly facts kept f told result d' left taken taken' tells ends =
     by_fault fault.Not quiet ends s = absurd quiet
     by_fault fault.Old quiet ends s = absurd quiet
     by_fault fault.Damaged quiet ends s = absurd quiet
-    by_fault fault.Disk quiet ends s = let e : result ≡ status.Disk = ends in record { held_source = λ h. absurd (cc); held_too_long = λ h. absurd (cc); held_sink = λ h. absurd (cc) }
-    by_fault fault.Memory quiet ends s = let e : result ≡ status.Memory = ends in record { held_source = λ h. absurd (cc); held_too_long = λ h. absurd (cc); held_sink = λ h. absurd (cc) }
+    by_fault fault.Disk quiet ends s = let e : result ≡ status.Disk = ends in record { held_taking = λ h. absurd (not_taking result h (λ s. cc) (λ s. cc)); held_sink = λ h. absurd (cc) }
+    by_fault fault.Memory quiet ends s = let e : result ≡ status.Memory = ends in record { held_taking = λ h. absurd (not_taking result h (λ s. cc) (λ s. cc)); held_sink = λ h. absurd (cc) }
 
 -- a prefix of a fault's line is one of a line that `check` may put
 pub fault_may_tell : (f : OpenFault) (taken taken' : Option (List ℕ)) → AppendsPrefix taken taken' (fault_line f) → (line : List ℕ) × MayTell line × AppendsPrefix taken taken' line
@@ -374,14 +376,12 @@ module _ {D S K : Type 0} (facts : Ghosts D) (from : sources.Ghosts S) (to : sin
         holds = λ pending. unopened_holds facts d d' kept none f (from.left source) (to.taken sink) (to.taken sink') tells (λ q. ap (λ v. to.taken v) (quiet q)) pending (first pending);
         holds_exactly = unopened_exactly facts kept f (facts.seen d) result d' (from.left source) (to.taken sink) (to.taken sink') tells ends;
         ends = record {
-          few_source = λ h. absurd (other_end result status.Source un (λ h. cc) (λ h. cc) (λ h. cc) (λ h. cc) h);
-          few_too_long = λ h. absurd (other_end result status.TooLong un (λ h. cc) (λ h. cc) (λ h. cc) (λ h. cc) h);
+          few = λ h. absurd (not_taking result h (other_end result status.Source un (λ h. cc) (λ h. cc) (λ h. cc) (λ h. cc)) (other_end result status.TooLong un (λ h. cc) (λ h. cc) (λ h. cc) (λ h. cc)));
           memory = λ h. (refl, quiet (fault_quiet f result ends (λ line. cc) (λ sink. cc)));
           source_failed = λ h. absurd (other_end result status.Source un (λ h. cc) (λ h. cc) (λ h. cc) (λ h. cc) h);
           sink_failed = sink_rose;
           too_long = λ h. absurd (other_end result status.TooLong un (λ h. cc) (λ h. cc) (λ h. cc) (λ h. cc) h);
-          within_done = λ h. none_taken (from.left source) input_limit;
-          within_source = λ h. none_taken (from.left source) input_limit;
+          within = λ h. none_taken (from.left source) input_limit;
           bounded = none_taken (from.left source) (input_limit + 4096);
         };
         which = unopened_which result un;

@@ -7,7 +7,8 @@ ghost use Rattle.mg_kernel.specs.Meaning.{StandsOn, is_live, now_of, staged_of, 
 ghost use Rattle.mg_model.specs.Counts.{CountsAlike};
 ghost use Rattle.mg_model.specs.Print.{text};
 ghost use Rattle.mg_model.specs.Step.{after};
-ghost use Rattle.mg_serve.specs.Sessions.{Answers, Ends, Holds, HoldsExactly, IsWithin, KeepsExactly, SpellsAfter, UnlessDisk, status_of};
+ghost use Rattle.mg_serve.specs.Parts.{KeepsExactly, SpellsAfter};
+ghost use Rattle.mg_serve.specs.Sessions.{Answers, Ends, Holds, HoldsExactly, IsWithin, UnlessDisk, status_of};
 ghost use Rattle.mg_session.specs.Headline.{IsWithinCost};
 
 use mg_disk::Disk;

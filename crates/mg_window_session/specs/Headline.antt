@@ -14,7 +14,7 @@ use Rattle.mg_model.specs.Lines.{lines}
 use Rattle.mg_model.specs.Print.{answered, hex_text, spaced}
 use Rattle.mg_model.specs.State.{State}
 use Rattle.mg_model.specs.Volume.{volume}
-use Rattle.mg_serve.specs.Sessions.{IsDoneOrMemory, IsWithin, input_limit, replies}
+use Rattle.mg_serve.specs.Sessions.{IsDoneOrMemory, IsWithin, input_limit}
 use Rattle.mg_serve.specs.declared.status.Status.{Status}
 use Rattle.mg_serve.specs.declared.status.Status.TheVariants as status
 use Rattle.mg_session.specs.Headline.{EndsRun, LinesKeep, OnVolume, PutsLast, UsageKeeps}
@@ -72,7 +72,7 @@ device_lines (window ∷ windows) = device_line window ++ device_lines windows
 
 -- the replies to a whole input, and the lines of the devices that are left behind it
 abbrev pub whole_text : Equipped → List ℕ → List ℕ
-whole_text m input = replies (device_text m) input ++ device_lines (device_after m (lines input)).windows
+whole_text m input = device_text m (lines input) ++ device_lines (device_after m (lines input)).windows
 
 -- What a command keeps that runs lines with device windows
 
