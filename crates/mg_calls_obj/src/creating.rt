@@ -80,10 +80,6 @@ fn first_row(base: u64, n: u64, account: u64, password: u64) -> ObjRow
     ensures { result ≡ (new_object base n account password).row }
 {
     let mut row = ObjRow::new(base, n, account);
-    row.add_password(Pw {
-        password,
-        rights: Rights::all(),
-        until: Pw::NEVER,
-    });
+    row.add_password(Pw::new(password, Rights::all(), Pw::NEVER));
     row
 }

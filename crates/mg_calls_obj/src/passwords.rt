@@ -88,12 +88,7 @@ fn with_password(object: ObjRow, password: u64, rights: Rights, until: u64) -> O
     ensures { result ≡ record object { passwords = object.passwords ++ record { password = password; rights = rights; until = until } ∷ [] } }
 {
     let mut row = object;
-    let pw = Pw {
-        password,
-        rights,
-        until,
-    };
     // There is room.
-    let _ = add(&mut row, pw);
+    let _ = add(&mut row, Pw::new(password, rights, until));
     row
 }

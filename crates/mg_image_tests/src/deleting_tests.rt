@@ -67,11 +67,7 @@ fn put_word<D: Disk>(disk: &mut D, i: u64, word: u64, number: u64) {
 /// Puts the object's row behind the root's.
 fn put_row<D: Disk>(disk: &mut D) {
     let mut row = ObjRow::new(BASE, PAGES, 1);
-    row.add_password(Pw {
-        password: 7,
-        rights: Rights::all(),
-        until: Pw::NEVER,
-    });
+    row.add_password(Pw::new(7, Rights::all(), Pw::NEVER));
     let mut bytes = block(disk, FIRST_OBJECT_BLOCK);
     put_object(Some(&row), 1, &mut bytes);
     put(disk, FIRST_OBJECT_BLOCK, &bytes);

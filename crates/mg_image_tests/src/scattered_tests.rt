@@ -1,5 +1,6 @@
 // A volume as another program may write it: rows and pages at any places, and open segments in the journal.
-ghost use Rattle.std.specs.Prelude.{◌≡◌, ◌<◌, length};
+ghost use Rattle.std.specs.Prelude.{◌≡◌, ◌≤◌, ◌<◌, length};
+ghost use Rattle.mg_model.specs.Limits.{never};
 
 use mg_disk::{BLOCK_SIZE, Block, Disk, Left, MemDisk};
 use mg_model::{Fault, Frame, ObjRow, Pw, Rights, Slot, ThrRow, ThrState};
@@ -54,17 +55,14 @@ fn put_block(disk: &mut MemDisk, i: u64, block: &Block) {
 
 // A password that gives these rights, or all where they are none.
 fn password(password: u64, bits: u8, until: u64) -> Pw
-    ensures { result.until ≡ until }
+    requires begins { 1 ≤ until }
+    requires ends { until ≤ never }
 {
     let rights = match Rights::new(bits) {
         Some(rights) => rights,
         None => Rights::all(),
     };
-    Pw {
-        password,
-        rights,
-        until,
-    }
+    Pw::new(password, rights, until)
 }
 
 // The second password has ended in period 7.

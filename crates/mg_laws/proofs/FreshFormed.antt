@@ -11,7 +11,8 @@ use Rattle.mg_model.specs.Fresh.{first_thread, fresh, root_base, root_object, ro
 use Rattle.mg_laws.proofs.KeepsThreads.{HasOtherBirth}
 use Rattle.mg_laws.proofs.KeepsRows.{IsBelow}
 use Rattle.mg_model.specs.KeptListLemmas.{AllPairs-nil}
-use Rattle.mg_model.specs.Ranges.{IsCallFrame, IsEntryOf, IsPassword, IsSlot, IsWord}
+use Rattle.mg_model.specs.PasswordRows.{IsPassword}
+use Rattle.mg_model.specs.Ranges.{IsCallFrame, IsEntryOf, IsSlot, IsWord}
 use Rattle.mg_model.specs.Settings.{Settings}
 use Rattle.mg_model.specs.State.{Object, Thread}
 use Rattle.mg_model.specs.WellFormed.{IsAccount, IsBefore, IsObject, IsSettings, IsThread, IsWellFormed}

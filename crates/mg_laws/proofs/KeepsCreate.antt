@@ -16,7 +16,8 @@ use Rattle.mg_model.specs.Limits.{object_limit, object_page_limit, first_page, n
 use Rattle.mg_model.specs.ObjectCalls.{all_drawn, create, drawn, next_password}
 use Rattle.mg_model.specs.Objects.{is_free, lowest_free, new_object, with_object}
 use Rattle.mg_laws.proofs.Passed.{unrefused}
-use Rattle.mg_model.specs.Ranges.{IsEntryOf, IsPassword, IsWord}
+use Rattle.mg_model.specs.PasswordRows.{IsPassword}
+use Rattle.mg_model.specs.Ranges.{IsEntryOf, IsWord}
 use Rattle.mg_model.specs.Settings.{Settings}
 use Rattle.mg_model.specs.State.{Object, State}
 use Rattle.mg_model.specs.WellFormed.{IsObject, IsSettings, IsWellFormed}

@@ -21,7 +21,8 @@ use Rattle.mg_model.specs.Limits.{entry_point_limit, password_limit, never}
 use Rattle.mg_model.specs.ObjectCalls.{all_drawn, delete, drawn, entry, ext, extension_of, info, is_aligned, is_entry, is_past, has_password, load, next_password, pwadd, pwdel, recharge, row_at, store, with_entry, with_row_at}
 use Rattle.mg_model.specs.Objects.{with_word, without_object}
 use Rattle.mg_laws.proofs.Passed.{unrefused}
-use Rattle.mg_model.specs.Ranges.{IsEntryOf, IsExtension, IsObjectRow, IsPassword, IsWord}
+use Rattle.mg_model.specs.PasswordRows.{IsPassword}
+use Rattle.mg_model.specs.Ranges.{IsEntryOf, IsExtension, IsObjectRow, IsWord}
 use Rattle.mg_model.specs.Rights.{IsRights}
 use Rattle.mg_model.specs.State.{Object, ObjectRow, State}
 use Rattle.mg_model.specs.WellFormed.{AreObjects, IsWellFormed}

@@ -194,11 +194,7 @@ fn add(row: &mut ObjRow, password: u64, bits: u8) {
     if let Some(rights) = Rights::new(bits)
         && row.passwords().len() < 32
     {
-        row.add_password(Pw {
-            password,
-            rights,
-            until: Pw::NEVER,
-        });
+        row.add_password(Pw::new(password, rights, Pw::NEVER));
     }
 }
 

@@ -12,7 +12,8 @@ use Rattle.std.proofs.Math.Seq.{get_or-append_seam}
 use Rattle.mg_model.specs.declared.slots.Pw.{Pw}
 use Rattle.mg_model.specs.declared.slots.Slot.{Slot}
 use Rattle.mg_model.specs.ObjectCalls.{is_entry}
-use Rattle.mg_model.specs.Ranges.{IsCallFrame, IsEntryOf, IsObjectRow, IsPassword, IsSlot}
+use Rattle.mg_model.specs.PasswordRows.{IsPassword}
+use Rattle.mg_model.specs.Ranges.{IsCallFrame, IsEntryOf, IsObjectRow, IsSlot}
 use Rattle.mg_model.specs.State.{CallFrame, ObjectRow}
 
 -- the `frame` is what contracts see of the two fields

@@ -2,6 +2,7 @@
 pub mod Limits
 pub mod Settings
 pub mod Tariff
+pub mod PasswordRows
 pub mod State
 pub mod Rights
 pub mod Access

@@ -1,22 +1,15 @@
 -- What the fields of a live row keep.
 use Rattle.std.specs.Prelude.{◌≡◌, ◌≢◌, ℕ, ◌+◌, ◌*◌, ◌/◌, ◌%◌, ◌^◌, ◌<◌, ◌≤◌, length, All, AllPairs}
 use Rattle.std.specs.Option.{ForSome}
-use Rattle.mg_model.specs.declared.slots.Pw.{Pw}
 use Rattle.mg_model.specs.declared.slots.Slot.{Slot}
-use Rattle.mg_model.specs.declared.limits.TheConstants.{ACCOUNT_LIMIT as account_limit, BIRTH_LIMIT as birth_limit, DRAW_LIMIT as draw_limit, ENTRY_POINT_LIMIT as entry_point_limit, FIRST_PAGE as first_page, FRAME_LIMIT as frame_limit, NEVER as never, OBJECT_PAGE_LIMIT as object_page_limit, PAGE_END as page_end, PASSWORD_LIMIT as password_limit, PERIOD_LIMIT as period_limit, SLOT_LIMIT as slot_limit, THREAD_LIMIT as thread_limit}
-use Rattle.mg_model.specs.Rights.{IsRights}
+use Rattle.mg_model.specs.declared.limits.TheConstants.{ACCOUNT_LIMIT as account_limit, BIRTH_LIMIT as birth_limit, DRAW_LIMIT as draw_limit, ENTRY_POINT_LIMIT as entry_point_limit, FIRST_PAGE as first_page, FRAME_LIMIT as frame_limit, OBJECT_PAGE_LIMIT as object_page_limit, PAGE_END as page_end, PASSWORD_LIMIT as password_limit, PERIOD_LIMIT as period_limit, SLOT_LIMIT as slot_limit, THREAD_LIMIT as thread_limit}
+use Rattle.mg_model.specs.PasswordRows.{IsPassword}
 use Rattle.mg_model.specs.State.{ObjectRow, CallFrame, ThreadRow, Counters}
 use Rattle.mg_model.specs.Tests.{first_back}
 
 -- a number of 64 bits
 abbrev pub IsWord : ℕ → Type 0
 IsWord n = n < 2 ^ 64
-
-pub record IsPassword (row : Pw) : Type 0 where
-  pub password : IsWord row.password
-  pub rights : IsRights row.rights
-  pub begins : 1 ≤ row.until
-  pub ends : row.until ≤ never
 
 pub record IsSlot (slot : Slot) : Type 0 where
   pub base : IsWord slot.base

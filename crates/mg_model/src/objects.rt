@@ -4,7 +4,6 @@ ghost use Rattle.std.specs.List.{list_any};
 ghost use Rattle.std.specs.Option.{IfSome};
 ghost use Rattle.mg_model.specs.Access.{covers, holds};
 ghost use Rattle.mg_model.specs.ObjectCalls.{is_entry, has_password};
-ghost use Rattle.mg_model.specs.Limits.{never};
 ghost use Rattle.mg_model.specs.Ranges.{IsEntryOf, IsObjectRow, IsPlace};
 
 use crate::few::{Few, Filler};
@@ -17,11 +16,7 @@ impl Filler for Pw {
     ghost blank = { record { password = 0; rights = 63; until = 1 } };
 
     fn blank() -> Pw {
-        Pw {
-            password: 0,
-            rights: Rights::all(),
-            until: 1,
-        }
+        Pw::new(0, Rights::all(), 1)
     }
 }
 
@@ -149,7 +144,10 @@ impl ObjRow {
     pub fn has_password(&self, p: u64) -> bool
         ensures { result ≡ list_any (λ pw. has_password p pw) self.now.passwords }
     {
-        self.passwords.as_slice().iter().any(|pw| pw.password == p)
+        self.passwords
+            .as_slice()
+            .iter()
+            .any(|pw| pw.password() == p)
     }
 
     /// Whether this address is an entry of it.
@@ -159,13 +157,13 @@ impl ObjRow {
         self.entries.as_slice().iter().any(|entry| *entry == a)
     }
 
-    /// One password row more, the last; its until is from 1 to `2^24`.
+    /// One password row more, the last.
     pub fn add_password(&mut self, pw: Pw)
         requires fewer_than_32_passwords { length self.old.passwords < 32 }
-        requires begins { 1 ≤ pw.until }
-        requires ends { pw.until ≤ never }
         ensures { self.new ≡ record self.old { passwords = self.old.passwords ++ pw ∷ [] } }
     {
+        // It tells that the row keeps its ranges.
+        pw.keep_rules();
         self.passwords.add(pw);
     }
 
@@ -211,7 +209,7 @@ fn without(passwords: &[Pw], p: u64) -> Few<Pw, PASSWORD_LIMIT>
 {
     let mut left = Few::new();
     for pw in passwords {
-        if pw.password != p {
+        if pw.password() != p {
             left.add(*pw);
         }
     }

@@ -1,9 +1,12 @@
 // A slot of a frame, and a password row of an object.
-ghost use Rattle.std.specs.Prelude.{◌≡◌};
+ghost use Rattle.std.specs.Prelude.{◌≡◌, ◌≤◌};
 ghost use Rattle.mg_model.specs.Access.{gives};
+ghost use Rattle.mg_model.specs.Limits.{never};
+ghost use Rattle.mg_model.specs.PasswordRows.{IsPassword};
 
 use crate::limits;
 use crate::rights::{Right, Rights};
+use std::marker::Model;
 
 /// A slot of a protection domain: a capability list and the password that opens it. A thread's frame has up to 8.
 #[derive(Clone, Copy, Debug, PartialEq, Eq)]
@@ -14,19 +17,70 @@ pub struct Slot {
     pub password: u64,
 }
 
-/// A password row of an object, of which it has up to 32.
+/// A password row of an object, of which it has up to 32. Its until is from 1 to `2^24`.
 #[derive(Clone, Copy, Debug, PartialEq, Eq)]
 pub struct Pw {
-    pub password: u64,
-    /// What the password gives while the row is current.
-    pub rights: Rights,
-    /// The first period at which the row is current no more, from 1 to `2^24`. A row with `2^24` never ends.
-    pub until: u64,
+    password: u64,
+    rights: Rights,
+    until: u64,
+}
+
+impl Model for Pw {
+    ghost use Rattle.mg_model.specs.PasswordRows.{IsPassword, PasswordRow};
+
+    ghost Value = { PasswordRow };
+
+    ghost view = { λ row. record { password = row.password; rights = row.rights; until = row.until } };
+
+    ghost invariant = { λ row. IsPassword (record { password = row.password; rights = row.rights; until = row.until }) };
+
+    ghost inverse = { λ row. record { password = row.password; rights = row.rights; until = row.until } };
 }
 
 impl Pw {
     /// The until of a row that never ends: it is above every period.
     pub const NEVER: u64 = limits::NEVER;
+
+    /// A row for this password, with these rights and this until, from 1 to `2^24`.
+    pub fn new(password: u64, rights: Rights, until: u64) -> Pw
+        requires begins { 1 ≤ until }
+        requires ends { until ≤ never }
+        ensures { result ≡ record { password = password; rights = rights; until = until } }
+    {
+        Pw {
+            password,
+            rights,
+            until,
+        }
+    }
+
+    /// Tells that the row keeps its rules. It does nothing when it runs.
+    pub fn keep_rules(&self)
+        ensures { IsPassword self.now }
+    {
+        let _until = self.until;
+    }
+
+    /// The password that it is for.
+    pub fn password(&self) -> u64
+        ensures { result ≡ self.now.password }
+    {
+        self.password
+    }
+
+    /// What the password gives while the row is current.
+    pub fn rights(&self) -> Rights
+        ensures { result ≡ self.now.rights }
+    {
+        self.rights
+    }
+
+    /// The first period at which the row is current no more, from 1 to `2^24`. A row with `2^24` never ends.
+    pub fn until(&self) -> u64
+        ensures { result ≡ self.now.until }
+    {
+        self.until
+    }
 
     /// Whether the row is for this password, has this right, and is current at this period.
     pub fn gives(&self, p: u64, r: Right, period: u64) -> bool

@@ -1,8 +1,8 @@
 // The passwords of an object.
-ghost use Rattle.std.specs.Prelude.{◌≡◌, ◌≤◌, ◌++◌, ◌∷◌, [], filter, if◌then◌else◌, length, nat_le, not};
+ghost use Rattle.std.specs.Prelude.{◌≡◌, ◌++◌, ◌∷◌, [], filter, if◌then◌else◌, length, nat_le, not};
 ghost use Rattle.std.specs.List.{list_any};
 ghost use Rattle.mg_model.specs.Access.{holds as held};
-ghost use Rattle.mg_model.specs.Limits.{never, password_limit};
+ghost use Rattle.mg_model.specs.Limits.{password_limit};
 ghost use Rattle.mg_model.specs.ObjectCalls.{has_password};
 
 use mg_model::limits::PASSWORD_LIMIT;
@@ -16,10 +16,8 @@ pub fn holds(r: &ObjRow, p: u64, x: Right, period: u64) -> bool
     r.holds(p, x, period)
 }
 
-/// One password row more, the last; its until is from 1 to `2^24`. An object that has 32 is refused (Limit), and stays.
+/// One password row more, the last. An object that has 32 is refused (Limit), and stays.
 pub fn add(r: &mut ObjRow, p: Pw) -> Result<(), Refusal>
-    requires begins { 1 ≤ p.until }
-    requires ends { p.until ≤ never }
     ensures refused { result ≡ (if nat_le password_limit (length r.old.passwords) then Err Refusal.Limit else Ok tt) }
     ensures list { r.new ≡ (if nat_le password_limit (length r.old.passwords) then r.old else record r.old { passwords = r.old.passwords ++ p ∷ [] }) }
 {

@@ -7,7 +7,8 @@ use Rattle.mg_model.specs.declared.slots.Pw.{Pw}
 use Rattle.mg_model.specs.declared.slots.Slot.{Slot}
 use Rattle.mg_model.specs.Bytes.{are_zeros, number_at, numbers_at, padded_to, words_bytes}
 use Rattle.mg_model.specs.BytesLemmas.{length-padded_to, length-words_bytes, numbers_at-behind, numbers_at-first}
-use Rattle.mg_model.specs.Ranges.{IsEntryOf, IsExtension, IsObjectRow, IsPassword, IsPlace, IsWord}
+use Rattle.mg_model.specs.PasswordRows.{IsPassword}
+use Rattle.mg_model.specs.Ranges.{IsEntryOf, IsExtension, IsObjectRow, IsPlace, IsWord}
 use Rattle.mg_model.specs.RowLemmas.{are_zeros-replicate, object-live, read-free}
 use Rattle.mg_model.specs.Spelling.{extension_at, live_if, object_bytes, object_fields, object_head, object_read, passwords_at}
 use Rattle.mg_model.specs.State.{ObjectRow}

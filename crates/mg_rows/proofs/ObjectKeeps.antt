@@ -8,7 +8,8 @@ use Rattle.std.proofs.lemmas.List.Folds.{list_any_none}
 use Rattle.std.proofs.lemmas.List.Elements.{All-head, All-tail}
 use Rattle.mg_model.specs.declared.slots.Pw.{Pw}
 use Rattle.mg_model.specs.declared.slots.Slot.{Slot}
-use Rattle.mg_model.specs.Ranges.{IsEntryOf, IsExtension, IsObjectRow, IsPassword, IsPlace}
+use Rattle.mg_model.specs.PasswordRows.{IsPassword}
+use Rattle.mg_model.specs.Ranges.{IsEntryOf, IsExtension, IsObjectRow, IsPlace}
 use Rattle.mg_model.specs.State.{ObjectRow}
 use Rattle.mg_model.specs.Tests.{all_distinct, is_entry_of, is_object_row, is_password, is_place}
 

@@ -12,7 +12,8 @@ use Rattle.mg_model.specs.declared.accounts.AccRow.{AccRow}
 use Rattle.mg_model.specs.declared.slots.Pw.{Pw}
 use Rattle.mg_model.specs.declared.slots.Slot.{Slot}
 use Rattle.mg_model.specs.Bytes.{are_zeros, bytes_at, number_at, numbers_at}
-use Rattle.mg_model.specs.Ranges.{IsCallFrame, IsCounters, IsExtension, IsObjectRow, IsPassword, IsSlot, IsThreadRow, IsWord}
+use Rattle.mg_model.specs.PasswordRows.{IsPassword}
+use Rattle.mg_model.specs.Ranges.{IsCallFrame, IsCounters, IsExtension, IsObjectRow, IsSlot, IsThreadRow, IsWord}
 use Rattle.mg_model.specs.Spelling.{Read, account_bytes, account_fields, account_read, extension_at, frame_at, frames_at, free_or, globals_bytes, globals_fields, globals_read, live_if, object_bytes, object_fields, object_read, passwords_at, slots_at, thread_bytes, thread_fields, thread_read}
 use Rattle.mg_model.specs.State.{Counters, ObjectRow, ThreadRow}
 use Rattle.mg_model.specs.Tests.{are_counters, is_call_frame, is_object_row, is_password, is_thread_row}

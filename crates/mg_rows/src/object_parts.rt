@@ -88,11 +88,7 @@ fn password_at(b: &[u8], k: usize) -> Option<Pw>
         return None;
     }
     match Rights::new(b[336 + k]) {
-        Some(rights) => Some(Pw {
-            password: number_at(b, 80 + 8 * k),
-            rights,
-            until,
-        }),
+        Some(rights) => Some(Pw::new(number_at(b, 80 + 8 * k), rights, until)),
         None => None,
     }
 }

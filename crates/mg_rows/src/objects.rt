@@ -102,7 +102,7 @@ fn add_passwords(passwords: &[Pw], filling: &mut Filling<OBJECT_SIZE>)
     ensures long { length filling.new ≡ length filling.old + 256 }
 {
     for pw in passwords {
-        filling.add_word(pw.password);
+        filling.add_word(pw.password());
     }
     filling.skip(256 - 8 * passwords.len());
 }
@@ -114,7 +114,7 @@ fn add_rights(passwords: &[Pw], filling: &mut Filling<OBJECT_SIZE>)
     ensures long { length filling.new ≡ length filling.old + 32 }
 {
     for pw in passwords {
-        filling.add_byte(pw.rights.bits());
+        filling.add_byte(pw.rights().bits());
     }
     filling.skip(32 - passwords.len());
 }
@@ -136,7 +136,7 @@ fn add_untils(passwords: &[Pw], filling: &mut Filling<OBJECT_SIZE>)
     ensures long { length filling.new ≡ length filling.old + 256 }
 {
     for pw in passwords {
-        filling.add_word(pw.until);
+        filling.add_word(pw.until());
     }
     filling.skip(256 - 8 * passwords.len());
 }

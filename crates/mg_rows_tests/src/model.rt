@@ -1,5 +1,6 @@
 // Settings and passwords, and rows that change: each call that no other crate makes yet, once.
-ghost use Rattle.std.specs.Prelude.{◌≡◌, length};
+ghost use Rattle.std.specs.Prelude.{◌≡◌, ◌≤◌, length};
+ghost use Rattle.mg_model.specs.Limits.{never};
 
 use mg_model::{
     Frame, Globals, ObjRow, Params, Pw, Right, Rights, Slot, Tariff, ThrRow, ThrState, draw,
@@ -46,13 +47,10 @@ fn all_rights_are_most() -> bool {
 }
 
 fn password(password: u64, until: u64) -> Pw
-    ensures { result.until ≡ until }
+    requires begins { 1 ≤ until }
+    requires ends { until ≤ never }
 {
-    Pw {
-        password,
-        rights: Rights::all(),
-        until,
-    }
+    Pw::new(password, Rights::all(), until)
 }
 
 // An object whose first password has gone, with its other account.

@@ -1,5 +1,6 @@
 // Rows as bytes: what spells a row, and bytes that spell none.
-ghost use Rattle.std.specs.Prelude.{◌≡◌, ◌≤◌};
+ghost use Rattle.std.specs.Prelude.{◌≤◌};
+ghost use Rattle.mg_model.specs.Limits.{never};
 
 use mg_disk::{BLOCK_SIZE, Block};
 use mg_model::{AccRow, Fault, Frame, Globals, ObjRow, Pw, Rights, Slot, ThrRow, ThrState};
@@ -73,13 +74,10 @@ fn changed(kind: Kind, block: &Block, change: &Place) -> Block {
 }
 
 fn password(password: u64, until: u64) -> Pw
-    ensures { result.until ≡ until }
+    requires begins { 1 ≤ until }
+    requires ends { until ≤ never }
 {
-    Pw {
-        password,
-        rights: Rights::all(),
-        until,
-    }
+    Pw::new(password, Rights::all(), until)
 }
 
 fn object() -> ObjRow {

@@ -71,11 +71,7 @@ fn is_thread_put<D: Disk>(disk: &mut D) -> Option<bool> {
 /// Puts the other object into the row behind the root's.
 fn is_other_put<D: Disk>(disk: &mut D) -> Option<bool> {
     let mut row = ObjRow::new(OTHER, 1, 1);
-    row.add_password(Pw {
-        password: PASSWORD,
-        rights: Rights::all(),
-        until: Pw::NEVER,
-    });
+    row.add_password(Pw::new(PASSWORD, Rights::all(), Pw::NEVER));
     let mut spelled = block(disk, FIRST_OBJECT_BLOCK)?;
     put_object(Some(&row), 1, &mut spelled);
     Some(is_put(disk, FIRST_OBJECT_BLOCK, &spelled))

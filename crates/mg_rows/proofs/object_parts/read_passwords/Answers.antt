@@ -31,8 +31,8 @@ loop-k-preserved c =
       rule = ap (list_all is_password) (passwords-more bytes k) ∙ all-more is_password (passwords_at bytes 0 k) (password_at bytes k) c.loop-k.invariant.rule told.0;
     }
 
-pub add_password-requires-clause-fewer_than_32_passwords : goal.add_password-requires-clause-fewer_than_32_passwords
-add_password-requires-clause-fewer_than_32_passwords c =
+pub add_password-requires : goal.add_password-requires
+add_password-requires c =
     let long : length c.loop-k.row.passwords ≡ c.loop-k.k = ap (λ (f : ObjectRow). length f.passwords) c.loop-k.invariant.value ∙ length-passwords_at c.args.b.now 0 c.loop-k.k in
     let below = c.loop-k-test.true in
     let few = c.if-count-gt-PASSWORD_LIMIT.false in
