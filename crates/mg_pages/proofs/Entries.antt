@@ -49,7 +49,7 @@ entry-of image b (suc n) (suc k) j few below =
     ∙ ap (λ i. number_at (block_at image i) (8 * j)) at
 
 -- zeros, one by one
-zero-at : (xs : List ℕ) (i : ℕ) → are_zeros xs ≡ true → get_or xs i 0 ≡ 0
+pub zero-at : (xs : List ℕ) (i : ℕ) → are_zeros xs ≡ true → get_or xs i 0 ≡ 0
 zero-at [] i zeros = refl
 zero-at (x ∷ xs) zero zeros = eqb-true x 0 (and_parts (x == 0) (are_zeros xs) zeros).0
 zero-at (x ∷ xs) (suc i) zeros = zero-at xs i (and_parts (x == 0) (are_zeros xs) zeros).1

@@ -6,6 +6,7 @@ pub mod Committed
 pub mod Counted
 pub mod Entries
 pub mod KeptWrites
+pub mod Loaded
 pub mod Looked
 pub mod Made
 pub mod Numbers
@@ -19,5 +20,6 @@ pub mod Spliced
 pub mod StagedTables
 pub mod Staging
 pub mod Stored
+pub mod TableLoaded
 pub mod Tables
 pub mod WordStored

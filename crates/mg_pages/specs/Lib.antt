@@ -6,6 +6,7 @@ pub mod Meaning
 pub mod Entries
 pub mod Parts
 pub mod Committing
+pub mod Loading
 -- Lemmas that crates above cite. None of them is part of a statement.
 pub mod ComingLemmas
 pub mod LengthLemmas

@@ -1,5 +1,5 @@
 -- What the pages of a volume are, as functions of the value and an image. The layers above see these words by their names.
-use Rattle.std.specs.Prelude.{◌≡◌, ◌≢◌, ◌⊎◌, ◌+◌, ◌≤◌, ◌<◌, ◌==◌, ◌%◌, ◌^◌, ℕ, Bool, true, false, List, length, replicate, slice_set}
+use Rattle.std.specs.Prelude.{◌≡◌, ◌≢◌, ◌⊎◌, ◌+◌, ◌≤◌, ◌<◌, ◌==◌, ◌%◌, ◌^◌, ℕ, Bool, true, false, List, [], length, replicate, slice_set}
 use Rattle.std.specs.List.{list_any}
 use Rattle.std.specs.Option.{ForSome, option_map_or}
 use Rattle.mg_disk.specs.Disk.{Image, block_at}
@@ -142,6 +142,16 @@ pub record CountsNone (old new : PagesHeld) (before now : ℕ) : Type 0 where
 pub record HasTable (entries : List ℕ) (r : Image) : Type 0 where
   pub table : table_of r (length entries) ≡ entries
   pub past : are_zeros (drop (length entries) (whole_table r (length entries))) ≡ true
+
+-- the frame table of a replayed image, of so many frames, is one of a volume: no page stands there twice, and nothing behind its last entry
+pub record SpellsTable (frames : ℕ) (r : Image) : Type 0 where
+  pub past : are_zeros (drop frames (whole_table r frames)) ≡ true
+  pub distinct : all_distinct (bound_pages (table_of r frames)) ≡ true
+
+-- nothing is staged, and no block is kept
+pub record IsBare (p : PagesHeld) : Type 0 where
+  pub staged : staged_of p ≡ 0
+  pub kept : kept_in p ≡ []
 
 -- the pages of a range read as zeros; the other pages, and all blocks before the frame table, are as they were
 pub record Releases (old new : PagesHeld) (image : Image) (first pages : ℕ) : Type 0 where

@@ -144,6 +144,23 @@ impl Blocks {
         }
     }
 
+    /// Gives a block of the contents, which is not kept.
+    pub(crate) fn contents<D: Disk>(
+        &self,
+        disk: &mut D,
+        block: u64,
+        bytes: &mut Block,
+    ) -> Result<(), Failed>
+        requires stands { Stands D.Disk self.now.store disk.old }
+        requires place { block < total_of self.now.store }
+        ensures block { OnOk result (ForSome (D.seen disk.old) (λ image. bytes.new ≡ block_at (replayed (total_of self.now.store) image) block)) }
+        ensures stands { Stands D.Disk self.now.store disk.new }
+        ensures writes { WritesNothing D.Disk disk.old disk.new }
+        ensures calls { DiskCalls D.Disk disk.old disk.new result }
+    {
+        self.store.read(disk, block, bytes)
+    }
+
     /// Stages a frame's block with one word changed. [`Failed`] comes from a read, before anything is staged.
     pub(crate) fn set_word<D: Disk>(
         &mut self,

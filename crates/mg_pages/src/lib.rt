@@ -11,6 +11,7 @@
 mod blocks;
 mod coming;
 mod kept;
+mod loading;
 mod pages;
 mod releasing;
 mod storing;

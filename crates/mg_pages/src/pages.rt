@@ -1,17 +1,19 @@
 // The pages of a volume, and what is staged.
-ghost use Rattle.std.specs.Prelude.{[], List, ◌≡◌, ◌≢◌, ◌⊎◌, ◌≤◌, ◌<◌, ◌+◌, ◌%◌, ◌^◌, ℕ, true, false, IfOk, IsOk, IsSomeAnd, OnErr, OnOk, length, slice_index, slice_set};
+ghost use Rattle.std.specs.Prelude.{[], List, ◌≡◌, ◌≢◌, ◌⊎◌, ◌≤◌, ◌<◌, ◌+◌, ◌-◌, ◌%◌, ◌^◌, ℕ, true, false, IfOk, IsOk, IsSomeAnd, OnErr, OnOk, length, slice_index, slice_set};
 ghost use Rattle.std.specs.Option.{ForSome};
 ghost use Rattle.mg_disk.specs.Stops.{DiskCalls, Leaves, WritesNothing};
 ghost use Rattle.mg_journal.specs.Contents.{SameContents};
 ghost use Rattle.mg_journal.specs.Standing as journal;
+ghost use Rattle.mg_model.specs.Bytes.{are_zeros};
 ghost use Rattle.mg_model.specs.Layout.{body_limit, globals_block, table_block, total_blocks};
 ghost use Rattle.mg_model.specs.Tests.{all_distinct};
-ghost use Rattle.mg_model.specs.Volume.{bound_pages};
-ghost use Rattle.mg_pages.specs.Meaning.{BindsOnly, CountsNone, CountsOne, HasTable, IsKept, Keeps, Releases, SameShape, SetsWord, StagesMore, StandsOn, Unbinds, IsSpelledBy, coming, frame_count, is_bound, is_live, is_staged, page_now, replayed, staged_of, store_of, table_in, total_of, words_in};
+ghost use Rattle.mg_model.specs.Volume.{bound_pages, table_of};
+ghost use Rattle.mg_pages.specs.Meaning.{BindsOnly, CountsNone, CountsOne, HasTable, IsBare, IsKept, Keeps, Releases, SameShape, SetsWord, SpellsTable, StagesMore, StandsOn, Unbinds, IsSpelledBy, coming, frame_count, is_bound, is_live, is_staged, page_now, replayed, staged_of, store_of, table_in, total_of, words_in};
 ghost use Rattle.mg_pages.specs.Committing.{HasContents};
 
 use crate::blocks::Blocks;
 use crate::coming::page_word;
+use crate::loading::load_pages;
 use crate::releasing::release_pages;
 use crate::storing::store_word;
 use crate::table::first_block;
@@ -19,6 +21,7 @@ use mg_disk::{Block, Disk};
 use mg_faults::Failed;
 use mg_frames::Frames;
 use mg_journal::Store;
+use mg_layout::Geometry;
 use mg_model::Steps;
 use std::alloc::{AllocError, Global};
 use std::marker::Model;
@@ -71,6 +74,57 @@ impl Pages {
             frames,
             count: 0,
         })
+    }
+
+    /// The pages of a volume with this journal, and with the places of a volume of 16 to 65,536 frames ([`Geometry::of`]). No page
+    /// is bound: [`Pages::load_table`] binds those of the frame table. All memory that they will need is taken here.
+    ///
+    /// Where the entries of the frame table are at hand already, [`Pages::open`] makes the same in one step, and the table is read
+    /// once.
+    pub fn new(alloc: Global, store: Store, g: Geometry) -> Result<Pages, AllocError>
+        requires at_least_16_frames { 16 ≤ g.total - g.first_frame }
+        requires at_most_65536_frames { g.total - g.first_frame ≤ 65536 }
+        requires places { g.total ≡ total_blocks (g.total - g.first_frame) }
+        requires total { journal.total_of store ≡ g.total }
+        ensures store { IfOk result (λ p. store_of p ≡ store) }
+        ensures total { IfOk result (λ p. total_of p ≡ journal.total_of store) }
+        ensures frames { IfOk result (λ p. frame_count p ≡ g.total - g.first_frame) }
+        ensures unbound { IfOk result (λ p. are_zeros (table_in p) ≡ true) }
+        ensures live { IfOk result (λ p. is_live p ≡ journal.is_live store) }
+        ensures bare { IfOk result IsBare }
+        ensures words { IfOk result (λ p. words_in p ≡ 0) }
+        ensures coming { IfOk result (λ p. (image : List (List ℕ)) → coming p image ≡ replayed (journal.total_of store) image) }
+    {
+        let frames = Frames::new(alloc, g.total - g.first_frame)?;
+        let blocks = Blocks::open(alloc, store)?;
+        Ok(Pages {
+            blocks,
+            frames,
+            count: 0,
+        })
+    }
+
+    /// Binds the pages that the frame table of the disk's contents has, one an entry, to frames of which none is bound. An entry
+    /// whose page an earlier one has is passed over. [`Failed`] comes only where a call of the disk failed; some pages may be bound
+    /// then, and nothing else has changed. Where the table is one of a volume, and nothing was staged since [`Pages::new`], the
+    /// pages stand on the disk after Ok.
+    pub fn load_table<D: Disk>(&mut self, disk: &mut D) -> Result<(), Failed>
+        requires unbound { are_zeros (table_in self.old) ≡ true }
+        requires stands { journal.Stands D.Disk (store_of self.old) disk.old }
+        ensures table { OnOk result (ForSome (D.seen disk.old) (λ image. all_distinct (bound_pages (table_of (replayed (total_of self.old) image) (frame_count self.old))) ≡ true → table_in self.new ≡ table_of (replayed (total_of self.old) image) (frame_count self.old))) }
+        ensures stands { OnOk result (IsBare self.old → ForSome (D.seen disk.old) (λ image. SpellsTable (frame_count self.old) (replayed (total_of self.old) image)) → StandsOn D.Disk self.new disk.new) }
+        ensures coming { (image : List (List ℕ)) → coming self.new image ≡ coming self.old image }
+        ensures store { store_of self.new ≡ store_of self.old }
+        ensures shape { SameShape self.old self.new }
+        ensures staged { staged_of self.new ≡ staged_of self.old }
+        ensures words { words_in self.new ≡ words_in self.old }
+        ensures writes { WritesNothing D.Disk disk.old disk.new }
+        ensures calls { DiskCalls D.Disk disk.old disk.new result }
+    {
+        let loaded = load_pages(&self.blocks, &mut self.frames, disk);
+        // It tells that no page has two frames.
+        self.frames.len();
+        loaded
     }
 
     /// The page that a frame holds, 0 where it is free.
