@@ -3,6 +3,7 @@ pub mod AccountsStaged
 mod StandingPages
 pub mod BareRows
 pub mod BlockParts
+pub mod ByBase
 pub mod ByNumber
 pub mod ChangedBy
 pub mod Collected

@@ -1,10 +1,10 @@
 -- What may be staged of a volume, what that makes of its rows, and which blocks wait for a commit.
-use Rattle.std.specs.Prelude.{◌≡◌, ◌+◌, ◌-◌, ◌*◌, ◌/◌, ◌≤◌, ◌<◌, ◌||◌, nat_le, nat_lt, ℕ, zero, suc, Bool, true, List, [], ◌∷◌, Some, if◌then◌else◌, find, length, map, replicate, sum_by, IsSomeAnd, Option, None, filter, not, ◌==◌}
+use Rattle.std.specs.Prelude.{◌≡◌, ◌+◌, ◌-◌, ◌*◌, ◌/◌, ◌≤◌, ◌<◌, ◌||◌, nat_le, nat_lt, ℕ, zero, suc, Bool, true, false, List, [], ◌∷◌, Some, if◌then◌else◌, find, length, map, replicate, sum_by, IsSomeAnd, Option, None, filter, not, ◌==◌}
 use Rattle.std.specs.List.{list_all, list_any}
 use Rattle.std.specs.Option.{option_map_or}
 use Rattle.mg_model.specs.Layout.{first_object_block, first_thread_block, globals_block}
 use Rattle.mg_model.specs.Limits.{object_limit}
-use Rattle.mg_model.specs.Objects.{page_behind, page_of}
+use Rattle.mg_model.specs.Objects.{page_behind, page_of, with_object, with_row, without_object}
 use Rattle.mg_model.specs.State.{Object, ObjectRow, Thread, ThreadRow}
 use Rattle.mg_model.specs.Threads.{with_new_thread}
 use Rattle.mg_pages.specs.Meaning as pages
@@ -88,3 +88,18 @@ without_row base rows = filter (λ (row : ObjectRow). not (row.base == base)) ro
 -- an object whose words are all 0
 abbrev pub blank : ObjectRow → Object
 blank row = record { row = row; words = replicate (512 * row.pages) 0 }
+
+-- the rows with this one for the object with a base, there or new, or without that object
+abbrev pub rows_with : ℕ → Option ObjectRow → List ObjectRow → List ObjectRow
+rows_with base None rows = without_row base rows
+rows_with base (Some row) rows = if has_base base rows then with_other_row row rows else with_new_row row rows
+
+-- and the objects: the words of one that is there stay, and those of a new one are all 0
+abbrev pub objects_with : ℕ → Option ObjectRow → List Object → List Object
+objects_with base None objects = without_object base objects
+objects_with base (Some row) objects = if has_base base (map (λ (object : Object). object.row) objects) then with_row base (λ old. row) objects else with_object (blank row) objects
+
+-- what may be staged for the object with a base: another row where it is there, a first one where it is not, or that it goes
+abbrev pub MayStage : List ObjectRow → ℕ → ℕ → Option ObjectRow → Type 0
+MayStage rows frames base None = has_base base rows ≡ true
+MayStage rows frames base (Some row) = (row.base ≡ base) × (has_base base rows ≡ true → MayChange rows row) × (has_base base rows ≡ false → MayJoin rows frames row)

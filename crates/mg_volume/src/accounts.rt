@@ -56,7 +56,7 @@ impl Volume {
         match self.bank().opening(acc, pw, n) {
             Some(word) => Err(word),
             None => {
-                let number = self.account_count() + 1;
+                let number = self.bank.len() + 1;
                 self.add_account(acc, n, fresh);
                 Ok(number)
             }

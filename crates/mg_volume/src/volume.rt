@@ -178,15 +178,6 @@ impl Volume {
         self.bank.row(n)
     }
 
-    /// How many accounts there are, 1,024 at most.
-    #[tactic(auto, unfolding(crate::specs::Meaning::accounts_in))]
-    pub fn account_count(&self) -> u64
-        ensures count { result ≡ length (accounts_in self.now) }
-        ensures at_most_1024 { result ≤ 1024 }
-    {
-        self.bank.len()
-    }
-
     /// Whether this password opens account n. It opens none that is not there.
     #[tactic(auto, unfolding(crate::specs::Meaning::accounts_in))]
     pub fn opens(&self, n: u64, password: u64) -> bool
