@@ -17,7 +17,8 @@ use Rattle.mg_migrate.specs.Migrated.{IsLiftOf, IsState1, MayMigrate, needed}
 use Rattle.mg_migrate.specs.Version1.{Damaged1, Is1, NewVolume1, NotVolume1, OldVolume1, Volume1Read, lift, volume1}
 use Rattle.mg_migrate_session.specs.Headline.{GoesWith, HasPlaces, HasPut, IfState1, MigrateKeeps, StandsAfter, migrate_line, migrate_status}
 use Rattle.mg_model.specs.State.{State}
-use Rattle.mg_session.specs.Headline.{small_line, summary_line}
+use Rattle.mg_session.specs.Headline.{small_line}
+use Rattle.mg_session.specs.Unopened.{summary_line}
 use Rattle.mg_serve.specs.declared.status.Status.{Status}
 use Rattle.mg_serve.specs.declared.status.Status.TheVariants as status
 

@@ -15,7 +15,8 @@ use Rattle.mg_migrate.specs.Migrated.{HasLifted, IsLiftOf, MayMigrate, needed}
 use Rattle.mg_migrate.specs.Version1.{Damaged1, Is1, NewVolume1, NotVolume1, OldVolume1, Volume1Read, lift, volume1}
 use Rattle.mg_model.specs.State.{State}
 use Rattle.mg_serve.specs.Sessions.{IsDoneOrMemory}
-use Rattle.mg_session.specs.Headline.{small_line, summary_line, usage_line}
+use Rattle.mg_session.specs.Headline.{small_line, usage_line}
+use Rattle.mg_session.specs.Unopened.{summary_line}
 use Rattle.mg_serve.specs.declared.status.Status.{Status}
 use Rattle.mg_serve.specs.declared.status.Status.TheVariants as status
 

@@ -6,10 +6,9 @@ use Rattle.mg_disk.specs.declared.disk.Disk as disks
 use Rattle.mg_io.specs.declared.traits.Sink as sinks
 use Rattle.mg_io.specs.declared.traits.Source as sources
 use Rattle.mg_model.specs.State.{State}
-use Rattle.mg_model.specs.Volume.{Damaged, Is, NotVolume, OldVolume, VolumeRead, volume}
 use Rattle.mg_model.specs.Step.{after}
 use Rattle.mg_serve.specs.Sessions.{Holds, HoldsExactly}
-use Rattle.mg_session.specs.Headline.{IfState, OnVolume, RunKeeps, TellsOfNone}
+use Rattle.mg_session.specs.Headline.{OnVolume, RunKeeps, TellsOfNone}
 use Rattle.mg_serve.specs.declared.status.Status.{Status}
 
 pub if_some_then : {T : Type 0} (o : Option T) (P Q : T → Type 0) → ((x : T) → P x → Q x) → IfSome o P → IfSome o Q
@@ -17,14 +16,8 @@ if_some_then None P Q then h = h
 if_some_then (Some x) P Q then h = then x h
 
 -- a promise on a state, from another one
-if_state_then : (v : VolumeRead) (P Q : State → Type 0) → ((s : State) → P s → Q s) → IfState v P → IfState v Q
-if_state_then NotVolume P Q then h = h
-if_state_then OldVolume P Q then h = h
-if_state_then Damaged P Q then h = h
-if_state_then (Is s) P Q then h = then s h
-
 pub on_volume_then : (told : Option Image) (P Q : State → Type 0) → ((s : State) → P s → Q s) → OnVolume told P → OnVolume told Q
-on_volume_then told P Q then h = λ image is. if_state_then (volume image) P Q then (h image is)
+on_volume_then told P Q then h = λ image is s spelled. then s (h image is s spelled)
 
 module _ {M N : Type 0} (facts : disks.Ghosts N) (view : M → N) where
   -- a disk that shows what its view does
@@ -57,10 +50,8 @@ module _ {M N : Type 0} (facts : disks.Ghosts N) (view : M → N) where
 
   none : {K : Type 0} (to : sinks.Ghosts K) (result : Status) (m m' : M) (k k' : K) → TellsOfNone seen_through to result m m' k k' → TellsOfNone facts to result (view m) (view m') k k'
   none to result m m' k k' h = record {
-    none = h.none;
-    none_writes = λ is. writes_nothing m m' (h.none_writes is);
+    none = λ is. ((h.none is).0, writes_nothing m m' (h.none is).1);
     not_opened = h.not_opened;
-    not_opened_prefix = h.not_opened_prefix;
   }
 
   pub through : {S K : Type 0} (from : sources.Ghosts S) (to : sinks.Ghosts K) (batch : ℕ) (result : Status) (m m' : M) (source source' : S) (sink sink' : K) (steps steps' : ℕ)
@@ -76,9 +67,7 @@ module _ {M N : Type 0} (facts : disks.Ghosts N) (view : M → N) where
       disk_failed = h.lines.disk_failed;
       without = none to result m m' sink sink' h.lines.without;
       none_source = h.lines.none_source;
-      not_opened_source = h.lines.not_opened_source;
-      not_opened_disk = h.lines.not_opened_disk;
-      not_opened_sink = λ image seen no_state failed. writes_nothing m m' (h.lines.not_opened_sink image seen no_state failed);
+      not_opened = λ image seen no_state. let (alone, quiet, kept) = h.lines.not_opened image seen no_state in (alone, quiet, (λ failed. writes_nothing m m' (kept failed)));
       not_opened_leaves = λ settled image seen no_state. leaves m m' _ (h.lines.not_opened_leaves settled image seen no_state);
       complete = h.lines.complete;
     };

@@ -19,7 +19,8 @@ use Rattle.mg_model.specs.Lines.{lines}
 use Rattle.mg_model.specs.Print.{text}
 use Rattle.mg_model.specs.Volume.{VolumeRead, volume}
 use Rattle.mg_serve.specs.Sessions.{IsDoneOrMemory, IsWithin, input_limit}
-use Rattle.mg_session.specs.Headline.{EndsRun, OnVolume, PutsLast, RunKeeps, UsageKeeps, check_line}
+use Rattle.mg_session.specs.Headline.{OnVolume, PutsLast, RunKeeps, UsageKeeps, check_line}
+use Rattle.mg_session.specs.Unopened.{EndsRun}
 use Rattle.mg_serve.specs.declared.status.Status.{Status}
 use Rattle.mg_serve.specs.declared.status.Status.TheVariants as status
 

@@ -5,8 +5,6 @@ use Rattle.std.specs.Fmt.{decimal}
 use Rattle.std.specs.Io.KnownBytes.{Appends}
 use Rattle.std.specs.List.{range_with_len}
 use Rattle.std.specs.Option.{ForSome}
-use Rattle.mg_check.specs.declared.examining.Summary.{Summary}
-use Rattle.mg_check.specs.Summaries.{Tells, summary_of}
 use Rattle.mg_disk.specs.Disk.{Image}
 use Rattle.mg_disk.specs.Stops.{CountRose, Leaves, NothingPending, WritesNothing}
 use Rattle.mg_disk.specs.declared.disk.Disk as disks
@@ -19,6 +17,7 @@ use Rattle.mg_io.specs.declared.traits.Source as sources
 use Rattle.mg_layout.specs.MayFormat.{IsNoState, MayFormat, ReadsFresh}
 use Rattle.mg_model.specs.declared.calls.Line.{Line}
 use Rattle.mg_model.specs.declared.replies.Reply.{Reply}
+use Rattle.mg_model.specs.Bank.{used}
 use Rattle.mg_model.specs.Draw.{password_drawn}
 use Rattle.mg_model.specs.Ended.{ended_lines}
 use Rattle.mg_model.specs.Fresh.{fresh, root_base}
@@ -45,33 +44,22 @@ IsWithinCost s result left left' steps steps' =
 
 -- `VOLUME run` and `VOLUME run BATCH`
 
--- a promise on the state that an image spells, where it spells one
-abbrev pub IfState : VolumeRead → (State → Type 0) → Type 0
-IfState NotVolume P = Unit {0}
-IfState OldVolume P = Unit {0}
-IfState Damaged P = Unit {0}
-IfState (Is s) P = P s
-
 -- a promise on the state of the volume that reads give, where they are told and give one
 abbrev pub OnVolume : Option Image → (State → Type 0) → Type 0
-OnVolume told P = ForSome told (λ image. IfState (volume image) P)
+OnVolume told P = ForSome told (λ image. (s : State) → volume image ≡ Is s → P s)
 
--- the line of a volume
-abbrev pub summary_line : Summary → List ℕ
-summary_line summary =
-    ok_text (decimal summary.frames ∷ decimal summary.objects ∷ decimal summary.pages ∷ decimal summary.accounts ∷ decimal summary.threads ∷ decimal summary.period ∷ decimal summary.credits ∷ []) ++ 10 ∷ []
-
--- the line of what an image spells
+-- the line of what an image spells: of a volume its frames, objects, pages, accounts, threads, period and credits
 abbrev pub check_line : VolumeRead → List ℕ
 check_line NotVolume = codes "open not" ++ 10 ∷ []
 check_line OldVolume = codes "open old" ++ 10 ∷ []
 check_line Damaged = codes "open damaged" ++ 10 ∷ []
-check_line (Is s) = summary_line (summary_of s)
+check_line (Is s) =
+    ok_text (decimal s.settings.frames ∷ decimal (length s.objects) ∷ decimal (used s.objects) ∷ decimal (length s.accounts) ∷ decimal (length s.threads) ∷ decimal s.counters.period ∷ decimal s.settings.credits ∷ []) ++ 10 ∷ []
 
--- reads give no volume, and the line that was put says which kind of none
-pub record TellsNone (told : Option Image) (taken taken' : Option (List ℕ)) : Type 0 where
+-- reads give a volume of this kind, or one of these kinds of none, and its line was put
+pub record TellsLine (kind : VolumeRead → Type 0) (told : Option Image) (taken taken' : Option (List ℕ)) : Type 0 where
   pub read : VolumeRead
-  pub none : IsNoState read
+  pub is_kind : kind read
   pub is : ForSome told (λ image. volume image ≡ read)
   pub put : Appends taken taken' (check_line read)
 
@@ -81,18 +69,10 @@ EndsUnopened result = (result ≡ status.NoVolume) ⊎ ((result ≡ status.Memor
 
 -- What a command that opens a volume does where there is none.
 pub record TellsOfNone {D K : Type 0} (facts : disks.Ghosts D) (to : sinks.Ghosts K) (result : Status) (disk disk' : D) (sink sink' : K) : Type 0 where
-  -- It ends without a volume only where reads give none, and the line says which kind of none.
-  pub none : result ≡ status.NoVolume → TellsNone (facts.seen disk) (to.taken sink) (to.taken sink')
-  -- Nothing is written then, on every disk.
-  pub none_writes : result ≡ status.NoVolume → WritesNothing facts disk disk'
+  -- It ends without a volume only where reads give none; the line says which kind of none, and nothing is written, on every disk.
+  pub none : result ≡ status.NoVolume → TellsLine IsNoState (facts.seen disk) (to.taken sink) (to.taken sink') × WritesNothing facts disk disk'
   -- Where reads give none it ends so, unless a call failed or memory was wanting, and what is put is a prefix of that line.
-  pub not_opened : ForSome (facts.seen disk) (λ image. IsNoState (volume image) → EndsUnopened result)
-  pub not_opened_prefix : ForSome (facts.seen disk) (λ image. IsNoState (volume image) → AppendsPrefix (to.taken sink) (to.taken sink') (check_line (volume image)))
-
--- how `run` may end
-abbrev pub EndsRun : Status → Type 0
-EndsRun result =
-    (result ≡ status.NoVolume) ⊎ ((result ≡ status.Done) ⊎ ((result ≡ status.Memory) ⊎ ((result ≡ status.Disk) ⊎ ((result ≡ status.Source) ⊎ ((result ≡ status.Sink) ⊎ (result ≡ status.TooLong))))))
+  pub not_opened : ForSome (facts.seen disk) (λ image. IsNoState (volume image) → EndsUnopened result × AppendsPrefix (to.taken sink) (to.taken sink') (check_line (volume image)))
 
 -- What is kept as lines run on the volume of a disk, in batches of so many replies, by a machine that says and keeps this from a
 -- state on. `s` is the state of the volume that reads give at entry.
@@ -103,17 +83,14 @@ pub record LinesKeep {D S K : Type 0} (facts : disks.Ghosts D) (from : sources.G
   pub holds : NothingPending facts disk → OnVolume (facts.seen disk) (λ s. Holds facts (kept_after s) disk disk' (from.left source) (from.left source') (to.taken sink) (to.taken sink'))
   pub holds_exactly : OnVolume (facts.seen disk) (λ s. HoldsExactly facts (kept_after s) result disk' (from.left source) (from.left source') (to.taken sink) (to.taken sink'))
   pub ends : Ends from to batch input_limit result source source' sink sink'
-  pub which : EndsRun result
+  pub which : (result ≡ status.NoVolume) ⊎ ((result ≡ status.Done) ⊎ ((result ≡ status.Memory) ⊎ ((result ≡ status.Disk) ⊎ ((result ≡ status.Source) ⊎ ((result ≡ status.Sink) ⊎ (result ≡ status.TooLong))))))
   -- The disk failed only where its count rose.
   pub disk_failed : result ≡ status.Disk → CountRose facts disk disk'
   pub without : TellsOfNone facts to result disk disk' sink sink'
-  -- Where there is no volume nothing is taken.
+  -- Where there is no volume nothing is taken. Nothing is put there where the disk failed, and nothing is written where the sink
+  -- failed. At each status, where nothing was pending, each image that a stop may leave spells what the image at entry spelled.
   pub none_source : result ≡ status.NoVolume → source' ≡ source
-  pub not_opened_source : ForSome (facts.seen disk) (λ image. IsNoState (volume image) → source' ≡ source)
-  -- Nothing is put there where the disk failed, and nothing is written where the sink failed. At each status, where nothing was
-  -- pending, each image that a stop may leave spells what the image at entry spelled.
-  pub not_opened_disk : ForSome (facts.seen disk) (λ image. IsNoState (volume image) → result ≡ status.Disk → sink' ≡ sink)
-  pub not_opened_sink : ForSome (facts.seen disk) (λ image. IsNoState (volume image) → result ≡ status.Sink → WritesNothing facts disk disk')
+  pub not_opened : ForSome (facts.seen disk) (λ image. IsNoState (volume image) → (source' ≡ source) × (result ≡ status.Disk → sink' ≡ sink) × (result ≡ status.Sink → WritesNothing facts disk disk'))
   pub not_opened_leaves : NothingPending facts disk → ForSome (facts.seen disk) (λ image. IsNoState (volume image) → Leaves facts disk disk' (λ c. volume c ≡ volume image))
   -- Where reads give a volume, no call failed and the input is not too long, all is done, or memory was wanting.
   pub complete : OnVolume (facts.seen disk) (λ _. (CountRose facts disk disk' → ⊥) → (Rose (from.faults source) (from.faults source') (from.is_spent source') → ⊥)
@@ -154,10 +131,6 @@ replies_from s (line ∷ more) = (step s line).1 ∷ replies_from (step s line).
 abbrev pub run_text : ℕ → ℕ → List ℕ
 run_text number count = summary_text (replies_from (fresh run_settings) (run_lines number count))
 
--- how it may end
-abbrev pub EndsGen : Status → Type 0
-EndsGen result = (result ≡ status.Done) ⊎ ((result ≡ status.Memory) ⊎ (result ≡ status.Sink))
-
 -- What `gen` keeps.
 pub record GenKeeps {K : Type 0} (to : sinks.Ghosts K) (number count : ℕ) (result : Status) (sink sink' : K) (steps steps' : ℕ) : Type 0 where
   -- At the end the counts of the machine's replies were put; at each status what was put is a prefix of that.
@@ -165,7 +138,7 @@ pub record GenKeeps {K : Type 0} (to : sinks.Ghosts K) (number count : ℕ) (res
   pub prefix : AppendsPrefix (to.taken sink) (to.taken sink') (run_text number count)
   -- At each status the counter rose by no more than the generated lines may cost.
   pub cost : steps' ≤ steps + cost (fresh run_settings) (run_lines number count)
-  pub which : EndsGen result
+  pub which : (result ≡ status.Done) ⊎ ((result ≡ status.Memory) ⊎ (result ≡ status.Sink))
   -- Where memory was wanting nothing was put; the sink failed only where its count rose.
   pub memory : result ≡ status.Memory → sink' ≡ sink
   pub sink_failed : result ≡ status.Sink → Rose (to.faults sink) (to.faults sink') (to.is_spent sink')
@@ -174,31 +147,15 @@ pub record GenKeeps {K : Type 0} (to : sinks.Ghosts K) (number count : ℕ) (res
 
 -- `VOLUME check`
 
--- the line that was put is that of the volume that reads give
-pub record TellsVolume (told : Option Image) (taken taken' : Option (List ℕ)) : Type 0 where
-  pub summary : Summary
-  pub tells : ForSome told (Tells summary)
-  pub put : Appends taken taken' (summary_line summary)
-
--- a line that `check` may put: that of a volume, or of one of the three kinds of none
-abbrev pub MayTell : List ℕ → Type 0
-MayTell line = ((summary : Summary) × (line ≡ summary_line summary)) ⊎ ((line ≡ check_line NotVolume) ⊎ ((line ≡ check_line OldVolume) ⊎ (line ≡ check_line Damaged)))
-
--- how `check` may end
-abbrev pub EndsCheck : Status → Type 0
-EndsCheck result = (result ≡ status.Done) ⊎ EndsUnopened result
-
 -- What `check` keeps.
 pub record CheckKeeps {D K : Type 0} (facts : disks.Ghosts D) (to : sinks.Ghosts K) (result : Status) (disk disk' : D) (sink sink' : K) : Type 0 where
   -- At the end the line of the volume was put.
-  pub done : result ≡ status.Done → TellsVolume (facts.seen disk) (to.taken sink) (to.taken sink')
-  -- At each status what was put is a prefix of the line of the image.
-  pub prefix : ForSome (facts.seen disk) (λ image. AppendsPrefix (to.taken sink) (to.taken sink') (check_line (volume image)))
-  -- Of a disk that does not tell its reads too it is a prefix of such a line.
-  pub some_line : (line : List ℕ) × MayTell line × AppendsPrefix (to.taken sink) (to.taken sink') line
+  pub done : result ≡ status.Done → TellsLine (λ read. (s : State) × (read ≡ Is s)) (facts.seen disk) (to.taken sink) (to.taken sink')
+  -- At each status what was put is a prefix of such a line, that of the image where reads are told.
+  pub prefix : (read : VolumeRead) × ForSome (facts.seen disk) (λ image. volume image ≡ read) × AppendsPrefix (to.taken sink) (to.taken sink') (check_line read)
   pub writes : WritesNothing facts disk disk'
   pub without : TellsOfNone facts to result disk disk' sink sink'
-  pub which : EndsCheck result
+  pub which : (result ≡ status.Done) ⊎ EndsUnopened result
   -- Where memory was wanting, or the disk failed, nothing was put; the disk and the sink failed only where their counts rose.
   pub memory : result ≡ status.Memory → sink' ≡ sink
   pub disk_failed : result ≡ status.Disk → CountRose facts disk disk' × (sink' ≡ sink)
@@ -222,26 +179,19 @@ pub record IsMade {D : Type 0} (facts : disks.Ghosts D) (old new : D) (settings 
   pub left : (c : Image) → facts.left_since new (facts.moment new) c → volume c ≡ Is (fresh settings)
   pub settled : NothingPending facts new
 
--- how making a volume may end
-abbrev pub EndsFormat : Status → Type 0
-EndsFormat result = (result ≡ status.Done) ⊎ ((result ≡ status.Disk) ⊎ ((result ≡ status.Sink) ⊎ (result ≡ status.TooSmall)))
-
 -- What `format` keeps. It never wants memory.
 pub record FormatKeeps {D K : Type 0} (facts : disks.Ghosts D) (to : sinks.Ghosts K) (settings : Settings) (result : Status) (disk disk' : D) (sink sink' : K) : Type 0 where
   -- At each moment a stop leaves no volume, what the blocks behind the gate spelled before, or the fresh one.
   pub moments : NothingPending facts disk → ForSome (facts.seen disk) (λ image. Leaves facts disk disk' (MayFormat image settings))
-  -- At the end the fresh volume stands, also where its line could not be put, and the line tells its passwords.
-  pub made : result ≡ status.Done → IsMade facts disk disk' settings
-  pub kept : result ≡ status.Sink → total_blocks settings.frames ≤ facts.block_count disk → IsMade facts disk disk' settings
-  pub line : result ≡ status.Done → Appends (to.taken sink) (to.taken sink') (made_line settings)
-  pub prefix : total_blocks settings.frames ≤ facts.block_count disk → AppendsPrefix (to.taken sink) (to.taken sink') (made_line settings)
+  -- At the end the fresh volume stands, and the line tells its passwords.
+  pub made : result ≡ status.Done → IsMade facts disk disk' settings × Appends (to.taken sink) (to.taken sink') (made_line settings)
+  -- Where the disk has enough blocks, that volume stands too where its line could not be put, and at each status what was put is a
+  -- prefix of that line.
+  pub enough : total_blocks settings.frames ≤ facts.block_count disk → (result ≡ status.Sink → IsMade facts disk disk' settings) × AppendsPrefix (to.taken sink) (to.taken sink') (made_line settings)
   -- The disk is too small exactly where the volume needs more blocks than it has; it is not called then.
-  pub too_small : result ≡ status.TooSmall → facts.block_count disk < total_blocks settings.frames
-  pub small : facts.block_count disk < total_blocks settings.frames → (result ≡ status.TooSmall) ⊎ (result ≡ status.Sink)
-  pub small_disk : facts.block_count disk < total_blocks settings.frames → disk' ≡ disk
-  pub small_text : result ≡ status.TooSmall → Appends (to.taken sink) (to.taken sink') (small_line (total_blocks settings.frames) (facts.block_count disk))
-  pub small_prefix : facts.block_count disk < total_blocks settings.frames → AppendsPrefix (to.taken sink) (to.taken sink') (small_line (total_blocks settings.frames) (facts.block_count disk))
-  pub which : EndsFormat result
+  pub too_small : result ≡ status.TooSmall → (facts.block_count disk < total_blocks settings.frames) × Appends (to.taken sink) (to.taken sink') (small_line (total_blocks settings.frames) (facts.block_count disk))
+  pub small : facts.block_count disk < total_blocks settings.frames → ((result ≡ status.TooSmall) ⊎ (result ≡ status.Sink)) × (disk' ≡ disk) × AppendsPrefix (to.taken sink) (to.taken sink') (small_line (total_blocks settings.frames) (facts.block_count disk))
+  pub which : (result ≡ status.Done) ⊎ ((result ≡ status.Disk) ⊎ ((result ≡ status.Sink) ⊎ (result ≡ status.TooSmall)))
   -- Where the disk failed nothing was put; the disk and the sink failed only where their counts rose.
   pub disk_failed : result ≡ status.Disk → CountRose facts disk disk' × (sink' ≡ sink)
   pub sink_failed : result ≡ status.Sink → Rose (to.faults sink) (to.faults sink') (to.is_spent sink')
@@ -272,5 +222,4 @@ pub record UsageKeeps {D S K : Type 0} (to : sinks.Ghosts K) (result : Status) (
   pub usage_prefix : AppendsPrefix (to.taken sink) (to.taken sink') usage_line
   pub sink_failed : result ≡ status.Sink → Rose (to.faults sink) (to.faults sink') (to.is_spent sink')
   -- The disk and the source are left alone.
-  pub usage_disk : disk' ≡ disk
-  pub usage_source : source' ≡ source
+  pub alone : (disk' ≡ disk) × (source' ≡ source)

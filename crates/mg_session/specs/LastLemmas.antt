@@ -10,7 +10,8 @@ use Rattle.mg_serve.specs.Parts.{replies}
 use Rattle.mg_serve.specs.Sessions.{Answers, IsDoneOrMemory}
 use Rattle.mg_serve.specs.declared.status.Status.{Status}
 use Rattle.mg_serve.specs.declared.status.Status.TheVariants as status
-use Rattle.mg_session.specs.Headline.{EndsRun, PutsLast}
+use Rattle.mg_session.specs.Headline.{PutsLast}
+use Rattle.mg_session.specs.Unopened.{EndsRun}
 
 if_some_then : {T : Type 0} (o : Option T) (P Q : T → Type 0) → ((x : T) → P x → Q x) → IfSome o P → IfSome o Q
 if_some_then None P Q then h = h

@@ -7,7 +7,6 @@ use Rattle.std.proofs.lemmas.List.{drop_all}
 use Rattle.mg_check.specs.declared.examining.OpenFault.{OpenFault}
 use Rattle.mg_check.specs.declared.examining.OpenFault.TheVariants as fault
 use Rattle.mg_check.specs.declared.examining.Summary.{Summary}
-use Rattle.mg_check.specs.Summaries.{Tells}
 use Rattle.mg_disk.specs.Disk.{Image}
 use Rattle.mg_disk.specs.Runs.{leaves_then, leaves_wider}
 use Rattle.mg_disk.specs.Stops.{CountGoes, CountRose, Leaves, NothingPending, WritesNothing}
@@ -34,8 +33,8 @@ use Rattle.mg_serve.specs.declared.status.Status.TheVariants as status
 use Rattle.mg_serve.specs.Serving.{Serves, Traces}
 use Rattle.mg_serve.specs.Parts.{AnswersLines, AnswersPrefix, AreAnswered, IsPrefix, KeepsAnswered, SpellsAfter, replies}
 use Rattle.mg_serve.specs.Sessions.{Answers, EndsSession, EndsTaking, Holds, HoldsExactly, IsDoneOrMemory, IsWithin, TakesAtMost, input_limit, taken_of}
-use Rattle.mg_session.specs.Headline.{EndsRun, EndsUnopened, IfState, IsWithinCost, LinesKeep, MayTell, OnVolume, TellsNone, TellsOfNone, check_line, summary_line}
-use Rattle.mg_session.specs.Unopened.{EndsUnopenedBy, FaultTells, TellsNothing, fault_line}
+use Rattle.mg_session.specs.Headline.{EndsUnopened, IsWithinCost, LinesKeep, OnVolume, TellsLine, TellsOfNone, check_line}
+use Rattle.mg_session.specs.Unopened.{EndsRun, EndsUnopenedBy, FaultTells, TellsNothing, TellsState, fault_line, summary_line}
 
 -- before the first call
 none_put : (said : List Line → List ℕ) (left taken : Option (List ℕ)) → AnswersPrefix said left taken taken
@@ -71,14 +70,11 @@ quiet_early fault.Disk result quiet ends = λ ended. (let e : result ≡ status.
 quiet_early fault.Memory result quiet ends = λ ended. (let e : result ≡ status.Memory = ends in cc)
 
 -- the state that an image spells
-pub state_is : (read : VolumeRead) (s : State) (P : State → Type 0) → read ≡ Is s → P s → IfState read P
-state_is read s P is p = subst (λ (v : VolumeRead). IfState v P) (sym is) p
-
-any_state : (read : VolumeRead) (P : State → Type 0) → ((s : State) → read ≡ Is s → P s) → IfState read P
-any_state NotVolume P p = tt
-any_state OldVolume P p = tt
-any_state Damaged P p = tt
-any_state (Is s) P p = p s refl
+pub state_is : (read : VolumeRead) (s : State) (P : State → Type 0) → read ≡ Is s → P s → (t : State) → read ≡ Is t → P t
+state_is read s P is p t same = subst P (one_state s t (sym is ∙ same)) p
+  where
+    one_state : (s t : State) → ◌≡◌ {A = VolumeRead} (Is s) (Is t) → s ≡ t
+    one_state s t e = cc
 
 -- what holds of the state of an opened volume
 pub opened_then : (k : Kernel) (told told' : Option Image) (P : State → Type 0) → ForSome told (λ image. Opens (volume image) k told') → ForSome told' (λ image. P (now_of k image)) → OnVolume told P
@@ -99,11 +95,11 @@ fault_tells fault.Memory told n o d = tt
 
 -- what holds of a state holds where a fault says that there is none
 pub unopened : (f : OpenFault) (told : Option Image) (P : State → Type 0) → FaultTells f told → (TellsNothing f → (image : Image) → told ≡ Some image → (s : State) → volume image ≡ Is s → P s) → OnVolume told P
-unopened fault.Not told P tells p = λ image is. subst (λ (v : VolumeRead). IfState v P) (sym (tells image is)) tt
-unopened fault.Old told P tells p = λ image is. subst (λ (v : VolumeRead). IfState v P) (sym (tells image is)) tt
-unopened fault.Damaged told P tells p = λ image is. subst (λ (v : VolumeRead). IfState v P) (sym (tells image is)) tt
-unopened fault.Disk told P tells p = λ image is. any_state (volume image) P (λ s spelled. p tt image is s spelled)
-unopened fault.Memory told P tells p = λ image is. any_state (volume image) P (λ s spelled. p tt image is s spelled)
+unopened fault.Not told P tells p = λ image is s spelled. absurd (let e : NotVolume ≡ Is s = sym (tells image is) ∙ spelled in cc)
+unopened fault.Old told P tells p = λ image is s spelled. absurd (let e : OldVolume ≡ Is s = sym (tells image is) ∙ spelled in cc)
+unopened fault.Damaged told P tells p = λ image is s spelled. absurd (let e : Damaged ≡ Is s = sym (tells image is) ∙ spelled in cc)
+unopened fault.Disk told P tells p = λ image is s spelled. p tt image is s spelled
+unopened fault.Memory told P tells p = λ image is s spelled. p tt image is s spelled
 
 -- what the sink took where the volume was not opened
 unopened_answers : (said : State → List Line → List ℕ) → ((s : State) → said s [] ≡ []) → (f : OpenFault) (told : Option Image) (result : Status) (left taken taken' : Option (List ℕ)) → FaultTells f told → EndsUnopenedBy f result → (TellsNothing f → taken' ≡ taken)
@@ -128,29 +124,45 @@ unopened_exactly facts kept f told result d' left taken taken' tells ends =
     by_fault fault.Disk quiet ends s = let e : result ≡ status.Disk = ends in record { held_taking = λ h. absurd (not_taking result h (λ s. cc) (λ s. cc)); held_sink = λ h. absurd (cc) }
     by_fault fault.Memory quiet ends s = let e : result ≡ status.Memory = ends in record { held_taking = λ h. absurd (not_taking result h (λ s. cc) (λ s. cc)); held_sink = λ h. absurd (cc) }
 
--- a prefix of a fault's line is one of a line that `check` may put
-pub fault_may_tell : (f : OpenFault) (taken taken' : Option (List ℕ)) → AppendsPrefix taken taken' (fault_line f) → (line : List ℕ) × MayTell line × AppendsPrefix taken taken' line
-fault_may_tell fault.Not taken taken' put = (check_line NotVolume, inr (inl refl), put)
-fault_may_tell fault.Old taken taken' put = (check_line OldVolume, inr (inr (inl refl)), put)
-fault_may_tell fault.Damaged taken taken' put = (check_line Damaged, inr (inr (inr refl)), put)
-fault_may_tell fault.Disk taken taken' put = (check_line NotVolume, inr (inl refl), AppendsPrefix-longer taken taken' [] (check_line NotVolume) put)
-fault_may_tell fault.Memory taken taken' put = (check_line NotVolume, inr (inl refl), AppendsPrefix-longer taken taken' [] (check_line NotVolume) put)
+some_image : (a b : Image) → Some a ≡ Some b → b ≡ a
+some_image a b is = cc
+
+-- a line was put, or a part of it, that is the line of what reads give where they are told
+abbrev pub PutsOf : Option Image → Option (List ℕ) → Option (List ℕ) → Type 0
+PutsOf told taken taken' = (read : VolumeRead) × ForSome told (λ image. volume image ≡ read) × AppendsPrefix taken taken' (check_line read)
+
+-- nothing was put
+nothing_puts : (told : Option Image) (taken taken' : Option (List ℕ)) → AppendsPrefix taken taken' [] → PutsOf told taken taken'
+nothing_puts None taken taken' put = (NotVolume, (λ image is. absurd (cc)), AppendsPrefix-longer taken taken' [] (check_line NotVolume) put)
+nothing_puts (Some image) taken taken' put = (volume image, (λ one is. ap volume (some_image image one is)), AppendsPrefix-longer taken taken' [] (check_line (volume image)) put)
+
+-- a prefix of a fault's line is one of the line of what reads give
+pub fault_may_tell : (f : OpenFault) (told : Option Image) (taken taken' : Option (List ℕ)) → FaultTells f told → AppendsPrefix taken taken' (fault_line f) → PutsOf told taken taken'
+fault_may_tell fault.Not told taken taken' tells put = (NotVolume, tells, put)
+fault_may_tell fault.Old told taken taken' tells put = (OldVolume, tells, put)
+fault_may_tell fault.Damaged told taken taken' tells put = (Damaged, tells, put)
+fault_may_tell fault.Disk told taken taken' tells put = nothing_puts told taken taken' put
+fault_may_tell fault.Memory told taken taken' tells put = nothing_puts told taken taken' put
 
 -- what is told of a volume is told of the state that the image spells
-pub told_prefix : (summary : Summary) (told : Option Image) (taken taken' : Option (List ℕ)) → ForSome told (Tells summary) → AppendsPrefix taken taken' (summary_line summary)
-    → ForSome told (λ image. AppendsPrefix taken taken' (check_line (volume image)))
-told_prefix summary told taken taken' tells put = λ image is.
-    let t : Tells summary image = tells image is in
-    subst (λ (v : List ℕ). AppendsPrefix taken taken' v) (ap summary_line t.told ∙ sym (ap check_line t.is)) put
+pub told_prefix : (summary : Summary) (told : Option Image) (taken taken' : Option (List ℕ)) → TellsState summary told → AppendsPrefix taken taken' (summary_line summary) → PutsOf told taken taken'
+told_prefix summary told taken taken' t put = (Is t.state, t.is, subst (λ (v : List ℕ). AppendsPrefix taken taken' v) (ap summary_line t.summed) put)
+
+pub told_done : (summary : Summary) (told : Option Image) (taken taken' : Option (List ℕ)) → TellsState summary told → Appends taken taken' (summary_line summary)
+    → TellsLine (λ read. (s : State) × (read ≡ Is s)) told taken taken'
+told_done summary told taken taken' t put = record {
+  read = Is t.state;
+  is_kind = (t.state, refl);
+  is = t.is;
+  put = subst (λ (v : List ℕ). Appends taken taken' v) (ap summary_line t.summed) put;
+}
 
 -- a command that found a volume
-pub told_without : {D K : Type 0} (facts : Ghosts D) (to : sinks.Ghosts K) (summary : Summary) (result : Status) (d d' : D) (k k' : K) → ForSome (facts.seen d) (Tells summary)
+pub told_without : {D K : Type 0} (facts : Ghosts D) (to : sinks.Ghosts K) (summary : Summary) (result : Status) (d d' : D) (k k' : K) → TellsState summary (facts.seen d)
     → (result ≡ status.Done) ⊎ (result ≡ status.Sink) → TellsOfNone facts to result d d' k k'
-told_without facts to summary result d d' k k' tells ends = record {
+told_without facts to summary result d d' k k' t ends = record {
   none = λ h. absurd (found h);
-  none_writes = λ h. absurd (found h);
-  not_opened = λ image is none. absurd (subst IsNoState (tells image is).is none);
-  not_opened_prefix = λ image is none. absurd (subst IsNoState (tells image is).is none);
+  not_opened = λ image is none. absurd (subst IsNoState (t.is image is) none);
 }
   where
     found : result ≡ status.NoVolume → ⊥
@@ -170,9 +182,7 @@ pub opened_without : {D K : Type 0} (facts : Ghosts D) (to : sinks.Ghosts K) (ke
     → ForSome (facts.seen d) (λ image. Opens (volume image) kernel (facts.seen mid)) → EndsSession result → TellsOfNone facts to result d d' k k'
 opened_without facts to kernel result d mid d' k k' opens ends = record {
   none = λ h. absurd (never h);
-  none_writes = λ h. absurd (never h);
   not_opened = λ image is no_state. absurd (gone image is no_state);
-  not_opened_prefix = λ image is no_state. absurd (gone image is no_state);
 }
   where
     gone : (image : Image) → facts.seen d ≡ Some image → IsNoState (volume image) → ⊥
@@ -189,16 +199,14 @@ pub unopened_without : {D K : Type 0} (facts : Ghosts D) (to : sinks.Ghosts K) (
     → ((TellsNothing f → ⊥) → WritesNothing facts d d') → (result ≡ status.NoVolume → Appends (to.taken k) (to.taken k') (fault_line f)) → AppendsPrefix (to.taken k) (to.taken k') (fault_line f)
     → TellsOfNone facts to result d d' k k'
 unopened_without facts to f result d d' k k' tells ends writes put prefix = record {
-  none = λ h. none f tells ends put h;
-  none_writes = λ h. loud f ends writes h;
-  not_opened = λ image is no_state. may_end f ends;
-  not_opened_prefix = λ image is no_state. line f tells prefix image is;
+  none = λ h. (none f tells ends put h, loud f ends writes h);
+  not_opened = λ image is no_state. (may_end f ends, line f tells prefix image is);
 }
   where
-    none : (f : OpenFault) → FaultTells f (facts.seen d) → EndsUnopenedBy f result → (result ≡ status.NoVolume → Appends (to.taken k) (to.taken k') (fault_line f)) → result ≡ status.NoVolume → TellsNone (facts.seen d) (to.taken k) (to.taken k')
-    none fault.Not tells ends put h = record { read = NotVolume; none = tt; is = tells; put = put h }
-    none fault.Old tells ends put h = record { read = OldVolume; none = tt; is = tells; put = put h }
-    none fault.Damaged tells ends put h = record { read = Damaged; none = tt; is = tells; put = put h }
+    none : (f : OpenFault) → FaultTells f (facts.seen d) → EndsUnopenedBy f result → (result ≡ status.NoVolume → Appends (to.taken k) (to.taken k') (fault_line f)) → result ≡ status.NoVolume → TellsLine IsNoState (facts.seen d) (to.taken k) (to.taken k')
+    none fault.Not tells ends put h = record { read = NotVolume; is_kind = tt; is = tells; put = put h }
+    none fault.Old tells ends put h = record { read = OldVolume; is_kind = tt; is = tells; put = put h }
+    none fault.Damaged tells ends put h = record { read = Damaged; is_kind = tt; is = tells; put = put h }
     none fault.Disk tells ends put h = let e : result ≡ status.Disk = ends in absurd (cc)
     none fault.Memory tells ends put h = let e : result ≡ status.Memory = ends in absurd (cc)
 
@@ -241,9 +249,6 @@ none_held left_now kept (Some input) taken spelled = λ c left. (0, record { all
 
 no_lines : (kept : List Line → State) (ls : List Line) (c : Image) → volume c ≡ Is (kept []) → IsPrefix kept ls c
 no_lines kept ls c is = (0, omega arith, is)
-
-some_image : (a b : Image) → Some a ≡ Some b → b ≡ a
-some_image a b is = cc
 
 -- what an opening may leave, where the session then leaves this
 module _ {D : Type 0} (facts : Ghosts D) (d mid : D) where
@@ -352,9 +357,7 @@ module _ {D S K : Type 0} (facts : Ghosts D) (from : sources.Ghosts S) (to : sin
     disk_failed = λ h. then_rose _ _ _ _ _ _ count (serves.disk_failed h);
     without = opened_without facts to k result d mid d' sink sink' opens serves.which;
     none_source = λ h. absurd (no_volume result serves.which h);
-    not_opened_source = λ image seen no_state. absurd (gone image seen no_state);
-    not_opened_disk = λ image seen no_state. absurd (gone image seen no_state);
-    not_opened_sink = λ image seen no_state. absurd (gone image seen no_state);
+    not_opened = λ image seen no_state. absurd (gone image seen no_state);
     not_opened_leaves = λ pending image seen no_state. absurd (gone image seen no_state);
     complete = opened_then k (facts.seen d) (facts.seen mid) _ opens (λ image seen. λ no_disk no_source no_sink. serves.complete (λ rose. no_disk (then_rose _ _ _ _ _ _ count rose)) no_source no_sink);
   }
@@ -388,9 +391,7 @@ module _ {D S K : Type 0} (facts : Ghosts D) (from : sources.Ghosts S) (to : sin
         disk_failed = disk;
         without = unopened_without facts to f result d d' sink sink' tells ends writes put prefix;
         none_source = λ h. refl;
-        not_opened_source = λ image seen no_state. refl;
-        not_opened_disk = λ image seen no_state failed. quiet (fault_quiet f result ends (λ line. cc) (λ sink. cc));
-        not_opened_sink = λ image seen no_state failed. writes (λ q. sink_is_loud f result ends failed q);
+        not_opened = λ image seen no_state. (refl, (λ failed. quiet (fault_quiet f result ends (λ line. cc) (λ sink. cc))), (λ failed. writes (λ q. sink_is_loud f result ends failed q)));
         not_opened_leaves = λ pending image seen no_state. first pending image seen;
         complete = unopened f (facts.seen d) _ tells (λ q image seen s spelled. λ no_disk no_source no_sink. within_any input_limit (from.left source) (IsDoneOrMemory result) (⊎_elim
             (λ (e : result ≡ status.NoVolume). absurd (quiet_volume f result q ends e))

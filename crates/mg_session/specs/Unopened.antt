@@ -1,10 +1,15 @@
--- What a fault of the opening of a volume tells, and how a command ends with it.
-use Rattle.std.specs.Prelude.{ℕ, ◌≡◌, ◌⊎◌, List, [], Option}
+-- What a fault of the opening of a volume tells, and how a command ends with it; and what is told of a volume.
+use Rattle.std.specs.Prelude.{ℕ, ◌≡◌, ◌⊎◌, List, [], ◌∷◌, ◌++◌, Option}
+use Rattle.std.specs.Fmt.{decimal}
 use Rattle.std.specs.Option.{ForSome}
 use Rattle.mg_check.specs.declared.examining.OpenFault.{OpenFault}
 use Rattle.mg_check.specs.declared.examining.OpenFault.TheVariants as fault
+use Rattle.mg_check.specs.declared.examining.Summary.{Summary}
+use Rattle.mg_check.specs.Summaries.{summary_of}
 use Rattle.mg_disk.specs.Disk.{Image}
-use Rattle.mg_model.specs.Volume.{Damaged, NotVolume, OldVolume, volume}
+use Rattle.mg_model.specs.Print.{ok_text}
+use Rattle.mg_model.specs.State.{State}
+use Rattle.mg_model.specs.Volume.{Damaged, Is, NotVolume, OldVolume, volume}
 use Rattle.mg_serve.specs.declared.status.Status.{Status}
 use Rattle.mg_serve.specs.declared.status.Status.TheVariants as status
 use Rattle.mg_session.specs.Headline.{check_line}
@@ -40,3 +45,19 @@ EndsUnopenedBy fault.Old result = (result ≡ status.NoVolume) ⊎ (result ≡ s
 EndsUnopenedBy fault.Damaged result = (result ≡ status.NoVolume) ⊎ (result ≡ status.Sink)
 EndsUnopenedBy fault.Disk result = result ≡ status.Disk
 EndsUnopenedBy fault.Memory result = result ≡ status.Memory
+
+-- how `run` may end
+abbrev pub EndsRun : Status → Type 0
+EndsRun result =
+    (result ≡ status.NoVolume) ⊎ ((result ≡ status.Done) ⊎ ((result ≡ status.Memory) ⊎ ((result ≡ status.Disk) ⊎ ((result ≡ status.Source) ⊎ ((result ≡ status.Sink) ⊎ (result ≡ status.TooLong))))))
+
+-- the line of a volume of which this is told
+abbrev pub summary_line : Summary → List ℕ
+summary_line summary =
+    ok_text (decimal summary.frames ∷ decimal summary.objects ∷ decimal summary.pages ∷ decimal summary.accounts ∷ decimal summary.threads ∷ decimal summary.period ∷ decimal summary.credits ∷ []) ++ 10 ∷ []
+
+-- this is told of a state, which is that of the image where reads are told
+pub record TellsState (summary : Summary) (told : Option Image) : Type 0 where
+  pub state : State
+  pub is : ForSome told (λ image. volume image ≡ Is state)
+  pub summed : summary ≡ summary_of state

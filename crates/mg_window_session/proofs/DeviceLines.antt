@@ -11,9 +11,9 @@ use Rattle.mg_io.specs.declared.traits.Sink as sinks
 use Rattle.mg_io.specs.declared.traits.Source as sources
 use Rattle.mg_model.specs.Lines.{lines}
 use Rattle.mg_model.specs.State.{State}
-use Rattle.mg_model.specs.Volume.{Damaged, Is, NotVolume, OldVolume, VolumeRead, volume}
+use Rattle.mg_model.specs.Volume.{volume}
 use Rattle.mg_serve.specs.Sessions.{IsDoneOrMemory, IsWithin, input_limit}
-use Rattle.mg_session.specs.Headline.{IfState, OnVolume, PutsLast}
+use Rattle.mg_session.specs.Headline.{OnVolume, PutsLast}
 use Rattle.mg_serve.specs.declared.status.Status.{Status}
 use Rattle.mg_serve.specs.declared.status.Status.TheVariants as status
 use Rattle.mg_window.specs.Attached.{Attached}
@@ -32,14 +32,8 @@ if_some_then None P Q then h = h
 if_some_then (Some x) P Q then h = then x h
 
 -- a promise on a state, from two others
-if_state_both : (v : VolumeRead) (P Q R : State → Type 0) → ((s : State) → P s → Q s → R s) → IfState v P → IfState v Q → IfState v R
-if_state_both NotVolume P Q R then p q = p
-if_state_both OldVolume P Q R then p q = p
-if_state_both Damaged P Q R then p q = p
-if_state_both (Is s) P Q R then p q = then s p q
-
 on_volume_both : (told : Option Image) (P Q R : State → Type 0) → ((s : State) → P s → Q s → R s) → OnVolume told P → OnVolume told Q → OnVolume told R
-on_volume_both told P Q R then p q = λ image is. if_state_both (volume image) P Q R then (p image is) (q image is)
+on_volume_both told P Q R then p q = λ image is s spelled. then s (p image is s spelled) (q image is s spelled)
 
 -- what is kept once the lines of the devices are put
 pub dev_keeps : {D S K : Type 0} (facts : disks.Ghosts D) (from : sources.Ghosts S) (to : sinks.Ghosts K) (ran result : Status) (windows windows' : Attached) (d d' : D) (source source' : S) (sink replied sink' : K)

@@ -17,7 +17,8 @@ use Rattle.mg_model.specs.Volume.{volume}
 use Rattle.mg_serve.specs.Sessions.{IsDoneOrMemory, IsWithin, input_limit}
 use Rattle.mg_serve.specs.declared.status.Status.{Status}
 use Rattle.mg_serve.specs.declared.status.Status.TheVariants as status
-use Rattle.mg_session.specs.Headline.{EndsRun, LinesKeep, OnVolume, PutsLast, UsageKeeps}
+use Rattle.mg_session.specs.Headline.{LinesKeep, OnVolume, PutsLast, UsageKeeps}
+use Rattle.mg_session.specs.Unopened.{EndsRun}
 use Rattle.mg_window.specs.Attached.{Attached}
 use Rattle.mg_window.specs.Devices.{Held}
 use Rattle.mg_window_session.specs.Machine.{Equipped, device_after, device_state, device_text}

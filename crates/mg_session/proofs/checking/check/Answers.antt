@@ -1,24 +1,14 @@
-use Rattle.std.proofs.Common.{inl, refl}
-use Rattle.mg_session.specs.Headline.{summary_line}
-use Rattle.mg_session.specs.OpeningLemmas.{fault_may_tell, fault_tells, told_prefix, told_without, unopened_without}
 use Rattle.mg_session.proofs.checking.check.Goals as goal
 
-pub returns-in-Ok-clause-prefix : goal.returns-in-Ok-clause-prefix
-returns-in-Ok-clause-prefix g c =
-    told_prefix c.in-Ok.summary (g.D.Disk.seen c.args.disk.now) (g.K.Sink.taken c.args.sink.now) (g.K.Sink.taken c.put_summary.new.sink) c.in-Ok.ensures.tells c.put_summary.ensures.prefix
-
-pub returns-in-Ok-clause-some_line : goal.returns-in-Ok-clause-some_line
-returns-in-Ok-clause-some_line g c = (summary_line c.in-Ok.summary, inl (c.in-Ok.summary, refl), c.put_summary.ensures.prefix)
-
-pub returns-in-Err-clause-some_line : goal.returns-in-Err-clause-some_line
-returns-in-Err-clause-some_line g c = fault_may_tell c.in-Err.fault (g.K.Sink.taken c.args.sink.now) (g.K.Sink.taken c.put_fault.new.sink) c.put_fault.ensures.prefix
-
-pub returns-in-Ok-clause-without : goal.returns-in-Ok-clause-without
-returns-in-Ok-clause-without g c =
-    told_without g.D.Disk g.K.Sink c.in-Ok.summary c.put_summary.result c.args.disk.now c.examine.new.disk c.args.sink.now c.put_summary.new.sink c.in-Ok.ensures.tells c.put_summary.ensures.ends
-
-pub returns-in-Err-clause-without : goal.returns-in-Err-clause-without
-returns-in-Err-clause-without g c =
-    unopened_without g.D.Disk g.K.Sink c.in-Err.fault c.put_fault.result c.args.disk.now c.examine.new.disk c.args.sink.now c.put_fault.new.sink
-    (fault_tells c.in-Err.fault (g.D.Disk.seen c.args.disk.now) c.in-Err.ensures.not c.in-Err.ensures.old c.in-Err.ensures.damaged) c.put_fault.ensures.ends
-    (λ loud. c.in-Err.ensures.writes) c.put_fault.ensures.put c.put_fault.ensures.prefix
+pub returns : goal.returns
+returns g c = record {
+  done = c.tell.ensures.done;
+  prefix = c.tell.ensures.prefix;
+  writes = c.tell.ensures.writes;
+  without = c.tell.ensures.without;
+  which = c.tell.ensures.which;
+  memory = c.tell.ensures.memory;
+  disk_failed = λ h. (c.tell.ensures.disk h, c.tell.ensures.disk_text h);
+  sink_failed = c.tell.ensures.sink;
+  complete = c.tell.ensures.complete;
+}
