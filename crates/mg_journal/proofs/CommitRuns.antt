@@ -1,8 +1,7 @@
 -- Lemmas on what a stop may leave over the phases of a commit.
-use Rattle.std.specs.Prelude.{◌≡◌, ◌≤◌, ◌<◌, ◌==◌, ℕ, Bool, true, false, List, [], ◌∷◌, length, Option, Some, None, IsSomeAnd, option_map}
+use Rattle.std.specs.Prelude.{◌≡◌, ◌≤◌, ◌<◌, ℕ, true, false, List, [], ◌∷◌, length, Option, Some, None, IsSomeAnd, option_map}
 use Rattle.std.specs.Option.{ForSome}
-use Rattle.std.proofs.Common.{refl, sym, subst, ◌∙◌, inl, arith}
-use Rattle.std.proofs.lemmas.Bool.{eqb-true}
+use Rattle.std.proofs.Common.{refl, sym, subst, inl, arith}
 use Rattle.mg_disk.specs.Disk.{Image, SameBut, SeenBut, only_place}
 use Rattle.mg_disk.specs.Runs.{leaves_then, leaves_wider, leaves_yet, only_image}
 use Rattle.mg_disk.specs.Stops.{Leaves, NothingPending}
@@ -18,9 +17,9 @@ use Rattle.mg_journal.specs.Standing.{OldOrNew}
 pub some_same : (x y : Image) → Some x ≡ Some y → x ≡ y
 some_same x y is = cc
 
-pub empty_from : (writes : List (ℕ × List ℕ)) (test : Bool) → test ≡ (length writes == 0) → test ≡ true → writes ≡ []
-empty_from [] test is passes = refl
-empty_from (w ∷ writes) test is passes = absurd (let n = eqb-true (length (w ∷ writes)) 0 (sym is ∙ passes) in omega arith)
+pub empty_from : (writes : List (ℕ × List ℕ)) → length writes ≡ 0 → writes ≡ []
+empty_from [] none = refl
+empty_from (w ∷ writes) none = absurd (omega arith)
 
 module _ {D : Type 0} (facts : Ghosts D) (total n : ℕ) (writes : List (ℕ × List ℕ)) (a : Image) (place : n < segment_count) (shut : (s : ℕ) → n ≤ s → s < segment_count → is_open a s ≡ false) where
   pub after_bodies : (d0 d1 : D) → Leaves facts d0 d1 (SameBut (IsBehind n) a) → Leaves facts d0 d1 (OldOrNew total writes a)

@@ -7,6 +7,7 @@ mod Homes
 mod Lookups
 mod NewestSteps
 mod Once
+mod Pairs
 mod OpenSteps
 mod PhaseSteps
 mod RecoverSteps

@@ -1,6 +1,9 @@
 -- Writes that wait for a commit: pairs of a block and its bytes, no block twice.
-use Rattle.std.specs.Prelude.{◌==◌, ◌&&◌, ℕ, Bool, true, not, List, [], ◌∷◌, ◌++◌, find, option_map, position, slice_index_or, slice_set, Option}
+use Rattle.std.specs.Prelude.{◌≡◌, ◌==◌, ◌&&◌, ◌+◌, ◌*◌, ◌≤◌, ◌<◌, ℕ, Bool, true, not, List, [], ◌∷◌, ◌++◌, find, length, option_map, position, slice_index_or, slice_set, Option}
 use Rattle.std.specs.Option.{option_map_or}
+use Rattle.mg_disk.specs.Disk.{Image, block_at}
+use Rattle.mg_model.specs.Bytes.{number_at}
+use Rattle.mg_model.specs.Layout.{body_limit}
 use Rattle.mg_journal.specs.Contents.{names}
 
 -- whether no two of these writes go to one block
@@ -26,3 +29,21 @@ home_at writes j = (slice_index_or writes j (0, [])).0
 
 abbrev pub bytes_of : List (ℕ × List ℕ) → ℕ → List ℕ
 bytes_of writes j = (slice_index_or writes j (0, [])).1
+
+-- writes to these blocks of what lies at place j and behind
+abbrev pub paired : List ℕ → Image → ℕ → List (ℕ × List ℕ)
+paired [] blocks j = []
+paired (home ∷ homes) blocks j = (home, block_at blocks j) ∷ paired homes blocks (j + 1)
+
+-- the first of these blocks is the index of a segment that holds these writes, and those behind it are what they put
+pub record IsRunOf (writes : List (ℕ × List ℕ)) (run : Image) : Type 0 where
+  pub long : length run ≡ length writes + 1
+  pub count : number_at (block_at run 0) 0 ≡ length writes
+  pub homes : (j : ℕ) → j < length writes → number_at (block_at run 0) (8 + 8 * j) ≡ home_at writes j
+  pub bodies : (j : ℕ) → j < length writes → block_at run (1 + j) ≡ bytes_of writes j
+
+-- these blocks are an index with these homes and what goes to them, no more than a commit takes, and no home is there twice
+pub record AreHeld (homes : List ℕ) (blocks : Image) : Type 0 where
+  pub few : length homes ≤ body_limit
+  pub once : are_once (paired homes blocks 1) ≡ true
+  pub run : IsRunOf (paired homes blocks 1) blocks

@@ -6,16 +6,16 @@ ghost use Rattle.mg_disk.specs.Stops.{DiskCalls, Leaves, NothingPending};
 ghost use Rattle.mg_model.specs.Layout.{body_limit, globals_block, segment_count};
 ghost use Rattle.mg_journal.specs.Phases.{HoldsWrites, IsBehind};
 
-use crate::index::index_block;
 use crate::places::index_of;
-use mg_disk::{Block, Disk};
+use crate::writes::Writes;
+use mg_disk::Disk;
 use mg_faults::Failed;
 
-/// Writes the index and the bodies of a segment and makes sure of them.
+/// Writes the index and the bodies of a segment, which lie behind it, in one run, and makes sure of them.
 pub(crate) fn write_segment<D: Disk>(
     disk: &mut D,
     segment: u64,
-    writes: &[(u64, Block)],
+    writes: &Writes,
 ) -> Result<(), Failed>
     requires place { segment < segment_count }
     requires at_most_160_writes { length writes.now ≤ body_limit }
@@ -26,10 +26,6 @@ pub(crate) fn write_segment<D: Disk>(
     ensures settled { OnOk result (NothingPending D.Disk disk.new) }
     ensures calls { DiskCalls D.Disk disk.old disk.new result }
 {
-    disk.write(index_of(segment), &index_block(writes))?;
-    let first = index_of(segment) + 1;
-    for (k, write) in writes.iter().enumerate() {
-        disk.write(first + k as u64, &write.1)?;
-    }
+    disk.write_blocks(index_of(segment), writes.run())?;
     disk.sync()
 }

@@ -131,11 +131,10 @@ impl Store {
         ensures no_call { w.now ≡ [] → (disk.new ≡ disk.old) × IsOk result }
         ensures calls { DiskCalls D.Disk disk.old disk.new result }
     {
-        let writes = w.as_slice();
-        if writes.is_empty() {
+        if w.len() == 0 {
             return Ok(());
         }
-        match self.commit_segment(disk, writes) {
+        match self.commit_segment(disk, w) {
             Ok(()) => Ok(()),
             Err(Failed) => {
                 self.live = false;
@@ -157,11 +156,7 @@ impl Store {
     }
 
     // Writes these blocks into the next segment, after a checkpoint where none is left.
-    fn commit_segment<D: Disk>(
-        &mut self,
-        disk: &mut D,
-        writes: &[(u64, Block)],
-    ) -> Result<(), Failed>
+    fn commit_segment<D: Disk>(&mut self, disk: &mut D, writes: &Writes) -> Result<(), Failed>
         requires stands { Stands D.Disk self.old disk.old }
         requires homes { homes_fit (total_of self.old) writes.now ≡ true }
         requires at_most_160_writes { length writes.now ≤ body_limit }
@@ -245,7 +240,7 @@ impl Store {
     }
 
     // Writes the index and the bodies of the next segment, and then opens its gate, with a sync after each.
-    fn write_next<D: Disk>(&self, disk: &mut D, writes: &[(u64, Block)]) -> Result<(), Failed>
+    fn write_next<D: Disk>(&self, disk: &mut D, writes: &Writes) -> Result<(), Failed>
         requires stands { Stands D.Disk self.now disk.old }
         requires fewer_than_8_open { self.now.opened < segment_count }
         requires homes { homes_fit (total_of self.now) writes.now ≡ true }
@@ -261,7 +256,7 @@ impl Store {
     }
 
     // Holds that the next segment is open with these bodies.
-    fn note(&mut self, writes: &[(u64, Block)])
+    fn note(&mut self, writes: &Writes)
         requires fewer_than_8_open { self.old.opened < segment_count }
         requires homes { homes_fit (total_of self.old) writes.now ≡ true }
         requires at_most_160_writes { length writes.now ≤ body_limit }

@@ -5,7 +5,7 @@ ghost use Rattle.mg_model.specs.Layout.{globals_block};
 ghost use Rattle.mg_journal.specs.Newest.{Adds, Ascends, Puts, is_for};
 ghost use Rattle.mg_journal.specs.Places.{IsPlace, place_limit};
 
-use mg_disk::Block;
+use crate::writes::Writes;
 use std::alloc::{AllocError, Global};
 use std::marker::Model;
 
@@ -79,13 +79,13 @@ impl Table {
     }
 
     /// Puts the places of these writes in, whose bodies lie from this block on.
-    pub(crate) fn add(&mut self, first: u64, writes: &[(u64, Block)])
+    pub(crate) fn add(&mut self, first: u64, writes: &Writes)
         requires fits_in_table { length self.old + length writes.now ≤ place_limit }
         requires within { first + length writes.now ≤ globals_block }
         ensures added { Adds first writes.now self.old self.new }
     {
-        for (k, write) in writes.iter().enumerate() {
-            self.put((write.0, first + k as u64));
+        for k in 0..writes.len() {
+            self.put((writes.home(k), first + k as u64));
         }
     }
 

@@ -13,6 +13,7 @@ use crate::faults::ViewFault;
 use crate::places::SEGMENTS;
 use crate::reading::look_segment;
 use crate::table::Table;
+use crate::writes::Writes;
 use mg_disk::{Block, Disk};
 use mg_faults::Failed;
 use std::alloc::Global;
@@ -77,7 +78,7 @@ impl View {
     }
 
     /// Holds that these bodies are the newest, which lie from this block on.
-    pub(crate) fn add(&mut self, first: u64, writes: &[(u64, Block)])
+    pub(crate) fn add(&mut self, first: u64, writes: &Writes)
         requires fits_in_table { length self.old.table + length writes.now ≤ place_limit }
         requires within { first + length writes.now ≤ globals_block }
         requires homes { homes_fit self.old.total writes.now ≡ true }

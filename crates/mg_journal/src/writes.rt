@@ -1,11 +1,12 @@
 // Writes that wait for a commit.
-ghost use Rattle.std.specs.Prelude.{◌≡◌, ◌<◌, ◌≤◌, ◌⊎◌, ◌+◌, [], ◌∷◌, ◌++◌, IfOk, IfSome, IsSome, MatchOption, None, Some, find, is_some, length, option_copied, position, slice_set, true};
+ghost use Rattle.std.specs.Prelude.{◌≡◌, ◌==◌, ◌<◌, ◌≤◌, ◌⊎◌, ◌+◌, [], ◌∷◌, ◌++◌, IfOk, IfSome, IsSome, MatchOption, None, Some, is_some, length, position, slice_set, true};
 ghost use Rattle.std.specs.List.{splice};
 ghost use Rattle.mg_model.specs.Bytes.{word_bytes};
 ghost use Rattle.mg_model.specs.Layout.{block_size, body_limit};
-ghost use Rattle.mg_journal.specs.Staged.{are_once, bytes_of, goes_to, home_at, staged, waiting};
+ghost use Rattle.mg_journal.specs.Staged.{IsRunOf, are_once, bytes_of, goes_to, home_at, staged, waiting};
 
-use mg_disk::Block;
+use crate::index::{add_home, clear_index};
+use mg_disk::{BLOCK_SIZE, Block};
 use mg_layout::{BODY_LIMIT, put_number};
 use std::alloc::{AllocError, Global};
 use std::marker::Model;
@@ -16,19 +17,22 @@ pub const MOST_WRITES: usize = BODY_LIMIT as usize;
 /// Up to 160 blocks that wait for a commit, each with what will be written there. No block is there twice.
 #[derive(Drop)]
 pub struct Writes {
-    items: Vec<(u64, Block)>,
+    // The blocks that are to be written.
+    homes: Vec<u64>,
+    // The index of a segment that has these homes, and behind it what will be written at each.
+    blocks: Vec<Block>,
 }
 
 impl Model for Writes {
-    ghost use Rattle.std.specs.Prelude.{◌≡◌, ◌≤◌, ℕ, List, length, true, vec_capacity};
+    ghost use Rattle.std.specs.Prelude.{◌≤◌, ◌+◌, ℕ, List, vec_capacity};
     ghost use Rattle.mg_model.specs.Layout.{body_limit};
-    ghost use Rattle.mg_journal.specs.Staged.{are_once};
+    ghost use Rattle.mg_journal.specs.Staged.{AreHeld, paired};
 
     ghost Value = { List (ℕ × List ℕ) };
 
-    ghost view = { λ w. w.items.items };
+    ghost view = { λ w. paired w.homes.items w.blocks.items 1 };
 
-    ghost invariant = { λ w. (body_limit ≤ vec_capacity w.items) × (length w.items.items ≤ body_limit) × (are_once w.items.items ≡ true) };
+    ghost invariant = { λ w. (body_limit ≤ vec_capacity w.homes) × (body_limit + 1 ≤ vec_capacity w.blocks) × AreHeld w.homes.items w.blocks.items };
 }
 
 impl Writes {
@@ -36,48 +40,60 @@ impl Writes {
     pub fn new(alloc: Global) -> Result<Writes, AllocError>
         ensures empty { IfOk result (λ writes. writes ≡ []) }
     {
-        Ok(Writes {
-            items: Vec::with_capacity(alloc, MOST_WRITES)?,
-        })
+        let homes = Vec::with_capacity(alloc, MOST_WRITES)?;
+        let mut blocks = Vec::with_capacity(alloc, MOST_WRITES + 1)?;
+        let mut index = [0; BLOCK_SIZE];
+        clear_index(&mut index);
+        blocks.push(index)?;
+        Ok(Writes { homes, blocks })
     }
 
     /// How many blocks wait, 0 to 160.
+    #[tactic(auto, using(crate::proofs::Pairs::pairs_count))]
     pub fn len(&self) -> usize
         ensures count { result ≡ length self.now }
         ensures at_most_160 { result ≤ body_limit }
         ensures once { are_once self.now ≡ true }
     {
-        self.items.len()
+        self.homes.len()
     }
 
     // The place of the write to this block.
     fn place_of(&self, block: u64) -> Option<usize>
         ensures { result ≡ position (goes_to block) self.now }
     {
-        self.items.iter().position(|write| write.0 == block)
+        place_among(&self.homes, block)
     }
 
-    // The write to this block.
-    fn found(&self, block: u64) -> Option<&(u64, Block)>
-        ensures { option_copied result ≡ find (goes_to block) self.now }
+    /// The block that write `k` goes to, in the order in which their blocks were first staged.
+    pub fn home(&self, k: usize) -> u64
+        requires there { k < length self.now }
+        ensures home { result ≡ home_at self.now k }
     {
-        self.items.iter().find(|write| write.0 == block)
+        self.homes[k]
     }
 
-    /// The writes, in the order in which their blocks were first staged.
-    pub fn as_slice(&self) -> &[(u64, Block)]
-        ensures same { result.now ≡ self.now }
-        ensures at_most_160_result { length result.now ≤ body_limit }
+    /// What write `k` puts there.
+    pub fn body(&self, k: usize) -> &Block
+        requires there { k < length self.now }
+        ensures body { result.now ≡ bytes_of self.now k }
     {
-        &self.items
+        &self.blocks[k + 1]
+    }
+
+    /// The index of a segment that holds these writes, and behind it what they put, in their order.
+    pub(crate) fn run(&self) -> &[Block]
+        ensures run { IsRunOf self.now result.now }
+    {
+        &self.blocks
     }
 
     /// What waits for this block.
     pub fn get(&self, block: u64) -> Option<&Block>
         ensures { MatchOption result (waiting self.now block ≡ None) (λ bytes. waiting self.now block ≡ Some bytes.now) }
     {
-        match self.found(block) {
-            Some(write) => Some(&write.1),
+        match self.place_of(block) {
+            Some(place) => Some(self.body(place)),
             None => None,
         }
     }
@@ -89,7 +105,7 @@ impl Writes {
         ensures { self.new ≡ staged self.old block from.now }
     {
         match self.place_of(block) {
-            Some(place) => self.items[place] = (block, *from),
+            Some(place) => self.replace(place, from),
             None => self.add(block, from),
         }
     }
@@ -110,6 +126,14 @@ impl Writes {
         }
     }
 
+    // Puts other bytes into the k-th write.
+    fn replace(&mut self, k: usize, from: &Block)
+        requires there { k < length self.old }
+        ensures { self.new ≡ slice_set self.old k (home_at self.old k, from.now) }
+    {
+        self.blocks[k + 1] = *from;
+    }
+
     // Puts a word at an offset into the k-th write.
     fn put_into(&mut self, k: usize, at: usize, word: u64)
         requires there { k < length self.old }
@@ -117,25 +141,33 @@ impl Writes {
         ensures put { self.new ≡ slice_set self.old k (home_at self.old k, splice (bytes_of self.old k) at (at + 8) (word_bytes word)) }
         ensures whole { length (bytes_of self.old k) ≡ block_size }
     {
-        put_number(&mut self.items[k].1, at, word);
+        put_number(&mut self.blocks[k + 1], at, word);
     }
 
     // Stages a write behind the others.
-    #[tactic(auto, using(crate::proofs::Once::once_more))]
     fn add(&mut self, block: u64, from: &Block)
         requires fewer_than_160 { length self.old < body_limit }
         requires new { waiting self.old block ≡ None }
         ensures { self.new ≡ self.old ++ (block, from.now) ∷ [] }
     {
-        if self.items.push((block, *from)).is_err() {
-            unreachable!()
-        }
+        add_home(&mut self.blocks[0], self.homes.len(), block);
+        self.homes.push_reserved(block);
+        self.blocks.push_reserved(*from);
     }
 
     /// Nothing waits.
     pub fn clear(&mut self)
         ensures { self.new ≡ [] }
     {
-        self.items.clear();
+        self.homes.clear();
+        self.blocks.truncate(1);
+        clear_index(&mut self.blocks[0]);
     }
+}
+
+// The first place of this block among these.
+fn place_among(homes: &[u64], block: u64) -> Option<usize>
+    ensures { result ≡ position (λ home. home == block) homes.now }
+{
+    homes.iter().position(|home| *home == block)
 }

@@ -334,8 +334,8 @@ fn trace_of(mut disk: MemDisk) -> Trace
     (writes, syncs, first)
 }
 
-/// What a disk saw that died behind each call of the commit of two blocks: the index and the two bodies are written, then there is a
-/// sync, and then the gate is opened, with a sync of its own. The opening made one sync.
+/// What a disk saw that died behind each call of the commit of two blocks: the index and the two bodies are written in one run, of
+/// which each block is a call, then there is a sync, and then the gate is opened, with a sync of its own. The opening made one sync.
 const TRACES: [(u64, u64, [u8; 4]); 7] = [
     (0, 1, [0, 0, 0, 0]),
     (1, 1, [0, 2, 0, 0]),

@@ -257,7 +257,7 @@ impl Blocks {
     {
         match self.store.commit(disk, &self.writes) {
             Ok(()) => {
-                self.kept.refresh(self.writes.as_slice(), first);
+                self.kept.refresh(&self.writes, first);
                 self.writes.clear();
                 Ok(())
             }

@@ -107,12 +107,13 @@ impl Kept {
     }
 
     /// Keeps blocks that were written, those from `first` on, in place of what was kept of them.
-    pub(crate) fn refresh(&mut self, writes: &[(u64, Block)], first: u64)
+    pub(crate) fn refresh(&mut self, writes: &Writes, first: u64)
         ensures { (total : ℕ) (r : Image) → homes_fit total writes.now ≡ true → total ≤ length r → AreKept first r self.old → AreKept first (written r writes.now) self.new }
     {
-        for write in writes {
-            if first <= write.0 {
-                self.put(write.0, &write.1);
+        for k in 0..writes.len() {
+            let block = writes.home(k);
+            if first <= block {
+                self.put(block, writes.body(k));
             }
         }
     }

@@ -1,14 +1,20 @@
-use Rattle.std.proofs.Common.{◌∙◌, ap, arith, subst, sym}
+use Rattle.std.proofs.Common.{◌∙◌, ap, arith, inl, subst, sym}
 use Rattle.std.specs.Prelude.{IsSomeAnd}
+use Rattle.mg_disk.specs.Runs.{leaves_wider}
 use Rattle.mg_model.specs.Replay.{homes_fit}
 use Rattle.mg_journal.proofs.CommitRuns.{make_done, make_run, some_same}
 use Rattle.mg_journal.proofs.NewestSteps.{counted, holds_next, is_late}
 use Rattle.mg_journal.proofs.RecoverSteps.{came_back}
-use Rattle.mg_journal.specs.Contents.{NewContents}
+use Rattle.mg_journal.specs.Contents.{NewContents, SameContents}
 use Rattle.mg_journal.specs.Phases.{IsNext}
 use Rattle.mg_journal.specs.ResultLemmas.{some_of}
-use Rattle.mg_journal.specs.Standing.{HoldsOpen, IsLate, fits_held, held_fits}
+use Rattle.mg_journal.specs.Standing.{HoldsOpen, IsLate, OldOrNew, fits_held, held_fits}
 use Rattle.mg_journal.proofs.store.Store.commit_segment.Goals as goal
+
+pub returns-in_err-make_room-clause-any_moment : goal.returns-in_err-make_room-clause-any_moment
+returns-in_err-make_room-clause-any_moment g c image told =
+    let total = c.args.self.now.total in
+    leaves_wider g.D.Disk c.args.disk.now c.make_room.new.disk (SameContents total image) (OldOrNew total c.args.writes.now image) (c.make_room.ensures.any_moment image told) (λ x same. inl same)
 
 pub returns-in_err-write_next-clause-any_moment : goal.returns-in_err-write_next-clause-any_moment
 returns-in_err-write_next-clause-any_moment g c image told =

@@ -1,16 +1,38 @@
-use Rattle.std.proofs.Common.{◌<◌, ◌∙◌, List, [], ap, arith, length, slice_set, subst, sym, ℕ}
-use Rattle.std.proofs.lemmas.List.{get_or_default, length-set}
-use Rattle.mg_journal.proofs.Once.{once_set}
-use Rattle.mg_journal.specs.Staged.{are_once}
+use Rattle.std.proofs.Common.{◌≡◌, ◌+◌, ◌<◌, ◌∙◌, List, ap, length, slice_set, subst, sym, ℕ}
+use Rattle.std.specs.List.{splice}
+use Rattle.mg_journal.proofs.Pairs.{bytes_held, held_put, pairs_put}
+use Rattle.mg_journal.specs.Staged.{bytes_of, home_at}
+use Rattle.mg_model.specs.Bytes.{word_bytes}
 use Rattle.mg_journal.proofs.writes.Writes.put_into.Goals as goal
 
 pub invariant_of-self : goal.invariant_of-self
 invariant_of-self c =
-    let writes = c.self.inside.items.items in
+    let homes = c.self.inside.homes.items in
+    let blocks = c.self.inside.blocks.items in
+    let below = subst (λ (ws : List (ℕ × List ℕ)). c.args.k < length ws) (sym c.self.view_is) c.requires.there in
+    (c.self.invariant.0, c.self.invariant.1, held_put homes blocks c.self.invariant.2 c.args.k c.put_number.new.out below)
+
+pub returns-clause-put : goal.returns-clause-put
+returns-clause-put c =
+    let homes = c.self.inside.homes.items in
+    let blocks = c.self.inside.blocks.items in
+    let now = c.args.self.now in
     let k = c.args.k in
-    let bytes = c.put_number.new.out in
-    let few = c.self.invariant.1 in
-    let long = length-set writes k (c.index_mut.result.now.0, bytes) in
-    let P : List (ℕ × List ℕ) → Type 0 = λ ws. k < length ws in
-    let home = ap (λ (write : ℕ × List ℕ). write.0) (get_or_default writes k c.index_mut.result.now (0, []) (subst P (sym c.self.view_is) c.requires.there)) in
-    (c.self.invariant.0, omega arith, ap (λ h. are_once (slice_set writes k (h, bytes))) (ap (λ (write : ℕ × List ℕ). write.0) c.index_mut.ensures.value ∙ home) ∙ once_set writes k bytes ∙ c.self.invariant.2)
+    let at = c.args.at in
+    let out = c.put_number.new.out in
+    let below = subst (λ (ws : List (ℕ × List ℕ)). k < length ws) (sym c.self.view_is) c.requires.there in
+    let old : c.index_mut.result.now ≡ bytes_of now k =
+    c.index_mut.ensures.value ∙ bytes_held homes blocks c.self.invariant.2 k c.index_mut.result.now below ∙ ap (λ (ws : List (ℕ × List ℕ)). bytes_of ws k) c.self.view_is in
+    pairs_put homes blocks c.self.invariant.2 k out below
+    ∙ ap (λ (ws : List (ℕ × List ℕ)). slice_set ws k (home_at ws k, out)) c.self.view_is
+    ∙ ap (λ (bytes : List ℕ). slice_set now k (home_at now k, bytes)) (c.put_number.ensures.put ∙ ap (λ (bytes : List ℕ). splice bytes at (at + 8) (word_bytes c.args.word)) old)
+
+pub returns-clause-whole : goal.returns-clause-whole
+returns-clause-whole c =
+    let homes = c.self.inside.homes.items in
+    let blocks = c.self.inside.blocks.items in
+    let k = c.args.k in
+    let below = subst (λ (ws : List (ℕ × List ℕ)). k < length ws) (sym c.self.view_is) c.requires.there in
+    let old : c.index_mut.result.now ≡ bytes_of c.args.self.now k =
+    c.index_mut.ensures.value ∙ bytes_held homes blocks c.self.invariant.2 k c.index_mut.result.now below ∙ ap (λ (ws : List (ℕ × List ℕ)). bytes_of ws k) c.self.view_is in
+    ap (λ (bytes : List ℕ). length bytes) (sym old) ∙ c.put_number.ensures.whole

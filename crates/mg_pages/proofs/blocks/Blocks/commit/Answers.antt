@@ -1,4 +1,4 @@
-use Rattle.std.proofs.Common.{◌≡◌, ◌∙◌, ap, subst, sym}
+use Rattle.std.proofs.Common.{◌∙◌, ap, subst, sym}
 use Rattle.std.specs.Prelude.{IsSomeAnd, [], ◌≢◌}
 use Rattle.mg_journal.specs.Contents.{NewContents}
 use Rattle.mg_journal.specs.Standing.{total_of}
@@ -14,7 +14,7 @@ returns-in-Ok-clause-came_from g c now told =
 pub returns-in-Ok-clause-kept : goal.returns-in-Ok-clause-kept
 returns-in-Ok-clause-kept g c r long are =
     let now = c.args.self.now in
-    let same : c.as_slice.result.now ≡ now.writes = c.as_slice.ensures.same ∙ ap (λ (b : BlocksHeld). b.writes) c.self.view_is in
+    let same = ap (λ (b : BlocksHeld). b.writes) c.self.view_is in
     subst (λ ws. AreKept c.args.first (written r ws) c.refresh.new.self) same
     (c.refresh.ensures (total_of now.store) r (ap (homes_fit (total_of now.store)) same ∙ c.requires.homes) long (subst (λ (b : BlocksHeld). AreKept c.args.first r b.kept) (sym c.self.view_is) are))
 
