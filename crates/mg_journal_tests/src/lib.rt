@@ -1,7 +1,7 @@
-//! Tests of the journal and of the check of a volume: numbers of calls, which no contract tells, and disks that were worked
-//! out by hand.
+//! Tests of the journal, of the check of a volume and of pages as they are made: numbers of calls, which no contract tells, and
+//! disks that were worked out by hand.
 //!
-//! They stand above `mg_journal` and `mg_check`, over their public calls, so that those are proved once.
+//! They stand above `mg_journal`, `mg_pages` and `mg_check`, over their public calls, so that those are proved once.
 #![tactic(auto)]
 
 #[cfg(test)]
@@ -12,5 +12,7 @@ mod commits;
 mod disks;
 #[cfg(test)]
 mod full;
+#[cfg(test)]
+mod tables;
 #[cfg(test)]
 mod views;

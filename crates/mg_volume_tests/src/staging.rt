@@ -64,6 +64,20 @@ fn objects_of(volume: &mut Volume) -> Objects
     [come, changed, gone]
 }
 
+// The same, each time by the object's base.
+fn based_objects_of(volume: &mut Volume) -> Objects
+    requires { IsFresh volume.old }
+{
+    volume.stage_object(BASE, Some(object()));
+    let come = (volume.object(BASE) == Some(object()), volume.staged());
+    volume.stage_object(BASE, Some(extended()));
+    let last = volume.covering(BASE + 4096 * PAGES - 1);
+    let changed = (last == Some(extended()), volume.staged());
+    volume.stage_object(BASE, None);
+    let gone = (volume.object(BASE).is_none(), volume.staged());
+    [come, changed, gone]
+}
+
 fn object() -> ObjRow
     ensures base { result.base ≡ 0x100010000 }
     ensures pages { result.pages ≡ 3 }
@@ -127,6 +141,7 @@ fn rest_of(volume: &mut Volume) -> Option<Rest>
 #[derive(Clone, Copy)]
 enum Part {
     Objects,
+    BasedObjects,
     Rest,
 }
 
@@ -137,6 +152,7 @@ fn is_seen(volume: &mut Volume, part: Part) -> bool
 {
     match part {
         Part::Objects => objects_of(volume) == [(true, 1); 3],
+        Part::BasedObjects => based_objects_of(volume) == [(true, 1); 3],
         Part::Rest => {
             let passwords = [0x1aed_8da0_b819_d2bd, 0xc70d_778b_ccef_36a8];
             rest_of(volume) == Some(([true; 3], passwords, 3))
@@ -155,7 +171,8 @@ fn is_seen_on_fresh(alloc: Global, part: Part) -> bool {
 fn what_is_staged_is_seen(rt: HostRuntime) {
     let are_seen = [
         is_seen_on_fresh(rt.alloc(), Part::Objects),
+        is_seen_on_fresh(rt.alloc(), Part::BasedObjects),
         is_seen_on_fresh(rt.alloc(), Part::Rest),
     ];
-    assert_eq!(rt; are_seen, [true; 2]);
+    assert_eq!(rt; are_seen, [true; 3]);
 }
