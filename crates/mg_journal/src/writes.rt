@@ -65,7 +65,7 @@ impl Writes {
         place_among(&self.homes, block)
     }
 
-    /// The block that write `k` goes to, in the order in which their blocks were first staged.
+    /// The block that write `k` goes to. They are numbered from 0, in the order in which their blocks were first staged.
     pub fn home(&self, k: usize) -> u64
         requires there { k < length self.now }
         ensures home { result ≡ home_at self.now k }
@@ -73,7 +73,7 @@ impl Writes {
         self.homes[k]
     }
 
-    /// What write `k` puts there.
+    /// What write `k` puts there, numbered as for [`Writes::home`].
     pub fn body(&self, k: usize) -> &Block
         requires there { k < length self.now }
         ensures body { result.now ≡ bytes_of self.now k }
