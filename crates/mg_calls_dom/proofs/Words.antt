@@ -110,6 +110,11 @@ pub lives-ok : (state : State) (v : Bool) (answer : Answer) → v ≡ true → i
 lives-ok state true answer is ok = ok
 lives-ok state false answer is ok = cc
 
+-- what a store drops, told by the base of its object and by its row
+pub dropped-at : (a : ℕ) (seats seats' : List (Option Seat)) (base : ℕ) (row : ObjectRow) → base ≡ row.base → seats' ≡ (if nat_lt a (base + page_size) then without (by_via base) seats else seats)
+    → seats' ≡ (if nat_lt a (row.base + page_size) then without (by_via row.base) seats else seats)
+dropped-at a seats seats' base row is dropped = subst (λ b. seats' ≡ (if nat_lt a (b + page_size) then without (by_via b) seats else seats)) is dropped
+
 -- a store, and what it leaves of the seats
 module _ (state : State) (t a value : ℕ) (row : ObjectRow) (found : Some row ≡ allowed_row state t a W) where
   abbrev line : Line

@@ -1,5 +1,5 @@
 -- What the search for an access asks of the words of an object.
-use Rattle.std.specs.Prelude.{ℕ, ◌≡◌, true, Contains, ◌+◌, ◌*◌, ◌==◌, ◌&&◌, Bool, not, List, [], ◌∷◌, if◌then◌else◌, option_map, slice_index, Option, None}
+use Rattle.std.specs.Prelude.{ℕ, ◌≡◌, true, Contains, ◌+◌, ◌*◌, ◌==◌, ◌&&◌, Bool, not, List, [], ◌∷◌, if◌then◌else◌, option_map, slice_index, Option, None, Some}
 use Rattle.std.specs.List.{list_any}
 use Rattle.std.specs.Option.{option_map_or}
 use Rattle.mg_calls_dom.specs.declared.lists.Sought.{Sought}
@@ -45,6 +45,12 @@ reached_row state slots address right =
 -- the same where a thread may reach it
 abbrev pub allowed_row : State → ℕ → ℕ → Right → Option ObjectRow
 allowed_row state t address right = if allowed state t address right then option_map (λ (object : Object). object.row) (at state.objects address) else None
+
+-- the thread may reach the address with the right, and the object that has it has this base
+pub record IsAllowedIn (state : State) (t address : ℕ) (right : Right) (base : ℕ) : Type 0 where
+  pub row : ObjectRow
+  pub found : Some row ≡ allowed_row state t address right
+  pub is : base ≡ row.base
 
 -- why a load or a store is refused, with the right that it wants
 abbrev pub access_refusal : State → ℕ → ℕ → Right → Option Refusal

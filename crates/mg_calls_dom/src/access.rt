@@ -2,7 +2,7 @@
 ghost use Rattle.std.specs.Prelude.{List, ◌≡◌, ◌≤◌, ◌<◌, ◌+◌, ◌-◌, ◌/◌, ◌%◌, ℕ, true, nat_lt, if◌then◌else◌, IfOk, MatchResult, None, OnErr, OnOk, Some};
 ghost use Rattle.std.specs.Option.{ForSome};
 ghost use Rattle.mg_calls_dom.specs.Fetching.{Fetches, fetch_limit};
-ghost use Rattle.mg_calls_dom.specs.Searching.{access_refusal, allowed_row, word_accesses};
+ghost use Rattle.mg_calls_dom.specs.Searching.{IsAllowedIn, access_refusal, allowed_row, word_accesses};
 ghost use Rattle.mg_calls_dom.specs.Served.{CallReads, CallServes, of_call};
 ghost use Rattle.mg_disk.specs.Stops.{CountRose};
 ghost use Rattle.mg_model.specs.Access.{allowed, covers};
@@ -12,9 +12,9 @@ ghost use Rattle.mg_model.specs.Limits.{page_size};
 ghost use Rattle.mg_model.specs.Objects.{word_at};
 ghost use Rattle.mg_vcache.specs.Seats.{AllBacked, is_kept, without};
 ghost use Rattle.mg_volume.specs.Calls.{IsSoundOn, Reads};
-ghost use Rattle.mg_volume.specs.Meaning.{has_page, is_page_in, now_of, staged_of};
+ghost use Rattle.mg_volume.specs.Meaning.{has_page, now_of, staged_of};
 
-use crate::validating::reach;
+use crate::validating::{reach, validate};
 use mg_disk::Disk;
 use mg_faults::Failed;
 use mg_laws::{accesses_keep_the_rules_of_a_line, steps_keep_backing, stores_end_one_list};
@@ -41,11 +41,8 @@ pub fn load<D: Disk, L: Ledger>(
     requires backed { ForSome (D.seen disk.old) (λ image. AllBacked (now_of v.old image) c.old) }
     ensures { CallReads D.Disk (of_call t (Call.Load a)) result v.old v.new c.old c.new disk.old disk.new steps.old steps.new }
 {
-    match word_object(v, c, disk, t, a, Right::R, steps)? {
-        Ok(object) => {
-            let page = page_of(&object, a);
-            Ok(Reply::Value(v.word(disk, page, index_of(a), steps)?))
-        }
+    match word_base(v, c, disk, t, a, Right::R, steps)? {
+        Ok(_) => Ok(Reply::Value(v.word(disk, page_of(a), index_of(a), steps)?)),
         Err(word) => Ok(Reply::No(word)),
     }
 }
@@ -69,11 +66,10 @@ pub fn store<D: Disk, L: Ledger>(
 {
     steps_keep_backing();
     stores_end_one_list();
-    match word_object(v, c, disk, t, a, Right::W, steps)? {
-        Ok(object) => {
-            let page = page_of(&object, a);
-            v.set_word(disk, page, index_of(a), value, steps)?;
-            drop_written(c, &object, a);
+    match word_base(v, c, disk, t, a, Right::W, steps)? {
+        Ok(base) => {
+            v.set_word(disk, page_of(a), index_of(a), value, steps)?;
+            drop_written(c, base, a);
             Ok(Reply::Done)
         }
         Err(word) => Ok(Reply::No(word)),
@@ -100,12 +96,8 @@ pub fn fetch<D: Disk, L: Ledger>(
     ensures reads { Reads D.Disk v.old v.new disk.old disk.new steps.old steps.new }
     ensures cause { OnErr result (CountRose D.Disk disk.old disk.new) }
 {
-    match reach(v, c, disk, t, a, Right::X, steps)? {
-        Some(object) => {
-            object.keep_rules();
-            let page = page_of(&object, a);
-            Ok(Some(v.word(disk, page, index_of(a), steps)?))
-        }
+    match validate(v, c, disk, t, a, Right::X, steps)? {
+        Some(_) => Ok(Some(v.word(disk, page_of(a), index_of(a), steps)?)),
         None => Ok(None),
     }
 }
@@ -147,14 +139,42 @@ pub fn word_object<D: Disk, L: Ledger>(
     }
 }
 
-// The page of an address of an object.
-fn page_of(object: &ObjRow, a: u64) -> u64
-    requires { covers object.now a ≡ true }
-    ensures page { result ≡ a / page_size }
-    ensures inside { is_page_in result object.now ≡ true }
+/// As [`word_object`], and gives the base of the object alone.
+fn word_base<D: Disk, L: Ledger>(
+    v: &mut Volume,
+    c: &mut VCache,
+    disk: &mut D,
+    t: u64,
+    a: u64,
+    right: Right,
+    steps: &mut Steps<L>,
+) -> Result<Result<u64, Refusal>, Failed>
+    requires sound { IsSoundOn D.Disk v.old disk.old }
+    requires backed { ForSome (D.seen disk.old) (λ image. AllBacked (now_of v.old image) c.old) }
+    ensures refusal { IfOk result (λ base. ForSome (D.seen disk.old) (λ image. MatchResult base (λ _. access_refusal (now_of v.old image) t a right ≡ None) (λ word. access_refusal (now_of v.old image) t a right ≡ Some word))) }
+    ensures row { IfOk result (λ answer. IfOk answer (λ base. ForSome (D.seen disk.old) (λ image. IsAllowedIn (now_of v.old image) t a right base))) }
+    ensures place { IfOk result (λ answer. IfOk answer (λ base. (has_page v.new (a / page_size) ≡ true) × (base ≤ a) × (a % 8 ≡ 0))) }
+    ensures backed { ForSome (D.seen disk.old) (λ image. AllBacked (now_of v.new image) c.new) }
+    ensures rules { OnOk result (ForSome (D.seen disk.old) (λ image. KeepsRules (now_of v.old image) (word_accesses (now_of v.old image) t a right) (λ key. is_kept c.old key) (λ key. is_kept c.new key) (steps.new - steps.old))) }
+    ensures limit { ForSome (D.seen disk.old) (λ image. steps.new ≤ steps.old + searches_limit (λ key. is_kept c.old key) (now_of v.old image) (word_accesses (now_of v.old image) t a right)) }
+    ensures reads { Reads D.Disk v.old v.new disk.old disk.new steps.old steps.new }
+    ensures cause { OnErr result (CountRose D.Disk disk.old disk.new) }
 {
-    let base = object.base();
-    base / PAGE_SIZE + (a - base) / PAGE_SIZE
+    accesses_keep_the_rules_of_a_line();
+    if a % WORD != 0 {
+        return Ok(Err(Refusal::Align));
+    }
+    match validate(v, c, disk, t, a, right, steps)? {
+        Some(base) => Ok(Ok(base)),
+        None => Ok(Err(Refusal::Denied)),
+    }
+}
+
+// The page of an address.
+fn page_of(a: u64) -> u64
+    ensures { result ≡ a / page_size }
+{
+    a / PAGE_SIZE
 }
 
 // The place of a word in its page.
@@ -164,12 +184,12 @@ fn index_of(a: u64) -> u64
     a % PAGE_SIZE / WORD
 }
 
-// A word at this address of an object was written: where it lies in the first page, what the list there gave is dropped.
-fn drop_written(c: &mut VCache, object: &ObjRow, a: u64)
-    requires { covers object.now a ≡ true }
-    ensures { c.new ≡ (if nat_lt a (object.now.base + page_size) then without (by_via object.now.base) c.old else c.old) }
+// A word at this address of the object with this base was written: where it lies in the first page, what the list there gave is
+// dropped.
+fn drop_written(c: &mut VCache, base: u64, a: u64)
+    requires { base ≤ a }
+    ensures { c.new ≡ (if nat_lt a (base + page_size) then without (by_via base) c.old else c.old) }
 {
-    let base = object.base();
     if a - base < PAGE_SIZE {
         c.drop_via(base);
     }

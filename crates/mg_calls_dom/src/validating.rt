@@ -1,5 +1,5 @@
 // Whether an access is allowed: by what is kept of earlier ones, or by a search.
-ghost use Rattle.std.specs.Prelude.{◌≡◌, ◌≤◌, ◌+◌, ◌-◌, ◌==◌, true, find, if◌then◌else◌, option_map, IfOk, IfSome, None, OnErr, OnOk, Some};
+ghost use Rattle.std.specs.Prelude.{◌≡◌, ◌≤◌, ◌+◌, ◌-◌, ◌==◌, true, find, if◌then◌else◌, option_map, IfOk, IfSome, MatchOption, None, OnErr, OnOk, Some};
 ghost use Rattle.std.specs.Option.{ForSome};
 ghost use Rattle.mg_calls_dom.specs.Known.{rows_know};
 ghost use Rattle.mg_calls_dom.specs.Searching as searching;
@@ -9,7 +9,7 @@ ghost use Rattle.mg_model.specs.Kept.{Validates, access_limit};
 ghost use Rattle.mg_model.specs.Limits.{search_limit};
 ghost use Rattle.mg_vcache.specs.Seats.{AllBacked, is_kept};
 ghost use Rattle.mg_volume.specs.Calls.{IsSoundOn, Reads};
-ghost use Rattle.mg_volume.specs.Meaning.{now_of, objects_in, threads_in};
+ghost use Rattle.mg_volume.specs.Meaning.{IsBaseAt, now_of, objects_in, threads_in};
 
 use crate::lists::{Sought, list_of};
 use mg_disk::Disk;
@@ -87,18 +87,38 @@ pub fn validate<D: Disk, L: Ledger>(
     requires sound { IsSoundOn D.Disk v.old disk.old }
     requires backed { ForSome (D.seen disk.old) (λ image. AllBacked (now_of v.old image) c.old) }
     ensures base { IfOk result (λ base. ForSome (D.seen disk.old) (λ image. base ≡ (if allowed (now_of v.old image) t a right then option_map (λ object. object.row.base) (at (now_of v.old image).objects a) else None))) }
+    ensures row { IfOk result (λ base. ForSome (D.seen disk.old) (λ image. MatchOption base (None ≡ searching.allowed_row (now_of v.old image) t a right) (λ base. searching.IsAllowedIn (now_of v.old image) t a right base))) }
+    ensures at { IfOk result (λ base. IfSome base (λ base. IsBaseAt v.new a base)) }
     ensures backed { ForSome (D.seen disk.old) (λ image. AllBacked (now_of v.new image) c.new) }
     ensures keeps { OnOk result (ForSome (D.seen disk.old) (λ image. Validates (now_of v.old image) (record { thread = t; address = a; right = right }) (λ key. is_kept c.old key) (λ key. is_kept c.new key) (steps.new - steps.old))) }
     ensures limit { ForSome (D.seen disk.old) (λ image. steps.new ≤ steps.old + access_limit (λ key. is_kept c.old key) (now_of v.old image) (record { thread = t; address = a; right = right })) }
     ensures none { IfOk result (λ base. base ≡ None → c.new ≡ c.old) }
     ensures failed { OnErr result (c.new ≡ c.old) }
     ensures known { rows_know (objects_in v.old) c.old t a right ≡ true → (disk.new ≡ disk.old) × (steps.new ≡ steps.old) }
+    ensures nobody { find (λ thread. thread.number == t) (threads_in v.old) ≡ None → steps.new ≡ steps.old }
     ensures at_most_search_limit_read { steps.new ≤ steps.old + search_limit }
     ensures reads { Reads D.Disk v.old v.new disk.old disk.new steps.old steps.new }
     ensures cause { OnErr result (CountRose D.Disk disk.old disk.new) }
 {
+    backed_seats_are_allowed();
+    if let Some(base) = kept_base(v, c, t, a, right) {
+        return Ok(Some(base));
+    }
     match reach(v, c, disk, t, a, right, steps)? {
         Some(object) => Ok(Some(object.base())),
         None => Ok(None),
+    }
+}
+
+// The base of the object that has an address, where the right on it is kept. No row is handed up for it.
+fn kept_base(v: &Volume, c: &VCache, t: u64, a: u64, right: Right) -> Option<u64>
+    ensures at { IfSome result (λ base. IsBaseAt v.now a base) }
+    ensures kept { IfSome result (λ base. is_kept c.now (record { thread = t; base = base; right = right }) ≡ true) }
+{
+    let base = v.base_at(a)?;
+    if c.hit(t, base, right) {
+        Some(base)
+    } else {
+        None
     }
 }

@@ -1,5 +1,5 @@
 -- What a volume is, as functions of the value and an image. The layers above see these words by their names.
-use Rattle.std.specs.Prelude.{◌≡◌, ◌+◌, ◌≤◌, ◌<◌, ◌&&◌, nat_le, nat_lt, ℕ, Bool, true, List, [], ◌∷◌, Some, length, map, sum_by, All}
+use Rattle.std.specs.Prelude.{◌≡◌, ◌+◌, ◌≤◌, ◌<◌, ◌&&◌, nat_le, nat_lt, ℕ, Bool, true, List, [], ◌∷◌, Some, find, length, map, sum_by, All}
 use Rattle.std.specs.List.{list_all, list_any}
 use Rattle.std.specs.Option.{ForSome}
 use Rattle.mg_check.specs.RowsRead.{placed_from}
@@ -7,6 +7,7 @@ use Rattle.mg_disk.specs.Disk.{Image}
 use Rattle.mg_disk.specs.Stops.{NothingPending}
 use Rattle.mg_disk.specs.declared.disk.Disk.{Ghosts}
 use Rattle.mg_model.specs.declared.accounts.AccRow.{AccRow}
+use Rattle.mg_model.specs.Access.{covers}
 use Rattle.mg_model.specs.Layout.{globals_block, super_block}
 use Rattle.mg_model.specs.Limits.{debt_limit, account_limit, thread_limit, object_limit}
 use Rattle.mg_model.specs.Objects.{page_behind, page_of}
@@ -48,6 +49,13 @@ is_page_in page row = nat_le (page_of row) page && nat_lt page (page_behind row)
 
 abbrev pub has_page : VolumeHeld → ℕ → Bool
 has_page v page = list_any (λ row. is_page_in page row) (objects_in v)
+
+-- the object that has an address has this base
+pub record IsBaseAt (v : VolumeHeld) (address base : ℕ) : Type 0 where
+  pub row : ObjectRow
+  pub found : find (λ (r : ObjectRow). covers r address) (objects_in v) ≡ Some row
+  pub is : base ≡ row.base
+  pub rules : IsObjectRow row
 
 -- the state: the rows that are held, and the words that are staged, else those of the replayed image, else 0
 unfoldable pub now_of : VolumeHeld → Image → State

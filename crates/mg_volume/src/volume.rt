@@ -13,7 +13,7 @@ ghost use Rattle.mg_model.specs.State.{Thread};
 ghost use Rattle.mg_model.specs.Threads.{free_number};
 ghost use Rattle.mg_model.specs.Turn.{picked};
 ghost use Rattle.mg_model.specs.Volume.{Damaged, NotVolume, OldVolume, volume};
-ghost use Rattle.mg_volume.specs.Meaning.{StandsOn, accounts_in, bare_rows, counters_in, is_live, is_sound, now_of, objects_in, settings_in, staged_of, threads_in, words_in};
+ghost use Rattle.mg_volume.specs.Meaning.{IsBaseAt, StandsOn, accounts_in, bare_rows, counters_in, is_live, is_sound, now_of, objects_in, settings_in, staged_of, threads_in, words_in};
 ghost use Rattle.mg_volume.specs.Opening.{Opens};
 ghost use Rattle.mg_volume.specs.Staging.{lives};
 
@@ -105,6 +105,16 @@ impl Volume {
         self.bases_differ();
         match self.objects.covering(a) {
             Some(row) => Some(*row),
+            None => None,
+        }
+    }
+
+    /// The base of the object that has an address.
+    pub fn base_at(&self, a: u64) -> Option<u64>
+        ensures { MatchOption result (find (λ row. covers row a) (objects_in self.now) ≡ None) (λ base. IsBaseAt self.now a base) }
+    {
+        match self.objects.covering(a) {
+            Some(row) => Some(row.base()),
             None => None,
         }
     }
