@@ -6,6 +6,15 @@ use Rattle.std.proofs.lemmas.Bool.{eqb-true}
 use Rattle.std.proofs.lemmas.List.{take_all}
 use Rattle.mg_model.specs.Words.{is_newline}
 
+-- a byte that is no newline, and one that is
+pub stays : (v : Bool) → (v ≡ true → ⊥) → not v ≡ true
+stays true h = absurd (h refl)
+stays false h = refl
+
+pub fails : (v : Bool) → v ≡ true → not v ≡ false
+fails true is = refl
+fails false is = cc
+
 module _ (cuts : ℕ → Bool) where
   -- how many bytes stand before it
   abbrev pub before : List ℕ → ℕ

@@ -21,6 +21,8 @@ const ROOM: usize = 64 * 256;
 #[derive(Drop)]
 pub struct Buffers {
     bytes: Vec<u8>,
+    // The last line that was added, kept here so that no other is cleared for the next one.
+    line: ArrayVec<u8, 256>,
     count: u64,
 }
 
@@ -46,6 +48,7 @@ impl Buffers {
     {
         Ok(Buffers {
             bytes: Vec::with_capacity(alloc, ROOM)?,
+            line: ArrayVec::new(),
             count: 0,
         })
     }
@@ -59,9 +62,9 @@ impl Buffers {
           count = self.old.count + 1;
         } }
     {
-        let mut line = ArrayVec::new();
-        print_reply(reply, &mut line);
-        match self.bytes.extend_from_slice(line.as_slice()) {
+        self.line.clear();
+        print_reply(reply, &mut self.line);
+        match self.bytes.extend_from_slice(self.line.as_slice()) {
             Ok(()) => (),
             Err(_) => unreachable!(),
         }

@@ -14,6 +14,7 @@ use crate::buffers::Buffers;
 use crate::ended::Ended;
 use crate::machine::Machine;
 use crate::partial::PartialLine;
+use memchr::memchr;
 use mg_disk::Disk;
 use mg_io::Sink;
 use mg_model::Steps;
@@ -119,7 +120,10 @@ fn before_newline(bytes: &[u8]) -> usize
     ensures count { result ≡ prefix_len (λ b. not (is_newline b)) bytes.now }
     ensures within { result ≤ length bytes.now }
 {
-    bytes.iter().take_while(|b| **b != b'\n').count()
+    match memchr(b'\n', bytes) {
+        Some(count) => count,
+        None => bytes.len(),
+    }
 }
 
 /// The input ended: the last line, which may lack its newline, is stepped, and the batch closes.
