@@ -11,7 +11,8 @@ use Rattle.mg_asm.proofs.Back.{AreWords, all-words, line-misses, newline_low, nu
 use Rattle.mg_text.specs.NumberLemmas.{Digits, High, decimal-digits, hex-high, hex-some, length-hex, number_of-back, number_of-hex}
 use Rattle.mg_model.specs.declared.calls.Call.TheVariants as call
 use Rattle.mg_model.specs.declared.calls.Line.{Line}
-use Rattle.mg_model.specs.Lines.{bad_line, call_line, is_among, is_note, longest_line, line_of, line_of_words, line_with, lines, lone_words, spelled_line, thread_line, two}
+use Rattle.mg_model.specs.Abbreviations.{longest_line}
+use Rattle.mg_model.specs.Lines.{bad_line, call_line, is_among, is_note, line_of, line_of_words, line_with, lines, lone_words, spelled_line, thread_line, two}
 use Rattle.mg_model.specs.Print.{hex_text, spaced}
 use Rattle.mg_model.specs.Ranges.{IsWord}
 use Rattle.mg_model.specs.Words.{is_blank, is_newline, is_some_word, number_of, numbers_of, words}

@@ -1,5 +1,5 @@
 -- What the program promises. An object that does not tell its content has None for it; a promise on content is then empty.
-use Rattle.std.specs.Prelude.{ℕ, ◌^◌, ◌≡◌, ◌≢◌, ◌⊎◌, List, [], ◌∷◌, ◌++◌, codes, Option, Result, Ok, Err}
+use Rattle.std.specs.Prelude.{ℕ, ◌^◌, ◌≡◌, ◌≢◌, ◌⊎◌, List, Option, Result, Ok, Err}
 use Rattle.std.specs.Io.KnownBytes.{Appends}
 use Rattle.mg_asm.specs.Assembled.{assembled}
 use Rattle.mg_asm.specs.Listed.{listed}
@@ -64,16 +64,3 @@ pub record Keeps {S O E : Type 0} (from : sources.Ghosts S) (to : sinks.Ghosts O
   pub within : result ≢ status.TooLong → TakesAtMost text_limit (from.left source) (from.left source')
   -- Words that spell a command are no `usage`.
   pub spelled : result ≢ status.Usage
-
--- the line for words that spell no command
-abbrev pub usage_line : List ℕ
-usage_line = codes "usage" ++ 10 ∷ []
-
--- What is kept where the words spell no command: `err` takes the line, and the others are left alone.
-pub record UsageKeeps {S O E : Type 0} (aside : sinks.Ghosts E) (result : Status) (source source' : S) (out out' : O) (err err' : E) : Type 0 where
-  pub which : (result ≡ status.Usage) ⊎ (result ≡ status.Sink)
-  pub line : result ≡ status.Usage → Appends (aside.taken err) (aside.taken err') usage_line
-  pub prefix : AppendsPrefix (aside.taken err) (aside.taken err') usage_line
-  pub sink_failed : result ≡ status.Sink → Rose (aside.faults err) (aside.faults err') (aside.is_spent err')
-  pub source_alone : source' ≡ source
-  pub out_alone : out' ≡ out

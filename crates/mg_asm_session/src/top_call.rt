@@ -3,7 +3,8 @@ ghost use Rattle.std.specs.Prelude.{◌≡◌, ◌≢◌, ◌⊎◌, IfErr, IfOk
 ghost use Rattle.std.specs.Io.KnownBytes.{Appends};
 ghost use Rattle.mg_asm.specs.declared.faults.AsmFault.TheVariants as fault;
 ghost use Rattle.mg_asm_session.specs.Commands.{IsStored, command_of, words_of};
-ghost use Rattle.mg_asm_session.specs.Headline.{Keeps, PutsFault, PutsLines, PutsPart, UsageKeeps, became, text_limit};
+ghost use Rattle.mg_asm_session.specs.Headline.{Keeps, PutsFault, PutsLines, PutsPart, became, text_limit};
+ghost use Rattle.mg_filter.specs.Usages.{UsageKeeps};
 ghost use Rattle.mg_filter.specs.Whole.{OfWhole, TakesAtMost, TakesMore};
 ghost use Rattle.mg_io.specs.Known.{AppendsPrefix};
 ghost use Rattle.mg_asm.specs.FaultText.{fault_line};

@@ -7,8 +7,9 @@ use Rattle.std.proofs.lemmas.Bool.{and_from, and_parts, eqb-true, leb-true, le-l
 use Rattle.mg_calls_dom.specs.KnownLemmas.{find-rows}
 use Rattle.mg_calls_dom.specs.Searching.{words_based}
 use Rattle.mg_model.specs.declared.slots.Slot.{Slot}
+use Rattle.mg_model.specs.Abbreviations.{word_in}
 use Rattle.mg_model.specs.Access.{at, based_at, covers}
-use Rattle.mg_model.specs.Objects.{page_behind, page_of, word_at, word_in}
+use Rattle.mg_model.specs.Objects.{page_behind, page_of, word_at}
 use Rattle.mg_model.specs.Ranges.{IsPlace}
 use Rattle.mg_model.specs.State.{Object, ObjectRow}
 use Rattle.mg_model.specs.Tests.{all_distinct, is_entry_of, is_object_row, is_password, is_place}

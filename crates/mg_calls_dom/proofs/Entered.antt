@@ -19,10 +19,11 @@ use Rattle.mg_model.specs.declared.replies.Reply.TheVariants.{Count, No}
 use Rattle.mg_model.specs.declared.rights.Right.TheVariants.{P}
 use Rattle.mg_model.specs.declared.seats.Seat.{Seat}
 use Rattle.mg_model.specs.declared.slots.Slot.{Slot}
+use Rattle.mg_model.specs.Abbreviations.{entered_slots}
 use Rattle.mg_model.specs.Access.{allowed, last_slots, thread_of}
 use Rattle.mg_model.specs.Accesses.{words_of}
 use Rattle.mg_model.specs.Backed.{KeepsBacked, by_thread}
-use Rattle.mg_model.specs.Domains.{entered_slots, frames_of, kept_from, last_back, pdx, ret, with_thread}
+use Rattle.mg_model.specs.Domains.{frames_of, kept_from, last_back, pdx, ret, with_thread}
 use Rattle.mg_model.specs.Limits.{frame_limit, slot_limit}
 use Rattle.mg_model.specs.ObjectCalls.{is_aligned, is_entry, row_at}
 use Rattle.mg_model.specs.Refused.{Answer, first_refusal, unless_refused}

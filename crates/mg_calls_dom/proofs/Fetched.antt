@@ -5,8 +5,9 @@ use Rattle.mg_calls_dom.specs.Fetching.{Fetches, fetch_limit}
 use Rattle.mg_calls_dom.specs.ReachedLemmas.{reached_allowed, reached_none}
 use Rattle.mg_calls_dom.specs.Searching.{allowed_row}
 use Rattle.mg_model.specs.declared.rights.Right.TheVariants.{X}
+use Rattle.mg_model.specs.Abbreviations.{is_allowed}
 use Rattle.mg_model.specs.Access.{allowed}
-use Rattle.mg_model.specs.Accesses.{Access, is_allowed}
+use Rattle.mg_model.specs.Accesses.{Access}
 use Rattle.mg_model.specs.Kept.{Validates, access_limit}
 use Rattle.mg_model.specs.Keys.{Key}
 use Rattle.mg_model.specs.Objects.{word_at}

@@ -18,6 +18,7 @@ use Rattle.mg_model.specs.declared.replies.Reply.TheVariants.{Count, No}
 use Rattle.mg_model.specs.declared.rights.Right.TheVariants.{X}
 use Rattle.mg_model.specs.declared.seats.Seat.{Seat}
 use Rattle.mg_model.specs.declared.slots.Slot.{Slot}
+use Rattle.mg_model.specs.Abbreviations.{free_number}
 use Rattle.mg_model.specs.Access.{allowed, domain_of, last_slots, thread_of}
 use Rattle.mg_model.specs.Accesses.{words_of}
 use Rattle.mg_model.specs.Backed.{KeepsBacked, by_none}
@@ -25,7 +26,7 @@ use Rattle.mg_model.specs.Limits.{birth_limit, thread_limit}
 use Rattle.mg_model.specs.ObjectCalls.{is_aligned}
 use Rattle.mg_model.specs.Refused.{Answer, unless_refused}
 use Rattle.mg_model.specs.State.{Counters, State, Thread, ThreadRow}
-use Rattle.mg_model.specs.Threads.{birth_of, free_number, is_thread, make_thread, new_thread, with_new_thread}
+use Rattle.mg_model.specs.Threads.{birth_of, is_thread, make_thread, new_thread, with_new_thread}
 use Rattle.mg_model.specs.Turn.{thread_call}
 use Rattle.mg_model.specs.WellFormed.{IsThread, IsWellFormed}
 use Rattle.mg_vcache.specs.SeatLemmas.{backed_still}

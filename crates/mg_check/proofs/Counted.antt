@@ -10,9 +10,10 @@ use Rattle.mg_check.proofs.ObjectOrder.{spelled-count, spelled-used}
 use Rattle.mg_check.proofs.StateFits.{accounts-placed}
 use Rattle.mg_disk.specs.Disk.{Image}
 use Rattle.mg_model.specs.declared.accounts.AccRow.{AccRow}
+use Rattle.mg_model.specs.Abbreviations.{accounts_spelled}
 use Rattle.mg_model.specs.Bank.{used}
 use Rattle.mg_model.specs.State.{ObjectRow, Thread, ThreadRow}
-use Rattle.mg_model.specs.Volume.{accounts_spelled, objects_spelled}
+use Rattle.mg_model.specs.Volume.{objects_spelled}
 
 -- a record of these parts
 abbrev summary_with : ℕ → ℕ → ℕ → ℕ → ℕ → ℕ → ℕ → Summary

@@ -7,9 +7,10 @@ ghost use Rattle.mg_check.specs.Tables.{is_paid, pages_in};
 ghost use Rattle.mg_check.specs.Rules.{AreSpans, births_of, place_of};
 ghost use Rattle.mg_check.specs.Spans.{IsSome, apart_from, is_in};
 ghost use Rattle.mg_disk.specs.Disk.{Image};
+ghost use Rattle.mg_model.specs.Abbreviations.{threads_spelled};
 ghost use Rattle.mg_model.specs.State.{ThreadRow};
 ghost use Rattle.mg_model.specs.Tests.{all_distinct};
-ghost use Rattle.mg_model.specs.Volume.{accounts_fit, begins_with_first, bound_pages, objects_fit, objects_spelled, table_fits, threads_fit, threads_spelled};
+ghost use Rattle.mg_model.specs.Volume.{accounts_fit, begins_with_first, bound_pages, objects_fit, objects_spelled, table_fits, threads_fit};
 
 use crate::sorted::{are_apart, are_distinct, are_distinct_within};
 use mg_model::limits::{DEBT_LIMIT, PAGE_SIZE};

@@ -6,7 +6,7 @@ use Rattle.std.proofs.lemmas.Bool.{cases_lt}
 use Rattle.std.proofs.lemmas.List.{get_or-set_other, get_or-set_same, length-set}
 use Rattle.mg_disk.proofs.BlockByBlock.{ArePutSoFar, AreReadSoFar}
 use Rattle.mg_disk.specs.Calls.{IsRead, IsReadRun, IsWrite, IsWriteRun}
-use Rattle.mg_disk.specs.Disk.{Image, InRange, SeenBut, Torn, TornAt, block_at, no_image, only_place}
+use Rattle.mg_disk.specs.Disk.{Image, InRange, SeenBut, TornAt, block_at, no_image, only_place}
 use Rattle.mg_disk.specs.PlaceLemmas.{HasFirst, same_after, same_set}
 use Rattle.mg_disk.specs.Runs.{time_then, time_wider}
 use Rattle.mg_disk.specs.Stops.{TimeGoes}
@@ -91,14 +91,14 @@ module _ {D : Type 0} (facts : Ghosts D) (first n : ℕ) (old mid new : D) where
       the_last : (k : ℕ) → only_place i k → InRange first m k
       the_last k is = record { from = omega arith; before = omega arith }
 
-      torn : (c : Image) → Torn i (facts.left_since mid (facts.moment mid)) c → TornAt (InRange first m) (facts.left_since old (facts.moment old)) c
+      torn : (c : Image) → TornAt (only_place i) (facts.left_since mid (facts.moment mid)) c → TornAt (InRange first m) (facts.left_since old (facts.moment old)) c
       torn c t =
           ⊎_elim (λ was. (t.0, was, same_after (only_place i) (only_place i) (InRange first m) t.0 t.0 c the_last the_last (record { count = refl; others = λ k out. refl }) t.2))
           (λ fresh. (fresh.0, fresh.1, same_after (InRange first n) (only_place i) (InRange first m) fresh.0 t.0 c among the_last fresh.2 t.2)) (so_far.stops.now t.0 t.1)
 
-      goes : TimeGoes facts mid new (Torn i (facts.left_since mid (facts.moment mid))) → TimeGoes facts old new (TornAt (InRange first m) (facts.left_since old (facts.moment old)))
+      goes : TimeGoes facts mid new (TornAt (only_place i) (facts.left_since mid (facts.moment mid))) → TimeGoes facts old new (TornAt (InRange first m) (facts.left_since old (facts.moment old)))
       goes call =
-          time_then facts old mid new (Torn i (facts.left_since mid (facts.moment mid))) (TornAt (InRange first m) (facts.left_since old (facts.moment old)))
+          time_then facts old mid new (TornAt (only_place i) (facts.left_since mid (facts.moment mid))) (TornAt (InRange first m) (facts.left_since old (facts.moment old)))
           (time_wider facts old mid (TornAt (InRange first n) (facts.left_since old (facts.moment old))) (TornAt (InRange first m) (facts.left_since old (facts.moment old))) so_far.stops
           (λ c t. (t.0, t.1, same_after (InRange first n) (InRange first n) (InRange first m) t.0 t.0 c among among (record { count = refl; others = λ k out. refl }) t.2)))
           call torn

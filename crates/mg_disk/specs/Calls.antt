@@ -1,7 +1,7 @@
 -- The calls of the trait, each as one word: what a disk's own method says, beside what it says of itself.
 use Rattle.std.specs.Prelude.{◌≡◌, ℕ, List, Result, OnOk, OnErr, length, option_map, slice_set}
 use Rattle.std.specs.Option.{ForSome}
-use Rattle.mg_disk.specs.Disk.{HasBlocks, Image, InRange, block_at, SeenBut, only_place, no_image, Torn, TornAt}
+use Rattle.mg_disk.specs.Disk.{HasBlocks, Image, InRange, block_at, SeenBut, only_place, no_image, TornAt}
 use Rattle.mg_disk.specs.Stops.{NothingPending, TimeGoes, CountGoes, CountRose}
 use Rattle.mg_disk.specs.declared.disk.Disk.{Ghosts}
 
@@ -24,7 +24,7 @@ module _ {D T E : Type 0} (facts : Ghosts D) (old new : D) where
   pub record IsWrite (i : ℕ) (from : List ℕ) (result : Result T E) : Type 0 where
     pub written : OnOk result (facts.seen new ≡ option_map (λ image. slice_set image i from) (facts.seen old))
     pub unknown : OnErr result (SeenBut (only_place i) (facts.seen old) (facts.seen new))
-    pub rules : KeepsRules (Torn i (facts.left_since old (facts.moment old))) result
+    pub rules : KeepsRules (TornAt (only_place i) (facts.left_since old (facts.moment old))) result
 
   -- a read of so many blocks, one behind the other, the first of them at this place
   pub record IsReadRun (first count : ℕ) (out : Image) (result : Result T E) : Type 0 where

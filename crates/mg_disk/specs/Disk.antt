@@ -13,13 +13,9 @@ block_at image k = slice_index_or image k []
 abbrev pub file_blocks : ℕ
 file_blocks = 70000
 
--- numbers that are bytes
-abbrev pub IsBytes : List ℕ → Type 0
-IsBytes block = All (λ byte. byte < 256) block
-
 -- every block holds bytes
 abbrev pub AreBytes : Image → Type 0
-AreBytes image = All IsBytes image
+AreBytes image = All (λ block. All (λ byte. byte < 256) block) image
 
 -- A moment of a disk: a number for a plain one; for a disk made of two, a moment of each, or of the one that is in use.
 pub data Moment : Type 0 where
@@ -49,8 +45,7 @@ HasBlocks first blocks image = (k : ℕ) → k < length blocks → block_at imag
 abbrev pub SeenBut : (ℕ → Type 0) → Option Image → Option Image → Type 0
 SeenBut places (Some old) (Some new) = SameBut places old new
 SeenBut places None None = Unit {0}
-SeenBut places (Some old) None = ⊥
-SeenBut places None (Some new) = ⊥
+SeenBut places _ _ = ⊥
 
 -- Time goes on: since a moment that has been, a stop may leave what it might have left before, or a fresh image.
 pub record GoesOn (old_moment new_moment : Moment) (old_been new_been : Moment → Type 0) (old_since new_since : Moment → Image → Type 0) (fresh : Image → Type 0) : Type 0 where
@@ -68,10 +63,6 @@ no_image c = ⊥
 -- one of these images, with any bytes at these places
 abbrev pub TornAt : (ℕ → Type 0) → (Image → Type 0) → Image → Type 0
 TornAt places now c = (d : Image) × now d × SameBut places d c
-
--- the same in block i: what is fresh at a write
-abbrev pub Torn : ℕ → (Image → Type 0) → Image → Type 0
-Torn i now c = TornAt (only_place i) now c
 
 -- a stop that may leave these images leaves what reads give and nothing else
 abbrev pub OnlySeen : Option Image → (Image → Type 0) → Type 0

@@ -3,7 +3,7 @@ use Rattle.std.specs.Prelude.{◌≡◌, ◌≢◌, ◌⊎◌, ◌<◌, ◌≤�
 use Rattle.std.proofs.Common.{refl, inl, inr, ⊎_elim, sym, ap, subst, ◌∙◌, arith}
 use Rattle.std.proofs.Math.Nat.{eq-or-lt_of_le}
 use Rattle.std.proofs.lemmas.List.{take-append-le, take_all, length-append, length-set, get_or-set_same, get_or-set_other}
-use Rattle.mg_disk.specs.Disk.{Image, block_at, Moment, At, Both, Alone, SameBut, only_place, GoesOn, no_image, Torn, OnlySeen}
+use Rattle.mg_disk.specs.Disk.{Image, block_at, Moment, At, Both, Alone, SameBut, only_place, GoesOn, no_image, OnlySeen, TornAt}
 use Rattle.mg_disk.specs.Held.{BeenIn, Held, LeftIn, MayLeave, after, run, start}
 use Rattle.mg_disk.specs.PlaceLemmas.{same_or_not, none_in_none, not_in_longer, nothing_differs}
 use Rattle.mg_disk.specs.declared.memory.Event.{Event}
@@ -96,12 +96,12 @@ torn_of h i b c inside may =
 
 -- a write
 pub wrote_goes : (first first' : Image) (events events' : List Event) (h : Held) (i : ℕ) (b : List ℕ) → run (start first) events ≡ h → i < length h.base → first' ≡ first → events' ≡ events ++ Wrote i b ∷ []
-    → GoesOn (At (length events)) (At (length events')) (BeenIn events) (BeenIn events') (LeftIn first events) (LeftIn first' events') (Torn i (LeftIn first events (At (length events))))
+    → GoesOn (At (length events)) (At (length events')) (BeenIn events) (BeenIn events') (LeftIn first events) (LeftIn first' events') (TornAt (only_place i) (LeftIn first events (At (length events))))
 wrote_goes first first' events events' h i b is inside same more =
-    let F : Image → Type 0 = Torn i (LeftIn first events (At (length events))) in
+    let F : Image → Type 0 = TornAt (only_place i) (LeftIn first events (At (length events))) in
     with_these first first' events events' (Wrote i b) F same more (goes_more first events (Wrote i b) F (λ c may. inr (step c may)))
   where
-    step : (c : Image) → MayLeave (after (run (start first) events) (Wrote i b)) c → Torn i (LeftIn first events (At (length events))) c
+    step : (c : Image) → MayLeave (after (run (start first) events) (Wrote i b)) c → TornAt (only_place i) (LeftIn first events (At (length events))) c
     step c may =
         let P : Held → Type 0 = λ x. i < length x.base in
         let t = torn_of (run (start first) events) i b c (subst P (sym is) inside) may in

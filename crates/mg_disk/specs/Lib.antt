@@ -9,7 +9,8 @@ pub mod MemoryTurn
 pub mod Held
 pub mod Fuse
 pub use Rattle.mg_faults.specs.Faults
--- Lemmas that these or crates above cite. None of them is part of a statement.
+-- Lemmas that these or crates above cite, and a word of theirs. None of them is part of a statement.
+pub mod BlockBytes
 pub mod HeldLemmas
 pub mod PlaceLemmas
 pub mod Runs

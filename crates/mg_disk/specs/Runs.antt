@@ -1,7 +1,7 @@
 -- How what a stop may leave is followed over a run of calls of a disk, one short line a call.
 use Rattle.std.specs.Prelude.{◌≡◌, ◌⊎◌, ℕ, Some}
 use Rattle.std.proofs.Common.{refl, inl, inr, ⊎_elim, sym, subst, ◌∙◌}
-use Rattle.mg_disk.specs.Disk.{Image, SameBut, no_image, only_place, Torn, TornAt}
+use Rattle.mg_disk.specs.Disk.{Image, SameBut, no_image, only_place, TornAt}
 use Rattle.mg_disk.specs.PlaceLemmas.{same_as, same_after}
 use Rattle.mg_disk.specs.Stops.{NothingPending, StandsAt, TimeGoes, Leaves, WritesNothing}
 use Rattle.mg_disk.specs.declared.disk.Disk.{Ghosts}
@@ -126,7 +126,7 @@ module _ {D : Type 0} (facts : Ghosts D) (places : ℕ → Type 0) (s : Image) w
       step c t = same_after places these places s t.0 c (λ k at. at) among (so_far.now t.0 t.1) t.2
 
   -- a write at one of the places, whatever it answers
-  pub torn : (old mid new : D) (i : ℕ) (P : Image → Type 0) → Tracks facts old mid P (SameBut places s) → TimeGoes facts mid new (Torn i (facts.left_since mid (facts.moment mid)))
+  pub torn : (old mid new : D) (i : ℕ) (P : Image → Type 0) → Tracks facts old mid P (SameBut places s) → TimeGoes facts mid new (TornAt (only_place i) (facts.left_since mid (facts.moment mid)))
       → places i → ((c : Image) → SameBut places s c → P c) → Tracks facts old new P (SameBut places s)
   torn old mid new i P so_far call at_i sub = torn_at old mid new (only_place i) P so_far call (λ k is. subst places (sym is) at_i) sub
 

@@ -2,7 +2,7 @@
 ghost use Rattle.std.specs.Prelude.{◌≡◌, ◌+◌, ◌<◌, ◌≤◌, ◌^◌, ℕ, Bool, IsTrue, Option, length, slice_set, option_map, OnOk, OnErr, IsSomeAnd};
 ghost use Rattle.std.specs.Option.{ForSome};
 ghost use Rattle.mg_faults.specs.Faults.{CountGoesOn, Rose};
-ghost use Rattle.mg_disk.specs.Disk.{Moment, Image, block_at, AreBytes, HasBlocks, InRange, SeenBut, only_place, GoesOn, no_image, Torn, TornAt, OnlySeen};
+ghost use Rattle.mg_disk.specs.Disk.{Moment, Image, block_at, AreBytes, HasBlocks, InRange, SeenBut, only_place, GoesOn, no_image, TornAt, OnlySeen};
 
 use mg_faults::Failed;
 
@@ -77,7 +77,7 @@ pub trait Disk {
         ensures written { OnOk result (seen self.new ≡ option_map (λ image. slice_set image i from.now) (seen self.old)) }
         ensures unknown { OnErr result (SeenBut (only_place i) (seen self.old) (seen self.new)) }
         ensures stops { GoesOn (moment self.old) (moment self.new) (has_been self.old) (has_been self.new)
-            (left_since self.old) (left_since self.new) (Torn i (left_since self.old (moment self.old))) }
+            (left_since self.old) (left_since self.new) (TornAt (only_place i) (left_since self.old (moment self.old))) }
         ensures blocks { block_count self.new ≡ block_count self.old }
         ensures tells { tells_stops self.new ≡ tells_stops self.old }
         ensures count { CountGoesOn (faults self.old) (faults self.new) (is_spent self.old) (is_spent self.new) }

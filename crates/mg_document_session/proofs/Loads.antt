@@ -11,7 +11,8 @@ use Rattle.mg_document_session.proofs.Numbers.{decimal-some, length-hex_text}
 use Rattle.mg_text.specs.NumberLemmas.{Digits, High, decimal-digits, digits-high, hex-high, hex-some, number_of-back, number_of-hex}
 use Rattle.mg_model.specs.declared.calls.Call.TheVariants as call
 use Rattle.mg_model.specs.declared.calls.Line.{Line}
-use Rattle.mg_model.specs.Lines.{bad_line, call_line, is_among, is_note, longest_line, line_of, line_of_words, line_with, lines, lone_words, one, spelled_line, thread_line}
+use Rattle.mg_model.specs.Abbreviations.{longest_line}
+use Rattle.mg_model.specs.Lines.{bad_line, call_line, is_among, is_note, line_of, line_of_words, line_with, lines, lone_words, one, spelled_line, thread_line}
 use Rattle.mg_model.specs.Print.{hex_text, spaced}
 use Rattle.mg_model.specs.Ranges.{IsWord}
 use Rattle.mg_model.specs.Words.{is_blank, is_newline, is_some_word, number_of, numbers_of, split_at, words}

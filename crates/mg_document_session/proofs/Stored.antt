@@ -14,9 +14,10 @@ use Rattle.mg_model.specs.declared.replies.Refusal.TheVariants.{Align, Denied, N
 use Rattle.mg_model.specs.declared.replies.Reply.TheVariants.{Done, No, Value}
 use Rattle.mg_model.specs.declared.rights.Right.{Right}
 use Rattle.mg_model.specs.declared.rights.Right.TheVariants.{R, W}
+use Rattle.mg_model.specs.Abbreviations.{word_in}
 use Rattle.mg_model.specs.Access.{allowed, at, covers}
 use Rattle.mg_model.specs.ObjectCalls.{is_aligned}
-use Rattle.mg_model.specs.Objects.{with_word, word_at, word_in}
+use Rattle.mg_model.specs.Objects.{with_word, word_at}
 use Rattle.mg_model.specs.Print.{reply_line, text}
 use Rattle.mg_model.specs.Refused.{Answer, row}
 use Rattle.mg_model.specs.State.{Object, ObjectRow, State}

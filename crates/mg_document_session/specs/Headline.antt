@@ -1,5 +1,5 @@
 -- What the program promises. An object that does not tell its content has None for it; a promise on content is then empty.
-use Rattle.std.specs.Prelude.{ℕ, ◌^◌, ◌≡◌, ◌≢◌, ◌⊎◌, List, [], ◌∷◌, ◌++◌, codes, Option, IfSome, Result, Ok, Err}
+use Rattle.std.specs.Prelude.{ℕ, ◌^◌, ◌≡◌, ◌≢◌, ◌⊎◌, List, [], ◌++◌, Option, IfSome, Result, Ok, Err}
 use Rattle.std.specs.Io.KnownBytes.{Appends}
 use Rattle.mg_document.specs.declared.faults.ReplyFault.{ReplyFault}
 use Rattle.mg_document.specs.Asked.{get_calls, get_text, put_calls, put_text}
@@ -89,16 +89,3 @@ pub record Keeps {S O E : Type 0} (from : sources.Ghosts S) (to : sinks.Ghosts O
 abbrev pub BringsBack : Status → Option (List ℕ) → Option (List ℕ) → Option (List ℕ) → Type 0
 BringsBack result left taken taken' =
     IfSome left (λ input. (trip : Trip) (more : List ℕ) → input ≡ replies trip ++ more → (result ≢ status.Fault) × (result ≡ status.Done → Appends taken taken' trip.bytes))
-
--- the line for words that spell no command
-abbrev pub usage_line : List ℕ
-usage_line = codes "usage" ++ 10 ∷ []
-
--- What is kept where the words spell no command: `err` takes the line, and the others are left alone.
-pub record UsageKeeps {S O E : Type 0} (aside : sinks.Ghosts E) (result : Status) (source source' : S) (out out' : O) (err err' : E) : Type 0 where
-  pub which : (result ≡ status.Usage) ⊎ (result ≡ status.Sink)
-  pub line : result ≡ status.Usage → Appends (aside.taken err) (aside.taken err') usage_line
-  pub prefix : AppendsPrefix (aside.taken err) (aside.taken err') usage_line
-  pub sink_failed : result ≡ status.Sink → Rose (aside.faults err) (aside.faults err') (aside.is_spent err')
-  pub source_alone : source' ≡ source
-  pub out_alone : out' ≡ out

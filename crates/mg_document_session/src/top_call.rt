@@ -4,9 +4,10 @@ ghost use Rattle.std.specs.Io.KnownBytes.{Appends};
 ghost use Rattle.mg_document.specs.FaultText.{fault_line};
 ghost use Rattle.mg_document.specs.declared.faults.ReplyFault.TheVariants as fault;
 ghost use Rattle.mg_io.specs.Known.{AppendsPrefix};
+ghost use Rattle.mg_filter.specs.Usages.{UsageKeeps};
 ghost use Rattle.mg_filter.specs.Whole.{TakesAtMost, TakesMore};
 ghost use Rattle.mg_document_session.specs.Commands.{HasPlace, command_of, words_of};
-ghost use Rattle.mg_document_session.specs.Headline.{BringsBack, Keeps, LeavesSource, OfInput, PutsFault, PutsPart, PutsText, UsageKeeps, became, limit_of};
+ghost use Rattle.mg_document_session.specs.Headline.{BringsBack, Keeps, LeavesSource, OfInput, PutsFault, PutsPart, PutsText, became, limit_of};
 ghost use Rattle.mg_faults.specs.Faults.{Rose};
 
 use crate::laws::documents_come_back;

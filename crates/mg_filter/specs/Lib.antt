@@ -1,4 +1,5 @@
--- What is taken of a source, the statuses, and the line of a fault.
+-- What is taken of a source, the statuses, the line of a fault, and what is kept where the words spell no command.
 pub mod Whole
 pub mod Statuses
 pub mod FaultLines
+pub mod Usages

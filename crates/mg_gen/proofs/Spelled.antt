@@ -6,7 +6,8 @@ use Rattle.std.proofs.lemmas.Bool.{le-ltb}
 use Rattle.std.proofs.lemmas.Bool.Decides.{nat_tests}
 use Rattle.std.proofs.lemmas.List.{append-nil}
 use Rattle.mg_model.specs.declared.calls.Line.{Line}
-use Rattle.mg_model.specs.Lines.{bad_line, call_line, is_among, is_note, longest_line, line_of, line_of_words, lone_words, spelled_line, thread_line}
+use Rattle.mg_model.specs.Abbreviations.{longest_line}
+use Rattle.mg_model.specs.Lines.{bad_line, call_line, is_among, is_note, line_of, line_of_words, lone_words, spelled_line, thread_line}
 use Rattle.mg_model.specs.Print.{spaced}
 use Rattle.mg_model.specs.Words.{is_blank, is_some_word, number_of, split_at, words}
 use Rattle.mg_gen.specs.Generated.{call_text}

@@ -1,15 +1,7 @@
 -- What takes and puts do to the bytes left and the bytes taken, where those are told, and how this adds up over a run of calls.
-use Rattle.std.specs.Prelude.{◌≡◌, ℕ, ◌<◌, ◌↔◌, List, [], ◌++◌, length, Option, Some, None, Result, IfOk, IfSome}
+use Rattle.std.specs.Prelude.{◌≡◌, ℕ, List, [], ◌++◌, Option, Some, None}
 use Rattle.std.specs.Io.KnownBytes.{Appends, Keeps, Consumes}
 use Rattle.std.proofs.Common.{refl, sym, ap, ◌∙◌, append_assoc, append-nil}
-
--- a take answers 0 exactly where no byte is left
-abbrev pub StopsAtEnd : {E : Type 0} → Option (List ℕ) → Result ℕ E → Type 0
-StopsAtEnd left result = IfOk result (λ n. IfSome left (λ bytes. (n ≡ 0) ↔ (bytes ≡ [])))
-
--- a put answers 0 only of an empty piece
-abbrev pub TakesSome : {E : Type 0} → Result ℕ E → List ℕ → Type 0
-TakesSome result from = IfOk result (λ n. 0 < length from → 0 < n)
 
 -- some first bytes of the text were taken, and no others
 abbrev pub AppendsPrefix : Option (List ℕ) → Option (List ℕ) → List ℕ → Type 0
@@ -21,12 +13,6 @@ Appends-then None b c p q h k = tt
 Appends-then (Some x) None c p q h k = absurd h
 Appends-then (Some x) (Some y) None p q h k = absurd k
 Appends-then (Some x) (Some y) (Some z) p q h k = k ∙ ap (λ v. v ++ q) h ∙ append_assoc x p q
-
-pub Appends-kept : (a b c : Option (List ℕ)) (p : List ℕ) → Appends a b p → Keeps b c → Appends a c p
-Appends-kept None b c p h k = tt
-Appends-kept (Some x) None c p h k = absurd h
-Appends-kept (Some x) (Some y) None p h k = absurd k
-Appends-kept (Some x) (Some y) (Some z) p h k = k ∙ h
 
 pub Appends-none : (a : Option (List ℕ)) → Appends a a []
 Appends-none None = tt

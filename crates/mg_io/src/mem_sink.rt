@@ -3,7 +3,6 @@ ghost use Rattle.std.specs.Prelude.{◌≡◌, ◌+◌, ◌-◌, ◌<◌, ◌≤
 ghost use Rattle.std.specs.Io.{WritesAtMost};
 ghost use Rattle.std.specs.Io.KnownBytes.{WriteAppends};
 ghost use Rattle.mg_faults.specs.Faults.{HasCause, is_last};
-ghost use Rattle.mg_io.specs.Known.{TakesSome};
 ghost use Rattle.mg_io.specs.Memory.{SinkState, next_number};
 
 use super::plan::Plan;
@@ -103,7 +102,7 @@ impl Sink for MemSink {
     fn put(&mut self, from: &[u8]) -> Result<usize, Failed>
         // As every sink.
         ensures bound { WritesAtMost result from.now }
-        ensures takes_some { TakesSome result from.now }
+        ensures takes_some { IfOk result (λ n. 0 < length from.now → 0 < n) }
         ensures bytes { WriteAppends (Some self.old.bytes) (Some self.new.bytes) result from.now }
         ensures cause { HasCause self.old.faults self.new.faults
             (is_last self.old.faults) (is_last self.new.faults) result }

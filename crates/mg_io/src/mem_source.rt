@@ -1,9 +1,8 @@
 // A source whose bytes lie in memory.
-ghost use Rattle.std.specs.Prelude.{◌≡◌, ◌<◌, ◌↔◌, ◌++◌, Some, false, length, min, take, drop, IfOk, OnErr, IsErr, Contains};
+ghost use Rattle.std.specs.Prelude.{◌≡◌, ◌<◌, ◌↔◌, ◌++◌, [], Some, false, length, min, take, drop, IfOk, OnErr, IsErr, Contains};
 ghost use Rattle.std.specs.Io.{ReadsAtMost};
 ghost use Rattle.std.specs.Io.KnownBytes.{ReadConsumes};
 ghost use Rattle.mg_faults.specs.Faults.{HasCause, is_last};
-ghost use Rattle.mg_io.specs.Known.{StopsAtEnd};
 ghost use Rattle.mg_io.specs.Memory.{SourceState, next_number};
 
 use super::plan::Plan;
@@ -91,7 +90,7 @@ impl Source for MemSource {
         // As every source.
         ensures bound { ReadsAtMost result into.new }
         ensures bytes { ReadConsumes (Some self.old.bytes) (Some self.new.bytes) result into.new }
-        ensures end { StopsAtEnd (Some self.old.bytes) result }
+        ensures end { IfOk result (λ n. (n ≡ 0) ↔ (self.old.bytes ≡ [])) }
         ensures cause { HasCause self.old.faults self.new.faults
             (is_last self.old.faults) (is_last self.new.faults) result }
 

@@ -1,9 +1,8 @@
 // What a source and a sink mean.
-ghost use Rattle.std.specs.Prelude.{ℕ, ◌<◌, List, length, Option, Bool};
+ghost use Rattle.std.specs.Prelude.{◌≡◌, ◌↔◌, ℕ, ◌<◌, List, [], length, Option, Bool, IfOk, IfSome};
 ghost use Rattle.std.specs.Io.{ReadsAtMost, WritesAtMost};
 ghost use Rattle.std.specs.Io.KnownBytes.{ReadConsumes, WriteAppends};
 ghost use Rattle.mg_faults.specs.Faults.{HasCause};
-ghost use Rattle.mg_io.specs.Known.{StopsAtEnd, TakesSome};
 
 use mg_faults::Failed;
 
@@ -29,7 +28,7 @@ pub trait Source {
         requires { 0 < length into.old }
         ensures bound { ReadsAtMost result into.new }
         ensures bytes { ReadConsumes (left self.old) (left self.new) result into.new }
-        ensures end { StopsAtEnd (left self.old) result }
+        ensures end { IfOk result (λ n. IfSome (left self.old) (λ bytes. (n ≡ 0) ↔ (bytes ≡ []))) }
         ensures cause { HasCause (faults self.old) (faults self.new)
             (is_spent self.old) (is_spent self.new) result };
 }
@@ -53,7 +52,7 @@ pub trait Sink {
     /// last value.
     fn put(&mut self, from: &[u8]) -> Result<usize, Failed>
         ensures bound { WritesAtMost result from.now }
-        ensures takes_some { TakesSome result from.now }
+        ensures takes_some { IfOk result (λ n. 0 < length from.now → 0 < n) }
         ensures bytes { WriteAppends (taken self.old) (taken self.new) result from.now }
         ensures cause { HasCause (faults self.old) (faults self.new)
             (is_spent self.old) (is_spent self.new) result };

@@ -12,8 +12,9 @@ use Rattle.mg_model.specs.declared.calls.Line.{Line}
 use Rattle.mg_model.specs.declared.replies.Refusal.TheVariants.{NoThread, NotReady}
 use Rattle.mg_model.specs.declared.replies.Reply.TheVariants.{No, Turned}
 use Rattle.mg_model.specs.declared.rights.Right.TheVariants.{X}
+use Rattle.mg_model.specs.Abbreviations.{is_allowed}
 use Rattle.mg_model.specs.Access.{thread_of}
-use Rattle.mg_model.specs.Accesses.{Access, accesses, call_accesses, call_words, is_allowed, turn_accesses, turn_words, turning, words_of}
+use Rattle.mg_model.specs.Accesses.{Access, accesses, call_accesses, call_words, turn_accesses, turn_words, turning, words_of}
 use Rattle.mg_model.specs.Domains.{row_of}
 use Rattle.mg_model.specs.Kept.{KeepsKeys, KeepsLine, access_limit, is_known, is_served, line_limit, searches_limit}
 use Rattle.mg_model.specs.Keys.{Key, has_seat, key_of}

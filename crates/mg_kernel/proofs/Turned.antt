@@ -16,6 +16,7 @@ use Rattle.mg_model.specs.declared.replies.Reply.TheVariants.{No, Turned}
 use Rattle.mg_model.specs.declared.seats.Seat.{Seat}
 use Rattle.mg_model.specs.declared.threads.ThrState.{ThrState}
 use Rattle.mg_model.specs.declared.threads.ThrState.TheVariants.{Faulted, Ready, Stopped}
+use Rattle.mg_model.specs.Abbreviations.{advanced}
 use Rattle.mg_model.specs.Backed.{KeepsBacked, by_none}
 use Rattle.mg_model.specs.Counts.{CountsAlike}
 use Rattle.mg_model.specs.Domains.{row_of, with_thread}
@@ -23,7 +24,7 @@ use Rattle.mg_model.specs.Refused.{Answer, first_refusal, unless_refused}
 use Rattle.mg_model.specs.State.{State, Thread, ThreadRow}
 use Rattle.mg_model.specs.Step.{of_thread}
 use Rattle.mg_model.specs.Threads.{is_thread}
-use Rattle.mg_model.specs.Turn.{advanced, after_of, as_after, is_ready, thread_call, thread_is_ready, turn, turn_state}
+use Rattle.mg_model.specs.Turn.{after_of, as_after, is_ready, thread_call, thread_is_ready, turn, turn_state}
 use Rattle.mg_model.specs.WellFormed.{IsWellFormed}
 use Rattle.mg_script.specs.declared.actions.Action.{Action}
 use Rattle.mg_script.specs.Actions.{HasFrames, IsSpelledBy, begun, finished, made_by, resumed, turned_on}

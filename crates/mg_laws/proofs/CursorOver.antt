@@ -15,17 +15,18 @@ use Rattle.mg_model.specs.declared.replies.Reply.{Reply}
 use Rattle.mg_model.specs.declared.replies.Reply.TheVariants as reply
 use Rattle.mg_model.specs.declared.rights.Right.TheVariants.{R, W, X}
 use Rattle.mg_model.specs.declared.threads.ThrState.TheVariants.{Ready}
+use Rattle.mg_model.specs.Abbreviations.{advanced, entered_slots, free_number}
 use Rattle.mg_model.specs.Access.{allowed, domain_of}
 use Rattle.mg_model.specs.Bank.{balance_of, given_to, owed_by, pages_of, taken_from}
-use Rattle.mg_model.specs.Domains.{entered_slots, frames_of, last_back, pdx, ret, row_of, with_slots, with_thread}
+use Rattle.mg_model.specs.Domains.{frames_of, last_back, pdx, ret, row_of, with_slots, with_thread}
 use Rattle.mg_model.specs.Limits.{never}
 use Rattle.mg_model.specs.ObjectCalls.{about, drawn, extension_of, has_password, is_aligned, next_password, row_at, with_entry, with_row_at}
 use Rattle.mg_model.specs.Objects.{lowest_free, new_object, with_object, with_word, without_object, word_at}
 use Rattle.mg_model.specs.Refused.{Answer, unless_refused}
 use Rattle.mg_model.specs.Script.{decoded, operand, register, with_register}
 use Rattle.mg_model.specs.State.{State, Thread, ThreadRow}
-use Rattle.mg_model.specs.Threads.{birth_of, born, free_number, new_thread, with_new_thread}
-use Rattle.mg_model.specs.Turn.{advanced, faulted, put_row, run, run_word, seen, spelled, thread_call, turn_state, turned, unless_faulted, values_of, with_registers}
+use Rattle.mg_model.specs.Threads.{birth_of, born, new_thread, with_new_thread}
+use Rattle.mg_model.specs.Turn.{faulted, put_row, run, run_word, seen, spelled, thread_call, turn_state, turned, unless_faulted, values_of, with_registers}
 
 module _ (n : ℕ) where
   abbrev C : State → State

@@ -16,6 +16,7 @@ use Rattle.mg_model.specs.declared.rights.Right.TheVariants.{R, W, X}
 use Rattle.mg_model.specs.declared.threads.Fault.{Fault}
 use Rattle.mg_model.specs.declared.threads.Fault.TheVariants as fault
 use Rattle.mg_model.specs.declared.threads.ThrState.TheVariants.{Faulted, Stopped}
+use Rattle.mg_model.specs.Abbreviations.{advanced}
 use Rattle.mg_model.specs.Access.{allowed}
 use Rattle.mg_model.specs.Domains.{pdx, ret, row_of}
 use Rattle.mg_laws.proofs.Keeps.{unless_refused-keeps}
@@ -33,7 +34,7 @@ use Rattle.mg_laws.proofs.ReplyWords.{thread_call-words, word_at-word}
 use Rattle.mg_model.specs.Script.{decoded, jumped, operand, register, with_register}
 use Rattle.mg_model.specs.State.{State, Thread, ThreadRow}
 use Rattle.mg_laws.proofs.KeepsBank.{balance-keeps, open_account-keeps, pay-keeps}
-use Rattle.mg_model.specs.Turn.{advanced, faulted, is_ready, next, picked, put_row, ready_above, refusal_number, run, run_next, run_word, seen, spelled, spelled_pwadd, thread_call, turn, turn_state, turned, unless_faulted, values_of, with_registers}
+use Rattle.mg_model.specs.Turn.{faulted, is_ready, next, picked, put_row, ready_above, refusal_number, run, run_next, run_word, seen, spelled, spelled_pwadd, thread_call, turn, turn_state, turned, unless_faulted, values_of, with_registers}
 use Rattle.mg_model.specs.WellFormed.{HasRanges, IsThread, IsWellFormed}
 
 pub thread_call-keeps : (state : State) (t : ℕ) (made : Call) → IsWellFormed state → HasRanges made → IsWellFormed (thread_call state t made).0

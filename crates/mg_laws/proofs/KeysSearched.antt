@@ -5,7 +5,8 @@ use Rattle.std.proofs.lemmas.Option.{none-some}
 use Rattle.std.specs.Option.{option_map_or, option_to_list}
 use Rattle.mg_laws.proofs.KeysSeats.{has_seat-append, is_key-same, last_is_kept}
 use Rattle.mg_laws.specs.Costs.{LimitGoesOn, RulesGoOn, SearchesGoOn, SearchesKeepRules}
-use Rattle.mg_model.specs.Accesses.{Access, is_allowed}
+use Rattle.mg_model.specs.Abbreviations.{is_allowed}
+use Rattle.mg_model.specs.Accesses.{Access}
 use Rattle.mg_model.specs.Keys.{Key, first_at, has_seat, is_elsewhere, is_key, key_of, seat_of, taken, taken_by}
 use Rattle.mg_model.specs.Kept.{KeepsKeys, Searches, Validates, is_known, is_served, searches_limit}
 use Rattle.mg_model.specs.Limits.{search_limit}

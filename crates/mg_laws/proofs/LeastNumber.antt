@@ -5,8 +5,9 @@ use Rattle.std.proofs.lemmas.List.Elements.{All-cons, All-head, All-nil, All-tai
 use Rattle.std.specs.Prelude.{find}
 use Rattle.mg_laws.proofs.KeepsThreads.{free_number-free}
 use Rattle.mg_laws.specs.Laws.{TakesLeastNumber}
+use Rattle.mg_model.specs.Abbreviations.{free_number}
 use Rattle.mg_model.specs.State.{Thread}
-use Rattle.mg_model.specs.Threads.{free_number, free_number_from}
+use Rattle.mg_model.specs.Threads.{free_number_from}
 
 -- the thread has another number
 abbrev Differs : ℕ → Thread → Type 0

@@ -9,7 +9,8 @@ use Rattle.std.specs.Option.{ForSome, option_map_or}
 use Rattle.mg_model.specs.declared.calls.Call.{Call}
 use Rattle.mg_model.specs.declared.calls.Call.TheVariants as call
 use Rattle.mg_model.specs.declared.calls.Line.{Line}
-use Rattle.mg_model.specs.Lines.{Row, bad_line, call_by, call_line, call_table, form0, form1, form2, form3, form4, form_pwadd, four, is_among, is_note, line_of, line_of_words, line_with, lines, lone_words, one, pdx_of, pwadd_of, spelled_line, thread_line, three, two}
+use Rattle.mg_model.specs.Abbreviations.{pdx_of}
+use Rattle.mg_model.specs.Lines.{Row, bad_line, call_by, call_line, call_table, form0, form1, form2, form3, form4, form_pwadd, four, is_among, is_note, line_of, line_of_words, line_with, lines, lone_words, one, pwadd_of, spelled_line, thread_line, three, two}
 use Rattle.mg_model.specs.Ranges.{IsWord}
 use Rattle.mg_model.specs.Rights.{IsRights}
 use Rattle.mg_model.specs.WellFormed.{HasRanges, IsInRange}

@@ -8,6 +8,7 @@ use Rattle.mg_model.specs.declared.replies.Refusal.{Refusal}
 use Rattle.mg_model.specs.declared.replies.Refusal.TheVariants as refusal
 use Rattle.mg_model.specs.declared.replies.Reply.{Reply}
 use Rattle.mg_model.specs.declared.replies.Reply.TheVariants as reply
+use Rattle.mg_model.specs.Abbreviations.{free_number}
 use Rattle.mg_model.specs.Access.{domain_of}
 use Rattle.mg_model.specs.Bank.{balance_of, owed_by, pages_of, rate_now, rent_paid}
 use Rattle.mg_model.specs.Domains.{frames_of}
@@ -17,7 +18,7 @@ use Rattle.mg_model.specs.Objects.{lowest_free, word_at}
 use Rattle.mg_model.specs.Refused.{Answer, unless_refused}
 use Rattle.mg_model.specs.State.{State, Thread}
 use Rattle.mg_model.specs.Step.{of_thread, step, step_of}
-use Rattle.mg_model.specs.Threads.{free_number, is_thread}
+use Rattle.mg_model.specs.Threads.{is_thread}
 use Rattle.mg_model.specs.Turn.{after_of, picked, run_next, thread_call, turn, turn_state}
 
 -- an answer that is no refusal

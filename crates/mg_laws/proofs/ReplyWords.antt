@@ -13,6 +13,7 @@ use Rattle.mg_model.specs.declared.replies.Refusal.{Refusal}
 use Rattle.mg_model.specs.declared.replies.Reply.{Reply}
 use Rattle.mg_model.specs.declared.replies.Reply.TheVariants.{Count, Done, Funds, Made, Opened, Value}
 use Rattle.mg_model.specs.declared.rights.Right.TheVariants.{O, X}
+use Rattle.mg_model.specs.Abbreviations.{free_number}
 use Rattle.mg_model.specs.Access.{allowed, at, covers, domain_of, thread_of}
 use Rattle.mg_model.specs.Bank.{balance_of, owed_by, pages_of, used}
 use Rattle.mg_model.specs.BankCalls.{balance}
@@ -30,7 +31,7 @@ use Rattle.mg_laws.proofs.Passed.{unrefused}
 use Rattle.mg_model.specs.Ranges.{IsWord}
 use Rattle.mg_model.specs.Refused.{Answer, unless_refused}
 use Rattle.mg_model.specs.State.{Object, ObjectRow, State, Thread}
-use Rattle.mg_model.specs.Threads.{free_number, make_thread}
+use Rattle.mg_model.specs.Threads.{make_thread}
 use Rattle.mg_model.specs.Turn.{thread_call, values_of}
 use Rattle.mg_model.specs.WellFormed.{AreAccounts, IsAccount, IsObject, IsWellFormed}
 

@@ -16,6 +16,7 @@ use Rattle.mg_model.specs.declared.replies.Reply.{Reply}
 use Rattle.mg_model.specs.declared.replies.Reply.TheVariants as reply
 use Rattle.mg_model.specs.declared.slots.Slot.{Slot}
 use Rattle.mg_model.specs.declared.threads.ThrState.TheVariants.{Ready}
+use Rattle.mg_model.specs.Abbreviations.{free_number}
 use Rattle.mg_model.specs.Access.{domain_of, last_slots, thread_of}
 use Rattle.mg_model.specs.Bank.{balance_of, given_to, owed_by, pages_of, taken_from}
 use Rattle.mg_model.specs.Limits.{never}
@@ -25,7 +26,7 @@ use Rattle.mg_model.specs.Domains.{row_of, with_last_slots, with_slots, with_thr
 use Rattle.mg_model.specs.KeptListLemmas.{AllPairs-head, AllPairs-tail}
 use Rattle.mg_model.specs.Refused.{Answer, unless_refused}
 use Rattle.mg_model.specs.State.{State, Thread, ThreadRow}
-use Rattle.mg_model.specs.Threads.{birth_of, born, creator_of, free_number, free_number_from, is_thread, new_thread, with_new_thread}
+use Rattle.mg_model.specs.Threads.{birth_of, born, creator_of, free_number_from, is_thread, new_thread, with_new_thread}
 use Rattle.mg_model.specs.Turn.{thread_call}
 use Rattle.mg_model.specs.WellFormed.{IsWellFormed}
 

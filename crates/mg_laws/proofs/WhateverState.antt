@@ -10,6 +10,7 @@ use Rattle.mg_model.specs.declared.replies.Refusal.{Refusal}
 use Rattle.mg_model.specs.declared.replies.Refusal.TheVariants as refusal
 use Rattle.mg_model.specs.declared.replies.Reply.TheVariants as reply
 use Rattle.mg_model.specs.declared.threads.ThrState.{ThrState}
+use Rattle.mg_model.specs.Abbreviations.{free_number}
 use Rattle.mg_model.specs.Access.{domain_of, last_slots}
 use Rattle.mg_model.specs.Bank.{balance_of, owed_by, pages_of, rate_now, rent_paid}
 use Rattle.mg_model.specs.BankCalls.{rent}
@@ -21,7 +22,7 @@ use Rattle.mg_model.specs.Objects.{lowest_free, word_at}
 use Rattle.mg_model.specs.Refused.{Answer, unless_refused}
 use Rattle.mg_model.specs.State.{State, Thread}
 use Rattle.mg_model.specs.Step.{of_thread, step, step_of}
-use Rattle.mg_model.specs.Threads.{birth_of, creator_of, end_thread, free_number, free_number_from, is_thread, make_thread, resume}
+use Rattle.mg_model.specs.Threads.{birth_of, creator_of, end_thread, free_number_from, is_thread, make_thread, resume}
 use Rattle.mg_model.specs.Turn.{thread_call}
 
 either_way : {X A : Type 0} {x y u v : X} (g : X → A) (b : Bool) → g x ≡ g y → g u ≡ g v → g (cond b x u) ≡ g (cond b y v)

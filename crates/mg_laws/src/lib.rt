@@ -8,6 +8,7 @@
 mod backing;
 mod costs;
 
+ghost use Rattle.mg_model.specs.Abbreviations.{free_number};
 ghost use Rattle.mg_model.specs.Access.{allowed};
 ghost use Rattle.mg_model.specs.Fresh.{fresh};
 ghost use Rattle.mg_laws.specs.Laws.{AnswersWhateverState, BeginsWellFormed, FindsLowest, ReadsInRange, RefusedLeaves, RestsOnDomain, RunsKeepWellFormed, RunsNextReady, TakesLeastNumber, TakesLowest};
@@ -15,7 +16,6 @@ ghost use Rattle.mg_laws.specs.Scripts.{RestsOnNoCursor, RestsOnNoRegister};
 ghost use Rattle.mg_model.specs.Lines.{lines};
 ghost use Rattle.mg_model.specs.Objects.{lowest_free};
 ghost use Rattle.mg_model.specs.Step.{after, step};
-ghost use Rattle.mg_model.specs.Threads.{free_number};
 ghost use Rattle.mg_model.specs.Turn.{next, thread_call, turn_state};
 ghost use Rattle.mg_model.specs.WellFormed.{KeepsWellFormed};
 

@@ -11,10 +11,8 @@ use Rattle.mg_model.specs.Volume.{Damaged, Is, NotVolume, OldVolume, VolumeRead,
 
 -- it is not a state of the machine
 abbrev pub IsNoState : VolumeRead → Type 0
-IsNoState NotVolume = Unit {0}
-IsNoState OldVolume = Unit {0}
-IsNoState Damaged = Unit {0}
 IsNoState (Is state) = ⊥
+IsNoState _ = Unit {0}
 
 -- this image with its gate open: what its blocks spell, whatever the gate says
 abbrev pub opened : Image → Image
@@ -37,6 +35,5 @@ TellsSmall need have (Err (fault.TooSmall n h)) = (n ≡ need) × (h ≡ have) �
 
 -- where the disk is too small, no call was made on it
 abbrev pub IsUntouchedSmall : {T D : Type 0} → D → D → Result T FormatFault → Type 0
-IsUntouchedSmall old new (Ok x) = Unit {0}
-IsUntouchedSmall old new (Err fault.Disk) = Unit {0}
 IsUntouchedSmall old new (Err (fault.TooSmall n h)) = new ≡ old
+IsUntouchedSmall old new _ = Unit {0}

@@ -1,7 +1,7 @@
 // The blocks behind the gate, as they are written where a volume is made.
 ghost use Rattle.std.specs.Prelude.{◌≡◌, ◌≤◌, ◌<◌, ◌+◌, OnErr, OnOk, option_map};
 ghost use Rattle.std.specs.Option.{ForSome};
-ghost use Rattle.mg_disk.specs.Disk.{SameBut, Torn};
+ghost use Rattle.mg_disk.specs.Disk.{SameBut, TornAt, only_place};
 ghost use Rattle.mg_disk.specs.Stops.{DiskCalls, Leaves, NothingPending, TimeGoes};
 ghost use Rattle.mg_model.specs.Layout.{first_frame, total_blocks};
 ghost use Rattle.mg_layout.specs.FreshBelow.{fresh_until, with_block};
@@ -33,7 +33,7 @@ pub(crate) fn write_behind<D: Disk>(disk: &mut D, p: &Params) -> Result<(), Fail
 fn write_fresh<D: Disk>(disk: &mut D, p: &Params, i: u64) -> Result<(), Failed>
     requires within_disk { total_blocks p.now.frames ≤ D.block_count disk.old }
     requires in_range { i < total_blocks p.now.frames }
-    ensures stops { TimeGoes D.Disk disk.old disk.new (Torn i (D.left_since disk.old (D.moment disk.old))) }
+    ensures stops { TimeGoes D.Disk disk.old disk.new (TornAt (only_place i) (D.left_since disk.old (D.moment disk.old))) }
     ensures written { OnOk result (D.seen disk.new ≡ option_map (with_block p.now i) (D.seen disk.old)) }
     ensures calls { DiskCalls D.Disk disk.old disk.new result }
 {

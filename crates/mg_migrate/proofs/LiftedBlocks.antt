@@ -4,6 +4,7 @@ use Rattle.std.proofs.Common.{refl, sym, ap, ◌∙◌, arith, add-zero, append_
 use Rattle.std.proofs.lemmas.Bool.{le-ltb, lt-ltb, ne_eqb}
 use Rattle.std.proofs.lemmas.List.{append-nil, take_at}
 use Rattle.std.proofs.lemmas.List.FromFn.{get_or-map-range_with_len, length-map-range_with_len}
+use Rattle.mg_model.specs.Abbreviations.{object_row_bytes}
 use Rattle.mg_model.specs.Bytes.{bytes_at, padded_to}
 use Rattle.mg_model.specs.BytesLemmas.{bytes_at-behind, padded_to-full}
 use Rattle.mg_model.specs.Layout.{first_frame, first_object_block, gate_open, globals_block, segment_count, segment_gate, super_block, table_block, total_blocks}
@@ -11,7 +12,6 @@ use Rattle.mg_model.specs.Limits.{object_limit}
 use Rattle.mg_model.specs.Replay.{block_of, is_open, replay}
 use Rattle.mg_model.specs.Settings.{Settings}
 use Rattle.mg_model.specs.Spelling.{super_bytes}
-use Rattle.mg_model.specs.Volume.{object_row_bytes}
 use Rattle.mg_model.specs.VolumeLemmas.{replay-closed}
 use Rattle.mg_migrate.proofs.LiftedRows.{length-lifted_row}
 use Rattle.mg_migrate.specs.Laws.{KeepsPlaces}

@@ -1,10 +1,11 @@
 -- What is true of lifted images.
 use Rattle.std.specs.Prelude.{◌≡◌, ℕ, ◌+◌, ◌<◌, ◌≤◌, List, Some}
+use Rattle.mg_model.specs.Abbreviations.{object_row_bytes}
 use Rattle.mg_model.specs.Layout.{first_frame, first_object_block, globals_block, super_block, table_block, table_blocks}
 use Rattle.mg_model.specs.Limits.{most_frames, object_limit}
 use Rattle.mg_model.specs.Replay.{block_of, replay}
 use Rattle.mg_model.specs.Settings.{Settings}
-use Rattle.mg_model.specs.Volume.{object_row_bytes, replayed_volume, volume}
+use Rattle.mg_model.specs.Volume.{replayed_volume, volume}
 use Rattle.mg_migrate.specs.Layout1.{first_frame1, table1_block, total1_blocks}
 use Rattle.mg_migrate.specs.Lifted.{IsLifted, IsReplayed1, lifted, lifted_row}
 use Rattle.mg_migrate.specs.Spelling1.{Spells1, super1_read}

@@ -15,11 +15,8 @@ use Rattle.mg_model.specs.Volume.{Is, volume}
 
 -- the old image is a volume of version 1, and its state has P
 abbrev pub IsState1 : Volume1Read → (State → Type 0) → Type 0
-IsState1 NotVolume1 P = ⊥
-IsState1 OldVolume1 P = ⊥
-IsState1 NewVolume1 P = ⊥
-IsState1 Damaged1 P = ⊥
 IsState1 (Is1 state) P = P state
+IsState1 _ P = ⊥
 
 -- the blocks that a volume with this state needs
 abbrev pub needed : State → ℕ
@@ -59,10 +56,5 @@ MayMigrate image old c = IsNoState (volume c) ⊎ ((volume c ≡ volume (opened 
 abbrev pub IsUntouched : {D : Type 0} → D → D → Result Summary MigrateFault → Type 0
 IsUntouched old new (Ok summary) = Unit {0}
 IsUntouched old new (Err fault.OldDisk) = Unit {0}
-IsUntouched old new (Err fault.Not) = new ≡ old
-IsUntouched old new (Err fault.Old) = new ≡ old
-IsUntouched old new (Err fault.New) = new ≡ old
-IsUntouched old new (Err fault.Damaged) = new ≡ old
-IsUntouched old new (Err (fault.TooSmall need have)) = new ≡ old
-IsUntouched old new (Err fault.Memory) = new ≡ old
 IsUntouched old new (Err fault.NewDisk) = Unit {0}
+IsUntouched old new _ = new ≡ old

@@ -1,12 +1,13 @@
 -- How a superblock and an object are spelled in version 1, where a password never ends and its row has no until. Of a row that
 -- was read the untils are 0; the row that it becomes has the until of a password that never ends.
-use Rattle.std.specs.Prelude.{ℕ, zero, suc, ◌+◌, ◌-◌, ◌*◌, ◌&&◌, nat_le, nat_lt, Bool, not, min, List, [], ◌∷◌, ◌++◌, if◌then◌else◌, length, map, replicate, slice_index, Option, option_map}
+use Rattle.std.specs.Prelude.{ℕ, zero, suc, ◌+◌, ◌-◌, ◌*◌, ◌&&◌, nat_le, nat_lt, Bool, not, min, List, [], ◌∷◌, ◌++◌, if◌then◌else◌, length, map, replicate, slice_index, ◌==◌, Option, Some, None, option_map}
 use Rattle.mg_model.specs.declared.slots.Pw.{Pw}
+use Rattle.mg_model.specs.declared.slots.Slot.{Slot}
 use Rattle.mg_model.specs.Bytes.{bytes_at, number_at, numbers_at, padded_to, words_bytes}
 use Rattle.mg_model.specs.Layout.{block_size, magic}
 use Rattle.mg_model.specs.Limits.{entry_point_limit, never}
 use Rattle.mg_model.specs.Settings.{Settings}
-use Rattle.mg_model.specs.Spelling.{Read, are_settings, extension_at, free_or, live_if, object_head, step_words, super_fields}
+use Rattle.mg_model.specs.Spelling.{Read, are_settings, free_or, live_if, object_head, step_words, super_fields}
 use Rattle.mg_model.specs.State.{ObjectRow}
 use Rattle.mg_model.specs.Tests.{is_object_row}
 use Rattle.mg_model.specs.Words.{same_bytes}
@@ -57,7 +58,7 @@ object1_fields bytes = record {
   account = number_at bytes 24;
   passwords = passwords1_at bytes 0 (min (number_at bytes 32) (password1_limit + 1));
   entries = numbers_at bytes object1_entries (min (number_at bytes 40) (entry_point_limit + 1));
-  extension = extension_at bytes;
+  extension = if number_at bytes 48 == 1 then Some record { base = number_at bytes 56; password = number_at bytes 64 } else None;
 }
 
 -- what a password and an object become: each password never ends, and all else is as it was

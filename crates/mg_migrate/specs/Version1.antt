@@ -1,15 +1,16 @@
 -- What an image spells as a volume of version 1, and the state of this version that comes of it.
 use Rattle.std.specs.Prelude.{ℕ, zero, suc, ◌+◌, ◌==◌, nat_le, List, [], ◌∷◌, ◌++◌, drop, if◌then◌else◌, length, map, position, replicate, take, Option, Some, None}
 use Rattle.std.specs.Option.{option_map_or}
+use Rattle.mg_model.specs.declared.accounts.AccRow.{AccRow}
 use Rattle.mg_model.specs.Bytes.{are_zeros, block_words}
-use Rattle.mg_model.specs.Layout.{first_object_block, globals_block, super_block, table_blocks}
+use Rattle.mg_model.specs.Layout.{account_size, first_account_block, first_object_block, first_thread_block, globals_block, super_block, table_blocks}
 use Rattle.mg_model.specs.Limits.{account_limit, thread_limit, object_limit}
 use Rattle.mg_model.specs.Objects.{page_of, with_object}
 use Rattle.mg_model.specs.Replay.{block_of, replay}
 use Rattle.mg_model.specs.Settings.{Settings}
 use Rattle.mg_model.specs.Spelling.{account_read, globals_read, thread_read}
-use Rattle.mg_model.specs.State.{Object, ObjectRow, State}
-use Rattle.mg_model.specs.Volume.{Damaged, Is, NotVolume, OldVolume, Rows, VolumeRead, account_row_bytes, accounts_spelled, fitting, has_open_gate, live_rows, row_bytes, table_entries, thread_row_bytes, threads_spelled}
+use Rattle.mg_model.specs.State.{Object, ObjectRow, State, ThreadRow}
+use Rattle.mg_model.specs.Volume.{Damaged, Is, Rows, VolumeRead, fitting, has_open_gate, live_rows, row_bytes, table_entries}
 use Rattle.mg_model.specs.Words.{and_then}
 use Rattle.mg_migrate.specs.Layout1.{first_frame1, object1_size, table1_block, total1_blocks}
 use Rattle.mg_migrate.specs.Spelling1.{BadSuper1, NewSuper1, NotSuper1, OldSuper1, Spells1, Super1Read, lift_row, object1_read, super1_read}
@@ -32,8 +33,8 @@ whole_table1 image frames = table_entries image table1_block (table_blocks frame
 abbrev pub rows1_of : List (List ℕ) → ℕ → Option Rows
 rows1_of image frames =
     and_then (globals_read (block_of image globals_block)) (λ counters.
-    and_then (live_rows (λ i. account_read (account_row_bytes image i)) 0 account_limit) (λ accounts.
-    and_then (live_rows (λ i. thread_read (thread_row_bytes image i)) 0 thread_limit) (λ threads.
+    and_then (live_rows (λ i. account_read (row_bytes image first_account_block account_size i)) 0 account_limit) (λ accounts.
+    and_then (live_rows (λ i. thread_read (block_of image (first_thread_block + i))) 0 thread_limit) (λ threads.
     and_then (live_rows (λ i. object1_read (object1_row_bytes image i)) 0 object_limit) (λ objects.
     if are_zeros (drop frames (whole_table1 image frames))
     then Some record { counters = counters; accounts = accounts; threads = threads; objects = objects; table = take frames (whole_table1 image frames) }
@@ -60,8 +61,8 @@ state1_spelled image settings rows = record {
   settings = settings;
   counters = rows.counters;
   objects = objects1_spelled image settings.frames rows.table rows.objects;
-  accounts = accounts_spelled rows.accounts;
-  threads = threads_spelled rows.threads;
+  accounts = map (λ (r : ℕ × AccRow). r.1) rows.accounts;
+  threads = map (λ (r : ℕ × ThreadRow). record { number = r.0 + 1; row = r.1 }) rows.threads;
 }
 
 -- what a replayed image spells under these settings: damage or a state
@@ -76,10 +77,8 @@ settled1_volume image settings =
     else Damaged
 
 abbrev pub as_volume1 : VolumeRead → Volume1Read
-as_volume1 NotVolume = NotVolume1
-as_volume1 OldVolume = OldVolume1
-as_volume1 Damaged = Damaged1
 as_volume1 (Is state) = Is1 state
+as_volume1 _ = Damaged1
 
 abbrev pub volume1_behind : List (List ℕ) → Super1Read → Volume1Read
 volume1_behind image NotSuper1 = NotVolume1
@@ -99,7 +98,5 @@ abbrev pub lift : State → State
 lift state = record state { objects = map lift_object state.objects }
 
 abbrev pub lift_volume : VolumeRead → VolumeRead
-lift_volume NotVolume = NotVolume
-lift_volume OldVolume = OldVolume
-lift_volume Damaged = Damaged
 lift_volume (Is state) = Is (lift state)
+lift_volume other = other

@@ -33,11 +33,8 @@ migrate_line have (Is1 state) = if nat_lt have (needed state) then small_line (n
 
 -- the status of what the old image spells
 abbrev pub migrate_status : ℕ → Volume1Read → Status
-migrate_status have NotVolume1 = status.NoVolume
-migrate_status have OldVolume1 = status.NoVolume
-migrate_status have NewVolume1 = status.NoVolume
-migrate_status have Damaged1 = status.NoVolume
 migrate_status have (Is1 state) = if nat_lt have (needed state) then status.TooSmall else status.Done
+migrate_status have _ = status.NoVolume
 
 -- a line that goes with a status, of some volume, some kind of none, or some sizes
 abbrev pub GoesWith : Status → List ℕ → Type 0
@@ -45,12 +42,7 @@ GoesWith status.Done line = (summary : Summary) × (line ≡ summary_line summar
 GoesWith status.NoVolume line =
     (line ≡ migrate_line 0 NotVolume1) ⊎ ((line ≡ migrate_line 0 OldVolume1) ⊎ ((line ≡ migrate_line 0 NewVolume1) ⊎ (line ≡ migrate_line 0 Damaged1)))
 GoesWith status.TooSmall line = (sizes : ℕ × ℕ) × (line ≡ small_line sizes.0 sizes.1)
-GoesWith status.Usage line = ⊥
-GoesWith status.Memory line = ⊥
-GoesWith status.Disk line = ⊥
-GoesWith status.Source line = ⊥
-GoesWith status.Sink line = ⊥
-GoesWith status.TooLong line = ⊥
+GoesWith _ line = ⊥
 
 -- the line was put
 abbrev pub HasPut : Status → Type 0
@@ -75,22 +67,16 @@ pub record HasPlaces {D : Type 0} (facts : disks.Ghosts D) (before : Image) (new
 
 -- the new disk once what the old image spells was told: no call was made on it where that is no volume or the disk is too small
 abbrev pub StandsAfter : {D : Type 0} → disks.Ghosts D → Volume1Read → D → D → Type 0
-StandsAfter facts NotVolume1 new new' = new' ≡ new
-StandsAfter facts OldVolume1 new new' = new' ≡ new
-StandsAfter facts NewVolume1 new new' = new' ≡ new
-StandsAfter facts Damaged1 new new' = new' ≡ new
 StandsAfter facts (Is1 state) new new' =
     (facts.block_count new < needed state → new' ≡ new) × (needed state ≤ facts.block_count new → IsMigrated facts (Is1 state) new new')
+StandsAfter facts _ new new' = new' ≡ new
 
 -- `VOLUME migrate OLD`
 
 -- a promise on the state of the old image, where that is a volume of version 1
 abbrev pub IfState1 : Volume1Read → (State → Type 0) → Type 0
-IfState1 NotVolume1 P = Unit {0}
-IfState1 OldVolume1 P = Unit {0}
-IfState1 NewVolume1 P = Unit {0}
-IfState1 Damaged1 P = Unit {0}
 IfState1 (Is1 state) P = P state
+IfState1 _ P = Unit {0}
 
 -- What `migrate` keeps.
 pub record MigrateKeeps {D E K : Type 0} (d : disks.Ghosts D) (e : disks.Ghosts E) (to : sinks.Ghosts K) (result : Status) (new new' : D) (old old' : E) (sink sink' : K) : Type 0 where

@@ -7,7 +7,8 @@ use Rattle.std.proofs.Math.Seq.{take-set-lt}
 use Rattle.std.proofs.lemmas.Bool.Decides.{leb_tells}
 use Rattle.std.proofs.lemmas.List.{length-take, get_or-take, get_or_past}
 use Rattle.std.proofs.lemmas.List.Elements.{All-take}
-use Rattle.mg_disk.specs.Disk.{Image, IsBytes, AreBytes, block_at, SameBut, SeenBut, OnlySeen}
+use Rattle.mg_disk.specs.BlockBytes.{IsBytes}
+use Rattle.mg_disk.specs.Disk.{Image, AreBytes, block_at, SameBut, SeenBut, OnlySeen}
 use Rattle.mg_mirror.specs.declared.mirror.Side.{Side}
 use Rattle.mg_mirror.specs.declared.mirror.Side.TheVariants.{Left, Right}
 use Rattle.mg_mirror.specs.Mirror.{CutOf, seen_of, told_cut}

@@ -2,7 +2,7 @@
 ghost use Rattle.std.specs.Prelude.{◌≡◌, ◌+◌, ◌<◌, ◌≤◌, ℕ, Some, ◌&&◌, option_map, slice_set, length, OnOk, OnErr};
 ghost use Rattle.std.specs.Option.{ForSome};
 ghost use Rattle.mg_disk.specs.Stops.{NothingPending, WritesNothing, TimeGoes, CountGoes, CountRose};
-ghost use Rattle.mg_disk.specs.Disk.{HasBlocks, InRange, SeenBut, Torn, TornAt, block_at, no_image, only_place};
+ghost use Rattle.mg_disk.specs.Disk.{HasBlocks, InRange, SeenBut, TornAt, block_at, no_image, only_place};
 ghost use Rattle.mg_disk.specs.Calls.{IsWrite, IsSync};
 ghost use Rattle.mg_mirror.specs.Sides.{FailsWithSides, ReadsSides, DropsSides};
 ghost use Rattle.mg_mirror.specs.declared.mirror.Side.{Side};
@@ -216,7 +216,7 @@ impl<D: Disk, E: Disk, K: Opened> Disk for Mirror<D, E, K> {
         requires in_range { i < ⟦<Mirror<D, E, K> as Disk>⟧.block_count self.old }
         ensures written { OnOk result (⟦<Mirror<D, E, K> as Disk>⟧.seen self.new ≡ option_map (λ image. slice_set image i from.now) (⟦<Mirror<D, E, K> as Disk>⟧.seen self.old)) }
         ensures unknown { OnErr result (SeenBut (only_place i) (⟦<Mirror<D, E, K> as Disk>⟧.seen self.old) (⟦<Mirror<D, E, K> as Disk>⟧.seen self.new)) }
-        ensures stops { TimeGoes ⟦<Mirror<D, E, K> as Disk>⟧ self.old self.new (Torn i (⟦<Mirror<D, E, K> as Disk>⟧.left_since self.old (⟦<Mirror<D, E, K> as Disk>⟧.moment self.old))) }
+        ensures stops { TimeGoes ⟦<Mirror<D, E, K> as Disk>⟧ self.old self.new (TornAt (only_place i) (⟦<Mirror<D, E, K> as Disk>⟧.left_since self.old (⟦<Mirror<D, E, K> as Disk>⟧.moment self.old))) }
         ensures blocks { ⟦<Mirror<D, E, K> as Disk>⟧.block_count self.new ≡ ⟦<Mirror<D, E, K> as Disk>⟧.block_count self.old }
         ensures tells { ⟦<Mirror<D, E, K> as Disk>⟧.tells_stops self.new ≡ ⟦<Mirror<D, E, K> as Disk>⟧.tells_stops self.old }
         ensures count { CountGoes ⟦<Mirror<D, E, K> as Disk>⟧ self.old self.new }

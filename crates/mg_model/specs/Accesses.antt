@@ -2,7 +2,7 @@
 --
 -- Both are those of the state before the line. An access is made where its right is tested: one that an earlier test of the
 -- line has decided is not made.
-use Rattle.std.specs.Prelude.{ℕ, ◌+◌, ◌&&◌, nat_lt, Bool, List, [], ◌∷◌, ◌++◌, if◌then◌else◌, map, Option, Some, None}
+use Rattle.std.specs.Prelude.{ℕ, ◌+◌, ◌&&◌, nat_lt, List, [], ◌∷◌, ◌++◌, if◌then◌else◌, map, Option, Some, None}
 use Rattle.std.specs.Option.{option_map_or}
 use Rattle.mg_model.specs.declared.calls.Call.{Call}
 use Rattle.mg_model.specs.declared.calls.Call.TheVariants as call
@@ -24,9 +24,6 @@ pub record Access : Type 0 where
   pub thread : ℕ
   pub address : ℕ
   pub right : Right
-
-abbrev pub is_allowed : State → Access → Bool
-is_allowed state access = allowed state access.thread access.address access.right
 
 -- one right is tested, at one address
 abbrev pub one_access : ℕ → ℕ → Right → List Access

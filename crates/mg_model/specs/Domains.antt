@@ -50,20 +50,16 @@ abbrev pub kept_from : ℕ → ℕ → List Slot → List Slot
 kept_from mask j [] = []
 kept_from mask j (slot ∷ slots) = if mask / 2 ^ j % 2 == 1 then slot ∷ kept_from mask (j + 1) slots else kept_from mask (j + 1) slots
 
--- the slots of the frame that a `pdx` makes: the kept ones, and then the extension
-abbrev pub entered_slots : State → ℕ → ℕ → ℕ → List Slot
-entered_slots state t a mask = kept_from mask 0 (domain_of state t) ++ option_to_list (row_at state a).extension
-
 abbrev pub row_of : State → ℕ → Option ThreadRow
 row_of state t = option_map_or (λ (thread : Thread). Some thread.row) (thread_of state t) None
 
 abbrev pub frames_of : State → ℕ → List CallFrame
 frames_of state t = option_map_or (λ (thread : Thread). thread.row.frames) (thread_of state t) []
 
--- `pdx A MASK`
+-- `pdx A MASK`: the frame that it makes has the kept slots, and then the extension
 abbrev pub pdx : State → ℕ → ℕ → ℕ → Answer
 pdx state t a mask =
-    let slots = entered_slots state t a mask in
+    let slots = kept_from mask 0 (domain_of state t) ++ option_to_list (row_at state a).extension in
     row state (
     (not (is_aligned a), Align)
     ∷ (not (allowed state t a P), Denied)

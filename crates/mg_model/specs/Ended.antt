@@ -7,9 +7,8 @@ use Rattle.mg_model.specs.Words.{is_newline, split_at}
 
 -- all pieces but the last
 abbrev pub all_but_last : List (List ℕ) → List (List ℕ)
-all_but_last [] = []
-all_but_last (piece ∷ []) = []
 all_but_last (piece ∷ next ∷ pieces) = piece ∷ all_but_last (next ∷ pieces)
+all_but_last _ = []
 
 -- the lines of the pieces that a newline ends
 abbrev pub ended_lines : List ℕ → List Line

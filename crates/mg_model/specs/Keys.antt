@@ -3,8 +3,8 @@ use Rattle.std.specs.Prelude.{ℕ, ◌+◌, ◌*◌, ◌/◌, ◌%◌, ◌==◌,
 use Rattle.std.specs.Option.{option_to_list}
 use Rattle.std.specs.List.{list_all}
 use Rattle.mg_model.specs.declared.rights.Right.{Right}
-use Rattle.mg_model.specs.Access.{at}
-use Rattle.mg_model.specs.Accesses.{Access, is_allowed}
+use Rattle.mg_model.specs.Access.{allowed, at}
+use Rattle.mg_model.specs.Accesses.{Access}
 use Rattle.mg_model.specs.declared.limits.TheConstants.{PAGE_SIZE as page_size, PAGE_STRIDE as page_stride, RIGHT_STRIDE as right_stride, SEAT_COUNT as seat_count}
 use Rattle.mg_model.specs.Rights.{right_number}
 use Rattle.mg_model.specs.State.{Object, State}
@@ -29,7 +29,7 @@ key_of state access =
 
 -- the key that takes its seat by an access: only one that is allowed takes any
 abbrev pub taken : State → Access → List Key
-taken state access = if is_allowed state access then option_to_list (key_of state access) else []
+taken state access = if allowed state access.thread access.address access.right then option_to_list (key_of state access) else []
 
 -- the keys that take their seats by accesses one after another, the last one first
 abbrev pub taken_by : State → List Access → List Key

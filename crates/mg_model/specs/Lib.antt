@@ -42,6 +42,8 @@ pub mod Tests
 pub mod Spelling
 pub mod Replay
 pub mod Volume
+-- Names that lemmas, and contracts of the crates above, have for parts of these.
+pub mod Abbreviations
 -- What the types in src/ rest on: a list in an array, and a count of words.
 pub mod Filled
 pub mod Counts

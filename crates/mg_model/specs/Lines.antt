@@ -43,25 +43,19 @@ form4 made args = option_map_or (λ (a, b, c, d). made a b c d) (four (numbers_o
 
 -- `pwadd B RIGHTS` and `pwadd B RIGHTS UNTIL`
 abbrev pub pwadd_of : Option ℕ → Option ℕ → Option (Option ℕ) → Call
-pwadd_of None rights until = call.Bad
-pwadd_of (Some b) None until = call.Bad
-pwadd_of (Some b) (Some rights) None = call.Bad
 pwadd_of (Some b) (Some rights) (Some until) = call.Pwadd b rights until
+pwadd_of _ _ _ = call.Bad
 
 abbrev pub form_pwadd : List (List ℕ) → Call
 form_pwadd (b ∷ rights ∷ []) = pwadd_of (number_of b) (rights_of rights) (Some None)
 form_pwadd (b ∷ rights ∷ until ∷ []) = pwadd_of (number_of b) (rights_of rights) (option_map (λ n. Some n) (number_of until))
 form_pwadd _ = call.Bad
 
--- a mask is a number of 8 bits
-abbrev pub pdx_of : ℕ → ℕ → Call
-pdx_of a mask = if nat_le mask 255 then call.Pdx a mask else call.Bad
-
 -- a call word, and the call that its arguments make
 abbrev pub Row : Type 0
 Row = List ℕ × (List (List ℕ) → Call)
 
--- the calls
+-- the calls; the mask of `pdx` is a number of 8 bits
 abbrev pub call_table : List Row
 call_table =
     (codes "load", form1 (λ a. call.Load a))
@@ -77,7 +71,7 @@ call_table =
     ∷ (codes "apdadd", form2 (λ clist password. call.Apdadd clist password))
     ∷ (codes "apddel", form1 (λ index. call.Apddel index))
     ∷ (codes "apdlist", form0 call.Apdlist)
-    ∷ (codes "pdx", form2 pdx_of)
+    ∷ (codes "pdx", form2 (λ a mask. if nat_le mask 255 then call.Pdx a mask else call.Bad))
     ∷ (codes "ret", form0 call.Ret)
     ∷ (codes "thread", form1 (λ pc. call.Thread pc))
     ∷ (codes "end", form1 (λ i. call.End i))
@@ -136,13 +130,9 @@ abbrev pub line_of_words : List (List ℕ) → Option Line
 line_of_words [] = None
 line_of_words (first ∷ more) = if is_note first then None else Some (spelled_line first more)
 
--- a longer line is Bad, whatever it holds
-abbrev pub longest_line : ℕ
-longest_line = 256
-
--- the line that a piece of the input spells
+-- the line that a piece of the input spells; one of more than 256 bytes is Bad, whatever it holds
 abbrev pub line_of : List ℕ → Option Line
-line_of bytes = if nat_lt longest_line (length bytes) then Some bad_line else line_of_words (words bytes)
+line_of bytes = if nat_lt 256 (length bytes) then Some bad_line else line_of_words (words bytes)
 
 -- The lines of an input. The last line may lack its newline: the piece behind the last newline is one more, and an empty
 -- piece spells no line.

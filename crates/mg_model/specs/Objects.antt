@@ -13,13 +13,10 @@ page_of row = row.base / 4096
 abbrev pub page_behind : ObjectRow → ℕ
 page_behind row = row.base / 4096 + row.pages
 
--- whether none of the n pages from this one on is a page of the object
-abbrev pub is_apart : ℕ → ℕ → Object → Bool
-is_apart page n object = nat_le (page + n) (page_of object.row) || nat_le (page_behind object.row) page
-
--- whether they meet no object
+-- whether the n pages from this one on meet no object
 abbrev pub is_free : List Object → ℕ → ℕ → Bool
-is_free objects n page = list_all (λ object. is_apart page n object) objects
+is_free objects n page =
+    list_all (λ (object : Object). nat_le (page + n) (page_of object.row) || nat_le (page_behind object.row) page) objects
 
 -- the least of these numbers, which are at least one
 abbrev pub least : ℕ → List ℕ → ℕ
@@ -44,12 +41,10 @@ without_object base objects = filter (λ (object : Object). not (object.row.base
 abbrev pub with_row : ℕ → (ObjectRow → ObjectRow) → List Object → List Object
 with_row base change objects = map (λ (object : Object). if object.row.base == base then record object { row = change object.row } else object) objects
 
--- the word at an address of an object
-abbrev pub word_in : Object → ℕ → ℕ
-word_in object address = slice_index object.words ((address - object.row.base) / 8)
-
+-- the word at an address
 abbrev pub word_at : List Object → ℕ → ℕ
-word_at objects address = option_map_or (λ object. word_in object address) (at objects address) 0
+word_at objects address =
+    option_map_or (λ (object : Object). slice_index object.words ((address - object.row.base) / 8)) (at objects address) 0
 
 -- the objects with another word at an address
 abbrev pub with_word : List Object → ℕ → ℕ → List Object

@@ -3,9 +3,9 @@ use Rattle.std.specs.Prelude.{◌≡◌, ◌≢◌, ℕ, ◌+◌, ◌*◌, ◌/�
 use Rattle.std.specs.Option.{ForSome}
 use Rattle.mg_model.specs.declared.slots.Slot.{Slot}
 use Rattle.mg_model.specs.declared.limits.TheConstants.{ACCOUNT_LIMIT as account_limit, BIRTH_LIMIT as birth_limit, DRAW_LIMIT as draw_limit, ENTRY_POINT_LIMIT as entry_point_limit, FIRST_PAGE as first_page, FRAME_LIMIT as frame_limit, OBJECT_PAGE_LIMIT as object_page_limit, PAGE_END as page_end, PASSWORD_LIMIT as password_limit, PERIOD_LIMIT as period_limit, SLOT_LIMIT as slot_limit, THREAD_LIMIT as thread_limit}
+use Rattle.mg_model.specs.Abbreviations.{first_back}
 use Rattle.mg_model.specs.PasswordRows.{IsPassword}
 use Rattle.mg_model.specs.State.{ObjectRow, CallFrame, ThreadRow, Counters}
-use Rattle.mg_model.specs.Tests.{first_back}
 
 -- a number of 64 bits
 abbrev pub IsWord : ℕ → Type 0

@@ -10,7 +10,7 @@ use Rattle.mg_model.specs.declared.threads.Fault.TheVariants as fault
 use Rattle.mg_model.specs.declared.threads.ThrState.{ThrState}
 use Rattle.mg_model.specs.declared.threads.ThrState.TheVariants.{Ready, Stopped, Faulted}
 use Rattle.mg_model.specs.Bytes.{are_zeros, bytes_at, number_at, numbers_at, padded_to, words_bytes}
-use Rattle.mg_model.specs.declared.layout.TheConstants.{ACCOUNT_SIZE as account_size, OBJECT_SIZE as object_size, VERSION as version}
+use Rattle.mg_model.specs.declared.layout.TheConstants.{ACCOUNT_SIZE as account_size, VERSION as version}
 use Rattle.mg_model.specs.Layout.{block_size, magic}
 use Rattle.mg_model.specs.declared.limits.TheConstants.{ENTRY_POINT_LIMIT as entry_point_limit, FRAME_LIMIT as frame_limit, PASSWORD_LIMIT as password_limit, SLOT_LIMIT as slot_limit}
 use Rattle.mg_model.specs.Settings.{Settings, within_limits}
@@ -67,9 +67,6 @@ passwords_at bytes k zero = []
 passwords_at bytes k (suc n) =
     record { password = number_at bytes (80 + 8 * k); rights = slice_index bytes (336 + k); until = number_at bytes (496 + 8 * k) } ∷ passwords_at bytes (k + 1) n
 
-abbrev pub extension_at : List ℕ → Option Slot
-extension_at bytes = if number_at bytes 48 == 1 then Some record { base = number_at bytes 56; password = number_at bytes 64 } else None
-
 -- The fields that these bytes have. Where a count is above its limit, one row more than the limit is read: `is_object_row` refuses that.
 abbrev pub object_fields : List ℕ → ObjectRow
 object_fields bytes = record {
@@ -78,7 +75,7 @@ object_fields bytes = record {
   account = number_at bytes 24;
   passwords = passwords_at bytes 0 (min (number_at bytes 32) (password_limit + 1));
   entries = numbers_at bytes 368 (min (number_at bytes 40) (entry_point_limit + 1));
-  extension = extension_at bytes;
+  extension = if number_at bytes 48 == 1 then Some record { base = number_at bytes 56; password = number_at bytes 64 } else None;
 }
 
 abbrev pub object_read : List ℕ → Read ObjectRow

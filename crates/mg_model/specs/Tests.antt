@@ -29,20 +29,14 @@ is_object_row row =
     && (nat_le (length row.entries) entry_point_limit && list_all (is_entry_of row.base row.pages) row.entries && all_distinct row.entries)
     && option_map_or (λ (slot : Slot). not (slot.base == 0)) row.extension true
 
-abbrev pub is_call_frame : CallFrame → Bool
-is_call_frame frame = frame.back % 8 == 0 && nat_le (length frame.slots) slot_limit
-
--- where the first frame returns to
-abbrev pub first_back : List CallFrame → ℕ
-first_back frames = (slice_index_or frames 0 (record { back = 0; slots = [] })).back
-
+-- the first frame returns to 0
 abbrev pub is_thread_row : ThreadRow → Bool
 is_thread_row row =
     nat_lt row.creator row.birth
     && row.pc % 8 == 0
     && (nat_le 1 (length row.frames) && nat_le (length row.frames) frame_limit)
-    && list_all is_call_frame row.frames
-    && first_back row.frames == 0
+    && list_all (λ (frame : CallFrame). frame.back % 8 == 0 && nat_le (length frame.slots) slot_limit) row.frames
+    && (slice_index_or row.frames 0 (record { back = 0; slots = [] })).back == 0
 
 abbrev pub are_counters : Counters → Bool
 are_counters counters =

@@ -22,9 +22,6 @@ abbrev pub free_number_from : ℕ → List Thread → ℕ
 free_number_from n [] = n
 free_number_from n (thread ∷ threads) = if thread.number == n then free_number_from (n + 1) threads else n
 
-abbrev pub free_number : List Thread → ℕ
-free_number threads = free_number_from 1 threads
-
 -- the threads with one more, in its place in the order of the numbers
 abbrev pub with_new_thread : Thread → List Thread → List Thread
 with_new_thread new [] = new ∷ []
@@ -56,7 +53,7 @@ born state = record state { counters = record state.counters { births = state.co
 -- `thread PC`
 abbrev pub make_thread : State → ℕ → ℕ → Answer
 make_thread state t pc =
-    let number = free_number state.threads in
+    let number = free_number_from 1 state.threads in
     row state (
     (not (is_aligned pc), Align)
     ∷ (not (allowed state t pc X), Denied)
@@ -66,29 +63,19 @@ make_thread state t pc =
       Count number,
     )
 
--- Whether thread i was created by thread t. Numbers are used again and births are not, so it is told by the births. Thread
+-- Whether thread i is t itself or created by t. Numbers are used again and births are not, so it is told by the births. Thread
 -- 1 was created by none: the birth 0 of its creator is no thread's.
-abbrev pub is_created_by : State → ℕ → ℕ → Bool
-is_created_by state t i = creator_of state i == birth_of state t
-
--- whether thread i is t itself or created by t
 abbrev pub is_own : State → ℕ → ℕ → Bool
-is_own state t i = i == t || is_created_by state t i
+is_own state t i = i == t || creator_of state i == birth_of state t
 
 -- `end I`
 abbrev pub end_thread : State → ℕ → ℕ → Answer
 end_thread state t i =
-    row state (
-    (not (is_thread state i), NoThread)
-    ∷ (i == 1 || not (is_own state t i), NotYours)
-    ∷ [])
+    row state ((not (is_thread state i), NoThread) ∷ (i == 1 || not (is_own state t i), NotYours) ∷ [])
     (record state { threads = filter (λ (thread : Thread). not (thread.number == i)) state.threads }, Done)
 
 -- `resume I`
 abbrev pub resume : State → ℕ → ℕ → Answer
 resume state t i =
-    row state (
-    (not (is_thread state i), NoThread)
-    ∷ (not (is_own state t i), NotYours)
-    ∷ [])
+    row state ((not (is_thread state i), NoThread) ∷ (not (is_own state t i), NotYours) ∷ [])
     (with_thread state i (λ thread. record thread { state = Ready }), Done)

@@ -170,12 +170,9 @@ run state t here thread op.Yield = put_row state t thread
 run state t here thread op.Sys = seen t (λ said caller. with_registers caller 0 (0 ∷ values_of said)) (thread_call (put_row state t thread) t (spelled thread))
 
 -- the pc is first advanced by the width of a word
-abbrev pub advanced : ThreadRow → ThreadRow
-advanced thread = record thread { pc = (thread.pc + 8) % word_end }
-
 abbrev pub run_word : State → ℕ → ThreadRow → Option Instr → State
 run_word state t thread None = faulted state t fault.Opcode
-run_word state t thread (Some instr) = run state t thread.pc (advanced thread) instr
+run_word state t thread (Some instr) = run state t thread.pc (record thread { pc = (thread.pc + 8) % word_end }) instr
 
 -- what is left of the thread after its turn
 abbrev pub as_after : ThrState → After
@@ -195,8 +192,7 @@ turn_state state t = option_map_or (λ thread. turned state t thread) (row_of st
 
 abbrev pub is_ready : ThrState → Bool
 is_ready Ready = true
-is_ready Stopped = false
-is_ready (Faulted kind) = false
+is_ready _ = false
 
 abbrev pub thread_is_ready : State → ℕ → Bool
 thread_is_ready state t = option_map_or (λ (thread : ThreadRow). is_ready thread.state) (row_of state t) false

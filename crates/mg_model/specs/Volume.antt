@@ -27,15 +27,6 @@ pub data VolumeRead : Type 0 where
 abbrev pub row_bytes : List (List ℕ) → ℕ → ℕ → ℕ → List ℕ
 row_bytes image first size i = bytes_at (block_of image (first + i / (4096 / size))) (size * (i % (4096 / size))) size
 
-abbrev pub account_row_bytes : List (List ℕ) → ℕ → List ℕ
-account_row_bytes image i = row_bytes image first_account_block account_size i
-
-abbrev pub thread_row_bytes : List (List ℕ) → ℕ → List ℕ
-thread_row_bytes image i = block_of image (first_thread_block + i)
-
-abbrev pub object_row_bytes : List (List ℕ) → ℕ → List ℕ
-object_row_bytes image i = row_bytes image first_object_block object_size i
-
 -- a live row joins the others with its place, a free one does not
 abbrev pub with_live : {R : Type 0} → ℕ → Option R → List (ℕ × R) → List (ℕ × R)
 with_live i None rows = rows
@@ -54,9 +45,6 @@ table_entries image block (suc n) = block_words (block_of image block) ++ table_
 abbrev pub whole_table : List (List ℕ) → ℕ → List ℕ
 whole_table image frames = table_entries image table_block (table_blocks frames)
 
-abbrev pub table_of : List (List ℕ) → ℕ → List ℕ
-table_of image frames = take frames (whole_table image frames)
-
 -- the rows of an image, which is replayed already
 pub record Rows : Type 0 where
   pub counters : Counters
@@ -65,15 +53,16 @@ pub record Rows : Type 0 where
   pub objects : List (ℕ × ObjectRow)
   pub table : List ℕ
 
--- every row, the globals, and the bytes of the frame table past its last entry are spelled
+-- every row, the globals, and the bytes of the frame table past its last entry are spelled; a thread's row is a block
 abbrev pub rows_of : List (List ℕ) → ℕ → Option Rows
 rows_of image frames =
+    let table = whole_table image frames in
     and_then (globals_read (block_of image globals_block)) (λ counters.
-    and_then (live_rows (λ i. account_read (account_row_bytes image i)) 0 account_limit) (λ accounts.
-    and_then (live_rows (λ i. thread_read (thread_row_bytes image i)) 0 thread_limit) (λ threads.
-    and_then (live_rows (λ i. object_read (object_row_bytes image i)) 0 object_limit) (λ objects.
-    if are_zeros (drop frames (whole_table image frames))
-    then Some record { counters = counters; accounts = accounts; threads = threads; objects = objects; table = table_of image frames }
+    and_then (live_rows (λ i. account_read (row_bytes image first_account_block account_size i)) 0 account_limit) (λ accounts.
+    and_then (live_rows (λ i. thread_read (block_of image (first_thread_block + i))) 0 thread_limit) (λ threads.
+    and_then (live_rows (λ i. object_read (row_bytes image first_object_block object_size i)) 0 object_limit) (λ objects.
+    if are_zeros (drop frames table)
+    then Some record { counters = counters; accounts = accounts; threads = threads; objects = objects; table = take frames table }
     else None))))
 
 -- the words of a page: those of the frame that holds it, or zeros
@@ -93,20 +82,14 @@ abbrev pub objects_spelled : List (List ℕ) → ℕ → List ℕ → List (ℕ 
 objects_spelled image frames table [] = []
 objects_spelled image frames table ((place, row) ∷ rows) = with_object (object_spelled image frames table row) (objects_spelled image frames table rows)
 
-abbrev pub threads_spelled : List (ℕ × ThreadRow) → List Thread
-threads_spelled rows = map (λ (r : ℕ × ThreadRow). record { number = r.0 + 1; row = r.1 }) rows
-
-abbrev pub accounts_spelled : List (ℕ × AccRow) → List AccRow
-accounts_spelled rows = map (λ (r : ℕ × AccRow). r.1) rows
-
 -- the state that these rows and the frames spell
 abbrev pub state_spelled : List (List ℕ) → Settings → Rows → State
 state_spelled image settings rows = record {
   settings = settings;
   counters = rows.counters;
   objects = objects_spelled image settings.frames rows.table rows.objects;
-  accounts = accounts_spelled rows.accounts;
-  threads = threads_spelled rows.threads;
+  accounts = map (λ (r : ℕ × AccRow). r.1) rows.accounts;
+  threads = map (λ (r : ℕ × ThreadRow). record { number = r.0 + 1; row = r.1 }) rows.threads;
 }
 
 -- live accounts stand without a gap from the first row on
@@ -123,9 +106,8 @@ accounts_fit credits period accounts =
 
 -- no object reaches past the first page of the next; they stand in the order of their bases
 abbrev pub are_apart : List Object → Bool
-are_apart [] = true
-are_apart (object ∷ []) = true
 are_apart (object ∷ next ∷ objects) = nat_le (page_behind object.row) (page_of next.row) && are_apart (next ∷ objects)
+are_apart _ = true
 
 abbrev pub objects_fit : ℕ → ℕ → List Object → Bool
 objects_fit frames accounts objects =
@@ -184,13 +166,13 @@ volume_behind image OldSuper = OldVolume
 volume_behind image BadSuper = Damaged
 volume_behind image (Spells settings) = settled_volume image settings
 
--- the byte that says whether an image has a volume: byte 0 of its gate
+-- an image has the gate's block and the one behind it, and its gate is open: byte 0 of the gate says so
+abbrev pub has_open_gate : List (List ℕ) → Bool
+has_open_gate image = nat_le 2 (length image) && slice_index (block_of image gate_block) 0 == gate_open
+
+-- the same as facts
 abbrev pub gate_byte : List (List ℕ) → ℕ
 gate_byte image = slice_index (block_of image gate_block) 0
-
--- an image has the gate's block and the one behind it, and its gate is open: as a test, and as facts
-abbrev pub has_open_gate : List (List ℕ) → Bool
-has_open_gate image = nat_le 2 (length image) && gate_byte image == gate_open
 
 pub record IsOpened (image : List (List ℕ)) : Type 0 where
   pub long : 2 ≤ length image

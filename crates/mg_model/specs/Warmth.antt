@@ -73,14 +73,11 @@ abbrev pub events : List Event → State → List Line → List Event
 events past state [] = past
 events past state (line ∷ more) = events (record { state = state; line = line } ∷ past) (step state line).0 more
 
--- the keys that an earlier line took, the last one first
-abbrev pub taken_in : Event → List Key
-taken_in event = taken_by event.state (accesses event.state event.line)
-
 -- the keys taken since the last line that disturbs, the last one first
 abbrev pub recent : List Event → List Key
 recent [] = []
-recent (event ∷ past) = if is_disturbing event.state event.line then [] else taken_in event ++ recent past
+recent (event ∷ past) =
+    if is_disturbing event.state event.line then [] else taken_by event.state (accesses event.state event.line) ++ recent past
 
 -- whether a key was taken since then, and none but itself took its seat behind that
 abbrev pub is_recent : List Event → Key → Bool
@@ -107,6 +104,10 @@ cost_behind past state (line ∷ more) = line_cost past state line + cost_behind
 -- what the lines of a session may cost, from its first state on
 abbrev pub cost : State → List Line → ℕ
 cost state lines = cost_behind [] state lines
+
+-- the keys that an earlier line took, the last one first
+abbrev pub taken_in : Event → List Key
+taken_in event = taken_by event.state (accesses event.state event.line)
 
 abbrev pub DisturbsNothing : Event → Type 0
 DisturbsNothing event = is_disturbing event.state event.line ≡ false

@@ -59,9 +59,8 @@ below_word (Some n) = if nat_lt n (2 ^ 64) then Some n else None
 
 -- the bytes behind "0x", if the word begins so
 abbrev pub hex_part : List ℕ → Option (List ℕ)
-hex_part [] = None
-hex_part (a ∷ []) = None
 hex_part (a ∷ b ∷ bytes) = if a == 48 && b == 120 then Some bytes else None
+hex_part _ = None
 
 -- the number that a word spells: 1 to 20 decimal digits, or 0x and 1 to 16 hexadecimal ones
 abbrev pub number_of : List ℕ → Option ℕ

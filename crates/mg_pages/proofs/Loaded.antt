@@ -10,10 +10,11 @@ use Rattle.mg_disk.specs.Stops.{CountGoes, WritesNothing}
 use Rattle.mg_disk.specs.declared.disk.Disk.{Ghosts}
 use Rattle.mg_journal.specs.Held.{Store}
 use Rattle.mg_journal.specs.Standing.{Stands}
+use Rattle.mg_model.specs.Abbreviations.{table_of}
 use Rattle.mg_model.specs.Bytes.{are_zeros, number_at}
 use Rattle.mg_model.specs.Layout.{table_block, table_blocks}
 use Rattle.mg_model.specs.Tests.{all_distinct}
-use Rattle.mg_model.specs.Volume.{bound_pages, table_of, whole_table}
+use Rattle.mg_model.specs.Volume.{bound_pages, whole_table}
 use Rattle.mg_pages.proofs.Entries.{entry-of, length-entries, zero-at}
 use Rattle.mg_pages.proofs.Places.{place-of}
 use Rattle.mg_pages.specs.Loading.{AreFreeFrom, AreLoaded, HasEntries, IsTableFor, LoadsBlock, entry_bound}

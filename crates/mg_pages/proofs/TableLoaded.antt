@@ -7,8 +7,9 @@ use Rattle.mg_disk.specs.Disk.{Image}
 use Rattle.mg_disk.specs.declared.disk.Disk.{Ghosts}
 use Rattle.mg_journal.specs.Held.{Store}
 use Rattle.mg_journal.specs.Standing as journal
+use Rattle.mg_model.specs.Abbreviations.{table_of}
 use Rattle.mg_model.specs.Tests.{all_distinct}
-use Rattle.mg_model.specs.Volume.{bound_pages, table_of}
+use Rattle.mg_model.specs.Volume.{bound_pages}
 use Rattle.mg_pages.proofs.Made.{made-spelled}
 use Rattle.mg_pages.proofs.Opened.{count-is, staged-is, table-is, total-is}
 use Rattle.mg_pages.proofs.Tables.{held}

@@ -8,11 +8,12 @@ use Rattle.mg_disk.specs.declared.disk.Disk.{Ghosts}
 use Rattle.mg_journal.specs.Contents.{names}
 use Rattle.mg_journal.specs.Standing as journal
 use Rattle.mg_journal.specs.Held.{Store}
+use Rattle.mg_model.specs.Abbreviations.{table_of}
 use Rattle.mg_model.specs.Bytes.{are_zeros}
 use Rattle.mg_model.specs.Layout.{first_frame, table_block, total_blocks}
 use Rattle.mg_model.specs.Replay.{homes_fit, replay, written}
 use Rattle.mg_model.specs.Tests.{all_distinct}
-use Rattle.mg_model.specs.Volume.{bound_pages, page_words, table_of, whole_table}
+use Rattle.mg_model.specs.Volume.{bound_pages, page_words, whole_table}
 use Rattle.mg_pages.specs.Held.{PagesHeld}
 use Rattle.mg_pages.specs.Kept.{AreKept}
 use Rattle.std.specs.Prelude.{drop}

@@ -4,10 +4,11 @@ ghost use Rattle.std.specs.Option.{ForSome};
 ghost use Rattle.mg_disk.specs.Disk.{block_at};
 ghost use Rattle.mg_disk.specs.Stops.{DiskCalls, WritesNothing};
 ghost use Rattle.mg_journal.specs.Standing.{Stands, total_of};
+ghost use Rattle.mg_model.specs.Abbreviations.{table_of};
 ghost use Rattle.mg_model.specs.Bytes.{are_zeros};
 ghost use Rattle.mg_model.specs.Layout.{table_block, table_blocks, total_blocks};
 ghost use Rattle.mg_model.specs.Tests.{all_distinct};
-ghost use Rattle.mg_model.specs.Volume.{bound_pages, table_of};
+ghost use Rattle.mg_model.specs.Volume.{bound_pages};
 ghost use Rattle.mg_pages.specs.Loading.{AreFreeFrom, LoadsBlock, entry_bound};
 ghost use Rattle.mg_pages.specs.Meaning.{replayed};
 

@@ -4,10 +4,11 @@ ghost use Rattle.std.specs.Option.{ForSome};
 ghost use Rattle.mg_disk.specs.Stops.{DiskCalls, Leaves, WritesNothing};
 ghost use Rattle.mg_journal.specs.Contents.{SameContents};
 ghost use Rattle.mg_journal.specs.Standing as journal;
+ghost use Rattle.mg_model.specs.Abbreviations.{table_of};
 ghost use Rattle.mg_model.specs.Bytes.{are_zeros};
 ghost use Rattle.mg_model.specs.Layout.{body_limit, globals_block, table_block, total_blocks};
 ghost use Rattle.mg_model.specs.Tests.{all_distinct};
-ghost use Rattle.mg_model.specs.Volume.{bound_pages, table_of};
+ghost use Rattle.mg_model.specs.Volume.{bound_pages};
 ghost use Rattle.mg_pages.specs.Meaning.{BindsOnly, CountsNone, CountsOne, HasTable, IsBare, IsKept, Keeps, Releases, SameShape, SetsWord, SpellsTable, StagesMore, StandsOn, Unbinds, IsSpelledBy, coming, frame_count, is_bound, is_live, is_staged, page_now, replayed, staged_of, store_of, table_in, total_of, words_in};
 ghost use Rattle.mg_pages.specs.Committing.{HasContents};
 

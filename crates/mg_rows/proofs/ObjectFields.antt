@@ -5,12 +5,13 @@ use Rattle.std.proofs.lemmas.List.{drop-drop, drop_at, get_or-drop, length-map}
 use Rattle.std.proofs.lemmas.List.Elements.{All-cons, All-map, All-nil, All-weaker}
 use Rattle.mg_model.specs.declared.slots.Pw.{Pw}
 use Rattle.mg_model.specs.declared.slots.Slot.{Slot}
+use Rattle.mg_model.specs.Abbreviations.{extension_at}
 use Rattle.mg_model.specs.Bytes.{are_zeros, number_at, numbers_at, padded_to, words_bytes}
 use Rattle.mg_model.specs.BytesLemmas.{length-padded_to, length-words_bytes, numbers_at-behind, numbers_at-first}
 use Rattle.mg_model.specs.PasswordRows.{IsPassword}
 use Rattle.mg_model.specs.Ranges.{IsEntryOf, IsExtension, IsObjectRow, IsPlace, IsWord}
 use Rattle.mg_model.specs.RowLemmas.{are_zeros-replicate, object-live, read-free}
-use Rattle.mg_model.specs.Spelling.{extension_at, live_if, object_bytes, object_fields, object_head, object_read, passwords_at}
+use Rattle.mg_model.specs.Spelling.{live_if, object_bytes, object_fields, object_head, object_read, passwords_at}
 use Rattle.mg_model.specs.State.{ObjectRow}
 use Rattle.mg_model.specs.Tests.{is_object_row}
 use Rattle.mg_rows.proofs.ObjectKeeps.{object-keeps}

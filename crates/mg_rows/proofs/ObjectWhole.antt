@@ -1,8 +1,9 @@
 -- An object's parts make its fields, and their rules its rule.
 use Rattle.std.proofs.Common.{◌≡◌, ◌&&◌, ℕ, List, [], Bool, true, false, Some, None, Option, if◌then◌else◌, sym, ap, subst, ◌∙◌}
 use Rattle.std.proofs.lemmas.Bool.{and_from, and_left, and_right}
+use Rattle.mg_model.specs.Abbreviations.{extension_at}
 use Rattle.mg_model.specs.Bytes.{are_zeros, number_at}
-use Rattle.mg_model.specs.Spelling.{Read, extension_at, live_if, object_bytes, object_fields, object_read}
+use Rattle.mg_model.specs.Spelling.{Read, live_if, object_bytes, object_fields, object_read}
 use Rattle.mg_model.specs.State.{ObjectRow}
 use Rattle.mg_model.specs.Tests.{is_object_row}
 use Rattle.mg_model.specs.Words.{same_bytes}

@@ -1,9 +1,9 @@
 -- Parts of a thread's row.
 use Rattle.std.specs.Prelude.{ℕ, ◌%◌, ◌==◌, ◌&&◌, nat_lt, Bool, List, [], ◌∷◌, length}
+use Rattle.mg_model.specs.Abbreviations.{is_call_frame}
 use Rattle.mg_model.specs.Bytes.{number_at, numbers_at}
 use Rattle.mg_model.specs.Spelling.{frame_at, frames_at, state_number, state_numbered}
 use Rattle.mg_model.specs.State.{ThreadRow}
-use Rattle.mg_model.specs.Tests.{is_call_frame}
 
 -- the words that it begins with
 abbrev pub head_words : ThreadRow → List ℕ

@@ -1,7 +1,8 @@
 // The parts of an object's row, read one after the other.
 ghost use Rattle.std.specs.Prelude.{◌≡◌, ◌<◌, ◌&&◌, [], length, not, true};
+ghost use Rattle.mg_model.specs.Abbreviations.{extension_at};
 ghost use Rattle.mg_model.specs.ObjectCalls.{is_entry};
-ghost use Rattle.mg_model.specs.Spelling.{extension_at, object_fields};
+ghost use Rattle.mg_model.specs.Spelling.{object_fields};
 ghost use Rattle.mg_model.specs.Tests.{is_entry_of, is_object_row, is_password, is_place};
 ghost use Rattle.mg_rows.specs.ObjectParts.{are_entries, are_passwords, entries_in, is_extension, is_placed, password_at, passwords_in, placed_row, some_if};
 

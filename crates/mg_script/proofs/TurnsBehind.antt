@@ -18,16 +18,17 @@ use Rattle.mg_model.specs.declared.rights.Right.TheVariants.{R, W, X}
 use Rattle.mg_model.specs.declared.slots.Slot.{Slot}
 use Rattle.mg_model.specs.declared.threads.Fault.TheVariants as fault
 use Rattle.mg_model.specs.declared.threads.ThrState.TheVariants.{Ready}
+use Rattle.mg_model.specs.Abbreviations.{advanced, entered_slots}
 use Rattle.mg_model.specs.Access.{allowed, domain_of, last_slots, thread_of}
 use Rattle.mg_model.specs.Backed.{KeepsBacked, by_none}
-use Rattle.mg_model.specs.Domains.{entered_slots, frames_of, last_back, pdx, ret, row_of, with_thread}
+use Rattle.mg_model.specs.Domains.{frames_of, last_back, pdx, ret, row_of, with_thread}
 use Rattle.mg_model.specs.ObjectCalls.{is_aligned}
 use Rattle.mg_model.specs.Objects.{with_word, word_at}
 use Rattle.mg_model.specs.Ranges.{IsThreadRow}
 use Rattle.mg_model.specs.Refused.{Answer, row, unless_refused}
 use Rattle.mg_model.specs.Script.{decoded, with_register}
 use Rattle.mg_model.specs.State.{State, Thread, ThreadRow}
-use Rattle.mg_model.specs.Turn.{advanced, faulted, put_row, refusal_number, run, run_word, seen, spelled, thread_call, turned, values_of, with_registers}
+use Rattle.mg_model.specs.Turn.{faulted, put_row, refusal_number, run, run_word, seen, spelled, thread_call, turned, values_of, with_registers}
 use Rattle.mg_model.specs.WellFormed.{IsThread, IsWellFormed}
 use Rattle.mg_script.specs.declared.actions.Action.{Action}
 use Rattle.mg_script.specs.declared.actions.Action.TheVariants as action

@@ -13,12 +13,13 @@ use Rattle.mg_model.specs.declared.rights.Right.TheVariants.{R, W}
 use Rattle.mg_model.specs.declared.threads.Fault.{Fault}
 use Rattle.mg_model.specs.declared.threads.Fault.TheVariants as fault
 use Rattle.mg_model.specs.declared.threads.ThrState.TheVariants.{Faulted}
+use Rattle.mg_model.specs.Abbreviations.{advanced}
 use Rattle.mg_model.specs.Access.{allowed, last_slots}
 use Rattle.mg_model.specs.Domains.{last_back, pdx, ret}
 use Rattle.mg_model.specs.Objects.{with_word, word_at}
 use Rattle.mg_model.specs.Script.{decoded, operand, register, with_register, word_end}
 use Rattle.mg_model.specs.State.{CallFrame, State, ThreadRow}
-use Rattle.mg_model.specs.Turn.{advanced, put_row, run, refusal_number, seen, spelled, thread_call, unless_faulted, values_of, with_registers}
+use Rattle.mg_model.specs.Turn.{put_row, run, refusal_number, seen, spelled, thread_call, unless_faulted, values_of, with_registers}
 use Rattle.mg_script.specs.declared.actions.Action.{Action}
 use Rattle.mg_script.specs.declared.actions.Action.TheVariants as action
 

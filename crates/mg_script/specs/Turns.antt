@@ -3,12 +3,13 @@ use Rattle.std.specs.Prelude.{ℕ, ◌≡◌, if◌then◌else◌, Option, Some,
 use Rattle.mg_model.specs.declared.calls.Call.{Call}
 use Rattle.mg_model.specs.declared.rights.Right.TheVariants.{X}
 use Rattle.mg_model.specs.declared.threads.ThrState.TheVariants.{Ready}
+use Rattle.mg_model.specs.Abbreviations.{advanced}
 use Rattle.mg_model.specs.Access.{allowed}
 use Rattle.mg_model.specs.Backed.{KeepsBacked, by_none}
 use Rattle.mg_model.specs.Domains.{row_of, with_thread}
 use Rattle.mg_model.specs.Objects.{word_at}
 use Rattle.mg_model.specs.State.{State, ThreadRow}
-use Rattle.mg_model.specs.Turn.{advanced, thread_call, turn_state}
+use Rattle.mg_model.specs.Turn.{thread_call, turn_state}
 use Rattle.mg_model.specs.WellFormed.{IsWellFormed}
 use Rattle.mg_script.specs.declared.actions.Action.{Action}
 use Rattle.mg_script.specs.Actions.{HasFrames, IsSpelledBy, begun, finished, made_by, resumed, turned_on}

@@ -1,9 +1,10 @@
 // What an instruction does to a thread's row.
 ghost use Rattle.std.specs.Prelude.{◌≡◌, ◌<◌, ◌+◌, ◌*◌, ◌%◌, ◌^◌, ◌==◌, if◌then◌else◌, ℕ};
+ghost use Rattle.mg_model.specs.Abbreviations.{advanced};
 ghost use Rattle.mg_model.specs.Ranges.{IsThreadRow};
 ghost use Rattle.mg_model.specs.Script.{jump_by, jumped, operand, register, with_register, word_end};
 ghost use Rattle.mg_model.specs.State.{State};
-ghost use Rattle.mg_model.specs.Turn.{advanced, run};
+ghost use Rattle.mg_model.specs.Turn.{run};
 ghost use Rattle.mg_script.specs.Actions.{HasFrames, HasPlace, call_of, finished, made_by};
 ghost use Rattle.mg_script.specs.Encoded.{HasRegisters};
 

@@ -1,8 +1,8 @@
 // A turn as a call: which action a thread's word asks for, which call the action makes, and the thread's row behind it.
 ghost use Rattle.std.specs.Prelude.{◌≡◌, ◌<◌, ℕ};
+ghost use Rattle.mg_model.specs.Abbreviations.{advanced};
 ghost use Rattle.mg_model.specs.Script.{with_register};
 ghost use Rattle.mg_model.specs.State.{State};
-ghost use Rattle.mg_model.specs.Turn.{advanced};
 ghost use Rattle.mg_script.specs.Actions.{HasFrames, HasPlace, IsSpelledBy, begun, entered, entering_call, fault_of, faulted_row, finished, loaded, made_by, refused_row, resumed, returned, returning_on, stored, turned_on};
 
 use crate::actions::{Action, advance, execute};

@@ -7,9 +7,10 @@ use Rattle.std.proofs.lemmas.List.{length-replicate, take-append-drop, take-appe
 use Rattle.std.proofs.Math.Seq.{take-append_seam}
 use Rattle.std.proofs.lemmas.List.Folds.{list_any-append}
 use Rattle.mg_model.specs.declared.calls.Line.{Line}
+use Rattle.mg_model.specs.Abbreviations.{longest_line}
 use Rattle.mg_model.specs.Ended.{all_but_last, ended_lines}
 use Rattle.mg_model.specs.Words.{split_at, onto_first, is_newline, words}
-use Rattle.mg_model.specs.Lines.{bad_line, longest_line, line_of, line_of_words, lines}
+use Rattle.mg_model.specs.Lines.{bad_line, line_of, line_of_words, lines}
 
 -- bytes go to the front of the first piece
 abbrev pub all_onto_first : List ℕ → List (List ℕ) → List (List ℕ)

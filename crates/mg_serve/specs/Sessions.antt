@@ -56,11 +56,8 @@ status_of (Err e) = status_at e
 
 -- what holds once a session ended, unless the disk ended it
 abbrev pub UnlessDisk : {T : Type 0} → Result T Ended → Type 0 → Type 0
-UnlessDisk (Ok x) P = P
 UnlessDisk (Err ended.Disk) P = Unit {0}
-UnlessDisk (Err ended.Source) P = P
-UnlessDisk (Err ended.Sink) P = P
-UnlessDisk (Err ended.TooLong) P = P
+UnlessDisk _ P = P
 
 -- A session: how much of the input is taken
 

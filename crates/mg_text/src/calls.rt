@@ -1,6 +1,7 @@
 // From a call word and its arguments to a call.
 ghost use Rattle.std.specs.Prelude.{◌≡◌, drop};
-ghost use Rattle.mg_model.specs.Lines.{call_by, call_table, form0, form_pwadd, pdx_of, pwadd_of};
+ghost use Rattle.mg_model.specs.Abbreviations.{pdx_of};
+ghost use Rattle.mg_model.specs.Lines.{call_by, call_table, form0, form_pwadd, pwadd_of};
 ghost use Rattle.mg_model.specs.Words.{words};
 
 use crate::args::{four, one, three, two};

@@ -6,11 +6,12 @@ use Rattle.std.proofs.lemmas.List.{get_or-set_other, get_or-set_same}
 use Rattle.mg_check.specs.RowsRead.{placed_from}
 use Rattle.mg_disk.specs.Disk.{Image}
 use Rattle.mg_model.specs.declared.accounts.AccRow.{AccRow}
+use Rattle.mg_model.specs.Abbreviations.{account_row_bytes}
 use Rattle.mg_model.specs.Layout.{first_account_block, first_thread_block, globals_block}
 use Rattle.mg_model.specs.Limits.{debt_limit, account_limit}
 use Rattle.mg_model.specs.Replay.{block_of}
 use Rattle.mg_model.specs.Spelling.{Read, account_read, globals_read}
-use Rattle.mg_model.specs.Volume.{account_row_bytes, live_rows}
+use Rattle.mg_model.specs.Volume.{live_rows}
 use Rattle.mg_pages.specs.ComingLemmas.{length_coming}
 use Rattle.mg_pages.specs.Held.{PagesHeld}
 use Rattle.mg_pages.specs.SpelledLemmas as laws

@@ -6,7 +6,8 @@ use Rattle.std.proofs.Common.{sym, subst, ⊎_elim, arith}
 use Rattle.std.proofs.lemmas.Bool.{cases_lt}
 use Rattle.std.proofs.lemmas.List.{get_or_past}
 use Rattle.std.proofs.lemmas.List.Elements.{All-append, All-cons, All-drop, All-head, All-nil, All-replicate, All-set, All-tail, All-take}
-use Rattle.mg_disk.specs.Disk.{AreBytes, Image, IsBytes}
+use Rattle.mg_disk.specs.BlockBytes.{IsBytes}
+use Rattle.mg_disk.specs.Disk.{AreBytes, Image}
 use Rattle.mg_journal.specs.JournalLemmas.{open_writes, replayed-is}
 use Rattle.mg_model.specs.Bytes.{block_words, bytes_at, number_at, numbers_at}
 use Rattle.mg_model.specs.Layout.{first_frame, segment_body, segment_count}

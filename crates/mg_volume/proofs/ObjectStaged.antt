@@ -5,6 +5,7 @@ use Rattle.std.proofs.lemmas.Bool.{and_parts, cases_eq, eq-eqb, leb-true, ne_eqb
 use Rattle.std.proofs.lemmas.List.{get_or-set_other}
 use Rattle.std.proofs.lemmas.List.Elements.{All-cons, All-get_or, All-head, All-nil, All-tail, All-weaker}
 use Rattle.mg_disk.specs.Disk.{Image}
+use Rattle.mg_model.specs.Abbreviations.{object_row_bytes}
 use Rattle.mg_model.specs.Layout.{first_account_block, first_object_block, first_thread_block, globals_block}
 use Rattle.mg_model.specs.Limits.{object_limit}
 use Rattle.mg_model.specs.Objects.{page_behind, page_of, with_row}
@@ -12,7 +13,7 @@ use Rattle.mg_model.specs.Ranges.{IsObjectRow}
 use Rattle.mg_model.specs.Replay.{block_of}
 use Rattle.mg_model.specs.Spelling.{Read, globals_read, object_read}
 use Rattle.mg_model.specs.State.{ObjectRow}
-use Rattle.mg_model.specs.Volume.{live_rows, object_row_bytes, object_spelled, pages_words}
+use Rattle.mg_model.specs.Volume.{live_rows, object_spelled, pages_words}
 use Rattle.mg_pages.specs.Held.{PagesHeld}
 use Rattle.mg_pages.specs.Meaning as pages
 use Rattle.mg_rows.specs.Blocks.{object_in}

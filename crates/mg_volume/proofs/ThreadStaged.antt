@@ -3,12 +3,12 @@ use Rattle.std.specs.Prelude.{◌≡◌, ◌+◌, ◌-◌, ◌≤◌, ◌<◌, �
 use Rattle.std.proofs.Common.{sym, ap, ◌∙◌, arith}
 use Rattle.std.proofs.lemmas.List.{get_or-set_other}
 use Rattle.mg_disk.specs.Disk.{Image}
+use Rattle.mg_model.specs.Abbreviations.{thread_row_bytes}
 use Rattle.mg_model.specs.Layout.{first_account_block, first_object_block, first_thread_block, globals_block, table_block}
 use Rattle.mg_model.specs.Limits.{thread_limit}
 use Rattle.mg_model.specs.Replay.{block_of}
 use Rattle.mg_model.specs.Spelling.{globals_read, thread_read}
 use Rattle.mg_model.specs.State.{ThreadRow}
-use Rattle.mg_model.specs.Volume.{thread_row_bytes}
 use Rattle.mg_pages.specs.Held.{PagesHeld}
 use Rattle.mg_pages.specs.Meaning as pages
 use Rattle.mg_volume.proofs.Found.{as_thread}

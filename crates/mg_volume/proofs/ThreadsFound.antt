@@ -4,8 +4,8 @@ use Rattle.std.specs.Option.{option_or}
 use Rattle.std.proofs.Common.{refl, sym, ap, ◌∙◌, arith}
 use Rattle.std.proofs.lemmas.List.{length-map}
 use Rattle.mg_disk.specs.Disk.{Image}
+use Rattle.mg_model.specs.Abbreviations.{free_number}
 use Rattle.mg_model.specs.State.{Thread, ThreadRow}
-use Rattle.mg_model.specs.Threads.{free_number}
 use Rattle.mg_model.specs.Turn.{is_ready, picked, ready_above}
 use Rattle.mg_volume.proofs.Found.{as_thread, find-mapped}
 use Rattle.mg_volume.proofs.ThreadLists.{any-mapped}

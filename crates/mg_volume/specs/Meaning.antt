@@ -8,6 +8,7 @@ use Rattle.mg_disk.specs.Stops.{NothingPending}
 use Rattle.mg_disk.specs.declared.disk.Disk.{Ghosts}
 use Rattle.mg_model.specs.declared.accounts.AccRow.{AccRow}
 use Rattle.mg_model.specs.Access.{covers}
+use Rattle.mg_model.specs.Abbreviations.{account_row_bytes, object_row_bytes, thread_row_bytes}
 use Rattle.mg_model.specs.Layout.{globals_block, super_block}
 use Rattle.mg_model.specs.Limits.{debt_limit, account_limit, thread_limit, object_limit}
 use Rattle.mg_model.specs.Objects.{page_behind, page_of}
@@ -16,7 +17,7 @@ use Rattle.mg_model.specs.Settings.{Settings}
 use Rattle.mg_model.specs.Ranges.{IsObjectRow}
 use Rattle.mg_model.specs.Spelling.{Spells, account_read, globals_read, object_read, super_read, thread_read}
 use Rattle.mg_model.specs.State.{Counters, ObjectRow, State, Thread, ThreadRow}
-use Rattle.mg_model.specs.Volume.{Is, account_row_bytes, accounts_fit, bound_pages, has_open_gate, live_rows, object_row_bytes, object_spelled, objects_fit, thread_row_bytes, threads_fit, volume}
+use Rattle.mg_model.specs.Volume.{Is, accounts_fit, bound_pages, has_open_gate, live_rows, object_spelled, objects_fit, threads_fit, volume}
 use Rattle.mg_objects.specs.Held.{by_base}
 use Rattle.mg_pages.specs.Meaning as pages
 use Rattle.mg_space.specs.Space.{ArePaid}

@@ -2,9 +2,9 @@
 use Rattle.std.specs.Prelude.{◌≡◌, ◌+◌, ◌≤◌, ◌<◌, ◌==◌, MatchOption, nat_lt, ℕ, Bool, false, not, All, List, [], ◌∷◌, filter, if◌then◌else◌, length, map, is_some, Option, Some, None}
 use Rattle.std.specs.List.{list_any}
 use Rattle.std.specs.Option.{ForSome, option_map_or}
+use Rattle.mg_model.specs.Abbreviations.{free_number}
 use Rattle.mg_model.specs.Ranges.{IsThreadRow}
 use Rattle.mg_model.specs.State.{Thread, ThreadRow}
-use Rattle.mg_model.specs.Threads.{free_number}
 use Rattle.mg_model.specs.Turn.{is_ready}
 
 -- before the first larger number

@@ -1,9 +1,10 @@
 use Rattle.std.proofs.Common.{◌≡◌, ◌&&◌, ℕ, ap, sym, ◌∙◌}
 use Rattle.std.specs.Prelude.{nat_le}
 use Rattle.std.specs.List.{list_all}
+use Rattle.mg_model.specs.Abbreviations.{threads_spelled}
 use Rattle.mg_model.specs.State.{ThreadRow}
 use Rattle.mg_model.specs.Tests.{all_distinct}
-use Rattle.mg_model.specs.Volume.{begins_with_first, threads_spelled}
+use Rattle.mg_model.specs.Volume.{begins_with_first}
 use Rattle.mg_check.specs.Rules.{births_of}
 use Rattle.mg_check.proofs.StateFits.{threads-fit}
 use Rattle.mg_check.proofs.soundness.threads_fit.Goals as goal

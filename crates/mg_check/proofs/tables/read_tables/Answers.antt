@@ -1,8 +1,8 @@
 use Rattle.std.proofs.Common.{◌≡◌, Err, subst, sym, ◌∙◌}
 use Rattle.std.proofs.lemmas.Result.{err_from_is_err_and}
+use Rattle.mg_model.specs.Abbreviations.{account_row_bytes}
 use Rattle.mg_model.specs.Limits.{account_limit}
 use Rattle.mg_model.specs.Spelling.{account_read}
-use Rattle.mg_model.specs.Volume.{account_row_bytes}
 use Rattle.mg_check.specs.TableTold.{HasRest, IsTable}
 use Rattle.mg_check.specs.TableRows.{AreLive}
 use Rattle.mg_journal.specs.declared.faults.ViewFault.TheVariants as fault

@@ -1,7 +1,7 @@
 use Rattle.std.proofs.Common.{◌<◌, refl, sym, subst, take, arith, slice_index_or, slice_set}
 use Rattle.std.proofs.lemmas.List.{take_all, take_more}
 use Rattle.std.proofs.lemmas.List.Elements.{Contains-get_or, All-set, All-replicate}
-use Rattle.mg_disk.specs.Disk.{IsBytes}
+use Rattle.mg_disk.specs.BlockBytes.{IsBytes}
 use Rattle.mg_disk.specs.Blocks.{IsGated, gates_block}
 use Rattle.mg_disk.specs.PlaceLemmas.{gated_longer}
 use Rattle.mg_disk.proofs.blocks.put_gates.Goals as goal

@@ -1,5 +1,5 @@
 use Rattle.std.proofs.Common.{None, Some, refl, ◌∙◌}
-use Rattle.mg_model.specs.Spelling.{extension_at}
+use Rattle.mg_model.specs.Abbreviations.{extension_at}
 use Rattle.mg_model.specs.State.{ObjectRow}
 use Rattle.mg_rows.specs.ObjectParts.{are_entries, are_passwords, entries_in, is_extension, passwords_in}
 use Rattle.mg_rows.proofs.ObjectWhole.{all_read, bare_of_entries, fails, not_entered, not_opened, not_placed, passes}

@@ -1,8 +1,8 @@
 use Rattle.std.proofs.Common.{◌≡◌, ◌%◌, ◌==◌, sym, ap, ◌∙◌, arith}
+use Rattle.mg_model.specs.Abbreviations.{is_call_frame}
 use Rattle.mg_model.specs.Bytes.{number_at}
 use Rattle.mg_model.specs.Spelling.{frame_at}
 use Rattle.mg_model.specs.State.{CallFrame}
-use Rattle.mg_model.specs.Tests.{is_call_frame}
 use Rattle.mg_rows.specs.ThreadParts.{begins, with_frames}
 use Rattle.mg_rows.proofs.ThreadReads.{Are, begins-all, begins-back, begins-creator, begins-frame, begins-pc, none-if, none-is, row-begun, some-are, some-if}
 use Rattle.mg_rows.proofs.threads.begun.Goals as goal

@@ -1,9 +1,9 @@
 use Rattle.std.proofs.Common.{◌≡◌, ◌+◌, ◌*◌, true, length, refl, sym, ap, ◌∙◌, arith}
 use Rattle.std.specs.List.{list_all}
 use Rattle.std.proofs.lemmas.Bool.{and_from}
+use Rattle.mg_model.specs.Abbreviations.{is_call_frame}
 use Rattle.mg_model.specs.Spelling.{frame_at, frames_at}
 use Rattle.mg_model.specs.State.{ThreadRow}
-use Rattle.mg_model.specs.Tests.{is_call_frame}
 use Rattle.mg_rows.specs.ThreadParts.{with_frames}
 use Rattle.mg_rows.proofs.ThreadReads.{Are, frames-broken, frames-kept, length-frames_at, none-if, none-is, some-are, some-if, thread-more}
 use Rattle.mg_rows.proofs.threads.with_frames.Goals as goal

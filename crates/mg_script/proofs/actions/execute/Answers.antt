@@ -1,7 +1,8 @@
 use Rattle.std.proofs.Common.{◌≡◌, ◌==◌, if◌then◌else◌, ap, sym, ◌∙◌}
 use Rattle.mg_model.specs.declared.instructions.Instr.{Instr}
+use Rattle.mg_model.specs.Abbreviations.{advanced}
 use Rattle.mg_model.specs.Script.{jumped, register}
-use Rattle.mg_model.specs.Turn.{advanced, run}
+use Rattle.mg_model.specs.Turn.{run}
 use Rattle.mg_script.specs.declared.actions.Action.{Action}
 use Rattle.mg_script.specs.declared.actions.Action.TheVariants.{Next}
 use Rattle.mg_script.specs.Actions.{finished}

@@ -1,6 +1,7 @@
 use Rattle.std.proofs.Common.{◌∙◌, ℕ, ◌<◌, List, sym, ap, subst, Contains, slice_set}
 use Rattle.std.proofs.lemmas.List.Elements.{All-set, All-from_get_or}
-use Rattle.mg_disk.specs.Disk.{SameBut, IsBytes}
+use Rattle.mg_disk.specs.BlockBytes.{IsBytes}
+use Rattle.mg_disk.specs.Disk.{SameBut}
 use Rattle.mg_disk.specs.Held.{run, start}
 use Rattle.mg_disk.specs.HeldLemmas.{held_more}
 use Rattle.mg_disk.specs.PlaceLemmas.{placed_longer, same_longer}

@@ -1,6 +1,6 @@
 use Rattle.std.proofs.Common.{◌≡◌, Some, rules, inl, slice_set}
 use Rattle.std.specs.Prelude.{option_map}
-use Rattle.mg_disk.specs.Disk.{SeenBut, only_place, Torn}
+use Rattle.mg_disk.specs.Disk.{SeenBut, only_place, TornAt}
 use Rattle.mg_mirror.specs.MirrorLemmas.{told_but}
 use Rattle.mg_mirror.proofs.MirrorCalls.{LeftOf, write_both, write_left, write_right, goes_dropped, wrote_both, wrote_left, wrote_right, wrote_only_left, wrote_only_right, same_after}
 use Rattle.mg_mirror.specs.declared.mirror.Side.TheVariants.{Left, Right}
@@ -35,7 +35,7 @@ returns-in-Ok-Err-clause-written g c =
 pub returns-in-Ok-Err-clause-stops : goal.returns-in-Ok-Err-clause-stops
 returns-in-Ok-Err-clause-stops g c =
     let was = c.args.self.now in
-    goes_dropped g.D.Disk g.E.Disk was.blocks was.alone Left was.left c.write_both-left.new.left was.right c.write_both-left.new.right (Torn c.args.i (LeftOf g.D.Disk g.E.Disk was.blocks was.alone was.left was.right)) c.in-None.is (g.met.D.Disk.now_has_been c.write_both-left.new.left) (g.met.E.Disk.now_has_been c.write_both-left.new.right)
+    goes_dropped g.D.Disk g.E.Disk was.blocks was.alone Left was.left c.write_both-left.new.left was.right c.write_both-left.new.right (TornAt (only_place c.args.i) (LeftOf g.D.Disk g.E.Disk was.blocks was.alone was.left was.right)) c.in-None.is (g.met.D.Disk.now_has_been c.write_both-left.new.left) (g.met.E.Disk.now_has_been c.write_both-left.new.right)
     (write_both g.D.Disk g.E.Disk was.blocks was.alone was.left c.write_both-left.new.left was.right c.write_both-left.new.right (only_place c.args.i) c.in-None.is c.write_both-left.ensures.on_left.rules.tells c.write_both-left.ensures.on_right.rules.tells c.write_both-left.ensures.on_left.rules.stops c.write_both-left.ensures.on_right.rules.stops)
 
 pub returns-in-Err-Ok-clause-written : goal.returns-in-Err-Ok-clause-written
@@ -48,13 +48,13 @@ returns-in-Err-Ok-clause-written g c =
 pub returns-in-Err-Ok-clause-stops : goal.returns-in-Err-Ok-clause-stops
 returns-in-Err-Ok-clause-stops g c =
     let was = c.args.self.now in
-    goes_dropped g.D.Disk g.E.Disk was.blocks was.alone Right was.left c.write_both-left.new.left was.right c.write_both-left.new.right (Torn c.args.i (LeftOf g.D.Disk g.E.Disk was.blocks was.alone was.left was.right)) c.in-None.is (g.met.D.Disk.now_has_been c.write_both-left.new.left) (g.met.E.Disk.now_has_been c.write_both-left.new.right)
+    goes_dropped g.D.Disk g.E.Disk was.blocks was.alone Right was.left c.write_both-left.new.left was.right c.write_both-left.new.right (TornAt (only_place c.args.i) (LeftOf g.D.Disk g.E.Disk was.blocks was.alone was.left was.right)) c.in-None.is (g.met.D.Disk.now_has_been c.write_both-left.new.left) (g.met.E.Disk.now_has_been c.write_both-left.new.right)
     (write_both g.D.Disk g.E.Disk was.blocks was.alone was.left c.write_both-left.new.left was.right c.write_both-left.new.right (only_place c.args.i) c.in-None.is c.write_both-left.ensures.on_left.rules.tells c.write_both-left.ensures.on_right.rules.tells c.write_both-left.ensures.on_left.rules.stops c.write_both-left.ensures.on_right.rules.stops)
 
 pub returns-in-Err-Err-clause-stops : goal.returns-in-Err-Err-clause-stops
 returns-in-Err-Err-clause-stops g c =
     let was = c.args.self.now in
-    goes_dropped g.D.Disk g.E.Disk was.blocks was.alone Left was.left c.write_both-left.new.left was.right c.write_both-left.new.right (Torn c.args.i (LeftOf g.D.Disk g.E.Disk was.blocks was.alone was.left was.right)) c.in-None.is (g.met.D.Disk.now_has_been c.write_both-left.new.left) (g.met.E.Disk.now_has_been c.write_both-left.new.right)
+    goes_dropped g.D.Disk g.E.Disk was.blocks was.alone Left was.left c.write_both-left.new.left was.right c.write_both-left.new.right (TornAt (only_place c.args.i) (LeftOf g.D.Disk g.E.Disk was.blocks was.alone was.left was.right)) c.in-None.is (g.met.D.Disk.now_has_been c.write_both-left.new.left) (g.met.E.Disk.now_has_been c.write_both-left.new.right)
     (write_both g.D.Disk g.E.Disk was.blocks was.alone was.left c.write_both-left.new.left was.right c.write_both-left.new.right (only_place c.args.i) c.in-None.is c.write_both-left.ensures.on_left.rules.tells c.write_both-left.ensures.on_right.rules.tells c.write_both-left.ensures.on_left.rules.stops c.write_both-left.ensures.on_right.rules.stops)
 
 pub returns-in-Ok-clause-written : goal.returns-in-Ok-clause-written

@@ -1,6 +1,6 @@
 use Rattle.std.proofs.Common.{◌≡◌, ◌<◌, ◌≤◌, false, length, subst}
 use Rattle.std.specs.Option.{MatchOption}
-use Rattle.mg_model.specs.Threads.{free_number}
+use Rattle.mg_model.specs.Abbreviations.{free_number}
 use Rattle.mg_volume.proofs.ThreadsFound.{free_held}
 use Rattle.mg_volume.specs.Held.{VolumeHeld}
 use Rattle.mg_volume.specs.Meaning.{threads_in}
