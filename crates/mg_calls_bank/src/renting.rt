@@ -1,9 +1,10 @@
 // Rent is collected.
-ghost use Rattle.std.specs.Prelude.{◌≡◌, ◌≤◌};
+ghost use Rattle.std.specs.Prelude.{List, ◌≡◌, ◌≤◌, ◌<◌, ◌+◌, ℕ};
 ghost use Rattle.mg_model.specs.BankCalls as calls;
+ghost use Rattle.mg_model.specs.Layout.{body_limit};
 ghost use Rattle.mg_model.specs.Limits.{period_limit};
-ghost use Rattle.mg_volume.specs.Calls.{Answers, CallStages};
-ghost use Rattle.mg_volume.specs.Meaning.{counters_in, staged_of};
+ghost use Rattle.mg_volume.specs.Calls.{Answers, CallStages, Stages};
+ghost use Rattle.mg_volume.specs.Meaning.{counters_in, now_of, staged_of};
 
 use mg_model::Reply;
 use mg_volume::Volume;
@@ -15,10 +16,13 @@ pub fn rent(v: &mut Volume) -> Reply
     requires at_most_143_staged { staged_of v.old ≤ 143 }
     ensures { CallStages (Answers (λ state. calls.rent state)) 17 v.old v.new result }
 {
-    let period = period(v);
+    let next = period(v) + 1;
     let rate = v.rate();
     match v.collect() {
-        Ok(paid) => Reply::Collected(period + 1, rate, paid),
+        Ok(paid) => {
+            begin(v, next);
+            Reply::Collected(next, rate, paid)
+        }
         Err(word) => Reply::No(word),
     }
 }
@@ -31,4 +35,16 @@ fn period(v: &Volume) -> u64
     let globals = v.globals();
     globals.keep_rules();
     globals.period()
+}
+
+// Another period begins, at most `2^24 - 1`.
+fn begin(v: &mut Volume, period: u64)
+    requires period { period ≤ period_limit }
+    requires fewer_than_160_staged { staged_of v.old < body_limit }
+    ensures now { (image : List (List ℕ)) → now_of v.new image ≡ record (now_of v.old image) { counters = record (counters_in v.old) { period = period } } }
+    ensures stages { Stages 1 v.old v.new }
+{
+    let mut globals = v.globals();
+    globals.set_period(period);
+    v.stage_globals(globals);
 }

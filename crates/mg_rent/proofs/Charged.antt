@@ -228,6 +228,20 @@ balance-le accounts number row is =
     let moved = with_account-credits accounts number row (record row { balance = 0 }) (account_of-row accounts number row is) in
     omega arith
 
+-- where all that is due could be added, the account is charged that
+module _ (accounts : List AccRow) (number due some : ℕ) (row : AccRow) where
+  owed-all : account_of accounts number ≡ Some row → (row.owed + due < 2 ^ 64 → some ≡ due) → owed_by accounts number + due < 2 ^ 64 → some ≡ due
+  owed-all is all few =
+      let owed = ap (λ (o : Option AccRow). option_map_or (λ (r : AccRow). r.owed) o 0) is in
+      all (omega arith)
+
+  pub charged-where : (new : AccRow) → account_of accounts number ≡ Some row → new ≡ charged row some → (row.owed + due < 2 ^ 64 → some ≡ due) → owed_by accounts number + due < 2 ^ 64 → with_account accounts number new ≡ charged_at accounts number due
+  charged-where new is new_is all few =
+      ap (with_account accounts number) (new_is ∙ ap (charged row) (owed-all is all few)) ∙ sym (ap (λ (o : Option AccRow). option_map_or (λ (r : AccRow). with_account accounts number (charged r due)) o accounts) is)
+
+  pub paid-where : account_of accounts number ≡ Some row → (row.owed + due < 2 ^ 64 → some ≡ due) → owed_by accounts number + due < 2 ^ 64 → paid row some ≡ paid_at accounts number due
+  paid-where is all few = ap (paid row) (owed-all is all few) ∙ sym (ap (λ (o : Option AccRow). option_map_or (λ (r : AccRow). paid r due) o 0) is)
+
 -- who pays has as much less
 pub charge-moves : (accounts : List AccRow) (number due : ℕ) (row new : AccRow) → account_of accounts number ≡ Some row → new ≡ charged row due → credits_of (with_account accounts number new) + paid row due ≡ credits_of accounts
 charge-moves accounts number due row new is new_is =

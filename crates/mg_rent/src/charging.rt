@@ -1,5 +1,5 @@
 // What one account pays.
-ghost use Rattle.std.specs.Prelude.{◌≡◌, ◌≤◌, ◌<◌, ◌+◌, ◌^◌, is_some, true};
+ghost use Rattle.std.specs.Prelude.{◌≡◌, ◌≤◌, ◌<◌, ◌+◌, ◌^◌, is_some, length, true};
 ghost use Rattle.mg_bank.specs.Bank.{credits_of};
 ghost use Rattle.mg_model.specs.Bank.{account_of, charged, given_to, owed_by, paid};
 ghost use Rattle.mg_model.specs.Limits.{credit_limit};
@@ -29,17 +29,27 @@ fn charged(row: AccRow, due: u64) -> AccRow
     }
 }
 
-/// Charges account n what is due, and gives what it pays. An account that is not there pays nothing.
+// As much of what is due as can be added to what the account owes: all of it, where the sum is a word.
+fn addable(row: AccRow, due: u64) -> u64
+    ensures a_word { row.owed + result < 2 ^ 64 }
+    ensures all { row.owed + due < 2 ^ 64 → result ≡ due }
+{
+    due.min(u64::MAX - row.owed)
+}
+
+/// Charges account n what is due, and gives what it pays. An account that is not there pays nothing. What it owes stays a word
+/// in any case, and where it owes so much that the sum is none, no more is told than that no credit comes or goes.
 pub(crate) fn charge(b: &mut Bank, n: u64, due: u64) -> u64
-    requires { owed_by b.old.accounts n + due < 2 ^ 64 }
-    ensures accounts { b.new.accounts ≡ charged_at b.old.accounts n due }
-    ensures paid { result ≡ paid_at b.old.accounts n due }
+    ensures accounts { owed_by b.old.accounts n + due < 2 ^ 64 → b.new.accounts ≡ charged_at b.old.accounts n due }
+    ensures paid { owed_by b.old.accounts n + due < 2 ^ 64 → result ≡ paid_at b.old.accounts n due }
+    ensures count { length b.new.accounts ≡ length b.old.accounts }
     ensures sum { credits_of b.new.accounts + result ≡ credits_of b.old.accounts }
     ensures pages { b.new.pages ≡ b.old.pages }
 {
     b.keep_rules();
     match b.row(n) {
         Some(row) => {
+            let due = addable(row, due);
             b.set(n, charged(row, due));
             paid(row, due)
         }

@@ -45,16 +45,16 @@ pub fn collect(b: &mut Bank, t: &Tariff, used: u64, period: u64) -> Result<u64, 
 
 /// Charges all accounts at this rate for each page, and gives the sum of what was paid. Each account is charged, from
 /// the first on, for the pages that it pays for: with what it owes already it pays what is due, all that it has at most, and owes
-/// the rest. Then account 1, the treasury, receives the sum. There is a treasury, no account owes more than `2^60`, the rate is at
-/// most `2^20`, and none pays for more than 65,536 pages. No object is looked at: the time is in the number of accounts.
+/// the rest. Then account 1, the treasury, receives the sum. There is a treasury, the rate is at most `2^20`, and none pays for
+/// more than 65,536 pages. That is said where no account owes more than `2^60`, as none does in any period; whatever they owe, no
+/// credit comes or goes. No object is looked at: the time is in the number of accounts.
 pub fn charge_all(b: &mut Bank, rate: u64) -> u64
     requires treasury { 1 ≤ length b.old.accounts }
-    requires owed { OweAtMost (2 ^ 60) b.old.accounts }
     requires rate { rate ≤ step_limit }
     requires pages { (n : ℕ) → pages_at b.old.pages n ≤ 65536 }
-    ensures accounts { (objects : List Object) → ArePagesOf objects b.old.pages → b.new.accounts ≡ given_to (all_charged objects rate 1 b.old.accounts) 1 (all_paid objects rate 1 b.old.accounts) }
-    ensures paid { (objects : List Object) → ArePagesOf objects b.old.pages → result ≡ all_paid objects rate 1 b.old.accounts }
-    ensures debts { (period : ℕ) → OweAtMost (debt_limit period) b.old.accounts → OweAtMost (debt_limit (period + 1)) b.new.accounts }
+    ensures accounts { OweAtMost (2 ^ 60) b.old.accounts → (objects : List Object) → ArePagesOf objects b.old.pages → b.new.accounts ≡ given_to (all_charged objects rate 1 b.old.accounts) 1 (all_paid objects rate 1 b.old.accounts) }
+    ensures paid { OweAtMost (2 ^ 60) b.old.accounts → (objects : List Object) → ArePagesOf objects b.old.pages → result ≡ all_paid objects rate 1 b.old.accounts }
+    ensures debts { OweAtMost (2 ^ 60) b.old.accounts → (period : ℕ) → OweAtMost (debt_limit period) b.old.accounts → OweAtMost (debt_limit (period + 1)) b.new.accounts }
     ensures count { length b.new.accounts ≡ length b.old.accounts }
     ensures sum { credits_of b.new.accounts ≡ credits_of b.old.accounts }
     ensures pages { b.new.pages ≡ b.old.pages }

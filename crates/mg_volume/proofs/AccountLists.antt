@@ -1,16 +1,13 @@
 -- Accounts as a list, and their rows by place.
 use Rattle.std.specs.Prelude.{◌≡◌, ◌≢◌, ◌+◌, ◌-◌, ◌*◌, ◌/◌, ◌≤◌, ◌<◌, ◌==◌, ◌||◌, ◌∷◌, ◌++◌, nat_lt, ℕ, zero, suc, Bool, false, List, [], if◌then◌else◌, length, slice_get, slice_set, Option, Some, None}
 use Rattle.std.specs.Option.{option_map_or}
-use Rattle.std.proofs.Common.{refl, sym, ap, subst, get_or, ◌∙◌, ⊎_elim, arith}
+use Rattle.std.proofs.Common.{refl, sym, ap, ◌∙◌, ⊎_elim, arith}
 use Rattle.std.proofs.lemmas.Bool.{both_ways, cases_lt, eq-eqb, lt-ltb, ne_eqb, or_parts}
-use Rattle.std.proofs.lemmas.List.Elements.{All-get_or, All-push, All-set}
 use Rattle.std.proofs.lemmas.Option.{slice_get_past}
 use Rattle.mg_bank.specs.AccountLemmas.{length-taken}
-use Rattle.mg_model.specs.AccountLemmas.{account_of-row}
 use Rattle.mg_check.specs.RowsRead.{placed_from}
 use Rattle.mg_model.specs.declared.accounts.AccRow.{AccRow}
 use Rattle.mg_model.specs.Bank.{account_of, given_to, taken_from, with_account}
-use Rattle.mg_rent.specs.Charging.{OweAtMost}
 use Rattle.mg_volume.specs.RowLists.{ArePlaced, row_at}
 use Rattle.mg_volume.specs.StagesAccounts.{DifferWithin}
 
@@ -62,34 +59,6 @@ taken_beside rows n amount i other = changed_beside (λ row. record row { balanc
 
 given_beside : (rows : List AccRow) (n amount i : ℕ) → i ≢ n - 1 → slice_get (given_to rows n amount) i ≡ slice_get rows i
 given_beside rows n amount i other = changed_beside (λ row. record row { balance = row.balance + amount }) rows n i other
-
--- what they owe
-changed_owe : (change : AccRow → AccRow) (most : ℕ) (rows : List AccRow) (n : ℕ) → ((row : AccRow) → (change row).owed ≡ row.owed) → OweAtMost most rows → OweAtMost most (changed change rows n)
-changed_owe change most rows n same owe = by_row (account_of rows n) refl
-  where
-    by_row : (o : Option AccRow) → account_of rows n ≡ o → OweAtMost most (option_map_or (λ (row : AccRow). with_account rows n (change row)) o rows)
-    by_row None is = owe
-    by_row (Some row) is =
-        let at = account_of-row rows n row is in
-        let within = at.within in
-        let some = at.some in
-        let e : (get_or rows (n - 1) row).owed ≡ row.owed = ap (λ (r : AccRow). r.owed) (at.there row) in
-        let was = All-get_or (λ (r : AccRow). r.owed ≤ most) rows (n - 1) row (omega arith) owe in
-        let new = same row in
-        All-set (λ (r : AccRow). r.owed ≤ most) rows (n - 1) (change row) (omega arith) owe
-
-taken_owe : (most : ℕ) (rows : List AccRow) (n amount : ℕ) → OweAtMost most rows → OweAtMost most (taken_from rows n amount)
-taken_owe most rows n amount owe = changed_owe (λ row. record row { balance = row.balance - amount }) most rows n (λ row. refl) owe
-
-pub opened_owe : (most : ℕ) (rows rows' : List AccRow) (payer amount : ℕ) (row : AccRow) → rows' ≡ taken_from rows payer amount ++ row ∷ [] → row.owed ≡ 0 → OweAtMost most rows → OweAtMost most rows'
-opened_owe most rows rows' payer amount row is none owe =
-    subst (OweAtMost most) (sym is)
-    (All-push (λ (r : AccRow). r.owed ≤ most) (taken_from rows payer amount) row (taken_owe most rows payer amount owe) (omega arith))
-
-pub paid_owe : (most : ℕ) (rows rows' : List AccRow) (from to amount : ℕ) → rows' ≡ given_to (taken_from rows from amount) to amount → OweAtMost most rows → OweAtMost most rows'
-paid_owe most rows rows' from to amount is owe =
-    subst (OweAtMost most) (sym is)
-    (changed_owe (λ row. record row { balance = row.balance + amount }) most (taken_from rows from amount) to (λ row. refl) (taken_owe most rows from amount owe))
 
 -- another block, another place
 apart : (i p k : ℕ) → k ≡ p / 64 → (i / 64 == k) ≡ false → i ≢ p

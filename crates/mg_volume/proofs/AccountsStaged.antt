@@ -8,7 +8,7 @@ use Rattle.mg_disk.specs.Disk.{Image}
 use Rattle.mg_model.specs.declared.accounts.AccRow.{AccRow}
 use Rattle.mg_model.specs.Abbreviations.{account_row_bytes}
 use Rattle.mg_model.specs.Layout.{first_account_block, first_thread_block, globals_block}
-use Rattle.mg_model.specs.Limits.{debt_limit, account_limit}
+use Rattle.mg_model.specs.Limits.{account_limit}
 use Rattle.mg_model.specs.Replay.{block_of}
 use Rattle.mg_model.specs.Spelling.{Read, account_read, globals_read}
 use Rattle.mg_model.specs.Volume.{live_rows}
@@ -16,7 +16,6 @@ use Rattle.mg_pages.specs.ComingLemmas.{length_coming}
 use Rattle.mg_pages.specs.Held.{PagesHeld}
 use Rattle.mg_pages.specs.SpelledLemmas as laws
 use Rattle.mg_pages.specs.Meaning as pages
-use Rattle.mg_rent.specs.Charging.{OweAtMost}
 use Rattle.mg_rows.specs.Blocks.{account_in}
 use Rattle.mg_volume.proofs.AccountLists.{account_here, accounts_rise}
 use Rattle.mg_volume.proofs.PagesChange.{held_same}
@@ -183,9 +182,9 @@ module _ (v : VolumeHeld) (p : PagesHeld) (most : ℕ) (named : ℕ → Bool) (r
   pub accounts_stages : Stages most v (with_accounts v rows p)
   accounts_stages = stages_is v (with_accounts v rows p) most refl stages.shape stages.words stages.staged (λ image was. accounts_spelled v p most named rows stages image within few was)
 
-  pub accounts_held : IsKept v → 1 ≤ length rows → OweAtMost (debt_limit v.counters.period) rows → IsKept (with_accounts v rows p)
+  pub accounts_held : IsKept v → 1 ≤ length rows → IsKept (with_accounts v rows p)
   unfolding objects_in
-  accounts_held held some debts =
+  accounts_held held some =
       held_same (record v { accounts = rows }) p
       (record {
         frames = held.frames;
@@ -198,7 +197,6 @@ module _ (v : VolumeHeld) (p : PagesHeld) (most : ℕ) (named : ℕ → Bool) (r
         few_accounts = few;
         few_threads = held.few_threads;
         inside = held.inside;
-        debts = debts;
       })
       stages.shape.frames stages.table
 

@@ -1,5 +1,5 @@
 -- The rent is collected.
-use Rattle.std.specs.Prelude.{◌≡◌, ◌≤◌, ◌+◌, ◌==◌, ℕ, Bool, List, [], ◌∷◌, map, sum_by}
+use Rattle.std.specs.Prelude.{◌≡◌, ◌≤◌, ◌+◌, ◌==◌, ℕ, List, [], ◌∷◌, map, sum_by}
 use Rattle.std.proofs.Common.{refl, sym, ap, ◌∙◌, arith}
 use Rattle.std.proofs.lemmas.List.Sums.{sum_by-cons}
 use Rattle.mg_bank.specs.Bank.{pages_at}
@@ -7,16 +7,14 @@ use Rattle.mg_disk.specs.Disk.{Image}
 use Rattle.mg_model.specs.declared.accounts.AccRow.{AccRow}
 use Rattle.mg_model.specs.Bank.{all_charged, all_paid, given_to, rate_now, rate_of, rent_accounts, rent_paid, used}
 use Rattle.mg_model.specs.KeptListLemmas.{sum_by-filter-le}
-use Rattle.mg_model.specs.State.{Counters, Object, ObjectRow, State}
-use Rattle.mg_pages.specs.Held.{PagesHeld}
+use Rattle.mg_model.specs.State.{Object, ObjectRow, State}
 use Rattle.mg_rent.specs.Charging.{ArePagesOf}
 use Rattle.mg_rent.specs.PaidLemmas.{paid-through, row_pages}
 use Rattle.mg_space.specs.Space.{ArePaid, AreRowsOf}
-use Rattle.mg_volume.proofs.AccountsStaged.{accounts_now, with_accounts}
 use Rattle.mg_volume.specs.Held.{VolumeHeld}
-use Rattle.mg_volume.specs.StateLemmas.{now_accounts, now_counters, now_rows, now_settings}
-use Rattle.mg_volume.specs.Meaning.{accounts_in, counters_in, now_of, objects_in, settings_in}
-use Rattle.mg_volume.specs.StagesAccounts.{StagesAccounts, at_rate}
+use Rattle.mg_volume.specs.StateLemmas.{now_accounts, now_rows, now_settings}
+use Rattle.mg_volume.specs.Meaning.{accounts_in, now_of, objects_in, settings_in}
+use Rattle.mg_volume.specs.StagesAccounts.{accounts_at}
 
 -- the pages of objects are those of their rows
 used-rows : (objects : List Object) → used objects ≡ sum_by (λ (row : ObjectRow). row.pages) (map (λ (object : Object). object.row) objects)
@@ -52,35 +50,21 @@ accounts-are : (v : VolumeHeld) (image : Image) → v.accounts ≡ (now_of v ima
 unfolding accounts_in
 accounts-are v image = sym (now_accounts v image)
 
--- the accounts that were charged are those of the state after a collection
-pub charged_now : (v : VolumeHeld) (p : PagesHeld) (most : ℕ) (named : ℕ → Bool) (rows : List AccRow) (rate : ℕ) (image : Image) → StagesAccounts most named rows v.pages p
-    → ((objects : List Object) → AreRowsOf objects v.objects → rows ≡ given_to (all_charged objects rate 1 v.accounts) 1 (all_paid objects rate 1 v.accounts)) → now_of (with_accounts v rows p) image ≡ at_rate rate (now_of v image)
-charged_now v p most named rows rate image stages told =
+-- the accounts that were charged are those of a collection from the state
+pub charged_are : (v : VolumeHeld) (rows : List AccRow) (rate : ℕ) (image : Image)
+    → ((objects : List Object) → AreRowsOf objects v.objects → rows ≡ given_to (all_charged objects rate 1 v.accounts) 1 (all_paid objects rate 1 v.accounts)) → rows ≡ accounts_at rate (now_of v image)
+charged_are v rows rate image told =
     let objects = (now_of v image).objects in
-    accounts_now v p most named rows stages image (at_rate rate (now_of v image)).accounts
-    (told objects (objects_are v image) ∙ ap (λ (l : List AccRow). given_to (all_charged objects rate 1 l) 1 (all_paid objects rate 1 l)) (accounts-are v image))
+    told objects (objects_are v image) ∙ ap (λ (l : List AccRow). given_to (all_charged objects rate 1 l) 1 (all_paid objects rate 1 l)) (accounts-are v image)
 
 pub charged_paid : (v : VolumeHeld) (rate paid : ℕ) (image : Image) → ((objects : List Object) → AreRowsOf objects v.objects → paid ≡ all_paid objects rate 1 v.accounts) → paid ≡ all_paid (now_of v image).objects rate 1 (now_of v image).accounts
 charged_paid v rate paid image told =
     let objects = (now_of v image).objects in
     told objects (objects_are v image) ∙ ap (λ (l : List AccRow). all_paid objects rate 1 l) (accounts-are v image)
 
--- the counters were staged before
-pub collected_now : (before between after : State) (counters : Counters) (rate : ℕ) → between ≡ record before { counters = counters } → rate ≡ rate_now before → after ≡ at_rate rate between
-    → after ≡ record before { counters = counters; accounts = rent_accounts before }
-collected_now before between after counters rate first rate_same second =
-    second ∙ ap (at_rate rate) first ∙ ap (λ r. at_rate r (record before { counters = counters })) rate_same
+-- and at the rate of the state they are its rent
+pub rented : (state : State) (accounts : List AccRow) (rate : ℕ) → rate ≡ rate_now state → accounts ≡ accounts_at rate state → accounts ≡ rent_accounts state
+rented state accounts rate rate_is is = is ∙ ap (λ r. accounts_at r state) rate_is
 
-pub collected_paid : (before between : State) (counters : Counters) (rate paid : ℕ) → between ≡ record before { counters = counters } → rate ≡ rate_now before → paid ≡ all_paid between.objects rate 1 between.accounts → paid ≡ rent_paid before
-collected_paid before between counters rate paid first rate_same second =
-    second ∙ ap (λ (s : State). all_paid s.objects rate 1 s.accounts) first ∙ ap (λ r. all_paid before.objects r 1 before.accounts) rate_same
-
--- where the counters alone were staged, the accounts are those that they were
-pub counters_then : (v w : VolumeHeld) (counters : Counters) → ((image : Image) → now_of w image ≡ record (now_of v image) { counters = counters }) → (counters_in w ≡ counters) × (accounts_in w ≡ accounts_in v)
-counters_then v w counters now = (
-  sym (now_counters w []) ∙ ap (λ (s : State). s.counters) (now []),
-  sym (now_accounts w []) ∙ ap (λ (s : State). s.accounts) (now []) ∙ now_accounts v [],
-)
-
-pub next_counters : (g old new : Counters) (n : ℕ) → new ≡ record g { period = n + 1 } → n ≡ g.period → g ≡ old → new ≡ record old { period = old.period + 1 }
-next_counters g old new n set_is period_is same = set_is ∙ ap (λ k. record g { period = k + 1 }) period_is ∙ ap (λ (c : Counters). record c { period = c.period + 1 }) same
+pub rent_is : (state : State) (paid rate : ℕ) → rate ≡ rate_now state → paid ≡ all_paid state.objects rate 1 state.accounts → paid ≡ rent_paid state
+rent_is state paid rate rate_is is = is ∙ ap (λ r. all_paid state.objects r 1 state.accounts) rate_is

@@ -70,7 +70,6 @@ held_change v i d p row held is few low base same = record {
   few_accounts = held.few_accounts;
   few_threads = held.few_threads;
   inside = all-same (λ page. has_page (record v { objects = set v.objects i (p, row) }) page) (λ page. has_page v page) (λ page. any-set (λ row. is_page_in page row) v.objects i d (p, row) few (covered page)) (bound_pages (pages.table_in v.pages)) ∙ held.inside;
-  debts = held.debts;
 }
   where
     covered : (page : ℕ) → is_page_in page row ≡ is_page_in page (get_or v.objects i d).1

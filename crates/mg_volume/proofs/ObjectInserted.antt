@@ -143,7 +143,6 @@ module _ (v : VolumeHeld) (row : ObjectRow) (place : ℕ) (is : IsObjectRow row)
           (λ page some bound.
           ap (λ l. list_any (λ row. is_page_in page row) (bare_rows l)) put
           ∙ into_any (λ row. is_page_in page row) (place, row) v.objects (each-bound (λ page. has_page v page) page (pages.table_in v.pages) kept.inside some bound));
-      debts = kept.debts;
     }
 
     -- and spelled

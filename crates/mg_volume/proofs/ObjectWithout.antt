@@ -166,7 +166,6 @@ module _ (v : VolumeHeld) (i : ℕ) (gone : ℕ × ObjectRow) (os : List (ℕ ×
         few_accounts = kept.few_accounts;
         few_threads = kept.few_threads;
         inside = all-bound (λ page. has_page (with_objects v (without gone.1.base v.objects) p) page) (pages.table_in p) has;
-        debts = kept.debts;
       })
     where
       has : (page : ℕ) → page ≢ 0 → list_any (λ entry. entry == page) (pages.table_in p) ≡ true → has_page (with_objects v (without gone.1.base v.objects) p) page ≡ true

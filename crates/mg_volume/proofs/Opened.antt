@@ -1,5 +1,5 @@
 -- A volume is opened from the rows that were read of it.
-use Rattle.std.specs.Prelude.{◌≡◌, ◌≤◌, ◌<◌, ◌+◌, ℕ, ◌&&◌, ◌==◌, nat_le, true, All, List, [], ◌∷◌, length, map, sum_by, drop, IsSomeAnd, Option, Some, None}
+use Rattle.std.specs.Prelude.{◌≡◌, ◌≤◌, ◌<◌, ◌+◌, ℕ, ◌&&◌, ◌==◌, nat_le, true, List, [], ◌∷◌, length, map, sum_by, drop, IsSomeAnd, Option, Some, None}
 use Rattle.std.specs.List.{list_all, list_any}
 use Rattle.std.specs.Option.{ForSome, option_map_or}
 use Rattle.std.proofs.Common.{refl, sym, ap, subst, ◌∙◌, arith}
@@ -24,7 +24,6 @@ use Rattle.mg_model.specs.Replay.{block_of, replay}
 use Rattle.mg_model.specs.Spelling.{account_read, globals_read, object_read, thread_read}
 use Rattle.mg_model.specs.State.{Object, ObjectRow, State, ThreadRow}
 use Rattle.mg_model.specs.Tests.{all_distinct}
-use Rattle.mg_model.specs.RowTestLemmas.{list_all-tells}
 use Rattle.mg_model.specs.Volume.{Rows, accounts_fit, bound_pages, has_no_gap, is_page_of, live_rows, objects_fit, replayed_volume, state_fits, threads_fit, volume, whole_table}
 use Rattle.mg_objects.specs.Held as held
 use Rattle.mg_objects.specs.Held.{AreApart, by_base}
@@ -87,16 +86,13 @@ are-fit rows state fit =
     let last = and_parts i d first.1 in
     record { accounts = fourth.1; objects = third.1; threads = second.1; inside = last.0; distinct = last.1 }
 
--- the rules that accounts keep, of each row and of all
-accounts-rules : (credits period : ℕ) (accounts : List AccRow) → accounts_fit credits period accounts ≡ true
-    → (sum_by (λ (row : AccRow). row.balance) accounts ≡ credits) × All (λ (row : AccRow). row.owed ≤ debt_limit period) accounts
-accounts-rules credits period accounts fit =
+-- what the accounts have together
+accounts-sum : (credits period : ℕ) (accounts : List AccRow) → accounts_fit credits period accounts ≡ true → sum_by (λ (row : AccRow). row.balance) accounts ≡ credits
+accounts-sum credits period accounts fit =
     let some = nat_le 1 (length accounts) in
     let sum = sum_by (λ (row : AccRow). row.balance) accounts == credits in
-    let parts = and_parts (some && sum) (list_all (λ (row : AccRow). nat_le row.owed (debt_limit period)) accounts) fit in (
-      eqb-true (sum_by (λ (row : AccRow). row.balance) accounts) credits (and_parts some sum parts.0).1,
-      list_all-tells (λ (row : AccRow). nat_le row.owed (debt_limit period)) (λ (row : AccRow). row.owed ≤ debt_limit period) (λ row is. leb-true row.owed (debt_limit period) is) accounts parts.1,
-    )
+    let parts = and_parts (some && sum) (list_all (λ (row : AccRow). nat_le row.owed (debt_limit period)) accounts) fit in
+    eqb-true (sum_by (λ (row : AccRow). row.balance) accounts) credits (and_parts some sum parts.0).1
 
 -- there is a treasury
 accounts-some : (credits period : ℕ) (accounts : List AccRow) → accounts_fit credits period accounts ≡ true → 1 ≤ length accounts
@@ -150,19 +146,15 @@ module _ (rows : VolumeRows) (kept : AreKept rows) where
       let most = leb-true (sum_by (λ (row : ObjectRow). row.pages) bare) rows.params.frames (and_parts (rows_apart bare && paid) few fit-rows).1 in
       omega arith
 
-  -- what the accounts have together, and that none owes more than it may
-  accounts-are : (sum_by (λ (row : AccRow). row.balance) rows.accounts.items ≡ rows.params.credits) × All (λ (row : AccRow). row.owed ≤ debt_limit rows.globals.period) rows.accounts.items
-  accounts-are =
-      accounts-rules rows.params.credits rows.globals.period rows.accounts.items
-      (ap (accounts_fit rows.params.credits rows.globals.period) (sym (accounts-placed 0 rows.accounts.items)) ∙ (fits []).accounts)
-
   accounts-there : 1 ≤ length rows.accounts.items
   accounts-there =
       accounts-some rows.params.credits rows.globals.period rows.accounts.items
       (ap (accounts_fit rows.params.credits rows.globals.period) (sym (accounts-placed 0 rows.accounts.items)) ∙ (fits []).accounts)
 
   pub credits_is : sum_by (λ (row : AccRow). row.balance) rows.accounts.items ≡ rows.params.credits
-  credits_is = accounts-are.0
+  credits_is =
+      accounts-sum rows.params.credits rows.globals.period rows.accounts.items
+      (ap (accounts_fit rows.params.credits rows.globals.period) (sym (accounts-placed 0 rows.accounts.items)) ∙ (fits []).accounts)
 
   pub apart_is : AreApart (by_base (objects_of rows))
   apart_is = apart_pairs (by_base (objects_of rows)) apart-rows
@@ -208,7 +200,6 @@ module _ (rows : VolumeRows) (kept : AreKept rows) where
       few_accounts = kept.held.few_accounts;
       few_threads = few-threads;
       inside = inside;
-      debts = accounts-are.1;
     }
       where
         few-threads : length (numbered rows.threads.items) ≤ thread_limit

@@ -102,7 +102,6 @@ held_again v p kept frames bound = record {
   few_accounts = kept.few_accounts;
   few_threads = kept.few_threads;
   inside = all-bound (λ page. has_page v page) (pages.table_in p) (λ x other is. ⊎_elim (λ has. has) (each-bound (λ page. has_page v page) x (pages.table_in v.pages) kept.inside other) (bound x other is));
-  debts = kept.debts;
 }
 
 -- where the table stays

@@ -1,11 +1,8 @@
 -- What staging a block leaves as it was.
 use Rattle.std.specs.Prelude.{◌≡◌, ◌⊎◌, ◌+◌, ◌≤◌, ◌<◌, ℕ, true}
-use Rattle.std.proofs.Common.{arith, inr}
-use Rattle.std.proofs.lemmas.List.Elements.{All-weaker}
+use Rattle.std.proofs.Common.{inr}
 use Rattle.mg_disk.specs.Disk.{Image}
-use Rattle.mg_model.specs.Limits.{debt_limit}
 use Rattle.mg_model.specs.State.{Counters}
-use Rattle.mg_model.specs.declared.accounts.AccRow.{AccRow}
 use Rattle.mg_pages.specs.Meaning as pages
 use Rattle.mg_volume.proofs.StillStaged.{still_staged}
 use Rattle.mg_volume.specs.Calls.{Stages}
@@ -39,10 +36,10 @@ pub room_for : (v : VolumeHeld) (block : ℕ) → staged_of v < 160 → (pages.i
 unfolding staged_of
 room_for v block few = inr few
 
--- counters of the same period or a later one are held as well
-pub held_counters : (v : VolumeHeld) (counters : Counters) → v.counters.period ≤ counters.period → IsKept v → IsKept (record v { counters = counters })
+-- other counters are held as well
+pub held_counters : (v : VolumeHeld) (counters : Counters) → IsKept v → IsKept (record v { counters = counters })
 unfolding objects_in
-held_counters v counters later held = record {
+held_counters v counters held = record {
   frames = held.frames;
   rows = held.rows;
   places = held.places;
@@ -53,5 +50,4 @@ held_counters v counters later held = record {
   few_accounts = held.few_accounts;
   few_threads = held.few_threads;
   inside = held.inside;
-  debts = All-weaker (λ (row : AccRow). row.owed ≤ debt_limit v.counters.period) (λ (row : AccRow). row.owed ≤ debt_limit counters.period) (λ row is. omega arith) v.accounts held.debts;
 }

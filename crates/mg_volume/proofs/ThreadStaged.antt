@@ -80,5 +80,4 @@ held_threads v rows held few = record {
   few_accounts = held.few_accounts;
   few_threads = few;
   inside = held.inside;
-  debts = held.debts;
 }

@@ -10,7 +10,7 @@ use Rattle.mg_model.specs.declared.accounts.AccRow.{AccRow}
 use Rattle.mg_model.specs.Access.{covers}
 use Rattle.mg_model.specs.Abbreviations.{account_row_bytes, object_row_bytes, thread_row_bytes}
 use Rattle.mg_model.specs.Layout.{globals_block, super_block}
-use Rattle.mg_model.specs.Limits.{debt_limit, account_limit, thread_limit, object_limit}
+use Rattle.mg_model.specs.Limits.{account_limit, thread_limit, object_limit}
 use Rattle.mg_model.specs.Objects.{page_behind, page_of}
 use Rattle.mg_model.specs.Replay.{block_of}
 use Rattle.mg_model.specs.Settings.{Settings}
@@ -87,7 +87,7 @@ rows_apart (row ∷ []) = true
 rows_apart (row ∷ next ∷ rows) = nat_le (page_behind row) (page_of next) && rows_apart (next ∷ rows)
 
 -- what every value keeps, wherever it stands: rows in their ranges and places, as few as a volume has room for, objects that
--- lie apart, each bound page in an object, a treasury, and no account that owes more than it may by the period
+-- lie apart, each bound page in an object, and a treasury
 pub record IsKept (v : VolumeHeld) : Type 0 where
   pub frames : pages.frame_count v.pages ≡ v.settings.frames
   pub rows : All (λ (o : ℕ × ObjectRow). IsObjectRow o.1) v.objects
@@ -99,7 +99,6 @@ pub record IsKept (v : VolumeHeld) : Type 0 where
   pub few_accounts : length v.accounts ≤ account_limit
   pub few_threads : length v.threads ≤ thread_limit
   pub inside : list_all (λ page. has_page v page) (bound_pages (pages.table_in v.pages)) ≡ true
-  pub debts : All (λ (row : AccRow). row.owed ≤ debt_limit v.counters.period) v.accounts
 
 -- what a volume's value keeps: its parts their rules, and its bank for how many pages each account pays
 pub record IsVolume (v : VolumeHeld) (totals : List ℕ) : Type 0 where

@@ -34,6 +34,6 @@ pub record StagesAccounts (most : ℕ) (named : ℕ → Bool) (rows : List AccRo
 pub record DifferWithin (named : ℕ → Bool) (old new : List AccRow) : Type 0 where
   pub each : (i : ℕ) → i < account_limit → named (i / 64) ≡ false → slice_get new i ≡ slice_get old i
 
--- the state after a collection at this rate
-abbrev pub at_rate : ℕ → State → State
-at_rate rate state = record state { accounts = given_to (all_charged state.objects rate 1 state.accounts) 1 (all_paid state.objects rate 1 state.accounts) }
+-- the accounts after a collection at this rate
+abbrev pub accounts_at : ℕ → State → List AccRow
+accounts_at rate state = given_to (all_charged state.objects rate 1 state.accounts) 1 (all_paid state.objects rate 1 state.accounts)

@@ -1,13 +1,14 @@
 // What a volume stages of its accounts.
-ghost use Rattle.std.specs.Prelude.{List, ◌≡◌, ◌≤◌, ◌<◌, ◌+◌, ◌-◌, ◌*◌, ◌/◌, ◌++◌, ◌∷◌, ◌==◌, [], ℕ, IfOk, MatchResult, None, OnErr, OnOk, Some, false, is_some, length, true};
+ghost use Rattle.std.specs.Prelude.{List, ◌≡◌, ◌≤◌, ◌<◌, ◌+◌, ◌-◌, ◌*◌, ◌/◌, ◌++◌, ◌∷◌, ◌^◌, ◌==◌, [], ℕ, IfOk, MatchResult, None, OnErr, OnOk, Some, false, is_some, length, true};
+ghost use Rattle.mg_bank.specs.Bank.{credits_of};
 ghost use Rattle.mg_bank.specs.Refusals.{opening_refusal, paying_refusal};
 ghost use Rattle.mg_model.specs.Bank.{account_of, all_paid, balance_of, given_to, rate_now, rent_accounts, rent_paid, taken_from};
 ghost use Rattle.mg_model.specs.declared.replies.Refusal.TheVariants.{Calendar};
-ghost use Rattle.mg_model.specs.Limits.{debt_limit, period_limit, step_limit};
+ghost use Rattle.mg_model.specs.Limits.{period_limit, step_limit};
 ghost use Rattle.mg_rent.specs.Charging.{OweAtMost};
 ghost use Rattle.mg_volume.specs.Calls.{Stages};
 ghost use Rattle.mg_volume.specs.Meaning.{accounts_in, counters_in, now_of, objects_in, staged_of};
-ghost use Rattle.mg_volume.specs.StagesAccounts.{at_rate};
+ghost use Rattle.mg_volume.specs.StagesAccounts.{accounts_at};
 ghost use Rattle.mg_volume.specs.Staging.{ObjectsStillStaged};
 
 use crate::account_block::{stage_both, stage_first};
@@ -129,68 +130,43 @@ impl Volume {
         rate(&self.params().tariff(), self.used())
     }
 
-    /// Begins the next period and stages its rent: each account pays for its pages what it can, with what it owes already, and
-    /// owes the rest; account 1 receives the sum, which is the answer. In the last period, `2^24 - 1`, it is refused (Calendar), and
-    /// nothing changes. At most 143 blocks are staged, and 17 more at most then.
+    /// Stages the rent of a period: each account pays for its pages what it can, with what it owes already, and owes the rest;
+    /// account 1 receives the sum, which is the answer. The period stays: who collects begins the next one with
+    /// [`Volume::stage_globals`]. In the last period, `2^24 - 1`, it is refused (Calendar), and nothing changes. At most 144 blocks
+    /// are staged, and 16 more at most then.
+    ///
+    /// What each pays is said where no account owes more than `2^60`, as none does in a state that is well formed. Whatever they
+    /// owe, nothing but the accounts changes, and no credit comes or goes.
     pub fn collect(&mut self) -> Result<u64, Refusal>
-        requires at_most_143_staged { staged_of self.old ≤ 143 }
+        requires at_most_144_staged { staged_of self.old ≤ 144 }
         ensures refusal { MatchResult result (λ _. ((counters_in self.old).period == period_limit) ≡ false) (λ word. (word ≡ Calendar) × (((counters_in self.old).period == period_limit) ≡ true)) }
-        ensures now { OnOk result ((image : List (List ℕ)) → now_of self.new image ≡ record (now_of self.old image) { counters = record (counters_in self.old) { period = (counters_in self.old).period + 1 }; accounts = rent_accounts (now_of self.old image) }) }
-        ensures paid { IfOk result (λ paid. (image : List (List ℕ)) → paid ≡ rent_paid (now_of self.old image)) }
+        ensures now { OnOk result ((image : List (List ℕ)) → now_of self.new image ≡ record (now_of self.old image) { accounts = accounts_in self.new }) }
+        ensures accounts { OnOk result (OweAtMost (2 ^ 60) (accounts_in self.old) → (image : List (List ℕ)) → accounts_in self.new ≡ rent_accounts (now_of self.old image)) }
+        ensures paid { IfOk result (λ paid. OweAtMost (2 ^ 60) (accounts_in self.old) → (image : List (List ℕ)) → paid ≡ rent_paid (now_of self.old image)) }
+        ensures sum { credits_of (accounts_in self.new) ≡ credits_of (accounts_in self.old) }
         ensures rows { OnOk result (objects_in self.new ≡ objects_in self.old) }
-        ensures stages { OnOk result (Stages 17 self.old self.new) }
+        ensures stages { OnOk result (Stages 16 self.old self.new) }
         ensures objects { OnOk result (ObjectsStillStaged self.old self.new) }
         ensures stays { OnErr result (self.new ≡ self.old) }
     {
-        let globals = self.globals();
-        // It tells that the period is not above the last.
-        globals.keep_rules();
-        may_collect(globals.period())?;
-        Ok(self.begin_period())
-    }
-
-    // Begins the next period and stages its rent: each account pays for its pages what it can, with what it owes already, and
-    // owes the rest; account 1 receives the sum, which is the answer. The period is below `2^24 - 1`. At most 143 blocks are
-    // staged, and 17 more at most then.
-    fn begin_period(&mut self) -> u64
-        requires before { (counters_in self.old).period < period_limit }
-        requires at_most_143_staged { staged_of self.old ≤ 143 }
-        ensures now { (image : List (List ℕ)) → now_of self.new image ≡ record (now_of self.old image) { counters = record (counters_in self.old) { period = (counters_in self.old).period + 1 }; accounts = rent_accounts (now_of self.old image) } }
-        ensures paid { (image : List (List ℕ)) → result ≡ rent_paid (now_of self.old image) }
-        ensures rows { objects_in self.new ≡ objects_in self.old }
-        ensures stages { Stages 17 self.old self.new }
-        ensures objects { ObjectsStillStaged self.old self.new }
-    {
-        self.debts_are_kept();
+        may_collect(self.globals().period())?;
         let rate = self.rate();
-        let mut globals = self.globals();
-        globals.set_period(globals.period() + 1);
-        self.stage_globals(globals);
-        self.charge(rate)
+        Ok(self.charge(rate))
     }
 
-    // No account owes more than it may by the period.
-    fn debts_are_kept(&self)
-        ensures { OweAtMost (debt_limit (counters_in self.now).period) (accounts_in self.now) }
-    {
-        let _count = self.bank.len();
-    }
-
-    // Stages the accounts after a collection at this rate, for a period that has begun, and gives the sum that was paid. None owes
-    // more than it might by the period before.
+    // Stages the accounts after a collection at this rate, and gives the sum that was paid.
     fn charge(&mut self, rate: u64) -> u64
-        requires begun { 1 ≤ (counters_in self.old).period }
-        requires debts { OweAtMost (debt_limit ((counters_in self.old).period - 1)) (accounts_in self.old) }
         requires rate { rate ≤ step_limit }
         requires at_most_144_staged { staged_of self.old ≤ 144 }
-        ensures now { (image : List (List ℕ)) → now_of self.new image ≡ at_rate rate (now_of self.old image) }
-        ensures paid { (image : List (List ℕ)) → result ≡ all_paid (now_of self.old image).objects rate 1 (now_of self.old image).accounts }
+        ensures now { (image : List (List ℕ)) → now_of self.new image ≡ record (now_of self.old image) { accounts = accounts_in self.new } }
+        ensures accounts { OweAtMost (2 ^ 60) (accounts_in self.old) → (image : List (List ℕ)) → accounts_in self.new ≡ accounts_at rate (now_of self.old image) }
+        ensures paid { OweAtMost (2 ^ 60) (accounts_in self.old) → (image : List (List ℕ)) → result ≡ all_paid (now_of self.old image).objects rate 1 (now_of self.old image).accounts }
+        ensures sum { credits_of (accounts_in self.new) ≡ credits_of (accounts_in self.old) }
         ensures rows { objects_in self.new ≡ objects_in self.old }
         ensures stages { Stages 16 self.old self.new }
         ensures objects { ObjectsStillStaged self.old self.new }
     {
-        // They tell that the period and the frames are in their ranges.
-        self.globals.keep_rules();
+        // It tells that the frames are in their range.
         self.params.keep_rules();
         let count = self.bank.len();
         let paid = charge_all(&mut self.bank, rate);

@@ -19,10 +19,9 @@ use mg_passwords::Draws;
 use mg_rows::{thread_block, write_globals};
 
 impl Volume {
-    /// Stages the counters, in place of those that the state has, of the same period or a later one. Their block is staged
-    /// already, or fewer than 160 blocks are; one more is at most.
+    /// Stages the counters, in place of those that the state has. Their block is staged already, or fewer than 160 blocks are; one
+    /// more is at most.
     pub fn stage_globals(&mut self, g: Globals)
-        requires period { (counters_in self.old).period ≤ g.period }
         requires staged_or_fewer_than_160 { (are_counters_staged self.old ≡ true) ⊎ (staged_of self.old < body_limit) }
         ensures now { (image : List (List ℕ)) → now_of self.new image ≡ record (now_of self.old image) { counters = g } }
         ensures rows { objects_in self.new ≡ objects_in self.old }

@@ -97,9 +97,9 @@ fn extended() -> ObjRow
     row
 }
 
-// Other counters, of no earlier period, where there is room for them.
+// Other counters, where there is room for them.
 fn put(volume: &mut Volume, counters: Globals) -> Option<()> {
-    if volume.staged() >= 160 || volume.globals().period() > counters.period() {
+    if volume.staged() >= 160 {
         return None;
     }
     volume.stage_globals(counters);

@@ -3,7 +3,7 @@ use Rattle.std.specs.Prelude.{List}
 use Rattle.mg_bank.specs.Bank.{pages_at}
 use Rattle.mg_model.specs.Limits.{account_limit}
 use Rattle.mg_model.specs.declared.accounts.AccRow.{AccRow}
-use Rattle.mg_volume.proofs.AccountLists.{are_both, opened_owe, opened_within}
+use Rattle.mg_volume.proofs.AccountLists.{are_both, opened_within}
 use Rattle.mg_volume.proofs.AccountsStaged.{accounts_held, accounts_now, accounts_objects, accounts_stages, with_accounts}
 use Rattle.mg_volume.proofs.StillStaged.{objects_wait}
 use Rattle.mg_volume.specs.Meaning.{accounts_in, staged_of}
@@ -57,10 +57,8 @@ pub invariant_of-self : goal.invariant_of-self
 invariant_of-self c = record {
   kept =
       let v = the_view c.self.inside in
-      let row : AccRow = record { password = c.args.password; balance = c.args.amount; owed = 0 } in
       let count = c.add_account.ensures.count in
-      accounts_held v c.stage_both.new.pages 2 (are_both c.block_of-first.result (c.len-count.result / 64)) c.add_account.new.self.accounts (stages c) (within c) (few c) c.self.invariant.kept (omega arith)
-      (opened_owe _ v.accounts c.add_account.new.self.accounts c.args.payer c.args.amount row c.add_account.ensures.accounts refl c.self.invariant.kept.debts);
+      accounts_held v c.stage_both.new.pages 2 (are_both c.block_of-first.result (c.len-count.result / 64)) c.add_account.new.self.accounts (stages c) (within c) (few c) c.self.invariant.kept (omega arith);
   paid = λ n. ap (λ pages. pages_at pages n) c.add_account.ensures.pages ∙ c.self.invariant.paid n;
 }
 

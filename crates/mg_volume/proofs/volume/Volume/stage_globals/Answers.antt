@@ -1,10 +1,9 @@
-use Rattle.std.proofs.Common.{◌≤◌, ℕ, refl}
+use Rattle.std.proofs.Common.{refl}
 use Rattle.mg_volume.proofs.PagesChange.{held_same, same_objects}
 use Rattle.mg_volume.proofs.Stages.{held_counters, stages_is}
 use Rattle.mg_volume.proofs.StillStaged.{objects_wait}
 use Rattle.mg_volume.proofs.StillWaiting.{counters_here, counters_room}
-use Rattle.mg_volume.specs.Held.{VolumeHeld}
-use Rattle.mg_volume.specs.Meaning.{counters_in, objects_in}
+use Rattle.mg_volume.specs.Meaning.{objects_in}
 use Rattle.mg_volume.proofs.Staged.{counters_now, counters_staged, with_counters}
 use Rattle.mg_volume.specs.contracts.volume.Volume.{the_view}
 use Rattle.mg_volume.proofs.volume.Volume.stage_globals.Goals as goal
@@ -12,15 +11,11 @@ use Rattle.mg_volume.proofs.volume.Volume.stage_globals.Goals as goal
 pub stage-requires-clause-staged_or_fewer_than_160 : goal.stage-requires-clause-staged_or_fewer_than_160
 stage-requires-clause-staged_or_fewer_than_160 c = counters_room (the_view c.self.inside) (rw (← c.self.view_is) at c.requires.staged_or_fewer_than_160)
 
-later : (v : VolumeHeld) (n : ℕ) → (counters_in v).period ≤ n → v.counters.period ≤ n
-unfolding counters_in
-later v n is = is
-
 pub invariant_of-self : goal.invariant_of-self
 invariant_of-self c = record {
   kept =
       let v = the_view c.self.inside in
-      held_same (record v { counters = c.args.g }) c.stage.new.self (held_counters v c.args.g (later v c.args.g.period (rw (← c.self.view_is) at c.requires.period)) c.self.invariant.kept) c.stage.ensures.shape.frames c.stage.ensures.table;
+      held_same (record v { counters = c.args.g }) c.stage.new.self (held_counters v c.args.g c.self.invariant.kept) c.stage.ensures.shape.frames c.stage.ensures.table;
   paid = c.self.invariant.paid;
 }
 

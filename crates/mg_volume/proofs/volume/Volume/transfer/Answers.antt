@@ -3,7 +3,7 @@ use Rattle.std.specs.Prelude.{List}
 use Rattle.mg_bank.specs.Bank.{pages_at}
 use Rattle.mg_model.specs.Limits.{account_limit}
 use Rattle.mg_model.specs.declared.accounts.AccRow.{AccRow}
-use Rattle.mg_volume.proofs.AccountLists.{are_both, paid_owe, paid_within}
+use Rattle.mg_volume.proofs.AccountLists.{are_both, paid_within}
 use Rattle.mg_volume.proofs.AccountsStaged.{accounts_held, accounts_now, accounts_objects, accounts_stages, with_accounts}
 use Rattle.mg_volume.proofs.StillStaged.{objects_wait}
 use Rattle.mg_volume.specs.Meaning.{accounts_in, staged_of}
@@ -55,8 +55,7 @@ invariant_of-self c = record {
       let v = the_view c.self.inside in
       let some = c.self.invariant.kept.some_accounts in
       let count = c.transfer.ensures.count in
-      accounts_held v c.stage_both.new.pages 2 (are_both c.block_of-first.result c.block_of-second.result) c.transfer.new.self.accounts (stages c) (within c) (few c) c.self.invariant.kept (omega arith)
-      (paid_owe _ v.accounts c.transfer.new.self.accounts c.args.from c.args.to c.args.amount c.transfer.ensures.accounts c.self.invariant.kept.debts);
+      accounts_held v c.stage_both.new.pages 2 (are_both c.block_of-first.result c.block_of-second.result) c.transfer.new.self.accounts (stages c) (within c) (few c) c.self.invariant.kept (omega arith);
   paid = λ n. ap (λ pages. pages_at pages n) c.transfer.ensures.pages ∙ c.self.invariant.paid n;
 }
 
