@@ -45,7 +45,7 @@ pub fn pay(v: &mut Volume, account: u64, password: u64, to: u64, amount: u64) ->
 pub fn balance(v: &mut Volume, account: u64, password: u64) -> Reply
     ensures { CallStages (Answers (λ state. calls.balance state account password)) 0 v.old v.new result }
 {
-    if v.opens(account, password) {
+    if v.bank().opens(account, password) {
         funds(v, account)
     } else {
         Reply::No(Refusal::Account)
@@ -56,9 +56,10 @@ pub fn balance(v: &mut Volume, account: u64, password: u64) -> Reply
 fn funds(v: &Volume, account: u64) -> Reply
     ensures { result ≡ Reply.Funds (balance_of (accounts_in v.now) account) (owed_by (accounts_in v.now) account) (sum_by (λ row. row.pages) (filter (λ row. row.account == account) (objects_in v.now))) }
 {
+    let bank = v.bank();
     Reply::Funds(
-        v.balance_of(account),
-        v.owed_by(account),
+        bank.balance_of(account),
+        bank.owed_by(account),
         v.paid_by(account),
     )
 }

@@ -116,10 +116,11 @@ fn paying_refusal(v: &Volume, account: u64, password: u64) -> Option<Refusal>
     ensures word { result ≡ paying_refusal v.now account password }
     ensures payer { MatchOption result ((1 ≤ account) × (account ≤ 1024)) (λ _. Unit {0}) }
 {
-    if !v.opens(account, password) {
+    let bank = v.bank();
+    if !bank.opens(account, password) {
         return Some(Refusal::Account);
     }
-    if v.owed_by(account) > 0 {
+    if bank.owed_by(account) > 0 {
         return Some(Refusal::Debt);
     }
     None

@@ -41,10 +41,11 @@ fn refusal(v: &Volume, n: u64, account: u64, password: u64) -> Option<Refusal>
     if n == 0 || n > OBJECT_PAGE_LIMIT {
         return Some(Refusal::Size);
     }
-    if !v.opens(account, password) {
+    let bank = v.bank();
+    if !bank.opens(account, password) {
         return Some(Refusal::Account);
     }
-    if v.owed_by(account) > 0 {
+    if bank.owed_by(account) > 0 {
         return Some(Refusal::Debt);
     }
     if is_spent(v) {

@@ -6,7 +6,7 @@ ghost use Rattle.mg_bank.specs.Bank.{pages_at};
 ghost use Rattle.mg_disk.specs.Stops.{DiskCallsBy, Leaves, NothingPending, WritesNothing};
 ghost use Rattle.mg_model.specs.Abbreviations.{free_number};
 ghost use Rattle.mg_model.specs.Access.{covers};
-ghost use Rattle.mg_model.specs.Bank.{account_of, balance_of, opens, owed_by};
+ghost use Rattle.mg_model.specs.Bank.{account_of};
 ghost use Rattle.mg_model.specs.Limits.{page_size};
 ghost use Rattle.mg_model.specs.Objects.{lowest_free, page_behind, page_of};
 ghost use Rattle.mg_model.specs.Ranges.{IsPlace};
@@ -186,32 +186,6 @@ impl Volume {
         ensures within_1_and_1024 { IfSome result (λ _. (1 ≤ n) × (n ≤ 1024)) }
     {
         self.bank.row(n)
-    }
-
-    /// Whether this password opens account n. It opens none that is not there.
-    #[tactic(auto, unfolding(crate::specs::Meaning::accounts_in))]
-    pub fn opens(&self, n: u64, password: u64) -> bool
-        ensures opens { result ≡ opens (accounts_in self.now) n password }
-        ensures n_at_least_1 { result ≡ true → 1 ≤ n }
-        ensures n_at_most_1024 { result ≡ true → n ≤ 1024 }
-    {
-        self.bank.opens(n, password)
-    }
-
-    /// The credits of account n, 0 where it is not there.
-    #[tactic(auto, unfolding(crate::specs::Meaning::accounts_in))]
-    pub fn balance_of(&self, n: u64) -> u64
-        ensures { result ≡ balance_of (accounts_in self.now) n }
-    {
-        self.bank.balance_of(n)
-    }
-
-    /// What account n owes in rent, 0 where it is not there.
-    #[tactic(auto, unfolding(crate::specs::Meaning::accounts_in))]
-    pub fn owed_by(&self, n: u64) -> u64
-        ensures { result ≡ owed_by (accounts_in self.now) n }
-    {
-        self.bank.owed_by(n)
     }
 
     /// The thread with this number, 1 to 256.

@@ -1,5 +1,8 @@
-use Rattle.std.proofs.Common.{sym, ◌∙◌, rules}
+use Rattle.std.specs.Prelude.{List}
+use Rattle.std.proofs.Common.{ap, sym, ◌∙◌, rules}
 use Rattle.mg_calls_bank.proofs.AccountRows.{balance-closed, balance-told}
+use Rattle.mg_model.specs.declared.accounts.AccRow.{AccRow}
+use Rattle.mg_model.specs.Bank.{opens}
 use Rattle.mg_volume.specs.StateLemmas.{now_accounts, now_rows}
 use Rattle.mg_volume.specs.Meaning.{accounts_in, now_of, objects_in}
 use Rattle.mg_volume.specs.RunLemmas.{call_refused}
@@ -9,7 +12,7 @@ pub returns-then-opens : goal.returns-then-opens
 returns-then-opens c = record {
   answers = λ image spelled formed.
       let v = c.args.v.now in
-      balance-told (now_of v image) (accounts_in v) (objects_in v) c.args.account c.args.password c.funds.result (now_accounts v image) (now_rows v image) (sym c.opens.ensures.opens ∙ c.if-opens.true) c.funds.ensures;
+      balance-told (now_of v image) (accounts_in v) (objects_in v) c.args.account c.args.password c.funds.result (now_accounts v image) (now_rows v image) (ap (λ (l : List AccRow). opens l c.args.account c.args.password) (sym c.bank.ensures.accounts) ∙ sym c.opens.ensures.opens ∙ c.if-opens.true) c.funds.ensures;
   stages = search rules;
   refused = search rules;
   slots = search rules;
@@ -19,4 +22,4 @@ pub returns-else-opens : goal.returns-else-opens
 returns-else-opens c =
     call_refused _ _ _ _ (λ image spelled formed.
     let v = c.args.v.now in
-    balance-closed (now_of v image) (accounts_in v) c.args.account c.args.password (now_accounts v image) (sym c.opens.ensures.opens ∙ c.if-opens.false))
+    balance-closed (now_of v image) (accounts_in v) c.args.account c.args.password (now_accounts v image) (ap (λ (l : List AccRow). opens l c.args.account c.args.password) (sym c.bank.ensures.accounts) ∙ sym c.opens.ensures.opens ∙ c.if-opens.false))
