@@ -1,5 +1,5 @@
 // The pages of a volume, and what is staged.
-ghost use Rattle.std.specs.Prelude.{[], List, ◌≡◌, ◌≢◌, ◌⊎◌, ◌≤◌, ◌<◌, ◌+◌, ◌-◌, ◌%◌, ◌^◌, ℕ, true, false, IfOk, IsOk, IsSomeAnd, OnErr, OnOk, length, slice_index, slice_set};
+ghost use Rattle.std.specs.Prelude.{[], List, ◌≡◌, ◌≢◌, ◌⊎◌, ◌≤◌, ◌<◌, ◌+◌, ◌-◌, ◌%◌, ◌^◌, ℕ, true, false, IfOk, IsOk, Ok, IsSomeAnd, OnErr, OnOk, length, slice_index, slice_set};
 ghost use Rattle.std.specs.Option.{ForSome};
 ghost use Rattle.mg_disk.specs.Stops.{DiskCalls, Leaves, WritesNothing};
 ghost use Rattle.mg_journal.specs.Contents.{SameContents};
@@ -149,9 +149,36 @@ impl Pages {
         release_pages(&mut self.blocks, &mut self.frames, first, pages);
     }
 
-    /// The word at an index of a page, below 512: the staged one, else that of the volume, else 0. [`Failed`] comes only
-    /// where a call of the disk failed, and changes nothing. Ok counts one word, here and in `steps`.
+    /// The word at an index of a page, below 512: the staged one, else that of the volume, else 0. Page 0 is no page: its words are
+    /// 0, and neither the disk nor the table is asked for them. [`Failed`] comes only where a call of the disk failed, and changes
+    /// nothing. Ok counts one word, here and in `steps`.
     pub fn word<D: Disk, L: Ledger>(
+        &mut self,
+        disk: &mut D,
+        page: u64,
+        index: u64,
+        steps: &mut Steps<L>,
+    ) -> Result<u64, Failed>
+        requires stands { page ≢ 0 → StandsOn D.Disk self.old disk.old }
+        requires index { index < 512 }
+        ensures word { page ≢ 0 → IfOk result (λ word. ForSome (D.seen disk.old) (λ image. word ≡ slice_index (page_now self.old image page) index)) }
+        ensures no_page { page ≡ 0 → result ≡ Ok 0 }
+        ensures keeps { Keeps self.old self.new }
+        ensures stands { StandsOn D.Disk self.old disk.old → StandsOn D.Disk self.new disk.new }
+        ensures writes { WritesNothing D.Disk disk.old disk.new }
+        ensures counts { OnOk result (CountsOne self.old self.new steps.old steps.new) }
+        ensures counts_failed { OnErr result (CountsNone self.old self.new steps.old steps.new) }
+        ensures calls { DiskCalls D.Disk disk.old disk.new result }
+    {
+        if page == 0 {
+            count_word(&mut self.count, steps);
+            return Ok(0);
+        }
+        self.page_word(disk, page, index, steps)
+    }
+
+    /// The same of a page, which is not 0, as each that lies in an object: it is not tested here.
+    pub fn page_word<D: Disk, L: Ledger>(
         &mut self,
         disk: &mut D,
         page: u64,

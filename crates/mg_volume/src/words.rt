@@ -34,7 +34,7 @@ impl Volume {
         ensures none { OnErr result (steps.new ≡ steps.old) }
         ensures cause { OnErr result (CountRose D.Disk disk.old disk.new) }
     {
-        self.pages.word(disk, page, index, steps)
+        self.pages.page_word(disk, page, index, steps)
     }
 
     /// Puts a word at an index, below 512, of a page of an object. [`Failed`] comes only where a call of the disk failed,

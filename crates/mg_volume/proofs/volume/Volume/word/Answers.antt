@@ -13,16 +13,16 @@ use Rattle.mg_volume.specs.RunLemmas.{reads_of}
 use Rattle.mg_volume.specs.contracts.volume.Volume.{the_view}
 use Rattle.mg_volume.proofs.volume.Volume.word.Goals as goal
 
-pub word-requires-clause-stands : goal.word-requires-clause-stands
-word-requires-clause-stands g c = pages_stand g.D.Disk (the_view c.self.inside) c.args.disk.now (rw (← c.self.view_is) at c.requires.stands)
+pub page_word-requires-clause-stands : goal.page_word-requires-clause-stands
+page_word-requires-clause-stands g c = pages_stand g.D.Disk (the_view c.self.inside) c.args.disk.now (rw (← c.self.view_is) at c.requires.stands)
 
-pub word-requires-clause-page : goal.word-requires-clause-page
-word-requires-clause-page g c = some_page (the_view c.self.inside) c.args.page c.self.invariant.kept (rw (← c.self.view_is) at c.requires.page)
+pub page_word-requires-clause-page : goal.page_word-requires-clause-page
+page_word-requires-clause-page g c = some_page (the_view c.self.inside) c.args.page c.self.invariant.kept (rw (← c.self.view_is) at c.requires.page)
 
 pub invariant_of-self : goal.invariant_of-self
 invariant_of-self g c = record {
   kept =
-      held_same (the_view c.self.inside) c.word.new.self c.self.invariant.kept c.word.ensures.keeps.shape.frames c.word.ensures.keeps.table;
+      held_same (the_view c.self.inside) c.page_word.new.self c.self.invariant.kept c.page_word.ensures.keeps.shape.frames c.page_word.ensures.keeps.table;
   paid = c.self.invariant.paid;
 }
 
@@ -30,24 +30,24 @@ pub returns-clause-word : goal.returns-clause-word
 returns-clause-word g c =
     let v = the_view c.self.inside in
     rw (← c.self.view_is)
-    (IfOk-weaker c.word.result
+    (IfOk-weaker c.page_word.result
     (λ word. ForSome (g.D.Disk.seen c.args.disk.now) (λ image. word ≡ slice_index (pages.page_now c.self.inside.pages image c.args.page) c.args.index))
     (λ word. ForSome (g.D.Disk.seen c.args.disk.now) (λ image. word ≡ word_at (now_of v image).objects (4096 * c.args.page + 8 * c.args.index)))
     (λ word is image told. is image told ∙ word_now v image c.args.page c.args.index c.self.invariant.kept (rw (← c.self.view_is) at c.requires.page) c.requires.index)
-    c.word.ensures.word)
+    c.page_word.ensures.word)
 
 pub returns-clause-reads : goal.returns-clause-reads
 unfolding words_in
 returns-clause-reads g c =
     let v = the_view c.self.inside in
-    let said = c.word.ensures in
+    let said = c.page_word.ensures in
     rw (← c.self.view_is)
-    (reads_of g.D.Disk v (with_pages v c.word.new.self) c.args.disk.now c.word.new.disk c.args.steps.now c.word.new.steps (keeps_now v c.word.new.self said.keeps) (same_objects v c.word.new.self)
-    (still_staged v (with_pages v c.word.new.self) (λ block waits. said.keeps.each block ∙ waits))
-    (stands_same g.D.Disk v c.args.disk.now (rw (← c.self.view_is) at c.requires.stands) c.word.new.self c.word.new.disk said.stands said.writes.same said.keeps.shape.frames (λ image told k low. ap (λ i. block_at i k) (said.keeps.coming image)))
-    said.writes (counted c.word.result c.self.inside.pages c.word.new.self c.args.steps.now c.word.new.steps said.counts said.counts_failed) said.calls.count said.calls.blocks)
+    (reads_of g.D.Disk v (with_pages v c.page_word.new.self) c.args.disk.now c.page_word.new.disk c.args.steps.now c.page_word.new.steps (keeps_now v c.page_word.new.self said.keeps) (same_objects v c.page_word.new.self)
+    (still_staged v (with_pages v c.page_word.new.self) (λ block waits. said.keeps.each block ∙ waits))
+    (stands_same g.D.Disk v c.args.disk.now (rw (← c.self.view_is) at c.requires.stands) c.page_word.new.self c.page_word.new.disk said.stands said.writes.same said.keeps.shape.frames (λ image told k low. ap (λ i. block_at i k) (said.keeps.coming image)))
+    said.writes (counted c.page_word.result c.self.inside.pages c.page_word.new.self c.args.steps.now c.page_word.new.steps said.counts said.counts_failed) said.calls.count said.calls.blocks)
 
 pub returns-clause-objects : goal.returns-clause-objects
 returns-clause-objects g c =
     let v = the_view c.self.inside in
-    rw (← c.self.view_is) (objects_wait v (with_pages v c.word.new.self) refl (λ block waits. c.word.ensures.keeps.each block ∙ waits))
+    rw (← c.self.view_is) (objects_wait v (with_pages v c.page_word.new.self) refl (λ block waits. c.page_word.ensures.keeps.each block ∙ waits))
