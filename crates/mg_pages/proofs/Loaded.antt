@@ -1,23 +1,25 @@
 -- Entries of a frame table that are bound one after another.
-use Rattle.std.specs.Prelude.{◌≡◌, ◌≢◌, ◌+◌, ◌*◌, ◌≤◌, ◌<◌, ◌==◌, nat_le, ℕ, zero, suc, Bool, true, false, List, [], ◌∷◌, if◌then◌else◌, length, not, position, slice_set, Option, None, Some}
+use Rattle.std.specs.Prelude.{◌≡◌, ◌≢◌, ◌⊎◌, ◌+◌, ◌*◌, ◌≤◌, ◌<◌, ◌==◌, ◌||◌, nat_le, ℕ, zero, suc, Bool, true, false, List, [], ◌∷◌, if◌then◌else◌, length, not, position, slice_set, take, Option, None, Some}
 use Rattle.std.specs.List.{list_any}
 use Rattle.std.specs.Option.{ForSome, option_map_or}
-use Rattle.std.proofs.Common.{refl, sym, ap, subst, ◌∙◌, ⊎_elim, arith, get_or}
-use Rattle.std.proofs.lemmas.Bool.{and_parts, both_ways, cases_eq, cases_lt, eq-eqb, eqb-false, eqb-true, leb-false, leb-true, ne_eqb, not-true, or_left, or_right}
+use Rattle.std.proofs.Common.{refl, sym, ap, subst, ◌∙◌, ⊎_elim, inl, inr, arith, get_or}
+use Rattle.std.proofs.lemmas.Bool.{and_parts, both_ways, cases_Bool, cases_eq, cases_lt, eq-eqb, eqb-false, eqb-true, leb-false, leb-true, ne_eqb, not-true, or_left, or_right}
 use Rattle.std.proofs.lemmas.List.{ext_get_or, get_or-set_other, get_or-set_same, get_or-take, length-set, length-take-le}
+use Rattle.std.proofs.lemmas.List.Folds.{list_any_at, list_any_more}
 use Rattle.mg_disk.specs.Disk.{Image, block_at}
 use Rattle.mg_disk.specs.Stops.{CountGoes, WritesNothing}
 use Rattle.mg_disk.specs.declared.disk.Disk.{Ghosts}
+use Rattle.mg_frames.specs.Places.{nowhere_any}
 use Rattle.mg_journal.specs.Held.{Store}
 use Rattle.mg_journal.specs.Standing.{Stands}
 use Rattle.mg_model.specs.Abbreviations.{table_of}
-use Rattle.mg_model.specs.Bytes.{are_zeros, number_at}
+use Rattle.mg_model.specs.Bytes.{number_at}
 use Rattle.mg_model.specs.Layout.{table_block, table_blocks}
 use Rattle.mg_model.specs.Tests.{all_distinct}
 use Rattle.mg_model.specs.Volume.{bound_pages, whole_table}
-use Rattle.mg_pages.proofs.Entries.{entry-of, length-entries, zero-at}
+use Rattle.mg_pages.proofs.Entries.{entry-of, length-entries}
 use Rattle.mg_pages.proofs.Places.{place-of}
-use Rattle.mg_pages.specs.Loading.{AreFreeFrom, AreLoaded, HasEntries, IsTableFor, LoadsBlock, entry_bound}
+use Rattle.mg_pages.specs.Loading.{AreFreeFrom, AreLoaded, HasEntries, HoldFirstEntries, entry_bound, first_entry}
 use Rattle.mg_pages.specs.Meaning.{replayed}
 
 bound-free : (xs : List ℕ) (x : ℕ) → x ≡ 0 → bound_pages (x ∷ xs) ≡ bound_pages xs
@@ -59,7 +61,7 @@ one-place (x ∷ xs) (suc i) (suc j) page distinct some at_i at_j = ap suc (one-
 
 -- one entry is taken
 entry-cases : (P : List ℕ → Type 0) (frames : List ℕ) (i page : ℕ) → (length frames ≤ i → P frames) → (i < length frames → page ≡ 0 → P frames)
-    → (i < length frames → page ≢ 0 → (f : ℕ) → position (λ entry. entry == page) frames ≡ Some f → P frames) → (i < length frames → page ≢ 0 → P (slice_set frames i page)) → P (entry_bound frames i page)
+    → (i < length frames → page ≢ 0 → (f : ℕ) → position (λ entry. entry == page) frames ≡ Some f → P frames) → (i < length frames → page ≢ 0 → position (λ entry. entry == page) frames ≡ None → P (slice_set frames i page)) → P (entry_bound frames i page)
 entry-cases P frames i page past free there new = by (nat_le (length frames) i) refl (page == 0) refl (position (λ entry. entry == page) frames) refl
   where
     by : (a : Bool) → nat_le (length frames) i ≡ a → (b : Bool) → (page == 0) ≡ b → (o : Option ℕ) → position (λ entry. entry == page) frames ≡ o
@@ -67,47 +69,108 @@ entry-cases P frames i page past free there new = by (nat_le (length frames) i) 
     by true e b z o is = past (leb-true (length frames) i e)
     by false e true z o is = free (leb-false (length frames) i e) (eqb-true page 0 z)
     by false e false z (Some f) is = there (leb-false (length frames) i e) (eqb-false page 0 z) f is
-    by false e false z None is = new (leb-false (length frames) i e) (eqb-false page 0 z)
+    by false e false z None is = new (leb-false (length frames) i e) (eqb-false page 0 z) is
 
 entry-long : (frames : List ℕ) (i page : ℕ) → length (entry_bound frames i page) ≡ length frames
-entry-long frames i page = entry-cases (λ new. length new ≡ length frames) frames i page (λ past. refl) (λ below none. refl) (λ below some f is. refl) (λ below some. length-set frames i page)
+entry-long frames i page = entry-cases (λ new. length new ≡ length frames) frames i page (λ past. refl) (λ below none. refl) (λ below some f is. refl) (λ below some none. length-set frames i page)
 
 entry-free : (frames : List ℕ) (i page : ℕ) → AreFreeFrom i frames → AreFreeFrom (i + 1) (entry_bound frames i page)
 entry-free frames i page free =
     let still : AreFreeFrom (i + 1) frames = λ m least. free m (omega arith) in
     entry-cases (AreFreeFrom (i + 1)) frames i page (λ past. still) (λ below none. still) (λ below some f is. still)
-    (λ below some m least. get_or-set_other frames i m page 0 (λ is. absurd (omega arith)) ∙ free m (omega arith))
+    (λ below some none m least. get_or-set_other frames i m page 0 (λ is. absurd (omega arith)) ∙ free m (omega arith))
 
-entry-loaded : (table frames : List ℕ) (i page : ℕ) → IsTableFor frames table → (i < length frames → page ≡ get_or table i 0) → AreFreeFrom i frames → AreLoaded table i frames → AreLoaded table (i + 1) (entry_bound frames i page)
-entry-loaded table frames i page is_table page_is free loaded m before below =
-    entry-cases (λ new. get_or new m 0 ≡ get_or table m 0) frames i page
+-- what the first entry of a page is
+module _ (table : List ℕ) (i : ℕ) where
+  first-new : (page : ℕ) → page ≡ get_or table i 0 → list_any (λ entry. entry == page) (take i table) ≡ false → first_entry table i ≡ page
+  first-new page is none = ap (λ p. if list_any (λ entry. entry == p) (take i table) then 0 else p) (sym is) ∙ ap (λ t. if t then 0 else page) none
+
+  first-again : (page : ℕ) → page ≡ get_or table i 0 → list_any (λ entry. entry == page) (take i table) ≡ true → first_entry table i ≡ 0
+  first-again page is some = ap (λ p. if list_any (λ entry. entry == p) (take i table) then 0 else p) (sym is) ∙ ap (λ t. if t then 0 else page) some
+
+  first-free : get_or table i 0 ≡ 0 → first_entry table i ≡ 0
+  first-free is = ap (λ p. if list_any (λ entry. entry == p) (take i table) then 0 else p) is ∙ either (list_any (λ entry. entry == 0) (take i table)) 0
+    where
+      either : (t : Bool) (n : ℕ) → (if t then n else n) ≡ n
+      either true n = refl
+      either false n = refl
+
+  first-some : (page : ℕ) → first_entry table i ≡ page → page ≢ 0 → get_or table i 0 ≡ page
+  first-some page is some = by (list_any (λ entry. entry == get_or table i 0) (take i table)) is
+    where
+      by : (t : Bool) → (if t then 0 else get_or table i 0) ≡ page → get_or table i 0 ≡ page
+      by true e = absurd (some (sym e))
+      by false e = e
+
+-- the entry behind the first ones has a page, or one of them
+behind-first : (table : List ℕ) (page i : ℕ) → i < length table → list_any (λ entry. entry == page) (take (suc i) table) ≡ true
+    → (list_any (λ entry. entry == page) (take i table) ≡ true) ⊎ ((list_any (λ entry. entry == page) (take i table) ≡ false) × (get_or table i 0 ≡ page))
+behind-first table page i within is =
+    let s : suc i ≡ i + 1 = omega arith in
+    by (list_any (λ entry. entry == page) (take i table)) (sym (list_any_more (λ entry. entry == page) table i 0 within) ∙ sym (ap (λ k. list_any (λ entry. entry == page) (take k table)) s) ∙ is)
+  where
+    by : (t : Bool) → (t || get_or table i 0 == page) ≡ true → (t ≡ true) ⊎ ((t ≡ false) × (get_or table i 0 ≡ page))
+    by true e = inl refl
+    by false e = inr (refl, eqb-true (get_or table i 0) page e)
+
+-- so a page that one of the first entries has stands there
+earlier-entry : (table : List ℕ) (page i : ℕ) → i ≤ length table → list_any (λ entry. entry == page) (take i table) ≡ true → (j : ℕ) × (j < i) × (get_or table j 0 ≡ page)
+earlier-entry table page zero few is = absurd (cc)
+earlier-entry table page (suc i) few is =
+    ⊎_elim (λ earlier. let at = earlier-entry table page i (omega arith) earlier in let below = at.1 in (at.0, omega arith, at.2)) (λ here. (i, omega arith, here.1)) (behind-first table page i (omega arith) is)
+
+-- and is bound
+seen-bound : (table frames : List ℕ) (page i : ℕ) → page ≢ 0 → i ≤ length frames → length table ≡ length frames → AreLoaded table i frames → list_any (λ entry. entry == page) (take i table) ≡ true → list_any (λ entry. entry == page) frames ≡ true
+seen-bound table frames page zero some few tall loaded is = absurd (cc)
+seen-bound table frames page (suc i) some few tall loaded is =
+    ⊎_elim (λ earlier. seen-bound table frames page i some (omega arith) tall (λ m before below. loaded m (omega arith) below) earlier)
+    (λ here. list_any_at (λ entry. entry == page) frames i 0 (omega arith) (eq-eqb (get_or frames i 0) page (loaded i (omega arith) (omega arith) ∙ first-new table i page (sym here.1) here.0)))
+    (behind-first table page i (omega arith) is)
+
+entry-loaded : (table frames : List ℕ) (i page : ℕ) → length table ≡ length frames → (i < length frames → page ≡ get_or table i 0) → AreFreeFrom i frames → AreLoaded table i frames → AreLoaded table (i + 1) (entry_bound frames i page)
+entry-loaded table frames i page tall page_is free loaded m before below =
+    entry-cases (λ new. get_or new m 0 ≡ first_entry table m) frames i page
     (λ past. let w = within in loaded m (omega arith) w)
-    (λ low none. ⊎_elim (λ earlier. loaded m earlier within) (λ here. let at : m ≡ i = omega arith in ap (λ k. get_or frames k 0) at ∙ free i (omega arith) ∙ sym none ∙ page_is low ∙ ap (λ k. get_or table k 0) (sym at)) (cases_lt m i))
-    (λ low some f is. absurd (again low some f is))
-    (λ low some. ⊎_elim (λ earlier. get_or-set_other frames i m page 0 (λ is. absurd (omega arith)) ∙ loaded m earlier within) (λ here. let at : m ≡ i = omega arith in ap (λ k. get_or (slice_set frames i page) k 0) at ∙ get_or-set_same frames i page 0 low ∙ page_is low ∙ ap (λ k. get_or table k 0) (sym at)) (cases_lt m i))
+    (λ low none. ⊎_elim (λ earlier. loaded m earlier within) (λ here. still (omega arith) low (first-free table i (sym (page_is low) ∙ none))) (cases_lt m i))
+    (λ low some f is. ⊎_elim (λ earlier. loaded m earlier within) (λ here. still (omega arith) low (first-again table i page (page_is low) (again low some f is))) (cases_lt m i))
+    (λ low some none. ⊎_elim (λ earlier. get_or-set_other frames i m page 0 (λ is. absurd (omega arith)) ∙ loaded m earlier within) (λ here. let at : m ≡ i = omega arith in ap (λ k. get_or (slice_set frames i page) k 0) at ∙ get_or-set_same frames i page 0 low ∙ sym (first-new table i page (page_is low) (unseen low some none)) ∙ ap (first_entry table) (sym at)) (cases_lt m i))
   where
     within : m < length frames
     within = let e = entry-long frames i page in omega arith
 
-    again : i < length frames → page ≢ 0 → (f : ℕ) → position (λ entry. entry == page) frames ≡ Some f → ⊥
+    still : m ≡ i → i < length frames → first_entry table i ≡ 0 → get_or frames m 0 ≡ first_entry table m
+    still at low none = ap (λ k. get_or frames k 0) at ∙ free i (omega arith) ∙ sym none ∙ ap (first_entry table) (sym at)
+
+    again : i < length frames → page ≢ 0 → (f : ℕ) → position (λ entry. entry == page) frames ≡ Some f → list_any (λ entry. entry == page) (take i table) ≡ true
     again low some f is =
         let place = place-of frames page f is in
         ⊎_elim
-        (λ earlier. let same = one-place table f i page is_table.distinct some (sym (loaded f earlier place.0) ∙ place.1) (sym (page_is low)) in omega arith)
-        (λ later. some (sym place.1 ∙ free f later)) (cases_lt f i)
+        (λ earlier.
+        let long = length-take-le i table (omega arith) in
+        let at = first-some table f page (sym (loaded f earlier place.0) ∙ place.1) some in
+        list_any_at (λ entry. entry == page) (take i table) f 0 (omega arith) (eq-eqb (get_or (take i table) f 0) page (get_or-take i table f 0 earlier ∙ at)))
+        (λ later. absurd (some (sym place.1 ∙ free f later))) (cases_lt f i)
+
+    unseen : i < length frames → page ≢ 0 → position (λ entry. entry == page) frames ≡ None → list_any (λ entry. entry == page) (take i table) ≡ false
+    unseen low some none =
+        ⊎_elim (λ is. absurd (both_ways (list_any (λ entry. entry == page) frames) (nowhere_any (λ entry. entry == page) frames none) (seen-bound table frames page i some (omega arith) tall loaded is))) (λ no. no)
+        (cases_Bool (list_any (λ entry. entry == page) (take i table)))
+
+-- where no page stands twice, each entry is the first of its page
+only-entry : (table : List ℕ) (i : ℕ) → i < length table → all_distinct (bound_pages table) ≡ true → first_entry table i ≡ get_or table i 0
+only-entry table i within distinct = ⊎_elim again (λ none. ap (λ t. if t then 0 else get_or table i 0) none) (cases_Bool (list_any (λ entry. entry == get_or table i 0) (take i table)))
+  where
+    again : list_any (λ entry. entry == get_or table i 0) (take i table) ≡ true → first_entry table i ≡ get_or table i 0
+    again is =
+        let at = earlier-entry table (get_or table i 0) i (omega arith) is in
+        let below = at.1 in
+        ⊎_elim (λ free. first-free table i free ∙ sym free) (λ some. let same = one-place table at.0 i (get_or table i 0) distinct some at.2 refl in absurd (omega arith)) (cases_eq (get_or table i 0) 0)
 
 -- the first entries of a block are taken
 pub record AreBound (k j : ℕ) (bytes old now : List ℕ) : Type 0 where
   pub long : length now ≡ length old
   pub free : AreFreeFrom (512 * k + j) now
-  pub loaded : (table : List ℕ) → IsTableFor old table → HasEntries table k bytes → AreLoaded table (512 * k) old → AreLoaded table (512 * k + j) now
-
-pub bound-none : (k : ℕ) (bytes old : List ℕ) → AreFreeFrom (512 * k) old → AreBound k 0 bytes old old
-bound-none k bytes old free = record {
-  long = refl;
-  free = λ m least. free m (omega arith);
-  loaded = λ table is has before m low below. before m (omega arith) below;
-}
+  pub loaded : (table : List ℕ) → length table ≡ length old → HasEntries table k bytes → AreLoaded table (512 * k) old → AreLoaded table (512 * k + j) now
 
 pub bound-more : (k j page : ℕ) (bytes old now new : List ℕ) → j < 512 → page ≡ number_at bytes (8 * j) → new ≡ entry_bound now (512 * k + j) page → AreBound k j bytes old now → AreBound k (j + 1) bytes old new
 bound-more k j page bytes old now new few page_is new_is are =
@@ -116,51 +179,40 @@ bound-more k j page bytes old now new few page_is new_is are =
     record {
       long = ap length new_is ∙ entry-long now (512 * k + j) page ∙ long;
       free = subst (λ xs. AreFreeFrom (512 * k + (j + 1)) xs) (sym new_is) (subst (λ n. AreFreeFrom n (entry_bound now (512 * k + j) page)) next (entry-free now (512 * k + j) page are.free));
-      loaded = λ table is has before.
-          let for_now : IsTableFor now table = record { long = is.long ∙ sym long; distinct = is.distinct } in
-          let tall = is.long in
+      loaded = λ table tall has before.
           subst (λ xs. AreLoaded table (512 * k + (j + 1)) xs) (sym new_is)
           (subst (λ n. AreLoaded table n (entry_bound now (512 * k + j) page)) next
-          (entry-loaded table now (512 * k + j) page for_now (λ below. page_is ∙ has j few (omega arith)) are.free (are.loaded table is has before)));
+          (entry-loaded table now (512 * k + j) page (tall ∙ sym long) (λ below. page_is ∙ has j few (omega arith)) are.free (are.loaded table tall has before)));
     }
-
-pub bound-loads : (k j : ℕ) (bytes old now : List ℕ) → j ≡ 512 → AreBound k j bytes old now → LoadsBlock k bytes old now
-bound-loads k j bytes old now end are table is has before =
-    let e : 512 * k + j ≡ 512 * (k + 1) = omega arith in
-    subst (λ n. AreLoaded table n now) e (are.loaded table is has before)
-
-pub bound-free-behind : (k j : ℕ) (bytes old now : List ℕ) → j ≡ 512 → AreBound k j bytes old now → AreFreeFrom (512 * (k + 1)) now
-bound-free-behind k j bytes old now end are m least = are.free m (omega arith)
 
 -- the first blocks of the table are read
 pub record AreRead {D : Type 0} (facts : Ghosts D) (store : Store) (k : ℕ) (frames now : List ℕ) (old new : D) : Type 0 where
   pub long : length now ≡ length frames
   pub free : AreFreeFrom (512 * k) now
-  pub loaded : ForSome (facts.seen old) (λ image. (table : List ℕ) → IsTableFor frames table → ((b : ℕ) → b < table_blocks (length frames) → HasEntries table b (block_at (replayed store.total image) (table_block + b))) → AreLoaded table (512 * k) now)
+  pub loaded : ForSome (facts.seen old) (λ image. (table : List ℕ) → length table ≡ length frames → ((b : ℕ) → b < table_blocks (length frames) → HasEntries table b (block_at (replayed store.total image) (table_block + b))) → AreLoaded table (512 * k) now)
   pub stands : Stands facts store new
   pub writes : WritesNothing facts old new
   pub count : CountGoes facts old new
   pub blocks : facts.block_count new ≡ facts.block_count old
 
--- where no page is bound every frame is free
-pub none-bound : (frames : List ℕ) → are_zeros frames ≡ true → AreFreeFrom 0 frames
-none-bound frames zeros i least = zero-at frames i zeros
+-- what was read is the table, as far as each page has its first entry there
+module _ (r : Image) (frames now : List ℕ) (k : ℕ) (long : length now ≡ length frames) (all : k ≡ table_blocks (length frames))
+    (loaded : (table : List ℕ) → length table ≡ length frames → ((b : ℕ) → b < table_blocks (length frames) → HasEntries table b (block_at r (table_block + b))) → AreLoaded table (512 * k) now) where
+  abbrev n : ℕ
+  n = length frames
 
--- what was read is the table
-pub loaded-table : (r : Image) (frames now : List ℕ) → length now ≡ length frames → all_distinct (bound_pages (table_of r (length frames))) ≡ true
-    → ((table : List ℕ) → IsTableFor frames table → ((b : ℕ) → b < table_blocks (length frames) → HasEntries table b (block_at r (table_block + b))) → AreLoaded table (512 * table_blocks (length frames)) now)
-    → now ≡ table_of r (length frames)
-loaded-table r frames now long distinct loaded =
-    ext_get_or 0 now table (long ∙ sym tall) (λ i within. loaded table (record { long = tall; distinct = distinct }) entries i (omega arith) within)
-  where
-    n : ℕ
-    n = length frames
+  abbrev table : List ℕ
+  table = table_of r n
 
-    table : List ℕ
-    table = table_of r n
+  tall : length table ≡ n
+  tall = let whole = length-entries r table_block (table_blocks n) in length-take-le n (whole_table r n) (omega arith)
 
-    tall : length table ≡ n
-    tall = let whole = length-entries r table_block (table_blocks n) in length-take-le n (whole_table r n) (omega arith)
+  entries : (b : ℕ) → b < table_blocks n → HasEntries table b (block_at r (table_block + b))
+  entries b few j low below = let e = tall in sym (get_or-take n (whole_table r n) (512 * b + j) 0 (omega arith) ∙ entry-of r table_block (table_blocks n) b j few low)
 
-    entries : (b : ℕ) → b < table_blocks n → HasEntries table b (block_at r (table_block + b))
-    entries b few j low below = let e = tall in sym (get_or-take n (whole_table r n) (512 * b + j) 0 (omega arith) ∙ entry-of r table_block (table_blocks n) b j few low)
+  pub loaded-first : HoldFirstEntries (table_of r (length frames)) now
+  loaded-first i within = loaded table tall entries i (omega arith) within
+
+  -- and the whole table, where no page stands twice
+  pub loaded-table : all_distinct (bound_pages (table_of r (length frames))) ≡ true → now ≡ table_of r (length frames)
+  loaded-table distinct = let e = tall in ext_get_or 0 now table (long ∙ sym tall) (λ i within. loaded-first i within ∙ only-entry table i (omega arith) distinct)

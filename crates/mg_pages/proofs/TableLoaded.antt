@@ -14,6 +14,7 @@ use Rattle.mg_pages.proofs.Made.{made-spelled}
 use Rattle.mg_pages.proofs.Opened.{count-is, staged-is, table-is, total-is}
 use Rattle.mg_pages.proofs.Tables.{held}
 use Rattle.mg_pages.specs.Held.{BlocksHeld, IsSound, PagesHeld}
+use Rattle.mg_pages.specs.Loading.{HoldFirstEntries}
 use Rattle.mg_pages.specs.Meaning.{HasTable, IsBare, IsSpelledBy, SpellsTable, StandsOn, frame_count, kept_in, replayed, table_in, total_of}
 
 module _ (store : Store) (frames : List ℕ) (writes : List (ℕ × List ℕ)) (count : ℕ) (kept : List (ℕ × List ℕ)) (p : PagesHeld) (view : held store frames writes count kept ≡ p) where
@@ -23,6 +24,11 @@ module _ (store : Store) (frames : List ℕ) (writes : List (ℕ × List ℕ)) (
 
   same-table : (image : Image) → table_of (replayed (total_of p) image) (frame_count p) ≡ table_of (replayed store.total image) (length frames)
   same-table image = ap (λ n. table_of (replayed n image) (frame_count p)) (total-is store frames writes count kept p view) ∙ ap (λ n. table_of (replayed store.total image) n) (count-is store frames writes count kept p view)
+
+  pub first-loaded : (frames' : List ℕ) (image : Image) → HoldFirstEntries (table_of (replayed store.total image) (length frames)) frames' → HoldFirstEntries (table_of (replayed (total_of p) image) (frame_count p)) (table_in (held store frames' writes count kept))
+  first-loaded frames' image first =
+      subst (λ table. HoldFirstEntries table (table_in (held store frames' writes count kept))) (sym (same-table image))
+      (subst (HoldFirstEntries (table_of (replayed store.total image) (length frames))) (sym (table-is store frames' writes count kept (held store frames' writes count kept) refl)) first)
 
   pub table-loaded : (frames' : List ℕ) (image : Image) → (all_distinct (bound_pages (table_of (replayed store.total image) (length frames))) ≡ true → frames' ≡ table_of (replayed store.total image) (length frames))
       → all_distinct (bound_pages (table_of (replayed (total_of p) image) (frame_count p))) ≡ true → table_in (held store frames' writes count kept) ≡ table_of (replayed (total_of p) image) (frame_count p)

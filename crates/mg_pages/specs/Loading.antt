@@ -1,9 +1,8 @@
 -- A frame table that is read into frames that hold no page yet.
-use Rattle.std.specs.Prelude.{◌≡◌, ◌+◌, ◌*◌, ◌≤◌, ◌<◌, ◌==◌, nat_le, if◌then◌else◌, ℕ, true, List, length, position, slice_index, slice_set}
+use Rattle.std.specs.Prelude.{◌≡◌, ◌+◌, ◌*◌, ◌≤◌, ◌<◌, ◌==◌, nat_le, if◌then◌else◌, ℕ, List, length, position, slice_index, slice_set, take}
+use Rattle.std.specs.List.{list_any}
 use Rattle.std.specs.Option.{option_map_or}
 use Rattle.mg_model.specs.Bytes.{number_at}
-use Rattle.mg_model.specs.Tests.{all_distinct}
-use Rattle.mg_model.specs.Volume.{bound_pages}
 
 -- the frames from this one on are free
 abbrev pub AreFreeFrom : ℕ → List ℕ → Type 0
@@ -15,19 +14,22 @@ entry_bound frames frame page =
     if nat_le (length frames) frame then frames
     else (if page == 0 then frames else option_map_or (λ bound. frames) (position (λ entry. entry == page) frames) (slice_set frames frame page))
 
--- a table of as many entries as there are frames, in which no page stands twice
-pub record IsTableFor (frames table : List ℕ) : Type 0 where
-  pub long : length table ≡ length frames
-  pub distinct : all_distinct (bound_pages table) ≡ true
+-- the page of an entry of a table, and none where an entry before it has the same page
+abbrev pub first_entry : List ℕ → ℕ → ℕ
+first_entry table i = if list_any (λ entry. entry == slice_index table i) (take i table) then 0 else slice_index table i
 
--- the first frames hold the pages of a table
+-- the frames hold the pages of a table, each page where its first entry is
+abbrev pub HoldFirstEntries : List ℕ → List ℕ → Type 0
+HoldFirstEntries table frames = (i : ℕ) → i < length frames → slice_index frames i ≡ first_entry table i
+
+-- so do the first frames
 abbrev pub AreLoaded : List ℕ → ℕ → List ℕ → Type 0
-AreLoaded table first frames = (i : ℕ) → i < first → i < length frames → slice_index frames i ≡ slice_index table i
+AreLoaded table first frames = (i : ℕ) → i < first → i < length frames → slice_index frames i ≡ first_entry table i
 
 -- these bytes are block k of a table, as far as it goes
 abbrev pub HasEntries : List ℕ → ℕ → List ℕ → Type 0
 HasEntries table k bytes = (j : ℕ) → j < 512 → 512 * k + j < length table → number_at bytes (8 * j) ≡ slice_index table (512 * k + j)
 
--- the frames of block k of a table, which is these bytes, hold its pages
+-- the frames of block k of a table, which is these bytes, hold its pages; the table has as many entries as there are frames
 abbrev pub LoadsBlock : ℕ → List ℕ → List ℕ → List ℕ → Type 0
-LoadsBlock k bytes old new = (table : List ℕ) → IsTableFor old table → HasEntries table k bytes → AreLoaded table (512 * k) old → AreLoaded table (512 * (k + 1)) new
+LoadsBlock k bytes old new = (table : List ℕ) → length table ≡ length old → HasEntries table k bytes → AreLoaded table (512 * k) old → AreLoaded table (512 * (k + 1)) new

@@ -9,7 +9,7 @@ ghost use Rattle.mg_model.specs.Bytes.{are_zeros};
 ghost use Rattle.mg_model.specs.Layout.{table_block, table_blocks, total_blocks};
 ghost use Rattle.mg_model.specs.Tests.{all_distinct};
 ghost use Rattle.mg_model.specs.Volume.{bound_pages};
-ghost use Rattle.mg_pages.specs.Loading.{AreFreeFrom, LoadsBlock, entry_bound};
+ghost use Rattle.mg_pages.specs.Loading.{AreFreeFrom, HoldFirstEntries, LoadsBlock, entry_bound};
 ghost use Rattle.mg_pages.specs.Meaning.{replayed};
 
 use crate::blocks::Blocks;
@@ -86,6 +86,7 @@ pub(crate) fn load_pages<D: Disk>(
     requires at_most_65536_frames { length frames.old ≤ 65536 }
     requires size { total_of blocks.now.store ≡ total_blocks (length frames.old) }
     requires unbound { are_zeros frames.old ≡ true }
+    ensures first_entries { OnOk result (ForSome (D.seen disk.old) (λ image. HoldFirstEntries (table_of (replayed (total_of blocks.now.store) image) (length frames.old)) frames.new)) }
     ensures table { OnOk result (ForSome (D.seen disk.old) (λ image. all_distinct (bound_pages (table_of (replayed (total_of blocks.now.store) image) (length frames.old))) ≡ true → frames.new ≡ table_of (replayed (total_of blocks.now.store) image) (length frames.old))) }
     ensures count { length frames.new ≡ length frames.old }
     ensures stands { Stands D.Disk blocks.now.store disk.new }

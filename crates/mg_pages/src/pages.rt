@@ -11,6 +11,7 @@ ghost use Rattle.mg_model.specs.Tests.{all_distinct};
 ghost use Rattle.mg_model.specs.Volume.{bound_pages};
 ghost use Rattle.mg_pages.specs.Meaning.{BindsOnly, CountsNone, CountsOne, HasTable, IsBare, IsKept, Keeps, Releases, SameShape, SetsWord, SpellsTable, StagesMore, StandsOn, Unbinds, IsSpelledBy, coming, frame_count, is_bound, is_live, is_staged, page_now, replayed, staged_of, store_of, table_in, total_of, words_in};
 ghost use Rattle.mg_pages.specs.Committing.{HasContents};
+ghost use Rattle.mg_pages.specs.Loading.{HoldFirstEntries};
 
 use crate::blocks::Blocks;
 use crate::coming::page_word;
@@ -106,12 +107,13 @@ impl Pages {
     }
 
     /// Binds the pages that the frame table of the disk's contents has, one an entry, to frames of which none is bound. An entry
-    /// whose page an earlier one has is passed over. [`Failed`] comes only where a call of the disk failed; some pages may be bound
-    /// then, and nothing else has changed. Where the table is one of a volume, and nothing was staged since [`Pages::new`], the
-    /// pages stand on the disk after Ok.
+    /// whose page an earlier one has is passed over, so where no page stands twice, as in a volume, the whole table is bound.
+    /// [`Failed`] comes only where a call of the disk failed; some pages may be bound then, and nothing else has changed. Where the
+    /// table is one of a volume, and nothing was staged since [`Pages::new`], the pages stand on the disk after Ok.
     pub fn load_table<D: Disk>(&mut self, disk: &mut D) -> Result<(), Failed>
         requires unbound { are_zeros (table_in self.old) ≡ true }
         requires stands { journal.Stands D.Disk (store_of self.old) disk.old }
+        ensures first_entries { OnOk result (ForSome (D.seen disk.old) (λ image. HoldFirstEntries (table_of (replayed (total_of self.old) image) (frame_count self.old)) (table_in self.new))) }
         ensures table { OnOk result (ForSome (D.seen disk.old) (λ image. all_distinct (bound_pages (table_of (replayed (total_of self.old) image) (frame_count self.old))) ≡ true → table_in self.new ≡ table_of (replayed (total_of self.old) image) (frame_count self.old))) }
         ensures stands { OnOk result (IsBare self.old → ForSome (D.seen disk.old) (λ image. SpellsTable (frame_count self.old) (replayed (total_of self.old) image)) → StandsOn D.Disk self.new disk.new) }
         ensures coming { (image : List (List ℕ)) → coming self.new image ≡ coming self.old image }

@@ -5,7 +5,7 @@ use Rattle.mg_model.specs.Bytes.{are_zeros}
 use Rattle.mg_pages.proofs.OneBlock.{same-shape}
 use Rattle.mg_pages.proofs.Opened.{coming-is, staged-is, store-is, table-is, words-is}
 use Rattle.mg_pages.proofs.Sound.{sound-frames}
-use Rattle.mg_pages.proofs.TableLoaded.{stands-loaded, table-loaded}
+use Rattle.mg_pages.proofs.TableLoaded.{first-loaded, stands-loaded, table-loaded}
 use Rattle.mg_pages.proofs.pages.Pages.load_table.Goals as goal
 
 pub load_pages-loaded-requires-clause-stands : goal.load_pages-loaded-requires-clause-stands
@@ -22,6 +22,11 @@ pub invariant_of-self : goal.invariant_of-self
 invariant_of-self g c =
     let i = c.self.inside in
     sound-frames i.blocks.store i.frames c.load_pages-loaded.new.frames i.blocks.writes i.count i.blocks.kept i.count i.blocks.kept c.load_pages-loaded.ensures.count c.len.ensures.kept c.self.invariant
+
+pub returns-clause-first_entries : goal.returns-clause-first_entries
+returns-clause-first_entries g c =
+    let i = c.self.inside in
+    on_ok_weaker c.load_pages-loaded.result (λ is image told. first-loaded i.blocks.store i.frames i.blocks.writes i.count i.blocks.kept c.args.self.now c.self.view_is c.load_pages-loaded.new.frames image (is image told)) c.load_pages-loaded.ensures.first_entries
 
 pub returns-clause-table : goal.returns-clause-table
 returns-clause-table g c =
