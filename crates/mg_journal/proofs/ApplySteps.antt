@@ -9,17 +9,10 @@ use Rattle.mg_disk.specs.Disk.{Image, SameBut, SeenBut, block_at, only_place}
 use Rattle.mg_disk.specs.PlaceLemmas.{same_set, same_still}
 use Rattle.mg_model.specs.Layout.{globals_block, segment_body}
 use Rattle.mg_model.specs.Replay.{body_count, home_of, is_open, writes_from, writes_of, writes_since, written}
-use Rattle.mg_journal.specs.Applied.{filled}
+use Rattle.mg_journal.specs.Applied.{filled, nth_body, nth_home}
 use Rattle.mg_journal.specs.Contents.{names}
 use Rattle.mg_journal.specs.Places.{IsPlace, places_from, places_of, places_since}
 use Rattle.mg_journal.specs.WrittenLemmas.{written-append, written_elsewhere}
-
--- the home and the body of place k
-abbrev pub home_at : List (ℕ × ℕ) → ℕ → ℕ
-home_at places k = (slice_index_or places k (0, 0)).0
-
-abbrev pub body_at : List (ℕ × ℕ) → ℕ → ℕ
-body_at places k = (slice_index_or places k (0, 0)).1
 
 -- places of a smaller volume
 pub places_wider : (total n : ℕ) (places : List (ℕ × ℕ)) → total ≤ n → All (IsPlace total) places → All (IsPlace n) places
@@ -34,22 +27,22 @@ filled-behind n a (place ∷ places) k all named =
     ⊎_elim (λ is. let e = eqb-true place.0 k is in omega arith) (filled-behind n a places k (All-tail (IsPlace n) place places all))
     (or_cases (place.0 == k) (names (filled a places) k) named)
 
-pub named_place : (a : Image) (places : List (ℕ × ℕ)) (k : ℕ) → k < length places → names (filled a places) (home_at places k) ≡ true
+pub named_place : (a : Image) (places : List (ℕ × ℕ)) (k : ℕ) → k < length places → names (filled a places) (nth_home places k) ≡ true
 named_place a [] k below = absurd (omega arith)
 named_place a (place ∷ places) zero below = or_left (place.0 == place.0) (names (filled a places) place.0) (eq-eqb place.0 place.0 refl)
 named_place a (place ∷ places) (suc k) below =
-    or_right (place.0 == home_at places k) (names (filled a places) (home_at places k)) (named_place a places k (omega arith))
+    or_right (place.0 == nth_home places k) (names (filled a places) (nth_home places k)) (named_place a places k (omega arith))
 
 -- the homes that are written so far leave the bodies
-body_still : (n : ℕ) (a : Image) (places : List (ℕ × ℕ)) (k : ℕ) → k < length places → All (IsPlace n) places → block_at (written a (filled a (take k places))) (body_at places k) ≡ block_at a (body_at places k)
+body_still : (n : ℕ) (a : Image) (places : List (ℕ × ℕ)) (k : ℕ) → k < length places → All (IsPlace n) places → block_at (written a (filled a (take k places))) (nth_body places k) ≡ block_at a (nth_body places k)
 body_still n a places k below all =
-    (written_elsewhere (filled a (take k places)) a).others (body_at places k)
+    (written_elsewhere (filled a (take k places)) a).others (nth_body places k)
     (λ named.
-    let high = filled-behind n a (take k places) (body_at places k) (All-take (IsPlace n) k places all) named in
+    let high = filled-behind n a (take k places) (nth_body places k) (All-take (IsPlace n) k places all) named in
     let low = (all k (0, 0) below).body in
     omega arith)
 
-filled_more : (a : Image) (places : List (ℕ × ℕ)) (k : ℕ) → k < length places → written a (filled a (take (k + 1) places)) ≡ slice_set (written a (filled a (take k places))) (home_at places k) (block_at a (body_at places k))
+pub filled_more : (a : Image) (places : List (ℕ × ℕ)) (k : ℕ) → k < length places → written a (filled a (take (k + 1) places)) ≡ slice_set (written a (filled a (take k places))) (nth_home places k) (block_at a (nth_body places k))
 filled_more a places k below =
     let place = slice_index_or places k (0, 0) in
     ap (λ p. written a (filled a p)) (take_more places k (0, 0) below)
@@ -58,13 +51,13 @@ filled_more a places k below =
 
 -- one body more
 pub apply_more : (n : ℕ) (places : List (ℕ × ℕ)) (k : ℕ) (told mid new : Option Image) (bytes : List ℕ) → k < length places → All (IsPlace n) places
-    → mid ≡ option_map (λ a. written a (filled a (take k places))) told → ForSome mid (λ image. bytes ≡ block_at image (body_at places k))
-    → new ≡ option_map (λ image. slice_set image (home_at places k) bytes) mid → new ≡ option_map (λ a. written a (filled a (take (k + 1) places))) told
-apply_more n places k None mid new bytes below all so_far read wrote = wrote ∙ ap (option_map (λ image. slice_set image (home_at places k) bytes)) so_far
+    → mid ≡ option_map (λ a. written a (filled a (take k places))) told → ForSome mid (λ image. bytes ≡ block_at image (nth_body places k))
+    → new ≡ option_map (λ image. slice_set image (nth_home places k) bytes) mid → new ≡ option_map (λ a. written a (filled a (take (k + 1) places))) told
+apply_more n places k None mid new bytes below all so_far read wrote = wrote ∙ ap (option_map (λ image. slice_set image (nth_home places k) bytes)) so_far
 apply_more n places k (Some a) mid new bytes below all so_far read wrote =
     let now : Image = written a (filled a (take k places)) in
-    wrote ∙ ap (option_map (λ image. slice_set image (home_at places k) bytes)) so_far
-    ∙ ap (λ b. Some (slice_set now (home_at places k) b)) (read now so_far ∙ body_still n a places k below all)
+    wrote ∙ ap (option_map (λ image. slice_set image (nth_home places k) bytes)) so_far
+    ∙ ap (λ b. Some (slice_set now (nth_home places k) b)) (read now so_far ∙ body_still n a places k below all)
     ∙ ap (λ i. Some i) (sym (filled_more a places k below))
 
 -- What reads give after one write more, whatever it answers: still the image as it was told first but at these places.

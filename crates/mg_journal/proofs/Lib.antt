@@ -1,3 +1,4 @@
+mod ApplyRuns
 mod ApplySteps
 mod Bodies
 mod ClosingSteps

@@ -14,6 +14,7 @@
 //! (homes of open segments, and the closing of gates), for any segment and with no disk in them.
 #![tactic(auto)]
 
+mod applying;
 mod committing;
 mod faults;
 mod index;

@@ -1,14 +1,11 @@
 // Recovery: what open segments hold is written to its homes, and then the gates are closed.
-ghost use Rattle.std.specs.Prelude.{◌≡◌, ◌≤◌, ◌<◌, ◌==◌, ℕ, All, IsSomeAnd, OnErr, OnOk, Some, is_some, option_map, slice_index, true};
+ghost use Rattle.std.specs.Prelude.{◌≡◌, ◌≤◌, ◌<◌, ℕ, IsSomeAnd, OnOk, Some, is_some};
 ghost use Rattle.std.specs.Option.{ForSome};
-ghost use Rattle.mg_disk.specs.Disk.{SameBut};
 ghost use Rattle.mg_disk.specs.Stops.{DiskCalls, Leaves, NothingPending};
-ghost use Rattle.mg_model.specs.Layout.{gate_open, globals_block, segment_count};
-ghost use Rattle.mg_model.specs.Replay.{is_open, replay, written};
-ghost use Rattle.mg_journal.specs.Applied.{filled};
-ghost use Rattle.mg_journal.specs.Contents.{SameContents, names};
+ghost use Rattle.mg_model.specs.Layout.{globals_block, segment_count};
+ghost use Rattle.mg_model.specs.Replay.{replay};
+ghost use Rattle.mg_journal.specs.Contents.{SameContents};
 ghost use Rattle.mg_journal.specs.Looked.{Fits};
-ghost use Rattle.mg_journal.specs.Places.{IsPlace};
 ghost use Rattle.mg_journal.specs.Recovery.{ClosedOne, IsClosedUpTo, IsRecovered, IsStill, MayCloseOne};
 
 use crate::committing::write_firmly;
@@ -16,25 +13,6 @@ use crate::places::{SEGMENTS, closed_gate, gate_of, is_opened};
 use crate::view::View;
 use mg_disk::{BLOCK_SIZE, Disk};
 use mg_faults::Failed;
-
-// Writes the bodies at these places to their homes, in order, and makes sure of them: also where there are none, so that
-// nothing is pending afterwards.
-fn apply<D: Disk>(disk: &mut D, places: &[(u64, u64)]) -> Result<(), Failed>
-    requires all_on_disk { All (IsPlace (D.block_count disk.old)) places.now }
-    ensures any_moment { NothingPending D.Disk disk.old → ForSome (D.seen disk.old) (λ image. Leaves D.Disk disk.old disk.new (SameBut (λ k. names (filled image places.now) k ≡ true) image)) }
-    ensures written { OnOk result (D.seen disk.new ≡ option_map (λ image. written image (filled image places.now)) (D.seen disk.old)) }
-    ensures torn { ForSome (D.seen disk.old) (λ image. IsSomeAnd (D.seen disk.new) (SameBut (λ k. names (filled image places.now) k ≡ true) image)) }
-    ensures tells { is_some (D.seen disk.new) ≡ is_some (D.seen disk.old) }
-    ensures settled { OnOk result (NothingPending D.Disk disk.new) }
-    ensures calls { DiskCalls D.Disk disk.old disk.new result }
-{
-    let mut body = [0; BLOCK_SIZE];
-    for place in places {
-        disk.read(place.1, &mut body)?;
-        disk.write(place.0, &body)?;
-    }
-    disk.sync()
-}
 
 // Closes a segment's gate where it is open, and makes sure of it.
 fn close_gate<D: Disk>(disk: &mut D, segment: u64) -> Result<(), Failed>
@@ -77,18 +55,20 @@ fn close_gates<D: Disk>(disk: &mut D) -> Result<(), Failed>
 
 /// Recovers a disk that this view fits. Each home is written once, from its newest body, in the order of blocks, and is made
 /// sure of; then the gates are closed, first to last. The bodies are read from the journal.
-pub(crate) fn recover<D: Disk>(disk: &mut D, view: &View) -> Result<(), Failed>
-    requires journal { globals_block ≤ view.now.total }
-    requires within_disk { view.now.total ≤ D.block_count disk.old }
-    requires fits { ForSome (D.seen disk.old) (λ image. Fits view.now image) }
-    ensures any_moment { NothingPending D.Disk disk.old → ForSome (D.seen disk.old) (λ image. Leaves D.Disk disk.old disk.new (SameContents view.now.total image)) }
-    ensures contents { ForSome (D.seen disk.old) (λ image. IsSomeAnd (D.seen disk.new) (SameContents view.now.total image)) }
-    ensures recovered { OnOk result (ForSome (D.seen disk.old) (λ image. IsSomeAnd (D.seen disk.new) (IsRecovered view.now.total image))) }
-    ensures came_from { OnOk result (ForSome (D.seen disk.new) (λ now. IsSomeAnd (D.seen disk.old) (λ image. IsRecovered view.now.total image now))) }
+pub(crate) fn recover<D: Disk>(disk: &mut D, view: &mut View) -> Result<(), Failed>
+    requires journal { globals_block ≤ view.old.total }
+    requires within_disk { view.old.total ≤ D.block_count disk.old }
+    requires fits { ForSome (D.seen disk.old) (λ image. Fits view.old image) }
+    ensures any_moment { NothingPending D.Disk disk.old → ForSome (D.seen disk.old) (λ image. Leaves D.Disk disk.old disk.new (SameContents view.old.total image)) }
+    ensures contents { ForSome (D.seen disk.old) (λ image. IsSomeAnd (D.seen disk.new) (SameContents view.old.total image)) }
+    ensures recovered { OnOk result (ForSome (D.seen disk.old) (λ image. IsSomeAnd (D.seen disk.new) (IsRecovered view.old.total image))) }
+    ensures came_from { OnOk result (ForSome (D.seen disk.new) (λ now. IsSomeAnd (D.seen disk.old) (λ image. IsRecovered view.old.total image now))) }
     ensures tells { is_some (D.seen disk.new) ≡ is_some (D.seen disk.old) }
     ensures settled { OnOk result (NothingPending D.Disk disk.new) }
+    ensures total { view.new.total ≡ view.old.total }
+    ensures table { view.new.table ≡ view.old.table }
     ensures calls { DiskCalls D.Disk disk.old disk.new result }
 {
-    apply(disk, view.places())?;
+    view.write_homes(disk)?;
     close_gates(disk)
 }

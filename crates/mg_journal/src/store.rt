@@ -93,7 +93,7 @@ impl Store {
         ensures closed { IfOk result (λ _. ForSome (D.seen disk.new) AllClosed) }
         ensures calls { DiskCalls D.Disk disk.old disk.new result }
     {
-        match recover(disk, &view) {
+        match recover(disk, &mut view) {
             Ok(()) => {
                 view.clear();
                 Ok(Store {
@@ -233,7 +233,7 @@ impl Store {
         ensures total { total_of self.new ≡ total_of self.old }
         ensures calls { DiskCalls D.Disk disk.old disk.new result }
     {
-        recover(disk, &self.view)?;
+        recover(disk, &mut self.view)?;
         self.view.clear();
         self.opened = 0;
         Ok(())

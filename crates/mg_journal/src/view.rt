@@ -1,14 +1,17 @@
 // A journal that is looked through and left as it is.
-ghost use Rattle.std.specs.Prelude.{◌≡◌, ◌+◌, ◌≤◌, ◌<◌, [], All, IfOk, IsSome, None, OnOk, length, true};
+ghost use Rattle.std.specs.Prelude.{◌≡◌, ◌+◌, ◌≤◌, ◌<◌, [], All, IfOk, IsSome, IsSomeAnd, None, OnOk, is_some, length, option_map, true};
 ghost use Rattle.std.specs.Option.{ForSome};
-ghost use Rattle.mg_disk.specs.Disk.{HasBlocks, block_at};
-ghost use Rattle.mg_disk.specs.Stops.{DiskCalls, DiskCallsBy, WritesNothing};
+ghost use Rattle.mg_disk.specs.Disk.{HasBlocks, SameBut, block_at};
+ghost use Rattle.mg_disk.specs.Stops.{DiskCalls, DiskCallsBy, Leaves, NothingPending, WritesNothing};
 ghost use Rattle.mg_model.specs.Layout.{globals_block, segment_count};
-ghost use Rattle.mg_model.specs.Replay.{homes_fit, replay};
+ghost use Rattle.mg_model.specs.Replay.{homes_fit, replay, written};
+ghost use Rattle.mg_journal.specs.Applied.{filled};
+ghost use Rattle.mg_journal.specs.Contents.{names};
 ghost use Rattle.mg_journal.specs.Looked.{Fits};
 ghost use Rattle.mg_journal.specs.Newest.{Adds, Ascends, newest_at};
 ghost use Rattle.mg_journal.specs.Places.{IsPlace, place_limit};
 
+use crate::applying::Buffers;
 use crate::faults::ViewFault;
 use crate::places::SEGMENTS;
 use crate::reading::look_segment;
@@ -25,6 +28,8 @@ pub struct View {
     total: u64,
     // Where the newest body of each block lies that the open segments have.
     table: Table,
+    // Memory for the writing of homes.
+    buffers: Buffers,
 }
 
 impl Model for View {
@@ -59,22 +64,38 @@ impl View {
             Ok(table) => table,
             Err(_) => return Err(ViewFault::Memory),
         };
+        let buffers = match Buffers::new(alloc) {
+            Ok(buffers) => buffers,
+            Err(_) => return Err(ViewFault::Memory),
+        };
         for segment in 0..SEGMENTS {
             match look_segment(disk, segment, total, &mut table) {
                 Ok(()) => {}
                 Err(fault) => return Err(fault),
             }
         }
-        Ok(View { total, table })
+        Ok(View {
+            total,
+            table,
+            buffers,
+        })
     }
 
-    /// Where the newest body of each block lies that the open segments have, in the order of blocks.
-    pub(crate) fn places(&self) -> &[(u64, u64)]
-        ensures same { result.now ≡ self.now.table }
-        ensures ascends { Ascends result.now }
-        ensures fit { All (IsPlace self.now.total) result.now }
+    /// Writes the newest body of each block that the open segments have to its home, in the order of blocks, and makes sure of them:
+    /// also where there are none, so that nothing is pending afterwards.
+    pub(crate) fn write_homes<D: Disk>(&mut self, disk: &mut D) -> Result<(), Failed>
+        requires journal { globals_block ≤ self.old.total }
+        requires within_disk { self.old.total ≤ D.block_count disk.old }
+        ensures ascends { Ascends self.old.table }
+        ensures same { self.new ≡ self.old }
+        ensures any_moment { NothingPending D.Disk disk.old → ForSome (D.seen disk.old) (λ image. Leaves D.Disk disk.old disk.new (SameBut (λ k. names (filled image self.old.table) k ≡ true) image)) }
+        ensures written { OnOk result (D.seen disk.new ≡ option_map (λ image. written image (filled image self.old.table)) (D.seen disk.old)) }
+        ensures torn { ForSome (D.seen disk.old) (λ image. IsSomeAnd (D.seen disk.new) (SameBut (λ k. names (filled image self.old.table) k ≡ true) image)) }
+        ensures tells { is_some (D.seen disk.new) ≡ is_some (D.seen disk.old) }
+        ensures settled { OnOk result (NothingPending D.Disk disk.new) }
+        ensures calls { DiskCalls D.Disk disk.old disk.new result }
     {
-        self.table.as_slice()
+        self.buffers.write(disk, self.table.as_slice())
     }
 
     /// Holds that these bodies are the newest, which lie from this block on.

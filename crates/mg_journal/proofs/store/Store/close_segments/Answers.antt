@@ -20,8 +20,8 @@ returns-clause-stands g c =
     let high = stands.room in
     let same = ap (λ (s : Store). s.total) c.self.view_is in
     record {
-      journal = omega (arith, c.clear.ensures.total);
-      room = omega (arith, c.recover.ensures.calls.blocks, c.clear.ensures.total);
+      journal = omega (arith, c.clear.ensures.total, c.recover.ensures.total);
+      room = omega (arith, c.recover.ensures.calls.blocks, c.clear.ensures.total, c.recover.ensures.total);
       settled = c.in_ok-recover.ensures.settled;
       fits = λ now told.
           let from = some_of (λ image. IsRecovered c.self.inside.view.total image now) (g.D.Disk.seen c.args.disk.now) (c.in_ok-recover.ensures.came_from now told) in

@@ -15,8 +15,8 @@ pub returns-in-Ok-clause-stands : goal.returns-in-Ok-clause-stands
 returns-in-Ok-clause-stands g c =
     let total = c.clear.new.self.total in
     record {
-      journal = omega (arith, c.requires.journal, c.clear.ensures.total);
-      room = omega (arith, c.requires.within_disk, c.recover.ensures.calls.blocks, c.clear.ensures.total);
+      journal = omega (arith, c.requires.journal, c.clear.ensures.total, c.recover.ensures.total);
+      room = omega (arith, c.requires.within_disk, c.recover.ensures.calls.blocks, c.clear.ensures.total, c.recover.ensures.total);
       settled = c.in-Ok.ensures.settled;
       fits = λ now told.
           let from = some_of (λ image. IsRecovered c.args.view.total image now) (g.D.Disk.seen c.args.disk.now) (c.in-Ok.ensures.came_from now told) in

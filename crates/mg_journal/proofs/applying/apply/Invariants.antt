@@ -1,4 +1,4 @@
-use Rattle.std.proofs.Common.{◌≡◌, is_some, option_map, take, true}
+use Rattle.std.proofs.Common.{◌≡◌, ◌≤◌, ◌-◌, is_some, length, option_map, take, true}
 use Rattle.std.specs.Prelude.{IsSomeAnd}
 use Rattle.std.specs.Option.{ForSome}
 use Rattle.mg_disk.specs.Disk.{SameBut}
@@ -7,15 +7,21 @@ use Rattle.mg_disk.specs.Stops.{CountGoes, NothingPending}
 use Rattle.mg_model.specs.Replay.{written}
 use Rattle.mg_journal.specs.Applied.{filled}
 use Rattle.mg_journal.specs.Contents.{names}
-use Rattle.mg_journal.proofs.recovering.apply.Given as goal
+use Rattle.mg_journal.proofs.applying.apply.Given as goal
 
 -- the bodies up to this one are at their homes, and only homes differ, both in what reads give and in what a stop leaves
-abbrev pub invariant-loop-place : goal.invariant-loop-place
-invariant-loop-place g l = record {
+abbrev pub invariant-loop-first : goal.invariant-loop-first
+invariant-loop-first g l = record {
+  within : l.first ≤ length l.places;
+  room : length l.run ≡ length l.initial.run;
   blocks : g.D.Disk.block_count l.disk ≡ g.D.Disk.block_count l.initial.disk;
   count : CountGoes g.D.Disk l.initial.disk l.disk;
-  written : g.D.Disk.seen l.disk ≡ option_map (λ image. written image (filled image (take l.place-index l.places))) (g.D.Disk.seen l.initial.disk);
+  written : g.D.Disk.seen l.disk ≡ option_map (λ image. written image (filled image (take l.first l.places))) (g.D.Disk.seen l.initial.disk);
   torn : ForSome (g.D.Disk.seen l.initial.disk) (λ image. IsSomeAnd (g.D.Disk.seen l.disk) (SameBut (λ k. names (filled image l.places) k ≡ true) image));
   tells : is_some (g.D.Disk.seen l.disk) ≡ is_some (g.D.Disk.seen l.initial.disk);
   tracks : NothingPending g.D.Disk l.initial.disk → ForSome (g.D.Disk.seen l.initial.disk) (λ image. Tracks g.D.Disk l.initial.disk l.disk (SameBut (λ k. names (filled image l.places) k ≡ true) image) (SameBut (λ k. names (filled image l.places) k ≡ true) image));
 }
+
+-- the places that are left
+abbrev pub decreases-loop-first : goal.decreases-loop-first
+decreases-loop-first g l = length l.places - l.first

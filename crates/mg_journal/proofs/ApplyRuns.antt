@@ -1,0 +1,187 @@
+-- Bodies that are read together, and homes that are written together.
+use Rattle.std.specs.Prelude.{◌≡◌, ◌++◌, ◌+◌, ◌-◌, ◌≤◌, ◌<◌, ℕ, zero, suc, true, All, List, [], drop, length, IsSomeAnd, option_map, slice_set, take, Option, Some, None}
+use Rattle.std.specs.Option.{ForSome}
+use Rattle.std.proofs.Common.{refl, sym, ap, subst, ◌∙◌, ⊎_elim, arith}
+use Rattle.std.proofs.lemmas.Bool.{cases_lt}
+use Rattle.std.proofs.lemmas.List.{ext_get_or, get_or_past, get_or-set_other, get_or-set_same, get_or-take, length-take}
+use Rattle.std.proofs.lemmas.Simd.{get_or-put_chunk_above, get_or-put_chunk_at, get_or-put_chunk_below, put_chunk_is}
+use Rattle.std.specs.Simd.Lanes.{put_chunk}
+use Rattle.mg_disk.specs.Disk.{HasBlocks, Image, InRange, SameBut, SeenBut, block_at}
+use Rattle.mg_disk.specs.PlaceLemmas.{same_after, same_as}
+use Rattle.mg_disk.specs.Runs.{leaves_quiet, leaves_then, leaves_yet, only_image}
+use Rattle.mg_disk.specs.Stops.{Leaves, NothingPending, WritesNothing}
+use Rattle.mg_disk.specs.declared.disk.Disk.{Ghosts}
+use Rattle.mg_journal.proofs.ApplySteps.{filled_more, named_place}
+use Rattle.mg_journal.specs.Applied.{AreInRow, HasBodies, HasRun, filled, nth_body, nth_home}
+use Rattle.mg_journal.specs.Contents.{names}
+use Rattle.mg_journal.specs.Places.{IsPlace}
+use Rattle.mg_journal.specs.WrittenLemmas.{written_elsewhere}
+use Rattle.mg_model.specs.Layout.{globals_block}
+use Rattle.mg_model.specs.Replay.{written}
+use borrow.Rule.Slice.PartMut.{put_mid}
+
+-- a part that is put into a list of blocks
+module _ (low high : ℕ) (old part : Image) (ordered : low ≤ high) (within : high ≤ length old) (long : length part ≡ high - low) where
+  abbrev put : Image
+  put = put_mid low (high - low) old part
+
+  end : high ≡ low + length part
+  end = omega arith
+
+  is_chunk : put ≡ put_chunk low old part
+  is_chunk =
+      ap (λ n. take low old ++ (part ++ drop n (drop low old))) (sym long)
+      ∙ sym (put_chunk_is low old part (omega arith))
+
+  before : (k : ℕ) → k < low → block_at put k ≡ block_at old k
+  before k less = ap (λ l. block_at l k) is_chunk ∙ get_or-put_chunk_below low old part k [] less
+
+  among : (j : ℕ) → j < length part → block_at put (low + j) ≡ block_at part j
+  among j less = ap (λ l. block_at l (low + j)) is_chunk ∙ get_or-put_chunk_at low old part j [] less (omega arith)
+
+  behind : (k : ℕ) → high ≤ k → block_at put k ≡ block_at old k
+  behind k more = ap (λ l. block_at l k) is_chunk ∙ get_or-put_chunk_above low old part k [] (omega arith)
+
+  has : (image : Image) → HasBlocks low part image → (k : ℕ) → low ≤ k → k < high → block_at put k ≡ block_at image k
+  has image read k from to =
+      let at : low + (k - low) ≡ k = omega arith in
+      subst (λ i. block_at put i ≡ block_at image i) at (among (k - low) (omega arith) ∙ sym (read (k - low) (omega arith)))
+
+  -- bodies that are read there
+  pub part_read : (places : List (ℕ × ℕ)) (from to : ℕ) (image : Image)
+      → ((k : ℕ) → k < length places → from ≤ nth_body places k → nth_body places k < to → (low ≤ nth_body places k) × (nth_body places k < high))
+      → HasBlocks low part image → HasBodies from places old image → HasBodies to places put image
+  part_read places from to image all read so_far k inside less =
+      ⊎_elim (λ below. before body below ∙ so_far k inside (early (λ l. let h = l.0 in omega arith)))
+      (λ above. ⊎_elim (λ under. has image read body above under) (λ over. behind body over ∙ so_far k inside (early (λ l. let h = l.1 in omega arith))) (cases_lt body high)) (cases_lt body low)
+    where
+      body : ℕ
+      body = nth_body places k
+
+      early : ((low ≤ body) × (body < high) → ⊥) → body < from
+      early out = ⊎_elim (λ under. under) (λ over. absurd (out (all k inside over less))) (cases_lt body from)
+
+-- homes that are written together
+module _ (places : List (ℕ × ℕ)) (a : Image) (first : ℕ) where
+  abbrev so_far : ℕ → Image
+  so_far n = written a (filled a (take (first + n) places))
+
+  abbrev home : ℕ
+  home = nth_home places first
+
+  step : (j : ℕ) → first + j < length places → so_far (j + 1) ≡ slice_set (so_far j) (nth_home places (first + j)) (block_at a (nth_body places (first + j)))
+  step j inside =
+      let more : first + (j + 1) ≡ first + j + 1 = omega arith in
+      ap (λ n. written a (filled a (take n places))) more ∙ filled_more a places (first + j) inside
+
+  count_is : (n : ℕ) → length (so_far n) ≡ length a
+  count_is n = (written_elsewhere (filled a (take (first + n) places)) a).count
+
+  module _ (new : Image) (long : length new ≡ length a) where
+    -- after the first n of them: those are as in the new image, and all else is as it was
+    record Written (n : ℕ) : Type 0 where
+      here : (i : ℕ) → home ≤ i → i < home + n → block_at (so_far n) i ≡ block_at new i
+      below : (i : ℕ) → i < home → block_at (so_far n) i ≡ block_at (so_far 0) i
+      above : (i : ℕ) → home + n ≤ i → block_at (so_far n) i ≡ block_at (so_far 0) i
+
+    one_more : (n : ℕ) → first + n < length places → nth_home places (first + n) ≡ home + n → block_at new (home + n) ≡ block_at a (nth_body places (first + n)) → Written n → Written (n + 1)
+    one_more n inside row has w = record {
+      here = λ i low high.
+          ⊎_elim (λ less. other i (omega arith) ∙ w.here i low less)
+          (λ more. let last : home + n ≡ i = omega arith in subst (λ k. block_at (so_far (n + 1)) k ≡ block_at new k) last at) (cases_lt i (home + n));
+      below = λ i low. other i (omega arith) ∙ w.below i low;
+      above = λ i high. other i (omega arith) ∙ w.above i (omega arith);
+    }
+      where
+        set_is : so_far (n + 1) ≡ slice_set (so_far n) (home + n) (block_at new (home + n))
+        set_is = step n inside ∙ ap (λ h. slice_set (so_far n) h (block_at a (nth_body places (first + n)))) row ∙ ap (slice_set (so_far n) (home + n)) (sym has)
+
+        other : (i : ℕ) → (i ≡ home + n → ⊥) → block_at (so_far (n + 1)) i ≡ block_at (so_far n) i
+        other i apart = ap (λ l. block_at l i) set_is ∙ get_or-set_other (so_far n) (home + n) i (block_at new (home + n)) [] apart
+
+        at : block_at (so_far (n + 1)) (home + n) ≡ block_at new (home + n)
+        at =
+            ⊎_elim (λ inside. ap (λ l. block_at l (home + n)) set_is ∙ get_or-set_same (so_far n) (home + n) (block_at new (home + n)) [] inside)
+            (λ past. let l = count_is (n + 1) in let m = count_is n in get_or_past (so_far (n + 1)) (home + n) [] (omega arith) ∙ sym (get_or_past new (home + n) [] (omega arith)))
+            (cases_lt (home + n) (length (so_far n)))
+
+    all_of : (n : ℕ) → first + n ≤ length places → AreInRow places first n → ((j : ℕ) → j < n → block_at new (home + j) ≡ block_at a (nth_body places (first + j))) → Written n
+    all_of zero inside row has = record { here = λ i low high. absurd (omega arith); below = λ i low. refl; above = λ i high. refl }
+    all_of (suc n) inside row has =
+        let next : n + 1 ≡ suc n = omega arith in
+        subst Written next (one_more n (omega arith) (row n (omega arith)) (has n (omega arith)) (all_of n (omega arith) (λ j less. row j (omega arith)) (λ j less. has j (omega arith))))
+
+  -- they are, where the new image has the run and is otherwise as it was
+  row_written : (n : ℕ) (memory run new : Image) → first + n ≤ length places → AreInRow places first n → HasRun places first n memory run → length run ≡ n
+      → HasBodies globals_block places memory a → ((k : ℕ) → k < length places → nth_body places k < globals_block)
+      → SameBut (InRange home n) (so_far 0) new → HasBlocks home run new → new ≡ so_far n
+  row_written n memory run new inside row gathered long bodies low same has =
+      ext_get_or [] new (so_far n) (count ∙ sym (count_is n))
+      (λ i under. ⊎_elim (λ less. same.others i (λ at. let f = at.from in omega arith) ∙ sym (done.below i less))
+      (λ from. ⊎_elim (λ less. sym (done.here i from less)) (λ past. same.others i (λ at. let t = at.before in omega arith) ∙ sym (done.above i past)) (cases_lt i (home + n))) (cases_lt i home))
+    where
+      count : length new ≡ length a
+      count = same.count ∙ count_is 0
+
+      done : Written new count n
+      done =
+          all_of new count n inside row
+          (λ j less.
+          has j (omega arith)
+          ∙ gathered j less
+          ∙ bodies (first + j) (omega arith) (low (first + j) (omega arith)))
+
+-- each place of a row is a home
+pub named_row : (a : Image) (places : List (ℕ × ℕ)) (first n : ℕ) (buffer : Image) → first + n ≤ length places → AreInRow places first n → (k : ℕ) → InRange (nth_home places first) (length (take n buffer)) k → names (filled a places) k ≡ true
+named_row a places first n buffer inside row k at =
+    let low = at.from in
+    let high = at.before in
+    let l = length-take n buffer in
+    let j : ℕ = k - nth_home places first in
+    let is : nth_home places (first + j) ≡ k = omega (arith, row j (omega arith)) in
+    subst (λ i. names (filled a places) i ≡ true) is (named_place a places (first + j) (omega arith))
+
+-- a row more is written
+pub row_applied : (n : ℕ) (places : List (ℕ × ℕ)) (first count : ℕ) (memory buffer : Image) (told mid new : Option Image) → All (IsPlace n) places → first + count ≤ length places → AreInRow places first count
+    → HasRun places first count memory buffer → count ≤ length buffer → ForSome told (HasBodies globals_block places memory)
+    → mid ≡ option_map (λ a. written a (filled a (take first places))) told → SeenBut (InRange (nth_home places first) (length (take count buffer))) mid new → ForSome new (HasBlocks (nth_home places first) (take count buffer))
+    → new ≡ option_map (λ a. written a (filled a (take (first + count) places))) told
+row_applied n places first count memory buffer None mid None all inside row gathered room bodies so_far same has = refl
+row_applied n places first count memory buffer None mid (Some b) all inside row gathered room bodies so_far same has =
+    absurd (subst (λ o. SeenBut (InRange (nth_home places first) (length (take count buffer))) o (Some b)) so_far same)
+row_applied n places first count memory buffer (Some a) mid None all inside row gathered room bodies so_far same has =
+    absurd (subst (λ o. SeenBut (InRange (nth_home places first) (length (take count buffer))) o None) so_far same)
+row_applied n places first count memory buffer (Some a) mid (Some b) all inside row gathered room bodies so_far same has =
+    ap (λ x. Some x)
+    (row_written places a first count memory (take count buffer) b inside row
+    (λ j less. get_or-take count buffer j [] less ∙ gathered j less) long (bodies a refl) (λ k less. (all k (0, 0) less).body) but (has b refl))
+  where
+    long : length (take count buffer) ≡ count
+    long = let l = length-take count buffer in omega arith
+
+    none : first ≡ first + 0
+    none = omega arith
+
+    but : SameBut (InRange (nth_home places first) count) (written a (filled a (take (first + 0) places))) b
+    but =
+        subst (λ f. SameBut (InRange (nth_home places first) count) (written a (filled a (take f places))) b) none
+        (subst (λ c. SameBut (InRange (nth_home places first) c) (written a (filled a (take first places))) b) long
+        (subst (λ o. SeenBut (InRange (nth_home places first) (length (take count buffer))) o (Some b)) so_far same))
+
+-- What reads give after one call more, whatever it answers: still the image as it was told first but at these places.
+pub torn_more : (P : Image → ℕ → Type 0) (these : ℕ → Type 0) (told mid new : Option Image) → ((a : Image) (k : ℕ) → these k → P a k) → ForSome told (λ a. IsSomeAnd mid (SameBut (P a) a)) → SeenBut these mid new → ForSome told (λ a. IsSomeAnd new (SameBut (P a) a))
+torn_more P these told None new among so_far one a is = absurd (so_far a is)
+torn_more P these told (Some b) None among so_far one a is = absurd one
+torn_more P these told (Some b) (Some c) among so_far one a is = same_after (P a) these (P a) a b c (λ k at. at) (among a) (so_far a is) one
+
+-- calls that write nothing leave the image
+pub leaves_same : {D : Type 0} (facts : Ghosts D) (old mid : D) (places : ℕ → Type 0) (image : Image) → facts.has_been old (facts.moment old) → NothingPending facts old → facts.seen old ≡ Some image → WritesNothing facts old mid → Leaves facts old mid (SameBut places image)
+leaves_same facts old mid places image been settled told nothing =
+    leaves_quiet facts old old mid (SameBut places image)
+    (leaves_yet facts old (SameBut places image) been (λ c left. same_as places image c (only_image facts old image c (record { told = told; settled = settled }) left))) nothing.stops
+
+-- what a stop may leave since a call that wrote nothing, it may leave since before
+pub leaves_behind : {D : Type 0} (facts : Ghosts D) (old mid new : D) (places : ℕ → Type 0) (image : Image) → facts.has_been old (facts.moment old) → NothingPending facts old → facts.seen old ≡ Some image → WritesNothing facts old mid
+    → Leaves facts mid new (SameBut places image) → Leaves facts old new (SameBut places image)
+leaves_behind facts old mid new places image been settled told nothing then =
+    leaves_then facts old mid new (SameBut places image) (SameBut places image) (leaves_same facts old mid places image been settled told nothing) then (λ c same. same)

@@ -1,0 +1,50 @@
+use Rattle.std.proofs.Common.{rules, ◌≡◌, ◌≤◌, ◌∙◌, ℕ, arith, length, refl, true}
+use Rattle.mg_disk.specs.Disk.{InRange, SameBut}
+use Rattle.mg_disk.specs.Runs.{torn_at}
+use Rattle.mg_journal.specs.Applied.{filled, nth_home}
+use Rattle.mg_journal.specs.Contents.{names}
+use Rattle.mg_journal.proofs.ApplyRuns.{named_row, row_applied, torn_more}
+use Rattle.mg_journal.proofs.PhaseSteps.{told_still}
+use Rattle.mg_journal.proofs.applying.apply.Goals as goal
+
+pub returns-in_err-write_blocks-clause-any_moment : goal.returns-in_err-write_blocks-clause-any_moment
+returns-in_err-write_blocks-clause-any_moment g c pending image told =
+    let places = c.args.places.now in
+    let row = c.count_row-count.ensures in
+    let first = c.loop-first.first in
+    let P : ℕ → Type 0 = λ i. names (filled image places) i ≡ true in
+    (torn_at g.D.Disk P image c.args.disk.now c.loop-first.disk c.write_blocks.new.self (InRange (nth_home places first) _) (SameBut P image) (c.loop-first.invariant.tracks pending image told)
+    c.write_blocks.ensures.stops (named_row image places first c.count_row-count.result c.gather.new.run row.there row.row) (λ x same. same)).leaves
+
+pub returns-in_err-write_blocks-clause-torn : goal.returns-in_err-write_blocks-clause-torn
+returns-in_err-write_blocks-clause-torn g c =
+    let places = c.args.places.now in
+    let row = c.count_row-count.ensures in
+    let first = c.loop-first.first in
+    torn_more (λ image i. names (filled image places) i ≡ true) (InRange (nth_home places first) _) (g.D.Disk.seen c.args.disk.now) (g.D.Disk.seen c.loop-first.disk) (g.D.Disk.seen c.write_blocks.new.self)
+    (λ image. named_row image places first c.count_row-count.result c.gather.new.run row.there row.row) c.loop-first.invariant.torn c.write_blocks.ensures.unknown
+
+pub loop-first-preserved : goal.loop-first-preserved
+loop-first-preserved g c =
+    let places = c.args.places.now in
+    let row = c.count_row-count.ensures in
+    let first = c.loop-first.first in
+    let n = c.count_row-count.result in
+    let run = c.gather.new.run in
+    let inv = c.loop-first.invariant in
+    let room : n ≤ length run = omega (arith, row.at_most, c.gather.ensures.room) in
+    record {
+      within = row.there;
+      room = c.gather.ensures.room ∙ inv.room;
+      blocks = c.write_blocks.ensures.blocks ∙ inv.blocks;
+      count = search rules;
+      written = row_applied (g.D.Disk.block_count c.args.disk.now) places first n c.args.journal.now run (g.D.Disk.seen c.args.disk.now) (g.D.Disk.seen c.loop-first.disk) (g.D.Disk.seen c.write_blocks.new.self)
+          c.requires.all_on_disk row.there row.row c.gather.ensures.gathered room c.requires.read inv.written c.write_blocks.ensures.unknown c.in_ok-write_blocks.ensures.written;
+      torn = torn_more (λ image i. names (filled image places) i ≡ true) (InRange (nth_home places first) _) (g.D.Disk.seen c.args.disk.now) (g.D.Disk.seen c.loop-first.disk) (g.D.Disk.seen c.write_blocks.new.self)
+          (λ image. named_row image places first n run row.there row.row) inv.torn c.write_blocks.ensures.unknown;
+      tells = told_still (InRange (nth_home places first) _) (g.D.Disk.seen c.loop-first.disk) (g.D.Disk.seen c.write_blocks.new.self) (g.D.Disk.seen c.write_blocks.new.self) c.write_blocks.ensures.unknown refl ∙ inv.tells;
+      tracks = λ pending image told.
+          let P : ℕ → Type 0 = λ i. names (filled image places) i ≡ true in
+          torn_at g.D.Disk P image c.args.disk.now c.loop-first.disk c.write_blocks.new.self (InRange (nth_home places first) _) (SameBut P image) (inv.tracks pending image told)
+          c.write_blocks.ensures.stops (named_row image places first n run row.there row.row) (λ x same. same);
+    }

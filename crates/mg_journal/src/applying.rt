@@ -1,0 +1,195 @@
+// Writing homes: the newest bodies are read from the journal into memory, and go home from there.
+ghost use Rattle.std.specs.Prelude.{◌≡◌, ◌≤◌, ◌<◌, ◌+◌, ℕ, All, IfOk, IsSomeAnd, OnOk, is_some, length, option_map, true};
+ghost use Rattle.std.specs.Option.{ForSome};
+ghost use Rattle.mg_disk.specs.Disk.{SameBut};
+ghost use Rattle.mg_disk.specs.Stops.{DiskCalls, Leaves, NothingPending, WritesNothing};
+ghost use Rattle.mg_model.specs.Layout.{body_limit, globals_block};
+ghost use Rattle.mg_model.specs.Replay.{written};
+ghost use Rattle.mg_journal.specs.Applied.{AreInRow, HasBodies, HasRun, filled, nth_body};
+ghost use Rattle.mg_journal.specs.Contents.{names};
+ghost use Rattle.mg_journal.specs.Places.{IsPlace};
+
+use crate::places::{SEGMENTS, gate_of};
+use crate::writes::MOST_WRITES;
+use mg_disk::{BLOCK_SIZE, Block, Disk};
+use mg_faults::Failed;
+use mg_layout::{GLOBALS_BLOCK, SEGMENT_SIZE};
+use std::alloc::{AllocError, Global};
+use std::marker::Model;
+
+/// Memory for the writing of homes. It is taken once, and first touched when homes are written.
+#[derive(Drop)]
+pub(crate) struct Buffers {
+    // What blocks of the journal hold, each at its own place.
+    journal: Vec<Block>,
+    // Bodies whose homes follow one another.
+    run: Vec<Block>,
+}
+
+impl Model for Buffers {
+    ghost use Rattle.std.specs.Prelude.{◌≤◌, vec_capacity};
+    ghost use Rattle.mg_model.specs.Layout.{body_limit, globals_block};
+
+    ghost Value = { Unit {0} };
+
+    ghost view = { λ _. tt };
+
+    ghost invariant = { λ b. (globals_block ≤ vec_capacity b.journal) × (body_limit ≤ vec_capacity b.run) };
+}
+
+impl Buffers {
+    /// Takes all memory that the writing of homes will need.
+    pub(crate) fn new(alloc: Global) -> Result<Buffers, AllocError> {
+        Ok(Buffers {
+            journal: Vec::with_capacity(alloc, GLOBALS_BLOCK as usize)?,
+            run: Vec::with_capacity(alloc, MOST_WRITES)?,
+        })
+    }
+
+    /// Writes the bodies at these places to their homes, in order, and makes sure of them: also where there are none, so that
+    /// nothing is pending afterwards.
+    pub(crate) fn write<D: Disk>(
+        &mut self,
+        disk: &mut D,
+        places: &[(u64, u64)],
+    ) -> Result<(), Failed>
+        requires within_disk { globals_block ≤ D.block_count disk.old }
+        requires all_on_disk { All (IsPlace (D.block_count disk.old)) places.now }
+        ensures any_moment { NothingPending D.Disk disk.old → ForSome (D.seen disk.old) (λ image. Leaves D.Disk disk.old disk.new (SameBut (λ k. names (filled image places.now) k ≡ true) image)) }
+        ensures written { OnOk result (D.seen disk.new ≡ option_map (λ image. written image (filled image places.now)) (D.seen disk.old)) }
+        ensures torn { ForSome (D.seen disk.old) (λ image. IsSomeAnd (D.seen disk.new) (SameBut (λ k. names (filled image places.now) k ≡ true) image)) }
+        ensures tells { is_some (D.seen disk.new) ≡ is_some (D.seen disk.old) }
+        ensures settled { OnOk result (NothingPending D.Disk disk.new) }
+        ensures calls { DiskCalls D.Disk disk.old disk.new result }
+    {
+        // There is room.
+        let _ = self.journal.resize(GLOBALS_BLOCK as usize, [0; BLOCK_SIZE]);
+        let _ = self.run.resize(MOST_WRITES, [0; BLOCK_SIZE]);
+        read_bodies(disk, places, &mut self.journal)?;
+        apply(disk, places, &self.journal, &mut self.run)
+    }
+}
+
+// The blocks from the first body to the last that these places have from one block on and before another; no blocks where they have
+// none there.
+fn span_of(places: &[(u64, u64)], from: u64, to: u64) -> (u64, u64)
+    ensures all { (k : ℕ) → k < length places.now → from ≤ nth_body places.now k → nth_body places.now k < to → (result.0 ≤ nth_body places.now k) × (nth_body places.now k < result.1) }
+    ensures ordered { result.0 ≤ result.1 }
+    ensures within { result.1 ≤ to }
+{
+    let mut low = to;
+    let mut high = 0;
+    for k in 0..places.len() {
+        let body = places[k].1;
+        if from <= body && body < to {
+            low = low.min(body);
+            high = high.max(body + 1);
+        }
+    }
+    (low, high.max(low))
+}
+
+// Reads the bodies that lie from one block on and before another, in one call.
+fn read_part<D: Disk>(
+    disk: &mut D,
+    places: &[(u64, u64)],
+    from: u64,
+    to: u64,
+    journal: &mut [Block],
+) -> Result<(), Failed>
+    requires whole { length journal.old ≡ globals_block }
+    requires in_journal { to ≤ globals_block }
+    requires within_disk { globals_block ≤ D.block_count disk.old }
+    ensures read { OnOk result (ForSome (D.seen disk.old) (λ image. HasBodies from places.now journal.old image → HasBodies to places.now journal.new image)) }
+    ensures whole { length journal.new ≡ length journal.old }
+    ensures writes { WritesNothing D.Disk disk.old disk.new }
+    ensures calls { DiskCalls D.Disk disk.old disk.new result }
+{
+    let (low, high) = span_of(places, from, to);
+    disk.read_blocks(low, &mut journal[low as usize..high as usize])
+}
+
+// Reads the bodies at these places, those of a segment in one call.
+fn read_bodies<D: Disk>(
+    disk: &mut D,
+    places: &[(u64, u64)],
+    journal: &mut [Block],
+) -> Result<(), Failed>
+    requires whole { length journal.old ≡ globals_block }
+    requires within_disk { globals_block ≤ D.block_count disk.old }
+    ensures read { OnOk result (ForSome (D.seen disk.old) (HasBodies globals_block places.now journal.new)) }
+    ensures whole { length journal.new ≡ length journal.old }
+    ensures writes { WritesNothing D.Disk disk.old disk.new }
+    ensures calls { DiskCalls D.Disk disk.old disk.new result }
+{
+    let mut from = 0;
+    for segment in 0..SEGMENTS {
+        let to = gate_of(segment) + SEGMENT_SIZE;
+        read_part(disk, places, from, to, journal)?;
+        from = to;
+    }
+    Ok(())
+}
+
+// How many homes follow one another from place `first` on, `most` at most.
+fn count_row(places: &[(u64, u64)], first: usize, most: usize) -> usize
+    requires there { first < length places.now }
+    requires some { 0 < most }
+    requires few { most ≤ body_limit }
+    requires behind { All (λ place. globals_block ≤ place.0) places.now }
+    ensures some { 0 < result }
+    ensures at_most { result ≤ most }
+    ensures there { first + result ≤ length places.now }
+    ensures row { AreInRow places.now first result }
+{
+    let home = places[first].0;
+    let most = most.min(places.len() - first);
+    for j in 0..most {
+        if places[first + j].0 - j as u64 != home {
+            return j;
+        }
+    }
+    most
+}
+
+// Puts the bodies of so many places from place `first` on one behind the other.
+fn gather(places: &[(u64, u64)], first: usize, count: usize, journal: &[Block], run: &mut [Block])
+    requires there { first + count ≤ length places.now }
+    requires room { count ≤ length run.old }
+    requires whole { length journal.now ≡ globals_block }
+    requires bodies { All (λ place. place.1 < globals_block) places.now }
+    ensures gathered { HasRun places.now first count journal.now run.new }
+    ensures room { length run.new ≡ length run.old }
+{
+    for j in 0..count {
+        run[j] = journal[places[first + j].1 as usize];
+    }
+}
+
+// Writes the bodies at these places to their homes, in order, those that follow one another in one call, and makes sure of them.
+fn apply<D: Disk>(
+    disk: &mut D,
+    places: &[(u64, u64)],
+    journal: &[Block],
+    run: &mut [Block],
+) -> Result<(), Failed>
+    requires all_on_disk { All (IsPlace (D.block_count disk.old)) places.now }
+    requires whole { length journal.now ≡ globals_block }
+    requires read { ForSome (D.seen disk.old) (HasBodies globals_block places.now journal.now) }
+    requires room { length run.old ≡ body_limit }
+    ensures any_moment { NothingPending D.Disk disk.old → ForSome (D.seen disk.old) (λ image. Leaves D.Disk disk.old disk.new (SameBut (λ k. names (filled image places.now) k ≡ true) image)) }
+    ensures written { OnOk result (D.seen disk.new ≡ option_map (λ image. written image (filled image places.now)) (D.seen disk.old)) }
+    ensures torn { ForSome (D.seen disk.old) (λ image. IsSomeAnd (D.seen disk.new) (SameBut (λ k. names (filled image places.now) k ≡ true) image)) }
+    ensures tells { is_some (D.seen disk.new) ≡ is_some (D.seen disk.old) }
+    ensures settled { OnOk result (NothingPending D.Disk disk.new) }
+    ensures calls { DiskCalls D.Disk disk.old disk.new result }
+{
+    let mut first = 0;
+    while first < places.len() {
+        let count = count_row(places, first, run.len());
+        gather(places, first, count, journal, run);
+        disk.write_blocks(places[first].0, &run[..count])?;
+        first += count;
+    }
+    disk.sync()
+}
