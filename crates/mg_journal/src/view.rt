@@ -156,7 +156,7 @@ impl View {
         ensures writes { WritesNothing D.Disk disk.old disk.new }
         ensures calls { DiskCalls D.Disk disk.old disk.new result }
     {
-        let _total = self.total;
+        disk.keeps_count();
         disk.read_blocks(first, out)?;
         for k in 0..out.len() {
             self.read_newer(disk, first + k as u64, &mut out[k])?;
