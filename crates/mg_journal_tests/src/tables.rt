@@ -50,11 +50,7 @@ fn no_page<D: Disk, L: Ledger>(
     }
 }
 
-fn loaded<D: Disk, L: Ledger>(
-    pages: &mut Pages,
-    disk: &mut D,
-    steps: &mut Steps<L>,
-) -> Option<Read>
+fn loaded<D: Disk, L: Ledger>(pages: &mut Pages, disk: &mut D, steps: &mut Steps<L>) -> Option<Read>
     requires frames { frame_count pages.old ≡ 64 }
     requires unbound { are_zeros (table_in pages.old) ≡ true }
     requires stands { Stands D.Disk (store_of pages.old) disk.old }
@@ -120,5 +116,7 @@ fn pages_bound<L: Ledger>(alloc: Global, blank: Blank) -> Option<Read>
 // A page that stands twice, as in no volume, is bound to the first of its frames. A word of no page is 0, and is counted.
 #[test]
 fn a_table_binds_each_page_once(rt: HostRuntime) {
-    assert!(rt; pages_bound::<Brand>(rt.alloc(), Blank::new(1)) == Some(([[0; 5], [7, 0, 9, 0, 0]], [0, 1])));
+    assert!(rt;
+        pages_bound::<Brand>(rt.alloc(), Blank::new(1)) == Some(([[0; 5], [7, 0, 9, 0, 0]], [0, 1]))
+    );
 }

@@ -29,7 +29,7 @@ fn charged(row: AccRow, due: u64) -> AccRow
     }
 }
 
-// As much of what is due as can be added to what the account owes: all of it, where the sum is a word.
+// As much of what is due as can be added to what the account owes: all of it where the sum is a word.
 fn addable(row: AccRow, due: u64) -> u64
     ensures a_word { row.owed + result < 2 ^ 64 }
     ensures all { row.owed + due < 2 ^ 64 → result ≡ due }
@@ -37,8 +37,8 @@ fn addable(row: AccRow, due: u64) -> u64
     due.min(u64::MAX - row.owed)
 }
 
-/// Charges account n what is due, and gives what it pays. An account that is not there pays nothing. What it owes stays a word
-/// in any case, and where it owes so much that the sum is none, no more is told than that no credit comes or goes.
+/// Charges account n what is due, and gives what it pays. An account that is not there pays nothing. Where what it owes and what
+/// is due make more than a word together, it is charged less. No credit comes or goes in any case.
 pub(crate) fn charge(b: &mut Bank, n: u64, due: u64) -> u64
     ensures accounts { owed_by b.old.accounts n + due < 2 ^ 64 → b.new.accounts ≡ charged_at b.old.accounts n due }
     ensures paid { owed_by b.old.accounts n + due < 2 ^ 64 → result ≡ paid_at b.old.accounts n due }

@@ -46,8 +46,10 @@ pub fn collect(b: &mut Bank, t: &Tariff, used: u64, period: u64) -> Result<u64, 
 /// Charges all accounts at this rate for each page, and gives the sum of what was paid. Each account is charged, from
 /// the first on, for the pages that it pays for: with what it owes already it pays what is due, all that it has at most, and owes
 /// the rest. Then account 1, the treasury, receives the sum. There is a treasury, the rate is at most `2^20`, and none pays for
-/// more than 65,536 pages. That is said where no account owes more than `2^60`, as none does in any period; whatever they owe, no
-/// credit comes or goes. No object is looked at: the time is in the number of accounts.
+/// more than 65,536 pages. No object is looked at: the time is in the number of accounts.
+///
+/// The sums are exact where no account owes more than `2^60`, as in every state that is well formed. Whatever accounts owe, no
+/// credit comes or goes.
 pub fn charge_all(b: &mut Bank, rate: u64) -> u64
     requires treasury { 1 ≤ length b.old.accounts }
     requires rate { rate ≤ step_limit }

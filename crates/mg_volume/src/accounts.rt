@@ -135,8 +135,8 @@ impl Volume {
     /// [`Volume::stage_globals`]. In the last period, `2^24 - 1`, it is refused (Calendar), and nothing changes. At most 144 blocks
     /// are staged, and 16 more at most then.
     ///
-    /// What each pays is said where no account owes more than `2^60`, as none does in a state that is well formed. Whatever they
-    /// owe, nothing but the accounts changes, and no credit comes or goes.
+    /// The sums are exact where no account owes more than `2^60`, as in every state that is well formed. Whatever accounts owe,
+    /// nothing but the accounts changes, and no credit comes or goes.
     pub fn collect(&mut self) -> Result<u64, Refusal>
         requires at_most_144_staged { staged_of self.old ≤ 144 }
         ensures refusal { MatchResult result (λ _. ((counters_in self.old).period == period_limit) ≡ false) (λ word. (word ≡ Calendar) × (((counters_in self.old).period == period_limit) ≡ true)) }

@@ -127,6 +127,8 @@ fn rest_of(volume: &mut Volume) -> Option<Rest>
 {
     volume.stage_thread(256, Some(thread()));
     volume.stage_thread(1, None);
+    // A period may come after a later one.
+    put(volume, Globals::new(2, 5, 256, 9))?;
     put(volume, Globals::new(2, 3, 256, 9))?;
     let passwords = [next(volume)?, next(volume)?];
     let are_seen = [
