@@ -3,8 +3,8 @@ ghost use Rattle.std.specs.Prelude.{◌≡◌, ◌≤◌, ◌<◌, ◌+◌, ◌%
 ghost use Rattle.std.specs.Option.{ForSome};
 ghost use Rattle.mg_calls_dom.specs.Served.{CallServes, of_call};
 ghost use Rattle.mg_calls_thr.specs.Making.{Begins, first_frame, first_row};
+ghost use Rattle.mg_model.specs.Abbreviations as names;
 ghost use Rattle.mg_model.specs.Limits.{birth_limit, thread_limit};
-ghost use Rattle.mg_model.specs.Threads as threads;
 ghost use Rattle.mg_vcache.specs.Seats.{AllBacked};
 ghost use Rattle.mg_volume.specs.Calls.{CallStages, IsSoundOn};
 ghost use Rattle.mg_volume.specs.Meaning.{counters_in, now_of, staged_of, threads_in};
@@ -72,7 +72,7 @@ pub fn validated_make<D: Disk, L: Ledger>(
 // The number that a new thread gets; none where there are 256 threads, or no birth is left.
 fn next_number(v: &Volume) -> Option<u64>
     ensures number { MatchOption result ((nat_le thread_limit (length (threads_in v.now)) || nat_le birth_limit (counters_in v.now).births) ≡ true)
-        (λ n. ((nat_le thread_limit (length (threads_in v.now)) || nat_le birth_limit (counters_in v.now).births) ≡ false) × (n ≡ threads.free_number (threads_in v.now)) × (lives v.now n ≡ false)) }
+        (λ n. ((nat_le thread_limit (length (threads_in v.now)) || nat_le birth_limit (counters_in v.now).births) ≡ false) × (n ≡ names.free_number (threads_in v.now)) × (lives v.now n ≡ false)) }
     ensures range { IfSome result (λ n. (1 ≤ n) × (n ≤ 256)) }
     ensures births { IfSome result (λ _. (counters_in v.now).births < birth_limit) }
 {
