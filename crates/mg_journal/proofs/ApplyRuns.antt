@@ -141,6 +141,14 @@ named_row a places first n buffer inside row k at =
     let is : nth_home places (first + j) ≡ k = omega (arith, row j (omega arith)) in
     subst (λ i. names (filled a places) i ≡ true) is (named_place a places (first + j) (omega arith))
 
+-- a row ends on the disk
+pub row_fits : (total : ℕ) (places : List (ℕ × ℕ)) (first n : ℕ) (buffer : Image) → All (IsPlace total) places → 0 < n → first + n ≤ length places → AreInRow places first n → nth_home places first + length (take n buffer) ≤ total
+row_fits total places first n buffer all some inside row =
+    let last = row (n - 1) (omega arith) in
+    let high = (all (first + (n - 1)) (0, 0) (omega arith)).high in
+    let l = length-take n buffer in
+    omega (arith, last, high, l)
+
 -- a row more is written
 pub row_applied : (n : ℕ) (places : List (ℕ × ℕ)) (first count : ℕ) (memory buffer : Image) (told mid new : Option Image) → All (IsPlace n) places → first + count ≤ length places → AreInRow places first count
     → HasRun places first count memory buffer → count ≤ length buffer → ForSome told (HasBodies globals_block places memory)

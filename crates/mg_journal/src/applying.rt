@@ -1,5 +1,5 @@
 // Writing homes: the newest bodies are read from the journal into memory, and go home from there.
-ghost use Rattle.std.specs.Prelude.{◌≡◌, ◌≤◌, ◌<◌, ◌+◌, ℕ, All, IfOk, IsSomeAnd, OnOk, is_some, length, option_map, true};
+ghost use Rattle.std.specs.Prelude.{◌≡◌, ◌≤◌, ◌<◌, ◌+◌, ℕ, All, IsSomeAnd, OnOk, is_some, length, min, option_map, true, vec_capacity};
 ghost use Rattle.std.specs.Option.{ForSome};
 ghost use Rattle.mg_disk.specs.Disk.{SameBut};
 ghost use Rattle.mg_disk.specs.Stops.{DiskCalls, Leaves, NothingPending, WritesNothing};
@@ -17,7 +17,7 @@ use mg_layout::{GLOBALS_BLOCK, SEGMENT_SIZE};
 use std::alloc::{AllocError, Global};
 use std::marker::Model;
 
-/// Memory for the writing of homes. It is taken once, and first touched when homes are written.
+/// Memory for the writing of homes. It is taken once, and touched as far as homes that are written need it.
 #[derive(Drop)]
 pub(crate) struct Buffers {
     // What blocks of the journal hold, each at its own place.
@@ -62,11 +62,23 @@ impl Buffers {
         ensures settled { OnOk result (NothingPending D.Disk disk.new) }
         ensures calls { DiskCalls D.Disk disk.old disk.new result }
     {
-        // There is room.
-        let _ = self.journal.resize(GLOBALS_BLOCK as usize, [0; BLOCK_SIZE]);
-        let _ = self.run.resize(MOST_WRITES, [0; BLOCK_SIZE]);
+        let (_, end) = span_of(places, 0, GLOBALS_BLOCK);
+        grow(&mut self.journal, end as usize);
+        grow(&mut self.run, places.len().min(MOST_WRITES));
         read_bodies(disk, places, &mut self.journal)?;
         apply(disk, places, &self.journal, &mut self.run)
+    }
+}
+
+// Makes it so many blocks long, where it is shorter. It takes no memory.
+fn grow(blocks: &mut Vec<Block>, count: usize)
+    requires room { count ≤ vec_capacity blocks.old }
+    ensures long { count ≤ length blocks.new.items }
+    ensures room { vec_capacity blocks.old ≤ vec_capacity blocks.new }
+{
+    if blocks.len() < count {
+        // There is room.
+        let _ = blocks.resize(count, [0; BLOCK_SIZE]);
     }
 }
 
@@ -86,7 +98,7 @@ fn span_of(places: &[(u64, u64)], from: u64, to: u64) -> (u64, u64)
             high = high.max(body + 1);
         }
     }
-    (low, high.max(low))
+    (low.min(high), high)
 }
 
 // Reads the bodies that lie from one block on and before another, in one call.
@@ -97,7 +109,7 @@ fn read_part<D: Disk>(
     to: u64,
     journal: &mut [Block],
 ) -> Result<(), Failed>
-    requires whole { length journal.old ≡ globals_block }
+    requires bodies { (k : ℕ) → k < length places.now → nth_body places.now k < length journal.old }
     requires in_journal { to ≤ globals_block }
     requires within_disk { globals_block ≤ D.block_count disk.old }
     ensures read { OnOk result (ForSome (D.seen disk.old) (λ image. HasBodies from places.now journal.old image → HasBodies to places.now journal.new image)) }
@@ -105,7 +117,7 @@ fn read_part<D: Disk>(
     ensures writes { WritesNothing D.Disk disk.old disk.new }
     ensures calls { DiskCalls D.Disk disk.old disk.new result }
 {
-    let (low, high) = span_of(places, from, to);
+    let (low, high) = span_of(places, from, to.min(journal.len() as u64));
     disk.read_blocks(low, &mut journal[low as usize..high as usize])
 }
 
@@ -115,7 +127,7 @@ fn read_bodies<D: Disk>(
     places: &[(u64, u64)],
     journal: &mut [Block],
 ) -> Result<(), Failed>
-    requires whole { length journal.old ≡ globals_block }
+    requires bodies { (k : ℕ) → k < length places.now → nth_body places.now k < length journal.old }
     requires within_disk { globals_block ≤ D.block_count disk.old }
     ensures read { OnOk result (ForSome (D.seen disk.old) (HasBodies globals_block places.now journal.new)) }
     ensures whole { length journal.new ≡ length journal.old }
@@ -156,8 +168,7 @@ fn count_row(places: &[(u64, u64)], first: usize, most: usize) -> usize
 fn gather(places: &[(u64, u64)], first: usize, count: usize, journal: &[Block], run: &mut [Block])
     requires there { first + count ≤ length places.now }
     requires room { count ≤ length run.old }
-    requires whole { length journal.now ≡ globals_block }
-    requires bodies { All (λ place. place.1 < globals_block) places.now }
+    requires bodies { (k : ℕ) → k < length places.now → nth_body places.now k < length journal.now }
     ensures gathered { HasRun places.now first count journal.now run.new }
     ensures room { length run.new ≡ length run.old }
 {
@@ -174,9 +185,9 @@ fn apply<D: Disk>(
     run: &mut [Block],
 ) -> Result<(), Failed>
     requires all_on_disk { All (IsPlace (D.block_count disk.old)) places.now }
-    requires whole { length journal.now ≡ globals_block }
+    requires bodies { (k : ℕ) → k < length places.now → nth_body places.now k < length journal.now }
     requires read { ForSome (D.seen disk.old) (HasBodies globals_block places.now journal.now) }
-    requires room { length run.old ≡ body_limit }
+    requires room { min (length places.now) body_limit ≤ length run.old }
     ensures any_moment { NothingPending D.Disk disk.old → ForSome (D.seen disk.old) (λ image. Leaves D.Disk disk.old disk.new (SameBut (λ k. names (filled image places.now) k ≡ true) image)) }
     ensures written { OnOk result (D.seen disk.new ≡ option_map (λ image. written image (filled image places.now)) (D.seen disk.old)) }
     ensures torn { ForSome (D.seen disk.old) (λ image. IsSomeAnd (D.seen disk.new) (SameBut (λ k. names (filled image places.now) k ≡ true) image)) }
@@ -186,7 +197,7 @@ fn apply<D: Disk>(
 {
     let mut first = 0;
     while first < places.len() {
-        let count = count_row(places, first, run.len());
+        let count = count_row(places, first, run.len().min(MOST_WRITES));
         gather(places, first, count, journal, run);
         disk.write_blocks(places[first].0, &run[..count])?;
         first += count;

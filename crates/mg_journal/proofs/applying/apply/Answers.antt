@@ -3,7 +3,7 @@ use Rattle.mg_disk.specs.Disk.{InRange, SameBut}
 use Rattle.mg_disk.specs.Runs.{torn_at}
 use Rattle.mg_journal.specs.Applied.{filled, nth_home}
 use Rattle.mg_journal.specs.Contents.{names}
-use Rattle.mg_journal.proofs.ApplyRuns.{named_row, row_applied, torn_more}
+use Rattle.mg_journal.proofs.ApplyRuns.{named_row, row_applied, row_fits, torn_more}
 use Rattle.mg_journal.proofs.PhaseSteps.{told_still}
 use Rattle.mg_journal.proofs.applying.apply.Goals as goal
 
@@ -48,3 +48,9 @@ loop-first-preserved g c =
           torn_at g.D.Disk P image c.args.disk.now c.loop-first.disk c.write_blocks.new.self (InRange (nth_home places first) _) (SameBut P image) (inv.tracks pending image told)
           c.write_blocks.ensures.stops (named_row image places first n run row.there row.row) (λ x same. same);
     }
+
+pub write_blocks-requires : goal.write_blocks-requires
+write_blocks-requires g c =
+    let row = c.count_row-count.ensures in
+    let fits = row_fits (g.D.Disk.block_count c.args.disk.now) c.args.places.now c.loop-first.first c.count_row-count.result c.gather.new.run c.requires.all_on_disk row.some row.there row.row in
+    record { in_range = omega (arith, fits, c.loop-first.invariant.blocks) }
