@@ -8,5 +8,6 @@ pub mod LiveTables
 pub mod NoRows
 pub mod ObjectOrder
 pub mod Placed
+pub mod RunsAtHand
 pub mod SettledVolume
 pub mod StateFits

@@ -1,8 +1,8 @@
 -- What is read of a volume, by calls that write nothing.
-use Rattle.std.specs.Prelude.{◌≡◌, ℕ, ◌≤◌, Option}
+use Rattle.std.specs.Prelude.{◌≡◌, ◌+◌, ◌<◌, ℕ, ◌≤◌, Option}
 use Rattle.std.specs.Option.{ForSome}
 use Rattle.mg_disk.specs.declared.disk.Disk.{Ghosts}
-use Rattle.mg_disk.specs.Disk.{Image}
+use Rattle.mg_disk.specs.Disk.{Image, block_at}
 use Rattle.mg_disk.specs.Stops.{CountGoes, WritesNothing}
 use Rattle.mg_model.specs.Words.{and_then}
 
@@ -20,3 +20,7 @@ pub record OnlyRead {D : Type 0} (facts : Ghosts D) (old new : D) : Type 0 where
   pub writes : WritesNothing facts old new
   pub count : CountGoes facts old new
   pub blocks : facts.block_count new ≡ facts.block_count old
+
+-- so many blocks of the contents from the first one on are at hand
+abbrev pub IsRun : ℕ → ℕ → Image → Image → Type 0
+IsRun first count blocks r = (k : ℕ) → k < count → block_at r (first + k) ≡ block_at blocks k

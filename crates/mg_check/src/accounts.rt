@@ -1,6 +1,6 @@
 // The table of accounts.
 ghost use Rattle.std.specs.Prelude.{◌≡◌, ◌≢◌, ◌≤◌, ◌+◌, ◌/◌, ◌%◌, IfOk, false, length, vec_capacity};
-ghost use Rattle.mg_model.specs.Layout.{first_account_block};
+ghost use Rattle.mg_model.specs.Layout.{first_account_block, first_thread_block};
 ghost use Rattle.mg_model.specs.Limits.{account_limit};
 ghost use Rattle.mg_model.specs.Volume.{has_no_gap};
 ghost use Rattle.mg_rows.specs.Blocks.{account_in};
@@ -11,7 +11,7 @@ use crate::lists::{add, with_room};
 use crate::table_rows::TableRow;
 use mg_disk::Block;
 use mg_journal::ViewFault;
-use mg_layout::FIRST_ACCOUNT_BLOCK;
+use mg_layout::{FIRST_ACCOUNT_BLOCK, FIRST_THREAD_BLOCK};
 use mg_model::AccRow;
 use mg_model::limits::ACCOUNT_LIMIT;
 use mg_rows::{Spelled, account_in};
@@ -27,16 +27,16 @@ impl TableRow for AccRow {
 
     ghost block_at = { λ i. first_account_block + i / 64 };
 
+    ghost END = { first_thread_block };
+
+    const END: u64 = FIRST_THREAD_BLOCK;
+
     ghost spelled = { λ block i. account_in block (i % 64) };
 
     ghost IsKept = { IsAccountRow };
 
     fn block_at(i: u64) -> u64 {
         FIRST_ACCOUNT_BLOCK + i / IN_BLOCK
-    }
-
-    fn is_first(i: u64) -> bool {
-        i % IN_BLOCK == 0
     }
 
     fn read(block: &Block, i: u64) -> Option<Spelled<AccRow>> {

@@ -1,13 +1,13 @@
 // Reading blocks of a volume, through its journal or in another way.
-ghost use Rattle.std.specs.Prelude.{◌≡◌, ◌+◌, ◌^◌, ◌≤◌, ◌<◌, ℕ, Option, false, OnErr, OnOk, length};
+ghost use Rattle.std.specs.Prelude.{◌≡◌, ◌+◌, ◌-◌, ◌^◌, ◌≤◌, ◌<◌, ℕ, Option, OnErr, OnOk, length};
 ghost use Rattle.std.specs.Option.{ForSome};
 ghost use Rattle.mg_disk.specs.Disk.{HasBlocks, Image, block_at};
 ghost use Rattle.mg_disk.specs.Stops.{CountRose, DiskCalls, WritesNothing};
 ghost use Rattle.mg_journal.specs.Looked.{Fits};
 ghost use Rattle.mg_model.specs.Replay.{block_of, replay};
-ghost use Rattle.mg_check.specs.Reads.{CanRead, OnlyRead, contents};
+ghost use Rattle.mg_check.specs.Reads.{CanRead, IsRun, OnlyRead, contents};
 
-use mg_disk::{Block, Disk};
+use mg_disk::{BLOCK_SIZE, Block, COPY_BLOCKS, Disk};
 use mg_faults::Failed;
 use mg_journal::View;
 
@@ -47,7 +47,7 @@ pub trait Contents {
         out: &mut [Block],
     ) -> Result<(), Failed>
         requires place { first + length out.old ≤ total self.now }
-        requires total { total self.now < 2 ^ 64 }
+        requires ends { first + length out.old < 2 ^ 64 }
         requires within_disk { need self.now ≤ D.block_count disk.old }
         requires fits { ForSome (D.seen disk.old) (λ image. Fits self.now image) }
         ensures read { OnOk result (ForSome (D.seen disk.old) (λ image. ForSome (of self.now image) (HasBlocks first out.new))) }
@@ -75,6 +75,15 @@ impl Contents for View {
     fn read<D: Disk>(&self, disk: &mut D, i: u64, out: &mut Block) -> Result<(), Failed> {
         View::read(self, disk, i, out)
     }
+
+    fn read_blocks<D: Disk>(
+        &self,
+        disk: &mut D,
+        first: u64,
+        out: &mut [Block],
+    ) -> Result<(), Failed> {
+        View::read_blocks(self, disk, first, out)
+    }
 }
 
 /// Gives block `i` of the contents.
@@ -93,24 +102,82 @@ pub(crate) fn read_block<C: Contents, D: Disk>(
     view.read(disk, i, out)
 }
 
-/// Gives block `i` of the contents, where it is a new one; else `block` is that one already.
-pub(crate) fn turn_to<C: Contents, D: Disk>(
+/// Blocks of the contents that were read together.
+#[derive(Drop)]
+pub(crate) struct Run {
+    first: u64,
+    count: u64,
+    blocks: [Block; COPY_BLOCKS],
+}
+
+impl Run {
+    /// No blocks.
+    pub(crate) fn new() -> Run
+        ensures none { result.count ≡ 0 }
+    {
+        Run {
+            first: 0,
+            count: 0,
+            blocks: [[0; BLOCK_SIZE]; COPY_BLOCKS],
+        }
+    }
+
+    /// Sees to it that block `i` of the contents is among them. Where it is not there yet, it is read, and so are those that follow it
+    /// before block `end`, as many as there is room for.
+    pub(crate) fn turn_to<C: Contents, D: Disk>(
+        &mut self,
+        view: &C,
+        disk: &mut D,
+        i: u64,
+        end: u64,
+    ) -> Result<(), Failed>
+        requires place { i < end }
+        requires within { end ≤ C.total view.now }
+        requires can { CanRead D.Disk (C.need view.now) (C.Fits view.now) disk.old }
+        requires there { ForSome (contents D.Disk (C.of view.now) disk.old) (IsRun self.old.first self.old.count self.old.blocks) }
+        requires room { self.old.count ≤ 32 }
+        ensures there { OnOk result (ForSome (contents D.Disk (C.of view.now) disk.old) (IsRun self.new.first self.new.count self.new.blocks)) }
+        ensures room { OnOk result (self.new.count ≤ 32) }
+        ensures low { OnOk result (self.new.first ≤ i) }
+        ensures high { OnOk result (i < self.new.first + self.new.count) }
+        ensures cause { OnErr result (CountRose D.Disk disk.old disk.new) }
+        ensures reads { OnlyRead D.Disk disk.old disk.new }
+    {
+        if self.first <= i && i - self.first < self.count {
+            return Ok(());
+        }
+        let count = (end - i).min(COPY_BLOCKS as u64);
+        read_run(view, disk, i, &mut self.blocks[..count as usize])?;
+        self.first = i;
+        self.count = count;
+        Ok(())
+    }
+
+    /// Block `i` of the contents.
+    pub(crate) fn block(&self, i: u64) -> &Block
+        requires low { self.now.first ≤ i }
+        requires high { i < self.now.first + self.now.count }
+        requires room { self.now.count ≤ 32 }
+        ensures block { result.now ≡ block_at self.now.blocks (i - self.now.first) }
+    {
+        &self.blocks[(i - self.first) as usize]
+    }
+}
+
+// Gives blocks of the contents one behind the other, the first of them block `first`.
+fn read_run<C: Contents, D: Disk>(
     view: &C,
     disk: &mut D,
-    i: u64,
-    is_new: bool,
-    block: &mut Block,
+    first: u64,
+    out: &mut [Block],
 ) -> Result<(), Failed>
-    requires place { i < C.total view.now }
+    requires place { first + length out.old ≤ C.total view.now }
+    requires ends { first + length out.old < 2 ^ 64 }
     requires can { CanRead D.Disk (C.need view.now) (C.Fits view.now) disk.old }
-    requires there { is_new ≡ false → ForSome (contents D.Disk (C.of view.now) disk.old) (λ r. block.old ≡ block_of r i) }
-    ensures block { OnOk result (ForSome (contents D.Disk (C.of view.now) disk.old) (λ r. block.new ≡ block_of r i)) }
+    ensures read { OnOk result (ForSome (contents D.Disk (C.of view.now) disk.old) (HasBlocks first out.new)) }
+    ensures same_length { length out.new ≡ length out.old }
     ensures cause { OnErr result (CountRose D.Disk disk.old disk.new) }
     ensures reads { OnlyRead D.Disk disk.old disk.new }
 {
-    if is_new {
-        read_block(view, disk, i, block)
-    } else {
-        Ok(())
-    }
+    view.read_blocks(disk, first, out)
 }

@@ -7,8 +7,8 @@ ghost use Rattle.mg_check.specs.Reads.{CanRead, OnlyRead, contents};
 ghost use Rattle.mg_check.specs.TableTold.{AreEntries, HasRest, IsTable, entry_in};
 
 use crate::lists::{add, with_room};
-use crate::reading::{Contents, turn_to};
-use mg_disk::{BLOCK_SIZE, Block, Disk};
+use crate::reading::{Contents, Run};
+use mg_disk::{Block, Disk};
 use mg_faults::Failed;
 use mg_journal::ViewFault;
 use mg_layout::{BLOCK_WORDS, TABLE_BLOCK, number_at};
@@ -50,20 +50,16 @@ pub(crate) fn read_table<C: Contents, D: Disk>(
     ensures reads { OnlyRead D.Disk disk.old disk.new }
 {
     let mut table = with_room(alloc, frames as usize)?;
-    let mut block = [0; BLOCK_SIZE];
-    let all = BLOCK_WORDS * ((frames + BLOCK_WORDS - 1) / BLOCK_WORDS);
+    let mut run = Run::new();
+    let blocks = (frames + BLOCK_WORDS - 1) / BLOCK_WORDS;
+    let (all, end) = (BLOCK_WORDS * blocks, TABLE_BLOCK + blocks);
     for f in 0..all {
-        match turn_to(
-            view,
-            disk,
-            TABLE_BLOCK + f / BLOCK_WORDS,
-            f % BLOCK_WORDS == 0,
-            &mut block,
-        ) {
+        let block = TABLE_BLOCK + f / BLOCK_WORDS;
+        match run.turn_to(view, disk, block, end) {
             Ok(()) => {}
             Err(Failed) => return Err(ViewFault::Disk),
         }
-        take(&mut table, f, &block, frames)?;
+        take(&mut table, f, run.block(block), frames)?;
     }
     Ok(table)
 }

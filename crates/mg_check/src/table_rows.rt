@@ -1,5 +1,5 @@
 // Tables of rows.
-ghost use Rattle.std.specs.Prelude.{◌≡◌, ◌≢◌, ◌≤◌, ◌<◌, ◌+◌, ◌-◌, ℕ, List, All, IfOk, OnOk, None, Some, false, length, vec_capacity};
+ghost use Rattle.std.specs.Prelude.{◌≡◌, ◌≢◌, ◌≤◌, ◌<◌, ◌+◌, ℕ, List, IfOk, OnOk, None, Some, length, vec_capacity};
 ghost use Rattle.std.specs.Option.{ForSome};
 ghost use Rattle.mg_disk.specs.Stops.{CountRose};
 ghost use Rattle.mg_model.specs.Layout.{table_block};
@@ -11,8 +11,8 @@ ghost use Rattle.mg_check.specs.RowsRead.{ArePlaced, live_from};
 ghost use Rattle.mg_check.specs.TableRows.{AreLive, EachKeeps, NotSpelled};
 
 use crate::lists::{add, with_room};
-use crate::reading::{Contents, turn_to};
-use mg_disk::{BLOCK_SIZE, Block, Disk};
+use crate::reading::{Contents, Run};
+use mg_disk::{Block, Disk};
 use mg_faults::Failed;
 use mg_journal::ViewFault;
 use mg_rows::Spelled;
@@ -28,6 +28,12 @@ pub(crate) trait TableRow: Copy {
     /// The block of the volume that row `i` lies in.
     ghost block_at: { ℕ → ℕ };
 
+    /// The block behind the table.
+    ghost END: { ℕ };
+
+    /// The block behind the table.
+    const END: u64;
+
     /// What row `i` spells in its block.
     ghost spelled: { List ℕ → ℕ → Read Self };
 
@@ -38,12 +44,8 @@ pub(crate) trait TableRow: Copy {
     fn block_at(i: u64) -> u64
         requires { i < ROWS }
         ensures place { result ≡ block_at i }
-        ensures within { result < table_block };
-
-    /// Whether row `i` is the first in its block.
-    fn is_first(i: u64) -> bool
-        ensures first { i ≡ 0 → result ≢ false }
-        ensures other { result ≡ false → block_at (i - 1) ≡ block_at i };
+        ensures within { result < END }
+        ensures before { END ≤ table_block };
 
     /// What row `i` spells in its block.
     fn read(block: &Block, i: u64) -> Option<Spelled<Self>>
@@ -89,13 +91,14 @@ pub(crate) fn read_all<R: TableRow, C: Contents, D: Disk>(
     ensures reads { OnlyRead D.Disk disk.old disk.new }
 {
     let mut rows = with_room(alloc, R::ROWS as usize)?;
-    let mut block = [0; BLOCK_SIZE];
+    let mut run = Run::new();
     for i in 0..R::ROWS {
-        match turn_to(view, disk, R::block_at(i), R::is_first(i), &mut block) {
+        let block = R::block_at(i);
+        match run.turn_to(view, disk, block, R::END) {
             Ok(()) => {}
             Err(Failed) => return Err(ViewFault::Disk),
         }
-        take(&mut rows, i, &block)?;
+        take(&mut rows, i, run.block(block))?;
     }
     Ok(rows)
 }
@@ -158,13 +161,14 @@ pub(crate) fn read_places<R: TableRow, C: Contents, D: Disk>(
     ensures reads { OnlyRead D.Disk disk.old disk.new }
 {
     let mut rows = with_room(alloc, R::ROWS as usize)?;
-    let mut block = [0; BLOCK_SIZE];
+    let mut run = Run::new();
     for i in 0..R::ROWS {
-        match turn_to(view, disk, R::block_at(i), R::is_first(i), &mut block) {
+        let block = R::block_at(i);
+        match run.turn_to(view, disk, block, R::END) {
             Ok(()) => {}
             Err(Failed) => return Err(ViewFault::Disk),
         }
-        put(&mut rows, i, &block)?;
+        put(&mut rows, i, run.block(block))?;
     }
     Ok(rows)
 }

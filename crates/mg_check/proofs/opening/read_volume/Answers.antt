@@ -1,4 +1,5 @@
 use Rattle.std.proofs.Common.{Err, ap, ◌∙◌}
+use Rattle.mg_disk.specs.Runs.{nothing_then}
 use Rattle.mg_check.proofs.SettledVolume.{volume-damaged, volume-read}
 use Rattle.mg_check.proofs.opening.read_volume.Goals as goal
 
@@ -14,3 +15,6 @@ pub returns-in-Err-Damaged-clause-damaged : goal.returns-in-Err-Damaged-clause-d
 returns-in-Err-Damaged-clause-damaged g c is image told =
     let later = c.read_settings.ensures.reads.writes.same ∙ told in
     volume-damaged c.in_ok-p.p image (c.in_ok-p.ensures.told image told) (c.settle.ensures.damaged (c.in-Err-Damaged.is ∙ ap Err c.in-Err-Damaged.field-0-is) image later)
+
+pub returns-in-Ok-clause-writes : goal.returns-in-Ok-clause-writes
+returns-in-Ok-clause-writes g c = nothing_then g.D.Disk c.args.disk.now c.read_settings.new.disk c.settle.new.disk c.read_settings.ensures.reads.writes c.settle.ensures.reads.writes

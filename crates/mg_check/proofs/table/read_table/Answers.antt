@@ -1,18 +1,20 @@
-use Rattle.std.proofs.Common.{◌≡◌, ◌≢◌, Some, ◌+◌, ◌*◌, ◌/◌, ◌%◌, ◌==◌, Err, ap, sym, ◌∙◌, arith}
-use Rattle.std.proofs.lemmas.Bool.{eqb-false}
+use Rattle.std.proofs.Common.{◌≡◌, Some, ◌*◌, ◌==◌, Err, ap, sym, ◌∙◌, arith}
 use Rattle.std.proofs.lemmas.Result.{err_from_is_err_and}
 use Rattle.mg_disk.specs.Disk.{Image}
-use Rattle.mg_model.specs.Layout.{table_block, table_blocks}
-use Rattle.mg_model.specs.Replay.{block_of}
+use Rattle.mg_model.specs.Layout.{table_blocks}
 use Rattle.mg_check.specs.Reads.{contents}
 use Rattle.mg_check.specs.TableTold.{entry_in, table_entry}
 use Rattle.mg_journal.specs.declared.faults.ViewFault.TheVariants as fault
 use Rattle.mg_check.proofs.Entries.{table-rest, table-told}
+use Rattle.mg_check.proofs.RunsAtHand.{here}
 use Rattle.mg_check.specs.ReadRuns.{only_then, same_contents, still_read}
 use Rattle.mg_check.proofs.table.read_table.Goals as goal
 
 pub turn_to-requires-clause-can : goal.turn_to-requires-clause-can
 turn_to-requires-clause-can g c = still_read g.D.Disk (g.C.Contents.need c.args.view.now) (g.C.Contents.Fits c.args.view.now) c.args.disk.now c.loop-f.disk c.requires.can c.loop-f.invariant.reads
+
+pub turn_to-requires-clause-there : goal.turn_to-requires-clause-there
+turn_to-requires-clause-there g c r told = c.loop-f.invariant.there r (sym (same_contents g.D.Disk (g.C.Contents.of c.args.view.now) c.args.disk.now c.loop-f.disk c.loop-f.invariant.reads) ∙ told)
 
 pub returns-in_err-take-clause-damaged : goal.returns-in_err-take-clause-damaged
 returns-in_err-take-clause-damaged g c is r told =
@@ -21,20 +23,18 @@ returns-in_err-take-clause-damaged g c is r told =
     let first = p.1 in
     let same = p.2 in
     let damaged : c.take.result ≡ Err fault.Damaged = cc in
-    let there = c.in-Ok.ensures.block r (same_contents g.D.Disk (g.C.Contents.of c.args.view.now) c.args.disk.now c.loop-f.disk c.loop-f.invariant.reads ∙ told) in
+    let there = here c.turn_to.new.self.first c.turn_to.new.self.count c.turn_to.new.self.blocks r _ c.block.result.now (c.in-Ok.ensures.there r (same_contents g.D.Disk (g.C.Contents.of c.args.view.now) c.args.disk.now c.loop-f.disk c.loop-f.invariant.reads ∙ told)) c.in-Ok.ensures.low c.in-Ok.ensures.high c.block.ensures.block in
     table-rest r c.args.frames (512 * table_blocks c.args.frames) (omega arith) c.loop-f.f (c.take.ensures.behind damaged) (omega arith)
     (ap (λ block. entry_in block c.loop-f.f == 0) (sym there) ∙ c.take.ensures.damaged damaged)
 
 pub loop-f-preserved : goal.loop-f-preserved
 loop-f-preserved g c =
     let f = c.loop-f.f in
-    let at_hand = λ (r : Image) (told : contents g.D.Disk (g.C.Contents.of c.args.view.now) c.args.disk.now ≡ Some r). c.in-Ok.ensures.block r (same_contents g.D.Disk (g.C.Contents.of c.args.view.now) c.args.disk.now c.loop-f.disk c.loop-f.invariant.reads ∙ told) in
+    let at_hand = λ (r : Image) (told : contents g.D.Disk (g.C.Contents.of c.args.view.now) c.args.disk.now ≡ Some r). here c.turn_to.new.self.first c.turn_to.new.self.count c.turn_to.new.self.blocks r _ c.block.result.now (c.in-Ok.ensures.there r (same_contents g.D.Disk (g.C.Contents.of c.args.view.now) c.args.disk.now c.loop-f.disk c.loop-f.invariant.reads ∙ told)) c.in-Ok.ensures.low c.in-Ok.ensures.high c.block.ensures.block in
     record {
       reads = only_then g.D.Disk c.args.disk.now c.loop-f.disk c.turn_to.new.disk c.loop-f.invariant.reads c.turn_to.ensures.reads;
-      there = λ test r told.
-          let other : (f + 1) % 512 ≢ 0 = eqb-false ((f + 1) % 512) 0 test in
-          let same : f / 512 ≡ (f + 1) / 512 = omega arith in
-          at_hand r told ∙ ap (λ k. block_of r (table_block + k)) same;
+      there = λ r told. c.in-Ok.ensures.there r (same_contents g.D.Disk (g.C.Contents.of c.args.view.now) c.args.disk.now c.loop-f.disk c.loop-f.invariant.reads ∙ told);
+      few = c.in-Ok.ensures.room;
       told = λ r told. c.in_ok-take.ensures.told (table_entry r) (ap (λ block. entry_in block f) (sym (at_hand r told))) (c.loop-f.invariant.told r told);
       long = c.in_ok-take.ensures.long c.loop-f.invariant.long;
     }

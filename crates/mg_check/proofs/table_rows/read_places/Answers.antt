@@ -1,5 +1,4 @@
-use Rattle.std.proofs.Common.{◌≡◌, ◌<◌, ◌+◌, ◌-◌, ℕ, Err, Some, ap, length, subst, sym, ◌∙◌, arith, ⊎_elim}
-use Rattle.std.proofs.lemmas.Bool.{cases_eq}
+use Rattle.std.proofs.Common.{◌≡◌, ℕ, Err, Some, ap, length, subst, sym, ◌∙◌, arith}
 use Rattle.std.proofs.lemmas.Result.{err_from_is_err_and}
 use Rattle.mg_disk.specs.Disk.{Image}
 use Rattle.mg_model.specs.Replay.{block_of}
@@ -8,6 +7,7 @@ use Rattle.mg_check.specs.RowsRead.{ArePlaced, live_from}
 use Rattle.mg_check.specs.TableRows.{AreLive, EachKeeps}
 use Rattle.mg_journal.specs.declared.faults.ViewFault.TheVariants as fault
 use Rattle.mg_check.proofs.LiveRows.{live_none, not_spelled}
+use Rattle.mg_check.proofs.RunsAtHand.{here, none_yet}
 use Rattle.mg_check.proofs.Placed.{kept_none, placed_all, placed_none}
 use Rattle.mg_check.specs.ReadRuns.{only_none, only_then, same_contents, still_read}
 use Rattle.mg_check.proofs.table_rows.read_places.Goals as goal
@@ -16,11 +16,7 @@ pub turn_to-requires-clause-can : goal.turn_to-requires-clause-can
 turn_to-requires-clause-can g c = still_read g.D.Disk (g.C.Contents.need c.args.view.now) (g.C.Contents.Fits c.args.view.now) c.args.disk.now c.loop-i.disk c.requires.can c.loop-i.invariant.reads
 
 pub turn_to-requires-clause-there : goal.turn_to-requires-clause-there
-turn_to-requires-clause-there g c test r told =
-    let i = c.loop-i.i in
-    let some : 0 < i = ⊎_elim (λ zero. absurd (c.is_first.ensures.first zero test)) (λ other. omega arith) (cases_eq i 0) in
-    let before = sym (same_contents g.D.Disk (g.C.Contents.of c.args.view.now) c.args.disk.now c.loop-i.disk c.loop-i.invariant.reads) ∙ told in
-    c.loop-i.invariant.there some r before ∙ ap (block_of r) (c.is_first.ensures.other test ∙ sym c.block_at.ensures.place)
+turn_to-requires-clause-there g c r told = c.loop-i.invariant.there r (sym (same_contents g.D.Disk (g.C.Contents.of c.args.view.now) c.args.disk.now c.loop-i.disk c.loop-i.invariant.reads) ∙ told)
 
 pub returns-in_err-put-clause-damaged : goal.returns-in_err-put-clause-damaged
 returns-in_err-put-clause-damaged g c is r told =
@@ -30,7 +26,7 @@ returns-in_err-put-clause-damaged g c is r told =
     let same = p.2 in
     let damaged : c.put.result ≡ Err fault.Damaged = cc in
     let i = c.loop-i.i in
-    let there = c.in-Ok.ensures.block r (same_contents g.D.Disk (g.C.Contents.of c.args.view.now) c.args.disk.now c.loop-i.disk c.loop-i.invariant.reads ∙ told) ∙ ap (block_of r) c.block_at.ensures.place in
+    let there = here c.turn_to.new.self.first c.turn_to.new.self.count c.turn_to.new.self.blocks r _ c.block.result.now (c.in-Ok.ensures.there r (same_contents g.D.Disk (g.C.Contents.of c.args.view.now) c.args.disk.now c.loop-i.disk c.loop-i.invariant.reads ∙ told)) c.in-Ok.ensures.low c.in-Ok.ensures.high c.block.ensures.block ∙ ap (block_of r) c.block_at-block.ensures.place in
     not_spelled (λ k. g.R.TableRow.spelled (block_of r (g.R.TableRow.block_at k)) k) g.R.TableRow.ROWS i
     (ap (λ block. g.R.TableRow.spelled block i) (sym there) ∙ c.put.ensures.damaged damaged) (omega arith)
 
@@ -40,10 +36,11 @@ returns-in_err-put-clause-reads g c = only_then g.D.Disk c.args.disk.now c.loop-
 pub loop-i-preserved : goal.loop-i-preserved
 loop-i-preserved g c =
     let i = c.loop-i.i in
-    let at_hand = λ (r : Image) (told : contents g.D.Disk (g.C.Contents.of c.args.view.now) c.args.disk.now ≡ Some r). c.in-Ok.ensures.block r (same_contents g.D.Disk (g.C.Contents.of c.args.view.now) c.args.disk.now c.loop-i.disk c.loop-i.invariant.reads ∙ told) ∙ ap (block_of r) c.block_at.ensures.place in
+    let at_hand = λ (r : Image) (told : contents g.D.Disk (g.C.Contents.of c.args.view.now) c.args.disk.now ≡ Some r). here c.turn_to.new.self.first c.turn_to.new.self.count c.turn_to.new.self.blocks r _ c.block.result.now (c.in-Ok.ensures.there r (same_contents g.D.Disk (g.C.Contents.of c.args.view.now) c.args.disk.now c.loop-i.disk c.loop-i.invariant.reads ∙ told)) c.in-Ok.ensures.low c.in-Ok.ensures.high c.block.ensures.block ∙ ap (block_of r) c.block_at-block.ensures.place in
     record {
       reads = only_then g.D.Disk c.args.disk.now c.loop-i.disk c.turn_to.new.disk c.loop-i.invariant.reads c.turn_to.ensures.reads;
-      there = λ some r told. at_hand r told ∙ ap (λ k. block_of r (g.R.TableRow.block_at k)) (let e : i ≡ i + 1 - 1 = omega arith in e);
+      there = λ r told. c.in-Ok.ensures.there r (same_contents g.D.Disk (g.C.Contents.of c.args.view.now) c.args.disk.now c.loop-i.disk c.loop-i.invariant.reads ∙ told);
+      few = c.in-Ok.ensures.room;
       told = λ r told. c.in_ok-put.ensures.told (λ k. g.R.TableRow.spelled (block_of r (g.R.TableRow.block_at k)) k) (ap (λ block. g.R.TableRow.spelled block i) (sym (at_hand r told))) (c.loop-i.invariant.told r told);
       placed = c.in_ok-put.ensures.placed c.loop-i.invariant.placed;
       kept = c.in_ok-put.ensures.kept c.loop-i.invariant.kept;
@@ -56,7 +53,8 @@ loop-i-init g c =
     let none = ap (live_from 0) (sym c.in_ok-rows.ensures.none) in
     record {
       reads = only_none g.D.Disk c.args.disk.now (g.met.D.Disk.now_has_been c.args.disk.now);
-      there = λ some. absurd (omega arith);
+      there = λ r told. none_yet c.new-run.result.first c.new-run.result.count c.new-run.result.blocks r c.new-run.ensures.none;
+      few = omega (arith, c.new-run.ensures.none);
       told = λ r told.
           subst (AreLive (λ k. g.R.TableRow.spelled (block_of r (g.R.TableRow.block_at k)) k) 0) none (live_none (λ k. g.R.TableRow.spelled (block_of r (g.R.TableRow.block_at k)) k));
       placed = subst (ArePlaced 0) none placed_none;
@@ -75,3 +73,6 @@ pub returns-clause-placed : goal.returns-clause-placed
 returns-clause-placed g c =
     let all : c.loop-i.i ≡ g.R.TableRow.ROWS = let past = c.loop-i-test.false in let end = c.loop-i.auto.i-end in omega arith in
     placed_all c.loop-i.i g.R.TableRow.ROWS (live_from 0 c.loop-i.rows.items) all c.loop-i.invariant.placed
+
+pub returns-in-Err-clause-reads : goal.returns-in-Err-clause-reads
+returns-in-Err-clause-reads g c = only_then g.D.Disk c.args.disk.now c.loop-i.disk c.turn_to.new.disk c.loop-i.invariant.reads c.turn_to.ensures.reads

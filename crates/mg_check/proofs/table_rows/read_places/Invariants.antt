@@ -1,16 +1,17 @@
-use Rattle.std.proofs.Common.{◌≡◌, ◌≤◌, ◌<◌, ◌-◌, length, vec_capacity}
+use Rattle.std.proofs.Common.{◌≤◌, length, vec_capacity}
 use Rattle.std.specs.Option.{ForSome}
 use Rattle.mg_model.specs.Replay.{block_of}
-use Rattle.mg_check.specs.Reads.{OnlyRead, contents}
+use Rattle.mg_check.specs.Reads.{IsRun, OnlyRead, contents}
 use Rattle.mg_check.specs.RowsRead.{ArePlaced, live_from}
 use Rattle.mg_check.specs.TableRows.{AreLive, EachKeeps}
 use Rattle.mg_check.proofs.table_rows.read_places.Given as goal
 
--- the rows before this one are held, and the block of the last of them is at hand
+-- the rows before this one are held, and what is at hand are blocks of the contents
 abbrev pub invariant-loop-i : goal.invariant-loop-i
 invariant-loop-i g l = record {
   reads : OnlyRead g.D.Disk l.initial.disk l.disk;
-  there : 0 < l.i → ForSome (contents g.D.Disk (g.C.Contents.of l.view) l.initial.disk) (λ r. l.block ≡ block_of r (g.R.TableRow.block_at (l.i - 1)));
+  there : ForSome (contents g.D.Disk (g.C.Contents.of l.view) l.initial.disk) (IsRun l.run.first l.run.count l.run.blocks);
+  few : l.run.count ≤ 32;
   told : ForSome (contents g.D.Disk (g.C.Contents.of l.view) l.initial.disk) (λ r. AreLive (λ i. g.R.TableRow.spelled (block_of r (g.R.TableRow.block_at i)) i) l.i (live_from 0 l.rows.items));
   placed : ArePlaced l.i (live_from 0 l.rows.items);
   kept : EachKeeps g.R.TableRow.IsKept (live_from 0 l.rows.items);
