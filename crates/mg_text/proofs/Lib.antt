@@ -1,3 +1,5 @@
+pub mod Firsts
+pub mod Leads
 pub mod Letters
 pub mod Texts
 pub mod Values

@@ -3,15 +3,14 @@ ghost use Rattle.std.specs.Prelude.{◌≡◌};
 ghost use Rattle.mg_model.specs.Lines.{four, one, three, two};
 ghost use Rattle.mg_model.specs.Words.{numbers_of, words};
 
-use crate::numbers::read_number;
+use crate::numbers::next_number;
 use crate::words::next_word;
 
 /// One number and no more, if that is what these bytes spell.
 pub fn one(args: &[u8]) -> Option<u64>
     ensures { result ≡ one (numbers_of (words args.now)) }
 {
-    let (word, rest) = next_word(args)?;
-    let first = read_number(word)?;
+    let (first, rest) = next_number(args)?;
     match next_word(rest) {
         None => Some(first),
         Some(_) => None,
@@ -22,8 +21,7 @@ pub fn one(args: &[u8]) -> Option<u64>
 pub fn two(args: &[u8]) -> Option<(u64, u64)>
     ensures { result ≡ two (numbers_of (words args.now)) }
 {
-    let (word, rest) = next_word(args)?;
-    let first = read_number(word)?;
+    let (first, rest) = next_number(args)?;
     let second = one(rest)?;
     Some((first, second))
 }
@@ -32,8 +30,7 @@ pub fn two(args: &[u8]) -> Option<(u64, u64)>
 pub fn three(args: &[u8]) -> Option<(u64, u64, u64)>
     ensures { result ≡ three (numbers_of (words args.now)) }
 {
-    let (word, rest) = next_word(args)?;
-    let first = read_number(word)?;
+    let (first, rest) = next_number(args)?;
     let (second, third) = two(rest)?;
     Some((first, second, third))
 }
@@ -42,8 +39,7 @@ pub fn three(args: &[u8]) -> Option<(u64, u64, u64)>
 pub fn four(args: &[u8]) -> Option<(u64, u64, u64, u64)>
     ensures { result ≡ four (numbers_of (words args.now)) }
 {
-    let (word, rest) = next_word(args)?;
-    let first = read_number(word)?;
+    let (first, rest) = next_number(args)?;
     let (second, third, fourth) = three(rest)?;
     Some((first, second, third, fourth))
 }

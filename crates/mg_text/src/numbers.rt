@@ -1,6 +1,10 @@
 // From a word to the number that it spells.
-ghost use Rattle.std.specs.Prelude.{◌≡◌, ◌+◌, ◌*◌, ◌⊎◌, Some, option_map};
-ghost use Rattle.mg_model.specs.Words.{below_word, digit_of, hex_part, number_of, value_of_digits};
+ghost use Rattle.std.specs.Prelude.{◌≡◌, ◌≤◌, ◌+◌, ◌*◌, ◌⊎◌, ℕ, List, IfSome, Some, is_some, length, option_map};
+ghost use Rattle.std.specs.List.{prefix_len};
+ghost use Rattle.mg_model.specs.Words.{below_word, digit_of, hex_part, number_of, value_of_digits, words};
+ghost use Rattle.mg_text.specs.Fronts.{digits_front, first_number, number_before_blank};
+
+use crate::words::{at_blank, blanks};
 
 /// What a digit to base 10 or 16 stands for, a letter in either case; None of any other byte.
 pub fn digit(base: u8, b: u8) -> Option<u8>
@@ -36,20 +40,63 @@ fn after_prefix(w: &[u8]) -> Option<&[u8]>
     }
 }
 
+/// The number that the first word of these bytes spells, and the bytes behind that word; None where there is no word or it
+/// spells no number.
+pub fn next_number(bytes: &[u8]) -> Option<(u64, &[u8])>
+    ensures { option_map {U = ℕ × List (List ℕ)} (λ p. (p.0, words p.1.now)) result ≡ first_number (words bytes.now) }
+{
+    let (_, front) = bytes.split_at(blanks(bytes));
+    match after_prefix(front) {
+        Some(digits) => until_blank(16, 16, digits),
+        None => until_blank(10, 20, front),
+    }
+}
+
+/// The number that the bytes before the first blank spell in one to `most` digits, and the bytes from that blank on.
+fn until_blank(base: u8, most: usize, bytes: &[u8]) -> Option<(u64, &[u8])>
+    requires { (base ≡ 10) ⊎ (base ≡ 16) }
+    ensures { option_map {U = ℕ × List ℕ} (λ p. (p.0, p.1.now)) result ≡ number_before_blank base most bytes.now }
+{
+    let (n, count) = leading(base, most, bytes)?;
+    let (_, more) = bytes.split_at(count);
+    if at_blank(more) {
+        Some((n, more))
+    } else {
+        None
+    }
+}
+
 /// The number of one to `most` digits.
 fn value(base: u8, most: usize, digits: &[u8]) -> Option<u64>
     requires { (base ≡ 10) ⊎ (base ≡ 16) }
     ensures { result ≡ below_word (value_of_digits base most digits.now) }
 {
-    if digits.is_empty() || digits.len() > most {
-        return None;
-    }
+    let (n, count) = leading(base, most, digits)?;
+    if count == digits.len() { Some(n) } else { None }
+}
+
+/// The number of the digits that these bytes begin with, one to `most` of them, and how many they are.
+fn leading(base: u8, most: usize, bytes: &[u8]) -> Option<(u64, usize)>
+    requires { (base ≡ 10) ⊎ (base ≡ 16) }
+    ensures number { option_map (λ p. p.0) result ≡ below_word (value_of_digits base most (digits_front base bytes.now)) }
+    ensures count { IfSome result (λ p. p.1 ≡ prefix_len (λ b. is_some (digit_of base b)) bytes.now) }
+    ensures within { IfSome result (λ p. p.1 ≤ length bytes.now) }
+{
     let mut n = 0u64;
-    for b in digits {
-        let d = digit(base, *b)?;
-        n = with_digit(n, base, d)?;
+    let mut count = 0usize;
+    for b in bytes {
+        match digit(base, *b) {
+            None => break,
+            Some(d) => {
+                if count == most {
+                    return None;
+                }
+                n = with_digit(n, base, d)?;
+                count += 1;
+            }
+        }
     }
-    Some(n)
+    if count == 0 { None } else { Some((n, count)) }
 }
 
 /// A number with one digit more behind it, if that is below `2^64`.

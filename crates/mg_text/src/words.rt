@@ -1,5 +1,5 @@
 // The words of a line.
-ghost use Rattle.std.specs.Prelude.{◌≡◌, ◌≤◌, ◌∷◌, [], length, not, IfNone, IfSome};
+ghost use Rattle.std.specs.Prelude.{◌≡◌, ◌==◌, ◌≤◌, ◌∷◌, [], length, not, IfNone, IfSome};
 ghost use Rattle.std.specs.List.{prefix_len};
 ghost use Rattle.mg_model.specs.Words.{is_blank, same_bytes, words};
 
@@ -18,7 +18,7 @@ pub fn next_word(bytes: &[u8]) -> Option<(&[u8], &[u8])>
 }
 
 /// How many blanks these bytes begin with.
-fn blanks(bytes: &[u8]) -> usize
+pub(crate) fn blanks(bytes: &[u8]) -> usize
     ensures count { result ≡ prefix_len is_blank bytes.now }
     ensures within { result ≤ length bytes.now }
 {
@@ -37,6 +37,16 @@ fn blank(b: u8) -> bool
     ensures { result ≡ is_blank b }
 {
     b == b' ' || b == b'\t' || b == b'\r'
+}
+
+/// Whether these bytes begin with a blank, or there are none.
+pub(crate) fn at_blank(bytes: &[u8]) -> bool
+    ensures { result ≡ (prefix_len (λ b. not (is_blank b)) bytes.now == 0) }
+{
+    match bytes {
+        [] => true,
+        [b, ..] => blank(*b),
+    }
 }
 
 /// Whether two words are the same.
