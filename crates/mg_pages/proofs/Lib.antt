@@ -17,6 +17,7 @@ pub mod Places
 pub mod Released
 pub mod Sound
 pub mod Spliced
+pub mod Showing
 pub mod StagedTables
 pub mod Staging
 pub mod Stored

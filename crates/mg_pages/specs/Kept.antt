@@ -1,7 +1,11 @@
 -- The frame blocks that are kept in memory: pairs of a block's number and its bytes.
-use Rattle.std.specs.Prelude.{◌≡◌, ◌≢◌, ◌⊎◌, ◌≤◌, ℕ, List, nat_eq, Option, Some}
+use Rattle.std.specs.Prelude.{◌≡◌, ◌≢◌, ◌⊎◌, ◌≤◌, ℕ, List, map, nat_eq, Option, Some}
 use Rattle.std.specs.Map.{lookup}
 use Rattle.mg_disk.specs.Disk.{Image, block_at}
+
+-- the entries of a cache, with the bytes that each value shows
+abbrev pub shown : {V : Type 0} → (V → List ℕ) → List (ℕ × V) → List (ℕ × List ℕ)
+shown f entries = map (λ e. (e.0, f e.1)) entries
 
 -- what is kept of a block
 abbrev pub kept_at : List (ℕ × List ℕ) → ℕ → Option (List ℕ)

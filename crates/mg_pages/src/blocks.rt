@@ -214,7 +214,7 @@ impl Blocks {
         }
     }
 
-    // Reads a block of the contents and stages it.
+    // Reads a block of the contents and stages it. It is kept from the commit on.
     fn stage_read<D: Disk>(&mut self, disk: &mut D, block: u64) -> Result<(), Failed>
         requires stands { Stands D.Disk self.old.store disk.old }
         requires place { block < total_of self.old.store }
@@ -227,7 +227,7 @@ impl Blocks {
         ensures calls { DiskCalls D.Disk disk.old disk.new result }
     {
         let mut bytes = [0; BLOCK_SIZE];
-        match self.read(disk, block, &mut bytes) {
+        match self.contents(disk, block, &mut bytes) {
             Ok(()) => {
                 self.writes.stage(block, &bytes);
                 Ok(())

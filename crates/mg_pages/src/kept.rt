@@ -1,5 +1,5 @@
 // The frame blocks that were read or written last.
-ghost use Rattle.std.specs.Prelude.{[], ◌≡◌, ◌≤◌, ◌<◌, ◌*◌, ℕ, IfOk, IfSome, IsSomeAnd, MatchOption, false, is_some, length, true};
+ghost use Rattle.std.specs.Prelude.{[], ◌≡◌, ◌≤◌, ◌<◌, ◌*◌, ℕ, IfOk, IfSome, IsSomeAnd, MatchOption, None, false, is_some, length, true};
 ghost use Rattle.mg_disk.specs.Disk.{Image};
 ghost use Rattle.mg_journal.specs.Staged.{staged};
 ghost use Rattle.mg_model.specs.Bytes.{number_at};
@@ -21,15 +21,18 @@ const MOST_KEPT: usize = 256;
 /// Up to 256 blocks of the contents, those that were used last.
 #[derive(Drop)]
 pub(crate) struct Kept {
-    blocks: LruCache<u64, Block>,
+    // In boxes, so that a block which goes out of a full cache is not copied on the way.
+    blocks: LruCache<u64, Box<Block>>,
+    alloc: Global,
 }
 
 impl Model for Kept {
     ghost use Rattle.std.specs.Prelude.{ℕ, List};
+    ghost use Rattle.mg_pages.specs.Kept.{shown};
 
     ghost Value = { List (ℕ × List ℕ) };
 
-    ghost view = { λ k. k.blocks.entries };
+    ghost view = { λ k. shown (λ b. b.value) k.blocks.entries };
 }
 
 impl Kept {
@@ -43,6 +46,7 @@ impl Kept {
         };
         Ok(Kept {
             blocks: LruCache::new(alloc, most)?,
+            alloc,
         })
     }
 
@@ -86,22 +90,27 @@ impl Kept {
     fn replace(&mut self, block: u64, bytes: &Block) -> bool
         ensures put { result ≡ true → KeepsThis block bytes.now self.old self.new }
         ensures same { result ≡ false → self.new ≡ self.old }
+        ensures none { result ≡ false → kept_at self.old block ≡ None }
     {
         match self.blocks.get_mut(&block) {
             Some(kept) => {
-                *kept = *bytes;
+                **kept = *bytes;
                 true
             }
             None => false,
         }
     }
 
-    // Keeps a block. Where memory is refused, nothing is kept of it.
+    // Keeps a block of which nothing is kept. Where memory is refused, nothing is then either.
     fn add(&mut self, block: u64, bytes: &Block)
+        requires none { kept_at self.old block ≡ None }
         ensures { KeepsThis block bytes.now self.old self.new }
     {
-        match self.blocks.put(block, *bytes) {
-            Ok(_) => {}
+        match Box::new(self.alloc, *bytes) {
+            Ok(boxed) => match self.blocks.put(block, boxed) {
+                Ok(_) => {}
+                Err(_) => {}
+            },
             Err(_) => {}
         }
     }

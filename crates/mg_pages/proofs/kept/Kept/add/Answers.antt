@@ -1,26 +1,21 @@
-use Rattle.std.proofs.Common.{◌≡◌, nat_eq, refl, subst, sym, IsSome, IsOk, None, Option, Some, Result, Err}
-use Rattle.std.proofs.lemmas.Bool.{false≢true}
-use Rattle.std.specs.Map.{lookup}
-use Rattle.lru.specs.LruCache.{LruCache}
-use Rattle.mg_pages.proofs.Looked.{look-put, look-refused}
-use Rattle.mg_pages.specs.Kept.{KeepsThis}
+use Rattle.std.proofs.Common.{nat_eq, subst, sym, ap, ◌∙◌}
+use Rattle.lru.specs.LruCache.{LruCache, lru_cache, put_entries}
+use Rattle.mg_pages.proofs.Looked.{look-refused}
+use Rattle.mg_pages.proofs.Showing.{put-kept}
+use Rattle.mg_pages.specs.Kept.{KeepsThis, shown}
 use Rattle.mg_pages.proofs.kept.Kept.add.Goals as goal
-use Rattle.mg_pages.proofs.kept.Kept.add.Goals.{in-Ok, in-Err}
 
--- a put that replaces is never refused
-nothing : {X T E : Type 0} (o : Option X) (r : Result T E) (e : E) → r ≡ Err e → (IsSome o → IsOk r) → o ≡ None
-nothing None r e is some = refl
-nothing (Some x) r e is some = absurd (false≢true (subst (λ q. IsOk q) is (some refl)))
-
-pub returns : goal.returns
-returns c =
+pub returns-in-Ok-put : goal.returns-in-Ok-put
+returns-in-Ok-put c =
     let block = c.args.block in
     let bytes = c.args.bytes.now in
     let was = c.self.inside.blocks in
-    subst (λ es. KeepsThis block bytes es c.put.new.self.entries) c.self.view_is
-    (elim c.match-put.branch [
-      | in-Ok w ↦ subst (λ (l : LruCache _ _). KeepsThis block bytes was.entries l.entries) (sym w.in-Ok.ensures.entries) (look-put was block bytes)
-      | in-Err w ↦
-          subst (λ (l : LruCache _ _). KeepsThis block bytes was.entries l.entries) (sym w.in-Err.ensures.err)
-          (look-refused was block bytes (nothing (lookup (nat_eq block) was.entries) c.put.result w.in-Err.field-0 w.in-Err.is c.put.ensures.succeeds))
-    ])
+    subst (λ es. KeepsThis block bytes es (shown (λ b. b.value) c.put.new.self.entries)) c.self.view_is
+    (subst (λ (l : LruCache _ _). KeepsThis block bytes (shown (λ b. b.value) was.entries) (shown (λ b. b.value) l.entries)) (sym c.in-Ok-put.ensures.entries)
+    (subst (λ is. KeepsThis block is (shown (λ b. b.value) was.entries) (shown (λ b. b.value) (put_entries nat_eq was block c.in-Ok.boxed))) c.in-Ok.ensures.ok
+    (put-kept (λ b. b.value) was block c.in-Ok.boxed)))
+
+pub returns-in-Ok : goal.returns-in-Ok
+returns-in-Ok c =
+    subst (λ es. KeepsThis c.args.block c.args.bytes.now c.args.self.now es) (sym (ap (λ l. shown (λ b. b.value) l.entries) c.in-Err-put.ensures.err ∙ c.self.view_is))
+    (look-refused (lru_cache c.args.self.now 0) c.args.block c.args.bytes.now c.requires.none)
