@@ -166,11 +166,15 @@ fn died_after(alloc: Global, calls: u64) -> Option<Found> {
 }
 
 /// Numbers of calls of the ninth commit, and the block that is held after a stop of each kind.
-const STOPS: [(u64, [u8; 3]); 13] = [
+const STOPS: [(u64, [u8; 3]); 17] = [
     (0, [1; 3]),
     (1, [1; 3]),
     (2, [1; 3]),
+    (160, [1; 3]),
     (1280, [1; 3]),
+    (1281, [1; 3]),
+    (1360, [1; 3]),
+    (1440, [1; 3]),
     (2559, [1; 3]),
     (2560, [1; 3]),
     (2561, [1; 3]),
@@ -193,7 +197,56 @@ fn wrong_stop(alloc: Global) -> Option<u64> {
     None
 }
 
+/// The calls of an opening behind the eight commits: gates and indexes; bodies and homes, and a sync; three for each gate.
+const OPENING: u64 = 16 + 2560 + 1 + 24;
+
+/// Whether the journal is opened, and what is held after a stop of each kind.
+fn opened(alloc: Global, mut fuse: Fuse<MemDisk>) -> Found
+    requires has_2578_blocks { ⟦<Fuse<MemDisk> as Disk>⟧.block_count fuse ≡ 2578 }
+{
+    let done = Store::open(alloc, &mut fuse, BLOCKS).is_ok();
+    (done, held_after(alloc, &fuse.into_inner()))
+}
+
+/// The same on a disk that dies after so many calls of the opening.
+fn opened_on(alloc: Global, mut fuse: Fuse<MemDisk>, calls: u64) -> Option<Found>
+    requires has_2578_blocks { ⟦<Fuse<MemDisk> as Disk>⟧.block_count fuse ≡ 2578 }
+{
+    nine(alloc, &mut fuse);
+    match fuse.into_inner().stopped(alloc, Left::Old) {
+        Ok(disk) => Some(opened(alloc, Fuse::new(disk, calls))),
+        Err(_) => None,
+    }
+}
+
+fn opened_after(alloc: Global, calls: u64) -> Option<Found> {
+    match zeros(alloc, BLOCKS, ROOM, NONE) {
+        Some(disk) => opened_on(alloc, Fuse::new(disk, EIGHT), calls),
+        None => None,
+    }
+}
+
+/// Numbers of calls of that opening: among the reads, within a run of homes and between two, before the sync, and among the gates.
+const OPENINGS: [u64; 9] = [0, 17, 1296, 1297, 1376, 1456, 2576, 2577, 2590];
+
+/// The first of these numbers, or that of all calls, where something else is held.
+fn wrong_opening(alloc: Global) -> Option<u64> {
+    for calls in OPENINGS {
+        if opened_after(alloc, calls) != Some((false, [Some(1); 3])) {
+            return Some(calls);
+        }
+    }
+    if opened_after(alloc, OPENING) == Some((true, [Some(1); 3])) {
+        None
+    } else {
+        Some(OPENING)
+    }
+}
+
 #[test]
 fn a_full_journal_is_written_home(rt: HostRuntime) {
-    assert_eq!(rt; wrong_stop(rt.alloc()), None);
+    assert_eq!(rt;
+        (wrong_stop(rt.alloc()), wrong_opening(rt.alloc())),
+        (None, None)
+    );
 }
