@@ -15,6 +15,7 @@ pub mod Opened
 pub mod PageWords
 pub mod Places
 pub mod Released
+pub mod Restaged
 pub mod Sound
 pub mod Spliced
 pub mod Showing

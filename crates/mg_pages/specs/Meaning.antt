@@ -1,11 +1,12 @@
 -- What the pages of a volume are, as functions of the value and an image. The layers above see these words by their names.
-use Rattle.std.specs.Prelude.{◌≡◌, ◌≢◌, ◌⊎◌, ◌+◌, ◌≤◌, ◌<◌, ◌==◌, ◌%◌, ◌^◌, ℕ, Bool, true, false, List, [], length, replicate, slice_set}
+use Rattle.std.specs.Prelude.{◌≡◌, ◌≢◌, ◌⊎◌, ◌+◌, ◌≤◌, ◌<◌, ◌==◌, ◌%◌, ◌^◌, ℕ, Bool, true, false, List, [], length, replicate, slice_set, Option, Some}
 use Rattle.std.specs.List.{list_any}
 use Rattle.std.specs.Option.{ForSome, option_map_or}
 use Rattle.mg_disk.specs.Disk.{Image, block_at}
 use Rattle.mg_disk.specs.Stops.{NothingPending}
 use Rattle.mg_disk.specs.declared.disk.Disk.{Ghosts}
 use Rattle.mg_journal.specs.Contents.{names}
+use Rattle.mg_journal.specs.Staged.{waiting}
 use Rattle.mg_journal.specs.Standing as journal
 use Rattle.mg_journal.specs.Held.{Store}
 use Rattle.mg_model.specs.Abbreviations.{table_of}
@@ -48,6 +49,10 @@ staged_of p = length p.blocks.writes
 
 unfoldable pub is_staged : PagesHeld → ℕ → Bool
 is_staged p block = names p.blocks.writes block
+
+-- what waits for this block
+unfoldable pub waiting_in : PagesHeld → ℕ → Option (List ℕ)
+waiting_in p block = waiting p.blocks.writes block
 
 -- the frame blocks that are kept
 unfoldable pub kept_in : PagesHeld → List (ℕ × List ℕ)
@@ -118,6 +123,17 @@ pub record StagesMore (most : ℕ) (old new : PagesHeld) : Type 0 where
   pub least : staged_of old ≤ staged_of new
   pub staged : staged_of new ≤ staged_of old + most
   pub still : (block : ℕ) → is_staged old block ≡ true → is_staged new block ≡ true
+
+-- a block that was staged is staged with these bytes, and nothing else has changed
+pub record Restages (block : ℕ) (bytes : List ℕ) (old new : PagesHeld) : Type 0 where
+  pub waits : waiting_in new block ≡ Some bytes
+  pub coming : (image : Image) → coming new image ≡ slice_set (coming old image) block bytes
+  pub table : table_in new ≡ table_in old
+  pub shape : SameShape old new
+  pub staged : StagesMore 0 old new
+  pub here : is_staged new block ≡ true
+  pub words : words_in new ≡ words_in old
+  pub spelled : (image : Image) → IsSpelledBy old image → IsSpelledBy new image
 
 -- a word of a page was changed; the other pages, and all blocks before the frame table, are as they were
 pub record SetsWord (old new : PagesHeld) (image : Image) (page index value : ℕ) : Type 0 where

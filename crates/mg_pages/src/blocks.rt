@@ -1,15 +1,15 @@
 // The blocks of a volume: those of its journal's contents, those that wait for a commit over them, and frame blocks that are
 // kept in memory.
-ghost use Rattle.std.specs.Prelude.{[], ◌≡◌, ◌≢◌, ◌⊎◌, ◌≤◌, ◌<◌, ◌*◌, ℕ, List, IfOk, IsOk, IsSome, IsSomeAnd, MatchOption, None, OnErr, OnOk, is_ok, is_some, length, slice_set, true};
-ghost use Rattle.std.specs.List.{position};
+ghost use Rattle.std.specs.Prelude.{[], ◌≡◌, ◌≢◌, ◌⊎◌, ◌≤◌, ◌<◌, ◌*◌, ℕ, List, IfOk, IsOk, IsSome, IsSomeAnd, MatchOption, None, OnErr, OnOk, ◌+◌, is_ok, is_some, length, slice_set, true};
+ghost use Rattle.std.specs.List.{position, splice};
 ghost use Rattle.std.specs.Option.{ForSome};
 ghost use Rattle.mg_disk.specs.Disk.{Image, block_at};
 ghost use Rattle.mg_disk.specs.Stops.{DiskCalls, Leaves, WritesNothing};
 ghost use Rattle.mg_journal.specs.Contents.{NewContents};
 ghost use Rattle.mg_journal.specs.Staged.{are_once, goes_to, staged, waiting};
 ghost use Rattle.mg_journal.specs.Standing.{IsLate, OldOrNew, Stands, is_live, total_of};
-ghost use Rattle.mg_model.specs.Bytes.{block_words, number_at};
-ghost use Rattle.mg_model.specs.Layout.{body_limit};
+ghost use Rattle.mg_model.specs.Bytes.{block_words, number_at, word_bytes};
+ghost use Rattle.mg_model.specs.Layout.{block_size, body_limit};
 ghost use Rattle.mg_model.specs.Replay.{homes_fit, written};
 ghost use Rattle.mg_pages.specs.Held.{with_writes};
 ghost use Rattle.mg_pages.specs.Kept.{AreKept};
@@ -75,6 +75,15 @@ impl Blocks {
         ensures { self.new ≡ with_writes self.old (staged self.old.writes block from.now) }
     {
         self.writes.stage(block, from);
+    }
+
+    /// Puts a word at a byte offset into a block, if it is staged, and says whether it is.
+    pub(crate) fn put(&mut self, block: u64, at: usize, word: u64) -> bool
+        requires within { at + 8 ≤ block_size }
+        ensures waits { result ≡ is_some (waiting self.old.writes block) }
+        ensures put { MatchOption (waiting self.old.writes block) (self.new ≡ self.old) (λ bytes. self.new ≡ with_writes self.old (staged self.old.writes block (splice bytes at (at + 8) (word_bytes word)))) }
+    {
+        self.writes.put(block, at, word)
     }
 
     /// The word at an index of a frame's block as it will be. A block that is staged or kept is not copied.

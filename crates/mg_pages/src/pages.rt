@@ -1,15 +1,17 @@
 // The pages of a volume, and what is staged.
-ghost use Rattle.std.specs.Prelude.{[], List, ◌≡◌, ◌≢◌, ◌⊎◌, ◌≤◌, ◌<◌, ◌+◌, ◌-◌, ◌%◌, ◌^◌, ℕ, true, false, IfOk, IsOk, Ok, IsSomeAnd, OnErr, OnOk, length, slice_index, slice_set};
+ghost use Rattle.std.specs.Prelude.{[], List, ◌≡◌, ◌≢◌, ◌⊎◌, ◌≤◌, ◌<◌, ◌+◌, ◌-◌, ◌%◌, ◌^◌, ℕ, true, false, IfOk, IfSome, IsOk, Ok, IsSomeAnd, MatchOption, OnErr, OnOk, is_some, length, slice_index, slice_set};
+ghost use Rattle.std.specs.List.{splice};
 ghost use Rattle.std.specs.Option.{ForSome};
+ghost use Rattle.mg_disk.specs.Disk.{block_at};
 ghost use Rattle.mg_disk.specs.Stops.{DiskCalls, Leaves, WritesNothing};
 ghost use Rattle.mg_journal.specs.Contents.{SameContents};
 ghost use Rattle.mg_journal.specs.Standing as journal;
 ghost use Rattle.mg_model.specs.Abbreviations.{table_of};
-ghost use Rattle.mg_model.specs.Bytes.{are_zeros};
-ghost use Rattle.mg_model.specs.Layout.{body_limit, globals_block, table_block, total_blocks};
+ghost use Rattle.mg_model.specs.Bytes.{are_zeros, word_bytes};
+ghost use Rattle.mg_model.specs.Layout.{block_size, body_limit, globals_block, table_block, total_blocks};
 ghost use Rattle.mg_model.specs.Tests.{all_distinct};
 ghost use Rattle.mg_model.specs.Volume.{bound_pages};
-ghost use Rattle.mg_pages.specs.Meaning.{BindsOnly, CountsNone, CountsOne, HasTable, IsBare, IsKept, Keeps, Releases, SameShape, SetsWord, SpellsTable, StagesMore, StandsOn, Unbinds, IsSpelledBy, coming, frame_count, is_bound, is_live, is_staged, page_now, replayed, staged_of, store_of, table_in, total_of, words_in};
+ghost use Rattle.mg_pages.specs.Meaning.{BindsOnly, CountsNone, CountsOne, HasTable, IsBare, IsKept, Keeps, Releases, Restages, SameShape, SetsWord, SpellsTable, StagesMore, StandsOn, Unbinds, IsSpelledBy, coming, frame_count, is_bound, is_live, is_staged, page_now, replayed, staged_of, store_of, table_in, total_of, waiting_in, words_in};
 ghost use Rattle.mg_pages.specs.Committing.{HasContents};
 ghost use Rattle.mg_pages.specs.Loading.{HoldFirstEntries};
 
@@ -257,6 +259,19 @@ impl Pages {
         ensures spelled { (image : List (List ℕ)) → IsSpelledBy self.old image → IsSpelledBy self.new image }
     {
         self.blocks.stage(block, from);
+    }
+
+    /// Puts a word at a byte offset, 0 to 4,088, into a block between the journal and the frame table, if it is staged, and says
+    /// whether it is.
+    pub fn put(&mut self, block: u64, at: usize, word: u64) -> bool
+        requires low { globals_block ≤ block }
+        requires high { block < table_block }
+        requires within { at + 8 ≤ block_size }
+        ensures waits { result ≡ is_some (waiting_in self.old block) }
+        ensures was { IfSome (waiting_in self.old block) (λ bytes. (image : List (List ℕ)) → IsSpelledBy self.old image → block_at (coming self.old image) block ≡ bytes) }
+        ensures put { MatchOption (waiting_in self.old block) (self.new ≡ self.old) (λ bytes. Restages block (splice bytes at (at + 8) (word_bytes word)) self.old self.new) }
+    {
+        self.blocks.put(block, at, word)
     }
 
     /// Makes what is staged durable. It opens one of the journal's eight segments more, and writes no home; where all eight are open,
