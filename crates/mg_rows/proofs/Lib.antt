@@ -9,3 +9,4 @@ pub mod Reading
 pub mod ThreadKeeps
 pub mod ThreadReads
 pub mod ThreadRows
+pub mod ThreadWords

@@ -1,7 +1,8 @@
 -- Parts of a thread's row.
-use Rattle.std.specs.Prelude.{ℕ, ◌%◌, ◌==◌, ◌&&◌, nat_lt, Bool, List, [], ◌∷◌, length}
+use Rattle.std.specs.Prelude.{ℕ, ◌+◌, ◌%◌, ◌==◌, ◌&&◌, nat_lt, Bool, List, [], ◌∷◌, length}
+use Rattle.std.specs.List.{splice}
 use Rattle.mg_model.specs.Abbreviations.{is_call_frame}
-use Rattle.mg_model.specs.Bytes.{number_at, numbers_at}
+use Rattle.mg_model.specs.Bytes.{number_at, numbers_at, word_bytes}
 use Rattle.mg_model.specs.Spelling.{frame_at, frames_at, state_number, state_numbered}
 use Rattle.mg_model.specs.State.{ThreadRow}
 
@@ -27,3 +28,7 @@ begins bytes =
     && number_at bytes 24 % 8 == 0
     && is_call_frame (frame_at bytes 128)
     && (frame_at bytes 128).back == 0
+
+-- bytes with this word put at this place
+abbrev pub with_word : ℕ → ℕ → List ℕ → List ℕ
+with_word at word bytes = splice bytes at (at + 8) (word_bytes word)

@@ -101,7 +101,8 @@ fn add_head(row: &ThrRow, filling: &mut Filling<BLOCK_SIZE>)
     filling.skip(16);
 }
 
-fn state_number(state: ThrState) -> u64
+/// The number of a state, as its word spells it.
+pub fn state_number(state: ThrState) -> u64
     ensures { result ≡ state_number state }
 {
     match state {
