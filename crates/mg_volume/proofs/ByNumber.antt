@@ -99,7 +99,7 @@ none_held rows is = record {
     free = None
 
 -- a thread by its number
-find-number : (xs : List (ℕ × ThreadRow)) (k : ℕ) → option_map (λ (x : ℕ × ThreadRow). x.1) (find (λ (x : ℕ × ThreadRow). x.0 == k + 1) (numbered xs)) ≡ row_at k xs
+pub find-number : (xs : List (ℕ × ThreadRow)) (k : ℕ) → option_map (λ (x : ℕ × ThreadRow). x.1) (find (λ (x : ℕ × ThreadRow). x.0 == k + 1) (numbered xs)) ≡ row_at k xs
 find-number [] k = refl
 find-number ((i, r) ∷ xs) k =
     ⊎_elim

@@ -1,5 +1,8 @@
 pub mod AccountLists
 pub mod AccountsStaged
+mod Rewritten
+mod Seams
+mod ThreadMoved
 mod StandingPages
 pub mod BareRows
 pub mod BlockParts
@@ -28,6 +31,7 @@ pub mod OpenedFormed
 pub mod PagesChange
 pub mod RemovedOrder
 mod Reread
+mod Respelled
 pub mod RowsApart
 mod Staged
 pub mod Stages

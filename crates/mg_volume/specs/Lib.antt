@@ -11,6 +11,7 @@ pub mod StagesRows
 pub mod Numbered
 pub mod PagesOver
 pub mod Sound
+pub mod Standing
 -- Lemmas that crates above cite, and what these rest on. None of them is part of a statement.
 pub mod Contents
 pub mod FormedLemmas

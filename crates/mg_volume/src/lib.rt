@@ -12,12 +12,14 @@
 mod account_block;
 mod accounts;
 mod committing;
+mod counting;
 mod forming;
 mod object_block;
 mod object_removing;
 mod object_staging;
 mod opening;
 mod staging;
+mod standing;
 mod threads;
 mod volume;
 mod words;

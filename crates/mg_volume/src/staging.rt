@@ -1,5 +1,5 @@
 // What a volume stages.
-ghost use Rattle.std.specs.Prelude.{List, ◌≡◌, ◌⊎◌, ◌≤◌, ◌<◌, ◌+◌, ◌^◌, ◌==◌, ℕ, true, find, IfSome, None, Some};
+ghost use Rattle.std.specs.Prelude.{List, ◌≡◌, ◌⊎◌, ◌≤◌, ◌<◌, ◌+◌, ◌%◌, ◌^◌, ◌==◌, ℕ, true, false, find, IfSome, None, Some};
 ghost use Rattle.std.specs.Option.{option_map_or};
 ghost use Rattle.mg_model.specs.Domains.{with_thread};
 ghost use Rattle.mg_model.specs.Layout.{body_limit};
@@ -9,19 +9,56 @@ ghost use Rattle.mg_model.specs.State.{ThreadRow};
 ghost use Rattle.mg_volume.specs.Calls.{Stages};
 ghost use Rattle.mg_volume.specs.Meaning.{counters_in, now_of, objects_in, staged_of, threads_in};
 ghost use Rattle.mg_volume.specs.RowLists.{DistinctBy};
+ghost use Rattle.mg_volume.specs.Standing.{stands_at};
 ghost use Rattle.mg_volume.specs.Staging.{ObjectsStillStaged, are_counters_staged, is_thread_staged, lives, threads_with};
 
+use crate::counting::respell_counters;
+use crate::standing::respell;
 use crate::volume::Volume;
 use mg_disk::{BLOCK_SIZE, Block};
 use mg_layout::{FIRST_THREAD_BLOCK, GLOBALS_BLOCK};
-use mg_model::{Globals, ThrRow};
+use mg_model::{Globals, ThrRow, ThrState};
 use mg_passwords::Draws;
-use mg_rows::{thread_block, write_globals};
+use mg_rows::{rows_are_spelled_in_one_way, thread_block, write_globals};
 
 impl Volume {
     /// Stages the counters, in place of those that the state has. Their block is staged already, or fewer than 160 blocks are; one
     /// more is at most.
     pub fn stage_globals(&mut self, g: Globals)
+        requires staged_or_fewer_than_160 { (are_counters_staged self.old ≡ true) ⊎ (staged_of self.old < body_limit) }
+        ensures now { (image : List (List ℕ)) → now_of self.new image ≡ record (now_of self.old image) { counters = g } }
+        ensures rows { objects_in self.new ≡ objects_in self.old }
+        ensures stages { Stages 1 self.old self.new }
+        ensures objects { ObjectsStillStaged self.old self.new }
+        ensures here { are_counters_staged self.new ≡ true }
+    {
+        if !self.put_counters(&g) {
+            self.spell_counters(g);
+        }
+    }
+
+    // The same where their block is staged, and whether it is. Where it is not nothing changes.
+    fn put_counters(&mut self, g: &Globals) -> bool
+        requires period { (counters_in self.old).period ≤ g.now.period }
+        ensures not_staged { result ≡ false → self.new ≡ self.old }
+        ensures now { result ≡ true → (image : List (List ℕ)) → now_of self.new image ≡ record (now_of self.old image) { counters = g.now } }
+        ensures rows { result ≡ true → objects_in self.new ≡ objects_in self.old }
+        ensures stages { result ≡ true → Stages 1 self.old self.new }
+        ensures objects { result ≡ true → ObjectsStillStaged self.old self.new }
+        ensures here { result ≡ true → are_counters_staged self.new ≡ true }
+    {
+        rows_are_spelled_in_one_way();
+        g.keep_rules();
+        if !respell_counters(&mut self.pages, g) {
+            return false;
+        }
+        self.globals = *g;
+        true
+    }
+
+    // The same with their block spelled whole.
+    fn spell_counters(&mut self, g: Globals)
+        requires period { (counters_in self.old).period ≤ g.period }
         requires staged_or_fewer_than_160 { (are_counters_staged self.old ≡ true) ⊎ (staged_of self.old < body_limit) }
         ensures now { (image : List (List ℕ)) → now_of self.new image ≡ record (now_of self.old image) { counters = g } }
         ensures rows { objects_in self.new ≡ objects_in self.old }
@@ -84,6 +121,83 @@ impl Volume {
         self.numbers_differ();
         self.keep_number(t);
         self.stage_thread(t, Some(row));
+    }
+
+    /// Thread t, which lives, stands elsewhere from now on: its pc, a multiple of 8, its state and its registers. Its block is
+    /// staged already, or fewer than 160 are; one more is at most. Where it is staged only the words that change are written. The
+    /// state is the one that any change gives which makes such a row of the old one.
+    pub fn move_thread(&mut self, t: u64, pc: u64, state: ThrState, regs: &[u64; 8])
+        requires lives { lives self.old t ≡ true }
+        requires aligned { pc % 8 ≡ 0 }
+        requires staged_or_fewer_than_160 { (is_thread_staged self.old t ≡ true) ⊎ (staged_of self.old < body_limit) }
+        ensures now { (change : ThreadRow → ThreadRow) → IfSome (find (λ thread. thread.number == t) (threads_in self.old)) (λ thread. change thread.row ≡ stands_at pc state regs.now thread.row)
+            → (image : List (List ℕ)) → now_of self.new image ≡ with_thread (now_of self.old image) t change }
+        ensures rows { objects_in self.new ≡ objects_in self.old }
+        ensures stages { Stages 1 self.old self.new }
+        ensures objects { ObjectsStillStaged self.old self.new }
+        ensures here { is_thread_staged self.new t ≡ true }
+    {
+        if !self.move_staged(t, pc, state, regs) {
+            self.move_whole(t, pc, state, regs);
+        }
+    }
+
+    // The same where its block is staged, and whether it is. Where it is not nothing changes.
+    fn move_staged(&mut self, t: u64, pc: u64, state: ThrState, regs: &[u64; 8]) -> bool
+        requires lives { lives self.old t ≡ true }
+        requires aligned { pc % 8 ≡ 0 }
+        ensures not_staged { result ≡ false → self.new ≡ self.old }
+        ensures now { result ≡ true → (change : ThreadRow → ThreadRow) → IfSome (find (λ thread. thread.number == t) (threads_in self.old)) (λ thread. change thread.row ≡ stands_at pc state regs.now thread.row)
+            → (image : List (List ℕ)) → now_of self.new image ≡ with_thread (now_of self.old image) t change }
+        ensures rows { result ≡ true → objects_in self.new ≡ objects_in self.old }
+        ensures stages { result ≡ true → Stages 1 self.old self.new }
+        ensures objects { result ≡ true → ObjectsStillStaged self.old self.new }
+        ensures here { result ≡ true → is_thread_staged self.new t ≡ true }
+    {
+        rows_are_spelled_in_one_way();
+        self.numbers_differ();
+        self.keep_number(t);
+        let Some(row) = self.threads.get(t) else {
+            return false;
+        };
+        if !respell(
+            &mut self.pages,
+            FIRST_THREAD_BLOCK + t - 1,
+            row,
+            pc,
+            state,
+            regs,
+        ) {
+            return false;
+        }
+        self.threads.stand(t, pc, state, regs);
+        self.threads.keep_rules();
+        true
+    }
+
+    // The same with its block spelled whole.
+    fn move_whole(&mut self, t: u64, pc: u64, state: ThrState, regs: &[u64; 8])
+        requires lives { lives self.old t ≡ true }
+        requires aligned { pc % 8 ≡ 0 }
+        requires staged_or_fewer_than_160 { (is_thread_staged self.old t ≡ true) ⊎ (staged_of self.old < body_limit) }
+        ensures now { (change : ThreadRow → ThreadRow) → IfSome (find (λ thread. thread.number == t) (threads_in self.old)) (λ thread. change thread.row ≡ stands_at pc state regs.now thread.row)
+            → (image : List (List ℕ)) → now_of self.new image ≡ with_thread (now_of self.old image) t change }
+        ensures rows { objects_in self.new ≡ objects_in self.old }
+        ensures stages { Stages 1 self.old self.new }
+        ensures objects { ObjectsStillStaged self.old self.new }
+        ensures here { is_thread_staged self.new t ≡ true }
+    {
+        self.numbers_differ();
+        self.keep_number(t);
+        match self.threads.get(t) {
+            Some(_row) => {
+                self.threads.stand(t, pc, state, regs);
+                self.threads.keep_rules();
+                let block = self.threads.block(t);
+                self.pages.stage(FIRST_THREAD_BLOCK + t - 1, &block);
+            }
+            None => unreachable!(),
+        }
     }
 
     /// The next password that is drawn. The count of draws, below `2^32`, rises by one and is staged: the block of the

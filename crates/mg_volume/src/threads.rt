@@ -1,14 +1,19 @@
 // The threads of a volume, by their numbers.
-ghost use Rattle.std.specs.Prelude.{◌≡◌, ◌≤◌, ◌==◌, ◌&&◌, false, nat_lt, not, [], All, IfOk, IfSome, None, find, length, position, replicate};
+ghost use Rattle.std.specs.Prelude.{◌≡◌, ◌≤◌, ◌%◌, ◌==◌, ◌&&◌, false, nat_lt, not, [], All, IfOk, IfSome, None, Some, find, length, position, replicate};
 ghost use Rattle.std.specs.Option.{ForSome, option_copied, option_map};
 ghost use Rattle.mg_check.specs.RowsRead.{ArePlaced};
 ghost use Rattle.mg_model.specs.Limits.{thread_limit};
 ghost use Rattle.mg_model.specs.Ranges.{IsThreadRow};
+ghost use Rattle.mg_model.specs.Spelling.{thread_read};
+ghost use Rattle.mg_model.specs.State.{ThreadRow};
 ghost use Rattle.mg_model.specs.Turn.{is_ready};
 ghost use Rattle.mg_volume.specs.Numbered.{IsFreeNumber, has_turn, numbered, rows_with};
 ghost use Rattle.mg_volume.specs.RowLists.{DistinctBy};
+ghost use Rattle.mg_volume.specs.Standing.{stands_at};
 
+use mg_disk::Block;
 use mg_model::{ThrRow, ThrState};
+use mg_rows::thread_block;
 use std::alloc::{AllocError, Global};
 use std::marker::Model;
 
@@ -27,6 +32,7 @@ pub(crate) struct Threads {
 
 impl Model for Threads {
     ghost use Rattle.std.specs.Prelude.{ℕ, List};
+    ghost use Rattle.mg_model.specs.Spelling.{thread_read};
     ghost use Rattle.mg_model.specs.State.{ThreadRow};
     ghost use Rattle.mg_objects.specs.Held.{live_from};
     ghost use Rattle.mg_volume.specs.Numbered.{AreListed, numbered};
@@ -77,6 +83,16 @@ impl Threads {
         }
     }
 
+    /// The block of the row of thread t, 1 to 256.
+    pub(crate) fn block(&self, t: u64) -> Block
+        ensures { (row : ThreadRow) → option_map (λ thread. thread.1) (find (λ thread. thread.0 == t) self.now) ≡ Some row → thread_read result ≡ Some (Some row) }
+    {
+        match self.get(t) {
+            Some(row) => thread_block(Some(row)),
+            None => thread_block(None),
+        }
+    }
+
     /// Another row for thread t, 1 to 256, or that there is no such thread.
     pub(crate) fn put(&mut self, t: u64, row: Option<ThrRow>)
         requires t_at_least_1 { 1 ≤ t }
@@ -88,6 +104,21 @@ impl Threads {
         self.taken[place] = row.is_some();
         self.ready[place] = has_turn(&row);
         self.rows[place] = row;
+    }
+
+    /// Where thread t, 1 to 256, stands from now on, if it is there: its pc, a multiple of 8, its state and its registers.
+    pub(crate) fn stand(&mut self, t: u64, pc: u64, state: ThrState, regs: &[u64; 8])
+        requires t_at_least_1 { 1 ≤ t }
+        requires t_at_most_256 { t ≤ 256 }
+        requires aligned { pc % 8 ≡ 0 }
+        ensures stands { (row : ThreadRow) → option_map (λ thread. thread.1) (find (λ thread. thread.0 == t) self.old) ≡ Some row → self.new ≡ rows_with t (Some (stands_at pc state regs.now row)) self.old }
+        ensures there { (row : ThreadRow) → option_map (λ thread. thread.1) (find (λ thread. thread.0 == t) self.old) ≡ Some row → option_map (λ thread. thread.1) (find (λ thread. thread.0 == t) self.new) ≡ Some (stands_at pc state regs.now row) }
+        ensures kept { (row : ThreadRow) → option_map (λ thread. thread.1) (find (λ thread. thread.0 == t) self.old) ≡ Some row → IsThreadRow (stands_at pc state regs.now row) }
+    {
+        let place = t as usize - 1;
+        stand(&mut self.rows[place], pc, state, regs);
+        self.taken[place] = self.rows[place].is_some();
+        self.ready[place] = has_turn(&self.rows[place]);
     }
 
     /// The lowest number that no thread has; none where there are 256.
@@ -144,6 +175,31 @@ fn has_turn(row: &Option<ThrRow>) -> bool
         Some(row) => row.state() == ThrState::Ready,
         None => false,
     }
+}
+
+// A thread stands elsewhere, if there is one.
+fn stand(row: &mut Option<ThrRow>, pc: u64, state: ThrState, regs: &[u64; 8])
+    requires aligned { pc % 8 ≡ 0 }
+    ensures stands { row.new ≡ option_map (stands_at pc state regs.now) row.old }
+    ensures kept { ForSome row.new IsThreadRow }
+{
+    if let Some(row) = row {
+        row.set_pc(pc);
+        row.set_state(state);
+        set_registers(row, regs);
+    }
+}
+
+// Other registers.
+fn set_registers(row: &mut ThrRow, regs: &[u64; 8])
+    ensures registers { row.new ≡ record row.old { regs = regs.now } }
+    ensures kept { IsThreadRow row.new }
+{
+    row.keep_rules();
+    for k in 0..8 {
+        row.set_register(k, regs[k]);
+    }
+    row.keep_rules();
 }
 
 // A row keeps its ranges. It does nothing but tell.

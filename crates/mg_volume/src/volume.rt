@@ -1,7 +1,7 @@
 // A volume that is open.
 ghost use Rattle.std.specs.Prelude.{List, ◌≡◌, ◌≤◌, ◌<◌, ◌+◌, ◌-◌, ◌*◌, ◌==◌, ◌||◌, ℕ, true, false, nat_le, IfOk, IfSome, IsTrue, MatchOption, None, Some, filter, find, length, option_map, slice_get, sum_by};
 ghost use Rattle.std.specs.List.{list_all};
-ghost use Rattle.std.specs.Option.{ForSome};
+ghost use Rattle.std.specs.Option.{ForSome, option_copied};
 ghost use Rattle.mg_bank.specs.Bank.{pages_at};
 ghost use Rattle.mg_disk.specs.Stops.{DiskCallsBy, Leaves, NothingPending, WritesNothing};
 ghost use Rattle.mg_model.specs.Abbreviations.{free_number};
@@ -197,6 +197,14 @@ impl Volume {
             Some(row) => Some(*row),
             None => None,
         }
+    }
+
+    /// The row of the thread with this number, 1 to 256, in place.
+    pub fn thread_ref(&self, t: u64) -> Option<&ThrRow>
+        ensures found { option_map (λ thread. thread.row) (find (λ thread. thread.number == t) (threads_in self.now)) ≡ option_copied result }
+        ensures within_1_and_256 { IfSome result (λ _. (1 ≤ t) × (t ≤ 256)) }
+    {
+        self.threads.get(t)
     }
 
     /// The lowest number that no thread has, 1 to 256; none where there are 256 threads.

@@ -6,7 +6,7 @@ use Rattle.mg_volume.proofs.StillWaiting.{counters_here, counters_room}
 use Rattle.mg_volume.specs.Meaning.{objects_in}
 use Rattle.mg_volume.proofs.Staged.{counters_now, counters_staged, with_counters}
 use Rattle.mg_volume.specs.contracts.volume.Volume.{the_view}
-use Rattle.mg_volume.proofs.volume.Volume.stage_globals.Goals as goal
+use Rattle.mg_volume.proofs.volume.Volume.spell_counters.Goals as goal
 
 pub stage-requires-clause-staged_or_fewer_than_160 : goal.stage-requires-clause-staged_or_fewer_than_160
 stage-requires-clause-staged_or_fewer_than_160 c = counters_room (the_view c.self.inside) (rw (← c.self.view_is) at c.requires.staged_or_fewer_than_160)

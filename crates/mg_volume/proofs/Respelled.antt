@@ -1,0 +1,42 @@
+-- One word more of a thread's block that is staged.
+use Rattle.std.specs.Prelude.{◌≡◌, ◌+◌, ℕ, List, MatchOption, Option, slice_set}
+use Rattle.std.specs.List.{splice}
+use Rattle.std.proofs.Common.{ap, subst, ◌∙◌, arith}
+use Rattle.std.proofs.lemmas.List.{set-set}
+use Rattle.mg_model.specs.Bytes.{word_bytes}
+use Rattle.mg_model.specs.Spelling.{thread_bytes}
+use Rattle.mg_model.specs.State.{ThreadRow}
+use Rattle.mg_pages.specs.Held.{PagesHeld}
+use Rattle.mg_pages.specs.Meaning as pages
+use Rattle.mg_rows.specs.ThreadParts.{with_word}
+use Rattle.mg_volume.specs.Standing.{Respells}
+
+pub restages_then : (block : ℕ) (x y : List ℕ) (p q r : PagesHeld) → pages.Restages block x p q → pages.Restages block y q r → pages.Restages block y p r
+restages_then block x y p q r first second =
+    let few = first.staged in
+    let more = second.staged in
+    record {
+      waits = second.waits;
+      coming = λ image. second.coming image ∙ ap (λ i. slice_set i block y) (first.coming image) ∙ set-set (pages.coming p image) block x y;
+      table = second.table ∙ first.table;
+      shape = record { total = second.shape.total ∙ first.shape.total; frames = second.shape.frames ∙ first.shape.frames; live = second.shape.live ∙ first.shape.live };
+      staged = record {
+        least = let a = few.least in let b = more.least in omega arith;
+        staged = let a = few.staged in let b = more.staged in omega arith;
+        still = λ k is. more.still k (few.still k is);
+      };
+      here = second.here;
+      words = second.words ∙ first.words;
+      spelled = λ image is. second.spelled image (first.spelled image is);
+    }
+
+pub goes_on : (block at word : ℕ) (first row row' : ThreadRow) (p q r : PagesHeld) → with_word at word (thread_bytes row) ≡ thread_bytes row'
+    → MatchOption (pages.waiting_in q block) (r ≡ q) (λ bytes. pages.Restages block (splice bytes at (at + 8) (word_bytes word)) q r) → Respells block first row p q → Respells block first row' p r
+goes_on block at word first row row' p q r step puts told =
+    let put : pages.Restages block (with_word at word told.bytes) q r =
+    subst (λ (o : Option (List ℕ)). MatchOption o (r ≡ q) (λ bytes. pages.Restages block (splice bytes at (at + 8) (word_bytes word)) q r)) told.restages.waits puts in
+    record {
+      bytes = with_word at word told.bytes;
+      restages = restages_then block told.bytes (with_word at word told.bytes) p q r told.restages put;
+      are = λ image spelled is. ap (with_word at word) (told.are image spelled is) ∙ step;
+    }

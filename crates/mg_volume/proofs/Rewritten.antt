@@ -1,0 +1,74 @@
+-- Words that are put into a block that is staged, one behind another.
+use Rattle.std.specs.Prelude.{◌≡◌, ◌+◌, ℕ, List, true, is_some, IfSome, MatchOption, Option, Some, None}
+use Rattle.std.specs.List.{splice}
+use Rattle.std.proofs.Common.{refl, sym, ap, subst, ◌∙◌}
+use Rattle.mg_disk.specs.Disk.{Image, block_at}
+use Rattle.mg_model.specs.Bytes.{word_bytes}
+use Rattle.mg_model.specs.Layout.{globals_block}
+use Rattle.mg_model.specs.Ranges.{IsCounters}
+use Rattle.mg_model.specs.Replay.{block_of}
+use Rattle.mg_model.specs.Spelling.{globals_bytes, globals_read}
+use Rattle.mg_model.specs.State.{Counters}
+use Rattle.mg_pages.specs.Held.{PagesHeld}
+use Rattle.mg_pages.specs.Meaning as pages
+use Rattle.mg_rows.specs.Laws.{IsSpelledInOneWay}
+use Rattle.mg_rows.specs.ThreadParts.{with_word}
+use Rattle.mg_volume.proofs.Respelled.{restages_then}
+use Rattle.mg_volume.proofs.Staged.{counters_staged, with_counters}
+use Rattle.mg_volume.specs.Held.{VolumeHeld}
+use Rattle.mg_volume.specs.Meaning.{IsSpelledBy, Spelled}
+use Rattle.mg_volume.specs.Standing.{RespellsCounters}
+
+-- what stood in the block is staged there with a change
+pub record Rewrites (block : ℕ) (change : List ℕ → List ℕ) (old new : PagesHeld) : Type 0 where
+  pub was : List ℕ
+  pub waited : (image : Image) → pages.IsSpelledBy old image → block_at (pages.coming old image) block ≡ was
+  pub restages : pages.Restages block (change was) old new
+
+abbrev pub Puts : ℕ → ℕ → ℕ → PagesHeld → PagesHeld → Type 0
+Puts block at word old new = MatchOption (pages.waiting_in old block) (new ≡ old) (λ bytes. pages.Restages block (splice bytes at (at + 8) (word_bytes word)) old new)
+
+pub first_put : (block at word : ℕ) (old new : PagesHeld) → is_some (pages.waiting_in old block) ≡ true → IfSome (pages.waiting_in old block) (λ bytes. (image : Image) → pages.IsSpelledBy old image → block_at (pages.coming old image) block ≡ bytes)
+    → Puts block at word old new → Rewrites block (with_word at word) old new
+first_put block at word old new = by_waiting (pages.waiting_in old block)
+  where
+    by_waiting : (o : Option (List ℕ)) → is_some o ≡ true → IfSome o (λ bytes. (image : Image) → pages.IsSpelledBy old image → block_at (pages.coming old image) block ≡ bytes)
+        → MatchOption o (new ≡ old) (λ bytes. pages.Restages block (splice bytes at (at + 8) (word_bytes word)) old new) → Rewrites block (with_word at word) old new
+    by_waiting None there waited puts = absurd (cc)
+    by_waiting (Some bytes) there waited puts = record { was = bytes; waited = waited; restages = puts }
+
+pub then_put : (block at word : ℕ) (change : List ℕ → List ℕ) (p q r : PagesHeld) → Rewrites block change p q → Puts block at word q r → Rewrites block (λ bytes. with_word at word (change bytes)) p r
+then_put block at word change p q r told puts =
+    let put : pages.Restages block (with_word at word (change told.was)) q r =
+    subst (λ (o : Option (List ℕ)). MatchOption o (r ≡ q) (λ bytes. pages.Restages block (splice bytes at (at + 8) (word_bytes word)) q r)) told.restages.waits puts in
+    record { was = told.was; waited = told.waited; restages = restages_then block (change told.was) (with_word at word (change told.was)) p q r told.restages put }
+
+-- the words of the counters
+abbrev pub words_at : ℕ → ℕ → ℕ → ℕ → List ℕ → List ℕ
+words_at draws period cursor births bytes = with_word 24 births (with_word 16 cursor (with_word 8 period (with_word 0 draws bytes)))
+
+same_words : (g old : Counters) → words_at g.draws g.period g.cursor g.births (globals_bytes old) ≡ globals_bytes g
+same_words g old = refl
+
+abbrev counters_at : ℕ → ℕ → ℕ → ℕ → Counters
+counters_at draws period cursor births = record { draws = draws; period = period; cursor = cursor; births = births }
+
+pub counters_respelled : (draws period cursor births : ℕ) (g : Counters) (old new : PagesHeld) → draws ≡ g.draws → period ≡ g.period → cursor ≡ g.cursor → births ≡ g.births
+    → Rewrites globals_block (words_at draws period cursor births) old new → RespellsCounters g old new
+counters_respelled draws period cursor births g old new draws_is period_is cursor_is births_is told =
+    subst (λ (k : Counters). RespellsCounters k old new)
+    (ap (λ n. counters_at n period cursor births) draws_is ∙ ap (λ n. counters_at g.draws n cursor births) period_is ∙ ap (λ n. counters_at g.draws g.period n births) cursor_is ∙ ap (λ n. counters_at g.draws g.period g.cursor n) births_is)
+    (record {
+      bytes = words_at draws period cursor births told.was;
+      restages = told.restages;
+      are = λ image spelled counters is.
+          ap (words_at draws period cursor births) (sym (told.waited image spelled) ∙ is) ∙ same_words (counters_at draws period cursor births) counters;
+    })
+
+-- the counters after their block was staged again
+pub counters_rewritten : (v : VolumeHeld) (p : PagesHeld) (g : Counters) (image : Image) → RespellsCounters g v.pages p → IsSpelledInOneWay globals_read globals_bytes IsCounters → IsCounters g → IsSpelledBy v image → IsSpelledBy (with_counters v p g) image
+unfolding IsSpelledBy
+counters_rewritten v p g image told way range is =
+    let s : Spelled v image = is in
+    let bytes : told.bytes ≡ globals_bytes g = told.are image s.fitting v.counters (sym (way.same (block_of (pages.coming v.pages image) globals_block) v.counters s.counters_are)) in
+    counters_staged v p g told.bytes image is (told.restages.spelled image) told.restages.shape.frames (told.restages.coming image) (ap globals_read bytes ∙ way.written g range)

@@ -1,0 +1,25 @@
+-- A thread that stands elsewhere: another pc, another state and other registers, in its row and in its block.
+use Rattle.std.specs.Prelude.{◌≡◌, ℕ, List}
+use Rattle.mg_disk.specs.Disk.{Image, block_at}
+use Rattle.mg_model.specs.declared.threads.ThrState.{ThrState}
+use Rattle.mg_model.specs.Layout.{globals_block}
+use Rattle.mg_model.specs.Spelling.{globals_bytes, thread_bytes}
+use Rattle.mg_model.specs.State.{Counters, ThreadRow}
+use Rattle.mg_pages.specs.Held.{PagesHeld}
+use Rattle.mg_pages.specs.Meaning as pages
+
+-- the row of a thread that stands elsewhere
+abbrev pub stands_at : ℕ → ThrState → List ℕ → ThreadRow → ThreadRow
+stands_at pc state regs row = record row { pc = pc; state = state; regs = regs }
+
+-- a block that is staged is staged with other bytes: those of the second row where it had those of the first
+pub record Respells (block : ℕ) (row row' : ThreadRow) (old new : PagesHeld) : Type 0 where
+  pub bytes : List ℕ
+  pub restages : pages.Restages block bytes old new
+  pub are : (image : Image) → pages.IsSpelledBy old image → block_at (pages.coming old image) block ≡ thread_bytes row → bytes ≡ thread_bytes row'
+
+-- the block of the counters, that is staged, is staged with those of these counters where it had those of any
+pub record RespellsCounters (counters : Counters) (old new : PagesHeld) : Type 0 where
+  pub bytes : List ℕ
+  pub restages : pages.Restages globals_block bytes old new
+  pub are : (image : Image) → pages.IsSpelledBy old image → (was : Counters) → block_at (pages.coming old image) globals_block ≡ globals_bytes was → bytes ≡ globals_bytes counters
