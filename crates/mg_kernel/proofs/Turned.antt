@@ -1,5 +1,6 @@
 -- A thread's turn: a fetch, a call, and then another row for the thread.
-use Rattle.std.specs.Prelude.{◌≡◌, ◌+◌, ◌==◌, ℕ, not, Bool, true, false, List, [], ◌∷◌, Option, Some, None, find, if◌then◌else◌, is_some, map, option_map, IfSome}
+use Rattle.std.specs.Prelude.{◌≡◌, ◌+◌, ◌==◌, ◌||◌, ℕ, not, Bool, true, false, List, [], ◌∷◌, Option, Some, None, find, if◌then◌else◌, is_some, map, option_map, IfSome}
+use Rattle.std.specs.List.{list_any}
 use Rattle.std.specs.Option.{option_map_or}
 use Rattle.std.proofs.Common.{arith, refl, sym, ap, subst, ◌∙◌}
 use Rattle.std.proofs.lemmas.Option.{same_Some}
@@ -7,6 +8,7 @@ use Rattle.mg_disk.specs.Disk.{Image}
 use Rattle.mg_disk.specs.declared.disk.Disk.{Ghosts}
 use Rattle.mg_calls_dom.specs.ReachedLemmas.{same_threads}
 use Rattle.mg_kernel.proofs.Threads.{found-lives}
+use Rattle.mg_kernel.specs.Calls.{IsRowOf}
 use Rattle.mg_model.specs.declared.calls.Call.{Call}
 use Rattle.mg_model.specs.declared.replies.After.{After}
 use Rattle.mg_model.specs.declared.replies.After.TheVariants as ended
@@ -64,6 +66,31 @@ module _ (v : VolumeHeld) (t : ℕ) (row : ThreadRow) (found : option_map (λ (t
   row-told image =
       let has = has-row (find (λ (thread : Thread). thread.number == t) (threads_in v)) row found in
       ap (λ o. option_map_or (λ (x : Thread). Some x.row) o None) (told_thread v image t (Some has.thread) has.is) ∙ ap (λ (r : ThreadRow). Some r) has.same
+
+-- a thread that lives has a row
+living-among : (t : ℕ) (threads : List Thread) → list_any (λ (x : Thread). x.number == t) threads ≡ true → (row : ThreadRow) × (option_map (λ (thread : Thread). thread.row) (find (λ (thread : Thread). thread.number == t) threads) ≡ Some row)
+living-among t [] lives = absurd (cc)
+living-among t (x ∷ xs) lives = by_test (x.number == t) lives (living-among t xs)
+  where
+    by_test : (v : Bool) → (v || list_any (λ (y : Thread). y.number == t) xs) ≡ true
+        → (list_any (λ (y : Thread). y.number == t) xs ≡ true → (row : ThreadRow) × (option_map (λ (thread : Thread). thread.row) (find (λ (thread : Thread). thread.number == t) xs) ≡ Some row))
+        → (row : ThreadRow) × (option_map (λ (thread : Thread). thread.row) (if v then Some x else find (λ (thread : Thread). thread.number == t) xs) ≡ Some row)
+    by_test true here later = (x.row, refl)
+    by_test false there later = later there
+
+pub living-row : (v : VolumeHeld) (t : ℕ) → lives_held v t ≡ true → (row : ThreadRow) × IsRowOf v t row
+living-row v t lives = living-among t (threads_in v) lives
+
+no-row : (o : Option ThreadRow) (row : ThreadRow) → o ≡ Some row → o ≡ None → ⊥
+no-row o row some none = cc
+
+pub row-gone : (v : VolumeHeld) (t : ℕ) → lives_held v t ≡ true → option_map (λ (thread : Thread). thread.row) (find (λ (thread : Thread). thread.number == t) (threads_in v)) ≡ None → ⊥
+row-gone v t lives none = let has = living-row v t lives in no-row (option_map (λ (thread : Thread). thread.row) (find (λ (thread : Thread). thread.number == t) (threads_in v))) has.0 has.1 none
+
+-- two changes that make one row of the one that is found
+pub changes-alike : (f g : ThreadRow → ThreadRow) (o : Option Thread) (row : ThreadRow) → option_map (λ (thread : Thread). thread.row) o ≡ Some row → f row ≡ g row → IfSome o (λ thread. f thread.row ≡ g thread.row)
+changes-alike f g None row found same = cc
+changes-alike f g (Some thread) row found same = subst (λ r. f r ≡ g r) (sym (same_Some thread.row row found)) same
 
 -- a run of reads leaves it its row
 pub row-still : (a b : VolumeHeld) (t : ℕ) (row : ThreadRow) → Keeps a b → option_map (λ (thread : Thread). thread.row) (find (λ (thread : Thread). thread.number == t) (threads_in a)) ≡ Some row

@@ -1,14 +1,19 @@
 -- What a call of a thread keeps and costs, be it made by a line or by a script, and what a turn does.
-use Rattle.std.specs.Prelude.{ℕ, ◌≡◌, ◌≤◌, ◌+◌, ◌&&◌, Bool, true, false, Some}
+use Rattle.std.specs.Prelude.{ℕ, ◌≡◌, ◌≤◌, ◌+◌, ◌==◌, ◌&&◌, find, option_map, Bool, true, false, Option, Some}
 use Rattle.mg_calls_dom.specs.Served.{CallRow}
+use Rattle.mg_model.specs.Abbreviations.{advanced}
 use Rattle.mg_model.specs.declared.calls.Call.{Call}
 use Rattle.mg_model.specs.Accesses.{call_accesses, call_words, turn_accesses, turn_words}
 use Rattle.mg_model.specs.Kept.{KeepsKeys, searches_limit}
 use Rattle.mg_model.specs.Keys.{Key}
-use Rattle.mg_model.specs.State.{State, Thread}
+use Rattle.mg_model.specs.State.{State, Thread, ThreadRow}
 use Rattle.mg_model.specs.Threads.{is_thread}
 use Rattle.mg_model.specs.Turn.{thread_call}
 use Rattle.mg_model.specs.Warmth.{disturbs, is_calm_turn, is_ok}
+use Rattle.mg_script.specs.declared.actions.Action.{Action}
+use Rattle.mg_script.specs.Actions.{HasFrames, begun, finished, made_by, turned_on}
+use Rattle.mg_volume.specs.Held.{VolumeHeld}
+use Rattle.mg_volume.specs.Meaning.{threads_in}
 
 -- the most that it adds to the counter of words
 abbrev pub call_limit : (Key → Bool) → State → ℕ → Call → ℕ
@@ -37,3 +42,14 @@ pub record KeepsTurn (state : State) (thread : Thread) (kept kept' : Key → Boo
   pub keys : is_calm_turn state (Some thread) ≡ true → KeepsKeys state (turn_accesses state thread) kept kept'
   pub least : steps + turn_words state thread ≤ steps'
   pub most : steps' ≤ steps + turn_limit kept state thread
+
+-- thread t has this row
+abbrev pub IsRowOf : VolumeHeld → ℕ → ThreadRow → Type 0
+IsRowOf v t row = option_map (λ (thread : Thread). thread.row) (find (λ (thread : Thread). thread.number == t) (threads_in v)) ≡ Some row
+
+-- what the turn of a thread with this row asks for, by the word that was fetched, and the call that it makes
+pub record Asks (row : ThreadRow) (fetched : Option ℕ) (action : Action) (made : Call) : Type 0 where
+  pub turn : (state : State) (t : ℕ) → turned_on state t row fetched ≡ finished state t (advanced row) action
+  pub frames : HasFrames row action
+  pub call : made_by row action ≡ begun row fetched
+  pub value : made ≡ made_by row action

@@ -32,7 +32,7 @@ use Rattle.mg_model.specs.Turn.{faulted, put_row, refusal_number, run, run_word,
 use Rattle.mg_model.specs.WellFormed.{IsThread, IsWellFormed}
 use Rattle.mg_script.specs.declared.actions.Action.{Action}
 use Rattle.mg_script.specs.declared.actions.Action.TheVariants as action
-use Rattle.mg_script.specs.Actions.{HasFrames, IsSpelledBy, entered, entering_call, faulted_row, finished, is_spelled, loaded, made_by, resumed, returned, settled, stored, turned_on}
+use Rattle.mg_script.specs.Actions.{HasFrames, IsSpelledBy, entered, entering_call, faulted_row, finished, is_spelled, loaded, made_by, resumed, returned, settled, stood, stored, turned_on}
 use Rattle.mg_script.specs.Turns.{TurnsAreCalls, TurnsRowsKeepBacked, fetched_word}
 use Rattle.mg_script.proofs.FramesBehind.{returning_on-put, returning_on-slots}
 use Rattle.mg_script.proofs.RowChanges.{domain-changed, frames-changed, with_thread-like, with_thread-same, with_thread-then}
@@ -172,7 +172,7 @@ module _ (state : State) (t : ℕ) (thread : ThreadRow) (formed : IsWellFormed s
         ∙ ap (λ (s : State). with_thread s t (λ r. settled said (advanced r))) (sym own)
 
     finished-behind : (asked : Action) → IsSpelledBy asked (made_by thread asked) → finished state t (advanced thread) asked ≡ behind t asked (thread_call state t (made_by thread asked))
-    finished-behind (action.Next next) by = refl
+    finished-behind (action.Next stands) by = like (λ _. stood stands (advanced thread)) (λ r. stood stands r) refl
     finished-behind (action.Load a to) by = behind-load a to (word_at state.objects a) (is_aligned a) (allowed state t a R)
     finished-behind (action.Store a value) by = behind-store a value (is_aligned a) (allowed state t a W)
     finished-behind (action.Pdx a mask) by =
@@ -218,7 +218,7 @@ entered-slots other thread = returning_on-slots thread.frames
 
 behind-backed : BackingRestsOnDomain → FramesKeepBacked → (state : State) (t : ℕ) (thread : ThreadRow) (asked : Action) → row_of state t ≡ Some thread → HasFrames thread asked
     → let called = thread_call state t (made_by thread asked) in KeepsBacked by_none called.0 (behind t asked called)
-behind-backed rests frames state t thread (action.Next next) there has = frames state t (λ _. next) (λ r is. has ∙ ap (λ (x : ThreadRow). x.frames) (same_Some thread r (sym there ∙ is)))
+behind-backed rests frames state t thread (action.Next stands) there has = frames state t (λ r. stood stands r) (λ r is. refl)
 behind-backed rests frames state t thread (action.Load a to) there has =
     let called = thread_call state t (call.Load a) in
     frames called.0 t (loaded to called.1) (λ r _. loaded-frames to called.1 r)

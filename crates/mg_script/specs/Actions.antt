@@ -22,6 +22,7 @@ use Rattle.mg_model.specs.State.{CallFrame, State, ThreadRow}
 use Rattle.mg_model.specs.Turn.{put_row, run, refusal_number, seen, spelled, thread_call, unless_faulted, values_of, with_registers}
 use Rattle.mg_script.specs.declared.actions.Action.{Action}
 use Rattle.mg_script.specs.declared.actions.Action.TheVariants as action
+use Rattle.mg_script.specs.declared.actions.Standing.{Standing}
 
 -- The row of a thread that made a call by `sys`, after the reply: register 0 has the refusal's number, or 0 and behind it
 -- the values.
@@ -29,10 +30,17 @@ abbrev pub settled : Reply → ThreadRow → ThreadRow
 settled (reply.No word) thread = with_register thread 0 (refusal_number word)
 settled said thread = with_registers thread 0 (0 ∷ values_of said)
 
+-- where a thread with this row stands, and the row of one that stands elsewhere
+abbrev pub standing : ThreadRow → Standing
+standing thread = record { pc = thread.pc; state = thread.state; regs = thread.regs }
+
+abbrev pub stood : Standing → ThreadRow → ThreadRow
+stood stands thread = record thread { pc = stands.pc; state = stands.state; regs = stands.regs }
+
 -- The state after the turn of thread t, whose row is this one with its pc advanced, where its instruction asks for this
 -- action.
 abbrev pub finished : State → ℕ → ThreadRow → Action → State
-finished state t thread (action.Next row) = put_row state t row
+finished state t thread (action.Next stands) = put_row state t (stood stands thread)
 finished state t thread (action.Load address to) =
     unless_faulted state t address (allowed state t address R) (put_row state t (with_register thread to (word_at state.objects address)))
 finished state t thread (action.Store address value) =
@@ -54,14 +62,15 @@ is_spelled call.Next = false
 is_spelled call.Rent = false
 is_spelled other = true
 
--- a load puts its word into one of the eight registers
+-- a load puts its word into one of the eight registers, and a pc is a multiple of 8
 abbrev pub HasPlace : Action → Type 0
+HasPlace (action.Next stands) = stands.pc % 8 ≡ 0
 HasPlace (action.Load address to) = to < 8
 HasPlace other = Unit {0}
 
 -- a row after the turn has the frames of the row before it
 abbrev pub HasFrames : ThreadRow → Action → Type 0
-HasFrames thread (action.Next row) = row.frames ≡ thread.frames
+HasFrames thread (action.Next stands) = (stood stands thread).frames ≡ thread.frames
 HasFrames thread other = Unit {0}
 
 -- the call of a `pdx` with any mask
@@ -79,7 +88,7 @@ call_of thread op.Sys = spelled thread
 call_of thread other = call.Bad
 
 abbrev pub made_by : ThreadRow → Action → Call
-made_by thread (action.Next row) = call.Bad
+made_by thread (action.Next stands) = call.Bad
 made_by thread (action.Load address to) = call.Load address
 made_by thread (action.Store address value) = call.Store address value
 made_by thread (action.Pdx address mask) = entering_call address mask
@@ -139,7 +148,7 @@ returned (reply.No word) thread = refused_row word thread
 returned other thread = thread
 
 abbrev pub resumed : Action → Reply → ThreadRow → ThreadRow
-resumed (action.Next row) said thread = row
+resumed (action.Next stands) said thread = stood stands thread
 resumed (action.Load address to) said thread = loaded to said thread
 resumed (action.Store address value) said thread = stored said thread
 resumed (action.Pdx address mask) said thread = entered said thread

@@ -1,20 +1,28 @@
 // What an instruction does to a thread's row.
-ghost use Rattle.std.specs.Prelude.{◌≡◌, ◌<◌, ◌+◌, ◌*◌, ◌%◌, ◌^◌, ◌==◌, if◌then◌else◌, ℕ};
+ghost use Rattle.std.specs.Prelude.{◌≡◌, ◌<◌, ◌+◌, ◌*◌, ◌%◌, ◌^◌, ◌==◌, if◌then◌else◌, slice_index, slice_set, ℕ};
 ghost use Rattle.mg_model.specs.Abbreviations.{advanced};
 ghost use Rattle.mg_model.specs.Ranges.{IsThreadRow};
-ghost use Rattle.mg_model.specs.Script.{jump_by, jumped, operand, register, with_register, word_end};
+ghost use Rattle.mg_model.specs.Script.{jump_by, word_end};
 ghost use Rattle.mg_model.specs.State.{State};
 ghost use Rattle.mg_model.specs.Turn.{run};
-ghost use Rattle.mg_script.specs.Actions.{HasFrames, HasPlace, call_of, finished, made_by};
+ghost use Rattle.mg_script.specs.Actions.{HasFrames, HasPlace, call_of, finished, made_by, standing};
 ghost use Rattle.mg_script.specs.Encoded.{HasRegisters};
 
 use mg_model::{Instr, ThrRow, ThrState};
 
+/// Where a thread stands: its pc, its state and its registers.
+#[derive(Clone, Copy)]
+pub struct Standing {
+    pub pc: u64,
+    pub state: ThrState,
+    pub regs: [u64; 8],
+}
+
 /// What an instruction asks of the machine. But for `Next` the thread's row is to be the one with its pc advanced.
 #[derive(Clone, Copy)]
 pub enum Action {
-    /// Nothing: this is the thread's row after the turn.
-    Next(ThrRow),
+    /// Nothing: here the thread stands after the turn. Its frames stay.
+    Next(Standing),
     /// The word at address `a`, with R, into register `to`.
     Load { a: u64, to: u8 },
     /// The value to the word at address `a`, with W.
@@ -46,13 +54,9 @@ pub fn execute(i: &Instr, r: &ThrRow) -> Action
 {
     r.keep_rules();
     let here = r.pc();
-    let mut row = *r;
-    advance(&mut row);
+    let row = onward(r);
     match *i {
-        Instr::Halt => {
-            row.set_state(ThrState::Stopped);
-            Action::Next(row)
-        }
+        Instr::Halt => stop(row),
         Instr::Set { a, i } => put(row, a, i as u64),
         Instr::High { a, i } => put(row, a, with_high(value(&row, a), i)),
         Instr::Add { a, b, c } => put(row, a, value(&row, b).wrapping_add(value(&row, c))),
@@ -79,12 +83,44 @@ pub fn execute(i: &Instr, r: &ThrRow) -> Action
     }
 }
 
-/// What a register holds.
-fn value(row: &ThrRow, number: u8) -> u64
-    requires { number < 8 }
-    ensures { result ≡ register row.now number }
+/// Where a thread with this row stands.
+pub(crate) fn here(row: &ThrRow) -> Standing
+    ensures { result ≡ standing row.now }
 {
-    row.register(number as usize)
+    Standing {
+        pc: row.pc(),
+        state: row.state(),
+        regs: row.regs(),
+    }
+}
+
+/// Where it stands once its pc has moved on.
+pub(crate) fn onward(row: &ThrRow) -> Standing
+    ensures value { result ≡ standing (advanced row.now) }
+    ensures aligned { result.pc % 8 ≡ 0 }
+{
+    row.keep_rules();
+    Standing {
+        pc: row.pc().wrapping_add(8),
+        state: row.state(),
+        regs: row.regs(),
+    }
+}
+
+/// The thread takes no turns any more.
+fn stop(mut row: Standing) -> Action
+    ensures { result ≡ Action.Next (record row { state = ThrState.Stopped }) }
+{
+    row.state = ThrState::Stopped;
+    Action::Next(row)
+}
+
+/// What a register holds.
+fn value(row: &Standing, number: u8) -> u64
+    requires { number < 8 }
+    ensures { result ≡ slice_index row.now.regs number }
+{
+    row.regs[number as usize]
 }
 
 /// A word with another upper half.
@@ -95,36 +131,39 @@ fn with_high(word: u64, i: u32) -> u64
 }
 
 /// The address of a load or a store, modulo `2^64`.
-fn address(row: &ThrRow, b: u8, i: u32) -> u64
+fn address(row: &Standing, b: u8, i: u32) -> u64
     requires { b < 8 }
-    ensures { result ≡ operand row.now b i }
+    ensures { result ≡ (slice_index row.now.regs b + i) % word_end }
 {
     value(row, b).wrapping_add(i as u64)
 }
 
-/// The row with another value in a register.
-fn put(mut row: ThrRow, number: u8, value: u64) -> Action
+/// Another value in a register.
+fn put(mut row: Standing, number: u8, value: u64) -> Action
     requires { number < 8 }
-    ensures { result ≡ Action.Next (with_register row number value) }
+    ensures { result ≡ Action.Next (record row { regs = slice_set row.regs number value }) }
 {
-    row.set_register(number as usize, value);
+    row.regs[number as usize] = value;
     Action::Next(row)
 }
 
-/// The row with its pc so many words from `here`, a multiple of 8.
-fn jump(mut row: ThrRow, here: u64, i: u32) -> Action
+/// The pc so many words from `here`, a multiple of 8.
+fn jump(mut row: Standing, here: u64, i: u32) -> Action
     requires { here % 8 ≡ 0 }
-    ensures { result ≡ Action.Next (jumped row here i) }
+    ensures value { result ≡ Action.Next (record row { pc = (here + jump_by i) % word_end }) }
+    ensures place { HasPlace result }
 {
-    row.set_pc(target(here, i));
+    row.pc = target(here, i);
     Action::Next(row)
 }
 
-/// The same where the register is 0; else the row as it is.
-fn jump_if_zero(row: ThrRow, number: u8, here: u64, i: u32) -> Action
+/// The same where the register is 0; else the thread goes on.
+fn jump_if_zero(row: Standing, number: u8, here: u64, i: u32) -> Action
     requires place { number < 8 }
     requires aligned { here % 8 ≡ 0 }
-    ensures { result ≡ Action.Next (if register row number == 0 then jumped row here i else row) }
+    requires next_aligned { row.pc % 8 ≡ 0 }
+    ensures value { result ≡ (if slice_index row.regs number == 0 then Action.Next (record row { pc = (here + jump_by i) % word_end }) else Action.Next row) }
+    ensures place { HasPlace result }
 {
     if value(&row, number) == 0 {
         jump(row, here, i)
@@ -133,11 +172,13 @@ fn jump_if_zero(row: ThrRow, number: u8, here: u64, i: u32) -> Action
     }
 }
 
-/// The same where the register is not 0; else the row as it is.
-fn jump_unless_zero(row: ThrRow, number: u8, here: u64, i: u32) -> Action
+/// The same where the register is not 0; else the thread goes on.
+fn jump_unless_zero(row: Standing, number: u8, here: u64, i: u32) -> Action
     requires place { number < 8 }
     requires aligned { here % 8 ≡ 0 }
-    ensures { result ≡ Action.Next (if register row number == 0 then row else jumped row here i) }
+    requires next_aligned { row.pc % 8 ≡ 0 }
+    ensures value { result ≡ (if slice_index row.regs number == 0 then Action.Next row else Action.Next (record row { pc = (here + jump_by i) % word_end })) }
+    ensures place { HasPlace result }
 {
     if value(&row, number) != 0 {
         jump(row, here, i)

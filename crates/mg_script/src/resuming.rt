@@ -1,11 +1,11 @@
 // A turn as a call: which action a thread's word asks for, which call the action makes, and the thread's row behind it.
-ghost use Rattle.std.specs.Prelude.{◌≡◌, ◌<◌, ℕ};
+ghost use Rattle.std.specs.Prelude.{◌≡◌, ◌<◌, ◌%◌, IfSome, ℕ};
 ghost use Rattle.mg_model.specs.Abbreviations.{advanced};
 ghost use Rattle.mg_model.specs.Script.{with_register};
 ghost use Rattle.mg_model.specs.State.{State};
-ghost use Rattle.mg_script.specs.Actions.{HasFrames, HasPlace, IsSpelledBy, begun, entered, entering_call, fault_of, faulted_row, finished, loaded, made_by, refused_row, resumed, returned, returning_on, stored, turned_on};
+ghost use Rattle.mg_script.specs.Actions.{HasFrames, HasPlace, IsSpelledBy, begun, entered, entering_call, fault_of, faulted_row, finished, loaded, made_by, refused_row, resumed, returned, returning_on, standing, stood, stored, turned_on};
 
-use crate::actions::{Action, advance, execute};
+use crate::actions::{Action, Standing, advance, execute, here, onward};
 use crate::calls::spell;
 use crate::settling::{refuse, settle};
 use crate::words::decode;
@@ -22,9 +22,9 @@ pub fn begin(r: &ThrRow, fetched: Option<u64>) -> Action
     match fetched {
         Some(word) => match decode(word) {
             Some(instr) => execute(&instr, r),
-            None => Action::Next(faulted(*r, Fault::Opcode)),
+            None => Action::Next(faulting(r, Fault::Opcode)),
         },
-        None => Action::Next(faulted(*r, Fault::Denied)),
+        None => Action::Next(faulting(r, Fault::Denied)),
     }
 }
 
@@ -68,12 +68,98 @@ pub fn resume(row: ThrRow, action: &Action, reply: &Reply) -> ThrRow
     ensures { result ≡ resumed action.now reply.now row }
 {
     match action {
-        Action::Next(next) => *next,
+        Action::Next(next) => standing_so(row, next),
         Action::Load { to, .. } => behind_load(row, *to, reply),
         Action::Store { .. } => behind_store(row, reply),
         Action::Pdx { .. } => behind_pdx(row, reply),
         Action::Ret => behind_ret(row, reply),
         Action::Sys => behind_sys(row, reply),
+    }
+}
+
+/// Where a thread stands after its turn, from the row that the call of its action left and the call's reply. None where the
+/// turn may change more of the row: behind a call that the registers spelled, and behind `pdx` and `ret`. [`resume`] has the
+/// row then.
+pub fn stand(row: &ThrRow, action: &Action, reply: &Reply) -> Option<Standing>
+    requires { HasPlace action.now }
+    ensures value { IfSome result (λ stands. resumed action.now reply.now row.now ≡ stood stands row.now) }
+    ensures aligned { IfSome result (λ stands. stands.pc % 8 ≡ 0) }
+{
+    match action {
+        Action::Next(next) => Some(*next),
+        Action::Load { to, .. } => Some(stand_behind_load(row, *to, reply)),
+        Action::Store { .. } => Some(stand_behind_store(row, reply)),
+        Action::Pdx { .. } | Action::Ret | Action::Sys => None,
+    }
+}
+
+fn stand_behind_load(row: &ThrRow, to: u8, reply: &Reply) -> Standing
+    requires { to < 8 }
+    ensures value { result ≡ standing (loaded to reply.now row.now) }
+    ensures aligned { result.pc % 8 ≡ 0 }
+{
+    match *reply {
+        Reply::Value(word) => {
+            let mut stands = onward(row);
+            stands.regs[to as usize] = word;
+            stands
+        }
+        Reply::No(word) => faulting(row, fault(word)),
+        _ => still(row),
+    }
+}
+
+fn stand_behind_store(row: &ThrRow, reply: &Reply) -> Standing
+    ensures value { result ≡ standing (stored reply.now row.now) }
+    ensures aligned { result.pc % 8 ≡ 0 }
+{
+    match *reply {
+        Reply::Done => onward(row),
+        Reply::No(word) => faulting(row, fault(word)),
+        _ => still(row),
+    }
+}
+
+// Where a thread stands that goes nowhere.
+fn still(row: &ThrRow) -> Standing
+    ensures value { result ≡ standing row.now }
+    ensures aligned { result.pc % 8 ≡ 0 }
+{
+    row.keep_rules();
+    here(row)
+}
+
+// Where a thread stands that faults.
+fn faulting(row: &ThrRow, kind: Fault) -> Standing
+    ensures value { result ≡ standing (faulted_row kind row.now) }
+    ensures aligned { result.pc % 8 ≡ 0 }
+{
+    row.keep_rules();
+    Standing {
+        pc: row.pc(),
+        state: ThrState::Faulted(kind),
+        regs: row.regs(),
+    }
+}
+
+// The row of a thread that stands elsewhere.
+fn standing_so(mut row: ThrRow, stands: &Standing) -> ThrRow
+    requires { stands.now.pc % 8 ≡ 0 }
+    ensures { result ≡ stood stands.now row }
+{
+    row.set_pc(stands.pc);
+    row.set_state(stands.state);
+    set_registers(&mut row, &stands.regs);
+    row
+}
+
+// Other registers.
+fn set_registers(row: &mut ThrRow, regs: &[u64; 8])
+    ensures { row.new ≡ record row.old { regs = regs.now } }
+{
+    row.keep_rules();
+    for k in 0..8 {
+        row.set_register(k, regs[k]);
     }
 }
 

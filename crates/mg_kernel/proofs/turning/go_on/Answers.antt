@@ -1,21 +1,23 @@
 use Rattle.std.specs.Prelude.{◌==◌, find}
-use Rattle.std.proofs.Common.{ap, ◌∙◌}
-use Rattle.mg_kernel.proofs.Turned.{after-change, after-none, changes-row, no-change, row-lives, row-told, unmapped}
+use Rattle.std.proofs.Common.{sym}
+use Rattle.mg_kernel.proofs.Turned.{after-change, after-none, changes-alike, no-change, row-lives, row-told, unmapped}
 use Rattle.mg_model.specs.State.{Thread, ThreadRow}
-use Rattle.mg_model.specs.Turn.{as_after}
-use Rattle.mg_script.specs.Actions.{resumed}
+use Rattle.mg_script.specs.Actions.{resumed, stood}
 use Rattle.mg_volume.specs.Meaning.{now_of, threads_in}
 use Rattle.mg_kernel.proofs.turning.go_on.Goals as goal
 
-pub change_thread-requires-clause-lives : goal.change_thread-requires-clause-lives
-change_thread-requires-clause-lives c = row-lives c.args.v.now c.args.t c.in-Some.row c.in-Some.ensures.found
+pub move_thread-requires-clause-lives : goal.move_thread-requires-clause-lives
+move_thread-requires-clause-lives c = row-lives c.args.v.now c.args.t c.in-Some.row.now c.in-Some.ensures.found
 
-pub returns-in-Some-clause-left : goal.returns-in-Some-clause-left
-returns-in-Some-clause-left c image =
+pub returns-in-Some-stand-clause-left : goal.returns-in-Some-stand-clause-left
+returns-in-Some-stand-clause-left c image =
     let change = λ (row : ThreadRow). resumed c.args.action.now c.args.reply.now row in
+    let stands = stood c.in-Some-stand.stands in
+    let row = c.in-Some.row.now in
     let held = find (λ (thread : Thread). thread.number == c.args.t) (threads_in c.args.v.now) in
-    after-change c.args.t change (now_of c.args.v.now image) (now_of c.change_thread.new.self image) c.in-Some.row c.resume-row.result c.after.result (row-told c.args.v.now c.args.t c.in-Some.row c.in-Some.ensures.found image)
-    (c.change_thread.ensures.now change (changes-row c.args.t change held c.in-Some.row c.resume-row.result c.in-Some.ensures.found c.resume-row.ensures) image) c.resume-row.ensures (c.after.ensures ∙ ap as_after c.state.ensures)
+    let same = c.in-Some-stand.ensures.value in
+    after-change c.args.t change (now_of c.args.v.now image) (now_of c.move_thread.new.self image) row (stands row) c.after.result (row-told c.args.v.now c.args.t row c.in-Some.ensures.found image)
+    (c.move_thread.ensures.now change (changes-alike change stands held row c.in-Some.ensures.found same) image) (sym same) c.after.ensures
 
 pub returns-in-None-clause-now : goal.returns-in-None-clause-now
 returns-in-None-clause-now c image =

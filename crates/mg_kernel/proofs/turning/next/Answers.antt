@@ -1,7 +1,7 @@
 use Rattle.std.proofs.Common.{rules}
 use Rattle.mg_kernel.proofs.NextTurn.{cursor-backed, next-runs, picked-held, picked-row, picks}
 use Rattle.mg_kernel.proofs.TurnCounts.{next-line, next-within}
-use Rattle.mg_kernel.proofs.Turned.{row-told}
+use Rattle.mg_kernel.proofs.Turned.{row-lives, row-told}
 use Rattle.mg_vcache.specs.Seats.{is_kept}
 use Rattle.mg_volume.specs.Meaning.{now_of}
 use Rattle.mg_kernel.proofs.turning.next.Goals as goal
@@ -22,14 +22,14 @@ returns-in-Ok g c t = record {
       cursor-backed (now_of c.run.new.v image) (now_of c.move_cursor.new.v image) c.in-Some.n c.run.new.c c.backing_rests_on_the_domain.ensures.rests (c.move_cursor.ensures.now image) (c.run.ensures.backed image told);
   keeps = λ image told.
       let state = now_of c.args.v.now image in
-      let there = row-told c.args.v.now c.in-Some.n c.in-Some-thread.row c.in-Some-thread.ensures.found image in
-      next-line state t (record { number = c.in-Some.n; row = c.in-Some-thread.row }) (picked-row state c.in-Some.n c.in-Some-thread.row (c.requires.sound.formed image told) (picks state c.in-Some.n (c.in-Some.ensures image)) there) (λ key. is_kept c.args.c.now key)
-      (λ key. is_kept c.run.new.c key) c.args.steps.now c.run.new.steps (c.in-Ok.ensures.keeps image told);
+      let there = row-told c.args.v.now c.in-Some.n c.in-Some-thread_ref._row.now c.in-Some-thread_ref.ensures.found image in
+      next-line state t (record { number = c.in-Some.n; row = c.in-Some-thread_ref._row.now }) (picked-row state c.in-Some.n c.in-Some-thread_ref._row.now (c.requires.sound.formed image told) (picks state c.in-Some.n (c.in-Some.ensures image)) there) (λ key. is_kept c.args.c.now key)
+      (λ key. is_kept c.run.new.c key) c.args.steps.now c.run.new.steps (c.in-Ok.ensures.keeps c.in-Some-thread_ref._row.now c.in-Some-thread_ref.ensures.found image told);
   limit = λ image told.
       let state = now_of c.args.v.now image in
-      let there = row-told c.args.v.now c.in-Some.n c.in-Some-thread.row c.in-Some-thread.ensures.found image in
-      next-within state t (record { number = c.in-Some.n; row = c.in-Some-thread.row }) (picked-row state c.in-Some.n c.in-Some-thread.row (c.requires.sound.formed image told) (picks state c.in-Some.n (c.in-Some.ensures image)) there) (λ key. is_kept c.args.c.now key)
-      c.args.steps.now c.run.new.steps (c.run.ensures.limit image told);
+      let there = row-told c.args.v.now c.in-Some.n c.in-Some-thread_ref._row.now c.in-Some-thread_ref.ensures.found image in
+      next-within state t (record { number = c.in-Some.n; row = c.in-Some-thread_ref._row.now }) (picked-row state c.in-Some.n c.in-Some-thread_ref._row.now (c.requires.sound.formed image told) (picks state c.in-Some.n (c.in-Some.ensures image)) there) (λ key. is_kept c.args.c.now key)
+      c.args.steps.now c.run.new.steps (c.run.ensures.limit c.in-Some-thread_ref._row.now c.in-Some-thread_ref.ensures.found image told);
   serves = search rules;
   cause = search rules;
 }
@@ -44,9 +44,12 @@ returns-in-Err g c t = record {
   keeps = search rules;
   limit = λ image told.
       let state = now_of c.args.v.now image in
-      let there = row-told c.args.v.now c.in-Some.n c.in-Some-thread.row c.in-Some-thread.ensures.found image in
-      next-within state t (record { number = c.in-Some.n; row = c.in-Some-thread.row }) (picked-row state c.in-Some.n c.in-Some-thread.row (c.requires.sound.formed image told) (picks state c.in-Some.n (c.in-Some.ensures image)) there) (λ key. is_kept c.args.c.now key)
-      c.args.steps.now c.run.new.steps (c.run.ensures.limit image told);
+      let there = row-told c.args.v.now c.in-Some.n c.in-Some-thread_ref._row.now c.in-Some-thread_ref.ensures.found image in
+      next-within state t (record { number = c.in-Some.n; row = c.in-Some-thread_ref._row.now }) (picked-row state c.in-Some.n c.in-Some-thread_ref._row.now (c.requires.sound.formed image told) (picks state c.in-Some.n (c.in-Some.ensures image)) there) (λ key. is_kept c.args.c.now key)
+      c.args.steps.now c.run.new.steps (c.run.ensures.limit c.in-Some-thread_ref._row.now c.in-Some-thread_ref.ensures.found image told);
   serves = search rules;
   cause = search rules;
 }
+
+pub run-requires-clause-lives : goal.run-requires-clause-lives
+run-requires-clause-lives g c = row-lives c.args.v.now c.in-Some.n c.in-Some-thread_ref._row.now c.in-Some-thread_ref.ensures.found

@@ -2,7 +2,7 @@ use Rattle.std.specs.Prelude.{◌==◌, find}
 use Rattle.std.proofs.Common.{refl, sym, ◌∙◌, rules}
 use Rattle.mg_kernel.proofs.Threads.{gone}
 use Rattle.mg_kernel.proofs.TurnCounts.{gone-turn, row-found, turn-line, turn-within, unready-turn}
-use Rattle.mg_kernel.proofs.Turned.{row-ready, row-thread, row-told, turn-ready, turn-refused, unmapped}
+use Rattle.mg_kernel.proofs.Turned.{row-lives, row-ready, row-thread, row-told, turn-ready, turn-refused, unmapped}
 use Rattle.mg_model.specs.State.{Thread}
 use Rattle.mg_model.specs.Turn.{turn}
 use Rattle.mg_vcache.specs.Seats.{is_kept}
@@ -12,23 +12,23 @@ use Rattle.mg_kernel.proofs.turning.turn.Goals as goal
 
 pub run-requires-clause-ready : goal.run-requires-clause-ready
 run-requires-clause-ready g c image told =
-    row-ready (now_of c.args.v.now image) c.args.t c.in-Some.row c.in-Some.row.state (row-told c.args.v.now c.args.t c.in-Some.row c.in-Some.ensures.found image) refl ∙ sym c.takes_turns.ensures ∙ c.if-not-takes_turns.false
+    row-ready (now_of c.args.v.now image) c.args.t c.in-Some.row.now c.in-Some.row.now.state (row-told c.args.v.now c.args.t c.in-Some.row.now c.in-Some.ensures.found image) refl ∙ sym c.takes_turns.ensures ∙ c.if-not-takes_turns.false
 
 pub returns-then-not-takes_turns : goal.returns-then-not-takes_turns
 returns-then-not-takes_turns g c = record {
   answers = λ image told.
       let state = now_of c.args.v.now image in
-      let there = row-told c.args.v.now c.args.t c.in-Some.row c.in-Some.ensures.found image in
-      turn-refused state c.args.t (row-thread c.args.v.now c.args.t c.in-Some.row c.in-Some.ensures.found image)
-      (row-ready state c.args.t c.in-Some.row c.in-Some.row.state there refl ∙ sym c.takes_turns.ensures ∙ c.if-not-takes_turns.true);
+      let there = row-told c.args.v.now c.args.t c.in-Some.row.now c.in-Some.ensures.found image in
+      turn-refused state c.args.t (row-thread c.args.v.now c.args.t c.in-Some.row.now c.in-Some.ensures.found image)
+      (row-ready state c.args.t c.in-Some.row.now c.in-Some.row.now.state there refl ∙ sym c.takes_turns.ensures ∙ c.if-not-takes_turns.true);
   refused = search rules;
   failed = search rules;
   slots = search rules;
   backed = search rules;
   keeps = λ image told.
       let state = now_of c.args.v.now image in
-      let there = row-told c.args.v.now c.args.t c.in-Some.row c.in-Some.ensures.found image in
-      unready-turn state c.args.t (λ key. is_kept c.args.c.now key) c.args.steps.now (row-ready state c.args.t c.in-Some.row c.in-Some.row.state there refl ∙ sym c.takes_turns.ensures ∙ c.if-not-takes_turns.true);
+      let there = row-told c.args.v.now c.args.t c.in-Some.row.now c.in-Some.ensures.found image in
+      unready-turn state c.args.t (λ key. is_kept c.args.c.now key) c.args.steps.now (row-ready state c.args.t c.in-Some.row.now c.in-Some.row.now.state there refl ∙ sym c.takes_turns.ensures ∙ c.if-not-takes_turns.true);
   limit = search rules;
   serves = search rules;
   cause = search rules;
@@ -38,8 +38,8 @@ pub returns-in-Ok : goal.returns-in-Ok
 returns-in-Ok g c = record {
   answers = λ image told.
       let state = now_of c.args.v.now image in
-      let there = row-told c.args.v.now c.args.t c.in-Some.row c.in-Some.ensures.found image in
-      turn-ready state c.args.t (row-thread c.args.v.now c.args.t c.in-Some.row c.in-Some.ensures.found image) (now_of c.run.new.v image) c.in-Ok.left (row-ready state c.args.t c.in-Some.row c.in-Some.row.state there refl ∙ sym c.takes_turns.ensures ∙ c.if-not-takes_turns.false)
+      let there = row-told c.args.v.now c.args.t c.in-Some.row.now c.in-Some.ensures.found image in
+      turn-ready state c.args.t (row-thread c.args.v.now c.args.t c.in-Some.row.now c.in-Some.ensures.found image) (now_of c.run.new.v image) c.in-Ok.left (row-ready state c.args.t c.in-Some.row.now c.in-Some.row.now.state there refl ∙ sym c.takes_turns.ensures ∙ c.if-not-takes_turns.false)
       (c.in-Ok.ensures.state image told) (c.in-Ok.ensures.left image told);
   refused = search rules;
   failed = search rules;
@@ -47,14 +47,14 @@ returns-in-Ok g c = record {
   backed = search rules;
   keeps = λ image told.
       let state = now_of c.args.v.now image in
-      let there = row-told c.args.v.now c.args.t c.in-Some.row c.in-Some.ensures.found image in
-      turn-line state c.args.t (record { number = c.args.t; row = c.in-Some.row }) (row-found state c.args.t c.in-Some.row there) (row-ready state c.args.t c.in-Some.row c.in-Some.row.state there refl ∙ sym c.takes_turns.ensures ∙ c.if-not-takes_turns.false) (λ key. is_kept c.args.c.now key) (λ key. is_kept c.run.new.c key) c.args.steps.now c.run.new.steps
-      (c.in-Ok.ensures.keeps image told);
+      let there = row-told c.args.v.now c.args.t c.in-Some.row.now c.in-Some.ensures.found image in
+      turn-line state c.args.t (record { number = c.args.t; row = c.in-Some.row.now }) (row-found state c.args.t c.in-Some.row.now there) (row-ready state c.args.t c.in-Some.row.now c.in-Some.row.now.state there refl ∙ sym c.takes_turns.ensures ∙ c.if-not-takes_turns.false) (λ key. is_kept c.args.c.now key) (λ key. is_kept c.run.new.c key) c.args.steps.now c.run.new.steps
+      (c.in-Ok.ensures.keeps c.in-Some.row.now c.in-Some.ensures.found image told);
   limit = λ image told.
       let state = now_of c.args.v.now image in
-      let there = row-told c.args.v.now c.args.t c.in-Some.row c.in-Some.ensures.found image in
-      turn-within state c.args.t (record { number = c.args.t; row = c.in-Some.row }) (row-found state c.args.t c.in-Some.row there) (row-ready state c.args.t c.in-Some.row c.in-Some.row.state there refl ∙ sym c.takes_turns.ensures ∙ c.if-not-takes_turns.false) (λ key. is_kept c.args.c.now key) c.args.steps.now c.run.new.steps
-      (c.run.ensures.limit image told);
+      let there = row-told c.args.v.now c.args.t c.in-Some.row.now c.in-Some.ensures.found image in
+      turn-within state c.args.t (record { number = c.args.t; row = c.in-Some.row.now }) (row-found state c.args.t c.in-Some.row.now there) (row-ready state c.args.t c.in-Some.row.now c.in-Some.row.now.state there refl ∙ sym c.takes_turns.ensures ∙ c.if-not-takes_turns.false) (λ key. is_kept c.args.c.now key) c.args.steps.now c.run.new.steps
+      (c.run.ensures.limit c.in-Some.row.now c.in-Some.ensures.found image told);
   serves = search rules;
   cause = search rules;
 }
@@ -69,9 +69,9 @@ returns-in-Err g c = record {
   keeps = search rules;
   limit = λ image told.
       let state = now_of c.args.v.now image in
-      let there = row-told c.args.v.now c.args.t c.in-Some.row c.in-Some.ensures.found image in
-      turn-within state c.args.t (record { number = c.args.t; row = c.in-Some.row }) (row-found state c.args.t c.in-Some.row there) (row-ready state c.args.t c.in-Some.row c.in-Some.row.state there refl ∙ sym c.takes_turns.ensures ∙ c.if-not-takes_turns.false) (λ key. is_kept c.args.c.now key) c.args.steps.now c.run.new.steps
-      (c.run.ensures.limit image told);
+      let there = row-told c.args.v.now c.args.t c.in-Some.row.now c.in-Some.ensures.found image in
+      turn-within state c.args.t (record { number = c.args.t; row = c.in-Some.row.now }) (row-found state c.args.t c.in-Some.row.now there) (row-ready state c.args.t c.in-Some.row.now c.in-Some.row.now.state there refl ∙ sym c.takes_turns.ensures ∙ c.if-not-takes_turns.false) (λ key. is_kept c.args.c.now key) c.args.steps.now c.run.new.steps
+      (c.run.ensures.limit c.in-Some.row.now c.in-Some.ensures.found image told);
   serves = search rules;
   cause = search rules;
 }
@@ -91,3 +91,6 @@ returns-in-None g c = record {
   serves = search rules;
   cause = search rules;
 }
+
+pub run-requires-clause-lives : goal.run-requires-clause-lives
+run-requires-clause-lives g c = row-lives c.args.v.now c.args.t c.in-Some.row.now c.in-Some.ensures.found

@@ -1,0 +1,5 @@
+use Rattle.mg_kernel.proofs.Turned.{row-gone}
+use Rattle.mg_kernel.proofs.turning.pc_of.Goals as goal
+
+pub unreachable-requires : goal.unreachable-requires
+unreachable-requires c = row-gone c.args.v.now c.args.t c.requires.lives c.in-None.ensures.found

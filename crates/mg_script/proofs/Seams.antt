@@ -1,0 +1,21 @@
+-- A list that is taken over item by item.
+use Rattle.std.proofs.Common.{ℕ, zero, suc, ◌+◌, ◌<◌, ◌≡◌, ◌++◌, List, [], ◌∷◌, drop, get_or, length, refl, sym, take, ap, ◌∙◌, arith}
+use Rattle.std.specs.Prelude.{slice_set}
+
+-- one more of the new items, where the others are as they were
+pub set-seam : (new old : List ℕ) (k d : ℕ) → k < length new → k < length old → slice_set (take k new ++ drop k old) k (get_or new k d) ≡ take (k + 1) new ++ drop (k + 1) old
+set-seam [] old k d below within = absurd (omega arith)
+set-seam (n ∷ ns) [] k d below within = absurd (omega arith)
+set-seam (n ∷ ns) (o ∷ os) zero d below within = refl
+set-seam (n ∷ ns) (o ∷ os) (suc k) d below within =
+    let e : suc k + 1 ≡ suc (k + 1) = omega arith in
+    ap (λ xs. n ∷ xs) (set-seam ns os k d (omega arith) (omega arith)) ∙ ap (λ j. take j (n ∷ ns) ++ drop (suc (k + 1)) (o ∷ os)) (sym e) ∙ ap (λ j. take (suc k + 1) (n ∷ ns) ++ drop j (o ∷ os)) (sym e)
+
+-- all of them
+pub seam-end : (new old : List ℕ) (k : ℕ) → length new ≡ k → length old ≡ k → take k new ++ drop k old ≡ new
+seam-end [] [] zero whole same = refl
+seam-end [] [] (suc k) whole same = refl
+seam-end [] (o ∷ os) k whole same = absurd (omega arith)
+seam-end (n ∷ ns) [] k whole same = absurd (omega arith)
+seam-end (n ∷ ns) (o ∷ os) zero whole same = absurd (omega arith)
+seam-end (n ∷ ns) (o ∷ os) (suc k) whole same = ap (λ xs. n ∷ xs) (seam-end ns os k (omega arith) (omega arith))
