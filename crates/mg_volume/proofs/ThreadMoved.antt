@@ -3,13 +3,13 @@ use Rattle.std.specs.Prelude.{◌≡◌, ◌+◌, ◌-◌, ◌≤◌, ◌<◌, �
 use Rattle.std.proofs.Common.{refl, sym, ap, ◌∙◌, arith}
 use Rattle.std.proofs.lemmas.Option.{same_Some}
 use Rattle.mg_disk.specs.Disk.{Image, block_at}
+use Rattle.mg_model.specs.Abbreviations.{thread_row_bytes}
 use Rattle.mg_model.specs.Layout.{first_thread_block}
 use Rattle.mg_model.specs.Limits.{thread_limit}
 use Rattle.mg_model.specs.Ranges.{IsThreadRow}
 use Rattle.mg_model.specs.Replay.{block_of}
 use Rattle.mg_model.specs.Spelling.{Read, thread_bytes, thread_read}
 use Rattle.mg_model.specs.State.{Thread, ThreadRow}
-use Rattle.mg_model.specs.Volume.{thread_row_bytes}
 use Rattle.mg_pages.specs.Held.{PagesHeld}
 use Rattle.mg_pages.specs.Meaning as pages
 use Rattle.mg_rows.specs.Laws.{IsSpelledInOneWay, live}
