@@ -1,6 +1,6 @@
 -- The digits at the front of bytes, and the word that they stand in.
-use Rattle.std.proofs.Common.{◌≡◌, ℕ, zero, suc, not, nat_lt, ◌+◌, ◌*◌, ◌^◌, ◌<◌, ◌≤◌, ◌&&◌, nat_le, Bool, true, false, List, [], ◌∷◌, Option, Some, None, length, get_or, take, drop, if◌then◌else◌, option_map, refl, ap, sym, ◌∙◌, arith}
-use Rattle.std.proofs.lemmas.List.{drop_more, take_all}
+use Rattle.std.proofs.Common.{◌≡◌, ℕ, zero, suc, not, nat_lt, min, ◌⊎◌, ◌+◌, ◌*◌, ◌^◌, ◌<◌, ◌≤◌, ◌&&◌, nat_le, Bool, true, false, List, [], ◌∷◌, Option, Some, None, length, get_or, take, drop, if◌then◌else◌, option_map, refl, ap, sym, ◌∙◌, arith}
+use Rattle.std.proofs.lemmas.List.{drop_more, length-take-le, take_all}
 use Rattle.std.specs.Prelude.{is_some}
 use Rattle.std.specs.List.{prefix_len}
 use Rattle.std.proofs.lemmas.Bool.{ltb-false, ltb-true}
@@ -41,6 +41,33 @@ front-none base most xs none = ap (λ m. below_word (value_of_digits base most (
 pub front-more : (base i d : ℕ) (xs : List ℕ) → i < length xs → Some d ≡ digit_of base (get_or xs i 0)
     → prefix_len (λ b. is_some (digit_of base b)) (drop i xs) ≡ 1 + prefix_len (λ b. is_some (digit_of base b)) (drop (i + 1) xs)
 front-more base i d xs h e = prefix_len-drop_yes (λ b. is_some (digit_of base b)) xs i 0 h (ap is_some (sym e))
+
+pub digit-small : (base b d : ℕ) → Some d ≡ digit_of base b → d < 16
+digit-small base b d e = grind (arith, nat_tests)
+
+-- more digits than are read
+pub front-long : (base most : ℕ) (xs : List ℕ) → most < prefix_len (λ b. is_some (digit_of base b)) xs → below_word (value_of_digits base most (digits_front base xs)) ≡ None
+front-long base most xs long =
+    let all = length-take-le (prefix_len (λ b. is_some (digit_of base b)) xs) xs (prefix_len-le-length (λ b. is_some (digit_of base b)) xs) in
+    long_case (nat_le (length (digits_front base xs)) most) refl (omega (arith, all, long))
+  where
+    long_case : (v : Bool) → nat_le (length (digits_front base xs)) most ≡ v → most < length (digits_front base xs)
+        → below_word (if nat_le 1 (length (digits_front base xs)) && nat_le (length (digits_front base xs)) most then value_from base 0 (digits_front base xs) else None) ≡ None
+    long_case v t h = grind (arith, nat_tests)
+
+-- so many as are read at most have been read, and none or more stand there
+past_case : (base most i rest : ℕ) (xs : List ℕ) (v : Bool) → nat_lt most (prefix_len (λ b. is_some (digit_of base b)) xs) ≡ v
+    → prefix_len (λ b. is_some (digit_of base b)) xs ≡ i + rest → min (length xs) most ≤ i → (i ≡ 0) ⊎ (0 < rest)
+    → below_word (value_of_digits base most (digits_front base xs)) ≡ None
+past_case base most i rest xs true more front over some = front-long base most xs (ltb-true most (prefix_len (λ b. is_some (digit_of base b)) xs) more)
+past_case base most i rest xs false more front over some =
+    let few = ltb-false most (prefix_len (λ b. is_some (digit_of base b)) xs) more in
+    let all = prefix_len-le-length (λ b. is_some (digit_of base b)) xs in
+    front-none base most xs (grind (arith, few, all, front, over, some))
+
+pub front-past : (base most i rest : ℕ) (xs : List ℕ) → prefix_len (λ b. is_some (digit_of base b)) xs ≡ i + rest → min (length xs) most ≤ i → (i ≡ 0) ⊎ (0 < rest)
+    → below_word (value_of_digits base most (digits_front base xs)) ≡ None
+front-past base most i rest xs front over some = past_case base most i rest xs (nat_lt most (prefix_len (λ b. is_some (digit_of base b)) xs)) refl front over some
 
 -- a word with a byte that is no digit
 stop_case : (base n b m : ℕ) (bytes : List ℕ) (o : Option ℕ) → digit_of base b ≡ o → prefix_len (λ x. is_some (digit_of base x)) (b ∷ bytes) < suc m

@@ -1,5 +1,5 @@
 // From a word to the number that it spells.
-ghost use Rattle.std.specs.Prelude.{◌≡◌, ◌≤◌, ◌+◌, ◌*◌, ◌⊎◌, ℕ, List, IfSome, Some, is_some, length, option_map};
+ghost use Rattle.std.specs.Prelude.{◌≡◌, ◌≤◌, ◌<◌, ◌+◌, ◌*◌, ◌⊎◌, ℕ, List, IfSome, Some, drop, is_some, length, nat_lt, option_map};
 ghost use Rattle.std.specs.List.{prefix_len};
 ghost use Rattle.mg_model.specs.Words.{below_word, digit_of, hex_part, number_of, value_of_digits, words};
 ghost use Rattle.mg_text.specs.Fronts.{digits_front, first_number, number_before_blank};
@@ -84,24 +84,39 @@ fn leading(base: u8, most: usize, bytes: &[u8]) -> Option<(u64, usize)>
 {
     let mut n = 0u64;
     let mut count = 0usize;
-    for b in bytes {
-        match digit(base, *b) {
+    for i in 0..bytes.len().min(most) {
+        match digit(base, bytes[i]) {
             None => break,
             Some(d) => {
-                if count == most {
-                    return None;
-                }
                 n = with_digit(n, base, d)?;
-                count += 1;
+                count = i + 1;
             }
         }
     }
-    if count == 0 { None } else { Some((n, count)) }
+    if count == 0 || digit_at(base, bytes, count) {
+        None
+    } else {
+        Some((n, count))
+    }
+}
+
+/// Whether a digit stands at a place; none stands behind the last byte.
+fn digit_at(base: u8, bytes: &[u8], at: usize) -> bool
+    requires base { (base ≡ 10) ⊎ (base ≡ 16) }
+    requires within { at ≤ length bytes.now }
+    ensures { result ≡ nat_lt 0 (prefix_len (λ b. is_some (digit_of base b)) (drop at bytes.now)) }
+{
+    at < bytes.len() && digit(base, bytes[at]).is_some()
 }
 
 /// A number with one digit more behind it, if that is below `2^64`.
 fn with_digit(n: u64, base: u8, d: u8) -> Option<u64>
+    requires base { (base ≡ 10) ⊎ (base ≡ 16) }
+    requires digit { d < 16 }
     ensures { result ≡ below_word (Some (n * base + d)) }
 {
+    if n < 1 << 60 {
+        return Some(n * base as u64 + d as u64);
+    }
     n.checked_mul(base as u64)?.checked_add(d as u64)
 }

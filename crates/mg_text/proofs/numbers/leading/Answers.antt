@@ -1,39 +1,55 @@
-use Rattle.std.proofs.Common.{◌+◌, ◌*◌, ◌^◌, ◌≤◌, ap, option_map, rules, sym, ◌∙◌, drop, arith}
+use Rattle.std.proofs.Common.{◌<◌, inl, inr, length, min, ◌+◌, ◌*◌, ◌^◌, ◌≤◌, ap, option_map, rules, subst, sym, ◌∙◌, drop, arith}
 use Rattle.std.specs.Prelude.{is_some}
-use Rattle.std.proofs.lemmas.List.Sums.{prefix_len-drop_all, prefix_len-drop_no}
+use Rattle.std.specs.List.{prefix_len}
+use Rattle.std.proofs.lemmas.Bool.{ltb-true}
+use Rattle.std.proofs.lemmas.List.Sums.{prefix_len-drop_no}
 use Rattle.mg_model.specs.Words.{below_word, digit_of, value_from}
 use Rattle.mg_text.specs.Fronts.{digits_front}
-use Rattle.mg_text.proofs.Leads.{front-digit, front-large, front-more, front-none}
+use Rattle.mg_text.proofs.Leads.{front-digit, front-large, front-more, front-none, front-past}
 use Rattle.mg_text.proofs.Values.{below_word-none, below_word-some}
-use Rattle.mg_text.proofs.numbers.leading.Goals.{else-loop-b-test, then-loop-b-test+in-None}
+use Rattle.mg_text.proofs.numbers.leading.Goals.{else-count-eq0, else-loop-i-test, then-count-eq0, then-loop-i-test+in-None}
 use Rattle.mg_text.proofs.numbers.leading.Goals as goal
 
 pub returns-in_err-n-in-Some-clause-number : goal.returns-in_err-n-in-Some-clause-number
 returns-in_err-n-in-Some-clause-number c =
-    let large : 2 ^ 64 ≤ c.loop-b.n * c.args.base + c.in-Some.d = below_word-none (c.loop-b.n * c.args.base + c.in-Some.d) (c.in_err-n-in-Some.ensures) in
+    let large : 2 ^ 64 ≤ c.loop-i.n * c.args.base + c.in-Some.d = below_word-none (c.loop-i.n * c.args.base + c.in-Some.d) (c.in_err-n-in-Some.ensures) in
     ap (option_map (λ p. p.0)) c.from_residual.ensures
-    ∙ sym (front-large c.args.base c.args.most c.loop-b.n c.loop-b.b-index c.in-Some.d c.args.bytes.now (omega arith) (omega arith) c.in-Some.ensures c.loop-b.invariant.same large)
+    ∙ sym (front-large c.args.base c.args.most c.loop-i.n c.loop-i.i c.in-Some.d c.args.bytes.now (omega arith) (omega arith) c.in-Some.ensures c.loop-i.invariant.same large)
 
-pub loop-b-preserved : goal.loop-b-preserved
-loop-b-preserved c =
-    let told = below_word-some (c.loop-b.n * c.args.base + c.in-Some.d) c.in_ok-n-in-Some.n c.in_ok-n-in-Some.ensures in
+pub loop-i-preserved : goal.loop-i-preserved
+loop-i-preserved c =
+    let told = below_word-some (c.loop-i.n * c.args.base + c.in-Some.d) c.in_ok-n-in-Some.n c.in_ok-n-in-Some.ensures in
     record {
-      same = c.loop-b.invariant.same
-          ∙ ap below_word (front-digit c.args.base c.loop-b.n c.loop-b.b-index c.in-Some.d c.args.bytes.now (omega arith) c.in-Some.ensures
-          ∙ ap (λ m. value_from c.args.base m (digits_front c.args.base (drop (c.loop-b.b-index + 1) c.args.bytes.now))) told.1);
-      front = let more = front-more c.args.base c.loop-b.b-index c.in-Some.d c.args.bytes.now (omega arith) c.in-Some.ensures in let all = c.loop-b.invariant.front in omega (arith, more, all);
+      same = c.loop-i.invariant.same
+          ∙ ap below_word (front-digit c.args.base c.loop-i.n c.loop-i.i c.in-Some.d c.args.bytes.now (omega arith) c.in-Some.ensures
+          ∙ ap (λ m. value_from c.args.base m (digits_front c.args.base (drop (c.loop-i.i + 1) c.args.bytes.now))) told.1);
+      front = let more = front-more c.args.base c.loop-i.i c.in-Some.d c.args.bytes.now (omega arith) c.in-Some.ensures in let all = c.loop-i.invariant.front in omega (arith, more, all);
       at = search rules;
-      few = search rules;
       small = omega (arith, told.0, told.1);
     }
 
-pub returns-then-count-eq0-clause-number : goal.returns-then-count-eq0-clause-number
-returns-then-count-eq0-clause-number c =
-    elim c.loop-b-test.branch [
-      | else-loop-b-test w ↦
-          let end = prefix_len-drop_all (λ b. is_some (digit_of c.args.base b)) c.args.bytes.now c.loop-b.b-index w.loop-b-test.false in
-          sym (front-none c.args.base c.args.most c.args.bytes.now (let all = c.loop-b.invariant.front in let at = c.loop-b.invariant.at in omega (arith, end, all, at)))
-      | then-loop-b-test+in-None w ↦
-          let end = prefix_len-drop_no (λ b. is_some (digit_of c.args.base b)) c.args.bytes.now c.loop-b.b-index 0 w.loop-b-test.true (ap is_some (sym (w.in-None.ensures))) in
-          sym (front-none c.args.base c.args.most c.args.bytes.now (let all = c.loop-b.invariant.front in let at = c.loop-b.invariant.at in omega (arith, end, all, at)))
+pub returns-then-digit_at-clause-number : goal.returns-then-digit_at-clause-number
+returns-then-digit_at-clause-number c =
+    let all = c.loop-i.invariant.front in
+    let at = c.loop-i.invariant.at in
+    let rest = prefix_len (λ b. is_some (digit_of c.args.base b)) (drop c.loop-i.i c.args.bytes.now) in
+    elim c.loop-i-test.branch [
+      | else-loop-i-test w ↦
+          let over : min (length c.args.bytes.now) c.args.most ≤ c.loop-i.i = subst (λ limit. limit ≤ c.loop-i.i) c.min-i-end.ensures w.loop-i-test.false in
+          elim c.if-count-eq0.branch [
+            | then-count-eq0 z ↦ sym (front-past c.args.base c.args.most c.loop-i.i rest c.args.bytes.now all over (inl (omega arith)))
+            | else-count-eq0 z ↦
+                let more : 0 < rest = subst (λ i. 0 < prefix_len (λ b. is_some (digit_of c.args.base b)) (drop i c.args.bytes.now)) at
+                (ltb-true 0 (prefix_len (λ b. is_some (digit_of c.args.base b)) (drop c.loop-i.count c.args.bytes.now)) (sym z.digit_at.ensures ∙ sym z.value-is ∙ c.if-digit_at.true)) in
+                sym (front-past c.args.base c.args.most c.loop-i.i rest c.args.bytes.now all over (inr more))
+          ]
+      | then-loop-i-test+in-None w ↦
+          let end = prefix_len-drop_no (λ b. is_some (digit_of c.args.base b)) c.args.bytes.now c.loop-i.i 0 (omega arith) (ap is_some (sym w.in-None.ensures)) in
+          elim c.if-count-eq0.branch [
+            | then-count-eq0 z ↦ sym (front-none c.args.base c.args.most c.args.bytes.now (omega (arith, all, at, end)))
+            | else-count-eq0 z ↦
+                let more : 0 < rest = subst (λ i. 0 < prefix_len (λ b. is_some (digit_of c.args.base b)) (drop i c.args.bytes.now)) at
+                (ltb-true 0 (prefix_len (λ b. is_some (digit_of c.args.base b)) (drop c.loop-i.count c.args.bytes.now)) (sym z.digit_at.ensures ∙ sym z.value-is ∙ c.if-digit_at.true)) in
+                absurd (omega (arith, end, more))
+          ]
     ]

@@ -1,4 +1,4 @@
-use Rattle.std.proofs.Common.{◌≡◌, ◌+◌, ◌<◌, ◌≤◌, ◌^◌, drop}
+use Rattle.std.proofs.Common.{◌≡◌, ◌+◌, ◌<◌, ◌^◌, drop}
 use Rattle.std.specs.Prelude.{is_some}
 use Rattle.std.specs.List.{prefix_len}
 use Rattle.mg_model.specs.Words.{below_word, digit_of, value_from}
@@ -6,11 +6,10 @@ use Rattle.mg_text.specs.Fronts.{digits_front}
 use Rattle.mg_text.proofs.numbers.leading.Given as goal
 
 -- what was read and the digits that are left spell what all spell
-abbrev pub invariant-loop-b : goal.invariant-loop-b
-invariant-loop-b l = record {
-  same : below_word (value_from l.base 0 (digits_front l.base l.bytes)) ≡ below_word (value_from l.base l.n (digits_front l.base (drop l.b-index l.bytes)));
-  front : prefix_len (λ b. is_some (digit_of l.base b)) l.bytes ≡ l.b-index + prefix_len (λ b. is_some (digit_of l.base b)) (drop l.b-index l.bytes);
-  at : l.count ≡ l.b-index;
-  few : l.count ≤ l.most;
+abbrev pub invariant-loop-i : goal.invariant-loop-i
+invariant-loop-i l = record {
+  same : below_word (value_from l.base 0 (digits_front l.base l.bytes)) ≡ below_word (value_from l.base l.n (digits_front l.base (drop l.i l.bytes)));
+  front : prefix_len (λ b. is_some (digit_of l.base b)) l.bytes ≡ l.i + prefix_len (λ b. is_some (digit_of l.base b)) (drop l.i l.bytes);
+  at : l.count ≡ l.i;
   small : l.n < 2 ^ 64;
 }
