@@ -11,8 +11,11 @@ pub fn digit(base: u8, b: u8) -> Option<u8>
     requires { (base ≡ 10) ⊎ (base ≡ 16) }
     ensures { result ≡ digit_of base b }
 {
+    let d = b.wrapping_sub(b'0');
+    if d < 10 {
+        return Some(d);
+    }
     match b {
-        b'0'..=b'9' => Some(b - b'0'),
         b'a'..=b'f' if base == 16 => Some(b - b'a' + 10),
         b'A'..=b'F' if base == 16 => Some(b - b'A' + 10),
         _ => None,
