@@ -1,5 +1,5 @@
 // The threads of a volume, by their numbers.
-ghost use Rattle.std.specs.Prelude.{◌≡◌, ◌≤◌, ◌%◌, ◌==◌, ◌&&◌, false, nat_lt, not, [], All, IfOk, IfSome, None, Some, find, length, position, replicate};
+ghost use Rattle.std.specs.Prelude.{◌≡◌, ◌≤◌, ◌%◌, ◌==◌, ◌&&◌, false, nat_lt, not, [], All, IfOk, IfSome, None, Some, find, is_some, length, position, replicate, true};
 ghost use Rattle.std.specs.Option.{ForSome, option_copied, option_map};
 ghost use Rattle.mg_check.specs.RowsRead.{ArePlaced};
 ghost use Rattle.mg_model.specs.Limits.{thread_limit};
@@ -83,13 +83,14 @@ impl Threads {
         }
     }
 
-    /// The block of the row of thread t, 1 to 256.
+    /// The block of the row of thread t, 1 to 256, which is there.
     pub(crate) fn block(&self, t: u64) -> Block
+        requires there { is_some (option_map (λ thread. thread.1) (find (λ thread. thread.0 == t) self.now)) ≡ true }
         ensures { (row : ThreadRow) → option_map (λ thread. thread.1) (find (λ thread. thread.0 == t) self.now) ≡ Some row → thread_read result ≡ Some (Some row) }
     {
         match self.get(t) {
             Some(row) => thread_block(Some(row)),
-            None => thread_block(None),
+            None => unreachable!(),
         }
     }
 

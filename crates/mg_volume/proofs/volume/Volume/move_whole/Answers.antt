@@ -1,4 +1,4 @@
-use Rattle.std.proofs.Common.{◌≡◌, ◌+◌, ◌-◌, ◌==◌, ◌∙◌, ℕ, None, Some, arith, refl, sym}
+use Rattle.std.proofs.Common.{◌≡◌, ◌+◌, ◌-◌, ◌==◌, ◌∙◌, ℕ, None, Some, ap, arith, is_some, refl, sym}
 use Rattle.std.specs.Prelude.{find}
 use Rattle.mg_model.specs.State.{Thread}
 use Rattle.mg_volume.proofs.Found.{thread_found, thread_none}
@@ -68,3 +68,6 @@ returns-clause-objects c =
 
 pub returns-clause-here : goal.returns-clause-here
 returns-clause-here c = thread_here (with_threads (the_view c.self.inside) c.stand.new.self c.stage.new.self) c.args.t c.stage.ensures.here
+
+pub block-block-requires : goal.block-block-requires
+block-block-requires c = record { there = ap is_some (c.stand.ensures.there c.in-Some._row.now (sym c.in-Some.ensures.found)) }
