@@ -39,7 +39,6 @@ impl Volume {
 
     // The same where their block is staged, and whether it is. Where it is not nothing changes.
     fn put_counters(&mut self, g: &Globals) -> bool
-        requires period { (counters_in self.old).period ≤ g.now.period }
         ensures not_staged { result ≡ false → self.new ≡ self.old }
         ensures now { result ≡ true → (image : List (List ℕ)) → now_of self.new image ≡ record (now_of self.old image) { counters = g.now } }
         ensures rows { result ≡ true → objects_in self.new ≡ objects_in self.old }
@@ -58,7 +57,6 @@ impl Volume {
 
     // The same with their block spelled whole.
     fn spell_counters(&mut self, g: Globals)
-        requires period { (counters_in self.old).period ≤ g.period }
         requires staged_or_fewer_than_160 { (are_counters_staged self.old ≡ true) ⊎ (staged_of self.old < body_limit) }
         ensures now { (image : List (List ℕ)) → now_of self.new image ≡ record (now_of self.old image) { counters = g } }
         ensures rows { objects_in self.new ≡ objects_in self.old }

@@ -1,25 +1,20 @@
-use Rattle.std.proofs.Common.{◌≤◌, ℕ, refl, arith}
+use Rattle.std.proofs.Common.{refl, arith}
 use Rattle.mg_volume.proofs.PagesChange.{held_same, same_objects}
 use Rattle.mg_volume.proofs.Rewritten.{counters_rewritten}
 use Rattle.mg_volume.proofs.Stages.{held_counters, stages_is}
 use Rattle.mg_volume.proofs.StillStaged.{objects_wait}
 use Rattle.mg_volume.proofs.StillWaiting.{counters_here}
-use Rattle.mg_volume.specs.Held.{VolumeHeld}
-use Rattle.mg_volume.specs.Meaning.{counters_in, objects_in}
+use Rattle.mg_volume.specs.Meaning.{objects_in}
 use Rattle.mg_volume.proofs.Staged.{counters_now, with_counters}
 use Rattle.mg_volume.specs.contracts.volume.Volume.{the_view}
 use Rattle.mg_volume.proofs.volume.Volume.put_counters.Goals as goal
-
-later : (v : VolumeHeld) (n : ℕ) → (counters_in v).period ≤ n → v.counters.period ≤ n
-unfolding counters_in
-later v n is = is
 
 pub invariant_of-self-2 : goal.invariant_of-self-2
 invariant_of-self-2 c = record {
   kept =
       let v = the_view c.self.inside in
       let more = (c.if-not-respell_counters.ensures.staged refl).restages in
-      held_same (record v { counters = c.args.g.now }) c.respell_counters.new.pages (held_counters v c.args.g.now (later v c.args.g.now.period (rw (← c.self.view_is) at c.requires.period)) c.self.invariant.kept) more.shape.frames more.table;
+      held_same (record v { counters = c.args.g.now }) c.respell_counters.new.pages (held_counters v c.args.g.now c.self.invariant.kept) more.shape.frames more.table;
   paid = c.self.invariant.paid;
 }
 
