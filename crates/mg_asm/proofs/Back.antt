@@ -1,7 +1,8 @@
 -- What is printed assembles to itself.
-use Rattle.std.proofs.Common.{◌≡◌, ℕ, ◌+◌, ◌-◌, ◌*◌, ◌^◌, ◌<◌, ◌≤◌, nat_lt, Bool, true, false, List, [], ◌∷◌, ◌++◌, length, filter, All, Option, Some, None, IfSome, Ok, Err, if◌then◌else◌, codes, refl, ap, ◌∙◌, subst, rules, arith, append_assoc}
+use Rattle.std.proofs.Common.{◌≡◌, ℕ, ◌+◌, ◌-◌, ◌*◌, ◌^◌, ◌<◌, ◌≤◌, nat_lt, Bool, true, false, List, [], ◌∷◌, ◌++◌, length, filter, All, Option, Some, None, IfSome, Ok, Err, if◌then◌else◌, codes, refl, ap, sym, ◌∙◌, subst, rules, arith, append_assoc}
 use Rattle.std.specs.Fmt.{decimal}
 use Rattle.std.specs.Option.{option_map_or}
+use Rattle.std.specs.Result.{result_flatten}
 use Rattle.std.proofs.lemmas.Bool.{lt-ltb}
 use Rattle.std.proofs.lemmas.Bool.Decides.{nat_tests}
 use Rattle.std.proofs.lemmas.Fmt.{decimal_nonempty}
@@ -11,12 +12,12 @@ use Rattle.mg_asm.specs.declared.faults.AsmKind.TheVariants.{Register, Number, T
 use Rattle.mg_asm.specs.declared.items.Item.{Item}
 use Rattle.mg_asm.specs.declared.items.Item.TheVariants as item
 use Rattle.mg_asm.specs.declared.names.Name.{Name}
-use Rattle.mg_asm.specs.Assembled.{assembled, behind, items_behind, with_item, word_limit, words_behind, words_in, words_of}
+use Rattle.mg_asm.specs.Assembled.{assembled, behind, word_limit, words_in, words_of}
 use Rattle.mg_asm.specs.Printed.{instruction_words, printed, printed_words, signed_text, word_line}
 use Rattle.mg_asm.specs.Reading.{as_word, from, jump_to, line_reading, on_ok, reading, register_1_and_immediate, registers_2, registers_2_and_immediate, registers_3}
 use Rattle.mg_asm.specs.Tokens.{begins_note, distance_of, first_piece, immediate_of, is_gap, line_tokens, register_of, tokens}
-use Rattle.mg_asm.proofs.Loops.{words_in-more}
 use Rattle.mg_asm.proofs.Numbers.{distance_of-back, immediate_of-back, name_of-signed, register_of-back, signed-high}
+use Rattle.mg_asm.proofs.Stepwise.{items-stepwise, items_behind, with_item, words-stepwise, words_behind, words_in-more}
 use Rattle.mg_text.specs.NumberLemmas.{High, decimal-digits, digits-high, hex-high, hex-some, number_of-hex}
 use Rattle.mg_model.specs.declared.instructions.Instr.{Instr}
 use Rattle.mg_model.specs.declared.instructions.Instr.TheVariants as op
@@ -261,16 +262,16 @@ word-reads w fits =
     ap reading (line-tokens (printed_words w).0 (printed_words w).1 back.some back.high back.are) ∙ back.read
 
 -- the items of a printed text: the last line is empty
-items_of : List ℕ → List Item
-items_of [] = item.Blank ∷ []
-items_of (w ∷ ws) = item.Word w ∷ items_of ws
+word_items : List ℕ → List Item
+word_items [] = item.Blank ∷ []
+word_items (w ∷ ws) = item.Word w ∷ word_items ws
 
 room : (before : List Item) (w : ℕ) → words_in before < word_limit → behind before (Ok (item.Word w)) ≡ Ok (item.Word w)
 room before w h = ap (λ v. if v then Ok (item.Word w) else Err TooLong) (lt-ltb (words_in before) word_limit h)
 
 lines-back : (before : List Item) (ws : List ℕ) → All IsWord ws → words_in before + length ws ≤ word_limit
-    → items_behind before (split_at is_newline (printed ws)) ≡ Ok (before ++ items_of ws)
-unfolding items_of
+    → items_behind before (split_at is_newline (printed ws)) ≡ Ok (before ++ word_items ws)
+unfolding word_items
 lines-back before [] fit few = refl
 lines-back before (w ∷ ws) fit few =
     let fits = All-head IsWord w ws fit in
@@ -281,13 +282,14 @@ lines-back before (w ∷ ws) fit few =
     ap (items_behind before) (split-before is_newline (word_line w) 10 (printed ws) (line-misses is_newline newline_low refl (printed_words w).0 (printed_words w).1 back.high back.are) refl)
     ∙ ap (λ r. with_item (length before + 1) r (λ made. items_behind (before ++ made ∷ []) rest)) read
     ∙ lines-back (before ++ item.Word w ∷ []) ws (All-tail IsWord w ws fit) (omega arith)
-    ∙ ap (λ items. Ok items) (append_assoc before (item.Word w ∷ []) (items_of ws))
+    ∙ ap (λ items. Ok items) (append_assoc before (item.Word w ∷ []) (word_items ws))
 
-words-back : (all : List Item) (before : List ℕ) (n : ℕ) (ws : List ℕ) → words_behind all before n (items_of ws) ≡ Ok (before ++ ws)
-unfolding items_of
+words-back : (all : List Item) (before : List ℕ) (n : ℕ) (ws : List ℕ) → words_behind all before n (word_items ws) ≡ Ok (before ++ ws)
+unfolding word_items
 words-back all before n [] = refl
 words-back all before n (w ∷ ws) = words-back all (before ++ w ∷ []) (n + 1) ws ∙ ap (λ v. Ok v) (append_assoc before (w ∷ []) ws)
 
 pub assembled-printed : (ws : List ℕ) → All IsWord ws → length ws ≤ 524288 → assembled (printed ws) ≡ Ok ws
 assembled-printed ws fit few =
-    ap words_of (lines-back [] ws fit (omega arith)) ∙ words-back (items_of ws) [] 1 ws
+    ap (λ items. result_flatten (on_ok words_of items)) (sym (items-stepwise (split_at is_newline (printed ws))) ∙ lines-back [] ws fit (omega arith))
+    ∙ sym (words-stepwise (word_items ws)) ∙ words-back (word_items ws) [] 1 ws

@@ -1,3 +1,4 @@
+pub mod Stepwise
 pub mod Loops
 pub mod Numbers
 pub mod Back

@@ -1,8 +1,9 @@
 -- How the items of lines go on by one.
-use Rattle.std.proofs.Common.{◌≡◌, ℕ, ◌+◌, List, [], ◌∷◌, ◌++◌, length, Ok, ap, sym, ◌∙◌, add_assoc, arith}
+use Rattle.std.proofs.Common.{◌≡◌, ℕ, ◌+◌, List, [], ◌∷◌, ◌++◌, length, Ok, ap, sym, ◌∙◌}
 use Rattle.mg_asm.specs.declared.items.Item.{Item}
-use Rattle.mg_asm.specs.Assembled.{behind, items_behind, size, with_item, words_in}
+use Rattle.mg_asm.specs.Assembled.{behind}
 use Rattle.mg_asm.specs.Reading.{line_reading}
+use Rattle.mg_asm.proofs.Stepwise.{items_behind, with_item}
 use Rattle.mg_model.specs.Words.{is_newline, split_at}
 
 -- one line more
@@ -15,7 +16,3 @@ pub lines-next : (before : List Item) (bytes line more : List ℕ) (it : Item) �
 lines-next before bytes line more it cut read =
     lines-at before bytes line (split_at is_newline more) cut
     ∙ ap (λ r. with_item (length before + 1) r (λ made. items_behind (before ++ made ∷ []) (split_at is_newline more))) (sym read)
-
-pub words_in-more : (items : List Item) (it : Item) → words_in (items ++ it ∷ []) ≡ words_in items + size it
-words_in-more [] it = let e : size it + 0 ≡ 0 + size it = omega arith in e
-words_in-more (first ∷ items) it = ap (λ n. size first + n) (words_in-more items it) ∙ sym (add_assoc (size first) (words_in items) (size it))

@@ -1,6 +1,8 @@
 -- What a text assembles to.
-use Rattle.std.specs.Prelude.{ℕ, ◌+◌, ◌-◌, ◌*◌, ◌%◌, ◌^◌, nat_lt, Bool, false, List, [], ◌∷◌, ◌++◌, length, if◌then◌else◌, Option, Some, None, Result, Ok, Err, is_some}
+use Rattle.std.specs.Prelude.{ℕ, ◌+◌, ◌-◌, ◌*◌, ◌%◌, ◌^◌, nat_lt, Bool, false, List, [], ◌∷◌, map, take, flat_map, if◌then◌else◌, Option, Some, None, Result, Ok, Err, is_some}
+use Rattle.std.specs.List.{enumerate_from}
 use Rattle.std.specs.Option.{option_map_or, option_to_list}
+use Rattle.std.specs.Result.{ok_prefix, result_flatten}
 use Rattle.mg_asm.specs.declared.faults.AsmFault.{AsmFault}
 use Rattle.mg_asm.specs.declared.faults.AsmFault.TheVariants.{At}
 use Rattle.mg_asm.specs.declared.faults.AsmKind.{AsmKind}
@@ -8,7 +10,7 @@ use Rattle.mg_asm.specs.declared.faults.AsmKind.TheVariants.{Twice, TooLong, NoL
 use Rattle.mg_asm.specs.declared.items.Item.{Item}
 use Rattle.mg_asm.specs.declared.items.Item.TheVariants as item
 use Rattle.mg_asm.specs.declared.names.Name.{Name}
-use Rattle.mg_asm.specs.Reading.{Reading, line_reading}
+use Rattle.mg_asm.specs.Reading.{Reading, line_reading, on_ok}
 use Rattle.mg_model.specs.Script.{word_end}
 use Rattle.mg_model.specs.Words.{is_newline, same_bytes, split_at}
 
@@ -50,15 +52,19 @@ behind before (Ok (item.Word word)) = if nat_lt (words_in before) word_limit the
 behind before (Ok (item.Jump near name)) = if nat_lt (words_in before) word_limit then Ok (item.Jump near name) else Err TooLong
 behind before (Err kind) = Err kind
 
--- what follows of the item of line n, or its fault
-abbrev pub with_item : {X : Type 0} → ℕ → Reading → (Item → Result X AsmFault) → Result X AsmFault
-with_item n (Ok made) f = f made
-with_item n (Err kind) f = Err (At n kind)
+-- what each of these lines gives, of which the first is line n; or the fault of the first line that has one
+abbrev pub all_given : {X : Type 0} → ℕ → List (Result X AsmKind) → Result (List X) AsmFault
+all_given n [] = Ok []
+all_given n (Ok x ∷ results) = on_ok (λ xs. x ∷ xs) (all_given (n + 1) results)
+all_given n (Err kind ∷ results) = Err (At n kind)
 
--- the items of these lines with those of the lines before them, an item a line; or the first fault
-abbrev pub items_behind : List Item → List (List ℕ) → Result (List Item) AsmFault
-items_behind before [] = Ok before
-items_behind before (line ∷ lines) = with_item (length before + 1) (behind before (line_reading line)) (λ made. items_behind (before ++ made ∷ []) lines)
+-- The item of a line behind the first k. Behind a line that has a fault it is of no matter, since that fault is told.
+abbrev pub item_at : List (List ℕ) → ℕ × List ℕ → Reading
+item_at lines (k, line) = behind (ok_prefix (map line_reading (take k lines))) (line_reading line)
+
+-- the items of these lines, an item a line; or the first fault
+abbrev pub items_of : List (List ℕ) → Result (List Item) AsmFault
+items_of lines = all_given 1 (map (item_at lines) (enumerate_from 0 lines))
 
 -- how many words it is from one place to another, in two's complement
 abbrev pub distance : ℕ → ℕ → ℕ
@@ -71,21 +77,14 @@ made_at all here (item.Label name) = Ok None
 made_at all here (item.Word word) = Ok (Some word)
 made_at all here (item.Jump near name) = option_map_or (λ to. Ok (Some (near + distance here to * 2 ^ 32))) (place_of name all) (Err NoLabel)
 
--- what follows of the word of line n, or its fault
-abbrev pub with_word : {X : Type 0} → ℕ → Result (Option ℕ) AsmKind → (Option ℕ → Result X AsmFault) → Result X AsmFault
-with_word n (Ok word) f = f word
-with_word n (Err kind) f = Err (At n kind)
+-- the word that an item makes behind the first k, if it makes one
+abbrev pub word_at : List Item → ℕ × Item → Result (Option ℕ) AsmKind
+word_at items (k, it) = made_at items (words_in (take k items)) it
 
--- the words of these items, of which the first is of line n, with those of the items before it; or the first fault
-abbrev pub words_behind : List Item → List ℕ → ℕ → List Item → Result (List ℕ) AsmFault
-words_behind all before n [] = Ok before
-words_behind all before n (it ∷ items) = with_word n (made_at all (length before) it) (λ word. words_behind all (before ++ option_to_list word) (n + 1) items)
+-- the words of these items, or the first fault
+abbrev pub words_of : List Item → Result (List ℕ) AsmFault
+words_of items = on_ok (flat_map option_to_list) (all_given 1 (map (word_at items) (enumerate_from 0 items)))
 
--- the words of all items
-abbrev pub words_of : Result (List Item) AsmFault → Result (List ℕ) AsmFault
-words_of (Ok items) = words_behind items [] 1 items
-words_of (Err fault) = Err fault
-
--- what a text assembles to: its words, or its first fault
+-- what a text assembles to: the words of the items of its lines, or its first fault
 abbrev pub assembled : List ℕ → Result (List ℕ) AsmFault
-assembled text = words_of (items_behind [] (split_at is_newline text))
+assembled text = result_flatten (on_ok words_of (items_of (split_at is_newline text)))

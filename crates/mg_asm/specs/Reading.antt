@@ -17,9 +17,9 @@ abbrev pub Reading : Type 0
 Reading = Result Item AsmKind
 
 -- what follows of a value, or the fault
-abbrev pub on_ok : {X Y : Type 0} → (X → Y) → Result X AsmKind → Result Y AsmKind
+abbrev pub on_ok : {X Y E : Type 0} → (X → Y) → Result X E → Result Y E
 on_ok f (Ok x) = Ok (f x)
-on_ok f (Err kind) = Err kind
+on_ok f (Err fault) = Err fault
 
 -- what follows of an operand, or the fault of its kind
 abbrev pub from : {X Y : Type 0} → AsmKind → Option X → (X → Result Y AsmKind) → Result Y AsmKind

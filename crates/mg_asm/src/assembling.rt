@@ -1,7 +1,7 @@
 // From a text to its words.
-ghost use Rattle.std.specs.Prelude.{◌≡◌, List, ◌≢◌, ◌+◌, ◌<◌, ◌≤◌, IfErr, IfOk, OnOk, Ok, Err, [], ◌++◌};
+ghost use Rattle.std.specs.Prelude.{◌≡◌, List, ◌≢◌, ◌+◌, ◌<◌, ◌≤◌, IfErr, IfOk, OnOk, Ok, Err, ◌++◌};
 ghost use Rattle.std.specs.Option.{option_to_list};
-ghost use Rattle.mg_asm.specs.Assembled.{assembled, behind, distance, items_behind, made_at, size, words_behind, words_in};
+ghost use Rattle.mg_asm.specs.Assembled.{assembled, behind, distance, items_of, made_at, size, words_in, words_of};
 ghost use Rattle.mg_asm.specs.Labels.{AreLabels};
 ghost use Rattle.mg_asm.specs.declared.items.Item.{Item};
 ghost use Rattle.mg_model.specs.Words.{is_newline, split_at};
@@ -28,9 +28,9 @@ pub fn assemble(alloc: Global, text: &[u8]) -> Result<Vec<u64>, AsmFault>
 
 /// What the lines of a text ask for, and where its labels stand.
 fn items(alloc: Global, text: &[u8]) -> Result<(Vec<Item>, Labels), AsmFault>
-    ensures items { IfOk result (λ p. items_behind [] (split_at is_newline text.now) ≡ Ok p.0.items) }
+    ensures items { IfOk result (λ p. items_of (split_at is_newline text.now) ≡ Ok p.0.items) }
     ensures labels { IfOk result (λ p. AreLabels p.1 p.0.items) }
-    ensures fault { IfErr result (λ fault. fault ≢ AsmFault.Memory → items_behind [] (split_at is_newline text.now) ≡ Err fault) }
+    ensures fault { IfErr result (λ fault. fault ≢ AsmFault.Memory → items_of (split_at is_newline text.now) ≡ Err fault) }
 {
     let mut items = Vec::new(alloc);
     let mut labels = HashMap::new(alloc);
@@ -95,8 +95,8 @@ fn size(item: &Item) -> u64
 /// The words of these items, which have these labels.
 fn words(alloc: Global, items: &[Item], labels: &Labels) -> Result<Vec<u64>, AsmFault>
     requires { AreLabels labels.now items.now }
-    ensures words { IfOk result (λ words. words_behind items.now [] 1 items.now ≡ Ok words.items) }
-    ensures fault { IfErr result (λ fault. fault ≢ AsmFault.Memory → words_behind items.now [] 1 items.now ≡ Err fault) }
+    ensures words { IfOk result (λ words. words_of items.now ≡ Ok words.items) }
+    ensures fault { IfErr result (λ fault. fault ≢ AsmFault.Memory → words_of items.now ≡ Err fault) }
 {
     let mut words = Vec::new(alloc);
     for i in 0..items.len() {

@@ -1,8 +1,9 @@
 use Rattle.std.proofs.Common.{◌≡◌, [], ◌∷◌, ◌++◌, length, Ok, ap, sym, subst, ◌∙◌, rules, arith, length-append}
-use Rattle.mg_asm.specs.Assembled.{behind, items_behind, words_in}
+use Rattle.mg_asm.specs.Assembled.{behind, words_in}
 use Rattle.mg_asm.specs.Labels.{AreLabels, KeepsLabel}
 use Rattle.mg_asm.specs.Reading.{line_reading}
-use Rattle.mg_asm.proofs.Loops.{lines-next, words_in-more}
+use Rattle.mg_asm.proofs.Loops.{lines-next}
+use Rattle.mg_asm.proofs.Stepwise.{items-stepwise, items_behind, words_in-more}
 use Rattle.mg_asm.proofs.assembling.items.Goals as goal
 use Rattle.mg_model.specs.Words.{is_newline, split_at}
 
@@ -25,3 +26,11 @@ lines-preserved c =
       counted = omega (arith, c.size-count.ensures.value);
       few = omega (arith, c.size-count.ensures.one);
     }
+
+pub lines-init : goal.lines-init
+lines-init c = record {
+  same = ap (λ items. items_behind items (split_at is_newline c.args.text.now)) (search rules) ∙ items-stepwise (split_at is_newline c.args.text.now);
+  labels = search rules;
+  counted = search rules;
+  few = search rules;
+}

@@ -1,6 +1,7 @@
 use Rattle.std.proofs.Common.{◌≡◌, ◌+◌, ◌≤◌, length}
-use Rattle.mg_asm.specs.Listed.{listed, listed_behind}
+use Rattle.mg_asm.specs.Listed.{listed}
 use Rattle.mg_model.specs.Words.{is_newline, split_at}
+use Rattle.mg_asm.proofs.Stepwise.{listed_behind}
 use Rattle.mg_asm.proofs.listing.read_list.Given as goal
 
 -- the words so far, and those of the lines that are left
