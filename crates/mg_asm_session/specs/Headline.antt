@@ -4,6 +4,7 @@ use Rattle.std.specs.Io.KnownBytes.{Appends}
 use Rattle.mg_asm.specs.Assembled.{assembled}
 use Rattle.mg_asm.specs.Listed.{listed}
 use Rattle.mg_asm.specs.Printed.{printed}
+use Rattle.mg_asm.specs.Reading.{on_ok}
 use Rattle.mg_asm.specs.Stored.{store_lines}
 use Rattle.mg_asm.specs.FaultText.{fault_line}
 use Rattle.mg_asm.specs.declared.faults.AsmFault.{AsmFault}
@@ -21,15 +22,10 @@ use Rattle.mg_io.specs.declared.traits.Source as sources
 abbrev pub text_limit : ℕ
 text_limit = 2 ^ 24
 
--- what becomes of words, if there are some
-abbrev pub from_words : (List ℕ → List ℕ) → Result (List ℕ) AsmFault → Result (List ℕ) AsmFault
-from_words f (Ok words) = Ok (f words)
-from_words f (Err fault) = Err fault
-
 -- What a text becomes: the lines that store the words that it assembles to, or the text of the words that it lists; or its first fault.
 abbrev pub became : Command → List ℕ → Result (List ℕ) AsmFault
-became (Store thread address) text = from_words (store_lines thread address) (assembled text)
-became Print text = from_words printed (listed text)
+became (Store thread address) text = on_ok (store_lines thread address) (assembled text)
+became Print text = on_ok printed (listed text)
 
 -- a text became lines, and the sink took them
 abbrev pub PutsLines : Result (List ℕ) AsmFault → Option (List ℕ) → Option (List ℕ) → Type 0
