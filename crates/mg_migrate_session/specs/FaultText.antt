@@ -2,17 +2,18 @@
 use Rattle.std.specs.Prelude.{ℕ, ◌≡◌, ◌⊎◌, List, [], ◌∷◌, ◌++◌, codes}
 use Rattle.mg_migrate.specs.declared.migrating.MigrateFault.{MigrateFault}
 use Rattle.mg_migrate.specs.declared.migrating.MigrateFault.TheVariants as fault
-use Rattle.mg_session.specs.Headline.{small_line}
+use Rattle.mg_model.specs.Volume.{Damaged, NotVolume, OldVolume}
+use Rattle.mg_session.specs.Headline.{check_line, small_line}
 use Rattle.mg_serve.specs.declared.status.Status.{Status}
 use Rattle.mg_serve.specs.declared.status.Status.TheVariants as status
 
 -- the line of a fault, if it has one
 abbrev pub fault_line : MigrateFault → List ℕ
 fault_line fault.OldDisk = []
-fault_line fault.Not = codes "open not" ++ 10 ∷ []
-fault_line fault.Old = codes "open old" ++ 10 ∷ []
+fault_line fault.Not = check_line NotVolume
+fault_line fault.Old = check_line OldVolume
 fault_line fault.New = codes "open new" ++ 10 ∷ []
-fault_line fault.Damaged = codes "open damaged" ++ 10 ∷ []
+fault_line fault.Damaged = check_line Damaged
 fault_line (fault.TooSmall need have) = small_line need have
 fault_line fault.Memory = []
 fault_line fault.NewDisk = []

@@ -2,7 +2,6 @@
 use Rattle.std.specs.Prelude.{ℕ, ◌≡◌, ◌⊎◌, ◌<◌, ◌≤◌, nat_lt, List, [], ◌∷◌, ◌++◌, if◌then◌else◌, codes}
 use Rattle.std.specs.Io.KnownBytes.{Appends}
 use Rattle.std.specs.Option.{ForSome}
-use Rattle.mg_check.specs.Summaries.{summary_of}
 use Rattle.mg_check.specs.declared.examining.Summary.{Summary}
 use Rattle.mg_disk.specs.Disk.{Image}
 use Rattle.mg_disk.specs.Stops.{CountRose, Leaves, NothingPending, WritesNothing}
@@ -14,8 +13,9 @@ use Rattle.mg_migrate.specs.Copied.{ReadsNow, StandsClosed}
 use Rattle.mg_migrate.specs.Migrated.{HasLifted, IsLiftOf, MayMigrate, needed}
 use Rattle.mg_migrate.specs.Version1.{Damaged1, Is1, NewVolume1, NotVolume1, OldVolume1, Volume1Read, lift, volume1}
 use Rattle.mg_model.specs.State.{State}
+use Rattle.mg_model.specs.Volume.{Damaged, Is, NotVolume, OldVolume}
 use Rattle.mg_serve.specs.Sessions.{IsDoneOrMemory}
-use Rattle.mg_session.specs.Headline.{small_line, usage_line}
+use Rattle.mg_session.specs.Headline.{check_line, small_line, usage_line}
 use Rattle.mg_session.specs.Unopened.{summary_line}
 use Rattle.mg_serve.specs.declared.status.Status.{Status}
 use Rattle.mg_serve.specs.declared.status.Status.TheVariants as status
@@ -25,11 +25,11 @@ use Rattle.mg_serve.specs.declared.status.Status.TheVariants as status
 -- the line of what the old image spells: which kind of none, that the new disk, with so many blocks, is too small for the volume, or
 -- what `check` tells of the state with passwords that never end
 abbrev pub migrate_line : ℕ → Volume1Read → List ℕ
-migrate_line have NotVolume1 = codes "open not" ++ 10 ∷ []
-migrate_line have OldVolume1 = codes "open old" ++ 10 ∷ []
+migrate_line have NotVolume1 = check_line NotVolume
+migrate_line have OldVolume1 = check_line OldVolume
 migrate_line have NewVolume1 = codes "open new" ++ 10 ∷ []
-migrate_line have Damaged1 = codes "open damaged" ++ 10 ∷ []
-migrate_line have (Is1 state) = if nat_lt have (needed state) then small_line (needed state) have else summary_line (summary_of (lift state))
+migrate_line have Damaged1 = check_line Damaged
+migrate_line have (Is1 state) = if nat_lt have (needed state) then small_line (needed state) have else check_line (Is (lift state))
 
 -- the status of what the old image spells
 abbrev pub migrate_status : ℕ → Volume1Read → Status
@@ -40,7 +40,7 @@ migrate_status have _ = status.NoVolume
 abbrev pub GoesWith : Status → List ℕ → Type 0
 GoesWith status.Done line = (summary : Summary) × (line ≡ summary_line summary)
 GoesWith status.NoVolume line =
-    (line ≡ migrate_line 0 NotVolume1) ⊎ ((line ≡ migrate_line 0 OldVolume1) ⊎ ((line ≡ migrate_line 0 NewVolume1) ⊎ (line ≡ migrate_line 0 Damaged1)))
+    (line ≡ check_line NotVolume) ⊎ ((line ≡ check_line OldVolume) ⊎ ((line ≡ codes "open new" ++ 10 ∷ []) ⊎ (line ≡ check_line Damaged)))
 GoesWith status.TooSmall line = (sizes : ℕ × ℕ) × (line ≡ small_line sizes.0 sizes.1)
 GoesWith _ line = ⊥
 
