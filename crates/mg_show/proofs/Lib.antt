@@ -1,0 +1,10 @@
+pub mod Paying
+pub mod Texts
+mod WordTexts
+mod BlockSteps
+mod ShownSteps
+mod ObjectsInOrder
+mod RowsKept
+mod StateParts
+mod Finished
+mod RowsShown

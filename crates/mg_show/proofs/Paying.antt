@@ -1,0 +1,103 @@
+-- The text of accounts, one account more, and the pages for which each pays.
+use Rattle.std.specs.Prelude.{◌==◌, true, false, filter, map, sum_by}
+use Rattle.std.proofs.Common.{◌≡◌, ℕ, suc, ◌+◌, ◌<◌, List, [], ◌∷◌, ◌++◌, length, get_or, take, drop, ap, arith, refl, sym, subst, ◌∙◌, append_assoc, append-nil, take-append-drop, ⊎_elim}
+use Rattle.std.proofs.lemmas.Bool.{cases_Bool, cond-false, cond-true}
+use Rattle.std.proofs.lemmas.List.{length-take-le}
+use Rattle.std.proofs.lemmas.List.Sums.{sum_by-cons}
+use Rattle.std.proofs.Math.Seq.{take-suc}
+use Rattle.mg_bank.specs.Bank.{pages_at}
+use Rattle.mg_io.specs.declared.traits.Sink as sinks
+use Rattle.mg_model.specs.declared.accounts.AccRow.{AccRow}
+use Rattle.mg_model.specs.State.{ObjectRow}
+use Rattle.mg_space.specs.Space.{ArePaid, paid_by}
+use Rattle.mg_show.specs.StateText.{account_text, accounts_text, pages_paid}
+use Rattle.mg_show.specs.Told.{HasFailed, HasPut}
+use Rattle.mg_show.specs.ToldLemmas.{fails_within, put_then}
+
+accounts-append : (paid : ℕ → ℕ) (n m : ℕ) (xs ys : List AccRow) → m ≡ n + length xs → accounts_text paid n (xs ++ ys) ≡ accounts_text paid n xs ++ accounts_text paid m ys
+accounts-append paid n m [] ys e = ap (λ k. accounts_text paid k ys) (omega arith)
+accounts-append paid n m (x ∷ xs) ys e =
+    ap (λ v. account_text n x (paid n) ++ v) (accounts-append paid (n + 1) m xs ys (omega arith))
+    ∙ sym (append_assoc (account_text n x (paid n)) (accounts_text paid (n + 1) xs) (accounts_text paid m ys))
+
+-- account m, the one at place i, more
+accounts-more : (paid : ℕ → ℕ) (m : ℕ) (xs : List AccRow) (i : ℕ) (d : AccRow) → m ≡ i + 1 → i < length xs
+    → accounts_text paid 1 (take (i + 1) xs) ≡ accounts_text paid 1 (take i xs) ++ account_text m (get_or xs i d) (paid m)
+accounts-more paid m xs i d e h =
+    let s : i + 1 ≡ suc i = omega arith in
+    let long = length-take-le i xs (omega arith) in
+    ap (λ n. accounts_text paid 1 (take n xs)) s
+    ∙ ap (accounts_text paid 1) (take-suc xs i d h)
+    ∙ accounts-append paid 1 m (take i xs) (get_or xs i d ∷ []) (omega arith)
+    ∙ ap (λ v. accounts_text paid 1 (take i xs) ++ v) (append-nil (account_text m (get_or xs i d) (paid m)))
+
+account-is : (paid : ℕ → ℕ) (m : ℕ) (xs : List AccRow) (i : ℕ) (d : AccRow) (rows : List AccRow) (pages : ℕ) → rows ≡ xs → pages ≡ paid m
+    → account_text m (get_or rows i d) pages ≡ account_text m (get_or xs i d) (paid m)
+account-is paid m xs i d rows pages same paying =
+    ap (λ (list : List AccRow). account_text m (get_or list i d) pages) same ∙ ap (account_text m (get_or xs i d)) paying
+
+pub accounts_next : {K : Type 0} (to : sinks.Ghosts K) (paid : ℕ → ℕ) (m : ℕ) (xs : List AccRow) (i : ℕ) (d : AccRow) (rows : List AccRow) (pages : ℕ) (a b c : K) (w v u : List ℕ)
+    → m ≡ i + 1 → i < length xs → rows ≡ xs → pages ≡ paid m
+    → HasPut to a b w v (accounts_text paid 1 (take i xs)) → HasPut to b c v u (account_text m (get_or rows i d) pages)
+    → HasPut to a c w u (accounts_text paid 1 (take (i + 1) xs))
+accounts_next to paid m xs i d rows pages a b c w v u e h same paying first second =
+    subst (λ text. HasPut to a c w u text) (sym (accounts-more paid m xs i d e h))
+    (put_then to a b c w v u (accounts_text paid 1 (take i xs)) (account_text m (get_or xs i d) (paid m)) first
+    (subst (λ text. HasPut to b c v u text) (account-is paid m xs i d rows pages same paying) second))
+
+pub accounts_fail : {K : Type 0} (to : sinks.Ghosts K) (paid : ℕ → ℕ) (m : ℕ) (xs : List AccRow) (i : ℕ) (d : AccRow) (rows : List AccRow) (pages : ℕ) (a b c : K) (w v : List ℕ)
+    → m ≡ i + 1 → i < length xs → rows ≡ xs → pages ≡ paid m
+    → HasPut to a b w v (accounts_text paid 1 (take i xs)) → HasFailed to b c (v ++ account_text m (get_or rows i d) pages)
+    → HasFailed to a c (w ++ accounts_text paid 1 xs)
+accounts_fail to paid m xs i d rows pages a b c w v e h same paying first failed =
+    let long = length-take-le (i + 1) xs (omega arith) in
+    fails_within to a b c w v (accounts_text paid 1 (take i xs)) (account_text m (get_or rows i d) pages) (accounts_text paid (m + 1) (drop (i + 1) xs)) (accounts_text paid 1 xs) first failed
+    (ap (λ y. (accounts_text paid 1 (take i xs) ++ y) ++ accounts_text paid (m + 1) (drop (i + 1) xs)) (account-is paid m xs i d rows pages same paying)
+    ∙ ap (λ text. text ++ accounts_text paid (m + 1) (drop (i + 1) xs)) (sym (accounts-more paid m xs i d e h))
+    ∙ sym (accounts-append paid 1 (m + 1) (take (i + 1) xs) (drop (i + 1) xs) (omega arith))
+    ∙ ap (accounts_text paid 1) (take-append-drop (i + 1) xs))
+
+abbrev rows_of : List (ℕ × ObjectRow) → List ObjectRow
+rows_of objects = map (λ (o : ℕ × ObjectRow). o.1) objects
+
+paid-cons : (n : ℕ) (o : ℕ × ObjectRow) (objects : List (ℕ × ObjectRow)) → paid_by n objects ≡ pages_paid (rows_of objects) n
+    → paid_by n (o ∷ objects) ≡ pages_paid (rows_of (o ∷ objects)) n
+paid-cons n o objects ih = ⊎_elim own other (cases_Bool (o.1.account == n))
+  where
+    rest : List (ℕ × ObjectRow)
+    rest = filter (λ (o : ℕ × ObjectRow). o.1.account == n) objects
+
+    rows : List ObjectRow
+    rows = filter (λ (row : ObjectRow). row.account == n) (rows_of objects)
+
+    own : (o.1.account == n) ≡ true → paid_by n (o ∷ objects) ≡ pages_paid (rows_of (o ∷ objects)) n
+    own is =
+        let a = ap (sum_by (λ (o : ℕ × ObjectRow). o.1.pages)) (cond-true (o.1.account == n) (o ∷ rest) rest is) in
+        let b = sum_by-cons (λ (o : ℕ × ObjectRow). o.1.pages) o rest in
+        let x = ap (sum_by (λ (row : ObjectRow). row.pages)) (cond-true (o.1.account == n) (o.1 ∷ rows) rows is) in
+        let y = sum_by-cons (λ (row : ObjectRow). row.pages) o.1 rows in
+        omega arith
+
+    other : (o.1.account == n) ≡ false → paid_by n (o ∷ objects) ≡ pages_paid (rows_of (o ∷ objects)) n
+    other is =
+        let a = ap (sum_by (λ (o : ℕ × ObjectRow). o.1.pages)) (cond-false (o.1.account == n) (o ∷ rest) rest is) in
+        let x = ap (sum_by (λ (row : ObjectRow). row.pages)) (cond-false (o.1.account == n) (o.1 ∷ rows) rows is) in
+        omega arith
+
+-- the pages of objects with their places are those of the objects
+paid-rows : (n : ℕ) (objects : List (ℕ × ObjectRow)) → paid_by n objects ≡ pages_paid (map (λ (o : ℕ × ObjectRow). o.1) objects) n
+paid-rows n [] = refl
+paid-rows n (o ∷ objects) = paid-cons n o objects (paid-rows n objects)
+
+accounts-same : (paid also : ℕ → ℕ) → ((n : ℕ) → paid n ≡ also n) → (n : ℕ) (xs : List AccRow) → accounts_text paid n xs ≡ accounts_text also n xs
+accounts-same paid also same n [] = refl
+accounts-same paid also same n (x ∷ xs) =
+    ap (λ k. account_text n x k ++ accounts_text paid (n + 1) xs) (same n)
+    ∙ ap (λ v. account_text n x (also n) ++ v) (accounts-same paid also same (n + 1) xs)
+
+-- what the bank keeps is what the objects' payers pay
+pub accounts-paid : (pages : List ℕ) (objects : List (ℕ × ObjectRow)) → ArePaid pages objects → (xs ys : List AccRow) → xs ≡ ys
+    → accounts_text (pages_at pages) 1 xs ≡ accounts_text (pages_paid (map (λ (o : ℕ × ObjectRow). o.1) objects)) 1 ys
+accounts-paid pages objects paid xs ys same =
+    accounts-same (pages_at pages) (pages_paid (map (λ (o : ℕ × ObjectRow). o.1) objects)) (λ n. paid n ∙ paid-rows n objects) 1 xs
+    ∙ ap (accounts_text (pages_paid (map (λ (o : ℕ × ObjectRow). o.1) objects)) 1) same

@@ -1,0 +1,160 @@
+-- Words as text, some behind others.
+use Rattle.std.specs.Prelude.{◌≡◌, ℕ, zero, suc, ◌+◌, ◌-◌, ◌*◌, ◌/◌, ◌%◌, ◌≤◌, ◌<◌, ◌==◌, List, [], ◌∷◌, ◌++◌, drop, flat_map, length, Option, position, replicate, slice_index_or, Some, None, take}
+use Rattle.std.specs.List.{HoldsAt}
+use Rattle.std.specs.Option.{option_map_or}
+use Rattle.std.proofs.Common.{refl, sym, ap, ◌∙◌, append_assoc, append-nil, length-append, arith}
+use Rattle.std.proofs.lemmas.Grind.{flat_map-append}
+use Rattle.std.proofs.lemmas.List.{length-replicate, take-append-drop, take_all, take_more}
+use Rattle.mg_model.specs.Bytes.{block_words, number_at, numbers_at}
+use Rattle.mg_model.specs.Layout.{first_frame}
+use Rattle.mg_model.specs.Objects.{page_of}
+use Rattle.mg_model.specs.Replay.{block_of}
+use Rattle.mg_model.specs.State.{ObjectRow}
+use Rattle.mg_model.specs.Volume.{page_words, pages_words}
+use Rattle.mg_show.specs.StateText.{words_text}
+use Rattle.mg_show.specs.WordText.{block_text, page_text, pages_text, row_text, rows_text, word_text}
+
+-- behind other words
+words_text-append : (address : ℕ) (xs ys : List ℕ) → words_text address (xs ++ ys) ≡ words_text address xs ++ words_text (address + 8 * length xs) ys
+words_text-append address [] ys = let e : address ≡ address + 8 * 0 = omega arith in ap (λ a. words_text a ys) e
+words_text-append address (x ∷ xs) ys =
+    let e : address + 8 + 8 * length xs ≡ address + 8 * length (x ∷ xs) = omega arith in
+    ap (λ (t : List ℕ). word_text address x ++ t) (words_text-append (address + 8) xs ys ∙ ap (λ a. words_text (address + 8) xs ++ words_text a ys) e)
+    ∙ sym (append_assoc (word_text address x) (words_text (address + 8) xs) (words_text (address + 8 * length (x ∷ xs)) ys))
+
+-- words that are 0
+words_text-zeros : (address n : ℕ) → words_text address (replicate n 0) ≡ []
+words_text-zeros address zero = refl
+words_text-zeros address (suc n) = words_text-zeros (address + 8) n
+
+-- the words of a block
+length-numbers_at : (bytes : List ℕ) (o n : ℕ) → length (numbers_at bytes o n) ≡ n
+length-numbers_at bytes o zero = refl
+length-numbers_at bytes o (suc n) = ap suc (length-numbers_at bytes (o + 8) n)
+
+numbers-split : (bytes : List ℕ) (o n m : ℕ) → numbers_at bytes o (n + m) ≡ numbers_at bytes o n ++ numbers_at bytes (o + 8 * n) m
+numbers-split bytes o zero m = let e : o + 8 * 0 ≡ o = omega arith in let f : 0 + m ≡ m = omega arith in ap (numbers_at bytes o) f ∙ ap (λ j. numbers_at bytes j m) (sym e)
+numbers-split bytes o (suc n) m =
+    let e : suc n + m ≡ suc (n + m) = omega arith in
+    let f : o + 8 + 8 * n ≡ o + 8 * suc n = omega arith in
+    ap (numbers_at bytes o) e
+    ∙ ap (λ (v : List ℕ). number_at bytes o ∷ v) (numbers-split bytes (o + 8) n m ∙ ap (λ j. numbers_at bytes (o + 8) n ++ numbers_at bytes j m) f)
+
+numbers_text-split : (address : ℕ) (bytes : List ℕ) (n m : ℕ)
+    → words_text address (numbers_at bytes 0 (n + m)) ≡ words_text address (numbers_at bytes 0 n) ++ words_text (address + 8 * n) (numbers_at bytes (0 + 8 * n) m)
+numbers_text-split address bytes n m =
+    ap (words_text address) (numbers-split bytes 0 n m) ∙ words_text-append address (numbers_at bytes 0 n) (numbers_at bytes (0 + 8 * n) m)
+    ∙ ap (λ k. words_text address (numbers_at bytes 0 n) ++ words_text (address + 8 * k) (numbers_at bytes (0 + 8 * n) m)) (length-numbers_at bytes 0 n)
+
+-- one word more
+pub numbers_text-more : (address : ℕ) (bytes : List ℕ) (n : ℕ)
+    → words_text address (numbers_at bytes 0 (n + 1)) ≡ words_text address (numbers_at bytes 0 n) ++ word_text (address + 8 * n) (number_at bytes (8 * n))
+numbers_text-more address bytes n =
+    let e : 0 + 8 * n ≡ 8 * n = omega arith in
+    numbers_text-split address bytes n 1
+    ∙ ap (λ t. words_text address (numbers_at bytes 0 n) ++ t) (append-nil (word_text (address + 8 * n) (number_at bytes (0 + 8 * n))) ∙ ap (λ o. word_text (address + 8 * n) (number_at bytes o)) e)
+
+-- all of them, and the first n of a block with what stands behind
+pub block_text-all : (address : ℕ) (block : List ℕ) (n : ℕ) → n ≡ 512 → words_text address (numbers_at block 0 n) ≡ block_text address block
+unfolding block_text
+block_text-all address block n all = ap (λ k. words_text address (numbers_at block 0 k)) all
+
+pub block_text-first : (address : ℕ) (block : List ℕ) (n : ℕ) → n ≤ 512
+    → block_text address block ≡ words_text address (numbers_at block 0 n) ++ words_text (address + 8 * n) (numbers_at block (0 + 8 * n) (512 - n))
+block_text-first address block n few =
+    let e : n + (512 - n) ≡ 512 = omega arith in
+    sym (block_text-all address block (n + (512 - n)) e) ∙ numbers_text-split address block n (512 - n)
+
+-- a page that a frame holds, and one that none holds
+pub page_text-held : (image : List (List ℕ)) (frames : ℕ) (table : List ℕ) (page frame : ℕ) → position (λ entry. entry == page) table ≡ Some frame
+    → page_text image frames table page ≡ block_text (4096 * page) (block_of image (first_frame frames + frame))
+unfolding page_text block_text
+page_text-held image frames table page frame is =
+    ap (λ found. words_text (4096 * page) (option_map_or (λ frame. block_words (block_of image (first_frame frames + frame))) found (replicate 512 0))) is
+
+pub page_text-free : (image : List (List ℕ)) (frames : ℕ) (table : List ℕ) (page : ℕ) → position (λ entry. entry == page) table ≡ None → page_text image frames table page ≡ []
+unfolding page_text
+page_text-free image frames table page is =
+    ap (λ found. words_text (4096 * page) (option_map_or (λ frame. block_words (block_of image (first_frame frames + frame))) found (replicate 512 0))) is
+    ∙ words_text-zeros (4096 * page) 512
+
+-- pages behind others
+module _ (image : List (List ℕ)) (frames : ℕ) (table : List ℕ) where
+  length-page_words : (page : ℕ) → length (page_words image frames table page) ≡ 512
+  length-page_words page = go (position (λ entry. entry == page) table)
+    where
+      go : (found : Option ℕ) → length (option_map_or (λ frame. block_words (block_of image (first_frame frames + frame))) found (replicate 512 0)) ≡ 512
+      go None = length-replicate {A = ℕ} 512 0
+      go (Some frame) = length-numbers_at (block_of image (first_frame frames + frame)) 0 512
+
+  length-pages_words : (page n : ℕ) → length (pages_words image frames table page n) ≡ 512 * n
+  length-pages_words page zero = refl
+  length-pages_words page (suc n) =
+      let e = length-page_words page in
+      let f = length-pages_words (page + 1) n in
+      let g = length-append (page_words image frames table page) (pages_words image frames table (page + 1) n) in
+      omega arith
+
+  pages-split : (page n m : ℕ) → pages_words image frames table page (n + m) ≡ pages_words image frames table page n ++ pages_words image frames table (page + n) m
+  pages-split page zero m = let e : 0 + m ≡ m = omega arith in let f : page ≡ page + 0 = omega arith in ap (pages_words image frames table page) e ∙ ap (λ p. pages_words image frames table p m) f
+  pages-split page (suc n) m =
+      let e : suc n + m ≡ suc (n + m) = omega arith in
+      let f : page + 1 + n ≡ page + suc n = omega arith in
+      ap (pages_words image frames table page) e
+      ∙ ap (λ (ws : List ℕ). page_words image frames table page ++ ws) (pages-split (page + 1) n m ∙ ap (λ p. pages_words image frames table (page + 1) n ++ pages_words image frames table p m) f)
+      ∙ sym (append_assoc (page_words image frames table page) (pages_words image frames table (page + 1) n) (pages_words image frames table (page + suc n) m))
+
+  pub pages_text-split : (page n m : ℕ) → pages_text image frames table page (n + m) ≡ pages_text image frames table page n ++ pages_text image frames table (page + n) m
+  unfolding pages_text
+  pages_text-split page n m =
+      let before = pages_words image frames table page n in
+      let behind = pages_words image frames table (page + n) m in
+      let e : 4096 * page + 8 * length before ≡ 4096 * (page + n) = let l = length-pages_words page n in omega arith in
+      ap (words_text (4096 * page)) (pages-split page n m) ∙ words_text-append (4096 * page) before behind ∙ ap (λ a. words_text (4096 * page) before ++ words_text a behind) e
+
+  pub pages_text-none : (page : ℕ) → pages_text image frames table page 0 ≡ []
+  unfolding pages_text
+  pages_text-none page = refl
+
+  pages_text-one : (page : ℕ) → pages_text image frames table page 1 ≡ page_text image frames table page
+  unfolding pages_text page_text
+  pages_text-one page = ap (words_text (4096 * page)) (append-nil (page_words image frames table page))
+
+  -- one page more
+  pub pages_text-more : (page n : ℕ) → pages_text image frames table page (n + 1) ≡ pages_text image frames table page n ++ page_text image frames table (page + n)
+  pages_text-more page n = pages_text-split page n 1 ∙ ap (λ t. pages_text image frames table page n ++ t) (pages_text-one (page + n))
+
+  -- an object
+  pub row_text-pages : (row : ObjectRow) → row.base % 4096 ≡ 0 → row_text image frames table row ≡ pages_text image frames table (page_of row) row.pages
+  unfolding row_text pages_text
+  row_text-pages row aligned =
+      let e : row.base ≡ 4096 * (row.base / 4096) = omega arith in
+      ap (λ a. words_text a (pages_words image frames table (page_of row) row.pages)) e
+
+  -- the first pages, with what stands behind them
+  pub pages_text-around : (page n i : ℕ) → i < n
+      → (pages_text image frames table page i ++ page_text image frames table (page + i)) ++ pages_text image frames table (page + (i + 1)) (n - (i + 1)) ≡ pages_text image frames table page n
+  pages_text-around page n i below =
+      let e : i + 1 + (n - (i + 1)) ≡ n = omega arith in
+      ap (λ t. t ++ pages_text image frames table (page + (i + 1)) (n - (i + 1))) (sym (pages_text-more page i)) ∙ sym (pages_text-split page (i + 1) (n - (i + 1))) ∙ ap (pages_text image frames table page) e
+
+  -- one object more, and the first objects with what stands behind them
+  module _ (objects : List (ℕ × ObjectRow)) (i : ℕ) where
+    pub rows_text-more : (row : ObjectRow) → i < length objects → HoldsAt (λ (o : ℕ × ObjectRow). row ≡ o.1) objects i
+        → rows_text image frames table (take i objects) ++ row_text image frames table row ≡ rows_text image frames table (take (i + 1) objects)
+    rows_text-more row below is =
+        let text : ℕ × ObjectRow → List ℕ = λ o. row_text image frames table o.1 in
+        let last = slice_index_or objects i (0, row) in
+        ap (λ r. rows_text image frames table (take i objects) ++ row_text image frames table r) (is (0, row))
+        ∙ ap (λ t. rows_text image frames table (take i objects) ++ t) (sym (append-nil (text last)))
+        ∙ sym (flat_map-append text (take i objects) (last ∷ [])) ∙ ap (flat_map text) (sym (take_more objects i (0, row) below))
+
+    pub rows_text-around : (row : ObjectRow) → i < length objects → HoldsAt (λ (o : ℕ × ObjectRow). row ≡ o.1) objects i
+        → (rows_text image frames table (take i objects) ++ row_text image frames table row) ++ rows_text image frames table (drop (i + 1) objects) ≡ rows_text image frames table objects
+    rows_text-around row below is =
+        let text : ℕ × ObjectRow → List ℕ = λ o. row_text image frames table o.1 in
+        ap (λ t. t ++ rows_text image frames table (drop (i + 1) objects)) (rows_text-more row below is)
+        ∙ sym (flat_map-append text (take (i + 1) objects) (drop (i + 1) objects)) ∙ ap (flat_map text) (take-append-drop (i + 1) objects)
+
+    pub rows_text-all : length objects ≤ i → rows_text image frames table (take i objects) ≡ rows_text image frames table objects
+    rows_text-all end = ap (rows_text image frames table) (take_all i objects end)

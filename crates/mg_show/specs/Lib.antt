@@ -1,0 +1,11 @@
+-- The text of a state and of who may reach what, the words of the command line, and what is promised.
+pub mod StateText
+pub mod ReachText
+pub mod Told
+pub mod Commands
+pub mod Putting
+pub mod Headline
+pub mod ToldLemmas
+pub mod WordText
+pub mod RowsText
+pub mod Shown

@@ -1,0 +1,36 @@
+// The words of the command line.
+ghost use Rattle.std.specs.Prelude.{◌≡◌};
+ghost use Rattle.mg_session.specs.ByCommand.{words_of};
+ghost use Rattle.mg_show.specs.Commands.{named, spelled};
+
+use mg_text::is_word;
+
+/// What is to be told of a volume.
+#[derive(Clone, Copy, PartialEq, Eq)]
+pub enum Text {
+    /// Its whole state.
+    State,
+}
+
+/// The text that these words ask for, which are those behind the program's name; None exactly where they ask for none. They are
+/// `VOLUME`, or `VOLUME state`.
+pub fn read_words(words: &[String]) -> Option<Text>
+    ensures { result ≡ spelled (words_of words.now) }
+{
+    match words {
+        [_] => Some(Text::State),
+        [_, word] => by_name(word.as_bytes()),
+        _ => None,
+    }
+}
+
+// The text with this name.
+fn by_name(word: &[u8]) -> Option<Text>
+    ensures { result ≡ named word.now }
+{
+    if is_word(word, b"state") {
+        Some(Text::State)
+    } else {
+        None
+    }
+}

@@ -1,0 +1,259 @@
+// Lines of the text of a state, each printed into an empty buffer.
+ghost use Rattle.std.specs.Prelude.{◌≡◌, ◌+◌, ◌*◌, ◌/◌, ◌%◌, ◌==◌, ◌≤◌, ◌<◌, [], ◌∷◌, ◌++◌, ℕ, codes, filter, length, map};
+ghost use Rattle.std.specs.Fmt.{decimal};
+ghost use Rattle.arrayvec.specs.ArrayVec.{array_vec_len};
+ghost use Rattle.mg_model.specs.Print.{hex_digit, hex_digits, hex_text, spaced};
+ghost use Rattle.mg_show.specs.StateText.{account_text, counters_text, line, made_text, object_line, password_text, registers_text, rights_text, seed_text, step_text, thread_head, thread_state_text, until_text};
+
+use arrayvec::ArrayVec;
+use mg_model::{AccRow, Fault, Globals, ObjRow, Params, Pw, Rights, Tariff, ThrRow, ThrState};
+use mg_text::{push_number, push_text, push_word};
+
+type Buffer = ArrayVec<u8, 256>;
+
+/// The line of one number: its first word, of at most 16 bytes, and the number in decimal. There is room for it.
+fn push_counted(out: &mut Buffer, head: &[u8], n: u64)
+    requires short_head { length head.now ≤ 16 }
+    requires has_room { array_vec_len out.old ≤ 184 }
+    ensures text { out.new.items ≡ out.old.items ++ line head.now (decimal n ∷ []) }
+    ensures short { array_vec_len out.new ≤ array_vec_len out.old + length head.now + 22 }
+{
+    push_text(out, head);
+    push_number(out, n);
+    push_text(out, b"\n");
+}
+
+/// The lines of the counters. They have at most 113 bytes.
+pub(crate) fn print_counters(counters: &Globals, out: &mut Buffer)
+    requires empty { out.old.items ≡ [] }
+    ensures { out.new.items ≡ counters_text counters.now }
+{
+    push_counted(out, b"draws", counters.draws());
+    push_counted(out, b"period", counters.period());
+    push_counted(out, b"cursor", counters.cursor());
+    push_counted(out, b"births", counters.births());
+}
+
+/// A line with one address: its first word, of at most 16 bytes, and the address.
+pub(crate) fn print_word(head: &[u8], word: u64, out: &mut Buffer)
+    requires empty { out.old.items ≡ [] }
+    requires short_head { length head.now ≤ 16 }
+    ensures { out.new.items ≡ line head.now (hex_text word ∷ []) }
+{
+    push_text(out, head);
+    push_word(out, word);
+    push_text(out, b"\n");
+}
+
+/// A line with two words: its first word, of at most 16 bytes, and the two in hexadecimal.
+pub(crate) fn print_pair(head: &[u8], first: u64, second: u64, out: &mut Buffer)
+    requires empty { out.old.items ≡ [] }
+    requires short_head { length head.now ≤ 16 }
+    ensures { out.new.items ≡ line head.now (hex_text first ∷ hex_text second ∷ []) }
+{
+    push_text(out, head);
+    push_word(out, first);
+    push_word(out, second);
+    push_text(out, b"\n");
+}
+
+/// The line of an account, which pays for so many pages.
+pub(crate) fn print_account(n: u64, row: &AccRow, pages: u64, out: &mut Buffer)
+    requires empty { out.old.items ≡ [] }
+    ensures { out.new.items ≡ account_text n row.now pages }
+{
+    push_text(out, b"account");
+    push_number(out, n);
+    push_word(out, row.password);
+    push_number(out, row.balance);
+    push_number(out, row.owed);
+    push_number(out, pages);
+    push_text(out, b"\n");
+}
+
+/// The line of an object.
+pub(crate) fn print_object(row: &ObjRow, out: &mut Buffer)
+    requires empty { out.old.items ≡ [] }
+    ensures { out.new.items ≡ object_line row.now }
+{
+    push_text(out, b"object");
+    push_word(out, row.base());
+    push_number(out, row.pages());
+    push_number(out, row.account());
+    push_text(out, b"\n");
+}
+
+/// The line of a password row.
+pub(crate) fn print_password(pw: &Pw, out: &mut Buffer)
+    requires empty { out.old.items ≡ [] }
+    ensures { out.new.items ≡ password_text pw.now }
+{
+    push_text(out, b"password");
+    push_word(out, pw.password());
+    push_rights(out, pw.rights());
+    push_until(out, pw.until());
+    push_text(out, b"\n");
+}
+
+/// A space and the letters of a set of rights.
+fn push_rights(out: &mut Buffer, rights: Rights)
+    requires { array_vec_len out.old ≤ 200 }
+    ensures text { out.new.items ≡ out.old.items ++ spaced (rights_text rights ∷ []) }
+    ensures short { array_vec_len out.new ≤ array_vec_len out.old + 7 }
+{
+    let bits = rights.bits();
+    out.push(b' ');
+    push_letter(out, bits, b'R', 1);
+    push_letter(out, bits, b'W', 2);
+    push_letter(out, bits, b'X', 4);
+    push_letter(out, bits, b'D', 8);
+    push_letter(out, bits, b'P', 16);
+    push_letter(out, bits, b'O', 32);
+}
+
+/// The letter of a right, where the set has its bit.
+fn push_letter(out: &mut Buffer, rights: u8, letter: u8, bit: u8)
+    requires has_room { array_vec_len out.old ≤ 207 }
+    requires bit { 1 ≤ bit }
+    ensures text { out.new.items ≡ out.old.items ++ map (λ (l : ℕ × ℕ). l.0) (filter (λ (l : ℕ × ℕ). rights / l.1 % 2 == 1) ((letter, bit) ∷ [])) }
+    ensures short { array_vec_len out.new ≤ array_vec_len out.old + 1 }
+{
+    if rights / bit % 2 == 1 {
+        out.push(letter);
+    }
+}
+
+/// A space and the first period at which a password is current no more.
+fn push_until(out: &mut Buffer, until: u64)
+    requires { array_vec_len out.old ≤ 200 }
+    ensures text { out.new.items ≡ out.old.items ++ spaced (until_text until ∷ []) }
+    ensures short { array_vec_len out.new ≤ array_vec_len out.old + 21 }
+{
+    if until == Pw::NEVER {
+        push_text(out, b" never");
+    } else {
+        push_number(out, until);
+    }
+}
+
+/// The lines of the settings before the tariff. They have at most 127 bytes.
+pub(crate) fn print_settings(params: &Params, out: &mut Buffer)
+    requires empty { out.old.items ≡ [] }
+    ensures { out.new.items ≡ made_text params.now }
+{
+    push_counted(out, b"frames", params.frames());
+    push_text(out, b"seed ");
+    push_seed(out, &params.seed());
+    push_text(out, b"\n");
+    push_counted(out, b"credits", params.credits());
+}
+
+/// The 64 hexadecimal digits of a seed.
+fn push_seed(out: &mut Buffer, seed: &[u8; 32])
+    requires { array_vec_len out.old ≤ 100 }
+    ensures text { out.new.items ≡ out.old.items ++ seed_text seed.now }
+    ensures short { array_vec_len out.new ≤ array_vec_len out.old + 64 }
+{
+    for byte in seed {
+        push_byte(out, *byte);
+    }
+}
+
+/// The two hexadecimal digits of a byte.
+fn push_byte(out: &mut Buffer, byte: u8)
+    requires { array_vec_len out.old ≤ 200 }
+    ensures text { out.new.items ≡ out.old.items ++ hex_digits 2 byte }
+    ensures short { array_vec_len out.new ≤ array_vec_len out.old + 2 }
+{
+    out.push(hex_glyph(byte / 16));
+    out.push(hex_glyph(byte % 16));
+}
+
+fn hex_glyph(d: u8) -> u8
+    requires { d < 16 }
+    ensures { result ≡ hex_digit d }
+{
+    if d < 10 { b'0' + d } else { b'a' + d - 10 }
+}
+
+/// The line of the tariff. It has at most 175 bytes.
+pub(crate) fn print_tariff(tariff: Tariff, out: &mut Buffer)
+    requires empty { out.old.items ≡ [] }
+    ensures { out.new.items ≡ line (codes "tariff") (map step_text tariff) }
+{
+    push_text(out, b"tariff");
+    push_steps(out, &tariff.steps());
+    push_text(out, b"\n");
+}
+
+/// The four steps of a tariff, each behind a space.
+fn push_steps(out: &mut Buffer, steps: &[(u64, u64); 4])
+    requires { array_vec_len out.old ≤ 8 }
+    ensures text { out.new.items ≡ out.old.items ++ spaced (map step_text steps.now) }
+    ensures short { array_vec_len out.new ≤ array_vec_len out.old + 168 }
+{
+    for step in steps {
+        push_step(out, *step);
+    }
+}
+
+/// A space and a step of a tariff.
+fn push_step(out: &mut Buffer, step: (u64, u64))
+    requires { array_vec_len out.old ≤ 200 }
+    ensures text { out.new.items ≡ out.old.items ++ spaced (step_text step ∷ []) }
+    ensures short { array_vec_len out.new ≤ array_vec_len out.old + 42 }
+{
+    let (pages, rate) = step;
+    push_number(out, pages);
+    out.push(b':');
+    push_decimal(out, rate);
+}
+
+/// A number in decimal.
+fn push_decimal(out: &mut Buffer, n: u64)
+    requires { array_vec_len out.old ≤ 230 }
+    ensures text { out.new.items ≡ out.old.items ++ decimal n }
+    ensures short { array_vec_len out.new ≤ array_vec_len out.old + 20 }
+{
+    let mut digits = itoa::Buffer::new();
+    push_text(out, digits.format(n).as_bytes());
+}
+
+/// The line of a thread up to its registers. It has at most 103 bytes.
+pub(crate) fn print_thread(number: u64, row: &ThrRow, out: &mut Buffer)
+    requires empty { out.old.items ≡ [] }
+    ensures { out.new.items ≡ thread_head number row.now }
+{
+    push_text(out, b"thread");
+    push_number(out, number);
+    push_number(out, row.birth());
+    push_number(out, row.creator());
+    push_word(out, row.pc());
+    push_text(out, b" ");
+    push_text(out, state_words(row.state()));
+}
+
+/// The words for the state of a thread, at most 14 bytes.
+fn state_words(state: ThrState) -> &'static [u8]
+    ensures text { result.now ≡ thread_state_text state }
+    ensures short { length result.now ≤ 14 }
+{
+    match state {
+        ThrState::Ready => b"Ready",
+        ThrState::Stopped => b"Stopped",
+        ThrState::Faulted(Fault::Align) => b"Faulted Align",
+        ThrState::Faulted(Fault::Denied) => b"Faulted Denied",
+        ThrState::Faulted(Fault::Opcode) => b"Faulted Opcode",
+    }
+}
+
+/// The end of the line of a thread: its registers. It has 153 bytes.
+pub(crate) fn print_registers(regs: &[u64; 8], out: &mut Buffer)
+    requires empty { out.old.items ≡ [] }
+    ensures { out.new.items ≡ registers_text regs.now }
+{
+    for word in regs {
+        push_word(out, *word);
+    }
+    push_text(out, b"\n");
+}
