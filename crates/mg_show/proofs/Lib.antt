@@ -8,3 +8,9 @@ mod RowsKept
 mod StateParts
 mod Finished
 mod RowsShown
+mod RightBits
+mod Marked
+mod ListEntries
+mod FoundSteps
+mod ReachTexts
+mod Reaching

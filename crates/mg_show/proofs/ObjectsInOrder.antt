@@ -13,7 +13,7 @@ use Rattle.mg_show.specs.StateText.{words_text}
 use Rattle.mg_show.specs.WordText.{row_text, rows_text}
 
 -- the rows that are there, in either words
-live-same : {R : Type 0} (i : ℕ) (items : List (Option R)) → rows.live_from i items ≡ live_from i items
+pub live-same : {R : Type 0} (i : ℕ) (items : List (Option R)) → rows.live_from i items ≡ live_from i items
 live-same i [] = refl
 live-same i (None ∷ items) = live-same (i + 1) items
 live-same i (Some row ∷ items) = ap (λ rest. (i, row) ∷ rest) (live-same (i + 1) items)

@@ -80,7 +80,7 @@ page_text-free image frames table page is =
 
 -- pages behind others
 module _ (image : List (List ℕ)) (frames : ℕ) (table : List ℕ) where
-  length-page_words : (page : ℕ) → length (page_words image frames table page) ≡ 512
+  pub length-page_words : (page : ℕ) → length (page_words image frames table page) ≡ 512
   length-page_words page = go (position (λ entry. entry == page) table)
     where
       go : (found : Option ℕ) → length (option_map_or (λ frame. block_words (block_of image (first_frame frames + frame))) found (replicate 512 0)) ≡ 512

@@ -9,3 +9,4 @@ pub mod ToldLemmas
 pub mod WordText
 pub mod RowsText
 pub mod Shown
+pub mod Reached

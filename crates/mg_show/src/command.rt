@@ -10,10 +10,12 @@ use mg_text::is_word;
 pub enum Text {
     /// Its whole state.
     State,
+    /// Which thread may reach which object now, and with which rights.
+    Reach,
 }
 
 /// The text that these words ask for, which are those behind the program's name; None exactly where they ask for none. They are
-/// `VOLUME`, or `VOLUME state`.
+/// `VOLUME`, `VOLUME state` or `VOLUME reach`.
 pub fn read_words(words: &[String]) -> Option<Text>
     ensures { result ≡ spelled (words_of words.now) }
 {
@@ -30,6 +32,8 @@ fn by_name(word: &[u8]) -> Option<Text>
 {
     if is_word(word, b"state") {
         Some(Text::State)
+    } else if is_word(word, b"reach") {
+        Some(Text::Reach)
     } else {
         None
     }

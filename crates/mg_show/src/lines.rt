@@ -101,7 +101,15 @@ fn push_rights(out: &mut Buffer, rights: Rights)
     ensures text { out.new.items ≡ out.old.items ++ spaced (rights_text rights ∷ []) }
     ensures short { array_vec_len out.new ≤ array_vec_len out.old + 7 }
 {
-    let bits = rights.bits();
+    push_letters(out, rights.bits());
+}
+
+/// A space and the letters of the rights whose bits these are.
+fn push_letters(out: &mut Buffer, bits: u8)
+    requires { array_vec_len out.old ≤ 200 }
+    ensures text { out.new.items ≡ out.old.items ++ spaced (rights_text bits ∷ []) }
+    ensures short { array_vec_len out.new ≤ array_vec_len out.old + 7 }
+{
     out.push(b' ');
     push_letter(out, bits, b'R', 1);
     push_letter(out, bits, b'W', 2);
@@ -255,5 +263,28 @@ pub(crate) fn print_registers(regs: &[u64; 8], out: &mut Buffer)
     for word in regs {
         push_word(out, *word);
     }
+    push_text(out, b"\n");
+}
+
+/// The line of an object that a thread reaches, with the rights whose bits these are.
+pub(crate) fn print_reach(t: u64, base: u64, bits: u8, out: &mut Buffer)
+    requires empty { out.old.items ≡ [] }
+    ensures { out.new.items ≡ line (codes "reach") (decimal t ∷ hex_text base ∷ rights_text bits ∷ []) }
+{
+    push_text(out, b"reach");
+    push_number(out, t);
+    push_word(out, base);
+    push_letters(out, bits);
+    push_text(out, b"\n");
+}
+
+/// The line of an entry at which a thread may enter.
+pub(crate) fn print_enter(t: u64, address: u64, out: &mut Buffer)
+    requires empty { out.old.items ≡ [] }
+    ensures { out.new.items ≡ line (codes "enter") (decimal t ∷ hex_text address ∷ []) }
+{
+    push_text(out, b"enter");
+    push_number(out, t);
+    push_word(out, address);
     push_text(out, b"\n");
 }

@@ -9,6 +9,7 @@ ghost use Rattle.mg_model.specs.Layout.{total_blocks};
 ghost use Rattle.mg_model.specs.Limits.{thread_limit};
 ghost use Rattle.mg_model.specs.Replay.{replay};
 ghost use Rattle.mg_show.specs.Putting.{PutsAll, ShowsRows};
+ghost use Rattle.mg_show.specs.Reached.{threads_reached};
 ghost use Rattle.mg_show.specs.RowsText.{tables_text};
 ghost use Rattle.mg_show.specs.WordText.{rows_text};
 
@@ -16,6 +17,8 @@ use crate::command::Text;
 use crate::faults::ShowFault;
 use crate::held::{Lists, lists_of};
 use crate::piece::Piece;
+use crate::reach::put_reach;
+use crate::room::room_of;
 use crate::showing::put_state;
 use mg_check::VolumeRows;
 use mg_disk::Disk;
@@ -62,6 +65,19 @@ pub(crate) fn show_rows<D: Disk, K: Sink>(
         Text::State => put_all(
             &params, &globals, &threads, &mut lists, view, disk, &mut piece, sink,
         ),
+        Text::Reach => match room_of(alloc, lists.objects.objects()) {
+            Some(mut bytes) => put_reached(
+                &threads,
+                globals.period(),
+                &lists,
+                &mut bytes,
+                view,
+                disk,
+                &mut piece,
+                sink,
+            ),
+            None => Status::Memory,
+        },
     }
 }
 
@@ -87,6 +103,47 @@ fn put_all<D: Disk, K: Sink>(
         result disk.old disk.new sink.old sink.new }
 {
     match put_state(params, counters, threads, lists, view, disk, piece, sink) {
+        Ok(()) => match piece.finish(sink) {
+            Ok(()) => Status::Done,
+            Err(Failed) => Status::Sink,
+        },
+        Err(ShowFault::Disk) => Status::Disk,
+        Err(ShowFault::Sink) => Status::Sink,
+    }
+}
+
+// Puts who may reach what in the volume with these rows, and what waits of it. There is a byte for each object.
+fn put_reached<D: Disk, K: Sink>(
+    threads: &[(u64, ThrRow)],
+    period: u64,
+    lists: &Lists,
+    bytes: &mut [u8],
+    view: &View,
+    disk: &mut D,
+    piece: &mut Piece,
+    sink: &mut K,
+) -> Status
+    requires places { All (λ t. t.0 < thread_limit) threads.now }
+    requires long { length bytes.old ≡ length lists.now.objects }
+    requires at_least_16_frames { 16 ≤ length lists.now.frames }
+    requires total { view.now.total ≡ total_blocks (length lists.now.frames) }
+    requires can { CanRead D.Disk view.now.total (Fits view.now) disk.old }
+    requires empty { piece.old ≡ [] }
+    ensures { PutsAll D.Disk K.Sink (λ image. replay image view.now.total)
+        (λ r. threads_reached r (length lists.now.frames) lists.now.frames lists.now.objects period threads.now) result disk.old disk.new sink.old sink.new }
+{
+    let objects = lists.objects.objects();
+    match put_reach(
+        view,
+        &lists.frames,
+        objects,
+        threads,
+        period,
+        bytes,
+        disk,
+        piece,
+        sink,
+    ) {
         Ok(()) => match piece.finish(sink) {
             Ok(()) => Status::Done,
             Err(Failed) => Status::Sink,

@@ -155,8 +155,17 @@ fn put_frame<D: Disk, K: Sink>(
     }
 }
 
-// Gives block `i` of the contents.
-fn read_block<D: Disk>(view: &View, disk: &mut D, i: u64, block: &mut Block) -> Result<(), Failed>
+/// Gives block `i` of the contents.
+///
+/// # Errors
+///
+/// `Failed` where a read fails.
+pub(crate) fn read_block<D: Disk>(
+    view: &View,
+    disk: &mut D,
+    i: u64,
+    block: &mut Block,
+) -> Result<(), Failed>
     requires place { i < view.now.total }
     requires can { CanRead D.Disk view.now.total (Fits view.now) disk.old }
     ensures block { OnOk result (ForSome (contents D.Disk (λ image. replay image view.now.total) disk.old) (λ r. block.new ≡ block_of r i)) }

@@ -1,0 +1,68 @@
+-- The entries of a list, one by one.
+use Rattle.std.specs.Prelude.{◌≡◌, ℕ, zero, suc, ◌+◌, ◌*◌, ◌<◌, ◌==◌, List, [], ◌∷◌, ◌++◌, flat_map, length, min, replicate, take, slice_index, None, Option, Some, position}
+use Rattle.std.specs.Option.{option_map, option_map_or}
+use Rattle.std.proofs.Common.{refl, sym, ap, ◌∙◌, append-nil, arith, get_or}
+use Rattle.std.proofs.lemmas.Grind.{flat_map-append}
+use Rattle.std.proofs.lemmas.List.{take_more}
+use Rattle.mg_model.specs.Access.{entries_from, entries_of}
+use Rattle.mg_model.specs.Bytes.{block_words, number_at, numbers_at}
+use Rattle.mg_model.specs.Layout.{first_frame}
+use Rattle.mg_model.specs.Replay.{block_of}
+use Rattle.mg_model.specs.State.{ObjectRow}
+use Rattle.mg_model.specs.Volume.{page_words}
+use Rattle.mg_show.specs.Reached.{row_listed}
+
+number-of : (bytes : List ℕ) (from n i : ℕ) → i < n → get_or (numbers_at bytes from n) i 0 ≡ number_at bytes (from + 8 * i)
+number-of bytes from zero i below = absurd (omega arith)
+number-of bytes from (suc n) zero below = let e : from ≡ from + 8 * 0 = omega arith in ap (number_at bytes) e
+number-of bytes from (suc n) (suc i) below = let e : from + 8 + 8 * i ≡ from + 8 * suc i = omega arith in number-of bytes (from + 8) n i (omega arith) ∙ ap (number_at bytes) e
+
+pub word-of : (block : List ℕ) (i at : ℕ) → i < 512 → at ≡ 8 * i → slice_index (block_words block) i ≡ number_at block at
+word-of block i at below is = let e : 0 + 8 * i ≡ at = omega arith in number-of block 0 512 i below ∙ ap (number_at block) e
+
+-- one entry more
+pub entries-more : (words : List ℕ) (j n : ℕ) → entries_from words j (n + 1) ≡ entries_from words j n ++ (slice_index words (2 + 2 * (j + n)), slice_index words (3 + 2 * (j + n))) ∷ []
+entries-more words j zero =
+    let e : j ≡ j + 0 = omega arith in
+    ap (λ k. (slice_index words (2 + 2 * k), slice_index words (3 + 2 * k)) ∷ []) e
+entries-more words j (suc n) =
+    let e : j + 1 + n ≡ j + suc n = omega arith in
+    let g : suc n + 1 ≡ suc (n + 1) = omega arith in
+    ap (entries_from words j) g
+    ∙ ap (λ l. (slice_index words (2 + 2 * j), slice_index words (3 + 2 * j)) ∷ l)
+    (entries-more words (j + 1) n ∙ ap (λ k. entries_from words (j + 1) n ++ (slice_index words (2 + 2 * k), slice_index words (3 + 2 * k)) ∷ []) e)
+
+pub block-entries-more : (block : List ℕ) (k at base password : ℕ) → k < 255 → at ≡ 16 * k → base ≡ number_at block (at + 16) → password ≡ number_at block (at + 24)
+    → entries_from (block_words block) 0 k ++ (base, password) ∷ [] ≡ entries_from (block_words block) 0 (k + 1)
+block-entries-more block k at base password below at_is b p =
+    let e : 0 + k ≡ k = omega arith in
+    sym (
+    entries-more (block_words block) 0 k
+    ∙ ap (λ n. entries_from (block_words block) 0 k ++ (slice_index (block_words block) (2 + 2 * n), slice_index (block_words block) (3 + 2 * n)) ∷ []) e
+    ∙ ap (λ v. entries_from (block_words block) 0 k ++ (v, slice_index (block_words block) (3 + 2 * k)) ∷ []) (word-of block (2 + 2 * k) (at + 16) (omega arith) (omega arith) ∙ sym b)
+    ∙ ap (λ v. entries_from (block_words block) 0 k ++ (base, v) ∷ []) (word-of block (3 + 2 * k) (at + 24) (omega arith) (omega arith) ∙ sym p)
+    )
+
+-- all of them
+pub block-entries-all : (block : List ℕ) (n count : ℕ) → count ≡ number_at block 0 → n ≡ min count 255 → entries_from (block_words block) 0 n ≡ entries_of (block_words block)
+block-entries-all block n count c is = ap (entries_from (block_words block) 0) (is ∙ ap (λ v. min v 255) (c ∙ sym (word-of block 0 0 (omega arith) refl)))
+
+-- the list in a page that a frame holds, and in one that none holds
+pub page-list-held : (image : List (List ℕ)) (frames : ℕ) (table : List ℕ) (page frame : ℕ) → position (λ entry. entry == page) table ≡ Some frame
+    → entries_of (block_words (block_of image (first_frame frames + frame))) ≡ entries_of (page_words image frames table page)
+page-list-held image frames table page frame is =
+    sym (ap (λ found. entries_of (option_map_or (λ frame. block_words (block_of image (first_frame frames + frame))) found (replicate 512 0))) is)
+
+pub page-list-free : (image : List (List ℕ)) (frames : ℕ) (table : List ℕ) (page : ℕ) → position (λ entry. entry == page) table ≡ None → entries_of (page_words image frames table page) ≡ []
+page-list-free image frames table page is = ap (λ found. entries_of (option_map_or (λ frame. block_words (block_of image (first_frame frames + frame))) found (replicate 512 0))) is
+
+-- what a slot gives, where the object with its base was found
+pub slot-listed : (image : List (List ℕ)) (frames : ℕ) (table : List ℕ) (period password : ℕ) (row : ObjectRow) (found : Option (ℕ × ObjectRow)) → Some row ≡ option_map (λ (o : ℕ × ObjectRow). o.1) found
+    → row_listed image frames table period row password ≡ option_map_or (λ (o : ℕ × ObjectRow). row_listed image frames table period o.1 password) found []
+slot-listed image frames table period password row None is = absurd (cc)
+slot-listed image frames table period password row (Some o) is = let same : row ≡ o.1 = cc in ap (λ (r : ObjectRow). row_listed image frames table period r password) same
+
+-- one element more
+pub flat_map_more : {X Y : Type 0} (f : X → List Y) (xs : List X) (i : ℕ) (d : X) → i < length xs → flat_map f (take i xs) ++ f (get_or xs i d) ≡ flat_map f (take (i + 1) xs)
+flat_map_more f xs i d below =
+    ap (λ t. flat_map f (take i xs) ++ t) (sym (append-nil (f (get_or xs i d)))) ∙ sym (flat_map-append f (take i xs) (get_or xs i d ∷ [])) ∙ ap (flat_map f) (sym (take_more xs i d below))
