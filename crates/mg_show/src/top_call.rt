@@ -26,6 +26,8 @@ use std::alloc::Global;
 /// - `VOLUME`, or `VOLUME state`, puts the whole state, a line for each thing in it: what the volume was made with and its counters;
 ///   each account; each object with its passwords, entries and extension; each thread with its frames and their slots; and each
 ///   word that is not 0.
+/// - `VOLUME reach` puts who may reach what: for each thread and each object the letters of the rights that an access of the thread
+///   would have there now, and each entry at which it may enter.
 ///
 /// The disk is only read. [`Status::NoVolume`] comes exactly where it holds no volume, with the line `open not`, `open old` or `open
 /// damaged`. [`Status::Memory`] comes before anything is put. [`Status::Disk`] and [`Status::Sink`] come only where a call of the
