@@ -5,6 +5,7 @@ use crate::reading::read_session;
 use crate::report::Report;
 use crate::running::run_all;
 use crate::session::Session;
+use crate::showing::TEXTS;
 use crate::sweeps::{Sweep, sweep_all};
 use std::alloc::{AllocError, Global};
 use std::rt::{Env, Files};
@@ -49,24 +50,24 @@ fn check_file<R: Files + Print + AllocGlobal + Clone + Drop>(
     rt: &R,
     path: &str,
 ) -> io::Result<bool> {
-    let name = name_of(path);
     match fs::read(rt, path) {
-        Ok(bytes) => check_bytes(rt, name, &bytes),
+        Ok(bytes) => check_bytes(rt, path, &bytes),
         Err(_) => {
+            let name = name_of(path);
             println!(rt; "{name}: can't be read")?;
             Ok(false)
         }
     }
 }
 
-fn check_bytes<R: Print + AllocGlobal + Clone + Drop>(
+fn check_bytes<R: Files + Print + AllocGlobal + Clone + Drop>(
     rt: &R,
-    name: &str,
+    path: &str,
     bytes: &[u8],
 ) -> io::Result<bool> {
     let mut report = Report::new(rt.alloc());
-    let compared = compare(&mut report, bytes);
-    put_told(rt, name, compared, report.text())
+    let compared = compare(rt, &mut report, path, bytes);
+    put_told(rt, name_of(path), compared, report.text())
 }
 
 /// Puts the line of a file, and tells whether it is as it should be.
@@ -157,15 +158,75 @@ fn name_of(path: &str) -> &str {
 }
 
 /// How much of a file that is as it should be was compared.
-fn compare(report: &mut Report, bytes: &[u8]) -> Option<Compared> {
+fn compare<R: Files + AllocGlobal + Clone + Drop>(
+    rt: &R,
+    report: &mut Report,
+    path: &str,
+    bytes: &[u8],
+) -> Option<Compared> {
     match read_session(bytes) {
-        Ok(session) => compare_session(report, &session),
+        Ok(session) => compare_beside(rt, report, path, &session),
         Err(misread) => {
             let number = misread.number;
             let text = misread.text;
             report.put(format!(in report.alloc(); "line {number}: {text}"));
             None
         }
+    }
+}
+
+/// The same with the files beside that of the session, where it asks for them.
+fn compare_beside<R: Files + AllocGlobal + Clone + Drop>(
+    rt: &R,
+    report: &mut Report,
+    path: &str,
+    session: &Session<'_>,
+) -> Option<Compared> {
+    let mut texts = Vec::new(rt.alloc());
+    if session.settings.shows && !put_texts(rt, report, path, &mut texts) {
+        return None;
+    }
+    compare_session(
+        report,
+        &Session {
+            texts: &texts,
+            ..*session
+        },
+    )
+}
+
+/// Puts what the files of the texts hold into `texts`; false where one can't be read, or memory is wanting.
+fn put_texts<R: Files + AllocGlobal + Clone + Drop>(
+    rt: &R,
+    report: &mut Report,
+    path: &str,
+    texts: &mut Vec<Vec<u8>>,
+) -> bool {
+    let session = path.strip_suffix(".calls").unwrap_or(path);
+    for name in TEXTS {
+        if !put_text(rt, report, session, name, texts) {
+            return false;
+        }
+    }
+    true
+}
+
+fn put_text<R: Files + AllocGlobal + Clone + Drop>(
+    rt: &R,
+    report: &mut Report,
+    session: &str,
+    name: &str,
+    texts: &mut Vec<Vec<u8>>,
+) -> bool {
+    match format!(in rt.alloc(); "{session}.{name}") {
+        Ok(path) => match fs::read(rt, path.as_str()) {
+            Ok(bytes) => texts.push(bytes).is_ok(),
+            Err(_) => {
+                report.put(format!(in rt.alloc(); "the file of {name} can't be read"));
+                false
+            }
+        },
+        Err(_) => false,
     }
 }
 

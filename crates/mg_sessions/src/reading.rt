@@ -41,6 +41,7 @@ pub fn read_session(file: &[u8]) -> Result<Session<'_>, Misread> {
         None => Ok(Session {
             settings: told.settings,
             file,
+            texts: &[],
         }),
         Some(text) => Err(Misread { number: last, text }),
     }
@@ -96,6 +97,7 @@ fn set<'a>(settings: &mut Settings<'a>, text: &'a [u8]) -> Option<&'static str> 
         "faults" => settings.faults = Some(batch(value)),
         "streams" => settings.streams = Some(batch(value)),
         "saves" => settings.saves = true,
+        "shows" => settings.shows = true,
         _ => return Some("no such setting"),
     }
     None

@@ -4,6 +4,7 @@ use crate::lines::{Kind, Line, first_line, is_newline, line_of};
 use crate::parts::{Part, count_runs, part_of, place_behind, put, put_line};
 use crate::report::Report;
 use crate::session::{Session, Settings};
+use crate::showing::show_all;
 use mg_disk::{Left, MemDisk, ScratchDisk};
 use mg_session::Status;
 use mg_testing::{Outcome, Streams, command, volume};
@@ -191,8 +192,8 @@ fn run_on_copy(
     }
 }
 
-/// The runs one after the other on a volume, a stop between two of them; then `check`, and the same lines once more. Gives how
-/// many syncs the runs made.
+/// The runs one after the other on a volume, a stop between two of them; then `check`, the texts, and the same lines once more. Gives
+/// how many syncs the runs made.
 fn run_batch(
     report: &mut Report,
     session: &Session<'_>,
@@ -206,6 +207,7 @@ fn run_batch(
         syncs = syncs.saturating_add(more);
     }
     if check(report, way, disk, &mut told.check)
+        && shows(report, way, session, disk)
         && run_again(report, way, session.file, disk, &mut told.again)
     {
         Some(syncs)
@@ -253,16 +255,23 @@ pub fn reopen(alloc: Global, disk: &mut MemDisk) -> bool {
 fn check(report: &mut Report, way: &Way, disk: &mut MemDisk, told: &mut Option<Vec<u8>>) -> bool {
     match command(report.alloc(), "vol check", disk, &Streams::of(b"")) {
         Ok(outcome) => {
-            only_reads(report, way, disk) && same(report, way.how, "then check", told, &outcome.put)
+            only_reads(report, way, "then check makes a write or a sync", disk)
+                && same(report, way.how, "then check", told, &outcome.put)
         }
         Err(_) => false,
     }
 }
 
-fn only_reads(report: &mut Report, way: &Way, disk: &MemDisk) -> bool {
+/// Whether the texts that the session asks for are shown, with no write and no sync.
+fn shows(report: &mut Report, way: &Way, session: &Session<'_>, disk: &mut MemDisk) -> bool {
+    show_all(report, way.how, disk, session.texts)
+        && only_reads(report, way, "then a text makes a write or a sync", disk)
+}
+
+fn only_reads(report: &mut Report, way: &Way, what: &str, disk: &MemDisk) -> bool {
     let counts = disk.counts();
     if counts.writes != 0 || counts.syncs != 0 {
-        report.tell(way.how, "then check makes a write or a sync");
+        report.tell(way.how, what);
         return false;
     }
     true

@@ -20,13 +20,17 @@ pub struct Settings<'a> {
     pub streams: Option<&'a str>,
     /// Whether the runs are to make fewer syncs with batches of 64 lines than with one line each.
     pub saves: bool,
+    /// Whether files beside that of the session hold what is shown behind the last run.
+    pub shows: bool,
 }
 
-/// A session: its settings, and its file, which is its runs one after the other.
+/// A session: its settings, its file, which is its runs one after the other, and the texts that are to be shown behind the last run:
+/// none where the settings ask for none.
 #[derive(Clone, Copy)]
 pub struct Session<'a> {
     pub settings: Settings<'a>,
     pub file: &'a [u8],
+    pub texts: &'a [Vec<u8>],
 }
 
 impl<'a> Settings<'a> {
@@ -42,6 +46,7 @@ impl<'a> Settings<'a> {
             faults: None,
             streams: None,
             saves: false,
+            shows: false,
         }
     }
 
