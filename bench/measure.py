@@ -2,15 +2,16 @@
 """Measures the program in one run on one machine: durable stores beside the least that the protocol asks of the disk and beside SQLite,
 openings beside reading the file, lines a second that are kept nowhere, instructions a line, and calls of the disk.
 
-    bench/measure.py [--program PATH] [--folder FOLDER] [--seconds S] [--svg FILE]
+    bench/measure.py [--program PATH] [--before PATH] [--folder FOLDER] [--seconds S] [--svg FILE]
     bench/measure.py --full [--program PATH] [--mirror PATH] [--folder FOLDER]
 
-It puts one table. A rate of mungi is that of a run less a run on no lines, both with the page cache warm. The floor is the rate of
-bench/floor.c, which makes just the calls of the system that the protocol asks for; the system's C compiler builds it. A rate of SQLite
-is that of the same number of updates of one row each, with journal_mode WAL and synchronous FULL, in transactions of as many updates as
-a batch has lines. A row fills a page of SQLite's as a store's page fills one of mungi's. Instructions are counted by valgrind's callgrind
-and calls by strace. Where one of these tools is not there, its rows are left out, and that is said on standard error. --svg draws the
-ratios to the floor and to SQLite.
+It puts one table. A rate of mungi is that of a run less a run on no lines, both with the page cache warm; lines come from a file, and
+answers go into one. The floor is the rate of bench/floor.c, which makes just the calls of the system that the protocol asks for; the
+system's C compiler builds it. A rate of SQLite is that of updates of one row each, with journal_mode WAL and synchronous FULL, in
+transactions of as many updates as a batch has lines. A row fills a page of SQLite's as a store's page fills one of mungi's. What stands
+side by side is run in turn, four times each, and the fastest run of each counts. Instructions are counted by valgrind's callgrind and
+calls by strace. Where one of these tools is not there, its rows are left out, and that is said on standard error. --before names
+another build of the program, whose time for a million lines stands beside. --svg draws the ratios to the floor and to SQLite.
 
 With --full it measures a full volume instead: 65,536 frames, 4,096 objects, 61,426 pages and 256 threads. Openings stand beside `cat`
 of the blocks up to the end of the frame table, least of 20 with the page cache warm, and of 5 where it is dropped before each, which
@@ -18,6 +19,7 @@ takes a system that lets it be dropped; a migration, and a mirror's copy by the 
 without. Their ratio is that of the speeds.
 """
 import argparse
+import itertools
 import os
 import re
 import shutil
@@ -37,10 +39,16 @@ SEED = "0" * 64
 TREASURY = "0x28bd8653e56a5d40"
 CREDITS = str(2**62)
 LOAD = "1 load 0x100000000"
+# A store into the page of the thread's own list.
 STORE = "1 store 0x100000008 7"
+# A store into the first page of an object that is no list, and the lines that make it.
+STORE_ASIDE = "1 store 0x100001008 7"
+ASIDE = [f"1 create 1 1 {TREASURY}", "1 store 0x100000020 0x100001000", "1 store 0x100000028 0x1aed8da0b819d2bd", "1 store 0x100000000 2"]
 PAGES = (1, 24, 1000)
 # What is wanted of the ratio to the floor.
 WANTED = 0.9
+# How often each run is made, in turn with those that stand beside it.
+ROUNDS = 4
 
 
 def text_of(lines):
@@ -54,15 +62,38 @@ def mungi(program, words, lines=()):
     return time.perf_counter() - begun, done.stdout.decode().splitlines()
 
 
-def rate(run, seconds):
-    """Lines a second: `run` takes so many lines and gives its seconds, those of no lines are taken off."""
-    empty = min(run(0) for _ in range(3))
+def timed(program, words, lines, folder):
+    """Runs these lines from a file, with the answers into one, and gives the seconds of the program alone; each is to be answered `ok`."""
+    source, answers = f"{folder}/lines", f"{folder}/answers"
+    Path(source).write_bytes(text_of(lines))
+    with open(source, "rb") as given, open(answers, "wb") as put:
+        begun = time.perf_counter()
+        subprocess.run([program, *words], stdin=given, stdout=put, check=True)
+        took = time.perf_counter() - begun
+    assert all(line.startswith(b"ok") for line in Path(answers).read_bytes().splitlines())
+    return took
+
+
+def count_for(run, seconds):
+    """So many lines, a power of two, that a run of them takes so many seconds."""
     count = 64
-    while True:
-        took = run(count) - empty
-        if took > seconds or count >= 1 << 22:
-            return count / took
+    while count < 1 << 22 and run(count) < seconds:
         count *= 2
+    return count
+
+
+def rates(runs, seconds):
+    """Lines a second of each, over runs that take so many seconds."""
+    return rates_of(runs, [count_for(run, seconds) for run in runs])
+
+
+def rates_of(runs, counts):
+    """Lines a second of each, the highest of four runs of each that are made in turn: noise only makes a run slower."""
+    best = [0.0] * len(runs)
+    for _ in range(ROUNDS):
+        for place, run in enumerate(runs):
+            best[place] = max(best[place], counts[place] / run(counts[place]))
+    return best
 
 
 def volume_with(program, volume, pages):
@@ -77,16 +108,17 @@ def volume_with(program, volume, pages):
     return int(base, 16)
 
 
-def store_rate(program, volume, pages, batch, seconds):
+def stores(program, volume, pages, batch, folder):
+    """Runs of stores over the pages of a new volume, so many to a commit, and their seconds."""
     base = volume_with(program, volume, pages)
+    words = [volume, "run", str(batch)]
+    empty = min(timed(program, words, [], folder) for _ in range(3))
 
     def run(count):
         lines = [f"1 store {base + 4096 * (i * 7 % pages) + 8 * (i % 512)} {i}" for i in range(count)]
-        took, put = mungi(program, [volume, "run", str(batch)], lines)
-        assert put == ["ok"] * count
-        return took
+        return timed(program, words, lines, folder) - empty
 
-    return rate(run, seconds)
+    return run
 
 
 def floor_of(folder):
@@ -99,18 +131,19 @@ def floor_of(folder):
     return f"{folder}/floor"
 
 
-def floor_rate(floor, volume, pages, batch, seconds):
-    """Stores a second of the floor, on a copy of a volume with so many pages."""
+def floor_stores(floor, volume, pages, batch):
+    """The same of the floor, on a copy of that volume."""
     shutil.copy(volume, volume + ".floor")
 
     def run(count):
         done = subprocess.run([floor, volume + ".floor", str(count), str(batch), str(pages)], stdout=subprocess.PIPE, check=True)
         return float(done.stdout)
 
-    return rate(run, seconds)
+    return run
 
 
-def sqlite_rate(path, pages, batch, seconds):
+def sqlite_updates(path, pages, batch):
+    """Runs of updates of a row each, so many to a transaction, and their seconds."""
     for name in (path, path + "-wal", path + "-shm"):
         Path(name).unlink(missing_ok=True)
     base = sqlite3.connect(path, isolation_level=None)
@@ -122,19 +155,19 @@ def sqlite_rate(path, pages, batch, seconds):
     for k in range(pages):
         base.execute("INSERT INTO pages VALUES (?, 0, ?)", (k, bytes(3900)))
     base.execute("COMMIT")
-    done, begun = 0, time.perf_counter()
-    while True:
-        # Each update has another value: one that changes nothing is not written.
-        for first in range(done, done + 64, batch):
+    value = itertools.count(1)
+
+    # Each update has another value: one that changes nothing is not written.
+    def run(count):
+        begun = time.perf_counter()
+        for first in range(0, count, batch):
             base.execute("BEGIN")
             for i in range(first, first + batch):
-                base.execute("UPDATE pages SET v = ? WHERE k = ?", (i + 1, i * 7 % pages))
+                base.execute("UPDATE pages SET v = ? WHERE k = ?", (next(value), i * 7 % pages))
             base.execute("COMMIT")
-        done += 64
-        took = time.perf_counter() - begun
-        if took > seconds:
-            base.close()
-            return done / took
+        return time.perf_counter() - begun
+
+    return run
 
 
 def machine_with(objects):
@@ -146,15 +179,40 @@ def dry(frames=65536):
     return ["x", "dry", str(frames), SEED, CREDITS]
 
 
-def dry_rate(program, line, objects, seconds):
-    before = machine_with(objects)
+def dry_runs(program, line, before, folder):
+    """Runs of a line behind some others, and their seconds."""
+    empty = min(timed(program, dry(), before, folder) for _ in range(ROUNDS))
+    return lambda count: timed(program, dry(), before + [line] * count, folder) - empty
+
+
+def gen_runs(program):
+    """Runs of so many generated lines, and their seconds."""
 
     def run(count):
-        took, put = mungi(program, dry(), before + [line] * count)
-        assert all(answer.startswith("ok") for answer in put)
-        return took
+        begun = time.perf_counter()
+        subprocess.run([program, "x", "gen", "7", str(count)], stdout=subprocess.DEVNULL, check=True)
+        return time.perf_counter() - begun
 
-    return rate(run, seconds)
+    empty = min(run(0) for _ in range(ROUNDS))
+    return lambda count: run(count) - empty
+
+
+def measure_millions(program, before, folder):
+    """A million lines of each kind by the clock, the least of four runs, in turn with those of the program of before."""
+    kinds = {
+        "`1 load B`, 1 object": (LOAD, []),
+        "`1 load B`, 4,096 objects": (LOAD, machine_with(4096)),
+        "`1 store A V` into a first page": (STORE_ASIDE, ASIDE),
+        "`1 store A V` into the thread's list": (STORE, []),
+        "`2 turn`, a jump": ("2 turn", jumping(1)),
+        "`next`, a jump, 1 Ready": ("next", jumping(1)),
+        "`next`, a jump, 255 Ready": ("next", jumping(255)),
+        "`gen`": None,
+    }
+    for name, kind in kinds.items():
+        runs = [gen_runs(each) if kind is None else dry_runs(each, *kind, folder) for each in (program, before) if each]
+        now, *was = (1e6 / rate for rate in rates_of(runs, [1000000] * len(runs)))
+        row(f"a million lines: {name}", f"{now:.3f} s", *(f"before {took:.3f} s" for took in was), *(f"{now / took:.2f}" for took in was))
 
 
 def counted(command, lines=()):
@@ -237,6 +295,28 @@ def cold(command):
     return min(times)
 
 
+def system_calls(command):
+    """How many calls of the system a command makes; None where strace is not there."""
+    if shutil.which("strace") is None:
+        return None
+    done = subprocess.run(["strace", "-f", *command], stdin=subprocess.DEVNULL, stdout=subprocess.DEVNULL, stderr=subprocess.PIPE, check=True)
+    return sum(b"(" in line for line in done.stderr.splitlines())
+
+
+def page_faults(command):
+    """How many pages of memory a command touches for the first time."""
+    process = subprocess.Popen(command, stdin=subprocess.DEVNULL, stdout=subprocess.DEVNULL)
+    _, _, usage = os.wait4(process.pid, 0)
+    return usage.ru_minflt
+
+
+def cost_of(name, command):
+    counts = [f"{page_faults(command):,} page faults", f"{system_calls(command) or 0:,} calls"]
+    if shutil.which("valgrind"):
+        counts.append(f"{counted(command):,} instructions")
+    row(f"{name}, page cache warm", ", ".join(counts))
+
+
 def measure_full(program, mirror, folder):
     volume, head, old, new = (f"{folder}/{name}" for name in ("vol", "head", "old", "new"))
     full_volume(program, volume)
@@ -252,6 +332,9 @@ def measure_full(program, mirror, folder):
         for command in ("run", "check"):
             took = time_of([program, volume, command])
             row(f"`{command}` on no lines, page cache {cache}", f"{1000 * took:.1f} ms", f"`cat` {1000 * reading:.1f} ms", f"{took / reading:.2f}")
+    cost_of("`run` on no lines", [program, volume, "run"])
+    cost_of("`check`", [program, volume, "check"])
+    cost_of("`cat`", ["cat", head])
     version1(volume, old)
     copies_beside_cp("migration of a full volume", [program, new, "migrate", old], old, new)
     if mirror is None:
@@ -305,6 +388,7 @@ def main():
     parser.add_argument("--program")
     parser.add_argument("--mirror")
     parser.add_argument("--folder")
+    parser.add_argument("--before")
     parser.add_argument("--seconds", type=float, default=2.0)
     parser.add_argument("--svg")
     parser.add_argument("--full", action="store_true")
@@ -328,12 +412,13 @@ def main():
         for batch in (1, 64):
             for pages in PAGES:
                 name = f"durable stores a second, {batch} to a commit, {pages:,} pages"
-                ours = store_rate(program, volume, pages, batch, words.seconds)
-                least_calls = floor and floor_rate(floor, volume, pages, batch, words.seconds)
-                theirs = sqlite_rate(folder + "/base", pages, batch, words.seconds)
-                ratios[(batch, pages)] = (ours / least_calls if floor else None, ours / theirs)
+                runs = [stores(program, volume, pages, batch, folder), sqlite_updates(folder + "/base", pages, batch)]
                 if floor:
-                    row(name, f"{ours:,.0f}", f"floor {least_calls:,.0f}", f"{ours / least_calls:.2f}")
+                    runs.append(floor_stores(floor, volume, pages, batch))
+                ours, theirs, *least_calls = rates(runs, words.seconds)
+                ratios[(batch, pages)] = (ours / least_calls[0] if floor else None, ours / theirs)
+                if floor:
+                    row(name, f"{ours:,.0f}", f"floor {least_calls[0]:,.0f}", f"{ours / least_calls[0]:.2f}")
                 row(name, f"{ours:,.0f}", f"SQLite {theirs:,.0f}", f"{ours / theirs:.2f}")
         opening, reading = least([program, volume, "run"]), least(["cat", volume])
         row(f"opening a volume of {os.stat(volume).st_size >> 20} MB", f"{1000 * opening:.1f} ms", f"`cat` of it {1000 * reading:.1f} ms", f"{opening / reading:.1f}")
@@ -344,15 +429,14 @@ def main():
             row("syncs a commit, of 800 of one store", f"{syncs / 800:.2f}")
         else:
             print("strace is not there: no counts of calls", file=sys.stderr)
-    for objects in (1, 4096):
-        row(f"loads a second under `dry`, {objects:,} objects", f"{dry_rate(program, LOAD, objects, words.seconds):,.0f}")
-    row("stores a second under `dry`", f"{dry_rate(program, STORE, 1, words.seconds):,.0f}")
-    row("lines a second of `gen`", f"{1000000 / (mungi(program, ['x', 'gen', '7', '1000000'])[0] - mungi(program, ['x', 'gen', '7', '0'])[0]):,.0f}")
+    with tempfile.TemporaryDirectory(dir=words.folder) as folder:
+        measure_millions(program, words.before and os.path.abspath(words.before), folder)
     if shutil.which("valgrind"):
         loads = {objects: instructions(program, LOAD, machine_with(objects)) for objects in (1, 64, 4096)}
         for objects, count in loads.items():
             row(f"instructions of a load, {objects:,} objects", f"{count:,.0f}", "1 object", f"{count / loads[1]:.2f}")
-        row("instructions of a store into a first page", f"{instructions(program, STORE):,.0f}")
+        row("instructions of a store into a first page", f"{instructions(program, STORE_ASIDE, ASIDE):,.0f}")
+        row("instructions of a store into the page of the thread's list", f"{instructions(program, STORE):,.0f}")
         row("instructions of a turn that jumps", f"{instructions(program, '2 turn', jumping(1)):,.0f}")
         turns = {threads: instructions(program, "next", jumping(threads)) for threads in (1, 255)}
         for threads, count in turns.items():
