@@ -1,12 +1,24 @@
 // From a reply to its line.
-ghost use Rattle.std.specs.Prelude.{◌≡◌, ◌+◌, ◌≤◌, ◌<◌, [], ◌∷◌, ◌++◌, length, map};
+ghost use Rattle.std.specs.Prelude.{◌≡◌, ◌+◌, ◌/◌, ◌%◌, ◌≤◌, ◌<◌, [], ◌∷◌, ◌++◌, drop, length, map};
 ghost use Rattle.std.specs.Fmt.{decimal};
 ghost use Rattle.arrayvec.specs.ArrayVec.{array_vec_len};
+ghost use Rattle.mg_model.specs.declared.replies.Reply.TheVariants as reply;
 ghost use Rattle.mg_model.specs.Print.{after_text, hex_digit, hex_digits, hex_text, refusal_text, reply_line, reply_text, spaced};
 ghost use Rattle.mg_model.specs.FewSlots.{HasFewSlots};
 
 use arrayvec::ArrayVec;
 use mg_model::{After, Fault, Refusal, Reply};
+
+/// The two hexadecimal digits of each byte, one after the other.
+static PAIRS: [u8; 512] = *b"\
+    000102030405060708090a0b0c0d0e0f101112131415161718191a1b1c1d1e1f\
+    202122232425262728292a2b2c2d2e2f303132333435363738393a3b3c3d3e3f\
+    404142434445464748494a4b4c4d4e4f505152535455565758595a5b5c5d5e5f\
+    606162636465666768696a6b6c6d6e6f707172737475767778797a7b7c7d7e7f\
+    808182838485868788898a8b8c8d8e8f909192939495969798999a9b9c9d9e9f\
+    a0a1a2a3a4a5a6a7a8a9aaabacadaeafb0b1b2b3b4b5b6b7b8b9babbbcbdbebf\
+    c0c1c2c3c4c5c6c7c8c9cacbcccdcecfd0d1d2d3d4d5d6d7d8d9dadbdcdddedf\
+    e0e1e2e3e4e5e6e7e8e9eaebecedeeeff0f1f2f3f4f5f6f7f8f9fafbfcfdfeff";
 
 /// The line of a reply.
 pub(crate) type Buffer = ArrayVec<u8, 256>;
@@ -20,6 +32,15 @@ pub fn print_reply(r: &Reply, out: &mut ArrayVec<u8, 256>)
 {
     push_reply(r, out);
     out.push(b'\n');
+}
+
+/// The line of a word that was read, with its newline: what `print_reply` writes of `Value`.
+pub fn value_line(w: u64) -> [u8; 22]
+    ensures { result ≡ reply_line (reply.Value w) }
+{
+    let mut line = *b"ok 0x................\n";
+    line[5..21].copy_from_slice(&hex_digits(w));
+    line
 }
 
 /// Writes a reply without its newline.
@@ -158,18 +179,24 @@ fn hex_digits(w: u64) -> [u8; 16]
 {
     let mut digits = [b'0'; 16];
     let mut rest = w;
-    for i in 0..16 {
-        digits[15 - i] = hex_glyph((rest % 16) as u8);
-        rest /= 16;
+    for i in 0..8 {
+        put_pair(rest % 256, &mut digits, 14 - 2 * i);
+        rest /= 256;
     }
     digits
 }
 
-fn hex_glyph(d: u8) -> u8
-    requires { d < 16 }
-    ensures { result ≡ hex_digit d }
+/// Puts the two digits of a byte at a place.
+#[inline]
+fn put_pair(byte: u64, digits: &mut [u8; 16], at: usize)
+    requires byte { byte < 256 }
+    requires room { at + 2 ≤ 16 }
+    ensures size { length digits.new ≡ 16 }
+    ensures pair { drop at digits.new ≡ hex_digit (byte / 16) ∷ hex_digit (byte % 16) ∷ drop (at + 2) digits.old }
 {
-    if d < 10 { b'0' + d } else { b'a' + d - 10 }
+    let from = byte as usize * 2;
+    digits[at] = PAIRS[from];
+    digits[at + 1] = PAIRS[from + 1];
 }
 
 fn push_words(out: &mut Buffer, ws: &[u64])
