@@ -53,5 +53,13 @@ pub(crate) fn at_blank(bytes: &[u8]) -> bool
 pub fn is_word(word: &[u8], known: &[u8]) -> bool
     ensures { result ≡ same_bytes word.now known.now }
 {
-    word == known
+    if word.len() != known.len() {
+        return false;
+    }
+    for i in 0..known.len() {
+        if word[i] != known[i] {
+            return false;
+        }
+    }
+    true
 }
