@@ -18,7 +18,18 @@ pub fn read_call(word: &[u8], args: &[u8]) -> Option<Call>
         Some(one(args).map_or(Call::Bad, |a| Call::Load { a }))
     } else if is_word(word, b"store") {
         Some(two(args).map_or(Call::Bad, |(a, value)| Call::Store { a, value }))
-    } else if is_word(word, b"create") {
+    } else {
+        object_call(word, args)
+    }
+}
+
+/// The same, of the other calls on objects, and of those that follow in the table. It is not inlined, so that the two most
+/// frequent calls don't pay for what it needs.
+#[inline(never)]
+fn object_call(word: &[u8], args: &[u8]) -> Option<Call>
+    ensures { result ≡ call_by (drop 2 call_table) word.now (words args.now) }
+{
+    if is_word(word, b"create") {
         Some(three(args).map_or(
             Call::Bad,
             |(pages, account, password)| Call::Create {
