@@ -1,12 +1,12 @@
 // The replies that wait to be put.
-ghost use Rattle.std.specs.Prelude.{◌≡◌, ◌+◌, ◌<◌, ◌≤◌, ◌++◌, IfOk};
+ghost use Rattle.std.specs.Prelude.{◌≡◌, ◌+◌, ◌<◌, ◌≤◌, ◌++◌, IfOk, length, vec_capacity, vec_len};
 ghost use Rattle.mg_model.specs.Print.{reply_line};
 ghost use Rattle.mg_serve.specs.Waiting.{no_replies};
 ghost use Rattle.mg_model.specs.FewSlots.{HasFewSlots};
 
 use arrayvec::ArrayVec;
 use mg_model::Reply;
-use mg_text::print_reply;
+use mg_text::{print_reply, value_line};
 use std::alloc::{AllocError, Global};
 use std::marker::Model;
 
@@ -21,7 +21,7 @@ const ROOM: usize = 64 * 256;
 #[derive(Drop)]
 pub struct Buffers {
     bytes: Vec<u8>,
-    // The last line that was added, kept here so that no other is cleared for the next one.
+    // A line that is made of parts, kept here so that no other is cleared for the next one.
     line: ArrayVec<u8, 256>,
     count: u64,
 }
@@ -62,11 +62,14 @@ impl Buffers {
           count = self.old.count + 1;
         } }
     {
-        self.line.clear();
-        print_reply(reply, &mut self.line);
-        match self.bytes.extend_from_slice(self.line.as_slice()) {
-            Ok(()) => (),
-            Err(_) => unreachable!(),
+        match reply {
+            Reply::Value(w) => put(&mut self.bytes, &value_line(*w)),
+            Reply::Done => put(&mut self.bytes, b"ok\n"),
+            _ => {
+                self.line.clear();
+                print_reply(reply, &mut self.line);
+                put(&mut self.bytes, self.line.as_slice());
+            }
         }
         self.count += 1;
     }
@@ -92,5 +95,17 @@ impl Buffers {
     {
         self.bytes.clear();
         self.count = 0;
+    }
+}
+
+/// Puts a text behind those that wait; there is room for it.
+fn put(bytes: &mut Vec<u8>, text: &[u8])
+    requires { vec_len bytes.old + length text.now ≤ vec_capacity bytes.old }
+    ensures text { bytes.new.items ≡ bytes.old.items ++ text.now }
+    ensures room { vec_capacity bytes.old ≤ vec_capacity bytes.new }
+{
+    match bytes.extend_from_slice(text) {
+        Ok(()) => (),
+        Err(_) => unreachable!(),
     }
 }
