@@ -1,0 +1,7 @@
+mod Cutting
+mod ObjectsTold
+mod SettingsTold
+mod StateTold
+mod ThreadsTold
+mod ValuesTold
+mod WordsTold
