@@ -9,8 +9,12 @@ mod StateParts
 mod Finished
 mod RowsShown
 mod RightBits
+mod Letters
 mod Marked
 mod ListEntries
 mod FoundSteps
+mod ByBytes
+mod Drawing
 mod ReachTexts
 mod Reaching
+mod DrawnState

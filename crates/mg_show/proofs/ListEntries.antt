@@ -43,6 +43,33 @@ block-entries-more block k at base password below at_is b p =
     ∙ ap (λ v. entries_from (block_words block) 0 k ++ (base, v) ∷ []) (word-of block (3 + 2 * k) (at + 24) (omega arith) (omega arith) ∙ sym p)
     )
 
+-- how many there are, and one of them
+pub length-entries : (words : List ℕ) (j n : ℕ) → length (entries_from words j n) ≡ n
+length-entries words j zero = refl
+length-entries words j (suc n) = ap suc (length-entries words (j + 1) n)
+
+entry-from : (words : List ℕ) (j n k : ℕ) (d : ℕ × ℕ) → k < n → get_or (entries_from words j n) k d ≡ (slice_index words (2 + 2 * (j + k)), slice_index words (3 + 2 * (j + k)))
+entry-from words j zero k d below = absurd (omega arith)
+entry-from words j (suc n) zero d below = let e : j ≡ j + 0 = omega arith in ap (λ i. (slice_index words (2 + 2 * i), slice_index words (3 + 2 * i))) e
+entry-from words j (suc n) (suc k) d below =
+    let e : j + 1 + k ≡ j + suc k = omega arith in
+    entry-from words (j + 1) n k d (omega arith) ∙ ap (λ i. (slice_index words (2 + 2 * i), slice_index words (3 + 2 * i))) e
+
+-- the entries of the list in a block, whose count is its first number
+module _ (block : List ℕ) (count n : ℕ) (first : count ≡ number_at block 0) (few : n ≡ min count 255) where
+  pub block-count : length (entries_of (block_words block)) ≡ n
+  block-count = length-entries (block_words block) 0 (min (slice_index (block_words block) 0) 255) ∙ ap (λ v. min v 255) (word-of block 0 0 (omega arith) refl ∙ sym first) ∙ sym few
+
+  pub block-entry : (k at base password : ℕ) (d : ℕ × ℕ) → k < n → k < 255 → at ≡ 16 * k → base ≡ number_at block (at + 16) → password ≡ number_at block (at + 24)
+      → get_or (entries_of (block_words block)) k d ≡ (base, password)
+  block-entry k at base password d below under at_is b p =
+      let e : 0 + k ≡ k = omega arith in
+      let long : min (slice_index (block_words block) 0) 255 ≡ n = ap (λ v. min v 255) (word-of block 0 0 (omega arith) refl ∙ sym first) ∙ sym few in
+      entry-from (block_words block) 0 (min (slice_index (block_words block) 0) 255) k d (omega arith)
+      ∙ ap (λ i. (slice_index (block_words block) (2 + 2 * i), slice_index (block_words block) (3 + 2 * i))) e
+      ∙ ap (λ v. (v, slice_index (block_words block) (3 + 2 * k))) (word-of block (2 + 2 * k) (at + 16) (omega arith) (omega arith) ∙ sym b)
+      ∙ ap (λ v. (base, v)) (word-of block (3 + 2 * k) (at + 24) (omega arith) (omega arith) ∙ sym p)
+
 -- all of them
 pub block-entries-all : (block : List ℕ) (n count : ℕ) → count ≡ number_at block 0 → n ≡ min count 255 → entries_from (block_words block) 0 n ≡ entries_of (block_words block)
 block-entries-all block n count c is = ap (entries_from (block_words block) 0) (is ∙ ap (λ v. min v 255) (c ∙ sym (word-of block 0 0 (omega arith) refl)))

@@ -11,6 +11,7 @@ use Rattle.mg_model.specs.Ranges.{IsObjectRow}
 use Rattle.mg_model.specs.Rights.{has_right}
 use Rattle.mg_model.specs.State.{ObjectRow}
 use Rattle.mg_objects.specs.Held.{AreApart}
+use Rattle.mg_show.proofs.Letters.{none-has, or_false}
 use Rattle.mg_show.specs.Reached.{IsCut, IsPlaceOf, Marks, given}
 
 -- bases rise
@@ -62,10 +63,6 @@ module _ (objects : List (ℕ × ObjectRow)) (base m : ℕ) (row : ObjectRow) (r
 
 -- Bytes that have more rights
 
-or_false : (b : Bool) → (b || false) ≡ b
-or_false true = refl
-or_false false = refl
-
 or_assoc : (a b c : Bool) → ((a || b) || c) ≡ (a || (b || c))
 or_assoc true b c = refl
 or_assoc false b c = refl
@@ -85,6 +82,12 @@ module _ (objects : List (ℕ × ObjectRow)) (period : ℕ) where
         ∙ or_assoc (has_right (slice_index a i) right) (given period p row right) (given period q row right)
         ∙ ap (λ v. has_right (slice_index a i) right || v) (sym (list_any-append test p q));
   }
+
+  -- where no byte had a right, each has those that the capabilities give
+  pub marks-given : (capabilities : List (ℕ × ℕ)) (zeros bytes : List ℕ) → ((i : ℕ) → slice_index zeros i ≡ 0) → Marks objects period capabilities zeros bytes
+      → (i : ℕ) → i < length objects → (d : ℕ × ObjectRow) → (right : Right) → has_right (slice_index bytes i) right ≡ given period capabilities (slice_index_or objects i d).1 right
+  marks-given capabilities zeros bytes none marks i below d right =
+      marks.rights i below d right ∙ ap (λ v. v || given period capabilities (slice_index_or objects i d).1 right) (ap (λ n. has_right n right) (none i) ∙ none-has 0 refl right)
 
   module _ (base password : ℕ) (bytes : List ℕ) where
     other_row : (row : ObjectRow) (right : Right) → row.base ≢ base → given period ((base, password) ∷ []) row right ≡ false

@@ -19,11 +19,11 @@ use Rattle.mg_model.specs.State.{Object, ObjectRow, State, Thread, ThreadRow}
 use Rattle.mg_model.specs.Volume.{object_spelled, page_words, pages_words}
 use Rattle.mg_objects.specs.Held.{AreApart, by_base, into_place, live_from, objects_in}
 use Rattle.mg_show.proofs.ObjectsInOrder.{live-same, objects-in-order}
-use Rattle.mg_show.proofs.ReachTexts.{letters_same}
+use Rattle.mg_show.proofs.Letters.{letters_same}
 use Rattle.mg_show.proofs.RowsKept.{apart_kept}
 use Rattle.mg_show.proofs.WordTexts.{length-page_words}
-use Rattle.mg_show.specs.Reached.{enter_line, given, letters_by, objects_reach, row_listed, row_reach, slot_listed, slots_listed, thread_reached, threads_reached}
-use Rattle.mg_show.specs.ReachText.{enter_lines, reach_line, reach_text, rights_now, thread_reach}
+use Rattle.mg_show.specs.Reached.{enter_line, given, objects_reach, row_listed, row_reach, slot_listed, slots_listed, thread_reached, threads_reached}
+use Rattle.mg_show.specs.ReachText.{enter_lines, letters_by, reach_line, reach_text, rights_now, thread_reach}
 
 -- the same at each element
 pub flat_map_same : {X Y : Type 0} (f g : X → List Y) (xs : List X) → ((i : ℕ) → i < length xs → (d : X) → f (get_or xs i d) ≡ g (get_or xs i d)) → flat_map f xs ≡ flat_map g xs
@@ -57,7 +57,7 @@ module _ (image : List (List ℕ)) (frames : ℕ) (table : List ℕ) where
   abbrev spelled : ℕ × ObjectRow → Object
   spelled o = object_spelled image frames table o.1
 
-  list_first : (page n : ℕ) → 1 ≤ n → entries_of (pages_words image frames table page n) ≡ entries_of (page_words image frames table page)
+  pub list_first : (page n : ℕ) → 1 ≤ n → entries_of (pages_words image frames table page n) ≡ entries_of (page_words image frames table page)
   list_first page zero some = absurd (omega arith)
   list_first page (suc n) some = entries_first (page_words image frames table page) (pages_words image frames table (page + 1) n) (length-page_words image frames table page)
 

@@ -98,6 +98,18 @@ module _ {D K : Type 0} (facts : disks.Ghosts D) (to : sinks.Ghosts K) (of : Ima
       sink_failed = λ e. then_rose (to.faults s) (to.faults s') (to.faults s'') (to.is_spent s) (to.is_spent s') (to.is_spent s'') so_far.goes_on failed.rose;
     }
 
+    -- text that needs no disk behind it
+    pub shown_put : (text p'' : List ℕ) (whole : Image → List ℕ) → ((r : Image) → a r ++ text ≡ whole r) → HasPut to s' s'' p' p'' text → Shows facts to of whole (Ok tt) d d' s s'' p p''
+    shown_put text p'' whole is put = record {
+      adds = λ r told.
+          subst (λ t. Adds (to.taken s) (to.taken s'') p p'' t) (is r) (Adds-then (to.taken s) (to.taken s') (to.taken s'') p p' p'' (a r) text (so_far.adds r told) put.adds);
+      goes_on = count_then (to.faults s) (to.faults s') (to.faults s'') (to.is_spent s) (to.is_spent s') (to.is_spent s'') so_far.goes_on put.goes_on;
+      prefix = tt;
+      reads = so_far.reads;
+      disk_failed = λ e. absurd (cc);
+      sink_failed = λ e. absurd (cc);
+    }
+
     -- a call behind it, whatever it answers
     pub shown_tail : (b ab : Image → List ℕ) (result : Result (Unit {0}) ShowFault) (d'' : D) (p'' : List ℕ) → ((r : Image) → a r ++ b r ≡ ab r) → Shows facts to of b result d' d'' s' s'' p' p'' → Shows facts to of ab result d d'' s s'' p p''
     shown_tail b ab (Ok tt) d'' p'' is shown = shown_all ab ab d d'' s s'' p p'' (λ r. refl) (shown_then a b d d' d'' s s' s'' p p' p'' so_far ab is shown)

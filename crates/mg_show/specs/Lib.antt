@@ -1,6 +1,7 @@
--- The text of a state and of who may reach what, the words of the command line, and what is promised.
+-- The text of a state, of who may reach what and of a graph, the words of the command line, and what is promised.
 pub mod StateText
 pub mod ReachText
+pub mod DotText
 pub mod Told
 pub mod Commands
 pub mod Putting
@@ -10,3 +11,4 @@ pub mod WordText
 pub mod RowsText
 pub mod Shown
 pub mod Reached
+pub mod Drawn

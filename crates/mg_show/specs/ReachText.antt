@@ -1,5 +1,5 @@
 -- Who may reach what, as text: for each thread and object the rights of the moment, exactly as an access is judged.
-use Rattle.std.specs.Prelude.{ℕ, List, [], ◌∷◌, ◌++◌, codes, filter, flat_map, map}
+use Rattle.std.specs.Prelude.{ℕ, Bool, List, [], ◌∷◌, ◌++◌, codes, filter, flat_map, map}
 use Rattle.std.specs.Fmt.{decimal}
 use Rattle.mg_model.specs.declared.rights.Right.{Right}
 use Rattle.mg_model.specs.declared.rights.Right.TheVariants.{R, W, X, D, P, O}
@@ -11,6 +11,10 @@ use Rattle.mg_show.specs.StateText.{line}
 -- the letter of each right
 abbrev pub letters : List (ℕ × Right)
 letters = (82, R) ∷ (87, W) ∷ (88, X) ∷ (68, D) ∷ (80, P) ∷ (79, O) ∷ []
+
+-- the letters of the rights that pass
+abbrev pub letters_by : (Right → Bool) → List ℕ
+letters_by has = map (λ (l : ℕ × Right). l.0) (filter (λ (l : ℕ × Right). has l.1) letters)
 
 -- the letters of the rights that a thread has now on the object with this base
 abbrev pub rights_now : State → ℕ → ℕ → List ℕ

@@ -1,5 +1,5 @@
 -- The rights that a walk over capability lists finds, object by object, and their text.
-use Rattle.std.specs.Prelude.{◌≡◌, ℕ, ◌+◌, ◌<◌, ◌≤◌, ◌%◌, ◌==◌, ◌&&◌, ◌||◌, Bool, List, [], ◌∷◌, ◌++◌, codes, filter, find, flat_map, if◌then◌else◌, length, map, OnErr, OnOk, Option, Result, slice_index, slice_index_or}
+use Rattle.std.specs.Prelude.{◌≡◌, ℕ, ◌+◌, ◌<◌, ◌≤◌, ◌%◌, ◌==◌, ◌&&◌, ◌||◌, Bool, List, [], ◌∷◌, ◌++◌, codes, find, flat_map, if◌then◌else◌, length, OnErr, OnOk, Option, Result, slice_index, slice_index_or}
 use Rattle.std.specs.Fmt.{decimal}
 use Rattle.std.specs.List.{AllWithin, list_any}
 use Rattle.std.specs.Option.{ForSome, option_map_or}
@@ -16,7 +16,7 @@ use Rattle.mg_model.specs.Print.{hex_text}
 use Rattle.mg_model.specs.Rights.{has_right}
 use Rattle.mg_model.specs.State.{ObjectRow, ThreadRow}
 use Rattle.mg_model.specs.Volume.{page_words}
-use Rattle.mg_show.specs.ReachText.{letters, reach_line}
+use Rattle.mg_show.specs.ReachText.{letters_by, reach_line}
 use Rattle.mg_show.specs.StateText.{line, rights_text}
 
 -- whether capabilities give the right on the object of this row
@@ -41,10 +41,6 @@ pub record Marks (objects : List (ℕ × ObjectRow)) (period : ℕ) (capabilitie
   pub rights : (i : ℕ) → i < length objects → (d : ℕ × ObjectRow) → (right : Right)
       → has_right (slice_index bytes' i) right ≡ (has_right (slice_index bytes i) right || given period capabilities (slice_index_or objects i d).1 right)
 
--- the letters of the rights that pass
-abbrev pub letters_by : (Right → Bool) → List ℕ
-letters_by has = map (λ (l : ℕ × Right). l.0) (filter (λ (l : ℕ × Right). has l.1) letters)
-
 -- the line of an object on which a thread has the rights with these bits; none where it has none
 abbrev pub bits_line : ℕ → ℕ → ℕ → List ℕ
 bits_line t base bits = if bits % 64 == 0 then [] else line (codes "reach") (decimal t ∷ hex_text base ∷ rights_text bits ∷ [])
@@ -60,10 +56,14 @@ doors t has row = if has P then flat_map (enter_line t) row.entries else []
 abbrev pub row_reach : ℕ → (Right → Bool) → ObjectRow → List ℕ
 row_reach t has row = reach_line t row.base (letters_by has) ++ doors t has row
 
--- the same of objects in their order, whose bytes begin at place i
+-- the texts of objects in their order, each by its byte; the bytes begin at place i
+abbrev pub by_byte : (ℕ → ObjectRow → List ℕ) → List ℕ → ℕ → List (ℕ × ObjectRow) → List ℕ
+by_byte text bytes i [] = []
+by_byte text bytes i (o ∷ objects) = text (slice_index bytes i) o.1 ++ by_byte text bytes (i + 1) objects
+
+-- what a thread reaches, where the byte of each object has the rights on it
 abbrev pub marked_reach : ℕ → List ℕ → ℕ → List (ℕ × ObjectRow) → List ℕ
-marked_reach t bytes i [] = []
-marked_reach t bytes i (o ∷ objects) = row_reach t (has_right (slice_index bytes i)) o.1 ++ marked_reach t bytes (i + 1) objects
+marked_reach t bytes i objects = by_byte (λ byte row. row_reach t (has_right byte) row) bytes i objects
 
 -- the same by capabilities
 abbrev pub objects_reach : ℕ → ℕ → List (ℕ × ℕ) → List (ℕ × ObjectRow) → List ℕ

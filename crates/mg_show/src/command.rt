@@ -12,10 +12,12 @@ pub enum Text {
     State,
     /// Which thread may reach which object now, and with which rights.
     Reach,
+    /// Its threads, its objects and its capability lists, as a graph in Graphviz's language.
+    Dot,
 }
 
 /// The text that these words ask for, which are those behind the program's name; None exactly where they ask for none. They are
-/// `VOLUME`, `VOLUME state` or `VOLUME reach`.
+/// `VOLUME`, `VOLUME state`, `VOLUME reach` or `VOLUME dot`.
 pub fn read_words(words: &[String]) -> Option<Text>
     ensures { result ≡ spelled (words_of words.now) }
 {
@@ -34,6 +36,8 @@ fn by_name(word: &[u8]) -> Option<Text>
         Some(Text::State)
     } else if is_word(word, b"reach") {
         Some(Text::Reach)
+    } else if is_word(word, b"dot") {
+        Some(Text::Dot)
     } else {
         None
     }

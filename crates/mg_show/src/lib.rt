@@ -1,14 +1,20 @@
-//! What is in a volume, as text: its whole state, or who may reach what.
+//! What is in a volume, as text: its whole state, who may reach what, or a graph of it.
 #![tactic(auto)]
 
 mod accounts;
+mod arrows;
 mod command;
 mod faults;
+mod graph;
+mod graph_lines;
 mod held;
 mod lines;
+mod list_arrows;
 mod listed;
 mod marks;
+mod nodes;
 mod objects;
+mod opened;
 mod piece;
 mod putting;
 mod reach;

@@ -101,16 +101,16 @@ fn push_rights(out: &mut Buffer, rights: Rights)
     ensures text { out.new.items ≡ out.old.items ++ spaced (rights_text rights ∷ []) }
     ensures short { array_vec_len out.new ≤ array_vec_len out.old + 7 }
 {
+    push_text(out, b" ");
     push_letters(out, rights.bits());
 }
 
-/// A space and the letters of the rights whose bits these are.
-fn push_letters(out: &mut Buffer, bits: u8)
-    requires { array_vec_len out.old ≤ 200 }
-    ensures text { out.new.items ≡ out.old.items ++ spaced (rights_text bits ∷ []) }
-    ensures short { array_vec_len out.new ≤ array_vec_len out.old + 7 }
+/// The letters of the rights whose bits these are.
+pub(crate) fn push_letters(out: &mut Buffer, bits: u8)
+    requires { array_vec_len out.old ≤ 201 }
+    ensures text { out.new.items ≡ out.old.items ++ rights_text bits }
+    ensures short { array_vec_len out.new ≤ array_vec_len out.old + 6 }
 {
-    out.push(b' ');
     push_letter(out, bits, b'R', 1);
     push_letter(out, bits, b'W', 2);
     push_letter(out, bits, b'X', 4);
@@ -218,7 +218,7 @@ fn push_step(out: &mut Buffer, step: (u64, u64))
 }
 
 /// A number in decimal.
-fn push_decimal(out: &mut Buffer, n: u64)
+pub(crate) fn push_decimal(out: &mut Buffer, n: u64)
     requires { array_vec_len out.old ≤ 230 }
     ensures text { out.new.items ≡ out.old.items ++ decimal n }
     ensures short { array_vec_len out.new ≤ array_vec_len out.old + 20 }
@@ -274,6 +274,7 @@ pub(crate) fn print_reach(t: u64, base: u64, bits: u8, out: &mut Buffer)
     push_text(out, b"reach");
     push_number(out, t);
     push_word(out, base);
+    push_text(out, b" ");
     push_letters(out, bits);
     push_text(out, b"\n");
 }

@@ -3,6 +3,7 @@ ghost use Rattle.std.specs.Prelude.{◌≡◌, ◌≢◌, ◌≤◌, ◌<◌, �
 ghost use Rattle.mg_model.specs.Access.{holds};
 ghost use Rattle.mg_model.specs.Rights.{has_right};
 ghost use Rattle.mg_model.specs.declared.rights.Right.{Right as right};
+ghost use Rattle.mg_show.specs.Drawn.{held};
 ghost use Rattle.mg_show.specs.Reached.{IsCut, IsPlaceOf, Marks};
 
 use mg_model::{ObjRow, Right};
@@ -26,6 +27,23 @@ pub(crate) fn clear(bytes: &mut [u8])
     ensures long { length bytes.new ≡ length bytes.old }
 {
     bytes.fill(0);
+}
+
+/// The rights that a password gives at a period on the object with this base, as bits; none where there is no such object.
+pub(crate) fn rights_on(objects: &Objects, base: u64, password: u64, period: u64) -> u8
+    ensures { (x : right) → has_right result x ≡ held objects.now period base password x }
+{
+    match objects.get_ref(base) {
+        Some(row) => with_rights(0, row, password, period),
+        None => 0,
+    }
+}
+
+/// Whether bits have R.
+pub(crate) fn has_r(bits: u8) -> bool
+    ensures { result ≡ has_right bits Right.R }
+{
+    bits % 2 == 1
 }
 
 // The place of the object with this base in the order of the bases.

@@ -8,6 +8,7 @@ ghost use Rattle.mg_journal.specs.Looked.{Fits};
 ghost use Rattle.mg_model.specs.Layout.{total_blocks};
 ghost use Rattle.mg_model.specs.Limits.{thread_limit};
 ghost use Rattle.mg_model.specs.Replay.{replay};
+ghost use Rattle.mg_show.specs.Drawn.{graph_drawn};
 ghost use Rattle.mg_show.specs.Putting.{PutsAll, ShowsRows};
 ghost use Rattle.mg_show.specs.Reached.{threads_reached};
 ghost use Rattle.mg_show.specs.RowsText.{tables_text};
@@ -15,6 +16,7 @@ ghost use Rattle.mg_show.specs.WordText.{rows_text};
 
 use crate::command::Text;
 use crate::faults::ShowFault;
+use crate::graph::put_graph;
 use crate::held::{Lists, lists_of};
 use crate::piece::Piece;
 use crate::reach::put_reach;
@@ -67,6 +69,19 @@ pub(crate) fn show_rows<D: Disk, K: Sink>(
         ),
         Text::Reach => match room_of(alloc, lists.objects.objects()) {
             Some(mut bytes) => put_reached(
+                &threads,
+                globals.period(),
+                &lists,
+                &mut bytes,
+                view,
+                disk,
+                &mut piece,
+                sink,
+            ),
+            None => Status::Memory,
+        },
+        Text::Dot => match room_of(alloc, lists.objects.objects()) {
+            Some(mut bytes) => put_drawn(
                 &threads,
                 globals.period(),
                 &lists,
@@ -134,6 +149,47 @@ fn put_reached<D: Disk, K: Sink>(
 {
     let objects = lists.objects.objects();
     match put_reach(
+        view,
+        &lists.frames,
+        objects,
+        threads,
+        period,
+        bytes,
+        disk,
+        piece,
+        sink,
+    ) {
+        Ok(()) => match piece.finish(sink) {
+            Ok(()) => Status::Done,
+            Err(Failed) => Status::Sink,
+        },
+        Err(ShowFault::Disk) => Status::Disk,
+        Err(ShowFault::Sink) => Status::Sink,
+    }
+}
+
+// Puts the graph of the volume with these rows, and what waits of it. There is a byte for each object.
+fn put_drawn<D: Disk, K: Sink>(
+    threads: &[(u64, ThrRow)],
+    period: u64,
+    lists: &Lists,
+    bytes: &mut [u8],
+    view: &View,
+    disk: &mut D,
+    piece: &mut Piece,
+    sink: &mut K,
+) -> Status
+    requires places { All (λ t. t.0 < thread_limit) threads.now }
+    requires long { length bytes.old ≡ length lists.now.objects }
+    requires at_least_16_frames { 16 ≤ length lists.now.frames }
+    requires total { view.now.total ≡ total_blocks (length lists.now.frames) }
+    requires can { CanRead D.Disk view.now.total (Fits view.now) disk.old }
+    requires empty { piece.old ≡ [] }
+    ensures { PutsAll D.Disk K.Sink (λ image. replay image view.now.total)
+        (λ r. graph_drawn r (length lists.now.frames) lists.now.frames lists.now.objects period threads.now) result disk.old disk.new sink.old sink.new }
+{
+    let objects = lists.objects.objects();
+    match put_graph(
         view,
         &lists.frames,
         objects,

@@ -28,6 +28,9 @@ use std::alloc::Global;
 ///   word that is not 0.
 /// - `VOLUME reach` puts who may reach what: for each thread and each object the letters of the rights that an access of the thread
 ///   would have there now, and each entry at which it may enter.
+/// - `VOLUME dot` puts a graph in Graphviz's language: a node for each thread and each object, an arrow for each slot of a present frame,
+///   and one for each entry of an object that a thread reads as a capability list now, with the letters of the rights that the password
+///   gives there now. An arrow that counts for nothing is dashed.
 ///
 /// The disk is only read. [`Status::NoVolume`] comes exactly where it holds no volume, with the line `open not`, `open old` or `open
 /// damaged`. [`Status::Memory`] comes before anything is put. [`Status::Disk`] and [`Status::Sink`] come only where a call of the

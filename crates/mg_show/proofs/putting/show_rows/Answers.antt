@@ -5,9 +5,11 @@ use Rattle.mg_model.specs.Limits.{credit_limit, thread_limit}
 use Rattle.mg_model.specs.State.{ThreadRow}
 use Rattle.mg_show.proofs.RowsKept.{apart_kept, credits_kept, distinct_kept}
 use Rattle.mg_show.proofs.RowsShown.{not_shown, rows_shown}
+use Rattle.mg_show.proofs.DrawnState.{dot-told}
 use Rattle.mg_show.proofs.Reaching.{reach-told}
 use Rattle.mg_show.proofs.StateParts.{state-told}
 use Rattle.mg_show.specs.Commands.{text_of}
+use Rattle.mg_show.specs.Drawn.{graph_drawn}
 use Rattle.mg_show.specs.Reached.{threads_reached}
 use Rattle.mg_show.specs.RowsText.{tables_text}
 use Rattle.mg_show.specs.WordText.{rows_text}
@@ -57,6 +59,23 @@ returns-in-Some-room_of g c =
     ∙ reach-told rows c.requires.kept r lists.objects lists.frames c.period.result c.in-Some.ensures.objects c.in-Some.ensures.frames c.period.ensures
     ∙ sym (ap (λ text. text_of text (state_in rows r)) c.in-Reach.is))
     c.put_reached.ensures
+
+pub returns-in-Reach : goal.returns-in-Reach
+returns-in-Reach g c = not_shown g.D.Disk g.K.Sink c.args.text c.args.rows c.args.disk.now c.args.sink.now c.requires.told (g.met.D.Disk.now_has_been c.args.disk.now)
+
+pub put_drawn-requires-clause-places : goal.put_drawn-requires-clause-places
+put_drawn-requires-clause-places g c = subst (All (λ (t : ℕ × ThreadRow). t.0 < thread_limit)) (sym c.deref-in-Some-room_of-2.ensures.value) c.requires.kept.held.threads.below
+
+pub returns-in-Some-room_of-2 : goal.returns-in-Some-room_of-2
+returns-in-Some-room_of-2 g c =
+    let rows = c.args.rows in
+    let lists = c.in-Some.lists in
+    rows_shown g.D.Disk g.K.Sink c.args.text rows c.args.disk.now c.args.sink.now c.requires.told c.args.view.now.total
+    (λ r. graph_drawn r (length lists.frames) lists.frames lists.objects c.period-in-Some-room_of-2.result c.deref-in-Some-room_of-2.result.now) c.put_drawn.result c.put_drawn.new.disk c.put_drawn.new.sink c.requires.total
+    (λ r. ap (λ threads. graph_drawn r (length lists.frames) lists.frames lists.objects c.period-in-Some-room_of-2.result threads) c.deref-in-Some-room_of-2.ensures.value
+    ∙ dot-told rows c.requires.kept r lists.objects lists.frames c.period-in-Some-room_of-2.result c.in-Some.ensures.objects c.in-Some.ensures.frames c.period-in-Some-room_of-2.ensures
+    ∙ sym (ap (λ text. text_of text (state_in rows r)) c.in-Dot.is))
+    c.put_drawn.ensures
 
 pub returns : goal.returns
 returns g c = not_shown g.D.Disk g.K.Sink c.args.text c.args.rows c.args.disk.now c.args.sink.now c.requires.told (g.met.D.Disk.now_has_been c.args.disk.now)
