@@ -8,7 +8,7 @@ use mg_show::top_show;
 use mg_testing::words_of;
 
 /// The texts that are shown: the second word of the program, and how the name of the file ends that holds what it is to put.
-pub const TEXTS: [&str; 2] = ["state", "reach"];
+pub const TEXTS: [&str; 3] = ["state", "reach", "dot"];
 
 /// How many bytes a text may have.
 const ROOM: usize = 65536;
