@@ -11,7 +11,7 @@ use Rattle.mg_model.specs.Access.{holds, last_slots}
 use Rattle.mg_model.specs.Rights.{has_right}
 use Rattle.mg_model.specs.State.{CallFrame, ObjectRow, ThreadRow}
 use Rattle.mg_show.specs.DotText.{arrow, object_name, object_node, quoted, thread_name}
-use Rattle.mg_show.specs.Drawn.{all_named, domains_drawn, entry_bits, entry_drawn, graph_drawn, graph_end, graph_head, list_drawn, lists_drawn, marked_drawn, named_by, node_drawn, opened, shape, slot_bits, slot_drawn, threads_drawn}
+use Rattle.mg_show.specs.Drawn.{all_named, domains_drawn, entry_bits, graph_drawn, graph_end, graph_head, list_drawn, lists_drawn, marked_drawn, named_by, named_drawn, node_drawn, opened, shape, slot_bits, slot_drawn, threads_drawn}
 use Rattle.mg_show.specs.Reached.{Marks, by_byte, given}
 use Rattle.mg_show.specs.ReachText.{letters_by}
 use Rattle.mg_show.proofs.ByBytes.{bytes-same}
@@ -56,8 +56,8 @@ module _ (bits : ℕ) (has : Right → Bool) (same : (right : Right) → has_rig
       ap (λ (ls : List ℕ). arrow (thread_name t) (object_name base) ls (has_right bits R)) (rights-letters bits ∙ letters_same (has_right bits) has same)
       ∙ ap (λ counts. arrow (thread_name t) (object_name base) (letters_by has) counts) (same R)
 
-  pub entry-drawn : (list base : ℕ) → entry_bits list base bits ≡ entry_drawn list base has
-  entry-drawn list base =
+  pub named-drawn : (list base : ℕ) → entry_bits list base bits ≡ named_drawn list base has
+  named-drawn list base =
       ap (λ (ls : List ℕ). arrow (object_name list) (object_name base) ls (not (bits % 64 == 0))) (rights-letters bits ∙ letters_same (has_right bits) has same)
       ∙ ap (λ counts. arrow (object_name list) (object_name base) (letters_by has) counts) (sym (any-right bits) ∙ any_same (has_right bits) has same)
 

@@ -64,8 +64,8 @@ module _ (s : State) (image : List (List ℕ)) (frames : ℕ) (table : List ℕ)
 
   entry-same : (list : ℕ) (entry : ℕ × ℕ) → entry_arrow s list entry ≡ entry_drawn list entry.0 (held os period entry.0 entry.1)
   entry-same list entry =
-      ap (λ (ls : List ℕ). arrow (object_name list) (object_name entry.0) ls (list_any (λ (l : ℕ × Right). holds_now s entry.0 entry.1 l.1) letters)) (letters_same (holds_now s entry.0 entry.1) (held os period entry.0 entry.1) (holds-same entry.0 entry.1))
-      ∙ ap (λ counts. arrow (object_name list) (object_name entry.0) (letters_by (held os period entry.0 entry.1)) counts) (any_same (holds_now s entry.0 entry.1) (held os period entry.0 entry.1) (holds-same entry.0 entry.1))
+      ap (λ (ls : List ℕ). if entry.0 == 0 then [] else arrow (object_name list) (object_name entry.0) ls (list_any (λ (l : ℕ × Right). holds_now s entry.0 entry.1 l.1) letters)) (letters_same (holds_now s entry.0 entry.1) (held os period entry.0 entry.1) (holds-same entry.0 entry.1))
+      ∙ ap (λ counts. if entry.0 == 0 then [] else arrow (object_name list) (object_name entry.0) (letters_by (held os period entry.0 entry.1)) counts) (any_same (holds_now s entry.0 entry.1) (held os period entry.0 entry.1) (holds-same entry.0 entry.1))
 
   list-same : (row : ObjectRow) → is_list s row ≡ opened period threads row
   list-same row =

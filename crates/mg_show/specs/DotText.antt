@@ -47,9 +47,11 @@ holds_now state base password right = option_map_or (λ (object : Object). holds
 abbrev pub slot_arrow : State → ℕ → Slot → List ℕ
 slot_arrow state t slot = arrow (thread_name t) (object_name slot.base) (letters_by (holds_now state slot.base slot.password)) (holds_now state slot.base slot.password R)
 
--- an entry counts where its password gives some right
+-- an entry counts where its password gives some right; one with base 0, at which no object lies, is an empty place
 abbrev pub entry_arrow : State → ℕ → ℕ × ℕ → List ℕ
-entry_arrow state list entry = arrow (object_name list) (object_name entry.0) (letters_by (holds_now state entry.0 entry.1)) (list_any (λ (l : ℕ × Right). holds_now state entry.0 entry.1 l.1) letters)
+entry_arrow state list entry =
+    if entry.0 == 0 then []
+    else arrow (object_name list) (object_name entry.0) (letters_by (holds_now state entry.0 entry.1)) (list_any (λ (l : ℕ × Right). holds_now state entry.0 entry.1 l.1) letters)
 
 -- whether some thread now reads the object as a capability list
 abbrev pub is_list : State → ObjectRow → Bool

@@ -63,8 +63,12 @@ slot_drawn t base has = arrow (thread_name t) (object_name base) (letters_by has
 abbrev pub entry_bits : ℕ → ℕ → ℕ → List ℕ
 entry_bits list base bits = arrow (object_name list) (object_name base) (rights_text bits) (not (bits % 64 == 0))
 
+abbrev pub named_drawn : ℕ → ℕ → (Right → Bool) → List ℕ
+named_drawn list base has = arrow (object_name list) (object_name base) (letters_by has) (list_any (λ (l : ℕ × Right). has l.1) letters)
+
+-- an entry; nothing where its place is empty
 abbrev pub entry_drawn : ℕ → ℕ → (Right → Bool) → List ℕ
-entry_drawn list base has = arrow (object_name list) (object_name base) (letters_by has) (list_any (λ (l : ℕ × Right). has l.1) letters)
+entry_drawn list base has = if base == 0 then [] else named_drawn list base has
 
 abbrev pub slots_drawn : List (ℕ × ObjectRow) → ℕ → ℕ → List Slot → List ℕ
 slots_drawn objects period t slots = flat_map (λ (slot : Slot). slot_drawn t slot.base (held objects period slot.base slot.password)) slots

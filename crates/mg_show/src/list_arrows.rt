@@ -6,7 +6,7 @@ ghost use Rattle.mg_model.specs.Access.{entries_of};
 ghost use Rattle.mg_model.specs.Bytes.{block_words};
 ghost use Rattle.mg_model.specs.Layout.{total_blocks};
 ghost use Rattle.mg_model.specs.Replay.{block_of, replay};
-ghost use Rattle.mg_show.specs.Drawn.{entries_drawn, entry_bits, entry_drawn, held, list_drawn, lists_drawn};
+ghost use Rattle.mg_show.specs.Drawn.{entries_drawn, entry_bits, entry_drawn, held, list_drawn, lists_drawn, named_drawn};
 ghost use Rattle.mg_show.specs.Reached.{listed};
 ghost use Rattle.mg_show.specs.Shown.{Shows};
 ghost use Rattle.mg_show.specs.Told.{HasFailed, HasPut};
@@ -174,6 +174,7 @@ fn put_entries<K: Sink>(
     Ok(())
 }
 
+// The arrow of an entry. A place with base 0 is empty: no object lies there.
 fn put_entry<K: Sink>(
     list: u64,
     base: u64,
@@ -185,6 +186,25 @@ fn put_entry<K: Sink>(
 ) -> Result<(), Failed>
     ensures ok { OnOk result (HasPut K.Sink sink.old sink.new piece.old piece.new (entry_drawn list base (held objects.now period base password))) }
     ensures err { OnErr result (HasFailed K.Sink sink.old sink.new (piece.old ++ entry_drawn list base (held objects.now period base password))) }
+{
+    if base == 0 {
+        return Ok(());
+    }
+    put_named(list, base, password, objects, period, piece, sink)
+}
+
+// The arrow of an entry that names a base.
+fn put_named<K: Sink>(
+    list: u64,
+    base: u64,
+    password: u64,
+    objects: &Objects,
+    period: u64,
+    piece: &mut Piece,
+    sink: &mut K,
+) -> Result<(), Failed>
+    ensures ok { OnOk result (HasPut K.Sink sink.old sink.new piece.old piece.new (named_drawn list base (held objects.now period base password))) }
+    ensures err { OnErr result (HasFailed K.Sink sink.old sink.new (piece.old ++ named_drawn list base (held objects.now period base password))) }
 {
     let bits = rights_on(objects, base, password, period);
     put_arrow(list, base, bits, piece, sink)
