@@ -19,7 +19,7 @@ use Rattle.mg_model.specs.declared.rights.Right.TheVariants.{W}
 use Rattle.mg_model.specs.declared.seats.Seat.{Seat}
 use Rattle.mg_model.specs.Access.{allowed, at, covers}
 use Rattle.mg_model.specs.Accesses.{Access, word_access, word_under}
-use Rattle.mg_model.specs.Backed.{KeepsBacked, by_list, by_none, by_via, by_word}
+use Rattle.mg_model.specs.Backed.{KeepsBacked, by_given, by_list, by_none, by_word}
 use Rattle.mg_model.specs.Kept.{KeepsKeys, KeepsRules, Searches, Validates, access_limit, searches_limit}
 use Rattle.mg_model.specs.Keys.{Key, is_elsewhere, taken}
 use Rattle.mg_model.specs.Limits.{page_size}
@@ -111,9 +111,9 @@ lives-ok state true answer is ok = ok
 lives-ok state false answer is ok = cc
 
 -- what a store drops, told by the base of its object and by its row
-pub dropped-at : (a : ℕ) (seats seats' : List (Option Seat)) (base : ℕ) (row : ObjectRow) → base ≡ row.base → seats' ≡ (if nat_lt a (base + page_size) then without (by_via base) seats else seats)
-    → seats' ≡ (if nat_lt a (row.base + page_size) then without (by_via row.base) seats else seats)
-dropped-at a seats seats' base row is dropped = subst (λ b. seats' ≡ (if nat_lt a (b + page_size) then without (by_via b) seats else seats)) is dropped
+pub dropped-at : (a : ℕ) (seats seats' : List (Option Seat)) (base : ℕ) (row : ObjectRow) → base ≡ row.base → seats' ≡ (if nat_lt a (base + page_size) then without (by_given base) seats else seats)
+    → seats' ≡ (if nat_lt a (row.base + page_size) then without (by_given row.base) seats else seats)
+dropped-at a seats seats' base row is dropped = subst (λ b. seats' ≡ (if nat_lt a (b + page_size) then without (by_given b) seats else seats)) is dropped
 
 -- a store, and what it leaves of the seats
 module _ (state : State) (t a value : ℕ) (row : ObjectRow) (found : Some row ≡ allowed_row state t a W) where
@@ -135,23 +135,23 @@ module _ (state : State) (t a value : ℕ) (row : ObjectRow) (found : Some row �
       (lives-ok state (is_thread state t) (store state t a value) (reached_lives state t a W row found) (ap (λ (answer : Answer). is_ok answer.1) done)) (first-page below)
 
   -- a line that does not disturb drops nothing
-  pub dropped-keys : (new : State) (made : List Access) (kept : Key → Bool) (seats seats' : List (Option Seat)) → store state t a value ≡ (new, Done) → seats' ≡ (if nat_lt a (row.base + page_size) then without (by_via row.base) seats else seats)
+  pub dropped-keys : (new : State) (made : List Access) (kept : Key → Bool) (seats seats' : List (Option Seat)) → store state t a value ≡ (new, Done) → seats' ≡ (if nat_lt a (row.base + page_size) then without (by_given row.base) seats else seats)
       → KeepsKeys state made kept (λ key. is_kept seats key) → is_disturbing state line ≡ false → KeepsKeys state made kept (λ key. is_kept seats' key)
   dropped-keys new made kept seats seats' done dropped keys quiet = by_place (nat_lt a (row.base + page_size)) refl dropped
     where
-      by_place : (v : Bool) → nat_lt a (row.base + page_size) ≡ v → seats' ≡ (if v then without (by_via row.base) seats else seats) → KeepsKeys state made kept (λ key. is_kept seats' key)
+      by_place : (v : Bool) → nat_lt a (row.base + page_size) ≡ v → seats' ≡ (if v then without (by_given row.base) seats else seats) → KeepsKeys state made kept (λ key. is_kept seats' key)
       by_place true is drops = let loud = first-disturbs new done is in cc
       by_place false is same = subst (λ s. KeepsKeys state made kept (λ key. is_kept s key)) (sym same) keys
 
   -- and one that was done leaves each seat backed, once these are dropped
   pub stored-backed : (new : State) (seats seats' : List (Option Seat)) → IsWellFormed state → CallsKeepBacked (λ state t made. (thread_call state t made).0) → EndsOneList → store state t a value ≡ (new, Done)
-      → seats' ≡ (if nat_lt a (row.base + page_size) then without (by_via row.base) seats else seats) → AllBacked state seats → AllBacked new seats'
+      → seats' ≡ (if nat_lt a (row.base + page_size) then without (by_given row.base) seats else seats) → AllBacked state seats → AllBacked new seats'
   stored-backed new seats seats' formed keeps ends done dropped all =
       let (object, there, same) = reached-object state t a W row found in
       let kept : KeepsBacked (by_word a) state new = subst (λ (answer : Answer). KeepsBacked (by_word a) state answer.0) done (keeps state t (call.Store a value) formed) in
       let ended : KeepsBacked (by_list row.base a) state new = subst (λ (r : ObjectRow). KeepsBacked (by_list r.base a) state new) same (ends state new a object formed there kept) in
       by_place (nat_lt a (row.base + page_size)) dropped ended
     where
-      by_place : (v : Bool) → seats' ≡ (if v then without (by_via row.base) seats else seats) → KeepsBacked (if v then by_via row.base else by_none) state new → AllBacked new seats'
-      by_place true drops ended = subst (λ s. AllBacked new s) (sym drops) (backed_without (by_via row.base) state new seats ended all)
+      by_place : (v : Bool) → seats' ≡ (if v then without (by_given row.base) seats else seats) → KeepsBacked (if v then by_given row.base else by_none) state new → AllBacked new seats'
+      by_place true drops ended = subst (λ s. AllBacked new s) (sym drops) (backed_without (by_given row.base) state new seats ended all)
       by_place false drops ended = subst (λ s. AllBacked new s) (sym drops) (backed_still state new seats ended all)

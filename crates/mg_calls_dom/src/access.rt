@@ -6,7 +6,7 @@ ghost use Rattle.mg_calls_dom.specs.Searching.{IsAllowedIn, access_refusal, allo
 ghost use Rattle.mg_calls_dom.specs.Served.{CallReads, CallServes, of_call};
 ghost use Rattle.mg_disk.specs.Stops.{CountRose};
 ghost use Rattle.mg_model.specs.Access.{allowed, covers};
-ghost use Rattle.mg_model.specs.Backed.{by_via};
+ghost use Rattle.mg_model.specs.Backed.{by_given};
 ghost use Rattle.mg_model.specs.Kept.{KeepsRules, searches_limit};
 ghost use Rattle.mg_model.specs.Limits.{page_size};
 ghost use Rattle.mg_model.specs.Objects.{word_at};
@@ -188,9 +188,9 @@ fn index_of(a: u64) -> u64
 // dropped.
 fn drop_written(c: &mut VCache, base: u64, a: u64)
     requires { base ≤ a }
-    ensures { c.new ≡ (if nat_lt a (base + page_size) then without (by_via base) c.old else c.old) }
+    ensures { c.new ≡ (if nat_lt a (base + page_size) then without (by_given base) c.old else c.old) }
 {
     if a - base < PAGE_SIZE {
-        c.drop_via(base);
+        c.drop_given(base);
     }
 }

@@ -164,5 +164,5 @@ ends-one_list old new address object formed there keeps seat stays backed = by_t
         let via : seat.via ≡ object.row.base = word-via old seat address object formed backed within there in
         let high : address < seat.via + 4096 = ltb-true _ _ (and_parts (leb seat.via address) (ltb address (seat.via + 4096)) within).1 in
         let near : ltb address (object.row.base + 4096) ≡ true = lt-ltb _ _ (omega arith) in
-        let goes : by_list object.row.base address seat ≡ true = ap (λ (f : Seat → Bool). f seat) (cond-true _ _ _ near) ∙ or_left (eqb seat.via object.row.base) (eqb seat.base object.row.base) (eq-eqb _ _ via) in
+        let goes : by_list object.row.base address seat ≡ true = ap (λ (f : Seat → Bool). f seat) (cond-true _ _ _ near) ∙ eq-eqb _ _ via in
         absurd (false≢true (sym stays ∙ goes))

@@ -38,10 +38,13 @@ pub record IsBacked (state : State) (seat : Seat) : Type 0 where
   pub base : entry.0 ≡ seat.base
   pub held : held_at state seat.base entry.1 seat.right ≡ true
 
--- Sets of seats: those of a thread, those that a list gave or that are for its object, those whose list has an address in its
--- first page, none, and all.
+-- Sets of seats: those of a thread, those that a list gave, those that it gave or that are for its object, those whose list has an
+-- address in its first page, none, and all.
 abbrev pub by_thread : ℕ → Seat → Bool
 by_thread t seat = seat.thread == t
+
+abbrev pub by_given : ℕ → Seat → Bool
+by_given list seat = seat.via == list
 
 abbrev pub by_via : ℕ → Seat → Bool
 by_via base seat = seat.via == base || seat.base == base
@@ -57,7 +60,7 @@ by_each seat = true
 
 -- the seats that a store to an address of the object with this base ends: none beyond the object's first page
 abbrev pub by_list : ℕ → ℕ → Seat → Bool
-by_list base address = if nat_lt address (base + page_size) then by_via base else by_none
+by_list base address = if nat_lt address (base + page_size) then by_given base else by_none
 
 -- a seat that was backed is backed still, unless it is one of the ended
 abbrev pub KeepsBacked : (Seat → Bool) → State → State → Type 0

@@ -1,6 +1,6 @@
 // The cache.
 ghost use Rattle.std.specs.Prelude.{List, ◌≡◌, ◌<◌, ℕ, true, IfOk, None, Some, replicate, slice_set};
-ghost use Rattle.mg_model.specs.Backed.{by_each, by_thread, by_via};
+ghost use Rattle.mg_model.specs.Backed.{by_each, by_given, by_thread, by_via};
 ghost use Rattle.mg_model.specs.Keys.{seat_of};
 ghost use Rattle.mg_model.specs.Rights.{right_number};
 ghost use Rattle.mg_model.specs.Limits.{seat_count};
@@ -79,6 +79,18 @@ impl VCache {
             &mut self.marks,
             Ended::Thread(thread),
             thread_row(thread),
+        );
+    }
+
+    /// Drops each right that the capability list with this base gave, and nothing else.
+    pub fn drop_given(&mut self, list: u64)
+        ensures { self.new ≡ without (by_given list) self.old }
+    {
+        drop_in_row(
+            &mut self.seats,
+            &mut self.marks,
+            Ended::Given(list),
+            list_row(list),
         );
     }
 

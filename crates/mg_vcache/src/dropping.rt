@@ -13,6 +13,8 @@ use mg_model::Seat;
 pub(crate) enum Ended {
     /// Those of a thread.
     Thread(u64),
+    /// Those that a list gave.
+    Given(u64),
     /// Those that a list gave, or for its object.
     Via(u64),
     /// Each.
@@ -26,6 +28,7 @@ impl Ended {
     {
         match self {
             Ended::Thread(thread) => seat.thread == thread,
+            Ended::Given(list) => seat.via == list,
             Ended::Via(via) => seat.via == via || seat.base == via,
             Ended::Each => true,
         }
