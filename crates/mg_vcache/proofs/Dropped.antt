@@ -1,9 +1,11 @@
 -- Seats that were dropped group by group, and the marks behind that.
-use Rattle.std.specs.Prelude.{◌≡◌, ◌≢◌, ◌≤◌, ◌<◌, ◌+◌, ◌*◌, ◌/◌, ◌==◌, ℕ, Bool, true, false, List, if◌then◌else◌, length, replicate, slice_index_or, slice_set, take, ◌++◌, nat_lt, Option, Some, None}
+use Rattle.std.specs.Prelude.{◌≡◌, ◌≢◌, ◌≤◌, ◌<◌, ◌+◌, ◌*◌, ◌/◌, ◌==◌, ℕ, Bool, true, false, List, [], ◌∷◌, ◌||◌, if◌then◌else◌, length, replicate, slice_index_or, slice_set, take, ◌++◌, nat_lt, Option, Some, None}
 use Rattle.std.proofs.Common.{refl, sym, ap, subst, ◌∙◌, arith}
 use Rattle.std.proofs.lemmas.Bool.{cond-true, cond-false, eqb-true, eqb-false, eq-eqb, ne_eqb, ltb-true, ltb-false}
 use Rattle.std.proofs.lemmas.List.{ext_get_or, get_or-map, get_or-set_other, get_or-set_same, get_or_past, get_or-replicate, length-map, length-replicate, length-set, take_at}
 use Rattle.mg_model.specs.declared.seats.Seat.{Seat}
+use Rattle.mg_model.specs.Backed.{by_given, by_via}
+use Rattle.mg_vcache.specs.EndedSeats.{by_object}
 use Rattle.mg_vcache.specs.Seats.{unless_ended, without}
 use Rattle.mg_vcache.specs.Marks.{AreMarked, IsMarked, StayMarked, is_in_row, is_set, mark_at}
 
@@ -90,10 +92,10 @@ pub record RowDropped (groups : ℕ) (ended : Seat → Bool) (old new : List (Op
   pub before : (place : ℕ) → place / 16 < groups → slice_index_or new place None ≡ unless_ended ended (slice_index_or old place None)
   pub behind : (place : ℕ) → groups ≤ place / 16 → slice_index_or new place None ≡ slice_index_or old place None
   pub size : length new ≡ 256
-  pub marks_size : length marks ≡ 2048
+  pub marks_size : length marks ≡ 3072
   pub marked : AreMarked new marks
 
-pub row_none : (ended : Seat → Bool) (seats : List (Option Seat)) (marks : List Bool) → length seats ≡ 256 → length marks ≡ 2048 → AreMarked seats marks → RowDropped 0 ended seats seats marks
+pub row_none : (ended : Seat → Bool) (seats : List (Option Seat)) (marks : List Bool) → length seats ≡ 256 → length marks ≡ 3072 → AreMarked seats marks → RowDropped 0 ended seats seats marks
 row_none ended seats marks size marks_size marked = record {
   before = λ place low. absurd (omega arith);
   behind = λ place high. refl;
@@ -153,7 +155,7 @@ row_skipped group row ended old new marks done in_row unset = record {
 pub row_more : (group row : ℕ) (ended : Seat → Bool) (old new seats : List (Option Seat)) (marks : List Bool) (left : Bool)
     → RowDropped group ended old new marks
     → group < 16
-    → row < 128
+    → row < 192
     → ((place : ℕ) → slice_index_or seats place None ≡ (if place / 16 == group then unless_ended ended (slice_index_or new place None) else slice_index_or new place None))
     → length seats ≡ 256
     → (left ≡ false → (place : ℕ) → place / 16 ≡ group → (seat : Seat) → slice_index_or seats place None ≡ Some seat → is_in_row row seat ≡ false)
@@ -263,9 +265,9 @@ fill_marked seats place seat marks new within marked here stays = record { kept 
 
 -- the cache's own invariant
 abbrev pub IsCache : List (Option Seat) → List Bool → Type 0
-IsCache seats marks = (length seats ≡ 256) × (length marks ≡ 2048) × AreMarked seats marks
+IsCache seats marks = (length seats ≡ 256) × (length marks ≡ 3072) × AreMarked seats marks
 
-pub filled : (items : List (Option Seat)) (place : ℕ) (seat : Seat) (marks now new rest : List Bool) (len : ℕ) → IsCache items marks → place < 256 → now ≡ marks → length now ≡ len → IsMarked new place seat → StayMarked now new → length new ≡ 2048 → IsCache (slice_set items place (Some seat)) (take len (new ++ rest))
+pub filled : (items : List (Option Seat)) (place : ℕ) (seat : Seat) (marks now new rest : List Bool) (len : ℕ) → IsCache items marks → place < 256 → now ≡ marks → length now ≡ len → IsMarked new place seat → StayMarked now new → length new ≡ 3072 → IsCache (slice_set items place (Some seat)) (take len (new ++ rest))
 filled items place seat marks now new rest len cache within value size here stays long =
     let whole : take len (new ++ rest) ≡ new = take_at new rest len (long ∙ sym cache.1 ∙ ap length (sym value) ∙ size) in (
       length-set items place (Some seat) ∙ cache.0,
@@ -282,3 +284,17 @@ all_dropped ended items now new rest marks len cache value size drops =
       cache.1,
       subst (λ s. AreMarked s marks) (sym (whole ∙ same)) (without_marked ended items marks cache.2),
     )
+
+-- those that a list gave and then those for its object
+one_both : (base : ℕ) (kept : Option Seat) → unless_ended (by_object base) (unless_ended (by_given base) kept) ≡ unless_ended (by_via base) kept
+one_both base None = refl
+one_both base (Some seat) = by_list (seat.via == base)
+  where
+    by_list : (v : Bool) → unless_ended (by_object base) (if v then None else Some seat) ≡ (if v || seat.base == base then None else Some seat)
+    by_list true = refl
+    by_list false = refl
+
+pub without_both : (base : ℕ) (seats : List (Option Seat)) → without (by_object base) (without (by_given base) seats) ≡ without (by_via base) seats
+without_both base [] = refl
+without_both base (kept ∷ seats) =
+    ap (λ k. k ∷ without (by_object base) (without (by_given base) seats)) (one_both base kept) ∙ ap (λ s. unless_ended (by_via base) kept ∷ s) (without_both base seats)

@@ -1,5 +1,6 @@
--- The marks that tell which seats may be those of a base or of a thread: 128 rows of 16 marks, a mark for each 16 seats. A base
--- has one of the first 64 rows, and a thread one of the others. A mark that is not set tells that no such seat is kept there.
+-- The marks that tell which seats may be those of a list, an object or a thread: 192 rows of 16 marks, a mark for each 16 seats. A
+-- list has one of the first 64 rows, an object one of the next 64, and a thread one of the others. A mark that is not set tells that
+-- no such seat is kept there.
 use Rattle.std.specs.Prelude.{ℕ, ◌≡◌, ◌+◌, ◌*◌, ◌/◌, ◌%◌, ◌==◌, ◌||◌, Bool, true, false, List, slice_index_or, Option, Some, None}
 use Rattle.mg_model.specs.declared.seats.Seat.{Seat}
 use Rattle.mg_model.specs.Limits.{page_size}
@@ -7,8 +8,11 @@ use Rattle.mg_model.specs.Limits.{page_size}
 abbrev pub list_row : ℕ → ℕ
 list_row base = base / page_size % 64
 
+abbrev pub object_row : ℕ → ℕ
+object_row base = 64 + base / page_size % 64
+
 abbrev pub thread_row : ℕ → ℕ
-thread_row thread = 64 + thread % 64
+thread_row thread = 128 + thread % 64
 
 -- the mark in a row of the seat at a place
 abbrev pub mark_at : ℕ → ℕ → ℕ
@@ -16,7 +20,7 @@ mark_at row place = 16 * row + place / 16
 
 -- whether a seat's list, object or thread has this row
 abbrev pub is_in_row : ℕ → Seat → Bool
-is_in_row row seat = list_row seat.via == row || (list_row seat.base == row || thread_row seat.thread == row)
+is_in_row row seat = list_row seat.via == row || (object_row seat.base == row || thread_row seat.thread == row)
 
 -- whether a mark is set
 abbrev pub is_set : List Bool → ℕ → Bool

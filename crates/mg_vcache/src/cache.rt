@@ -4,10 +4,11 @@ ghost use Rattle.mg_model.specs.Backed.{by_each, by_given, by_thread, by_via};
 ghost use Rattle.mg_model.specs.Keys.{seat_of};
 ghost use Rattle.mg_model.specs.Rights.{right_number};
 ghost use Rattle.mg_model.specs.Limits.{seat_count};
+ghost use Rattle.mg_vcache.specs.EndedSeats.{by_object};
 ghost use Rattle.mg_vcache.specs.Seats.{is_kept, without};
 
 use crate::dropping::{Ended, drop_ended, drop_in_row};
-use crate::marks::{MARK_COUNT, list_row, mark, thread_row};
+use crate::marks::{MARK_COUNT, list_row, mark, object_row, thread_row};
 use mg_model::limits::{PAGE_SIZE, PAGE_STRIDE, RIGHT_STRIDE, SEAT_COUNT};
 use mg_model::{Right, Seat};
 use std::alloc::{AllocError, Global};
@@ -31,7 +32,7 @@ impl Model for VCache {
 
     ghost view = { λ cache. cache.seats.items };
 
-    ghost invariant = { λ cache. (length cache.seats.items ≡ seat_count) × (length cache.marks.items ≡ 2048) × AreMarked cache.seats.items cache.marks.items };
+    ghost invariant = { λ cache. (length cache.seats.items ≡ seat_count) × (length cache.marks.items ≡ 3072) × AreMarked cache.seats.items cache.marks.items };
 }
 
 impl VCache {
@@ -98,11 +99,19 @@ impl VCache {
     pub fn drop_via(&mut self, via: u64)
         ensures { self.new ≡ without (by_via via) self.old }
     {
+        self.drop_given(via);
+        self.drop_object(via);
+    }
+
+    // Drops each right to the object with this base, and nothing else.
+    fn drop_object(&mut self, base: u64)
+        ensures { self.new ≡ without (by_object base) self.old }
+    {
         drop_in_row(
             &mut self.seats,
             &mut self.marks,
-            Ended::Via(via),
-            list_row(via),
+            Ended::To(base),
+            object_row(base),
         );
     }
 

@@ -15,8 +15,8 @@ pub(crate) enum Ended {
     Thread(u64),
     /// Those that a list gave.
     Given(u64),
-    /// Those that a list gave, or for its object.
-    Via(u64),
+    /// Those for an object.
+    To(u64),
     /// Each.
     Each,
 }
@@ -29,7 +29,7 @@ impl Ended {
         match self {
             Ended::Thread(thread) => seat.thread == thread,
             Ended::Given(list) => seat.via == list,
-            Ended::Via(via) => seat.via == via || seat.base == via,
+            Ended::To(base) => seat.base == base,
             Ended::Each => true,
         }
     }
@@ -57,13 +57,13 @@ pub(crate) fn drop_ended(seats: &mut [Option<Seat>], ended: Ended)
 /// Drops these seats, all of which have this row, and leaves the others. Seats that are not marked in the row are not read.
 pub(crate) fn drop_in_row(seats: &mut [Option<Seat>], marks: &mut [bool], ended: Ended, row: usize)
     requires seats { length seats.old ≡ 256 }
-    requires marks { length marks.old ≡ 2048 }
-    requires row { row < 128 }
+    requires marks { length marks.old ≡ 3072 }
+    requires row { row < 192 }
     requires in_row { (seat : Seat) → ended_of ended seat ≡ true → is_in_row row seat ≡ true }
     requires marked { AreMarked seats.old marks.old }
     ensures dropped { seats.new ≡ without (ended_of ended) seats.old }
     ensures marked { AreMarked seats.new marks.new }
-    ensures marks { length marks.new ≡ 2048 }
+    ensures marks { length marks.new ≡ 3072 }
 {
     for group in 0..16 {
         if marks[GROUP * row + group] {
