@@ -1,7 +1,7 @@
 -- Objects that are apart.
 use Rattle.std.specs.Prelude.{◌≡◌, ◌≢◌, ◌+◌, ◌*◌, ◌/◌, ◌<◌, ◌≤◌, ◌==◌, ◌⊎◌, ℕ, suc, nat_lt, nat_le, true, false, List, [], ◌∷◌, All, find, if◌then◌else◌, None, Some, ◌-◌, length, slice_index_or}
 use Rattle.std.specs.List.{AllPairs, AllWithin, Contains}
-use Rattle.std.proofs.Common.{sym, ap, ◌∙◌, subst, ⊎_elim, arith, get_or}
+use Rattle.std.proofs.Common.{refl, sym, ap, ◌∙◌, subst, ⊎_elim, arith, get_or}
 use Rattle.std.proofs.lemmas.Bool.{and_parts, cases_Bool, cases_eq, cases_lt, false≢true, leb-true, ltb-false, ltb-true}
 use Rattle.std.proofs.lemmas.List.{get_or-map, get_or_default, length-map}
 use Rattle.std.proofs.lemmas.List.Elements.{All-cons, All-head, All-tail}
@@ -13,7 +13,7 @@ use Rattle.mg_model.specs.Ranges.{IsObjectRow}
 use Rattle.mg_model.specs.State.{ObjectRow}
 use Rattle.mg_objects.specs.Held.{AreApart, IsBefore, MeetsNone, into_place, with_row}
 use Rattle.mg_objects.proofs.Changes.{changed-base, changed-here, changed-not, into-all}
-use Rattle.mg_objects.proofs.Lists.{find-none, find-only}
+use Rattle.mg_objects.proofs.Lists.{contains-at, find-none, find-only}
 use Rattle.mg_objects.proofs.Rows.{into-first, into-later}
 
 abbrev pub AreRows : List (ℕ × ObjectRow) → Type 0
@@ -129,6 +129,14 @@ one-covers objects a x y rows apart in_x in_y cov_x cov_y =
         let p = u.1 in
         let q = w.0 in
         omega arith
+
+-- so one that has it is the one that is found
+pub covers-only : (objects : List (ℕ × ObjectRow)) (a k : ℕ) (d : ℕ × ObjectRow) → AreRows objects → AreApart objects → k < length objects → covers (get_or objects k d).1 a ≡ true
+    → find (λ (o : ℕ × ObjectRow). covers o.1 a) objects ≡ Some (get_or objects k d)
+covers-only objects a k d rows apart within is =
+    let x = get_or objects k d in
+    let there : Contains objects x = contains-at objects k d x within refl in
+    find-only (λ (o : ℕ × ObjectRow). covers o.1 a) objects x there is (λ y in_y t. one-covers objects a x y rows apart there in_y is t)
 
 -- the object that covers an address is the last that does not begin behind it
 not-covered : (row : ObjectRow) (a : ℕ) → (covers row a ≡ true → ⊥) → covers row a ≡ false

@@ -158,8 +158,36 @@ impl Objects {
     pub fn covering_ref(&self, a: u64) -> Option<&ObjRow>
         ensures { option_copied result ≡ option_map (λ o. o.1) (find (λ o. covers o.1 a) self.now) }
     {
+        self.covering_behind(a, self.count_up_to(a))
+    }
+
+    /// As [`Objects::covering_ref`], and looks first at the object of rank `near`, where there is one. Where another has the address,
+    /// its rank is in `near` then.
+    pub fn covering_near(&self, a: u64, near: &mut usize) -> Option<&ObjRow>
+        ensures { option_copied result ≡ option_map (λ o. o.1) (find (λ o. covers o.1 a) self.now) }
+    {
         self.keep_rules();
+        if *near < self.len() {
+            let last = self.nth_ref(*near);
+            if last.covers(a) {
+                return Some(last);
+            }
+        }
         let count = self.count_up_to(a);
+        if count > 0 {
+            *near = count - 1;
+        }
+        self.covering_behind(a, count)
+    }
+
+    // The object that has this address, of which so many objects begin at it or before it.
+    fn covering_behind(&self, a: u64, count: usize) -> Option<&ObjRow>
+        requires within { count ≤ length self.now }
+        requires below { AllWithin (λ o. o.1.base ≤ a) self.now 0 count }
+        requires above { AllWithin (λ o. a < o.1.base) self.now count (length self.now) }
+        ensures { option_copied result ≡ option_map (λ o. o.1) (find (λ o. covers o.1 a) self.now) }
+    {
+        self.keep_rules();
         if count == 0 {
             return None;
         }

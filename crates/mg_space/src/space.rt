@@ -28,6 +28,8 @@ pub struct Space {
     free: Ranges,
     // How many pages the objects have.
     used: u64,
+    // The rank of the object that was looked for last.
+    near: usize,
 }
 
 impl Model for Space {
@@ -59,6 +61,7 @@ impl Space {
                     objects,
                     free,
                     used,
+                    near: 0,
                 }))
             }
             None => Ok(None),
@@ -102,6 +105,18 @@ impl Space {
         ensures { option_copied result ≡ option_map (λ o. o.1) (find (λ o. covers o.1 a) self.now) }
     {
         self.objects.covering_ref(a)
+    }
+
+    /// The base of the object that has this address. The object that was found last is looked at first, so that calls on one object
+    /// take as long among many as alone.
+    pub fn base_at(&mut self, a: u64) -> Option<u64>
+        ensures base { result ≡ option_map (λ o. o.1.base) (find (λ o. covers o.1 a) self.old) }
+        ensures same { self.new ≡ self.old }
+    {
+        match self.objects.covering_near(a, &mut self.near) {
+            Some(row) => Some(row.base()),
+            None => None,
+        }
     }
 
     /// How many pages all objects have.

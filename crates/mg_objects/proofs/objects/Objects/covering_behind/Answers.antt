@@ -5,7 +5,7 @@ use Rattle.std.proofs.lemmas.List.{get_or_default}
 use Rattle.mg_model.specs.Access.{covers}
 use Rattle.mg_model.specs.State.{ObjectRow}
 use Rattle.mg_objects.proofs.Apart.{covers-last, covers-no, covers-none}
-use Rattle.mg_objects.proofs.objects.Objects.covering_ref.Goals as goal
+use Rattle.mg_objects.proofs.objects.Objects.covering_behind.Goals as goal
 
 blank : ℕ × ObjectRow
 blank = (0, record { base = 0; pages = 0; account = 0; passwords = []; entries = []; extension = None })
@@ -15,30 +15,30 @@ returns-then-count-eq0 c =
     let now = c.args.self.now in
     let a = c.args.a in
     let P : ℕ → Type 0 = λ n. AllWithin (λ (o : ℕ × ObjectRow). a < o.1.base) now n (length now) in
-    sym (ap (option_map (λ (o : ℕ × ObjectRow). o.1)) (covers-none now a (subst P c.if-count-eq0.true c.count_up_to-count.ensures.above)))
+    sym (ap (option_map (λ (o : ℕ × ObjectRow). o.1)) (covers-none now a (subst P c.if-count-eq0.true c.requires.above)))
 
 pub returns-then-covers : goal.returns-then-covers
 returns-then-covers c =
     let now = c.args.self.now in
     let a = c.args.a in
-    let n = c.count_up_to-count.result in
+    let n = c.args.count in
     let last = get_or now (n - 1) blank in
     let row : c.nth_ref-row.result.now ≡ last.1 = c.nth_ref-row.ensures blank in
     let is : covers last.1 a ≡ true = ap (λ (r : ObjectRow). covers r a) (sym row) ∙ sym c.covers.ensures ∙ c.if-covers.true in
-    let within = c.count_up_to-count.ensures.within in
+    let within = c.requires.within in
     let some = c.if-count-eq0.false in
-    let found = covers-last now a n c.keep_rules.ensures.rows c.keep_rules.ensures.apart c.if-count-eq0.false within c.count_up_to-count.ensures.below c.count_up_to-count.ensures.above last (get_or_default now (n - 1) last blank (omega arith)) is in
+    let found = covers-last now a n c.keep_rules.ensures.rows c.keep_rules.ensures.apart c.if-count-eq0.false within c.requires.below c.requires.above last (get_or_default now (n - 1) last blank (omega arith)) is in
     ap Some row ∙ sym (ap (option_map (λ (o : ℕ × ObjectRow). o.1)) found)
 
 pub returns-else-covers : goal.returns-else-covers
 returns-else-covers c =
     let now = c.args.self.now in
     let a = c.args.a in
-    let n = c.count_up_to-count.result in
+    let n = c.args.count in
     let last = get_or now (n - 1) blank in
     let row : c.nth_ref-row.result.now ≡ last.1 = c.nth_ref-row.ensures blank in
     let is : covers last.1 a ≡ false = ap (λ (r : ObjectRow). covers r a) (sym row) ∙ sym c.covers.ensures ∙ c.if-covers.false in
-    let within = c.count_up_to-count.ensures.within in
+    let within = c.requires.within in
     let some = c.if-count-eq0.false in
     sym (ap (option_map (λ (o : ℕ × ObjectRow). o.1))
-    (covers-no now a n c.keep_rules.ensures.rows c.keep_rules.ensures.apart c.if-count-eq0.false within c.count_up_to-count.ensures.below c.count_up_to-count.ensures.above last (get_or_default now (n - 1) last blank (omega arith)) is))
+    (covers-no now a n c.keep_rules.ensures.rows c.keep_rules.ensures.apart c.if-count-eq0.false within c.requires.below c.requires.above last (get_or_default now (n - 1) last blank (omega arith)) is))
