@@ -5,6 +5,7 @@ pub mod ObjectLists
 pub mod ObjectRows
 pub mod ObjectWhole
 pub mod OneWay
+pub mod Padded
 pub mod Reading
 pub mod ThreadKeeps
 pub mod ThreadReads

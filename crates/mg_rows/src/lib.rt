@@ -23,8 +23,11 @@ mod threads;
 
 pub use accounts::{read_account, write_account};
 pub use blocks::{account_in, object_in, put_account, put_object};
-pub use globals::{read_globals, write_globals};
+pub use globals::{GLOBALS_START, globals_start, read_globals, write_globals};
 pub use laws::{rows_are_spelled_in_one_way, threads_change_by_words};
 pub use objects::{read_object, write_object};
 pub use spelled::Spelled;
-pub use threads::{read_thread, state_number, thread_block, write_thread};
+pub use threads::{
+    MOST_START_FRAMES, THREAD_START, read_thread, state_number, thread_block, thread_start,
+    write_thread,
+};

@@ -26,6 +26,12 @@ const FIRST_FRAME: usize = 128;
 /// How many frames a thread may have.
 const MOST_FRAMES: u64 = 16;
 
+/// How many bytes of its block a thread with at most [`MOST_START_FRAMES`] frames takes; behind them there are zeros.
+pub const THREAD_START: usize = 704;
+
+/// How many frames a thread has at most whose bytes all lie in the start of its block.
+pub const MOST_START_FRAMES: usize = 4;
+
 /// What a block spells of a thread.
 pub fn read_thread(b: &Block) -> Option<Spelled<ThrRow>>
     ensures { as_read result ≡ thread_read b.now }
@@ -64,6 +70,19 @@ pub fn thread_block(r: Option<&ThrRow>) -> Block
     }
 }
 
+/// What the block of a thread with at most 4 frames begins with. Behind it the block has zeros. It is read back.
+pub fn thread_start(row: &ThrRow) -> [u8; THREAD_START]
+    requires few { length row.now.frames ≤ 4 }
+    ensures spelled { padded_to block_size result ≡ thread_bytes row.now }
+    ensures read_back { thread_read (padded_to block_size result) ≡ Some (Some row.now) }
+{
+    let mut filling = Filling::new();
+    add_head(row, &mut filling);
+    filling.add_words(&row.regs());
+    add_frames(row.frames(), &mut filling);
+    filling.whole()
+}
+
 // Whether this thread has these bytes.
 fn is_spelling(row: &ThrRow, b: &Block) -> bool
     ensures { result ≡ same_bytes (thread_bytes row.now) b.now }
@@ -84,8 +103,9 @@ fn spelling(row: &ThrRow) -> Block
 }
 
 // What a thread's row begins with.
-fn add_head(row: &ThrRow, filling: &mut Filling<BLOCK_SIZE>)
-    requires { filling.old ≡ [] }
+fn add_head<const N: usize>(row: &ThrRow, filling: &mut Filling<N>)
+    requires empty { filling.old ≡ [] }
+    requires room { 64 ≤ N }
     ensures spelled { filling.new ≡ padded_to 64 (words_bytes (head_words row.now)) }
     ensures long { length filling.new ≡ 64 }
     ensures kept { IsThreadRow row.now }
@@ -114,8 +134,8 @@ pub fn state_number(state: ThrState) -> u64
     }
 }
 
-fn add_frames(frames: &[Frame], filling: &mut Filling<BLOCK_SIZE>)
-    requires { length filling.old + 144 * length frames.now ≤ block_size }
+fn add_frames<const N: usize>(frames: &[Frame], filling: &mut Filling<N>)
+    requires { length filling.old + 144 * length frames.now ≤ N }
     ensures value { filling.new ≡ filling.old ++ flat_map frame_bytes frames.now }
     ensures long { length filling.new ≡ length filling.old + 144 * length frames.now }
 {
@@ -125,8 +145,8 @@ fn add_frames(frames: &[Frame], filling: &mut Filling<BLOCK_SIZE>)
 }
 
 // A frame, and zeros in place of the slots that it has not.
-fn add_frame(frame: &Frame, filling: &mut Filling<BLOCK_SIZE>)
-    requires { length filling.old + 144 ≤ block_size }
+fn add_frame<const N: usize>(frame: &Frame, filling: &mut Filling<N>)
+    requires { length filling.old + 144 ≤ N }
     ensures value { filling.new ≡ filling.old ++ frame_bytes frame.now }
     ensures long { length filling.new ≡ length filling.old + 144 }
 {
@@ -136,8 +156,8 @@ fn add_frame(frame: &Frame, filling: &mut Filling<BLOCK_SIZE>)
     filling.skip(128 - 16 * slots.len());
 }
 
-fn add_slots(slots: &[Slot], filling: &mut Filling<BLOCK_SIZE>)
-    requires { length filling.old + 16 * length slots.now ≤ block_size }
+fn add_slots<const N: usize>(slots: &[Slot], filling: &mut Filling<N>)
+    requires { length filling.old + 16 * length slots.now ≤ N }
     ensures value { filling.new ≡ filling.old ++ words_bytes (flat_map slot_words slots.now) }
     ensures long { length filling.new ≡ length filling.old + 16 * length slots.now }
 {

@@ -1,0 +1,15 @@
+-- What is filled up twice.
+use Rattle.std.specs.Prelude.{◌≡◌, ◌≤◌, ◌+◌, ◌-◌, ℕ, List, ◌++◌, length, replicate}
+use Rattle.std.proofs.Common.{ap, ◌∙◌, arith, append_assoc}
+use Rattle.std.proofs.lemmas.List.{replicate-append-replicate}
+use Rattle.mg_model.specs.Bytes.{padded_to}
+use Rattle.mg_model.specs.BytesLemmas.{length-padded_to}
+
+zeros-joined : (bytes : List ℕ) (a b k : ℕ) → a + b ≡ k → bytes ++ (replicate a 0 ++ replicate b 0) ≡ bytes ++ replicate k 0
+zeros-joined bytes a b k is = ap (λ v. bytes ++ v) (replicate-append-replicate a b 0) ∙ ap (λ n. bytes ++ replicate n 0) is
+
+pub padded_twice : (n m : ℕ) (bytes : List ℕ) → length bytes ≤ n → n ≤ m → padded_to m (padded_to n bytes) ≡ padded_to m bytes
+padded_twice n m bytes few below =
+    ap (λ k. padded_to n bytes ++ replicate (m - k) 0) (length-padded_to n bytes few)
+    ∙ append_assoc bytes (replicate (n - length bytes) 0) (replicate (m - n) 0)
+    ∙ zeros-joined bytes (n - length bytes) (m - n) (m - length bytes) (omega arith)
