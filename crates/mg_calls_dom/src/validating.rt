@@ -111,8 +111,9 @@ pub fn validate<D: Disk, L: Ledger>(
 }
 
 // The base of the object that has an address, where the right on it is kept. No row is handed up for it.
-fn kept_base(v: &Volume, c: &VCache, t: u64, a: u64, right: Right) -> Option<u64>
-    ensures at { IfSome result (λ base. IsBaseAt v.now a base) }
+fn kept_base(v: &mut Volume, c: &VCache, t: u64, a: u64, right: Right) -> Option<u64>
+    ensures at { IfSome result (λ base. IsBaseAt v.old a base) }
+    ensures same { v.new ≡ v.old }
     ensures kept { IfSome result (λ base. is_kept c.now (record { thread = t; base = base; right = right }) ≡ true) }
 {
     let base = v.base_at(a)?;

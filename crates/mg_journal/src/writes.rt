@@ -1,5 +1,5 @@
 // Writes that wait for a commit.
-ghost use Rattle.std.specs.Prelude.{◌≡◌, ◌==◌, ◌<◌, ◌≤◌, ◌⊎◌, ◌+◌, [], ◌∷◌, ◌++◌, IfOk, IfSome, IsSome, MatchOption, None, Some, is_some, length, position, slice_set, true};
+ghost use Rattle.std.specs.Prelude.{◌≡◌, ◌==◌, ◌<◌, ◌≤◌, ◌⊎◌, ◌+◌, [], ◌∷◌, ◌++◌, IfOk, IfSome, IsSome, MatchOption, None, Some, drop, is_some, length, position, slice_set, true};
 ghost use Rattle.std.specs.List.{splice};
 ghost use Rattle.mg_model.specs.Bytes.{word_bytes};
 ghost use Rattle.mg_model.specs.Layout.{block_size, body_limit};
@@ -110,6 +110,27 @@ impl Writes {
         }
     }
 
+    /// Stages a write of a block that begins with these bytes and goes on as `rest` does, in place of the write to that block
+    /// if there is one. It takes no memory.
+    #[tactic(auto, using(crate::proofs::Waits::waits_none))]
+    pub fn stage_over(&mut self, block: u64, first: &[u8], rest: &Block)
+        requires there_or_fewer_than_160 { IsSome (position (goes_to block) self.old) ⊎ (length self.old < body_limit) }
+        requires within { length first.now ≤ block_size }
+        ensures { self.new ≡ staged self.old block (first.now ++ drop (length first.now) rest.now) }
+    {
+        match self.place_of(block) {
+            Some(place) => {
+                self.replace(place, rest);
+                self.put_first_into(place, first);
+            }
+            None => {
+                let last = self.len();
+                self.add(block, rest);
+                self.put_first_into(last, first);
+            }
+        }
+    }
+
     /// Puts a word at a byte offset, 0 to 4,088, into what waits for this block, and says whether anything does.
     pub fn put(&mut self, block: u64, at: usize, word: u64) -> bool
         requires within { at + 8 ≤ block_size }
@@ -144,6 +165,15 @@ impl Writes {
         put_number(&mut self.blocks[k + 1], at, word);
     }
 
+    // Puts other bytes over the first ones of the k-th write.
+    fn put_first_into(&mut self, k: usize, first: &[u8])
+        requires there { k < length self.old }
+        requires within { length first.now ≤ block_size }
+        ensures { self.new ≡ slice_set self.old k (home_at self.old k, first.now ++ drop (length first.now) (bytes_of self.old k)) }
+    {
+        put_first(&mut self.blocks[k + 1], first);
+    }
+
     // Stages a write behind the others.
     fn add(&mut self, block: u64, from: &Block)
         requires fewer_than_160 { length self.old < body_limit }
@@ -170,4 +200,12 @@ fn place_among(homes: &[u64], block: u64) -> Option<usize>
     ensures { result ≡ position (λ home. home == block) homes.now }
 {
     homes.iter().position(|home| *home == block)
+}
+
+// Puts other bytes over the first ones of a block.
+fn put_first(block: &mut Block, first: &[u8])
+    requires { length first.now ≤ block_size }
+    ensures { block.new ≡ first.now ++ drop (length first.now) block.old }
+{
+    block[..first.len()].copy_from_slice(first);
 }

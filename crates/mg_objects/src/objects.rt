@@ -161,8 +161,8 @@ impl Objects {
         self.covering_behind(a, self.count_up_to(a))
     }
 
-    /// As [`Objects::covering_ref`], and looks first at the object of rank `near`, where there is one. Where another has the address,
-    /// its rank is in `near` then.
+    /// As [`Objects::covering_ref`]. The object of rank `near`, where there is one, is looked at first, so that calls on one object take as
+    /// long among many as alone. The rank of the one that is found is there then.
     pub fn covering_near(&self, a: u64, near: &mut usize) -> Option<&ObjRow>
         ensures { option_copied result ≡ option_map (λ o. o.1) (find (λ o. covers o.1 a) self.now) }
     {

@@ -8,7 +8,7 @@ ghost use Rattle.mg_disk.specs.Stops.{DiskCalls, Leaves, WritesNothing};
 ghost use Rattle.mg_journal.specs.Contents.{NewContents};
 ghost use Rattle.mg_journal.specs.Staged.{are_once, goes_to, staged, waiting};
 ghost use Rattle.mg_journal.specs.Standing.{IsLate, OldOrNew, Stands, is_live, total_of};
-ghost use Rattle.mg_model.specs.Bytes.{block_words, number_at, word_bytes};
+ghost use Rattle.mg_model.specs.Bytes.{block_words, number_at, padded_to, word_bytes};
 ghost use Rattle.mg_model.specs.Layout.{block_size, body_limit};
 ghost use Rattle.mg_model.specs.Replay.{homes_fit, written};
 ghost use Rattle.mg_pages.specs.Held.{with_writes};
@@ -16,6 +16,7 @@ ghost use Rattle.mg_pages.specs.Kept.{AreKept};
 ghost use Rattle.mg_pages.specs.Meaning.{replayed};
 ghost use Rattle.mg_pages.specs.Parts.{KeepsMore, StagesBlock, coming_of};
 
+use crate::blank::Blank;
 use crate::kept::Kept;
 use crate::words::word_at;
 use mg_disk::{BLOCK_SIZE, Block, Disk};
@@ -30,6 +31,8 @@ pub(crate) struct Blocks {
     store: Store,
     writes: Writes,
     kept: Kept,
+    // The zeros behind the bytes that a block begins with.
+    blank: Blank,
 }
 
 impl Model for Blocks {
@@ -51,6 +54,7 @@ impl Blocks {
             store,
             writes,
             kept,
+            blank: Blank::new(),
         })
     }
 
@@ -75,6 +79,15 @@ impl Blocks {
         ensures { self.new ≡ with_writes self.old (staged self.old.writes block from.now) }
     {
         self.writes.stage(block, from);
+    }
+
+    /// Stages a block that begins with these bytes and has zeros behind them, in place of what was staged of it.
+    pub(crate) fn stage_start(&mut self, block: u64, start: &[u8])
+        requires there_or_fewer_than_160 { IsSome (position (goes_to block) self.old.writes) ⊎ (length self.old.writes < body_limit) }
+        requires within { length start.now ≤ block_size }
+        ensures { self.new ≡ with_writes self.old (staged self.old.writes block (padded_to block_size start.now)) }
+    {
+        self.writes.stage_over(block, start, self.blank.zeros());
     }
 
     /// Puts a word at a byte offset into a block, if it is staged, and says whether it is.

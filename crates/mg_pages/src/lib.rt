@@ -8,6 +8,7 @@
 //! pages stand on a disk.
 #![tactic(auto)]
 
+mod blank;
 mod blocks;
 mod coming;
 mod kept;

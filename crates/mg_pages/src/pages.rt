@@ -7,7 +7,7 @@ ghost use Rattle.mg_disk.specs.Stops.{DiskCalls, Leaves, WritesNothing};
 ghost use Rattle.mg_journal.specs.Contents.{SameContents};
 ghost use Rattle.mg_journal.specs.Standing as journal;
 ghost use Rattle.mg_model.specs.Abbreviations.{table_of};
-ghost use Rattle.mg_model.specs.Bytes.{are_zeros, word_bytes};
+ghost use Rattle.mg_model.specs.Bytes.{are_zeros, padded_to, word_bytes};
 ghost use Rattle.mg_model.specs.Layout.{block_size, body_limit, globals_block, table_block, total_blocks};
 ghost use Rattle.mg_model.specs.Tests.{all_distinct};
 ghost use Rattle.mg_model.specs.Volume.{bound_pages};
@@ -259,6 +259,23 @@ impl Pages {
         ensures spelled { (image : List (List ℕ)) → IsSpelledBy self.old image → IsSpelledBy self.new image }
     {
         self.blocks.stage(block, from);
+    }
+
+    /// Stages a block between the journal and the frame table that begins with these bytes and has zeros behind them.
+    pub fn stage_start(&mut self, block: u64, start: &[u8])
+        requires low { globals_block ≤ block }
+        requires high { block < table_block }
+        requires staged_or_fewer_than_160 { (is_staged self.old block ≡ true) ⊎ (staged_of self.old < body_limit) }
+        requires within { length start.now ≤ block_size }
+        ensures coming { (image : List (List ℕ)) → coming self.new image ≡ slice_set (coming self.old image) block (padded_to block_size start.now) }
+        ensures table { table_in self.new ≡ table_in self.old }
+        ensures shape { SameShape self.old self.new }
+        ensures staged { StagesMore 1 self.old self.new }
+        ensures here { is_staged self.new block ≡ true }
+        ensures words { words_in self.new ≡ words_in self.old }
+        ensures spelled { (image : List (List ℕ)) → IsSpelledBy self.old image → IsSpelledBy self.new image }
+    {
+        self.blocks.stage_start(block, start);
     }
 
     /// Puts a word at a byte offset, 0 to 4,088, into a block between the journal and the frame table, if it is staged, and says

@@ -28,8 +28,6 @@ pub struct Space {
     free: Ranges,
     // How many pages the objects have.
     used: u64,
-    // The rank of the object that was looked for last.
-    near: usize,
 }
 
 impl Model for Space {
@@ -61,7 +59,6 @@ impl Space {
                     objects,
                     free,
                     used,
-                    near: 0,
                 }))
             }
             None => Ok(None),
@@ -107,16 +104,11 @@ impl Space {
         self.objects.covering_ref(a)
     }
 
-    /// The base of the object that has this address. The object that was found last is looked at first, so that calls on one object
-    /// take as long among many as alone.
-    pub fn base_at(&mut self, a: u64) -> Option<u64>
-        ensures base { result ≡ option_map (λ o. o.1.base) (find (λ o. covers o.1 a) self.old) }
-        ensures same { self.new ≡ self.old }
+    /// The object that has this address. That of rank `near` is looked at first, and the rank of the one that is found is there then.
+    pub fn covering_near(&self, a: u64, near: &mut usize) -> Option<&ObjRow>
+        ensures { option_copied result ≡ option_map (λ o. o.1) (find (λ o. covers o.1 a) self.now) }
     {
-        match self.objects.covering_near(a, &mut self.near) {
-            Some(row) => Some(row.base()),
-            None => None,
-        }
+        self.objects.covering_near(a, near)
     }
 
     /// How many pages all objects have.

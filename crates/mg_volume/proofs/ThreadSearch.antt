@@ -1,17 +1,19 @@
 -- What a search among threads finds, by what is said of each place.
-use Rattle.std.specs.Prelude.{◌≡◌, ◌≢◌, ◌+◌, ◌≤◌, ◌<◌, ◌&&◌, nat_lt, ℕ, zero, suc, Bool, true, false, not, List, [], ◌∷◌, drop, find, if◌then◌else◌, length, map, option_map, replicate, slice_set, Option, Some, None}
+use Rattle.std.specs.Prelude.{◌≡◌, ◌≢◌, ◌+◌, ◌≤◌, ◌<◌, ◌&&◌, ◌==◌, nat_lt, ℕ, zero, suc, Bool, true, false, not, List, [], ◌∷◌, drop, find, if◌then◌else◌, length, map, option_map, replicate, slice_index, slice_set, Option, Some, None}
 use Rattle.std.specs.List.{position, position_or_len}
 use Rattle.std.specs.Option.{ForSome}
 use Rattle.std.proofs.Common.{refl, sym, ap, subst, ◌∙◌, arith}
-use Rattle.std.proofs.lemmas.Bool.{cond_both, eq-eqb, le-ltb, lt-ltb, ne_eqb}
+use Rattle.std.proofs.lemmas.Bool.{cond_both, eq-eqb, false_from_ne_true, le-ltb, lt-ltb, ne_eqb}
 use Rattle.std.proofs.lemmas.List.{map-set}
+use Rattle.std.proofs.lemmas.List.Sums.{position_or_len_is}
+use Rattle.memchr.specs.Find.{IsFirstByte}
 use Rattle.mg_model.specs.Ranges.{IsThreadRow}
 use Rattle.mg_model.specs.State.{ThreadRow}
 use Rattle.mg_model.specs.Threads.{free_number_from}
 use Rattle.mg_model.specs.Turn.{is_ready}
 use Rattle.mg_objects.specs.Held.{live_from}
 use Rattle.mg_volume.proofs.ByNumber.{live-placed, none_held, put_held}
-use Rattle.mg_volume.specs.Numbered.{AreListed, IsFreeNumber, has_number, has_turn, is_taken, numbered, threads_of}
+use Rattle.mg_volume.specs.Numbered.{AreListed, IsFreeNumber, has_number, is_taken, numbered, threads_of, turn_mark}
 use Rattle.mg_volume.specs.RowLists.{ArePlaced}
 
 -- no number below the first
@@ -87,6 +89,19 @@ found_none test xs is =
     past-end : (ys : List Bool) → length ys ≤ position_or_len test ys → position_or_len test ys ≡ length ys
     past-end ys past = let f = few ys in omega arith
 
+-- and the first byte that passes a test
+pub first_byte : (test : ℕ → Bool) (bytes : List ℕ) (found : Option ℕ) → IsFirstByte test bytes found → found ≡ position test bytes
+first_byte test bytes None nowhere =
+    let p = position_or_len test bytes in
+    let past : p ≡ length bytes =
+    position_or_len_is test bytes (length bytes) 0 (omega arith) (λ k few. false_from_ne_true (test (slice_index bytes k)) (nowhere k (omega arith) few)) (λ few. absurd (omega arith)) in
+    sym (ap (λ b. if b then Some p else None) (le-ltb p (length bytes) (omega arith)))
+first_byte test bytes (Some i) (place, here) =
+    let p = position_or_len test bytes in
+    let within = place.high in
+    let at : p ≡ i = position_or_len_is test bytes i 0 (omega arith) (λ k few. false_from_ne_true (test (slice_index bytes k)) (place.before k (omega arith) few)) (λ few. here) in
+    sym (ap (λ b. if b then Some p else None) (lt-ltb p (length bytes) (omega arith)) ∙ ap (λ n. Some n) at)
+
 -- the first that is Ready above a number
 abbrev pub takes_turn : ℕ → ℕ × ThreadRow → Bool
 takes_turn t thread = is_ready thread.1.state && nat_lt t thread.0
@@ -97,19 +112,19 @@ number-found t i r xs true is = ap (λ b. option_map (λ (x : ℕ × ThreadRow).
 number-found t i r xs false is = ap (λ b. option_map (λ (x : ℕ × ThreadRow). x.0) (if b then Some (i, r) else find (takes_turn t) xs)) is
 
 -- from places that are all above the number
-abbrev from_place : ℕ → List Bool → Option ℕ
-from_place i ready = option_map (λ p. i + p + 1) (position (λ is. is) ready)
+abbrev from_place : ℕ → List ℕ → Option ℕ
+from_place i marks = option_map (λ p. i + p + 1) (position (λ mark. mark == 1) marks)
 
-position-cons : (b : Bool) (bs : List Bool) → position (λ is. is) (b ∷ bs) ≡ (if b then Some 0 else option_map (λ p. suc p) (position (λ is. is) bs))
-position-cons true bs = ap (λ b. if b then Some 0 else None) (lt-ltb 0 (suc (length bs)) (omega arith))
-position-cons false bs =
-    cond_both (nat_lt (position_or_len (λ is. is) bs) (length bs)) (Some (position_or_len (λ is. is) bs)) None
-    (λ o. (if nat_lt (1 + position_or_len (λ is. is) bs) (suc (length bs)) then Some (1 + position_or_len (λ is. is) bs) else None) ≡ option_map (λ p. suc p) o)
-    (λ within. ap (λ b. if b then Some (1 + position_or_len (λ is. is) bs) else None) (lt-ltb (1 + position_or_len (λ is. is) bs) (suc (length bs)) (grind arith)) ∙ ap (λ n. Some n) (omega arith))
-    (λ past. ap (λ b. if b then Some (1 + position_or_len (λ is. is) bs) else None) (le-ltb (1 + position_or_len (λ is. is) bs) (suc (length bs)) (grind arith)))
+position-cons : (b : Bool) (marks : List ℕ) → position (λ mark. mark == 1) ((if b then 1 else 0) ∷ marks) ≡ (if b then Some 0 else option_map (λ p. suc p) (position (λ mark. mark == 1) marks))
+position-cons true marks = ap (λ b. if b then Some 0 else None) (lt-ltb 0 (suc (length marks)) (omega arith))
+position-cons false marks =
+    cond_both (nat_lt (position_or_len (λ mark. mark == 1) marks) (length marks)) (Some (position_or_len (λ mark. mark == 1) marks)) None
+    (λ o. (if nat_lt (1 + position_or_len (λ mark. mark == 1) marks) (suc (length marks)) then Some (1 + position_or_len (λ mark. mark == 1) marks) else None) ≡ option_map (λ p. suc p) o)
+    (λ within. ap (λ b. if b then Some (1 + position_or_len (λ mark. mark == 1) marks) else None) (lt-ltb (1 + position_or_len (λ mark. mark == 1) marks) (suc (length marks)) (grind arith)) ∙ ap (λ n. Some n) (omega arith))
+    (λ past. ap (λ b. if b then Some (1 + position_or_len (λ mark. mark == 1) marks) else None) (le-ltb (1 + position_or_len (λ mark. mark == 1) marks) (suc (length marks)) (grind arith)))
 
-from-cons : (i : ℕ) (b : Bool) (bs : List Bool) → from_place i (b ∷ bs) ≡ (if b then Some (i + 1) else from_place (i + 1) bs)
-from-cons i b bs = ap (option_map (λ p. i + p + 1)) (position-cons b bs) ∙ by_first b (position (λ is. is) bs)
+from-cons : (i : ℕ) (b : Bool) (marks : List ℕ) → from_place i ((if b then 1 else 0) ∷ marks) ≡ (if b then Some (i + 1) else from_place (i + 1) marks)
+from-cons i b marks = ap (option_map (λ p. i + p + 1)) (position-cons b marks) ∙ by_first b (position (λ mark. mark == 1) marks)
   where
     by_first : (b : Bool) (o : Option ℕ) → option_map (λ p. i + p + 1) (if b then Some 0 else option_map (λ p. suc p) o) ≡ (if b then Some (i + 1) else option_map (λ p. i + 1 + p + 1) o)
     by_first true o = ap (λ n. Some n) (omega arith)
@@ -130,16 +145,16 @@ turn-past t i r past = by_state (is_ready r.state)
     by_state false = refl
     by_state true = le-ltb t (i + 1) (omega arith)
 
-above-all : (t i : ℕ) (rows : List (Option ThreadRow)) → t ≤ i → option_map (λ (x : ℕ × ThreadRow). x.0) (find (takes_turn t) (numbered (live_from i rows))) ≡ from_place i (map has_turn rows)
+above-all : (t i : ℕ) (rows : List (Option ThreadRow)) → t ≤ i → option_map (λ (x : ℕ × ThreadRow). x.0) (find (takes_turn t) (numbered (live_from i rows))) ≡ from_place i (map turn_mark rows)
 above-all t i [] above = refl
-above-all t i (None ∷ rows) above = above-all t (i + 1) rows (omega arith) ∙ sym (from-cons i false (map has_turn rows))
+above-all t i (None ∷ rows) above = above-all t (i + 1) rows (omega arith) ∙ sym (from-cons i false (map turn_mark rows))
 above-all t i (Some r ∷ rows) above =
     number-found t (i + 1) r (numbered (live_from (i + 1) rows)) (is_ready r.state) (turn-now t i r above)
     ∙ ap (λ o. if is_ready r.state then Some (i + 1) else o) (above-all t (i + 1) rows (omega arith))
-    ∙ sym (from-cons i (is_ready r.state) (map has_turn rows))
+    ∙ sym (from-cons i (is_ready r.state) (map turn_mark rows))
 
-pub ready-above : (t i k : ℕ) (rows : List (Option ThreadRow)) → t ≡ i + k → option_map (λ (x : ℕ × ThreadRow). x.0) (find (takes_turn t) (numbered (live_from i rows))) ≡ from_place t (drop k (map has_turn rows))
-ready-above t i zero rows is = above-all t i rows (omega arith) ∙ ap (λ n. from_place n (map has_turn rows)) (omega arith)
+pub ready-above : (t i k : ℕ) (rows : List (Option ThreadRow)) → t ≡ i + k → option_map (λ (x : ℕ × ThreadRow). x.0) (find (takes_turn t) (numbered (live_from i rows))) ≡ from_place t (drop k (map turn_mark rows))
+ready-above t i zero rows is = above-all t i rows (omega arith) ∙ ap (λ n. from_place n (map turn_mark rows)) (omega arith)
 ready-above t i (suc k) [] is = refl
 ready-above t i (suc k) (None ∷ rows) is = ready-above t (i + 1) k rows (omega arith)
 ready-above t i (suc k) (Some r ∷ rows) is =
@@ -150,26 +165,26 @@ map-none : {Y : Type 0} (f : Option ThreadRow → Y) (n : ℕ) → map f (replic
 map-none f zero = refl
 map-none f (suc n) = ap (λ ys. f None ∷ ys) (map-none f n)
 
-pub none_listed : (rows : List (Option ThreadRow)) (taken ready : List Bool) → rows ≡ replicate 256 None → taken ≡ replicate 256 false → ready ≡ replicate 256 false → AreListed rows taken ready
+pub none_listed : (rows : List (Option ThreadRow)) (taken : List Bool) (ready : List ℕ) → rows ≡ replicate 256 None → taken ≡ replicate 256 false → ready ≡ replicate 256 0 → AreListed rows taken ready
 none_listed rows taken ready is is_taken_so is_ready_so = record {
   by_number = none_held rows is;
   taken_are = is_taken_so ∙ sym (map-none is_taken 256) ∙ sym (ap (map is_taken) is);
-  ready_are = is_ready_so ∙ sym (map-none has_turn 256) ∙ sym (ap (map has_turn) is);
+  ready_are = is_ready_so ∙ sym (map-none turn_mark 256) ∙ sym (ap (map turn_mark) is);
 }
 
-pub put_listed : (rows : List (Option ThreadRow)) (taken ready : List Bool) (k : ℕ) (new : Option ThreadRow) (some turn : Bool) → ForSome new IsThreadRow → some ≡ is_taken new → turn ≡ has_turn new → AreListed rows taken ready
+pub put_listed : (rows : List (Option ThreadRow)) (taken : List Bool) (ready : List ℕ) (k : ℕ) (new : Option ThreadRow) (some : Bool) (turn : ℕ) → ForSome new IsThreadRow → some ≡ is_taken new → turn ≡ turn_mark new → AreListed rows taken ready
     → AreListed (slice_set rows k new) (slice_set taken k some) (slice_set ready k turn)
 put_listed rows taken ready k new some turn good some_is turn_is held = record {
   by_number = put_held rows k new good held.by_number;
   taken_are = ap (λ xs. slice_set xs k some) held.taken_are ∙ ap (λ b. slice_set (map is_taken rows) k b) some_is ∙ sym (map-set is_taken rows k new);
-  ready_are = ap (λ xs. slice_set xs k turn) held.ready_are ∙ ap (λ b. slice_set (map has_turn rows) k b) turn_is ∙ sym (map-set has_turn rows k new);
+  ready_are = ap (λ xs. slice_set xs k turn) held.ready_are ∙ ap (λ mark. slice_set (map turn_mark rows) k mark) turn_is ∙ sym (map-set turn_mark rows k new);
 }
 
 length-said : {Y : Type 0} (f : Option ThreadRow → Y) (rows : List (Option ThreadRow)) → length (map f rows) ≡ length rows
 length-said f [] = refl
 length-said f (row ∷ rows) = ap suc (length-said f rows)
 
-module _ (rows : List (Option ThreadRow)) (taken ready : List Bool) (held : AreListed rows taken ready) where
+module _ (rows : List (Option ThreadRow)) (taken : List Bool) (ready : List ℕ) (held : AreListed rows taken ready) where
   -- the lowest free number
   pub free_is : (place : ℕ) → position (λ is. not is) taken ≡ Some place → IsFreeNumber (numbered (live_from 0 rows)) (Some (place + 1))
   free_is place found =
@@ -191,6 +206,6 @@ module _ (rows : List (Option ThreadRow)) (taken ready : List Bool) (held : AreL
       omega arith
 
   -- the next that is Ready
-  pub ready_is : (t : ℕ) (found : Option ℕ) → position (λ is. is) (drop t ready) ≡ found → option_map (λ (x : ℕ × ThreadRow). x.0) (find (takes_turn t) (numbered (live_from 0 rows))) ≡ option_map (λ p. t + p + 1) found
+  pub ready_is : (t : ℕ) (found : Option ℕ) → position (λ mark. mark == 1) (drop t ready) ≡ found → option_map (λ (x : ℕ × ThreadRow). x.0) (find (takes_turn t) (numbered (live_from 0 rows))) ≡ option_map (λ p. t + p + 1) found
   ready_is t found is =
       ready-above t 0 t rows (omega arith) ∙ ap (λ xs. from_place t (drop t xs)) (sym held.ready_are) ∙ ap (option_map (λ p. t + p + 1)) is

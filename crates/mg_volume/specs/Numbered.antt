@@ -35,16 +35,20 @@ is_taken row = is_some row
 abbrev pub has_turn : Option ThreadRow → Bool
 has_turn row = option_map_or (λ (r : ThreadRow). is_ready r.state) row false
 
+-- and that as a byte
+abbrev pub turn_mark : Option ThreadRow → ℕ
+turn_mark row = if has_turn row then 1 else 0
+
 -- a place for each thread that a volume may have, and rows that keep their ranges
 pub record AreByNumber (rows : List (Option ThreadRow)) : Type 0 where
   pub long : length rows ≡ 256
   pub ranges : All (λ (row : Option ThreadRow). ForSome row IsThreadRow) rows
 
 -- and what is said of each place apart
-pub record AreListed (rows : List (Option ThreadRow)) (taken ready : List Bool) : Type 0 where
+pub record AreListed (rows : List (Option ThreadRow)) (taken : List Bool) (ready : List ℕ) : Type 0 where
   pub by_number : AreByNumber rows
   pub taken_are : taken ≡ map is_taken rows
-  pub ready_are : ready ≡ map has_turn rows
+  pub ready_are : ready ≡ map turn_mark rows
 
 -- the lowest number, from 1 on, that none of these threads has: there is one where there are fewer than 256
 abbrev pub IsFreeNumber : List (ℕ × ThreadRow) → Option ℕ → Type 0

@@ -1,9 +1,10 @@
--- A thread that stands elsewhere: another pc, another state and other registers, in its row and in its block.
-use Rattle.std.specs.Prelude.{◌≡◌, ℕ, List}
+-- A thread that stands elsewhere: another pc, another state and other registers, in its row and in its block; and its block as it
+-- is staged.
+use Rattle.std.specs.Prelude.{◌≡◌, ℕ, List, Option, Some, slice_set, true}
 use Rattle.mg_disk.specs.Disk.{Image, block_at}
 use Rattle.mg_model.specs.declared.threads.ThrState.{ThrState}
 use Rattle.mg_model.specs.Layout.{globals_block}
-use Rattle.mg_model.specs.Spelling.{globals_bytes, thread_bytes}
+use Rattle.mg_model.specs.Spelling.{globals_bytes, thread_bytes, thread_read}
 use Rattle.mg_model.specs.State.{Counters, ThreadRow}
 use Rattle.mg_pages.specs.Held.{PagesHeld}
 use Rattle.mg_pages.specs.Meaning as pages
@@ -23,3 +24,15 @@ pub record RespellsCounters (counters : Counters) (old new : PagesHeld) : Type 0
   pub bytes : List ℕ
   pub restages : pages.Restages globals_block bytes old new
   pub are : (image : Image) → pages.IsSpelledBy old image → (was : Counters) → block_at (pages.coming old image) globals_block ≡ globals_bytes was → bytes ≡ globals_bytes counters
+
+-- a block is staged that spells this row of a thread, or that there is none; nothing else has changed
+pub record StagesThread (block : ℕ) (row : Option ThreadRow) (old new : PagesHeld) : Type 0 where
+  pub bytes : List ℕ
+  pub read : thread_read bytes ≡ Some row
+  pub coming : (image : Image) → pages.coming new image ≡ slice_set (pages.coming old image) block bytes
+  pub table : pages.table_in new ≡ pages.table_in old
+  pub shape : pages.SameShape old new
+  pub staged : pages.StagesMore 1 old new
+  pub here : pages.is_staged new block ≡ true
+  pub words : pages.words_in new ≡ pages.words_in old
+  pub spelled : (image : Image) → pages.IsSpelledBy old image → pages.IsSpelledBy new image

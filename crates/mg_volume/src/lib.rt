@@ -20,6 +20,7 @@ mod object_staging;
 mod opening;
 mod staging;
 mod standing;
+mod thread_block;
 mod threads;
 mod volume;
 mod words;

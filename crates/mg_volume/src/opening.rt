@@ -149,6 +149,7 @@ pub(crate) fn open_rows<D: Disk>(
             bank: lists.bank,
             threads: lists.threads,
             pages,
+            near: 0,
         }),
         Err(fault) => Err(fault),
     }

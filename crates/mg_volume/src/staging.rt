@@ -4,7 +4,6 @@ ghost use Rattle.std.specs.Option.{option_map_or};
 ghost use Rattle.mg_model.specs.Domains.{with_thread};
 ghost use Rattle.mg_model.specs.Layout.{body_limit};
 ghost use Rattle.mg_model.specs.ObjectCalls.{drawn, next_password};
-ghost use Rattle.mg_model.specs.Spelling.{thread_read};
 ghost use Rattle.mg_model.specs.State.{ThreadRow};
 ghost use Rattle.mg_volume.specs.Calls.{Stages};
 ghost use Rattle.mg_volume.specs.Meaning.{counters_in, now_of, objects_in, staged_of, threads_in};
@@ -14,12 +13,12 @@ ghost use Rattle.mg_volume.specs.Staging.{ObjectsStillStaged, are_counters_stage
 
 use crate::counting::respell_counters;
 use crate::standing::respell;
+use crate::thread_block::{stage_any, stage_held};
 use crate::volume::Volume;
-use mg_disk::{BLOCK_SIZE, Block};
 use mg_layout::{FIRST_THREAD_BLOCK, GLOBALS_BLOCK};
 use mg_model::{Globals, ThrRow, ThrState};
 use mg_passwords::Draws;
-use mg_rows::{rows_are_spelled_in_one_way, thread_block, write_globals};
+use mg_rows::{globals_start, rows_are_spelled_in_one_way};
 
 impl Volume {
     /// Stages the counters, in place of those that the state has. Their block is staged already, or fewer than 160 blocks are; one
@@ -64,10 +63,8 @@ impl Volume {
         ensures objects { ObjectsStillStaged self.old self.new }
         ensures here { are_counters_staged self.new ≡ true }
     {
-        let mut block = [0; BLOCK_SIZE];
-        write_globals(&g, &mut block);
+        self.pages.stage_start(GLOBALS_BLOCK, &globals_start(&g));
         self.globals = g;
-        self.pages.stage(GLOBALS_BLOCK, &block);
     }
 
     /// Stages the row of thread t, 1 to 256, in place of the one that it has, or that there is no such thread. Its block is
@@ -82,10 +79,9 @@ impl Volume {
         ensures objects { ObjectsStillStaged self.old self.new }
         ensures here { is_thread_staged self.new t ≡ true }
     {
-        let block = block_of(&row);
+        stage_any(&mut self.pages, FIRST_THREAD_BLOCK + t - 1, &row);
         self.threads.put(t, row);
         self.threads.keep_rules();
-        self.pages.stage(FIRST_THREAD_BLOCK + t - 1, &block);
     }
 
     // No two threads have one number, as in each volume.
@@ -191,8 +187,7 @@ impl Volume {
             Some(_row) => {
                 self.threads.stand(t, pc, state, regs);
                 self.threads.keep_rules();
-                let block = self.threads.block(t);
-                self.pages.stage(FIRST_THREAD_BLOCK + t - 1, &block);
+                stage_held(&mut self.pages, &self.threads, t);
             }
             None => unreachable!(),
         }
@@ -216,15 +211,5 @@ impl Volume {
         globals.set_draws(draws.count());
         self.stage_globals(globals);
         password
-    }
-}
-
-// The block of a thread's row.
-fn block_of(row: &Option<ThrRow>) -> Block
-    ensures { thread_read result ≡ Some row.now }
-{
-    match row {
-        Some(row) => thread_block(Some(row)),
-        None => thread_block(None),
     }
 }

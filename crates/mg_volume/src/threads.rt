@@ -4,30 +4,31 @@ ghost use Rattle.std.specs.Option.{ForSome, option_copied, option_map};
 ghost use Rattle.mg_check.specs.RowsRead.{ArePlaced};
 ghost use Rattle.mg_model.specs.Limits.{thread_limit};
 ghost use Rattle.mg_model.specs.Ranges.{IsThreadRow};
-ghost use Rattle.mg_model.specs.Spelling.{thread_read};
 ghost use Rattle.mg_model.specs.State.{ThreadRow};
 ghost use Rattle.mg_model.specs.Turn.{is_ready};
-ghost use Rattle.mg_volume.specs.Numbered.{IsFreeNumber, has_turn, numbered, rows_with};
+ghost use Rattle.mg_volume.specs.Numbered.{IsFreeNumber, has_turn, numbered, rows_with, turn_mark};
 ghost use Rattle.mg_volume.specs.RowLists.{DistinctBy};
 ghost use Rattle.mg_volume.specs.Standing.{stands_at};
 
-use mg_disk::Block;
+use memchr::memchr;
 use mg_model::{ThrRow, ThrState};
-use mg_rows::thread_block;
 use std::alloc::{AllocError, Global};
 use std::marker::Model;
 
 /// How many threads a volume has at most.
 const MOST_THREADS: usize = 256;
 
+/// The mark of a thread that is Ready; that of any other place is 0.
+const READY: u8 = 1;
+
 /// The threads of a volume, in the order of their numbers.
 #[derive(Drop)]
 pub(crate) struct Threads {
     // The row of thread t, if it lives, in place t - 1.
     rows: Vec<Option<ThrRow>>,
-    // Whether there is one in each place, and whether it is Ready: a search reads no row.
+    // Whether there is one in each place, and a mark of whether it is Ready: a search reads no row.
     taken: Vec<bool>,
-    ready: Vec<bool>,
+    ready: Vec<u8>,
 }
 
 impl Model for Threads {
@@ -51,7 +52,7 @@ impl Threads {
     {
         let rows = no_rows(alloc)?;
         let taken = no_marks(alloc)?;
-        let ready = no_marks(alloc)?;
+        let ready = no_turns(alloc)?;
         Ok(Threads { rows, taken, ready })
     }
 
@@ -83,17 +84,6 @@ impl Threads {
         }
     }
 
-    /// The block of the row of thread t, 1 to 256, which is there.
-    pub(crate) fn block(&self, t: u64) -> Block
-        requires there { is_some (option_map (λ thread. thread.1) (find (λ thread. thread.0 == t) self.now)) ≡ true }
-        ensures { (row : ThreadRow) → option_map (λ thread. thread.1) (find (λ thread. thread.0 == t) self.now) ≡ Some row → thread_read result ≡ Some (Some row) }
-    {
-        match self.get(t) {
-            Some(row) => thread_block(Some(row)),
-            None => unreachable!(),
-        }
-    }
-
     /// Another row for thread t, 1 to 256, or that there is no such thread.
     pub(crate) fn put(&mut self, t: u64, row: Option<ThrRow>)
         requires t_at_least_1 { 1 ≤ t }
@@ -103,7 +93,7 @@ impl Threads {
         keep_range(&row);
         let place = t as usize - 1;
         self.taken[place] = row.is_some();
-        self.ready[place] = has_turn(&row);
+        self.ready[place] = turn_mark(&row);
         self.rows[place] = row;
     }
 
@@ -119,7 +109,7 @@ impl Threads {
         let place = t as usize - 1;
         stand(&mut self.rows[place], pc, state, regs);
         self.taken[place] = self.rows[place].is_some();
-        self.ready[place] = has_turn(&self.rows[place]);
+        self.ready[place] = turn_mark(&self.rows[place]);
     }
 
     /// The lowest number that no thread has; none where there are 256.
@@ -138,7 +128,7 @@ impl Threads {
         requires { t ≤ 256 }
         ensures { result ≡ option_map (λ thread. thread.0) (find (λ thread. is_ready thread.1.state && nat_lt t thread.0) self.now) }
     {
-        match first_true(&self.ready[t as usize..]) {
+        match first_ready(&self.ready[t as usize..]) {
             Some(at) => Some(t + at as u64 + 1),
             None => None,
         }
@@ -161,11 +151,11 @@ fn first_free(taken: &[bool]) -> Option<usize>
     taken.iter().position(|is| !*is)
 }
 
-// The first place of which this is said.
-fn first_true(of: &[bool]) -> Option<usize>
-    ensures { result ≡ position (λ is. is) of.now }
+// The first place whose mark is that of a thread that is Ready.
+fn first_ready(marks: &[u8]) -> Option<usize>
+    ensures { result ≡ position (λ mark. mark == 1) marks.now }
 {
-    of.iter().position(|is| *is)
+    memchr(READY, marks)
 }
 
 // Whether a row is that of a thread that is Ready.
@@ -176,6 +166,13 @@ fn has_turn(row: &Option<ThrRow>) -> bool
         Some(row) => row.state() == ThrState::Ready,
         None => false,
     }
+}
+
+// The mark of a row.
+fn turn_mark(row: &Option<ThrRow>) -> u8
+    ensures { result ≡ turn_mark row.now }
+{
+    if has_turn(row) { READY } else { 0 }
 }
 
 // A thread stands elsewhere, if there is one.
@@ -228,4 +225,11 @@ fn no_marks(alloc: Global) -> Result<Vec<bool>, AllocError>
     ensures { IfOk result (λ marks. marks.items ≡ replicate 256 false) }
 {
     Ok(Vec::from_array(alloc, [false; MOST_THREADS])?)
+}
+
+// No thread in any place is Ready.
+fn no_turns(alloc: Global) -> Result<Vec<u8>, AllocError>
+    ensures { IfOk result (λ marks. marks.items ≡ replicate 256 0) }
+{
+    Ok(Vec::from_array(alloc, [0; MOST_THREADS])?)
 }

@@ -38,6 +38,8 @@ pub struct Volume {
     pub(crate) bank: Bank,
     pub(crate) threads: Threads,
     pub(crate) pages: Pages,
+    // The rank of the object that was looked for last by an address.
+    pub(crate) near: usize,
 }
 
 impl Model for Volume {
@@ -109,11 +111,12 @@ impl Volume {
         }
     }
 
-    /// The base of the object that has an address.
-    pub fn base_at(&self, a: u64) -> Option<u64>
-        ensures { MatchOption result (find (λ row. covers row a) (objects_in self.now) ≡ None) (λ base. IsBaseAt self.now a base) }
+    /// The base of the object that has an address. The one that was found last is looked at first.
+    pub fn base_at(&mut self, a: u64) -> Option<u64>
+        ensures base { MatchOption result (find (λ row. covers row a) (objects_in self.old) ≡ None) (λ base. IsBaseAt self.old a base) }
+        ensures same { self.new ≡ self.old }
     {
-        match self.objects.covering(a) {
+        match self.objects.covering_near(a, &mut self.near) {
             Some(row) => Some(row.base()),
             None => None,
         }

@@ -6,7 +6,7 @@ use Rattle.mg_volume.proofs.threads.Threads.put.Goals as goal
 
 pub invariant_of-self : goal.invariant_of-self
 invariant_of-self c =
-    put_listed c.self.inside.rows.items c.self.inside.taken.items c.self.inside.ready.items (c.args.t - 1) c.args.row c.is_some.result c.has_turn.result c.keep_range.ensures c.is_some.ensures c.has_turn.ensures c.self.invariant
+    put_listed c.self.inside.rows.items c.self.inside.taken.items c.self.inside.ready.items (c.args.t - 1) c.args.row c.is_some.result c.turn_mark.result c.keep_range.ensures c.is_some.ensures c.turn_mark.ensures c.self.invariant
 
 pub returns : goal.returns
 returns c =

@@ -5,7 +5,7 @@ use Rattle.std.proofs.lemmas.List.{get_or-set_same, get_or_default}
 use Rattle.mg_model.specs.State.{ThreadRow}
 use Rattle.mg_volume.proofs.ByNumber.{put_is, thread_at}
 use Rattle.mg_volume.proofs.ThreadSearch.{put_listed}
-use Rattle.mg_volume.specs.Numbered.{has_turn, is_taken, rows_with}
+use Rattle.mg_volume.specs.Numbered.{is_taken, rows_with, turn_mark}
 use Rattle.mg_volume.specs.Standing.{stands_at}
 use Rattle.mg_volume.proofs.threads.Threads.stand.Goals as goal
 
@@ -22,8 +22,8 @@ invariant_of-self c =
     let k = c.args.t - 1 in
     let new = c.stand.new.row in
     let taken : c.is_some.result ≡ is_taken new = c.is_some.ensures ∙ ap is_some (c.index.ensures ∙ get_or-set_same rows k new c.index.result.now (within c)) in
-    let turn : c.has_turn.result ≡ has_turn new = c.has_turn.ensures ∙ ap has_turn (c.index-2.ensures ∙ get_or-set_same rows k new c.index-2.result.now (within c)) in
-    put_listed rows c.self.inside.taken.items c.self.inside.ready.items k new c.is_some.result c.has_turn.result c.stand.ensures.kept taken turn c.self.invariant
+    let turn : c.turn_mark.result ≡ turn_mark new = c.turn_mark.ensures ∙ ap turn_mark (c.index-2.ensures ∙ get_or-set_same rows k new c.index-2.result.now (within c)) in
+    put_listed rows c.self.inside.taken.items c.self.inside.ready.items k new c.is_some.result c.turn_mark.result c.stand.ensures.kept taken turn c.self.invariant
 
 -- the row that was there
 was : (c : goal.After-self-3-1) (row : ThreadRow) → option_map (λ (x : ℕ × ThreadRow). x.1) (find (λ (x : ℕ × ThreadRow). x.0 == c.args.t) c.args.self.now) ≡ Some row → c.index_mut.result.now ≡ Some row

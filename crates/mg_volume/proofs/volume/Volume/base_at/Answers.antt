@@ -1,23 +1,26 @@
 use Rattle.std.proofs.Common.{◌≡◌, None, Some, sym, subst}
-use Rattle.std.specs.Prelude.{find}
+use Rattle.std.specs.Prelude.{ℕ, find, MatchOption, Option}
 use Rattle.mg_model.specs.Access.{covers}
 use Rattle.mg_volume.proofs.Found.{row_found}
 use Rattle.mg_volume.specs.Held.{VolumeHeld}
 use Rattle.mg_volume.specs.Meaning.{IsBaseAt, objects_in}
 use Rattle.mg_volume.specs.contracts.volume.Volume.{the_view}
 use Rattle.mg_volume.proofs.volume.Volume.base_at.Goals as goal
+use Rattle.mg_volume.proofs.volume.Volume.base_at.Goals.{in-Some, in-None}
 
-pub returns-in-Some : goal.returns-in-Some
-returns-in-Some c =
-    subst (λ (v : VolumeHeld). IsBaseAt v c.args.a c.base.result) c.self.view_is
-    (record {
-      row = c.in-Some.row.now;
-      found = sym (row_found (the_view c.self.inside) (λ row. covers row c.args.a) (Some c.in-Some.row.now) c.in-Some.ensures);
-      is = c.base.ensures.value;
-      rules = c.base.ensures.kept;
-    })
-
-pub returns-in-None : goal.returns-in-None
-returns-in-None c =
-    subst (λ (v : VolumeHeld). find (λ row. covers row c.args.a) (objects_in v) ≡ None) c.self.view_is
-    (sym (row_found (the_view c.self.inside) (λ row. covers row c.args.a) None c.in-None.ensures))
+pub returns-clause-base : goal.returns-clause-base
+returns-clause-base c =
+    let P : Option ℕ → Type 0 = λ result. MatchOption result (find (λ row. covers row c.args.a) (objects_in c.args.self.now) ≡ None) (λ base. IsBaseAt c.args.self.now c.args.a base) in
+    elim c.match-covering_near.branch [
+      | in-Some w ↦ subst P (sym w.result-is)
+          (subst (λ (v : VolumeHeld). IsBaseAt v c.args.a w.base.result) c.self.view_is
+          (record {
+            row = w.in-Some.row.now;
+            found = sym (row_found (the_view c.self.inside) (λ row. covers row c.args.a) (Some w.in-Some.row.now) w.in-Some.ensures);
+            is = w.base.ensures.value;
+            rules = w.base.ensures.kept;
+          }))
+      | in-None w ↦ subst P (sym w.result-is)
+          (subst (λ (v : VolumeHeld). find (λ row. covers row c.args.a) (objects_in v) ≡ None) c.self.view_is
+          (sym (row_found (the_view c.self.inside) (λ row. covers row c.args.a) None w.in-None.ensures)))
+    ]

@@ -8,14 +8,14 @@ use Rattle.mg_volume.specs.Meaning.{objects_in}
 use Rattle.mg_volume.specs.contracts.volume.Volume.{the_view}
 use Rattle.mg_volume.proofs.volume.Volume.stage_thread.Goals as goal
 
-pub stage-requires-clause-staged_or_fewer_than_160 : goal.stage-requires-clause-staged_or_fewer_than_160
-stage-requires-clause-staged_or_fewer_than_160 c = thread_room (the_view c.self.inside) c.args.t (rw (← c.self.view_is) at c.requires.staged_or_fewer_than_160)
+pub stage_any-requires-clause-staged_or_fewer_than_160 : goal.stage_any-requires-clause-staged_or_fewer_than_160
+stage_any-requires-clause-staged_or_fewer_than_160 c = thread_room (the_view c.self.inside) c.args.t (rw (← c.self.view_is) at c.requires.staged_or_fewer_than_160)
 
 pub invariant_of-self : goal.invariant_of-self
 invariant_of-self c = record {
   kept =
       let v = the_view c.self.inside in
-      held_same (record v { threads = c.put.new.self }) c.stage.new.self (held_threads v c.put.new.self c.self.invariant.kept c.keep_rules.ensures.at_most_256) c.stage.ensures.shape.frames c.stage.ensures.table;
+      held_same (record v { threads = c.put.new.self }) c.stage_any.new.pages (held_threads v c.put.new.self c.self.invariant.kept c.keep_rules.ensures.at_most_256) c.stage_any.ensures.shape.frames c.stage_any.ensures.table;
   paid = c.self.invariant.paid;
 }
 
@@ -23,25 +23,25 @@ pub returns-clause-now : goal.returns-clause-now
 returns-clause-now c image =
     let number : c.args.t - 1 + 1 ≡ c.args.t = omega arith in
     rw (← c.self.view_is)
-    (thread_now (the_view c.self.inside) c.stage.new.self image c.args.t (c.args.t - 1) c.args.row c.put.new.self c.block_of-block.result number (omega arith) (c.stage.ensures.coming image) c.put.ensures c.stage.ensures.table)
+    (thread_now (the_view c.self.inside) c.stage_any.new.pages image c.args.t (c.args.t - 1) c.args.row c.put.new.self c.stage_any.ensures.bytes number (omega arith) (c.stage_any.ensures.coming image) c.put.ensures c.stage_any.ensures.table)
 
 pub returns-clause-rows : goal.returns-clause-rows
 unfolding objects_in
-returns-clause-rows c = rw (← c.self.view_is) (same_objects (the_view c.self.inside) c.stage.new.self)
+returns-clause-rows c = rw (← c.self.view_is) (same_objects (the_view c.self.inside) c.stage_any.new.pages)
 
 pub returns-clause-stages : goal.returns-clause-stages
 returns-clause-stages c =
     let v = the_view c.self.inside in
     let number : c.args.t - 1 + 1 ≡ c.args.t = omega arith in
     rw (← c.self.view_is)
-    (stages_is v (with_threads v c.put.new.self c.stage.new.self) 1 refl c.stage.ensures.shape c.stage.ensures.words c.stage.ensures.staged
+    (stages_is v (with_threads v c.put.new.self c.stage_any.new.pages) 1 refl c.stage_any.ensures.shape c.stage_any.ensures.words c.stage_any.ensures.staged
     (λ image was.
-    thread_spelled v c.stage.new.self image c.args.t (c.args.t - 1) c.args.row c.put.new.self c.block_of-block.result number (omega arith) (c.stage.ensures.coming image) c.put.ensures was (c.stage.ensures.spelled image) c.stage.ensures.shape.frames c.block_of-block.ensures))
+    thread_spelled v c.stage_any.new.pages image c.args.t (c.args.t - 1) c.args.row c.put.new.self c.stage_any.ensures.bytes number (omega arith) (c.stage_any.ensures.coming image) c.put.ensures was (c.stage_any.ensures.spelled image) c.stage_any.ensures.shape.frames c.stage_any.ensures.read))
 
 pub returns-clause-objects : goal.returns-clause-objects
 returns-clause-objects c =
     let v = the_view c.self.inside in
-    rw (← c.self.view_is) (objects_wait v (with_threads v c.put.new.self c.stage.new.self) refl c.stage.ensures.staged.still)
+    rw (← c.self.view_is) (objects_wait v (with_threads v c.put.new.self c.stage_any.new.pages) refl c.stage_any.ensures.staged.still)
 
 pub returns-clause-here : goal.returns-clause-here
-returns-clause-here c = thread_here (with_threads (the_view c.self.inside) c.put.new.self c.stage.new.self) c.args.t c.stage.ensures.here
+returns-clause-here c = thread_here (with_threads (the_view c.self.inside) c.put.new.self c.stage_any.new.pages) c.args.t c.stage_any.ensures.here

@@ -1,0 +1,54 @@
+// The block of a thread's row, as it is staged.
+ghost use Rattle.std.specs.Prelude.{◌≡◌, ◌⊎◌, ◌≤◌, ◌<◌, ◌+◌, ◌-◌, ◌==◌, true, find, is_some, Some};
+ghost use Rattle.std.specs.Option.{option_map};
+ghost use Rattle.mg_model.specs.Layout.{body_limit, first_thread_block, globals_block, table_block};
+ghost use Rattle.mg_model.specs.State.{ThreadRow};
+ghost use Rattle.mg_pages.specs.Meaning.{is_staged, staged_of};
+ghost use Rattle.mg_volume.specs.Standing.{StagesThread};
+
+use crate::threads::Threads;
+use mg_layout::FIRST_THREAD_BLOCK;
+use mg_model::ThrRow;
+use mg_pages::Pages;
+use mg_rows::{MOST_START_FRAMES, thread_block, thread_start};
+
+/// Stages the block that spells this row of a thread, or that there is none.
+pub(crate) fn stage_any(pages: &mut Pages, block: u64, row: &Option<ThrRow>)
+    requires low { globals_block ≤ block }
+    requires high { block < table_block }
+    requires staged_or_fewer_than_160 { (is_staged pages.old block ≡ true) ⊎ (staged_of pages.old < body_limit) }
+    ensures { StagesThread block row.now pages.old pages.new }
+{
+    match row {
+        Some(row) => stage_row(pages, block, row),
+        None => pages.stage(block, &thread_block(None)),
+    }
+}
+
+/// The same of the row that thread t, 1 to 256, has.
+pub(crate) fn stage_held(pages: &mut Pages, threads: &Threads, t: u64)
+    requires t_at_least_1 { 1 ≤ t }
+    requires t_at_most_256 { t ≤ 256 }
+    requires there { is_some (option_map (λ thread. thread.1) (find (λ thread. thread.0 == t) threads.now)) ≡ true }
+    requires staged_or_fewer_than_160 { (is_staged pages.old (first_thread_block + t - 1) ≡ true) ⊎ (staged_of pages.old < body_limit) }
+    ensures { (row : ThreadRow) → option_map (λ thread. thread.1) (find (λ thread. thread.0 == t) threads.now) ≡ Some row → StagesThread (first_thread_block + t - 1) (Some row) pages.old pages.new }
+{
+    match threads.get(t) {
+        Some(row) => stage_row(pages, FIRST_THREAD_BLOCK + t - 1, row),
+        None => unreachable!(),
+    }
+}
+
+// The same of a row that is there. Where it has few frames no block is spelled whole.
+fn stage_row(pages: &mut Pages, block: u64, row: &ThrRow)
+    requires low { globals_block ≤ block }
+    requires high { block < table_block }
+    requires staged_or_fewer_than_160 { (is_staged pages.old block ≡ true) ⊎ (staged_of pages.old < body_limit) }
+    ensures { StagesThread block (Some row.now) pages.old pages.new }
+{
+    if row.frames().len() <= MOST_START_FRAMES {
+        pages.stage_start(block, &thread_start(row));
+    } else {
+        pages.stage(block, &thread_block(Some(row)));
+    }
+}
