@@ -239,6 +239,27 @@ def jumping(threads):
     return ["1 store 0x100000200 0x8", *["1 thread 0x100000200"] * threads]
 
 
+def crowd():
+    """Lines that add 4,095 objects and 254 threads, each of which has halted."""
+    return machine_with(4096) + ["1 thread 0x100000300"] * 254 + ["next"] * 255
+
+
+def measure_instructions(program):
+    """Instructions of a line of each kind, alone and among 4,096 objects and 256 threads."""
+    kinds = {
+        "a load": (LOAD, []),
+        "a store into a first page": (STORE_ASIDE, ASIDE),
+        "a store into the page of the thread's list": (STORE, []),
+        "a turn that jumps": ("2 turn", jumping(1)),
+        "`next`, the same, 1 Ready": ("next", jumping(1)),
+    }
+    for name, (line, before) in kinds.items():
+        alone, among = (instructions(program, line, before + more) for more in ([], crowd()))
+        row(f"instructions of {name}", f"{alone:,.0f}", f"among 4,096 objects and 256 threads {among:,.0f}", f"{among / alone:.2f}")
+    row("instructions of `next`, the same, 255 Ready", f"{instructions(program, 'next', jumping(255)):,.0f}")
+    row("instructions of a line of `gen`, on average", f"{generated(program):,.0f}")
+
+
 def disk_calls(program, volume, lines):
     """The writes and the syncs of a run of these lines, a line a commit, less those of one on no lines."""
     counts = []
@@ -432,16 +453,7 @@ def main():
     with tempfile.TemporaryDirectory(dir=words.folder) as folder:
         measure_millions(program, words.before and os.path.abspath(words.before), folder)
     if shutil.which("valgrind"):
-        loads = {objects: instructions(program, LOAD, machine_with(objects)) for objects in (1, 64, 4096)}
-        for objects, count in loads.items():
-            row(f"instructions of a load, {objects:,} objects", f"{count:,.0f}", "1 object", f"{count / loads[1]:.2f}")
-        row("instructions of a store into a first page", f"{instructions(program, STORE_ASIDE, ASIDE):,.0f}")
-        row("instructions of a store into the page of the thread's list", f"{instructions(program, STORE):,.0f}")
-        row("instructions of a turn that jumps", f"{instructions(program, '2 turn', jumping(1)):,.0f}")
-        turns = {threads: instructions(program, "next", jumping(threads)) for threads in (1, 255)}
-        for threads, count in turns.items():
-            row(f"instructions of `next`, the same, {threads:,} Ready", f"{count:,.0f}", "1 Ready", f"{count / turns[1]:.2f}")
-        row("instructions of a line of `gen`, on average", f"{generated(program):,.0f}")
+        measure_instructions(program)
     else:
         print("valgrind is not there: no counts of instructions", file=sys.stderr)
     if words.svg:
