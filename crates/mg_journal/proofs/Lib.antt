@@ -4,6 +4,7 @@ mod Bodies
 mod ClosingSteps
 mod CommitRuns
 mod CommitSteps
+mod Hints
 mod Homes
 mod Lookups
 mod NewestSteps

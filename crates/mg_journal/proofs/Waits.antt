@@ -1,5 +1,5 @@
 -- What waits for a block, by the place of the write to it.
-use Rattle.std.specs.Prelude.{◌≡◌, ◌<◌, ℕ, List, [], ◌∷◌, ◌++◌, length, option_map, position, slice_set, Some, None}
+use Rattle.std.specs.Prelude.{◌≡◌, ◌<◌, ℕ, List, [], ◌∷◌, ◌++◌, length, option_map, position, slice_set, Option, Some, None}
 use Rattle.std.specs.List.{position_or_len, slice_get}
 use Rattle.std.specs.Option.{option_map_or}
 use Rattle.std.proofs.Common.{refl, ap, cond, sym, ◌∙◌, ⊎_elim, arith}
@@ -56,6 +56,14 @@ module _ (writes : List (ℕ × List ℕ)) (block : ℕ) where
         ∙ ap (λ (write : ℕ × List ℕ). slice_set (slice_set writes place (home_at writes place, bytes)) place (write.0, f write.1)) here
         ∙ set-set writes place (home_at writes place, bytes) (home_at writes place, f bytes)
         ∙ staged-there (f bytes)
+
+  -- nothing waits only where no write goes there
+  pub none_waits : waiting writes block ≡ None → position (goes_to block) writes ≡ None
+  none_waits none = at (position (goes_to block) writes) refl
+    where
+      at : (place : Option ℕ) → position (goes_to block) writes ≡ place → position (goes_to block) writes ≡ None
+      at None is = is
+      at (Some place) is = absurd (none-some (bytes_of writes place) (sym none ∙ waits-there place is))
 
 -- other bytes for the last of some writes
 put-last : (writes : List (ℕ × List ℕ)) (block : ℕ) (bytes : List ℕ) (f : List ℕ → List ℕ) → let more = writes ++ (block, bytes) ∷ [] in

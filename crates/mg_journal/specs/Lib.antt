@@ -6,6 +6,7 @@ pub mod Looked
 pub mod Held
 pub mod Standing
 pub mod Staged
+pub mod Hinted
 -- What the parts of a commit and of an opening do.
 pub mod Phases
 pub mod Applied

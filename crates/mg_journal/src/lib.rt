@@ -17,6 +17,7 @@
 mod applying;
 mod committing;
 mod faults;
+mod home_list;
 mod index;
 mod places;
 mod reading;

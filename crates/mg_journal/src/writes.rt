@@ -5,6 +5,7 @@ ghost use Rattle.mg_model.specs.Bytes.{word_bytes};
 ghost use Rattle.mg_model.specs.Layout.{block_size, body_limit};
 ghost use Rattle.mg_journal.specs.Staged.{IsRunOf, are_once, bytes_of, goes_to, home_at, staged, waiting};
 
+use crate::home_list::Homes;
 use crate::index::{add_home, clear_index};
 use mg_disk::{BLOCK_SIZE, Block};
 use mg_layout::{BODY_LIMIT, put_number};
@@ -18,7 +19,7 @@ pub const MOST_WRITES: usize = BODY_LIMIT as usize;
 #[derive(Drop)]
 pub struct Writes {
     // The blocks that are to be written.
-    homes: Vec<u64>,
+    homes: Homes,
     // The index of a segment that has these homes, and behind it what will be written at each.
     blocks: Vec<Block>,
 }
@@ -30,9 +31,9 @@ impl Model for Writes {
 
     ghost Value = { List (ℕ × List ℕ) };
 
-    ghost view = { λ w. paired w.homes.items w.blocks.items 1 };
+    ghost view = { λ w. paired w.homes w.blocks.items 1 };
 
-    ghost invariant = { λ w. (body_limit ≤ vec_capacity w.homes) × (body_limit + 1 ≤ vec_capacity w.blocks) × AreHeld w.homes.items w.blocks.items };
+    ghost invariant = { λ w. (body_limit + 1 ≤ vec_capacity w.blocks) × AreHeld w.homes w.blocks.items };
 }
 
 impl Writes {
@@ -40,7 +41,7 @@ impl Writes {
     pub fn new(alloc: Global) -> Result<Writes, AllocError>
         ensures empty { IfOk result (λ writes. writes ≡ []) }
     {
-        let homes = Vec::with_capacity(alloc, MOST_WRITES)?;
+        let homes = Homes::new(alloc)?;
         let mut blocks = Vec::with_capacity(alloc, MOST_WRITES + 1)?;
         let mut index = [0; BLOCK_SIZE];
         clear_index(&mut index);
@@ -62,7 +63,7 @@ impl Writes {
     fn place_of(&self, block: u64) -> Option<usize>
         ensures { result ≡ position (goes_to block) self.now }
     {
-        place_among(&self.homes, block)
+        self.homes.place_of(block)
     }
 
     /// The block that write `k` goes to. They are numbered from 0, in the order in which their blocks were first staged.
@@ -70,7 +71,7 @@ impl Writes {
         requires there { k < length self.now }
         ensures home { result ≡ home_at self.now k }
     {
-        self.homes[k]
+        self.homes.at(k)
     }
 
     /// What write `k` puts there, numbered as for [`Writes::home`].
@@ -181,7 +182,7 @@ impl Writes {
         ensures { self.new ≡ self.old ++ (block, from.now) ∷ [] }
     {
         add_home(&mut self.blocks[0], self.homes.len(), block);
-        self.homes.push_reserved(block);
+        self.homes.push(block);
         self.blocks.push_reserved(*from);
     }
 
@@ -193,13 +194,6 @@ impl Writes {
         self.blocks.truncate(1);
         clear_index(&mut self.blocks[0]);
     }
-}
-
-// The first place of this block among these.
-fn place_among(homes: &[u64], block: u64) -> Option<usize>
-    ensures { result ≡ position (λ home. home == block) homes.now }
-{
-    homes.iter().position(|home| *home == block)
 }
 
 // Puts other bytes over the first ones of a block.

@@ -1,32 +1,41 @@
 use Rattle.std.proofs.Common.{◌≡◌, ◌*◌, ◌+◌, ◌++◌, ◌<◌, ◌∙◌, ◌∷◌, [], List, None, ap, arith, length, subst, sym, ℕ}
 use Rattle.mg_model.specs.Bytes.{number_at}
 use Rattle.mg_model.specs.Layout.{body_limit}
-use Rattle.mg_journal.proofs.Pairs.{held_added, index_held, long_held, pairs_added, pairs_count}
+use Rattle.mg_journal.proofs.Pairs.{held_added, index_held, long_held, pairs_added, pairs_count, pairs_position}
+use Rattle.mg_journal.proofs.Waits.{none_waits}
 use Rattle.mg_journal.specs.Staged.{AreHeld, paired, waiting}
 use Rattle.mg_journal.proofs.writes.Writes.add.Goals as goal
 
 pub add_home-requires : goal.add_home-requires
 add_home-requires c =
-    let n = pairs_count c.self.inside.homes.items c.self.inside.blocks.items 1 in
+    let n = pairs_count c.self.inside.homes c.self.inside.blocks.items 1 in
     let few = subst (λ (ws : List (ℕ × List ℕ)). length ws < body_limit) (sym c.self.view_is) c.requires.fewer_than_160 in
-    omega (arith, c.len.ensures, c.self.inside.homes.ok.0)
+    record { fewer_than_160 = omega (arith, c.len.ensures.count) }
+
+pub push-requires-clause-fewer_than_160 : goal.push-requires-clause-fewer_than_160
+push-requires-clause-fewer_than_160 c =
+    let n = pairs_count c.self.inside.homes c.self.inside.blocks.items 1 in
+    let few = subst (λ (ws : List (ℕ × List ℕ)). length ws < body_limit) (sym c.self.view_is) c.requires.fewer_than_160 in
+    omega arith
+
+pub push-requires-clause-new : goal.push-requires-clause-new
+push-requires-clause-new c =
+    let homes = c.self.inside.homes in
+    let blocks = c.self.inside.blocks.items in
+    let block = c.args.block in
+    let none = subst (λ (ws : List (ℕ × List ℕ)). waiting ws block ≡ None) (sym c.self.view_is) c.requires.new in
+    sym (pairs_position homes blocks 1 block) ∙ none_waits (paired homes blocks 1) block none
 
 pub push_reserved-requires : goal.push_reserved-requires
 push_reserved-requires c =
-    let n = pairs_count c.self.inside.homes.items c.self.inside.blocks.items 1 in
+    let n = pairs_count c.self.inside.homes c.self.inside.blocks.items 1 in
+    let m = long_held c.self.inside.homes c.self.inside.blocks.items c.self.invariant.1 in
     let few = subst (λ (ws : List (ℕ × List ℕ)). length ws < body_limit) (sym c.self.view_is) c.requires.fewer_than_160 in
-    omega (arith, c.self.inside.homes.ok.0, c.self.invariant.0)
-
-pub push_reserved-requires-2 : goal.push_reserved-requires-2
-push_reserved-requires-2 c =
-    let n = pairs_count c.self.inside.homes.items c.self.inside.blocks.items 1 in
-    let m = long_held c.self.inside.homes.items c.self.inside.blocks.items c.self.invariant.2 in
-    let few = subst (λ (ws : List (ℕ × List ℕ)). length ws < body_limit) (sym c.self.view_is) c.requires.fewer_than_160 in
-    omega (arith, c.self.inside.blocks.ok.0, c.self.invariant.1)
+    omega (arith, c.self.inside.blocks.ok.0, c.self.invariant.0)
 
 pub invariant_of-self : goal.invariant_of-self
 invariant_of-self c =
-    let homes = c.self.inside.homes.items in
+    let homes = c.self.inside.homes in
     let blocks = c.self.inside.blocks.items in
     let home = c.args.block in
     let index = c.add_home.new.index in
@@ -34,26 +43,25 @@ invariant_of-self c =
     let n = pairs_count homes blocks 1 in
     let few = subst (λ (ws : List (ℕ × List ℕ)). length ws < body_limit) (sym c.self.view_is) c.requires.fewer_than_160 in
     let new = subst (λ (ws : List (ℕ × List ℕ)). waiting ws home ≡ None) (sym c.self.view_is) c.requires.new in
-    let count : c.len.result ≡ length homes = omega (arith, c.len.ensures, c.self.inside.homes.ok.0) in
-    let was = c.index_mut.ensures.value ∙ index_held homes blocks c.self.invariant.2 c.index_mut.result.now in
+    let count : c.len.result ≡ length homes = c.len.ensures.count in
+    let was = c.index_mut.ensures.value ∙ index_held homes blocks c.self.invariant.1 c.index_mut.result.now in
     let held =
-    held_added homes blocks c.self.invariant.2 home index x (omega arith) new
+    held_added homes blocks c.self.invariant.1 home index x (omega arith) new
     (subst (λ k. number_at index 0 ≡ k + 1) count c.add_home.ensures.count)
     (subst (λ k. number_at index (8 + 8 * k) ≡ home) count c.add_home.ensures.home)
     (λ j below. c.add_home.ensures.others j (omega arith) ∙ ap (λ (b : List ℕ). number_at b (8 + 8 * j)) was) in (
       omega (arith, c.self.invariant.0, c.push_reserved.ensures.capacity),
-      omega (arith, c.self.invariant.1, c.push_reserved-2.ensures.capacity),
-      subst (λ (hs : List ℕ). AreHeld hs c.push_reserved-2.new.self.items) (sym c.push_reserved.ensures.items)
-          (subst (λ (bs : List (List ℕ)). AreHeld (homes ++ home ∷ []) bs) (sym c.push_reserved-2.ensures.items) held),
+      subst (λ (hs : List ℕ). AreHeld hs c.push_reserved.new.self.items) (sym c.push.ensures.added)
+          (subst (λ (bs : List (List ℕ)). AreHeld (homes ++ home ∷ []) bs) (sym c.push_reserved.ensures.items) held),
     )
 
 pub returns : goal.returns
 returns c =
-    let homes = c.self.inside.homes.items in
+    let homes = c.self.inside.homes in
     let blocks = c.self.inside.blocks.items in
     let home = c.args.block in
     let x = c.args.from.now in
-    ap (λ (hs : List ℕ). paired hs c.push_reserved-2.new.self.items 1) c.push_reserved.ensures.items
-    ∙ ap (λ (bs : List (List ℕ)). paired (homes ++ home ∷ []) bs 1) c.push_reserved-2.ensures.items
-    ∙ pairs_added homes blocks c.self.invariant.2 home c.add_home.new.index x
+    ap (λ (hs : List ℕ). paired hs c.push_reserved.new.self.items 1) c.push.ensures.added
+    ∙ ap (λ (bs : List (List ℕ)). paired (homes ++ home ∷ []) bs 1) c.push_reserved.ensures.items
+    ∙ pairs_added homes blocks c.self.invariant.1 home c.add_home.new.index x
     ∙ ap (λ (ws : List (ℕ × List ℕ)). ws ++ (home, x) ∷ []) c.self.view_is
