@@ -1,22 +1,26 @@
 -- What is kept tells of an access, and what is found backs the seat that it fills.
-use Rattle.std.proofs.Common.{ℕ, ◌≡◌, ◌==◌, ◌&&◌, Bool, true, false, List, if◌then◌else◌, Option, Some, None, sym, ap, subst, ◌∙◌}
+use Rattle.std.proofs.Common.{ℕ, ◌≡◌, ◌==◌, ◌&&◌, Bool, true, false, List, if◌then◌else◌, Option, Some, None, refl, sym, ap, subst, ◌∙◌}
 use Rattle.std.specs.Prelude.{Contains, find, map, option_map}
 use Rattle.std.specs.List.{list_any}
 use Rattle.std.proofs.lemmas.List.Folds.{list_any-from_Any}
 use Rattle.mg_calls_dom.proofs.Apart.{found-object}
 use Rattle.mg_calls_dom.specs.KnownLemmas.{find-rows}
 use Rattle.mg_calls_dom.proofs.Reached.{reached-some}
-use Rattle.mg_calls_dom.specs.Searching.{IsOpenedBy, allowed_row, slot_opens}
+use Rattle.mg_calls_dom.specs.Searching.{IsOpenedBy, IsSoughtAt, allowed_row, slot_opens}
 use Rattle.mg_calls_dom.specs.declared.lists.Sought.{Sought}
+use Rattle.mg_disk.specs.Disk.{Image}
 use Rattle.mg_laws.specs.Backing.{BackedAllows, OpeningBacks}
 use Rattle.mg_model.specs.declared.rights.Right.{Right}
 use Rattle.mg_model.specs.declared.seats.Seat.{Seat}
 use Rattle.mg_model.specs.Access.{allowed, at, covers, domain_of, entries_under, holds}
 use Rattle.mg_model.specs.Backed.{IsBacked}
-use Rattle.mg_model.specs.State.{Object, ObjectRow, State}
+use Rattle.mg_model.specs.State.{Counters, Object, ObjectRow, State}
 use Rattle.mg_model.specs.WellFormed.{IsWellFormed}
 use Rattle.mg_vcache.specs.Seats.{AllBacked, is_kept}
 use Rattle.mg_vcache.specs.SeatLemmas.{kept_backed}
+use Rattle.mg_volume.specs.Held.{VolumeHeld}
+use Rattle.mg_volume.specs.Meaning.{counters_in, now_of, objects_in}
+use Rattle.mg_volume.specs.RunLemmas.{told_period, told_rows}
 
 module _ (state : State) (t a : ℕ) (right : Right) where
   by_test : (v : Bool) (o : Option Object) (object : Object) (row : ObjectRow) → v ≡ true → o ≡ Some object → object.row ≡ row → Some row ≡ (if v then option_map (λ (x : Object). x.row) o else None)
@@ -58,3 +62,14 @@ module _ (state : State) (t a : ℕ) (sought : Sought) (found : find (λ (r : Ob
       let backed = backs state t a sought.right object is.slot formed there is.among opens in
       subst (λ b. IsBacked state (record { thread = t; base = b; right = sought.right; via = via })) (ap (λ (r : ObjectRow). r.base) same)
       (subst (λ c. IsBacked state (record { thread = t; base = object.row.base; right = sought.right; via = c })) is.base backed)
+
+-- what a volume told is what is sought there
+pub sought-there : (v : VolumeHeld) (a : ℕ) (sought : Sought) (counters : Counters) → Some sought.object ≡ find (λ (r : ObjectRow). covers r a) (objects_in v) → counters ≡ counters_in v → sought.period ≡ counters.period → IsSoughtAt v a sought
+sought-there v a sought counters found told period = record { found = sym found; period = period ∙ ap (λ (k : Counters). k.period) told }
+
+-- and the state has it
+pub sought-row : (v : VolumeHeld) (image : Image) (a : ℕ) (sought : Sought) → IsSoughtAt v a sought → find (λ (r : ObjectRow). covers r a) (map (λ (o : Object). o.row) (now_of v image).objects) ≡ Some sought.object
+sought-row v image a sought there = told_rows v image (λ (r : ObjectRow). covers r a) (Some sought.object) there.found
+
+pub sought-period : (v : VolumeHeld) (image : Image) (a : ℕ) (sought : Sought) → IsSoughtAt v a sought → (now_of v image).counters.period ≡ sought.period
+sought-period v image a sought there = told_period v image (counters_in v) refl ∙ sym there.period

@@ -104,23 +104,28 @@ at-based (o ∷ objects) apart kept base address object h inside =
         ap (λ v. if v then Some o else at objects address) covered ∙ ap Some same
     by_base false h near place later = by_cover (covers o.row address) refl (near h) place (later h inside)
 
+-- a row that is found by a base has it
+pub found-based : (rows : List ObjectRow) (base : ℕ) (row : ObjectRow) → find (λ (r : ObjectRow). r.base == base) rows ≡ Some row → row.base ≡ base
+found-based rows base row h = eqb-true row.base base (found-passes (λ (r : ObjectRow). r.base == base) rows row h)
+
 -- the word of a first page, by its address and by its place
 pub word-based : (objects : List Object) → are_apart objects ≡ true → list_all is_object_row (map (λ (o : Object). o.row) objects) ≡ true
-    → (row : ObjectRow) → find (λ (r : ObjectRow). r.base == row.base) (map (λ (o : Object). o.row) objects) ≡ Some row → (index : ℕ) → index < 512
-    → word_at objects (4096 * (row.base / 4096) + 8 * index) ≡ slice_index (words_based objects row.base) index
-word-based objects apart kept row held index few =
-    let (object, is, same) = found-object (based_at objects row.base) row (sym (find-rows (λ (r : ObjectRow). r.base == row.base) objects) ∙ held) in
-    let place = row-place row (found-all (λ (r : ObjectRow). r.base == row.base) is_object_row (map (λ (o : Object). o.row) objects) row kept held) in
+    → (row : ObjectRow) (base : ℕ) → find (λ (r : ObjectRow). r.base == base) (map (λ (o : Object). o.row) objects) ≡ Some row → (index : ℕ) → index < 512
+    → word_at objects (4096 * (base / 4096) + 8 * index) ≡ slice_index (words_based objects base) index
+word-based objects apart kept row base held index few =
+    let (object, is, same) = found-object (based_at objects base) row (sym (find-rows (λ (r : ObjectRow). r.base == base) objects) ∙ held) in
+    let own = found-based (map (λ (o : Object). o.row) objects) base row held in
+    let place = row-place row (found-all (λ (r : ObjectRow). r.base == base) is_object_row (map (λ (o : Object). o.row) objects) row kept held) in
     let aligned = place.aligned in
     let some = place.some in
-    let address : 4096 * (row.base / 4096) + 8 * index ≡ row.base + 8 * index = omega arith in
-    let covered : covers row (row.base + 8 * index) ≡ true =
-    and_from (nat_le row.base (row.base + 8 * index)) (nat_lt (row.base + 8 * index) (row.base + 4096 * row.pages)) (le-leb row.base (row.base + 8 * index) (omega arith)) (lt-ltb (row.base + 8 * index) (row.base + 4096 * row.pages) (omega arith)) in
-    let there = at-based objects apart kept row.base (row.base + 8 * index) object is (ap (λ (r : ObjectRow). covers r (row.base + 8 * index)) same ∙ covered) in
-    let spot : (row.base + 8 * index - row.base) / 8 ≡ index = omega arith in
+    let address : 4096 * (base / 4096) + 8 * index ≡ base + 8 * index = omega arith in
+    let covered : covers row (base + 8 * index) ≡ true =
+    and_from (nat_le row.base (base + 8 * index)) (nat_lt (base + 8 * index) (row.base + 4096 * row.pages)) (le-leb row.base (base + 8 * index) (omega arith)) (lt-ltb (base + 8 * index) (row.base + 4096 * row.pages) (omega arith)) in
+    let there = at-based objects apart kept base (base + 8 * index) object is (ap (λ (r : ObjectRow). covers r (base + 8 * index)) same ∙ covered) in
+    let spot : (base + 8 * index - row.base) / 8 ≡ index = omega arith in
     ap (λ a. word_at objects a) address
-    ∙ ap (λ (o : Option Object). option_map_or (λ (x : Object). word_in x (row.base + 8 * index)) o 0) there
-    ∙ ap (λ (r : ObjectRow). slice_index object.words ((row.base + 8 * index - r.base) / 8)) same
+    ∙ ap (λ (o : Option Object). option_map_or (λ (x : Object). word_in x (base + 8 * index)) o 0) there
+    ∙ ap (λ (r : ObjectRow). slice_index object.words ((base + 8 * index - r.base) / 8)) same
     ∙ ap (λ i. slice_index object.words i) spot
     ∙ ap (λ (o : Option Object). slice_index (option_map_or (λ (x : Object). x.words) o []) index) (sym is)
 
@@ -137,9 +142,3 @@ page-in row a inside place =
     let below = ltb-true a (row.base + 4096 * row.pages) parts.1 in
     let aligned = place.aligned in
     and_from (nat_le (row.base / 4096) (a / 4096)) (nat_lt (a / 4096) (row.base / 4096 + row.pages)) (le-leb (row.base / 4096) (a / 4096) (omega arith)) (lt-ltb (a / 4096) (row.base / 4096 + row.pages) (omega arith))
-
--- a row that is found by a base is found by its own
-pub held-own : (rows : List ObjectRow) (base : ℕ) (row : ObjectRow) → find (λ (r : ObjectRow). r.base == base) rows ≡ Some row → find (λ (r : ObjectRow). r.base == row.base) rows ≡ Some row
-held-own rows base row h =
-    let e = eqb-true row.base base (found-passes (λ (r : ObjectRow). r.base == base) rows row h) in
-    subst (λ b. find (λ (r : ObjectRow). r.base == b) rows ≡ Some row) (sym e) h

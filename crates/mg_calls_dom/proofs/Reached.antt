@@ -3,8 +3,7 @@ use Rattle.std.proofs.Common.{ℕ, ◌≡◌, ◌==◌, ◌&&◌, Bool, false, L
 use Rattle.std.specs.Prelude.{find, map, option_map}
 use Rattle.std.specs.List.{list_any}
 use Rattle.std.specs.Option.{option_map_or}
-use Rattle.std.proofs.lemmas.Bool.{eqb-true}
-use Rattle.mg_calls_dom.proofs.Apart.{found-none, found-object, found-passes}
+use Rattle.mg_calls_dom.proofs.Apart.{found-none, found-object}
 use Rattle.mg_calls_dom.specs.KnownLemmas.{find-rows}
 use Rattle.mg_calls_dom.proofs.Entries.{reaches-at}
 use Rattle.mg_calls_dom.specs.Searching.{opens, reached_row, slot_opens, words_based}
@@ -23,14 +22,12 @@ slot-none state sought slot none =
 
 -- one whose base has one opens what the words of that one list, where it holds the slot's password with R
 pub slot-some : (state : State) (sought : Sought) (slot : Slot) (row : ObjectRow) → find (λ (r : ObjectRow). r.base == slot.base) (map (λ (o : Object). o.row) state.objects) ≡ Some row
-    → slot_opens state sought slot ≡ list_any (λ entry. opens sought entry) (if holds sought.period row slot.password R then entries_of (words_based state.objects row.base) else [])
+    → slot_opens state sought slot ≡ list_any (λ entry. opens sought entry) (if holds sought.period row slot.password R then entries_of (words_based state.objects slot.base) else [])
 slot-some state sought slot row found =
     let (object, is, same) = found-object (based_at state.objects slot.base) row (sym (find-rows (λ (r : ObjectRow). r.base == slot.base) state.objects) ∙ found) in
-    let own : row.base ≡ slot.base = eqb-true row.base slot.base (found-passes (λ (r : ObjectRow). r.base == slot.base) (map (λ (o : Object). o.row) state.objects) row found) in
     ap (λ (o : Option Object). list_any (λ entry. opens sought entry) (option_map_or (λ (clist : Object). if holds sought.period clist.row slot.password R then entries_of clist.words else []) o [])) is
     ∙ ap (λ (r : ObjectRow). list_any (λ entry. opens sought entry) (if holds sought.period r slot.password R then entries_of object.words else [])) same
     ∙ ap (λ (o : Option Object). list_any (λ entry. opens sought entry) (if holds sought.period row slot.password R then entries_of (option_map_or (λ (x : Object). x.words) o []) else [])) (sym is)
-    ∙ ap (λ b. list_any (λ entry. opens sought entry) (if holds sought.period row slot.password R then entries_of (words_based state.objects b) else [])) (sym own)
 
 reaches-nowhere : (state : State) (slots : List Slot) (a : ℕ) (right : Right) → at state.objects a ≡ None → reaches state.objects state.counters.period slots a right ≡ false
 reaches-nowhere state slots a right none =

@@ -1,6 +1,6 @@
 -- What is told of the state of a volume that stands on a disk.
-use Rattle.std.proofs.Common.{ℕ, ◌+◌, ◌*◌, ◌/◌, ◌<◌, ◌≡◌, ◌==◌, ◌&&◌, Bool, true, false, length, Some, refl, sym, subst}
-use Rattle.std.specs.Prelude.{find, nat_le, slice_index}
+use Rattle.std.proofs.Common.{ℕ, ◌+◌, ◌*◌, ◌/◌, ◌<◌, ◌≡◌, ◌==◌, ◌&&◌, Bool, true, false, length, Option, None, Some, refl, sym, subst}
+use Rattle.std.specs.Prelude.{IsSome, find, nat_le, slice_index}
 use Rattle.std.specs.List.{list_all}
 use Rattle.mg_disk.specs.Disk.{Image}
 use Rattle.mg_calls_dom.proofs.Apart.{word-based}
@@ -29,9 +29,15 @@ sound-apart state sound =
     middle (accounts_fit state.settings.credits state.counters.period state.accounts) (are_apart state.objects)
     (list_all (λ (object : Object). nat_le object.row.account (length state.accounts)) state.objects) (nat_le (used state.objects) state.settings.frames) (threads_fit state.counters.births state.threads) sound
 
-pub told-word : (v : VolumeHeld) (image : Image) → IsSpelledBy v image → IsWellFormed (now_of v image) → (row : ObjectRow) → find (λ (r : ObjectRow). r.base == row.base) (objects_in v) ≡ Some row → (index : ℕ) → index < 512
-    → word_at (now_of v image).objects (4096 * (row.base / 4096) + 8 * index) ≡ slice_index (words_based (now_of v image).objects row.base) index
-told-word v image fits formed row held index few =
-    word-based (now_of v image).objects (sound-apart (now_of v image) (formed_sound (now_of v image) formed))
-    (subst (λ rows. list_all is_object_row rows ≡ true) (sym (now_rows v image)) (held_rows v image fits)) row
-    (told_rows v image (λ (r : ObjectRow). r.base == row.base) (Some row) held) index few
+-- the word of the first page of the object with a base, by its address and by its place
+pub told-word : (v : VolumeHeld) (image : Image) → IsSpelledBy v image → IsWellFormed (now_of v image) → (base : ℕ) → IsSome (find (λ (r : ObjectRow). r.base == base) (objects_in v)) → (index : ℕ) → index < 512
+    → word_at (now_of v image).objects (4096 * (base / 4096) + 8 * index) ≡ slice_index (words_based (now_of v image).objects base) index
+told-word v image fits formed base held index few = by_found (find (λ (r : ObjectRow). r.base == base) (objects_in v)) refl held
+  where
+    by_found : (o : Option ObjectRow) → find (λ (r : ObjectRow). r.base == base) (objects_in v) ≡ o → IsSome o
+        → word_at (now_of v image).objects (4096 * (base / 4096) + 8 * index) ≡ slice_index (words_based (now_of v image).objects base) index
+    by_found None found some = cc
+    by_found (Some row) found some =
+        word-based (now_of v image).objects (sound-apart (now_of v image) (formed_sound (now_of v image) formed))
+        (subst (λ rows. list_all is_object_row rows ≡ true) (sym (now_rows v image)) (held_rows v image fits)) row base
+        (told_rows v image (λ (r : ObjectRow). r.base == base) (Some row) found) index few

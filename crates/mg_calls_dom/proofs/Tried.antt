@@ -42,14 +42,11 @@ module _ (t a : ℕ) (right : Right) where
       by_test true is apart = cc
       by_test false is apart = cc
 
-  -- an address is not known where the right on its object is not kept
-  pub unknown : (rows : List ObjectRow) (seats : List (Option Seat)) (row : ObjectRow) (base : ℕ) (hit : Bool) → find (λ (r : ObjectRow). covers r a) rows ≡ Some row → base ≡ row.base
-      → hit ≡ is_kept seats (record { thread = t; base = base; right = right }) → hit ≡ false → rows_know rows seats t a right ≡ true → ⊥
-  unknown rows seats row base hit found same kept miss known =
-      let here : rows_know rows seats t a right ≡ is_kept seats (of row) = ap (λ o. option_map_or (λ (r : ObjectRow). is_kept seats (record { thread = t; base = r.base; right = right })) o false) found in
-      let off : is_kept seats (of row) ≡ false = ap (λ b. is_kept seats (record { thread = t; base = b; right = right })) (sym same) ∙ sym kept ∙ miss in
-      let apart : true ≡ false = sym known ∙ here ∙ off in
-      cc
+  -- an address is known where the right on its object is kept
+  pub known-at : (rows : List ObjectRow) (seats : List (Option Seat)) (row : ObjectRow) (base : ℕ) → find (λ (r : ObjectRow). covers r a) rows ≡ Some row → base ≡ row.base
+      → rows_know rows seats t a right ≡ is_kept seats (record { thread = t; base = base; right = right })
+  known-at rows seats row base found same =
+      ap (λ o. option_map_or (λ (r : ObjectRow). is_kept seats (of r)) o false) found ∙ ap (λ b. is_kept seats (record { thread = t; base = b; right = right })) (sym same)
 
   -- a seat that is filled leaves the keys of others as they were
   pub filled : (seats seats' : List (Option Seat)) (row : ObjectRow) (base via : ℕ) → base ≡ row.base
@@ -81,7 +78,6 @@ module _ (t a : ℕ) (right : Right) where
         few = omega arith;
       }
 
--- a bound on what was searched, from what is known
-pub within : (v known : Bool) (steps steps' : ℕ) → v ≡ known → (known ≡ true → steps' ≡ steps) → steps' ≤ steps + search_limit → steps' ≤ steps + (if v then 0 else search_limit)
-within true known steps steps' is none few = let same = none (sym is) in omega arith
-within false known steps steps' is none few = few
+-- a bound on what was searched, where the key was not known
+pub within : (v : Bool) (steps steps' : ℕ) → v ≡ false → steps' ≤ steps + search_limit → steps' ≤ steps + (if v then 0 else search_limit)
+within v steps steps' unknown few = subst (λ known. steps' ≤ steps + (if known then 0 else search_limit)) (sym unknown) few

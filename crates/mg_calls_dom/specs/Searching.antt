@@ -1,5 +1,5 @@
 -- What the search for an access asks of the words of an object.
-use Rattle.std.specs.Prelude.{ℕ, ◌≡◌, true, Contains, ◌+◌, ◌*◌, ◌==◌, ◌&&◌, Bool, not, List, [], ◌∷◌, if◌then◌else◌, option_map, slice_index, Option, None, Some}
+use Rattle.std.specs.Prelude.{ℕ, ◌≡◌, true, Contains, ◌+◌, ◌*◌, ◌==◌, ◌&&◌, Bool, not, List, [], ◌∷◌, find, if◌then◌else◌, option_map, slice_index, Option, None, Some}
 use Rattle.std.specs.List.{list_any}
 use Rattle.std.specs.Option.{option_map_or}
 use Rattle.mg_calls_dom.specs.declared.lists.Sought.{Sought}
@@ -9,10 +9,17 @@ use Rattle.mg_model.specs.declared.rights.Right.{Right}
 use Rattle.mg_model.specs.declared.slots.Slot.{Slot}
 use Rattle.mg_model.specs.Accesses.{Access, word_access}
 use Rattle.mg_model.specs.Threads.{is_thread}
-use Rattle.mg_model.specs.Access.{allowed, at, based_at, entries_under, holds, reaches}
+use Rattle.mg_model.specs.Access.{allowed, at, based_at, covers, entries_under, holds, reaches}
 use Rattle.mg_model.specs.ObjectCalls.{is_aligned}
 use Rattle.mg_model.specs.Refused.{first_refusal}
 use Rattle.mg_model.specs.State.{Object, ObjectRow, State}
+use Rattle.mg_volume.specs.Held.{VolumeHeld}
+use Rattle.mg_volume.specs.Meaning.{counters_in, objects_in}
+
+-- the object that is sought is the one that has this address, at the period of a volume
+pub record IsSoughtAt (v : VolumeHeld) (address : ℕ) (sought : Sought) : Type 0 where
+  pub found : find (λ (r : ObjectRow). covers r address) (objects_in v) ≡ Some sought.object
+  pub period : sought.period ≡ (counters_in v).period
 
 -- the words of the object with this base
 abbrev pub words_based : List Object → ℕ → List ℕ

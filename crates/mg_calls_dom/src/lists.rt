@@ -1,5 +1,5 @@
 // The search through the capability lists of a thread, over the words of the moment.
-ghost use Rattle.std.specs.Prelude.{List, ◌≡◌, ◌≤◌, ◌<◌, ◌+◌, ◌*◌, ◌==◌, ℕ, true, false, find, length, slice_index, IfOk, MatchOption, None, OnErr, OnOk, Some};
+ghost use Rattle.std.specs.Prelude.{List, ◌≡◌, ◌≤◌, ◌<◌, ◌+◌, ◌*◌, ◌/◌, ◌==◌, ℕ, true, false, find, length, slice_index, IfOk, IsSome, MatchOption, None, OnErr, OnOk};
 ghost use Rattle.std.specs.List.{list_any};
 ghost use Rattle.std.specs.Option.{ForSome};
 ghost use Rattle.mg_calls_dom.specs.Searching as searching;
@@ -8,7 +8,7 @@ ghost use Rattle.mg_disk.specs.Stops.{CountRose};
 ghost use Rattle.mg_model.specs.Access.{domain_of, entries_of};
 ghost use Rattle.mg_model.specs.Limits.{search_limit};
 ghost use Rattle.mg_volume.specs.Calls.{IsSoundOn, Reads};
-ghost use Rattle.mg_volume.specs.Meaning.{now_of, objects_in, threads_in};
+ghost use Rattle.mg_volume.specs.Meaning.{has_page, now_of, objects_in, threads_in};
 
 use mg_apd::entries;
 use mg_disk::Disk;
@@ -31,20 +31,21 @@ pub(crate) struct Sought {
 fn list_word<D: Disk, L: Ledger>(
     v: &mut Volume,
     disk: &mut D,
-    clist: &ObjRow,
+    list: u64,
     index: u64,
     steps: &mut Steps<L>,
 ) -> Result<u64, Failed>
     requires sound { IsSoundOn D.Disk v.old disk.old }
-    requires held { find (λ row. row.base == clist.now.base) (objects_in v.old) ≡ Some clist.now }
+    requires held { IsSome (find (λ row. row.base == list) (objects_in v.old)) }
+    requires page { has_page v.old (list / 4096) ≡ true }
     requires index { index < 512 }
-    ensures word { IfOk result (λ word. ForSome (D.seen disk.old) (λ image. word ≡ slice_index (searching.words_based (now_of v.old image).objects clist.now.base) index)) }
+    ensures word { IfOk result (λ word. ForSome (D.seen disk.old) (λ image. word ≡ slice_index (searching.words_based (now_of v.old image).objects list) index)) }
     ensures one { OnOk result (steps.new ≡ steps.old + 1) }
     ensures none { OnErr result (steps.new ≡ steps.old) }
     ensures reads { Reads D.Disk v.old v.new disk.old disk.new steps.old steps.new }
     ensures cause { OnErr result (CountRose D.Disk disk.old disk.new) }
 {
-    v.word(disk, clist.base() / PAGE_SIZE, index, steps)
+    v.word(disk, list / PAGE_SIZE, index, steps)
 }
 
 // Whether the entry at place j of a capability list is for the object that is sought, with a password that gives the right.
@@ -52,24 +53,25 @@ fn list_word<D: Disk, L: Ledger>(
 fn entry_opens<D: Disk, L: Ledger>(
     v: &mut Volume,
     disk: &mut D,
-    clist: &ObjRow,
+    list: u64,
     j: u64,
     sought: &Sought,
     steps: &mut Steps<L>,
 ) -> Result<bool, Failed>
     requires sound { IsSoundOn D.Disk v.old disk.old }
-    requires held { find (λ row. row.base == clist.now.base) (objects_in v.old) ≡ Some clist.now }
+    requires held { IsSome (find (λ row. row.base == list) (objects_in v.old)) }
+    requires page { has_page v.old (list / 4096) ≡ true }
     requires place { j < 255 }
-    ensures opens { IfOk result (λ found. ForSome (D.seen disk.old) (λ image. found ≡ searching.opens sought.now (searching.entry_at (searching.words_based (now_of v.old image).objects clist.now.base) j))) }
+    ensures opens { IfOk result (λ found. ForSome (D.seen disk.old) (λ image. found ≡ searching.opens sought.now (searching.entry_at (searching.words_based (now_of v.old image).objects list) j))) }
     ensures at_most_2_read { steps.new ≤ steps.old + 2 }
     ensures reads { Reads D.Disk v.old v.new disk.old disk.new steps.old steps.new }
     ensures cause { OnErr result (CountRose D.Disk disk.old disk.new) }
 {
-    let base = list_word(v, disk, clist, 2 + 2 * j, steps)?;
+    let base = list_word(v, disk, list, 2 + 2 * j, steps)?;
     if base != sought.object.base() {
         return Ok(false);
     }
-    let password = list_word(v, disk, clist, 3 + 2 * j, steps)?;
+    let password = list_word(v, disk, list, 3 + 2 * j, steps)?;
     Ok(holds(&sought.object, password, sought.right, sought.period))
 }
 
@@ -77,20 +79,21 @@ fn entry_opens<D: Disk, L: Ledger>(
 fn list_opens<D: Disk, L: Ledger>(
     v: &mut Volume,
     disk: &mut D,
-    clist: &ObjRow,
+    list: u64,
     sought: &Sought,
     steps: &mut Steps<L>,
 ) -> Result<bool, Failed>
     requires sound { IsSoundOn D.Disk v.old disk.old }
-    requires held { find (λ row. row.base == clist.now.base) (objects_in v.old) ≡ Some clist.now }
-    ensures opens { IfOk result (λ found. ForSome (D.seen disk.old) (λ image. found ≡ list_any (λ entry. searching.opens sought.now entry) (entries_of (searching.words_based (now_of v.old image).objects clist.now.base)))) }
+    requires held { IsSome (find (λ row. row.base == list) (objects_in v.old)) }
+    requires page { has_page v.old (list / 4096) ≡ true }
+    ensures opens { IfOk result (λ found. ForSome (D.seen disk.old) (λ image. found ≡ list_any (λ entry. searching.opens sought.now entry) (entries_of (searching.words_based (now_of v.old image).objects list)))) }
     ensures at_most_511_read { steps.new ≤ steps.old + 511 }
     ensures reads { Reads D.Disk v.old v.new disk.old disk.new steps.old steps.new }
     ensures cause { OnErr result (CountRose D.Disk disk.old disk.new) }
 {
-    let count = entries(list_word(v, disk, clist, 0, steps)?);
+    let count = entries(list_word(v, disk, list, 0, steps)?);
     for j in 0..count {
-        if entry_opens(v, disk, clist, j, sought, steps)? {
+        if entry_opens(v, disk, list, j, sought, steps)? {
             return Ok(true);
         }
     }
@@ -111,13 +114,14 @@ fn slot_opens<D: Disk, L: Ledger>(
     ensures reads { Reads D.Disk v.old v.new disk.old disk.new steps.old steps.new }
     ensures cause { OnErr result (CountRose D.Disk disk.old disk.new) }
 {
-    let Some(clist) = v.object(slot.base) else {
+    let Some(clist) = v.object_ref(slot.base) else {
         return Ok(false);
     };
     if !holds(&clist, slot.password, Right::R, sought.period) {
         return Ok(false);
     }
-    list_opens(v, disk, &clist, sought, steps)
+    clist.keep_rules();
+    list_opens(v, disk, slot.base, sought, steps)
 }
 
 // The capability list of the first of these slots that opens the object. The search stops there.

@@ -1,5 +1,5 @@
 // Whether an access is allowed: by what is kept of earlier ones, or by a search.
-ghost use Rattle.std.specs.Prelude.{◌≡◌, ◌≤◌, ◌+◌, ◌-◌, ◌==◌, true, find, if◌then◌else◌, option_map, IfOk, IfSome, MatchOption, None, OnErr, OnOk, Some};
+ghost use Rattle.std.specs.Prelude.{◌≡◌, ◌≤◌, ◌+◌, ◌-◌, ◌==◌, ℕ, true, false, find, if◌then◌else◌, option_map, IfOk, IfSome, MatchOption, None, OnErr, OnOk, Some};
 ghost use Rattle.std.specs.Option.{ForSome};
 ghost use Rattle.mg_calls_dom.specs.Known.{rows_know};
 ghost use Rattle.mg_calls_dom.specs.Searching as searching;
@@ -63,12 +63,10 @@ pub fn reach<D: Disk, L: Ledger>(
         right,
         period: v.globals().period(),
     };
-    match list_of(v, disk, t, &sought, steps)? {
-        Some(via) => {
-            c.fill(t, object.base(), right, via);
-            Ok(Some(object))
-        }
-        None => Ok(None),
+    if search(v, c, disk, t, &sought, steps)? {
+        Ok(Some(sought.object))
+    } else {
+        Ok(None)
     }
 }
 
@@ -104,9 +102,18 @@ pub fn validate<D: Disk, L: Ledger>(
     if let Some(base) = kept_base(v, c, t, a, right) {
         return Ok(Some(base));
     }
-    match reach(v, c, disk, t, a, right, steps)? {
-        Some(object) => Ok(Some(object.base())),
-        None => Ok(None),
+    let Some(object) = v.covering(a) else {
+        return Ok(None);
+    };
+    let sought = Sought {
+        object,
+        right,
+        period: v.globals().period(),
+    };
+    if search(v, c, disk, t, &sought, steps)? {
+        Ok(Some(sought.object.base()))
+    } else {
+        Ok(None)
     }
 }
 
@@ -115,11 +122,47 @@ fn kept_base(v: &mut Volume, c: &VCache, t: u64, a: u64, right: Right) -> Option
     ensures at { IfSome result (λ base. IsBaseAt v.old a base) }
     ensures same { v.new ≡ v.old }
     ensures kept { IfSome result (λ base. is_kept c.now (record { thread = t; base = base; right = right }) ≡ true) }
+    ensures missed { result ≡ None → rows_know (objects_in v.old) c.now t a right ≡ false }
 {
     let base = v.base_at(a)?;
     if c.hit(t, base, right) {
         Some(base)
     } else {
         None
+    }
+}
+
+// Whether a thread may reach the object that is sought: a search through its capability lists, where the right is not kept. One that is
+// found is kept, in its own seat. The clauses speak of each address that the object has.
+fn search<D: Disk, L: Ledger>(
+    v: &mut Volume,
+    c: &mut VCache,
+    disk: &mut D,
+    t: u64,
+    sought: &Sought,
+    steps: &mut Steps<L>,
+) -> Result<bool, Failed>
+    requires sound { IsSoundOn D.Disk v.old disk.old }
+    requires backed { ForSome (D.seen disk.old) (λ image. AllBacked (now_of v.old image) c.old) }
+    requires sought { (a : ℕ) × searching.IsSoughtAt v.old a sought.now }
+    requires missed { is_kept c.old (record { thread = t; base = sought.now.object.base; right = sought.now.right }) ≡ false }
+    ensures row { IfOk result (λ found. ForSome (D.seen disk.old) (λ image. (a : ℕ) → searching.IsSoughtAt v.old a sought.now → (if found then Some sought.now.object else None) ≡ searching.allowed_row (now_of v.old image) t a sought.now.right)) }
+    ensures backed { ForSome (D.seen disk.old) (λ image. AllBacked (now_of v.new image) c.new) }
+    ensures keeps { OnOk result (ForSome (D.seen disk.old) (λ image. (a : ℕ) → searching.IsSoughtAt v.old a sought.now → Validates (now_of v.old image) (record { thread = t; address = a; right = sought.now.right }) (λ key. is_kept c.old key) (λ key. is_kept c.new key) (steps.new - steps.old))) }
+    ensures limit { ForSome (D.seen disk.old) (λ image. (a : ℕ) → searching.IsSoughtAt v.old a sought.now → steps.new ≤ steps.old + access_limit (λ key. is_kept c.old key) (now_of v.old image) (record { thread = t; address = a; right = sought.now.right })) }
+    ensures none { IfOk result (λ found. found ≡ false → c.new ≡ c.old) }
+    ensures failed { OnErr result (c.new ≡ c.old) }
+    ensures nobody { find (λ thread. thread.number == t) (threads_in v.old) ≡ None → steps.new ≡ steps.old }
+    ensures at_most_search_limit_read { steps.new ≤ steps.old + search_limit }
+    ensures reads { Reads D.Disk v.old v.new disk.old disk.new steps.old steps.new }
+    ensures cause { OnErr result (CountRose D.Disk disk.old disk.new) }
+{
+    backed_seats_are_allowed();
+    match list_of(v, disk, t, sought, steps)? {
+        Some(via) => {
+            c.fill(t, sought.object.base(), sought.right, via);
+            Ok(true)
+        }
+        None => Ok(false),
     }
 }

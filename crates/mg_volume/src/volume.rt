@@ -126,10 +126,17 @@ impl Volume {
     pub fn object(&self, base: u64) -> Option<ObjRow>
         ensures { result ≡ find (λ row. row.base == base) (objects_in self.now) }
     {
-        match self.objects.get(base) {
+        match self.object_ref(base) {
             Some(row) => Some(*row),
             None => None,
         }
+    }
+
+    /// As [`Volume::object`], and lends the row.
+    pub fn object_ref(&self, base: u64) -> Option<&ObjRow>
+        ensures { option_copied result ≡ find (λ row. row.base == base) (objects_in self.now) }
+    {
+        self.objects.get(base)
     }
 
     /// The objects, in the order of their bases.
