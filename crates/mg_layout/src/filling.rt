@@ -1,5 +1,6 @@
 // Bytes that are filled from the first on.
 ghost use Rattle.std.specs.Prelude.{◌≡◌, ◌≤◌, ◌<◌, ◌+◌, ◌*◌, [], ◌∷◌, ◌++◌, length, replicate, All};
+ghost use Rattle.std.specs.List.{splice};
 ghost use Rattle.mg_model.specs.Bytes.{padded_to, words_bytes};
 ghost use Rattle.mg_model.specs.Ranges.{IsWord};
 
@@ -49,9 +50,8 @@ impl<const N: usize> Filling<N> {
         ensures value { self.new ≡ self.old ++ bytes.now }
         ensures long { length self.new ≡ length self.old + length bytes.now }
     {
-        for byte in bytes {
-            self.add_byte(*byte);
-        }
+        put_part(&mut self.bytes, self.count, bytes);
+        self.count += bytes.len();
     }
 
     /// This word too, in 8 bytes.
@@ -90,4 +90,12 @@ impl<const N: usize> Filling<N> {
     {
         self.bytes
     }
+}
+
+// Puts bytes in place of those from this place on.
+fn put_part(all: &mut [u8], at: usize, bytes: &[u8])
+    requires { at + length bytes.now ≤ length all.old }
+    ensures { all.new ≡ splice all.old at (at + length bytes.now) bytes.now }
+{
+    all[at..at + bytes.len()].copy_from_slice(bytes);
 }

@@ -1,5 +1,5 @@
 // The block of a thread's row, as it is staged.
-ghost use Rattle.std.specs.Prelude.{◌≡◌, ◌⊎◌, ◌≤◌, ◌<◌, ◌+◌, ◌-◌, ◌==◌, true, find, is_some, Some};
+ghost use Rattle.std.specs.Prelude.{◌≡◌, ◌⊎◌, ◌≤◌, ◌<◌, ◌+◌, ◌-◌, ◌==◌, true, find, is_some, length, None, Some};
 ghost use Rattle.std.specs.Option.{option_map};
 ghost use Rattle.mg_model.specs.Layout.{body_limit, first_thread_block, globals_block, table_block};
 ghost use Rattle.mg_model.specs.State.{ThreadRow};
@@ -21,7 +21,7 @@ pub(crate) fn stage_any(pages: &mut Pages, block: u64, row: &Option<ThrRow>)
 {
     match row {
         Some(row) => stage_row(pages, block, row),
-        None => pages.stage(block, &thread_block(None)),
+        None => stage_none(pages, block),
     }
 }
 
@@ -47,8 +47,39 @@ fn stage_row(pages: &mut Pages, block: u64, row: &ThrRow)
     ensures { StagesThread block (Some row.now) pages.old pages.new }
 {
     if row.frames().len() <= MOST_START_FRAMES {
-        pages.stage_start(block, &thread_start(row));
+        stage_few(pages, block, row);
     } else {
-        pages.stage(block, &thread_block(Some(row)));
+        stage_many(pages, block, row);
     }
+}
+
+// The same of one with few frames, whose bytes all lie in the start of its block. What each way needs is cleared where it is taken.
+fn stage_few(pages: &mut Pages, block: u64, row: &ThrRow)
+    requires low { globals_block ≤ block }
+    requires high { block < table_block }
+    requires staged_or_fewer_than_160 { (is_staged pages.old block ≡ true) ⊎ (staged_of pages.old < body_limit) }
+    requires few { length row.now.frames ≤ 4 }
+    ensures { StagesThread block (Some row.now) pages.old pages.new }
+{
+    pages.stage_start(block, &thread_start(row));
+}
+
+// And of one with many.
+fn stage_many(pages: &mut Pages, block: u64, row: &ThrRow)
+    requires low { globals_block ≤ block }
+    requires high { block < table_block }
+    requires staged_or_fewer_than_160 { (is_staged pages.old block ≡ true) ⊎ (staged_of pages.old < body_limit) }
+    ensures { StagesThread block (Some row.now) pages.old pages.new }
+{
+    pages.stage(block, &thread_block(Some(row)));
+}
+
+// And that there is none.
+fn stage_none(pages: &mut Pages, block: u64)
+    requires low { globals_block ≤ block }
+    requires high { block < table_block }
+    requires staged_or_fewer_than_160 { (is_staged pages.old block ≡ true) ⊎ (staged_of pages.old < body_limit) }
+    ensures { StagesThread block None pages.old pages.new }
+{
+    pages.stage(block, &thread_block(None));
 }
