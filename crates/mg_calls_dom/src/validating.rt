@@ -102,19 +102,7 @@ pub fn validate<D: Disk, L: Ledger>(
     if let Some(base) = kept_base(v, c, t, a, right) {
         return Ok(Some(base));
     }
-    let Some(object) = v.covering(a) else {
-        return Ok(None);
-    };
-    let sought = Sought {
-        object,
-        right,
-        period: v.globals().period(),
-    };
-    if search(v, c, disk, t, &sought, steps)? {
-        Ok(Some(sought.object.base()))
-    } else {
-        Ok(None)
-    }
+    search_base(v, c, disk, t, a, right, steps)
 }
 
 // The base of the object that has an address, where the right on it is kept. No row is handed up for it.
@@ -129,6 +117,49 @@ fn kept_base(v: &mut Volume, c: &VCache, t: u64, a: u64, right: Right) -> Option
         Some(base)
     } else {
         None
+    }
+}
+
+// The base of the object that has an address, by a search, where the right on it is not kept: what `validate` says of it. It is not
+// inlined, so that a kept right doesn't pay for the row that it needs.
+#[inline(never)]
+fn search_base<D: Disk, L: Ledger>(
+    v: &mut Volume,
+    c: &mut VCache,
+    disk: &mut D,
+    t: u64,
+    a: u64,
+    right: Right,
+    steps: &mut Steps<L>,
+) -> Result<Option<u64>, Failed>
+    requires sound { IsSoundOn D.Disk v.old disk.old }
+    requires backed { ForSome (D.seen disk.old) (λ image. AllBacked (now_of v.old image) c.old) }
+    requires missed { rows_know (objects_in v.old) c.old t a right ≡ false }
+    ensures base { IfOk result (λ base. ForSome (D.seen disk.old) (λ image. base ≡ (if allowed (now_of v.old image) t a right then option_map (λ object. object.row.base) (at (now_of v.old image).objects a) else None))) }
+    ensures row { IfOk result (λ base. ForSome (D.seen disk.old) (λ image. MatchOption base (None ≡ searching.allowed_row (now_of v.old image) t a right) (λ base. searching.IsAllowedIn (now_of v.old image) t a right base))) }
+    ensures at { IfOk result (λ base. IfSome base (λ base. IsBaseAt v.new a base)) }
+    ensures backed { ForSome (D.seen disk.old) (λ image. AllBacked (now_of v.new image) c.new) }
+    ensures keeps { OnOk result (ForSome (D.seen disk.old) (λ image. Validates (now_of v.old image) (record { thread = t; address = a; right = right }) (λ key. is_kept c.old key) (λ key. is_kept c.new key) (steps.new - steps.old))) }
+    ensures limit { ForSome (D.seen disk.old) (λ image. steps.new ≤ steps.old + access_limit (λ key. is_kept c.old key) (now_of v.old image) (record { thread = t; address = a; right = right })) }
+    ensures none { IfOk result (λ base. base ≡ None → c.new ≡ c.old) }
+    ensures failed { OnErr result (c.new ≡ c.old) }
+    ensures nobody { find (λ thread. thread.number == t) (threads_in v.old) ≡ None → steps.new ≡ steps.old }
+    ensures at_most_search_limit_read { steps.new ≤ steps.old + search_limit }
+    ensures reads { Reads D.Disk v.old v.new disk.old disk.new steps.old steps.new }
+    ensures cause { OnErr result (CountRose D.Disk disk.old disk.new) }
+{
+    let Some(object) = v.covering(a) else {
+        return Ok(None);
+    };
+    let sought = Sought {
+        object,
+        right,
+        period: v.globals().period(),
+    };
+    if search(v, c, disk, t, &sought, steps)? {
+        Ok(Some(sought.object.base()))
+    } else {
+        Ok(None)
     }
 }
 
