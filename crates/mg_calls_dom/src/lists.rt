@@ -6,7 +6,7 @@ ghost use Rattle.mg_calls_dom.specs.Searching as searching;
 ghost use Rattle.mg_calls_dom.specs.Searching.{IsOpenedBy};
 ghost use Rattle.mg_disk.specs.Stops.{CountRose};
 ghost use Rattle.mg_model.specs.Access.{domain_of, entries_of};
-ghost use Rattle.mg_model.specs.Limits.{search_limit};
+ghost use Rattle.mg_model.specs.Limits.{page_size, search_limit};
 ghost use Rattle.mg_volume.specs.Calls.{IsSoundOn, Reads};
 ghost use Rattle.mg_volume.specs.Meaning.{has_page, now_of, objects_in, threads_in};
 
@@ -37,7 +37,7 @@ fn list_word<D: Disk, L: Ledger>(
 ) -> Result<u64, Failed>
     requires sound { IsSoundOn D.Disk v.old disk.old }
     requires held { IsSome (find (λ row. row.base == list) (objects_in v.old)) }
-    requires page { has_page v.old (list / 4096) ≡ true }
+    requires page { has_page v.old (list / page_size) ≡ true }
     requires index { index < 512 }
     ensures word { IfOk result (λ word. ForSome (D.seen disk.old) (λ image. word ≡ slice_index (searching.words_based (now_of v.old image).objects list) index)) }
     ensures one { OnOk result (steps.new ≡ steps.old + 1) }
@@ -60,7 +60,7 @@ fn entry_opens<D: Disk, L: Ledger>(
 ) -> Result<bool, Failed>
     requires sound { IsSoundOn D.Disk v.old disk.old }
     requires held { IsSome (find (λ row. row.base == list) (objects_in v.old)) }
-    requires page { has_page v.old (list / 4096) ≡ true }
+    requires page { has_page v.old (list / page_size) ≡ true }
     requires place { j < 255 }
     ensures opens { IfOk result (λ found. ForSome (D.seen disk.old) (λ image. found ≡ searching.opens sought.now (searching.entry_at (searching.words_based (now_of v.old image).objects list) j))) }
     ensures at_most_2_read { steps.new ≤ steps.old + 2 }
@@ -85,7 +85,7 @@ fn list_opens<D: Disk, L: Ledger>(
 ) -> Result<bool, Failed>
     requires sound { IsSoundOn D.Disk v.old disk.old }
     requires held { IsSome (find (λ row. row.base == list) (objects_in v.old)) }
-    requires page { has_page v.old (list / 4096) ≡ true }
+    requires page { has_page v.old (list / page_size) ≡ true }
     ensures opens { IfOk result (λ found. ForSome (D.seen disk.old) (λ image. found ≡ list_any (λ entry. searching.opens sought.now entry) (entries_of (searching.words_based (now_of v.old image).objects list)))) }
     ensures at_most_511_read { steps.new ≤ steps.old + 511 }
     ensures reads { Reads D.Disk v.old v.new disk.old disk.new steps.old steps.new }
@@ -117,7 +117,7 @@ fn slot_opens<D: Disk, L: Ledger>(
     let Some(clist) = v.object_ref(slot.base) else {
         return Ok(false);
     };
-    if !holds(&clist, slot.password, Right::R, sought.period) {
+    if !holds(clist, slot.password, Right::R, sought.period) {
         return Ok(false);
     }
     clist.keep_rules();

@@ -97,13 +97,6 @@ impl Space {
         self.objects.get_ref(base)
     }
 
-    /// The object that has this address.
-    pub fn covering(&self, a: u64) -> Option<&ObjRow>
-        ensures { option_copied result ≡ option_map (λ o. o.1) (find (λ o. covers o.1 a) self.now) }
-    {
-        self.objects.covering_ref(a)
-    }
-
     /// The object that has this address. That of rank `near` is looked at first, and the rank of the one that is found is there then.
     pub fn covering_near(&self, a: u64, near: &mut usize) -> Option<&ObjRow>
         ensures { option_copied result ≡ option_map (λ o. o.1) (find (λ o. covers o.1 a) self.now) }

@@ -99,13 +99,14 @@ impl Volume {
         self.globals
     }
 
-    /// The object that has an address. It is the one with its base.
+    /// The object that has an address. It is the one with its base. The one whose base was asked for last is looked at first.
     pub fn covering(&self, a: u64) -> Option<ObjRow>
         ensures found { result ≡ find (λ row. covers row a) (objects_in self.now) }
         ensures own { IfSome result (λ row. find (λ other. other.base == row.base) (objects_in self.now) ≡ Some row) }
     {
         self.bases_differ();
-        match self.objects.covering(a) {
+        let mut near = self.near;
+        match self.objects.covering_near(a, &mut near) {
             Some(row) => Some(*row),
             None => None,
         }
