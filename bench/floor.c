@@ -1,10 +1,13 @@
 /* The calls of the system that the protocol asks for, and nothing else: so many stores, so many to a commit, over so many pages.
  *
- *     floor FILE STORES BATCH PAGES
+ *     floor FILE STORES BATCH PAGES [KEPT]
  *
  * A commit closes after BATCH stores, or where more than 28 pages have changed. It writes a segment's index and its bodies in one
  * call, syncs, opens the gate and syncs. A commit that finds eight segments open first writes each changed page home once, in order,
  * neighbours in one call, syncs, and closes the eight gates with a sync each. It puts the seconds that this took.
+ *
+ * With KEPT it reads too: a page that a commit changes and that is not among the KEPT that were used last, and, before homes are
+ * written, the bodies of each segment that has the newest of a page, in one call.
  */
 #include <fcntl.h>
 #include <stdio.h>
@@ -17,44 +20,86 @@ enum { BLOCK = 4096, SEGMENT = 162, BODIES = 160, SEGMENTS = 8, MOST_STAGED = 28
 
 static unsigned char blocks[BODIES + 1][BLOCK], run[BODIES][BLOCK];
 
-static void put(int file, const void *bytes, size_t count, long block) {
+static int file;
+
+static void put(const void *bytes, size_t count, long block) {
     if (pwrite(file, bytes, count * BLOCK, block * BLOCK) != (ssize_t)(count * BLOCK)) exit(1);
 }
 
-static void make_sure(int file) {
+static void take(void *bytes, size_t count, long block) {
+    if (pread(file, bytes, count * BLOCK, block * BLOCK) != (ssize_t)(count * BLOCK)) exit(1);
+}
+
+static void make_sure(void) {
     if (fdatasync(file) != 0) exit(1);
 }
 
+/* The pages that were used last, in a ring by their use: `before` and `after` of each, from the page `pages` on, which is none. */
+static long *before, *after, kept, most;
+
+static void link_last(long page, long none) {
+    before[page] = before[none], after[page] = none, after[before[none]] = page, before[none] = page;
+}
+
+static void unlink_page(long page) {
+    after[before[page]] = after[page], before[after[page]] = before[page], before[page] = -1;
+}
+
+/* Uses a page. Whether it was kept. */
+static int use(long page, long none) {
+    int was = before[page] >= 0;
+    if (was) unlink_page(page);
+    else if (kept == most) unlink_page(after[none]);
+    else kept++;
+    link_last(page, none);
+    return was;
+}
+
 int main(int count, char **words) {
-    if (count != 5) return 2;
-    int file = open(words[1], O_RDWR | O_CREAT, 0644);
+    if (count != 5 && count != 6) return 2;
+    file = open(words[1], O_RDWR | O_CREAT, 0644);
     long stores = atol(words[2]), batch = atol(words[3]), pages = atol(words[4]);
-    long list[MOST_STAGED + 1], segment = 0, done = 0;
+    long list[MOST_STAGED + 1], newest[SEGMENTS] = {0}, bodies[SEGMENTS], segment = 0, done = 0;
     char *is_staged = calloc(pages, 1), *waits = calloc(pages, 1);
+    before = malloc((pages + 1) * sizeof(long)), after = malloc((pages + 1) * sizeof(long));
+    memset(before, -1, pages * sizeof(long)), before[pages] = after[pages] = pages;
+    most = count == 6 ? atol(words[5]) : 0;
+    /* Memory that was never written is one page of zeros, which no program with blocks of its own has. */
+    memset(blocks, 1, sizeof blocks), memset(run, 1, sizeof run);
     struct timespec begun, ended;
     clock_gettime(CLOCK_MONOTONIC, &begun);
     while (done < stores) {
         long staged = 0;
         for (long lines = 0; lines < batch && done < stores && staged <= MOST_STAGED; lines++, done++) {
             long page = done * 7 % pages;
-            if (!is_staged[page]) is_staged[page] = 1, list[staged++] = page;
+            if (is_staged[page]) continue;
+            is_staged[page] = 1, list[staged++] = page;
+            if (most && !use(page, pages)) take(blocks[staged], 1, FIRST_FRAME + page);
         }
         if (segment == SEGMENTS) {
+            for (segment = 0; segment < SEGMENTS; segment++)
+                if (most && newest[segment]) take(run, bodies[segment], 4 + SEGMENT * segment);
             for (long page = 0; page < pages; page++) {
                 long first = page;
                 while (page < pages && waits[page] && page - first < BODIES) waits[page++] = 0;
-                if (page > first) put(file, run, page - first, FIRST_FRAME + first), page--;
+                if (page > first) put(run, page - first, FIRST_FRAME + first), page--;
             }
-            make_sure(file);
-            for (segment = 0; segment < SEGMENTS; segment++) put(file, run, 1, 2 + SEGMENT * segment), make_sure(file);
+            make_sure();
+            for (segment = 0; segment < SEGMENTS; segment++) put(run, 1, 2 + SEGMENT * segment), make_sure(), newest[segment] = 0;
             segment = 0;
         }
-        put(file, blocks, staged + 1, 3 + SEGMENT * segment);
-        make_sure(file);
-        put(file, run, 1, 2 + SEGMENT * segment);
-        make_sure(file);
+        put(blocks, staged + 1, 3 + SEGMENT * segment);
+        make_sure();
+        put(run, 1, 2 + SEGMENT * segment);
+        make_sure();
+        bodies[segment] = staged;
+        while (staged > 0) {
+            long page = list[--staged];
+            is_staged[page] = 0;
+            if (waits[page]) newest[waits[page] - 1]--;
+            waits[page] = ++newest[segment] > 0 ? segment + 1 : 0;
+        }
         segment++;
-        while (staged > 0) is_staged[list[--staged]] = 0, waits[list[staged]] = 1;
     }
     clock_gettime(CLOCK_MONOTONIC, &ended);
     printf("%.6f\n", (double)(ended.tv_sec - begun.tv_sec) + (double)(ended.tv_nsec - begun.tv_nsec) / 1e9);

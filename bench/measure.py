@@ -6,12 +6,13 @@ openings beside reading the file, lines a second that are kept nowhere, instruct
     bench/measure.py --full [--program PATH] [--mirror PATH] [--folder FOLDER]
 
 It puts one table. A rate of mungi is that of a run less a run on no lines, both with the page cache warm; lines come from a file, and
-answers go into one. The floor is the rate of bench/floor.c, which makes just the calls of the system that the protocol asks for; the
-system's C compiler builds it. A rate of SQLite is that of updates of one row each, with journal_mode WAL and synchronous FULL, in
-transactions of as many updates as a batch has lines. A row fills a page of SQLite's as a store's page fills one of mungi's. What stands
-side by side is run in turn, four times each, and the fastest run of each counts. Instructions are counted by valgrind's callgrind and
-calls by strace. Where one of these tools is not there, its rows are left out, and that is said on standard error. --before names
-another build of the program, whose time for a million lines stands beside. --svg draws the ratios to the floor and to SQLite.
+answers go into one. The floor is the rate of bench/floor.c, which makes just the calls of the system that the protocol asks for, and
+once more with the reads that 256 kept blocks leave; the system's C compiler builds it. A rate of SQLite is that of updates of one row
+each, with journal_mode WAL and synchronous FULL, in transactions of as many updates as a batch has lines. A row fills a page of
+SQLite's as a store's page fills one of mungi's. What stands side by side is run in turn, four times each, and the fastest run of each
+counts. Instructions are counted by valgrind's callgrind and calls by strace. Where one of these tools is not there, its rows are left
+out, and that is said on standard error. --before names another build of the program, whose time for a million lines stands beside.
+--svg draws the ratios to the floor and to SQLite.
 
 With --full it measures a full volume instead: 65,536 frames, 4,096 objects, 61,426 pages and 256 threads. Openings stand beside `cat`
 of the blocks up to the end of the frame table, least of 20 with the page cache warm, and of 5 where it is dropped before each, which
@@ -45,6 +46,8 @@ STORE = "1 store 0x100000008 7"
 STORE_ASIDE = "1 store 0x100001008 7"
 ASIDE = [f"1 create 1 1 {TREASURY}", "1 store 0x100000020 0x100001000", "1 store 0x100000028 0x1aed8da0b819d2bd", "1 store 0x100000000 2"]
 PAGES = (1, 24, 1000)
+# How many blocks the program keeps.
+KEPT = 256
 # What is wanted of the ratio to the floor.
 WANTED = 0.9
 # How often each run is made, in turn with those that stand beside it.
@@ -131,13 +134,13 @@ def floor_of(folder):
     return f"{folder}/floor"
 
 
-def floor_stores(floor, volume, pages, batch):
-    """The same of the floor, on a copy of that volume."""
+def floor_stores(floor, volume, pages, batch, *kept):
+    """The same of the floor, on a copy of that volume; with its reads, where it is told how many blocks are kept."""
     shutil.copy(volume, volume + ".floor")
 
     def run(count):
-        done = subprocess.run([floor, volume + ".floor", str(count), str(batch), str(pages)], stdout=subprocess.PIPE, check=True)
-        return float(done.stdout)
+        words = [floor, volume + ".floor", str(count), str(batch), str(pages), *map(str, kept)]
+        return float(subprocess.run(words, stdout=subprocess.PIPE, check=True).stdout)
 
     return run
 
@@ -435,11 +438,11 @@ def main():
                 name = f"durable stores a second, {batch} to a commit, {pages:,} pages"
                 runs = [stores(program, volume, pages, batch, folder), sqlite_updates(folder + "/base", pages, batch)]
                 if floor:
-                    runs.append(floor_stores(floor, volume, pages, batch))
-                ours, theirs, *least_calls = rates(runs, words.seconds)
-                ratios[(batch, pages)] = (ours / least_calls[0] if floor else None, ours / theirs)
-                if floor:
-                    row(name, f"{ours:,.0f}", f"floor {least_calls[0]:,.0f}", f"{ours / least_calls[0]:.2f}")
+                    runs += [floor_stores(floor, volume, pages, batch), floor_stores(floor, volume, pages, batch, KEPT)]
+                ours, theirs, *floors = rates(runs, words.seconds)
+                ratios[(batch, pages)] = (ours / floors[0] if floor else None, ours / theirs)
+                for calls, rate in zip(("floor", "floor with its reads"), floors):
+                    row(name, f"{ours:,.0f}", f"{calls} {rate:,.0f}", f"{ours / rate:.2f}")
                 row(name, f"{ours:,.0f}", f"SQLite {theirs:,.0f}", f"{ours / theirs:.2f}")
         opening, reading = least([program, volume, "run"]), least(["cat", volume])
         row(f"opening a volume of {os.stat(volume).st_size >> 20} MB", f"{1000 * opening:.1f} ms", f"`cat` of it {1000 * reading:.1f} ms", f"{opening / reading:.1f}")
