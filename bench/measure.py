@@ -44,6 +44,7 @@ LOAD = "1 load 0x100000000"
 STORE = "1 store 0x100000008 7"
 # A store into the first page of an object that is no list, and the lines that make it.
 STORE_ASIDE = "1 store 0x100001008 7"
+LOAD_ASIDE = "1 load 0x100001000"
 ASIDE = [f"1 create 1 1 {TREASURY}", "1 store 0x100000020 0x100001000", "1 store 0x100000028 0x1aed8da0b819d2bd", "1 store 0x100000000 2"]
 PAGES = (1, 24, 1000)
 # How many blocks the program keeps.
@@ -226,9 +227,10 @@ def counted(command, lines=()):
 
 
 def instructions(program, line, before=()):
-    """Instructions a line behind some others: those of 3,000 less those of 1,000, over 2,000."""
-    few, many = (counted([program, *dry()], [*before, *[line] * count]) for count in (1000, 3000))
-    return (many - few) / 2000
+    """Instructions a line behind some others: those of 3,000 less those of 1,000, over 2,000. Several lines are made in turn."""
+    lines = line if isinstance(line, list) else [line]
+    few, many = (counted([program, *dry()], [*before, *lines * count]) for count in (1000, 3000))
+    return (many - few) / (2000 * len(lines))
 
 
 def generated(program):
@@ -251,6 +253,7 @@ def measure_instructions(program):
     """Instructions of a line of each kind, alone and among 4,096 objects and 256 threads."""
     kinds = {
         "a load": (LOAD, []),
+        "a load, of two objects in turn": ([LOAD, LOAD_ASIDE], ASIDE),
         "a store into a first page": (STORE_ASIDE, ASIDE),
         "a store into the page of the thread's list": (STORE, []),
         "a turn that jumps": ("2 turn", jumping(1)),
@@ -259,7 +262,8 @@ def measure_instructions(program):
     for name, (line, before) in kinds.items():
         alone, among = (instructions(program, line, before + more) for more in ([], crowd()))
         row(f"instructions of {name}", f"{alone:,.0f}", f"among 4,096 objects and 256 threads {among:,.0f}", f"{among / alone:.2f}")
-    row("instructions of `next`, the same, 255 Ready", f"{instructions(program, 'next', jumping(255)):,.0f}")
+    turns = [instructions(program, "next", jumping(threads)) for threads in (1, 255)]
+    row("instructions of `next`, the same, 255 Ready", f"{turns[1]:,.0f}", f"1 Ready {turns[0]:,.0f}", f"{turns[1] / turns[0]:.2f}")
     row("instructions of a line of `gen`, on average", f"{generated(program):,.0f}")
 
 
