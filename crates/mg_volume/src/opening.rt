@@ -19,7 +19,7 @@ ghost use Rattle.mg_volume.specs.Opening.{Opens};
 ghost use Rattle.mg_volume.specs.PagesOver.{ArePagesOver};
 
 use crate::threads::Threads;
-use crate::volume::Volume;
+use crate::volume::{PAGE_SETS, Volume};
 use mg_bank::Bank;
 use mg_check::{OpenFault, VolumeRows};
 use mg_disk::Disk;
@@ -149,7 +149,7 @@ pub(crate) fn open_rows<D: Disk>(
             bank: lists.bank,
             threads: lists.threads,
             pages,
-            near: 0,
+            near: [0; PAGE_SETS],
         }),
         Err(fault) => Err(fault),
     }

@@ -22,12 +22,16 @@ use crate::threads::Threads;
 use mg_bank::Bank;
 use mg_check::{OpenFault, read_volume};
 use mg_disk::Disk;
+use mg_model::limits::PAGE_SIZE;
 use mg_model::{AccRow, Frame, Globals, ObjRow, Params, ThrRow};
 use mg_objects::Objects;
 use mg_pages::Pages;
 use mg_space::Space;
 use std::alloc::Global;
 use std::marker::Model;
+
+/// How many sets of pages there are, as a cache has them: page p is in set p modulo 256.
+pub(crate) const PAGE_SETS: usize = 256;
 
 /// A volume that is open: its rows in memory, and its words in pages.
 #[derive(Drop)]
@@ -38,8 +42,8 @@ pub struct Volume {
     pub(crate) bank: Bank,
     pub(crate) threads: Threads,
     pub(crate) pages: Pages,
-    // The rank of the object that was looked for last by an address.
-    pub(crate) near: usize,
+    // For each set of pages the rank of the object that was found last by an address there.
+    pub(crate) near: [usize; PAGE_SETS],
 }
 
 impl Model for Volume {
@@ -99,25 +103,27 @@ impl Volume {
         self.globals
     }
 
-    /// The object that has an address. It is the one with its base. The one whose base was asked for last is looked at first.
+    /// The object that has an address. It is the one with its base. The one that [`Volume::base_at`] found last in the set of
+    /// the address's page is looked at first.
     pub fn covering(&self, a: u64) -> Option<ObjRow>
         ensures found { result ≡ find (λ row. covers row a) (objects_in self.now) }
         ensures own { IfSome result (λ row. find (λ other. other.base == row.base) (objects_in self.now) ≡ Some row) }
     {
         self.bases_differ();
-        let mut near = self.near;
+        let mut near = self.near[page_set(a)];
         match self.objects.covering_near(a, &mut near) {
             Some(row) => Some(*row),
             None => None,
         }
     }
 
-    /// The base of the object that has an address. The one that was found last is looked at first.
+    /// The base of the object that has an address. The one that was found last in the set of the address's page is looked
+    /// at first.
     pub fn base_at(&mut self, a: u64) -> Option<u64>
         ensures base { MatchOption result (find (λ row. covers row a) (objects_in self.old) ≡ None) (λ base. IsBaseAt self.old a base) }
         ensures same { self.new ≡ self.old }
     {
-        match self.objects.covering_near(a, &mut self.near) {
+        match self.objects.covering_near(a, &mut self.near[page_set(a)]) {
             Some(row) => Some(row.base()),
             None => None,
         }
@@ -271,4 +277,11 @@ impl Volume {
     {
         self.pages.words()
     }
+}
+
+// The set of an address's page.
+fn page_set(a: u64) -> usize
+    ensures below_256 { result < 256 }
+{
+    (a / PAGE_SIZE % PAGE_SETS as u64) as usize
 }
