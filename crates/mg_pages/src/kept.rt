@@ -23,6 +23,8 @@ const MOST_KEPT: usize = 256;
 pub(crate) struct Kept {
     // In boxes, so that a block which goes out of a full cache is not copied on the way.
     blocks: LruCache<u64, Box<Block>>,
+    // The box of the block that went out last. It takes the next one that comes.
+    spare: Option<Box<Block>>,
     alloc: Global,
 }
 
@@ -46,6 +48,7 @@ impl Kept {
         };
         Ok(Kept {
             blocks: LruCache::new(alloc, most)?,
+            spare: None,
             alloc,
         })
     }
@@ -106,12 +109,30 @@ impl Kept {
         requires none { kept_at self.old block ≡ None }
         ensures { KeepsThis block bytes.now self.old self.new }
     {
-        match Box::new(self.alloc, *bytes) {
-            Ok(boxed) => match self.blocks.put(block, boxed) {
-                Ok(_) => {}
-                Err(_) => {}
-            },
+        let Some(boxed) = self.boxed(bytes) else {
+            return;
+        };
+        match self.blocks.push(block, boxed) {
+            Ok(Some((_, gone))) => self.spare = Some(gone),
+            Ok(None) => {}
             Err(_) => {}
+        }
+    }
+
+    // A box with these bytes: the spare one, if there is one. None where memory is refused.
+    fn boxed(&mut self, bytes: &Block) -> Option<Box<Block>>
+        ensures holds { IfSome result (λ boxed. boxed.value ≡ bytes.now) }
+        ensures same { self.new ≡ self.old }
+    {
+        match self.spare.take() {
+            Some(mut spare) => {
+                *spare = *bytes;
+                Some(spare)
+            }
+            None => match Box::new(self.alloc, *bytes) {
+                Ok(boxed) => Some(boxed),
+                Err(_) => None,
+            },
         }
     }
 
