@@ -236,7 +236,7 @@ impl Blocks {
         }
     }
 
-    // Reads a block of the contents and stages it. It is kept from the commit on.
+    // Reads a block of the contents and stages it. It is not kept yet.
     fn stage_read<D: Disk>(&mut self, disk: &mut D, block: u64) -> Result<(), Failed>
         requires stands { Stands D.Disk self.old.store disk.old }
         requires place { block < total_of self.old.store }
@@ -258,8 +258,8 @@ impl Blocks {
         }
     }
 
-    /// Makes what is staged durable. Then nothing is staged, and each block from `first` on that was is kept in place of the
-    /// one that was.
+    /// Makes what is staged durable. Then nothing is staged, and of each block from `first` on that was, what is kept is what was
+    /// written.
     pub(crate) fn commit<D: Disk>(&mut self, disk: &mut D, first: u64) -> Result<(), Failed>
         requires live { is_live self.old.store ≡ true }
         requires stands { Stands D.Disk self.old.store disk.old }

@@ -18,13 +18,20 @@ use std::num::NonZeroUsize;
 /// How many blocks are kept at most.
 const MOST_KEPT: usize = 256;
 
-/// Up to 256 blocks of the contents, those that were used last.
+/// How many sets the blocks make by their numbers, one behind the other.
+const SETS: usize = 256;
+
+/// Up to 256 blocks of the contents, those that were used last. One that is read is kept. One that is written and not kept is kept
+/// from its second write on, where no other such block of its set came between: blocks that are written once, as by a copy, push
+/// none out, and no bytes are copied for them.
 #[derive(Drop)]
 pub(crate) struct Kept {
     // In boxes, so that a block which goes out of a full cache is not copied on the way.
     blocks: LruCache<u64, Box<Block>>,
     // The box of the block that went out last. It takes the next one that comes.
     spare: Option<Box<Block>>,
+    // Of each set of blocks the one that was written last while it was not kept; 0, which is no frame's, where none was.
+    written: [u64; SETS],
     alloc: Global,
 }
 
@@ -49,6 +56,7 @@ impl Kept {
         Ok(Kept {
             blocks: LruCache::new(alloc, most)?,
             spare: None,
+            written: [0; SETS],
             alloc,
         })
     }
@@ -136,6 +144,25 @@ impl Kept {
         }
     }
 
+    // Puts what was written to a block in place of what was kept of it. Where nothing was, it is kept if it was written before.
+    fn renew(&mut self, block: u64, bytes: &Block)
+        ensures { KeepsThis block bytes.now self.old self.new }
+    {
+        if !self.replace(block, bytes) && self.was_written(block) {
+            self.add(block, bytes);
+        }
+    }
+
+    // Whether this block was the last of its set for which that was asked. It is now.
+    fn was_written(&mut self, block: u64) -> bool
+        ensures { self.new ≡ self.old }
+    {
+        let set = (block % SETS as u64) as usize;
+        let was = self.written[set] == block;
+        self.written[set] = block;
+        was
+    }
+
     /// Keeps blocks that were written, those from `first` on, in place of what was kept of them.
     pub(crate) fn refresh(&mut self, writes: &Writes, first: u64)
         ensures { (total : ℕ) (r : Image) → homes_fit total writes.now ≡ true → total ≤ length r → AreKept first r self.old → AreKept first (written r writes.now) self.new }
@@ -143,7 +170,7 @@ impl Kept {
         for k in 0..writes.len() {
             let block = writes.home(k);
             if first <= block {
-                self.put(block, writes.body(k));
+                self.renew(block, writes.body(k));
             }
         }
     }

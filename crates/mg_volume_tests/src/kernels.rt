@@ -20,6 +20,8 @@ enum Trial {
     Counting,
     /// A page is read once, and stays behind a commit.
     Reading,
+    /// A page that is written again and again is read once, behind the first commit.
+    Writing,
     /// A probe tells what a thread may reach, also once that has locked itself out.
     LockedOut,
     /// It tells the same when the volume is opened again.
@@ -92,6 +94,35 @@ const READ_BEHIND: [Row; 1] = [Row::Loads {
     times: 1,
     words: None,
 }];
+
+// Thread 1 puts the other object into the root's list.
+const LISTED: [Row; 4] = [
+    Row::Store {
+        a: ROOT,
+        value: 2,
+        words: None,
+    },
+    Row::Store {
+        a: ROOT + 32,
+        value: OTHER,
+        words: None,
+    },
+    Row::Store {
+        a: ROOT + 40,
+        value: PASSWORD,
+        words: None,
+    },
+    Row::Commit,
+];
+
+const WRITTEN: [Row; 2] = [
+    Row::Store {
+        a: OTHER + 8,
+        value: 7,
+        words: None,
+    },
+    Row::Commit,
+];
 
 // Thread 1 empties the root's list.
 const LOCKED_OUT: [Row; 6] = [
@@ -182,6 +213,21 @@ fn reads<L: Ledger>(
     Some([first, again, behind])
 }
 
+/// How many blocks are read by the first store into a page, by the second and by the third, with a commit behind each.
+fn reads_to_write<L: Ledger>(
+    kernel: &mut Kernel,
+    disk: &mut MemDisk,
+    steps: &mut Steps<L>,
+) -> Option<[u64; 3]>
+    requires { StandsOn ⟦<MemDisk as Disk>⟧ kernel.old disk.old }
+{
+    read_by(kernel, disk, &LISTED, steps)?;
+    let first = read_by(kernel, disk, &WRITTEN, steps)?;
+    let second = read_by(kernel, disk, &WRITTEN, steps)?;
+    let third = read_by(kernel, disk, &WRITTEN, steps)?;
+    Some([first, second, third])
+}
+
 /// Whether a trial on this kernel goes as it says.
 fn goes_well<L: Ledger>(
     kernel: &mut Kernel,
@@ -194,6 +240,7 @@ fn goes_well<L: Ledger>(
     match trial {
         Trial::Counting => wrong_row(kernel, disk, &COUNTED, steps).is_none(),
         Trial::Reading => reads(kernel, disk, steps) == Some([1, 0, 0]),
+        Trial::Writing => reads_to_write(kernel, disk, steps) == Some([0, 1, 0]),
         Trial::LockedOut => wrong_row(kernel, disk, &LOCKED_OUT, steps).is_none(),
         Trial::StillOut => wrong_row(kernel, disk, &STILL_OUT, steps).is_none(),
         Trial::Sharing => wrong_row(kernel, disk, &SHARED, steps).is_none(),
@@ -221,7 +268,7 @@ fn all_go_well<L: Ledger>(
     steps: &mut Steps<L>,
 ) -> bool {
     let is_ready = match trial {
-        Trial::Sharing => are_put(disk),
+        Trial::Sharing | Trial::Writing => are_put(disk),
         Trial::StillOut => is_opened_well(alloc, disk, Trial::LockedOut, steps),
         _ => true,
     };
@@ -257,6 +304,7 @@ fn trials_go_well(rt: HostRuntime) {
     for (name, trial) in [
         ("counting", Trial::Counting),
         ("reading", Trial::Reading),
+        ("writing", Trial::Writing),
         ("locked out", Trial::LockedOut),
         ("still out", Trial::StillOut),
         ("sharing", Trial::Sharing),

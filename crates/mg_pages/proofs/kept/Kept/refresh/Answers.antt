@@ -19,8 +19,8 @@ loop-k-preserved c total r fit long are =
     elim c.if-first-block.branch [
       | then-first-block w ↦
           subst (λ kept. AreKept first (written r (take (k + 1) writes)) kept) (sym w.self-is)
-          (kept-more first total r writes k fit long below old so_far w.put.new.self (subst (λ block. first ≤ block) is w.if-first-block.true)
-          (subst (λ block. KeepsThis block (bytes_of writes k) old w.put.new.self) is (subst (λ bytes. KeepsThis c.home-block.result bytes old w.put.new.self) w.body.ensures.body w.put.ensures)))
+          (kept-more first total r writes k fit long below old so_far w.renew.new.self (subst (λ block. first ≤ block) is w.if-first-block.true)
+          (subst (λ block. KeepsThis block (bytes_of writes k) old w.renew.new.self) is (subst (λ bytes. KeepsThis c.home-block.result bytes old w.renew.new.self) w.body.ensures.body w.renew.ensures)))
       | else-first-block w ↦
           subst (λ kept. AreKept first (written r (take (k + 1) writes)) kept) (sym w.self-is)
           (kept-less first total r writes k fit long below old so_far (subst (λ block. block < first) is w.if-first-block.false))
