@@ -1,8 +1,8 @@
 -- Lemmas on the closing of gates.
-use Rattle.std.specs.Prelude.{◌≡◌, ◌+◌, ◌<◌, ℕ, false, Option, Some, IsSomeAnd}
+use Rattle.std.specs.Prelude.{◌≡◌, ◌+◌, ◌<◌, nat_lt, ℕ, true, false, Option, Some, IsSomeAnd, is_some}
 use Rattle.std.specs.Option.{ForSome}
 use Rattle.std.proofs.Common.{refl, sym, ap, subst, ◌∙◌, ⊎_elim, arith}
-use Rattle.std.proofs.lemmas.Bool.{cases_eq}
+use Rattle.std.proofs.lemmas.Bool.{cases_eq, ltb-true}
 use Rattle.mg_disk.specs.Disk.{Image, only_place}
 use Rattle.mg_disk.specs.PlaceLemmas.{same_as}
 use Rattle.mg_disk.specs.Runs.{leaves_then, leaves_yet, only_image}
@@ -15,7 +15,8 @@ use Rattle.mg_journal.proofs.CommitSteps.{same_then}
 use Rattle.mg_journal.specs.Contents.{InJournal}
 use Rattle.mg_journal.specs.JournalLemmas.{same_gate, same_wider}
 use Rattle.mg_journal.proofs.Homes.{first_gate_torn}
-use Rattle.mg_journal.specs.Recovery.{ClosedOne, IsClosedUpTo, IsStill, MayCloseOne}
+use Rattle.mg_journal.proofs.RecoverSteps.{came_back}
+use Rattle.mg_journal.specs.Recovery.{AreOpen, ClosedOne, IsClosedUpTo, IsStill, MayCloseOne}
 
 -- while one more gate is closed
 pub closing_still : (s total : ℕ) (a b c : Image) → s < segment_count → IsClosedUpTo s total a b → MayCloseOne s b c → IsStill total a c
@@ -38,6 +39,26 @@ closed_more s total a b c few up_to one = record {
     before t low =
         ⊎_elim (λ is. ap (λ i. is_open i t) is ∙ up_to.shut t low)
         (λ gate. same_gate b c t (gate.1.others (segment_gate t) (λ is. omega arith)) ∙ up_to.shut t low) one.may
+
+-- the gates behind it are as they were
+behind_open : (s n : ℕ) (b c : Image) → AreOpen s n b → MayCloseOne s b c → AreOpen (s + 1) n c
+behind_open s n b c are may t low high =
+    ⊎_elim (λ is. ap (λ i. is_open i t) is ∙ are t (omega arith) high)
+    (λ gate. same_gate b c t (gate.1.others (segment_gate t) (λ is. omega arith)) ∙ are t (omega arith) high) may
+
+module _ {D : Type 0} (facts : Ghosts D) (s n : ℕ) where
+  -- gate s is open where those from it on are
+  pub open_now : (old now : D) → is_some (facts.seen now) ≡ is_some (facts.seen old) → ForSome (facts.seen old) (λ image. IsSomeAnd (facts.seen now) (AreOpen s n)) → nat_lt s n ≡ true
+      → ForSome (facts.seen now) (λ image. is_open image s ≡ true)
+  open_now old now tells are low image told =
+      let from = some_of (λ a. AreOpen s n image) (facts.seen old) (came_back (λ a b. AreOpen s n b) (facts.seen old) (facts.seen now) tells are image told) in
+      from.2 s (omega arith) (ltb-true s n low)
+
+  pub open_yet : (mid : D) (now : Option Image) → IsSomeAnd (facts.seen mid) (AreOpen s n) → ForSome (facts.seen mid) (λ b. IsSomeAnd now (MayCloseOne s b)) → IsSomeAnd now (AreOpen (s + 1) n)
+  open_yet mid now so_far one =
+      let b = some_of (AreOpen s n) (facts.seen mid) so_far in
+      let c = some_of (MayCloseOne s b.0) now (one b.0 b.1) in
+      subst (λ o. IsSomeAnd o (AreOpen (s + 1) n)) (sym c.1) (behind_open s n b.0 c.0 b.2 c.2)
 
 module _ {D : Type 0} (facts : Ghosts D) (total : ℕ) (a : Image) where
   -- what is known before gate s is closed: what a stop left so far, and what reads give

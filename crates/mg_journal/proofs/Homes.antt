@@ -42,7 +42,7 @@ segment-behind total a s k fit named = ⊎_elim opened shut (cases_Bool (is_open
     shut : is_open a s ≡ false → globals_block ≤ k
     shut is = absurd (both_ways false refl (ap (λ w. names w k) (sym (writes-closed a s is)) ∙ named))
 
-since-behind : (total : ℕ) (a : Image) (from n k : ℕ) → segments_fit total a from n ≡ true → names (writes_since a from n) k ≡ true → globals_block ≤ k
+pub since-behind : (total : ℕ) (a : Image) (from n k : ℕ) → segments_fit total a from n ≡ true → names (writes_since a from n) k ≡ true → globals_block ≤ k
 since-behind total a from zero k fit named = absurd (both_ways false refl named)
 since-behind total a from (suc n) k fit named =
     let parts = and_parts (segment_fits total a from) (segments_fit total a (from + 1) n) fit in

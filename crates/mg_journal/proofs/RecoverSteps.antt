@@ -1,16 +1,17 @@
 -- The images of a recovery: homes are written, and then gates are closed.
-use Rattle.std.specs.Prelude.{◌≡◌, ℕ, true, List, Option, Some, None, IsSomeAnd, is_some, option_map}
+use Rattle.std.specs.Prelude.{◌≡◌, ◌≤◌, ℕ, true, List, Option, Some, None, IsSomeAnd, is_some, option_map}
 use Rattle.std.specs.Option.{ForSome}
-use Rattle.std.proofs.Common.{refl, sym, ap, subst, ◌∙◌}
+use Rattle.std.proofs.Common.{refl, sym, ap, subst, ◌∙◌, arith}
 use Rattle.mg_disk.specs.Disk.{Image, SameBut}
 use Rattle.mg_disk.specs.PlaceLemmas.{same_as}
-use Rattle.mg_model.specs.Layout.{segment_count}
+use Rattle.mg_model.specs.Layout.{segment_count, segment_gate}
 use Rattle.mg_model.specs.Replay.{replay, written}
 use Rattle.mg_journal.specs.Applied.{filled}
 use Rattle.mg_journal.specs.Contents.{InJournal, SameContents, names}
-use Rattle.mg_journal.specs.JournalLemmas.{open_writes, replay-some, same_wider, seen_both}
-use Rattle.mg_journal.proofs.Homes.{homes_torn, homes_written}
-use Rattle.mg_journal.specs.Recovery.{IsClosedUpTo, IsRecovered, IsStill, Settles}
+use Rattle.mg_journal.specs.JournalLemmas.{open_writes, replay-some, same_gate, same_wider, seen_both}
+use Rattle.mg_journal.proofs.Homes.{homes_torn, homes_written, since-behind}
+use Rattle.mg_journal.specs.Recovery.{AreOpen, IsClosedUpTo, IsRecovered, IsStill, Settles}
+use Rattle.mg_journal.specs.WrittenLemmas.{written_elsewhere}
 
 pub told_map : (change : Image → Image) (told : Option Image) → is_some (option_map change told) ≡ is_some told
 told_map change None = refl
@@ -26,6 +27,11 @@ pub some_weaker : {T : Type 0} (P Q : T → Type 0) (told : Option T) → ((x : 
 some_weaker P Q None sub is = is
 some_weaker P Q (Some x) sub is = sub x is
 
+-- what holds of a changed image, where it is told
+pub of_changed : (change : Image → Image) (told now : Option Image) (P : Image → Type 0) → now ≡ option_map change told → ((a : Image) → told ≡ Some a → P (change a)) → ForSome now P
+of_changed change None now P is each b told = absurd (let e : ◌≡◌ {A = Option Image} None (Some b) = sym is ∙ told in cc)
+of_changed change (Some a) now P is each b told = subst P (let e : ◌≡◌ {A = Option Image} (Some (change a)) (Some b) = sym is ∙ told in cc) (each a refl)
+
 module _ (total : ℕ) (places : List (ℕ × ℕ)) (a : Image) (settles : Settles total places a) where
   abbrev pub homed : Image
   homed = written a (filled a places)
@@ -36,6 +42,13 @@ module _ (total : ℕ) (places : List (ℕ × ℕ)) (a : Image) (settles : Settl
   -- once the homes are written
   pub own : replay homed total ≡ Some homed
   own = homes_written total a homed replayed
+
+  -- open gates are open then
+  pub open_behind : (n : ℕ) → n ≤ segment_count → AreOpen 0 n a → AreOpen 0 n homed
+  open_behind n few are t low high =
+      same_gate a homed t ((written_elsewhere (filled a places) a).others (segment_gate t) (λ named.
+      let home = since-behind total a 0 segment_count (segment_gate t) settles.fit (settles.named (segment_gate t) named) in
+      omega arith)) ∙ are t low high
 
   -- while they are written
   pub while_applied : (c : Image) → SameBut (λ k. names (filled a places) k ≡ true) a c → SameContents total a c

@@ -1,5 +1,5 @@
 -- What recovery does to an image: homes are written, and then the gates are closed first to last.
-use Rattle.std.specs.Prelude.{◌≡◌, ◌⊎◌, ◌<◌, ℕ, true, false, List, Some}
+use Rattle.std.specs.Prelude.{◌≡◌, ◌⊎◌, ◌≤◌, ◌<◌, ℕ, true, false, List, Some}
 use Rattle.mg_disk.specs.Disk.{Image, SameBut, only_place}
 use Rattle.mg_model.specs.Layout.{segment_count, segment_gate}
 use Rattle.mg_model.specs.Replay.{is_open, replay, segments_fit, written}
@@ -14,6 +14,10 @@ pub record Settles (total : ℕ) (places : List (ℕ × ℕ)) (image : Image) : 
   pub fit : segments_fit total image 0 segment_count ≡ true
   pub whole : written image (filled image places) ≡ written image (open_writes image)
   pub named : (k : ℕ) → names (filled image places) k ≡ true → names (open_writes image) k ≡ true
+
+-- the segments from s on and before n are open
+abbrev pub AreOpen : ℕ → ℕ → Image → Type 0
+AreOpen s n image = (t : ℕ) → s ≤ t → t < n → is_open image t ≡ true
 
 -- while a gate is closed: nothing has changed, or any bytes stand in that gate, which was open
 abbrev pub MayCloseOne : ℕ → Image → Image → Type 0

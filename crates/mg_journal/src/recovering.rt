@@ -1,12 +1,12 @@
 // Recovery: what open segments hold is written to its homes, and then the gates are closed.
-ghost use Rattle.std.specs.Prelude.{◌≡◌, ◌≤◌, ◌<◌, ℕ, IsSomeAnd, OnOk, Some, is_some};
+ghost use Rattle.std.specs.Prelude.{◌≡◌, ◌≤◌, ◌<◌, ℕ, IsSomeAnd, OnOk, Some, is_some, true};
 ghost use Rattle.std.specs.Option.{ForSome};
 ghost use Rattle.mg_disk.specs.Stops.{DiskCalls, Leaves, NothingPending};
 ghost use Rattle.mg_model.specs.Layout.{globals_block, segment_count};
-ghost use Rattle.mg_model.specs.Replay.{replay};
+ghost use Rattle.mg_model.specs.Replay.{is_open, replay};
 ghost use Rattle.mg_journal.specs.Contents.{SameContents};
 ghost use Rattle.mg_journal.specs.Looked.{Fits};
-ghost use Rattle.mg_journal.specs.Recovery.{ClosedOne, IsClosedUpTo, IsRecovered, IsStill, MayCloseOne};
+ghost use Rattle.mg_journal.specs.Recovery.{AreOpen, ClosedOne, IsClosedUpTo, IsRecovered, IsStill, MayCloseOne};
 
 use crate::committing::write_firmly;
 use crate::places::{SEGMENTS, closed_gate, gate_of, is_opened};
@@ -14,10 +14,11 @@ use crate::view::View;
 use mg_disk::{BLOCK_SIZE, Disk};
 use mg_faults::Failed;
 
-// Closes a segment's gate where it is open, and makes sure of it.
-fn close_gate<D: Disk>(disk: &mut D, segment: u64) -> Result<(), Failed>
+// Closes a segment's gate, which is open, and makes sure of it.
+fn close_open<D: Disk>(disk: &mut D, segment: u64) -> Result<(), Failed>
     requires place { segment < segment_count }
     requires within_disk { globals_block ≤ D.block_count disk.old }
+    requires gate { ForSome (D.seen disk.old) (λ image. is_open image segment ≡ true) }
     requires settled { NothingPending D.Disk disk.old }
     ensures any_moment { ForSome (D.seen disk.old) (λ image. Leaves D.Disk disk.old disk.new (MayCloseOne segment image)) }
     ensures may { ForSome (D.seen disk.old) (λ image. IsSomeAnd (D.seen disk.new) (MayCloseOne segment image)) }
@@ -26,19 +27,39 @@ fn close_gate<D: Disk>(disk: &mut D, segment: u64) -> Result<(), Failed>
     ensures settled { OnOk result (NothingPending D.Disk disk.new) }
     ensures calls { DiskCalls D.Disk disk.old disk.new result }
 {
+    write_firmly(disk, gate_of(segment), &closed_gate())
+}
+
+// Closes a segment's gate where it is open, and makes sure of it. It is read, unless it is known to be open.
+fn close_gate<D: Disk>(disk: &mut D, segment: u64, is_known: bool) -> Result<(), Failed>
+    requires place { segment < segment_count }
+    requires within_disk { globals_block ≤ D.block_count disk.old }
+    requires known { is_known ≡ true → ForSome (D.seen disk.old) (λ image. is_open image segment ≡ true) }
+    requires settled { NothingPending D.Disk disk.old }
+    ensures any_moment { ForSome (D.seen disk.old) (λ image. Leaves D.Disk disk.old disk.new (MayCloseOne segment image)) }
+    ensures may { ForSome (D.seen disk.old) (λ image. IsSomeAnd (D.seen disk.new) (MayCloseOne segment image)) }
+    ensures closed { OnOk result (ForSome (D.seen disk.old) (λ image. IsSomeAnd (D.seen disk.new) (ClosedOne segment image))) }
+    ensures tells { is_some (D.seen disk.new) ≡ is_some (D.seen disk.old) }
+    ensures settled { OnOk result (NothingPending D.Disk disk.new) }
+    ensures calls { DiskCalls D.Disk disk.old disk.new result }
+{
+    if is_known {
+        return close_open(disk, segment);
+    }
     let mut gate = [0; BLOCK_SIZE];
     disk.read(gate_of(segment), &mut gate)?;
     if is_opened(&gate) {
-        write_firmly(disk, gate_of(segment), &closed_gate())
+        close_open(disk, segment)
     } else {
         Ok(())
     }
 }
 
-// Closes the gates that are open, first to last, with a sync after each. It is for an image that is its own replay:
-// that one's homes are written.
-fn close_gates<D: Disk>(disk: &mut D) -> Result<(), Failed>
+// Closes the gates that are open, first to last, with a sync after each. The first `opened` ones are, and are not read. It is for
+// an image that is its own replay: that one's homes are written.
+fn close_gates<D: Disk>(disk: &mut D, opened: u64) -> Result<(), Failed>
     requires within_disk { globals_block ≤ D.block_count disk.old }
+    requires gates { ForSome (D.seen disk.old) (AreOpen 0 opened) }
     requires settled { NothingPending D.Disk disk.old }
     ensures any_moment { ForSome (D.seen disk.old) (λ image. (total : ℕ) → replay image total ≡ Some image → Leaves D.Disk disk.old disk.new (IsStill total image)) }
     ensures closed { OnOk result (ForSome (D.seen disk.old) (λ image. (total : ℕ) → replay image total ≡ Some image → IsSomeAnd (D.seen disk.new) (IsClosedUpTo segment_count total image))) }
@@ -48,17 +69,20 @@ fn close_gates<D: Disk>(disk: &mut D) -> Result<(), Failed>
     ensures calls { DiskCalls D.Disk disk.old disk.new result }
 {
     for segment in 0..SEGMENTS {
-        close_gate(disk, segment)?;
+        close_gate(disk, segment, segment < opened)?;
     }
     Ok(())
 }
 
 /// Recovers a disk that this view fits. Each home is written once, from its newest body, in the order of blocks, and is made
-/// sure of; then the gates are closed, first to last. The bodies are read from the journal.
-pub(crate) fn recover<D: Disk>(disk: &mut D, view: &mut View) -> Result<(), Failed>
+/// sure of; then the gates are closed, first to last. The bodies are read from the journal, and so are the gates, but for the first
+/// `opened` ones, which are open.
+pub(crate) fn recover<D: Disk>(disk: &mut D, view: &mut View, opened: u64) -> Result<(), Failed>
     requires journal { globals_block ≤ view.old.total }
     requires within_disk { view.old.total ≤ D.block_count disk.old }
     requires fits { ForSome (D.seen disk.old) (λ image. Fits view.old image) }
+    requires at_most_8_open { opened ≤ segment_count }
+    requires gates { ForSome (D.seen disk.old) (AreOpen 0 opened) }
     ensures any_moment { NothingPending D.Disk disk.old → ForSome (D.seen disk.old) (λ image. Leaves D.Disk disk.old disk.new (SameContents view.old.total image)) }
     ensures contents { ForSome (D.seen disk.old) (λ image. IsSomeAnd (D.seen disk.new) (SameContents view.old.total image)) }
     ensures recovered { OnOk result (ForSome (D.seen disk.old) (λ image. IsSomeAnd (D.seen disk.new) (IsRecovered view.old.total image))) }
@@ -70,5 +94,5 @@ pub(crate) fn recover<D: Disk>(disk: &mut D, view: &mut View) -> Result<(), Fail
     ensures calls { DiskCalls D.Disk disk.old disk.new result }
 {
     view.write_homes(disk)?;
-    close_gates(disk)
+    close_gates(disk, opened)
 }

@@ -93,7 +93,7 @@ impl Store {
         ensures closed { IfOk result (λ _. ForSome (D.seen disk.new) AllClosed) }
         ensures calls { DiskCalls D.Disk disk.old disk.new result }
     {
-        match recover(disk, &mut view) {
+        match recover(disk, &mut view, 0) {
             Ok(()) => {
                 view.clear();
                 Ok(Store {
@@ -220,7 +220,7 @@ impl Store {
         }
     }
 
-    // Recovers the disk as an opening does. The contents stay.
+    // Recovers the disk as an opening does, but for gates that are known to be open. The contents stay.
     fn close_segments<D: Disk>(&mut self, disk: &mut D) -> Result<(), Failed>
         requires stands { Stands D.Disk self.old disk.old }
         ensures any_moment { ForSome (D.seen disk.old) (λ image. Leaves D.Disk disk.old disk.new (SameContents (total_of self.old) image)) }
@@ -233,7 +233,7 @@ impl Store {
         ensures total { total_of self.new ≡ total_of self.old }
         ensures calls { DiskCalls D.Disk disk.old disk.new result }
     {
-        recover(disk, &mut self.view)?;
+        recover(disk, &mut self.view, self.opened)?;
         self.view.clear();
         self.opened = 0;
         Ok(())

@@ -164,7 +164,7 @@ const LATE: Counts = Counts {
 
 /// Those of the ninth.
 const CHECKPOINT: Counts = Counts {
-    reads: 12,
+    reads: 4,
     writes: 17,
     syncs: 11,
 };
@@ -258,9 +258,10 @@ fn pair_calls(alloc: Global) -> Option<Counts> {
     }
 }
 
-/// Those of a checkpoint behind one commit of three blocks: the bodies and the gates are read, the homes and the gate are written.
+/// Those of a checkpoint behind one commit of three blocks: the bodies are read and the seven gates that it did not open, the homes
+/// and the gate are written.
 const EARLY: Counts = Counts {
-    reads: 11,
+    reads: 10,
     writes: 4,
     syncs: 2,
 };
@@ -481,11 +482,11 @@ fn wrong_call(
     None
 }
 
-/// The same of the commit of two blocks, which makes 6 calls, and of the ninth of three, which makes 40. Each of the eight before
+/// The same of the commit of two blocks, which makes 6 calls, and of the ninth of three, which makes 32. Each of the eight before
 /// that makes 7.
 fn wrong_calls(alloc: Global) -> [Option<u64>; 2] {
     let (work, opened, eight) = (Work::Threes(10), OPENING, OPENING + 8 * 7);
-    let nine = wrong_call(alloc, work, eight, eight + 40, [8, 8, 8, 7], [8, 9, 9, 9]);
+    let nine = wrong_call(alloc, work, eight, eight + 32, [8, 8, 8, 7], [8, 9, 9, 9]);
     let pair = wrong_call(alloc, Work::Pair, opened, opened + 6, [0; 4], [1, 2, 0, 0]);
     [pair, nine]
 }

@@ -20,8 +20,8 @@ const ROOM: u64 = 4000;
 /// The calls of an opening and eight commits.
 const EIGHT: u64 = 17 + 8 * 164;
 
-/// The calls of the ninth: bodies and homes, 1,280 of each, and a sync; three for each gate; five for the one block.
-const NINTH: u64 = 2560 + 1 + 24 + 5;
+/// The calls of the ninth: bodies and homes, 1,280 of each, and a sync; two for each gate; five for the one block.
+const NINTH: u64 = 2560 + 1 + 16 + 5;
 
 /// Stages 160 blocks from this one on, each filled with this byte.
 fn stage_all(writes: &mut Writes, first: u64, byte: u8)
@@ -178,12 +178,12 @@ const STOPS: [(u64, [u8; 3]); 17] = [
     (2559, [1; 3]),
     (2560, [1; 3]),
     (2561, [1; 3]),
-    (2563, [1; 3]),
-    (2572, [1; 3]),
-    (2584, [1; 3]),
-    (2588, [1; 3]),
-    (2589, [1, 9, 9]),
-    (2590, [9; 3]),
+    (2562, [1; 3]),
+    (2569, [1; 3]),
+    (2576, [1; 3]),
+    (2580, [1; 3]),
+    (2581, [1, 9, 9]),
+    (2582, [9; 3]),
 ];
 
 /// The first of these numbers where something else is held.

@@ -10,9 +10,9 @@ use Rattle.mg_journal.specs.ResultLemmas.{some_of}
 use Rattle.mg_journal.specs.Contents.{SameContents, names}
 use Rattle.mg_journal.specs.Looked.{Fits, Placed}
 use Rattle.mg_journal.specs.Newest.{Ascends}
-use Rattle.mg_journal.specs.Recovery.{IsClosedUpTo, IsRecovered, IsStill, Settles}
+use Rattle.mg_journal.specs.Recovery.{AreOpen, IsClosedUpTo, IsRecovered, IsStill, Settles}
 use Rattle.mg_journal.proofs.NewestSteps.{table_settles}
-use Rattle.mg_journal.proofs.RecoverSteps.{came_back, own, recovered_to, some_weaker, while_applied, while_closed}
+use Rattle.mg_journal.proofs.RecoverSteps.{came_back, of_changed, open_behind, own, recovered_to, some_weaker, while_applied, while_closed}
 use Rattle.mg_journal.proofs.recovering.recover.Goals as goal
 
 settles_so : (view : Placed) (places : List (ℕ × ℕ)) (image : Image) → places ≡ view.table → Ascends places → Fits view image → Settles view.total places image
@@ -25,6 +25,14 @@ returns-in_err-write_homes-clause-any_moment g c pending image told =
     let settles = settles_so c.args.view.now places image refl c.write_homes.ensures.ascends (c.requires.fits image told) in
     leaves_wider g.D.Disk c.args.disk.now c.write_homes.new.disk (SameBut (λ k. names (filled image places) k ≡ true) image) (SameContents total image)
     (c.write_homes.ensures.any_moment pending image told) (while_applied total places image settles)
+
+pub close_gates-requires-clause-gates : goal.close_gates-requires-clause-gates
+close_gates-requires-clause-gates g c =
+    let places = c.args.view.now.table in
+    let total = c.args.view.now.total in
+    of_changed (λ i. written i (filled i places)) (g.D.Disk.seen c.args.disk.now) (g.D.Disk.seen c.write_homes.new.disk) (AreOpen 0 c.args.opened) c.in_ok-write_homes.ensures.written
+    (λ image told.
+    open_behind total places image (settles_so c.args.view.now places image refl c.write_homes.ensures.ascends (c.requires.fits image told)) c.args.opened c.requires.at_most_8_open (c.requires.gates image told))
 
 pub returns-clause-any_moment : goal.returns-clause-any_moment
 returns-clause-any_moment g c pending image told =

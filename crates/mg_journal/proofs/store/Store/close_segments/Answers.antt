@@ -1,4 +1,5 @@
-use Rattle.std.proofs.Common.{ap, arith, subst, sym}
+use Rattle.std.proofs.Common.{◌∙◌, ◌<◌, ap, arith, subst, sym}
+use Rattle.std.proofs.lemmas.Bool.{lt-ltb}
 use Rattle.mg_journal.proofs.NewestSteps.{closed_holds}
 use Rattle.mg_journal.specs.Held.{Store}
 use Rattle.mg_journal.specs.Looked.{Fits}
@@ -11,6 +12,14 @@ pub recover-requires-clause-fits : goal.recover-requires-clause-fits
 recover-requires-clause-fits g c image told =
     let fits = subst (λ (s : Store). Fits (record { total = s.total; table = s.table }) image) (sym c.self.view_is) (held_fits c.args.self.now image (c.requires.stands.fits image told)).fits in
     record { fit = fits.fit; newest = fits.newest }
+
+pub recover-requires-clause-gates : goal.recover-requires-clause-gates
+recover-requires-clause-gates g c image told t low high =
+    let store = c.args.self.now in
+    let same = ap (λ (s : Store). s.opened) c.self.view_is in
+    let few = c.self.invariant.few in
+    let below : t < store.opened = omega (arith, same) in
+    (held_fits store image (c.requires.stands.fits image told)).gates t (omega arith) ∙ lt-ltb t store.opened below
 
 pub returns-clause-stands : goal.returns-clause-stands
 returns-clause-stands g c =
