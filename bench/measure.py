@@ -9,9 +9,10 @@ It puts one table. A rate of mungi is that of a run less a run on no lines, both
 answers go into one. The floor is the rate of bench/floor.c, which makes just the calls of the system that the protocol asks for, and
 once more with the reads that 256 kept blocks leave; the system's C compiler builds it. A rate of SQLite is that of updates of one row
 each, with journal_mode WAL and synchronous FULL, in transactions of as many updates as a batch has lines. A row fills a page of
-SQLite's as a store's page fills one of mungi's. What stands side by side is run in turn, four times each, and the fastest run of each
-counts. Instructions are counted by valgrind's callgrind and calls by strace. Where one of these tools is not there, its rows are left
-out, and that is said on standard error. --before names another build of the program, whose time for a million lines stands beside.
+SQLite's as a store's page fills one of mungi's. What stands side by side is run in turn, ten times each where it is durable and four
+times else, and the fastest run of each counts. Instructions are counted by valgrind's callgrind and calls by strace. Where one of these
+tools is not there, its rows are left out, and that is said on standard error. --before names another build of the program, whose time
+for a million lines stands beside.
 --svg draws the ratios to the floor and to SQLite.
 
 With --full it measures a full volume instead: 65,536 frames, 4,096 objects, 61,426 pages and 256 threads. Openings stand beside `cat`
@@ -51,8 +52,9 @@ PAGES = (1, 24, 1000)
 KEPT = 256
 # What is wanted of the ratio to the floor.
 WANTED = 0.9
-# How often each run is made, in turn with those that stand beside it.
+# How often each run is made, in turn with those that stand beside it, and one that waits for the disk, whose time is less even.
 ROUNDS = 4
+DURABLE_ROUNDS = 10
 
 
 def text_of(lines):
@@ -87,14 +89,14 @@ def count_for(run, seconds):
 
 
 def rates(runs, seconds):
-    """Lines a second of each, over runs that take so many seconds."""
-    return rates_of(runs, [count_for(run, seconds) for run in runs])
+    """Durable lines a second of each, over runs that take so many seconds."""
+    return rates_of(runs, [count_for(run, seconds) for run in runs], DURABLE_ROUNDS)
 
 
-def rates_of(runs, counts):
-    """Lines a second of each, the highest of four runs of each that are made in turn: noise only makes a run slower."""
+def rates_of(runs, counts, rounds=ROUNDS):
+    """Lines a second of each, the highest of so many runs of each that are made in turn: noise only makes a run slower."""
     best = [0.0] * len(runs)
-    for _ in range(ROUNDS):
+    for _ in range(rounds):
         for place, run in enumerate(runs):
             best[place] = max(best[place], counts[place] / run(counts[place]))
     return best
@@ -417,7 +419,7 @@ def main():
     parser.add_argument("--mirror")
     parser.add_argument("--folder")
     parser.add_argument("--before")
-    parser.add_argument("--seconds", type=float, default=2.0)
+    parser.add_argument("--seconds", type=float, default=1.0)
     parser.add_argument("--svg")
     parser.add_argument("--full", action="store_true")
     words = parser.parse_args()
