@@ -21,9 +21,9 @@ const MOST_KEPT: usize = 256;
 /// How many sets the blocks make by their numbers, one behind the other.
 const SETS: usize = 256;
 
-/// Up to 256 blocks of the contents, those that were used last. One that is read is kept. One that is written and not kept is kept
-/// from its second write on, where no other such block of its set came between: blocks that are written once, as by a copy, push
-/// none out, and no bytes are copied for them.
+/// Up to 256 blocks of the contents, those that were used last. One that is read is kept, and so is one that is written while there
+/// is room. In a full cache one that is written and not kept is kept from its second write on, where no other such block of its set
+/// came between: blocks that are written once, as by a copy, push none out, and no bytes are copied for them.
 #[derive(Drop)]
 pub(crate) struct Kept {
     // In boxes, so that a block which goes out of a full cache is not copied on the way.
@@ -144,13 +144,19 @@ impl Kept {
         }
     }
 
-    // Puts what was written to a block in place of what was kept of it. Where nothing was, it is kept if it was written before.
+    // Puts what was written to a block in place of what was kept of it. Where nothing was, it is kept if there is room for it or it
+    // was written before.
     fn renew(&mut self, block: u64, bytes: &Block)
         ensures { KeepsThis block bytes.now self.old self.new }
     {
-        if !self.replace(block, bytes) && self.was_written(block) {
+        if !self.replace(block, bytes) && (self.has_room() || self.was_written(block)) {
             self.add(block, bytes);
         }
+    }
+
+    // Whether one more is kept and none goes out for it.
+    fn has_room(&self) -> bool {
+        self.blocks.len() < MOST_KEPT
     }
 
     // Whether this block was the last of its set for which that was asked. It is now.

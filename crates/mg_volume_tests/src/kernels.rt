@@ -20,7 +20,7 @@ enum Trial {
     Counting,
     /// A page is read once, and stays behind a commit.
     Reading,
-    /// A page that is written again and again is read once, behind the first commit.
+    /// A page that is written again and again is never read.
     Writing,
     /// A probe tells what a thread may reach, also once that has locked itself out.
     LockedOut,
@@ -240,7 +240,7 @@ fn goes_well<L: Ledger>(
     match trial {
         Trial::Counting => wrong_row(kernel, disk, &COUNTED, steps).is_none(),
         Trial::Reading => reads(kernel, disk, steps) == Some([1, 0, 0]),
-        Trial::Writing => reads_to_write(kernel, disk, steps) == Some([0, 1, 0]),
+        Trial::Writing => reads_to_write(kernel, disk, steps) == Some([0, 0, 0]),
         Trial::LockedOut => wrong_row(kernel, disk, &LOCKED_OUT, steps).is_none(),
         Trial::StillOut => wrong_row(kernel, disk, &STILL_OUT, steps).is_none(),
         Trial::Sharing => wrong_row(kernel, disk, &SHARED, steps).is_none(),
