@@ -6,8 +6,8 @@
  * call, syncs, opens the gate and syncs. A commit that finds eight segments open first writes each changed page home once, in order,
  * neighbours in one call, syncs, and closes the eight gates with a sync each. It puts the seconds that this took.
  *
- * With KEPT it reads too: a page that a commit changes and that is not among the KEPT that were used last, and, before homes are
- * written, the bodies of each segment that has the newest of a page, in one call.
+ * With KEPT it reads too: a page that a commit changes and that is not kept, which the first KEPT are once they were read, and, before
+ * homes are written, the bodies of each segment that has the newest of a page, in one call.
  */
 #include <fcntl.h>
 #include <stdio.h>
@@ -34,25 +34,16 @@ static void make_sure(void) {
     if (fdatasync(file) != 0) exit(1);
 }
 
-/* The pages that were used last, in a ring by their use: `before` and `after` of each, from the page `pages` on, which is none. */
-static long *before, *after, kept, most;
+/* Which pages are kept, how many they are, and how many may be. */
+static char *is_kept;
 
-static void link_last(long page, long none) {
-    before[page] = before[none], after[page] = none, after[before[none]] = page, before[none] = page;
-}
+static long kept, most;
 
-static void unlink_page(long page) {
-    after[before[page]] = after[page], before[after[page]] = before[page], before[page] = -1;
-}
-
-/* Uses a page. Whether it was kept. */
-static int use(long page, long none) {
-    int was = before[page] >= 0;
-    if (was) unlink_page(page);
-    else if (kept == most) unlink_page(after[none]);
-    else kept++;
-    link_last(page, none);
-    return was;
+/* Uses a page, which is kept if there is room. Whether it was kept. */
+static int use(long page) {
+    if (is_kept[page]) return 1;
+    if (kept < most) is_kept[page] = 1, kept++;
+    return 0;
 }
 
 int main(int count, char **words) {
@@ -61,9 +52,7 @@ int main(int count, char **words) {
     long stores = atol(words[2]), batch = atol(words[3]), pages = atol(words[4]);
     long list[MOST_STAGED + 1], newest[SEGMENTS] = {0}, bodies[SEGMENTS], segment = 0, done = 0;
     char *is_staged = calloc(pages, 1), *waits = calloc(pages, 1);
-    before = malloc((pages + 1) * sizeof(long)), after = malloc((pages + 1) * sizeof(long));
-    memset(before, -1, pages * sizeof(long)), before[pages] = after[pages] = pages;
-    most = count == 6 ? atol(words[5]) : 0;
+    is_kept = calloc(pages, 1), most = count == 6 ? atol(words[5]) : 0;
     /* Memory that was never written is one page of zeros, which no program with blocks of its own has. */
     memset(blocks, 1, sizeof blocks), memset(run, 1, sizeof run);
     struct timespec begun, ended;
@@ -74,7 +63,7 @@ int main(int count, char **words) {
             long page = done * 7 % pages;
             if (is_staged[page]) continue;
             is_staged[page] = 1, list[staged++] = page;
-            if (most && !use(page, pages)) take(blocks[staged], 1, FIRST_FRAME + page);
+            if (most && !use(page)) take(blocks[staged], 1, FIRST_FRAME + page);
         }
         if (segment == SEGMENTS) {
             for (segment = 0; segment < SEGMENTS; segment++)

@@ -7,7 +7,7 @@ openings beside reading the file, lines a second that are kept nowhere, instruct
 
 It puts one table. A rate of mungi is that of a run less a run on no lines, both with the page cache warm; lines come from a file, and
 answers go into one. The floor is the rate of bench/floor.c, which makes just the calls of the system that the protocol asks for, and
-once more with the reads that 256 kept blocks leave; the system's C compiler builds it. A rate of SQLite is that of updates of one row
+once more with the reads that 256 kept blocks leave; the system's C compiler builds it. Both run on a copy of one volume. A rate of SQLite is that of updates of one row
 each, with journal_mode WAL and synchronous FULL, in transactions of as many updates as a batch has lines. A row fills a page of
 SQLite's as a store's page fills one of mungi's. What stands side by side is run in turn, ten times each where it is durable and four
 times else, and the fastest run of each counts. Instructions are counted by valgrind's callgrind and calls by strace. Where one of these
@@ -114,9 +114,17 @@ def volume_with(program, volume, pages):
     return int(base, 16)
 
 
+def copy_over(volume):
+    """Puts a copy of a volume in its place, so that the system caches it as it does the floor's: in the large pages of a file that was
+    written from end to end. A copy leaves its source in small ones, a block each, and then each block of a write costs by itself."""
+    shutil.copy(volume, volume + ".copy")
+    os.replace(volume + ".copy", volume)
+
+
 def stores(program, volume, pages, batch, folder):
     """Runs of stores over the pages of a new volume, so many to a commit, and their seconds."""
     base = volume_with(program, volume, pages)
+    copy_over(volume)
     words = [volume, "run", str(batch)]
     empty = min(timed(program, words, [], folder) for _ in range(3))
 
