@@ -6,13 +6,13 @@ openings beside reading the file, lines a second that are kept nowhere, instruct
     bench/measure.py --full [--program PATH] [--mirror PATH] [--folder FOLDER]
 
 It puts one table. A rate of mungi is that of a run less a run on no lines, both with the page cache warm; lines come from a file, and
-answers go into one. The floor is the rate of bench/floor.c, which makes just the calls of the system that the protocol asks for, and
-once more with the reads that 256 kept blocks leave; the system's C compiler builds it. Both run on a copy of one volume. A rate of SQLite is that of updates of one row
-each, with journal_mode WAL and synchronous FULL, in transactions of as many updates as a batch has lines. A row fills a page of
-SQLite's as a store's page fills one of mungi's. What stands side by side is run in turn, ten times each where it is durable and four
-times else, and the fastest run of each counts. Instructions are counted by valgrind's callgrind and calls by strace. Where one of these
-tools is not there, its rows are left out, and that is said on standard error. --before names another build of the program, whose time
-for a million lines stands beside.
+answers go into one. The floor is the rate of bench/floor.c, which makes just the calls of the system that the protocol asks for, and once
+more with the reads that 256 kept blocks leave; the system's C compiler builds it. Both run on a copy of one volume. A rate of SQLite is
+that of updates of one row each, with journal_mode WAL and synchronous FULL, in transactions of as many updates as a batch has lines. A
+row fills a page of SQLite's as a store's page fills one of mungi's. What stands side by side is run in turn, ten times each where it is
+durable and four times else, and the fastest run of each counts. Instructions are counted by valgrind's callgrind and calls by strace.
+Where one of these tools is not there, its rows are left out, and that is said on standard error. --before names another build of the
+program, whose time for a million lines stands beside.
 --svg draws the ratios to the floor and to SQLite.
 
 With --full it measures a full volume instead: 65,536 frames, 4,096 objects, 61,426 pages and 256 threads. Openings stand beside `cat`
