@@ -6,8 +6,8 @@
  * call, syncs, opens the gate and syncs. A commit that finds eight segments open first writes each changed page home once, in order,
  * neighbours in one call, syncs, and closes the eight gates with a sync each. It puts the seconds that this took.
  *
- * With KEPT it reads too: a page that a commit changes and that is not kept, which the first KEPT are once they were read, and, before
- * homes are written, the bodies of each segment that has the newest of a page, in one call.
+ * With KEPT it reads too: each page that a commit changes, the first KEPT of them only once, and, before homes are written, the bodies of
+ * each segment that has the newest of a page, in one call.
  */
 #include <fcntl.h>
 #include <stdio.h>

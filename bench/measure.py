@@ -115,8 +115,8 @@ def volume_with(program, volume, pages):
 
 
 def copy_over(volume):
-    """Puts a copy of a volume in its place, so that the system caches it as it does the floor's: in the large pages of a file that was
-    written from end to end. A copy leaves its source in small ones, a block each, and then each block of a write costs by itself."""
+    """Puts a copy of a volume in its place, so that the system caches it as it does the floor's: in the large pieces of a file that was
+    written from end to end. To be copied leaves a file with holes in small ones, and each piece of a write costs by itself."""
     shutil.copy(volume, volume + ".copy")
     os.replace(volume + ".copy", volume)
 
