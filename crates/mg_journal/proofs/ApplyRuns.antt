@@ -3,7 +3,7 @@ use Rattle.std.specs.Prelude.{◌≡◌, ◌++◌, ◌+◌, ◌-◌, ◌≤◌, 
 use Rattle.std.specs.Option.{ForSome}
 use Rattle.std.proofs.Common.{refl, sym, ap, subst, ◌∙◌, ⊎_elim, arith}
 use Rattle.std.proofs.lemmas.Bool.{cases_lt}
-use Rattle.std.proofs.lemmas.List.{ext_get_or, get_or_past, get_or-set_other, get_or-set_same, get_or-take, length-take}
+use Rattle.std.proofs.lemmas.List.{ext_get_or, get_or_past, get_or-set_other, get_or-set_same}
 use Rattle.std.proofs.lemmas.Simd.{get_or-put_chunk_above, get_or-put_chunk_at, get_or-put_chunk_below, put_chunk_is}
 use Rattle.std.specs.Simd.Lanes.{put_chunk}
 use Rattle.mg_disk.specs.Disk.{HasBlocks, Image, InRange, SameBut, SeenBut, block_at}
@@ -132,41 +132,35 @@ module _ (places : List (ℕ × ℕ)) (a : Image) (first : ℕ) where
           ∙ bodies (first + j) (omega arith) (low (first + j) (omega arith)))
 
 -- each place of a row is a home
-pub named_row : (a : Image) (places : List (ℕ × ℕ)) (first n : ℕ) (buffer : Image) → first + n ≤ length places → AreInRow places first n → (k : ℕ) → InRange (nth_home places first) (length (take n buffer)) k → names (filled a places) k ≡ true
-named_row a places first n buffer inside row k at =
+pub named_row : (a : Image) (places : List (ℕ × ℕ)) (first n : ℕ) (row : Image) → first + n ≤ length places → AreInRow places first n → length row ≡ n → (k : ℕ) → InRange (nth_home places first) (length row) k → names (filled a places) k ≡ true
+named_row a places first n row inside in_row long k at =
     let low = at.from in
     let high = at.before in
-    let l = length-take n buffer in
     let j : ℕ = k - nth_home places first in
-    let is : nth_home places (first + j) ≡ k = omega (arith, row j (omega arith)) in
+    let is : nth_home places (first + j) ≡ k = omega (arith, in_row j (omega arith)) in
     subst (λ i. names (filled a places) i ≡ true) is (named_place a places (first + j) (omega arith))
 
 -- a row ends on the disk
-pub row_fits : (total : ℕ) (places : List (ℕ × ℕ)) (first n : ℕ) (buffer : Image) → All (IsPlace total) places → 0 < n → first + n ≤ length places → AreInRow places first n → nth_home places first + length (take n buffer) ≤ total
-row_fits total places first n buffer all some inside row =
-    let last = row (n - 1) (omega arith) in
+pub row_fits : (total : ℕ) (places : List (ℕ × ℕ)) (first n : ℕ) (row : Image) → All (IsPlace total) places → 0 < n → first + n ≤ length places → AreInRow places first n → length row ≡ n → nth_home places first + length row ≤ total
+row_fits total places first n row all some inside in_row long =
+    let last = in_row (n - 1) (omega arith) in
     let high = (all (first + (n - 1)) (0, 0) (omega arith)).high in
-    let l = length-take n buffer in
-    omega (arith, last, high, l)
+    omega (arith, last, high, long)
 
 -- a row more is written
-pub row_applied : (n : ℕ) (places : List (ℕ × ℕ)) (first count : ℕ) (memory buffer : Image) (told mid new : Option Image) → All (IsPlace n) places → first + count ≤ length places → AreInRow places first count
-    → HasRun places first count memory buffer → count ≤ length buffer → ForSome told (HasBodies globals_block places memory)
-    → mid ≡ option_map (λ a. written a (filled a (take first places))) told → SeenBut (InRange (nth_home places first) (length (take count buffer))) mid new → ForSome new (HasBlocks (nth_home places first) (take count buffer))
+pub row_applied : (n : ℕ) (places : List (ℕ × ℕ)) (first count : ℕ) (memory row : Image) (told mid new : Option Image) → All (IsPlace n) places → first + count ≤ length places → AreInRow places first count
+    → HasRun places first count memory row → length row ≡ count → ForSome told (HasBodies globals_block places memory)
+    → mid ≡ option_map (λ a. written a (filled a (take first places))) told → SeenBut (InRange (nth_home places first) (length row)) mid new → ForSome new (HasBlocks (nth_home places first) row)
     → new ≡ option_map (λ a. written a (filled a (take (first + count) places))) told
-row_applied n places first count memory buffer None mid None all inside row gathered room bodies so_far same has = refl
-row_applied n places first count memory buffer None mid (Some b) all inside row gathered room bodies so_far same has =
-    absurd (subst (λ o. SeenBut (InRange (nth_home places first) (length (take count buffer))) o (Some b)) so_far same)
-row_applied n places first count memory buffer (Some a) mid None all inside row gathered room bodies so_far same has =
-    absurd (subst (λ o. SeenBut (InRange (nth_home places first) (length (take count buffer))) o None) so_far same)
-row_applied n places first count memory buffer (Some a) mid (Some b) all inside row gathered room bodies so_far same has =
+row_applied n places first count memory row None mid None all inside in_row gathered long bodies so_far same has = refl
+row_applied n places first count memory row None mid (Some b) all inside in_row gathered long bodies so_far same has =
+    absurd (subst (λ o. SeenBut (InRange (nth_home places first) (length row)) o (Some b)) so_far same)
+row_applied n places first count memory row (Some a) mid None all inside in_row gathered long bodies so_far same has =
+    absurd (subst (λ o. SeenBut (InRange (nth_home places first) (length row)) o None) so_far same)
+row_applied n places first count memory row (Some a) mid (Some b) all inside in_row gathered long bodies so_far same has =
     ap (λ x. Some x)
-    (row_written places a first count memory (take count buffer) b inside row
-    (λ j less. get_or-take count buffer j [] less ∙ gathered j less) long (bodies a refl) (λ k less. (all k (0, 0) less).body) but (has b refl))
+    (row_written places a first count memory row b inside in_row gathered long (bodies a refl) (λ k less. (all k (0, 0) less).body) but (has b refl))
   where
-    long : length (take count buffer) ≡ count
-    long = let l = length-take count buffer in omega arith
-
     none : first ≡ first + 0
     none = omega arith
 
@@ -174,7 +168,7 @@ row_applied n places first count memory buffer (Some a) mid (Some b) all inside 
     but =
         subst (λ f. SameBut (InRange (nth_home places first) count) (written a (filled a (take f places))) b) none
         (subst (λ c. SameBut (InRange (nth_home places first) c) (written a (filled a (take first places))) b) long
-        (subst (λ o. SeenBut (InRange (nth_home places first) (length (take count buffer))) o (Some b)) so_far same))
+        (subst (λ o. SeenBut (InRange (nth_home places first) (length row)) o (Some b)) so_far same))
 
 -- What reads give after one call more, whatever it answers: still the image as it was told first but at these places.
 pub torn_more : (P : Image → ℕ → Type 0) (these : ℕ → Type 0) (told mid new : Option Image) → ((a : Image) (k : ℕ) → these k → P a k) → ForSome told (λ a. IsSomeAnd mid (SameBut (P a) a)) → SeenBut these mid new → ForSome told (λ a. IsSomeAnd new (SameBut (P a) a))

@@ -164,16 +164,42 @@ fn count_row(places: &[(u64, u64)], first: usize, most: usize) -> usize
     most
 }
 
-// Puts the bodies of so many places from place `first` on one behind the other.
+// Puts the bodies of so many places from place `first` on one behind the other. One that stands alone stays where it is.
 fn gather(places: &[(u64, u64)], first: usize, count: usize, journal: &[Block], run: &mut [Block])
     requires there { first + count ≤ length places.now }
     requires room { count ≤ length run.old }
     requires bodies { (k : ℕ) → k < length places.now → nth_body places.now k < length journal.now }
-    ensures gathered { HasRun places.now first count journal.now run.new }
+    ensures gathered { 1 < count → HasRun places.now first count journal.now run.new }
     ensures room { length run.new ≡ length run.old }
 {
-    for j in 0..count {
-        run[j] = journal[places[first + j].1 as usize];
+    if count > 1 {
+        for j in 0..count {
+            run[j] = journal[places[first + j].1 as usize];
+        }
+    }
+}
+
+// The bodies of so many places from place `first` on one behind the other: in the run, or where one that stands alone was read.
+fn row_among<'a>(
+    places: &[(u64, u64)],
+    first: usize,
+    count: usize,
+    journal: &'a [Block],
+    run: &'a [Block],
+) -> &'a [Block]
+    requires some { 0 < count }
+    requires there { first + count ≤ length places.now }
+    requires room { count ≤ length run.now }
+    requires bodies { (k : ℕ) → k < length places.now → nth_body places.now k < length journal.now }
+    requires gathered { 1 < count → HasRun places.now first count journal.now run.now }
+    ensures row { HasRun places.now first count journal.now result.now }
+    ensures long { length result.now ≡ count }
+{
+    if count > 1 {
+        &run[..count]
+    } else {
+        let body = places[first].1 as usize;
+        &journal[body..body + 1]
     }
 }
 
@@ -199,7 +225,8 @@ fn apply<D: Disk>(
     while first < places.len() {
         let count = count_row(places, first, run.len().min(MOST_WRITES));
         gather(places, first, count, journal, run);
-        disk.write_blocks(places[first].0, &run[..count])?;
+        let row = row_among(places, first, count, journal, run);
+        disk.write_blocks(places[first].0, row)?;
         first += count;
     }
     disk.sync()

@@ -1,5 +1,5 @@
 -- What reads and writes of blocks leave of the journal and of what is kept.
-use Rattle.std.specs.Prelude.{◌≡◌, ◌≤◌, ℕ, true, false, is_some, List, [], ◌∷◌, Option, Some, None, MatchOption, ◌==◌}
+use Rattle.std.specs.Prelude.{◌≡◌, ℕ, true, false, is_some, List, [], ◌∷◌, Option, Some, None, MatchOption, ◌==◌}
 use Rattle.std.specs.Option.{ForSome}
 use Rattle.std.proofs.Common.{refl, sym, ap, subst, ◌∙◌, ⊎_elim}
 use Rattle.std.proofs.lemmas.Bool.{cases_Bool, eq-eqb, false≢true}
@@ -12,7 +12,7 @@ use Rattle.mg_pages.proofs.Awaited.{fits-replayed}
 use Rattle.mg_pages.proofs.KeptWrites.{kept-read, kept-same}
 use Rattle.mg_pages.proofs.Staging.{staged-here, staged-there, waiting-here, waiting-there}
 use Rattle.mg_pages.specs.Held.{BlocksHeld, with_writes}
-use Rattle.mg_pages.specs.Kept.{AreKept, KeepsSame, KeepsThis}
+use Rattle.mg_pages.specs.Kept.{AreKept, KeepsBesides, KeepsSame}
 use Rattle.mg_pages.specs.Meaning.{replayed}
 use Rattle.mg_pages.specs.Parts.{KeepsMore}
 
@@ -47,11 +47,11 @@ module _ (told : Option Image) (first : ℕ) where
   keeps-same store writes writes' kept kept' now view same =
       subst (λ old. KeepsMore told first old (blocks_held store writes' kept')) view (record { store = refl; kept = λ image seen are. kept-same first (replayed store.total image) kept kept' same are })
 
-  pub keeps-put : (store : Store) (writes writes' kept kept' : List (ℕ × List ℕ)) (now : BlocksHeld) (block : ℕ) (bytes : List ℕ) → blocks_held store writes kept ≡ now → first ≤ block
-      → ForSome told (λ image. bytes ≡ block_at (replayed now.store.total image) block) → KeepsThis block bytes kept kept' → KeepsMore told first now (blocks_held store writes' kept')
-  keeps-put store writes writes' kept kept' now block bytes view low read keeps =
+  pub keeps-put : (store : Store) (writes writes' kept kept' : List (ℕ × List ℕ)) (now : BlocksHeld) (block : ℕ) (bytes : List ℕ) → blocks_held store writes kept ≡ now
+      → ForSome told (λ image. bytes ≡ block_at (replayed now.store.total image) block) → KeepsBesides block bytes kept kept' → KeepsMore told first now (blocks_held store writes' kept')
+  keeps-put store writes writes' kept kept' now block bytes view read keeps =
       subst (λ (old : BlocksHeld). ForSome told (λ image. bytes ≡ block_at (replayed old.store.total image) block) → KeepsMore told first old (blocks_held store writes' kept')) view
-      (λ read. record { store = refl; kept = λ image seen are. kept-read first (replayed store.total image) block bytes kept kept' low (read image seen) keeps are }) read
+      (λ read. record { store = refl; kept = λ image seen are. kept-read first (replayed store.total image) block bytes kept kept' (read image seen) keeps are }) read
 
 -- what a read gives
 pub read-block : (store now : Store) (image : Image) (block : ℕ) (bytes : List ℕ) → store ≡ now → IsFitting now image → ForSome (replay image (total_of store)) (λ r. bytes ≡ block_at r block) → bytes ≡ block_at (replayed (total_of now) image) block

@@ -65,13 +65,11 @@ module _ (store : Store) (frames : List ℕ) (writes : List (ℕ × List ℕ)) (
         table = spelled-table frames (coming_of store' [] now) table;
         past = spelled-past frames (coming_of store' [] now) table;
         distinct = old.distinct;
-        kept = λ i bytes found.
+        kept = λ i bytes found high.
             let n = length-coming store writes image old.fitting in
             let m = (written_elsewhere writes (replayed store.total image)).count in
             let far = old.long in
-            let was = refreshed (replayed store.total image) (omega arith) old.kept i bytes found in
-            let high = was.0 in
-            (high, was.1 ∙ sym (there.others i (λ in'. let low = in'.1 in absurd (omega arith))));
+            refreshed (replayed store.total image) (omega arith) old.kept i bytes found high ∙ sym (there.others i (λ in'. let low = in'.1 in absurd (omega arith)));
       }
 
   -- and the pages stand there

@@ -1,56 +1,141 @@
--- The frame blocks that are kept, once a block is read or written.
-use Rattle.std.specs.Prelude.{◌≡◌, ◌+◌, ◌≤◌, ◌<◌, ◌&&◌, nat_le, nat_lt, ℕ, zero, suc, true, List, [], ◌∷◌, length, slice_index_or, slice_set, take}
-use Rattle.std.proofs.Common.{sym, ap, ◌∙◌, ⊎_elim, arith}
-use Rattle.std.proofs.Common.{subst}
-use Rattle.std.proofs.lemmas.Bool.{and_parts, ltb-true}
-use Rattle.std.proofs.lemmas.List.{get_or-set_other, get_or-set_same, take_more}
+-- What is kept of the contents, once a block is read or what is staged is written.
+use Rattle.std.specs.Prelude.{◌≡◌, ◌≢◌, ◌⊎◌, ◌+◌, ◌≤◌, ◌<◌, ◌==◌, ◌&&◌, nat_eq, nat_le, nat_lt, ℕ, zero, suc, true, false, not, List, [], ◌∷◌, ◌++◌, drop, length, Option, Some, None, MatchOption, cond, is_some}
+use Rattle.std.specs.Map.{lookup}
+use Rattle.std.proofs.Common.{refl, sym, ap, subst, ◌∙◌, ⊎_elim, inl, inr, arith}
+use Rattle.std.proofs.lemmas.Bool.{and_parts, both_ways, cases_Bool, eq-eqb, eqb-true, false≢true, ltb-true, not-true, or_cases, or_left, or_right}
+use Rattle.std.proofs.lemmas.List.{drop_all, drop_more}
 use Rattle.mg_disk.specs.Disk.{Image, block_at}
-use Rattle.mg_journal.specs.Staged.{bytes_of, home_at}
-use Rattle.mg_journal.specs.WrittenLemmas.{written-append, written_elsewhere}
+use Rattle.mg_journal.specs.Contents.{names}
+use Rattle.mg_journal.specs.Staged.{are_once, bytes_of, home_at, waiting}
 use Rattle.mg_model.specs.Layout.{globals_block}
 use Rattle.mg_model.specs.Replay.{homes_fit, written}
-use Rattle.mg_pages.specs.Kept.{AreKept, KeepsSame, KeepsThis}
+use Rattle.mg_pages.proofs.Staging.{some_list, none_list, waiting-here, waiting-there, written-none, written-waiting}
+use Rattle.mg_pages.specs.Kept.{AreKept, AreKeptBut, KeepsBesides, KeepsSame, KeepsThis, kept_at}
 
 -- the same blocks are kept
 pub kept-same : (first : ℕ) (r : Image) (old new : List (ℕ × List ℕ)) → KeepsSame old new → AreKept first r old → AreKept first r new
 kept-same first r old new same are i bytes found = are i bytes (sym (same i) ∙ found)
 
 -- a block of the contents is kept besides
-pub kept-read : (first : ℕ) (r : Image) (block : ℕ) (is : List ℕ) (old new : List (ℕ × List ℕ)) → first ≤ block → is ≡ block_at r block → KeepsThis block is old new → AreKept first r old → AreKept first r new
-kept-read first r block is old new low read keeps are i bytes found =
-    ⊎_elim (λ this. (subst (λ n. first ≤ n) (sym this.0) low, this.1 ∙ read ∙ ap (block_at r) (sym this.0))) (λ other. are i bytes other.1) (keeps i bytes found)
+pub kept-read : (first : ℕ) (r : Image) (block : ℕ) (is : List ℕ) (old new : List (ℕ × List ℕ)) → is ≡ block_at r block → KeepsBesides block is old new → AreKept first r old → AreKept first r new
+kept-read first r block is old new read keeps are i bytes found low =
+    ⊎_elim (λ this. this.1 ∙ read ∙ ap (block_at r) (sym this.0)) (λ was. are i bytes was low) (keeps i bytes found)
 
--- a block is written and kept, or written before the frames
-kept-put : (first : ℕ) (r : Image) (block : ℕ) (is : List ℕ) (old new : List (ℕ × List ℕ)) → first ≤ block → block < length r → KeepsThis block is old new → AreKept first r old → AreKept first (slice_set r block is) new
-kept-put first r block is old new low high keeps are i bytes found =
+-- what some writes have of a block is kept before what is kept behind them
+other-way : (i k : ℕ) → (k == i) ≡ false → nat_eq i k ≡ false
+other-way i k not_same = ⊎_elim (λ same. absurd (both_ways (k == i) not_same (eq-eqb k i (sym (eqb-true i k same))))) (λ is. is) (cases_Bool (nat_eq i k))
+
+look-there : (i k : ℕ) (x : List ℕ) (es : List (ℕ × List ℕ)) → (k == i) ≡ false → kept_at ((k, x) ∷ es) i ≡ kept_at es i
+look-there i k x es not_same = ap (λ t. cond t (Some x) (lookup (nat_eq i) es)) (other-way i k not_same)
+
+look-here : (i k : ℕ) (x : List ℕ) (es : List (ℕ × List ℕ)) → (k == i) ≡ true → kept_at ((k, x) ∷ es) i ≡ Some x
+look-here i k x es same = ap (λ t. cond t (Some x) (lookup (nat_eq i) es)) (eq-eqb i k (sym (eqb-true k i same)))
+
+pub kept-behind : (ws kept : List (ℕ × List ℕ)) (i : ℕ) → waiting ws i ≡ None → kept_at (ws ++ kept) i ≡ kept_at kept i
+kept-behind [] kept i none = refl
+kept-behind ((k, x) ∷ ws) kept i none =
+    ⊎_elim (λ same. absurd (none_list x (sym (waiting-here k i x ws same) ∙ none)))
+    (λ apart. look-there i k x (ws ++ kept) apart ∙ kept-behind ws kept i (sym (waiting-there k i x ws apart) ∙ none)) (cases_Bool (k == i))
+
+pub kept-before : (ws kept : List (ℕ × List ℕ)) (i : ℕ) (y : List ℕ) → waiting ws i ≡ Some y → kept_at (ws ++ kept) i ≡ Some y
+kept-before [] kept i y is = absurd (none_list y (sym is))
+kept-before ((k, x) ∷ ws) kept i y is =
+    ⊎_elim (λ same. look-here i k x (ws ++ kept) same ∙ sym (waiting-here k i x ws same) ∙ is)
+    (λ apart. look-there i k x (ws ++ kept) apart ∙ kept-before ws kept i y (sym (waiting-there k i x ws apart) ∙ is)) (cases_Bool (k == i))
+
+-- either something goes to a block or nothing does
+pub goes-or-not : (ws : List (ℕ × List ℕ)) (i : ℕ) → (waiting ws i ≡ None) ⊎ ((x : List ℕ) × (waiting ws i ≡ Some x))
+goes-or-not ws i = told (waiting ws i)
+  where
+    told : (o : Option (List ℕ)) → (o ≡ None) ⊎ ((x : List ℕ) × (o ≡ Some x))
+    told None = inl refl
+    told (Some x) = inr (x, refl)
+
+pub goes-somewhere : {X : Type 0} (o : Option X) (bytes_in : X → List ℕ) (goes : Option (List ℕ)) → is_some o ≡ true → MatchOption o (goes ≡ None) (λ x. goes ≡ Some (bytes_in x)) → goes ≡ None → ⊥
+goes-somewhere None bytes_in goes some match none = false≢true some
+goes-somewhere (Some x) bytes_in goes some match none = none_list (bytes_in x) (sym match ∙ none)
+
+-- what is kept besides, and what is found there, by what the writes have
+pub besides-behind : (ws : List (ℕ × List ℕ)) (block : ℕ) (is : List ℕ) (old new : List (ℕ × List ℕ)) → KeepsThis block is old new → KeepsBesides block is (ws ++ old) (ws ++ new)
+besides-behind ws block is old new keeps i bytes found =
+    ⊎_elim (λ none. ⊎_elim (λ this. inl this) (λ other. inr (kept-behind ws old i none ∙ other.1)) (keeps i bytes (sym (kept-behind ws new i none) ∙ found)))
+    (λ goes. inr (kept-before ws old i goes.0 goes.1 ∙ sym (kept-before ws new i goes.0 goes.1) ∙ found)) (goes-or-not ws i)
+
+pub same-behind : (ws old new : List (ℕ × List ℕ)) → KeepsSame old new → KeepsSame (ws ++ old) (ws ++ new)
+same-behind ws old new same i =
+    ⊎_elim (λ none. kept-behind ws new i none ∙ same i ∙ sym (kept-behind ws old i none))
+    (λ goes. kept-before ws new i goes.0 goes.1 ∙ sym (kept-before ws old i goes.0 goes.1)) (goes-or-not ws i)
+
+-- the block of write k has what write k puts there
+named-at : (ws : List (ℕ × List ℕ)) (k : ℕ) → k < length ws → names ws (home_at ws k) ≡ true
+named-at [] k below = absurd (omega arith)
+named-at ((i, x) ∷ ws) zero below = or_left (i == i) (names ws i) (eq-eqb i i refl)
+named-at ((i, x) ∷ ws) (suc k) below = or_right (i == home_at ws k) (names ws (home_at ws k)) (named-at ws k (omega arith))
+
+pub waiting-at : (ws : List (ℕ × List ℕ)) (k : ℕ) → are_once ws ≡ true → k < length ws → waiting ws (home_at ws k) ≡ Some (bytes_of ws k)
+waiting-at [] k once below = absurd (omega arith)
+waiting-at ((i, x) ∷ ws) zero once below = waiting-here i i x ws (eq-eqb i i refl)
+waiting-at ((i, x) ∷ ws) (suc k) once below =
+    let parts = and_parts (not (names ws i)) (are_once ws) once in
     ⊎_elim
-    (λ this. (subst (λ n. first ≤ n) (sym this.0) low, this.1 ∙ sym (get_or-set_same r block is [] high) ∙ ap (block_at (slice_set r block is)) (sym this.0)))
-    (λ other. let was = are i bytes other.1 in (was.0, was.1 ∙ sym (get_or-set_other r block i is [] other.0))) (keeps i bytes found)
-
-kept-beside : (first : ℕ) (r : Image) (block : ℕ) (is : List ℕ) (kept : List (ℕ × List ℕ)) → block < first → AreKept first r kept → AreKept first (slice_set r block is) kept
-kept-beside first r block is kept low are i bytes found =
-    let was = are i bytes found in
-    let high = was.0 in
-    (was.0, was.1 ∙ sym (get_or-set_other r block i is [] (λ at. omega arith)))
+    (λ same. absurd (both_ways (names ws i) (not-true (names ws i) parts.0) (ap (names ws) (eqb-true i (home_at ws k) same) ∙ named-at ws k (omega arith))))
+    (λ apart. waiting-there i (home_at ws k) x ws apart ∙ waiting-at ws k parts.1 (omega arith)) (cases_Bool (i == home_at ws k))
 
 -- a write lies on the volume
-home-below : (total : ℕ) (writes : List (ℕ × List ℕ)) (k : ℕ) → homes_fit total writes ≡ true → k < length writes → home_at writes k < total
-home-below total [] k fit below = absurd (omega arith)
-home-below total ((i, x) ∷ writes) zero fit below =
-    ltb-true i total (and_parts (nat_le globals_block i) (nat_lt i total) (and_parts (nat_le globals_block i && nat_lt i total) (homes_fit total writes) fit).0).1
-home-below total ((i, x) ∷ writes) (suc k) fit below = home-below total writes k (and_parts (nat_le globals_block i && nat_lt i total) (homes_fit total writes) fit).1 (omega arith)
+waits-below : (total : ℕ) (ws : List (ℕ × List ℕ)) (i : ℕ) (x : List ℕ) → homes_fit total ws ≡ true → waiting ws i ≡ Some x → i < total
+waits-below total [] i x fit is = absurd (none_list x (sym is))
+waits-below total ((k, y) ∷ ws) i x fit is =
+    let parts = and_parts (nat_le globals_block k && nat_lt k total) (homes_fit total ws) fit in
+    ⊎_elim (λ same. subst (λ n. n < total) (eqb-true k i same) (ltb-true k total (and_parts (nat_le globals_block k) (nat_lt k total) parts.0).1))
+    (λ apart. waits-below total ws i x parts.1 (sym (waiting-there k i y ws apart) ∙ is)) (cases_Bool (k == i))
 
--- one write more
-module _ (first total : ℕ) (r : Image) (writes : List (ℕ × List ℕ)) (k : ℕ) (fit : homes_fit total writes ≡ true) (long : total ≤ length r) (below : k < length writes) (old : List (ℕ × List ℕ))
-    (are : AreKept first (written r (take k writes)) old) where
-  more-written : written r (take (k + 1) writes) ≡ slice_set (written r (take k writes)) (home_at writes k) (bytes_of writes k)
-  more-written = ap (written r) (take_more writes k (0, []) below) ∙ written-append (take k writes) (slice_index_or writes k (0, []) ∷ []) r
+-- what goes to no block of these writes is kept, or goes to one of the rest
+abbrev pub AreKeptUpTo : List (ℕ × List ℕ) → List (ℕ × List ℕ) → ℕ → Image → List (ℕ × List ℕ) → Type 0
+AreKeptUpTo rest writes first r kept = (i : ℕ) (bytes : List ℕ) → kept_at kept i ≡ Some bytes → first ≤ i → waiting writes i ≡ None → (bytes ≡ block_at r i) ⊎ (names rest i ≡ true)
 
-  pub kept-more : (new : List (ℕ × List ℕ)) → first ≤ home_at writes k → KeepsThis (home_at writes k) (bytes_of writes k) old new → AreKept first (written r (take (k + 1) writes)) new
-  kept-more new low keeps =
-      let e = (written_elsewhere (take k writes) r).count in
-      let high = home-below total writes k fit below in
-      subst (λ i. AreKept first i new) (sym more-written) (kept-put first (written r (take k writes)) (home_at writes k) (bytes_of writes k) old new low (omega arith) keeps are)
+waits-named : (ws : List (ℕ × List ℕ)) (i : ℕ) (x : List ℕ) → waiting ws i ≡ Some x → names ws i ≡ true
+waits-named [] i x is = absurd (none_list x (sym is))
+waits-named ((k, y) ∷ ws) i x is =
+    ⊎_elim (λ same. or_left (k == i) (names ws i) same)
+    (λ apart. or_right (k == i) (names ws i) (waits-named ws i x (sym (waiting-there k i y ws apart) ∙ is))) (cases_Bool (k == i))
 
-  pub kept-less : home_at writes k < first → AreKept first (written r (take (k + 1) writes)) old
-  kept-less low = subst (λ i. AreKept first i old) (sym more-written) (kept-beside first (written r (take k writes)) (home_at writes k) (bytes_of writes k) old low are)
+module _ (first : ℕ) (r : Image) (last writes : List (ℕ × List ℕ)) where
+  pub kept-begun : (kept : List (ℕ × List ℕ)) → AreKept first r (last ++ kept) → AreKeptUpTo last writes first r kept
+  kept-begun kept are i bytes found low free =
+      ⊎_elim (λ none. inl (are i bytes (kept-behind last kept i none ∙ found) low)) (λ goes. inr (waits-named last i goes.0 goes.1)) (goes-or-not last i)
+
+  -- one write of the last commit more
+  module _ (k : ℕ) (below : k < length last) where
+    rest-named : (i : ℕ) → i ≢ home_at last k → names (drop k last) i ≡ true → names (drop (k + 1) last) i ≡ true
+    rest-named i apart named =
+        ⊎_elim (λ same. absurd (apart (sym (eqb-true (home_at last k) i same)))) (λ rest. rest)
+        (or_cases (home_at last k == i) (names (drop (k + 1) last) i) (sym (ap (λ ws. names ws i) (drop_more last k (0, []) below)) ∙ named))
+
+    -- it is kept
+    pub kept-more : (base old new : List (ℕ × List ℕ)) → are_once last ≡ true → AreKept first r (last ++ base) → first ≤ home_at last k → KeepsThis (home_at last k) (bytes_of last k) old new
+        → AreKeptUpTo (drop k last) writes first r old → AreKeptUpTo (drop (k + 1) last) writes first r new
+    kept-more base old new once are low keeps so_far i bytes found from free =
+        ⊎_elim
+        (λ this. inl (this.1 ∙ are (home_at last k) (bytes_of last k) (kept-before last base (home_at last k) (bytes_of last k) (waiting-at last k once below)) low ∙ ap (block_at r) (sym this.0)))
+        (λ other. ⊎_elim (λ is. inl is) (λ named. inr (rest-named i other.0 named)) (so_far i bytes other.1 from free)) (keeps i bytes found)
+
+    -- it is not asked for
+    pub kept-less : (old : List (ℕ × List ℕ)) → ((i : ℕ) → first ≤ i → waiting writes i ≡ None → i ≢ home_at last k) → AreKeptUpTo (drop k last) writes first r old → AreKeptUpTo (drop (k + 1) last) writes first r old
+    kept-less old apart so_far i bytes found from free =
+        ⊎_elim (λ is. inl is) (λ named. inr (rest-named i (apart i from free) named)) (so_far i bytes found from free)
+
+  pub kept-through : (n : ℕ) (kept : List (ℕ × List ℕ)) → length last ≤ n → AreKeptUpTo (drop n last) writes first r kept → AreKeptBut writes first r kept
+  kept-through n kept past so_far i bytes found low free =
+      ⊎_elim (λ is. is) (λ named. absurd (both_ways false refl (sym (ap (λ ws. names ws i) (drop_all n last past)) ∙ named))) (so_far i bytes found low free)
+
+-- what was written is kept before what else is
+pub kept-written : (first total : ℕ) (r : Image) (writes kept : List (ℕ × List ℕ)) → are_once writes ≡ true → homes_fit total writes ≡ true → total ≤ length r → AreKeptBut writes first r kept → AreKept first (written r writes) (writes ++ kept)
+kept-written first total r writes kept once fit long are i bytes found low =
+    ⊎_elim (λ none. are i bytes (sym (kept-behind writes kept i none) ∙ found) low none ∙ sym (written-none writes r i none))
+    (λ goes.
+    let below = waits-below total writes i goes.0 fit goes.1 in
+    some_list bytes goes.0 (sym found ∙ kept-before writes kept i goes.0 goes.1) ∙ sym (written-waiting writes r i goes.0 once (omega arith) goes.1)) (goes-or-not writes i)
+
+pub none-of : (ws : List (ℕ × List ℕ)) → length ws ≤ 0 → ws ≡ []
+none-of [] few = refl
+none-of (w ∷ ws) few = absurd (omega arith)

@@ -156,10 +156,10 @@ place-named ((i, x) ∷ ws) b named = ⊎_elim here (there (place-named ws b)) (
         rw (position-there (goes_to b) (i, x) ws not_same) (some_suc (position (goes_to b) ws) (rest named_there))
 
 -- what waits for a block is what stands there once all is written
-some_list : (x y : List ℕ) → Some x ≡ Some y → x ≡ y
+pub some_list : (x y : List ℕ) → Some x ≡ Some y → x ≡ y
 some_list x y is = cc
 
-none_list : (x : List ℕ) → Some x ≡ None → ⊥
+pub none_list : (x : List ℕ) → Some x ≡ None → ⊥
 none_list x is = cc
 
 pub waiting-here : (i k : ℕ) (x : List ℕ) (ws : List (ℕ × List ℕ)) → (i == k) ≡ true → waiting ((i, x) ∷ ws) k ≡ Some x

@@ -18,7 +18,7 @@ ghost use Rattle.mg_pages.specs.Parts.{KeepsMore, StagesBlock, coming_of};
 
 use crate::blank::Blank;
 use crate::kept::Kept;
-use crate::words::word_at;
+use crate::words::{staged_word, word_at};
 use mg_disk::{BLOCK_SIZE, Block, Disk};
 use mg_faults::Failed;
 use mg_journal::{Store, Writes};
@@ -110,10 +110,10 @@ impl Blocks {
         requires place { block < total_of self.old.store }
         requires index { index < 512 }
         requires once { are_once self.old.writes ≡ true }
-        ensures word { IfOk result (λ word. ForSome (D.seen disk.old) (λ image. (first : ℕ) → AreKept first (replayed (total_of self.old.store) image) self.old.kept
+        ensures word { IfOk result (λ word. ForSome (D.seen disk.old) (λ image. (first : ℕ) → first ≤ block → AreKept first (replayed (total_of self.old.store) image) self.old.kept
             → word ≡ number_at (block_at (coming_of self.old.store self.old.writes image) block) (8 * index))) }
         ensures staged { self.new.writes ≡ self.old.writes }
-        ensures keeps { (first : ℕ) → first ≤ block → KeepsMore (D.seen disk.old) first self.old self.new }
+        ensures keeps { (first : ℕ) → KeepsMore (D.seen disk.old) first self.old self.new }
         ensures stands { Stands D.Disk self.new.store disk.new }
         ensures writes { WritesNothing D.Disk disk.old disk.new }
         ensures calls { DiskCalls D.Disk disk.old disk.new result }
@@ -134,7 +134,7 @@ impl Blocks {
         requires index { index < 512 }
         ensures word { IfOk result (λ word. ForSome (D.seen disk.old) (λ image. word ≡ number_at (block_at (replayed (total_of self.old.store) image) block) (8 * index))) }
         ensures staged { self.new.writes ≡ self.old.writes }
-        ensures keeps { (first : ℕ) → first ≤ block → KeepsMore (D.seen disk.old) first self.old self.new }
+        ensures keeps { (first : ℕ) → KeepsMore (D.seen disk.old) first self.old self.new }
         ensures stands { Stands D.Disk self.new.store disk.new }
         ensures writes { WritesNothing D.Disk disk.old disk.new }
         ensures calls { DiskCalls D.Disk disk.old disk.new result }
@@ -152,7 +152,7 @@ impl Blocks {
         requires place { block < total_of self.old.store }
         ensures block { OnOk result (ForSome (D.seen disk.old) (λ image. bytes.new ≡ block_at (replayed (total_of self.old.store) image) block)) }
         ensures staged { self.new.writes ≡ self.old.writes }
-        ensures keeps { (first : ℕ) → first ≤ block → KeepsMore (D.seen disk.old) first self.old self.new }
+        ensures keeps { (first : ℕ) → KeepsMore (D.seen disk.old) first self.old self.new }
         ensures stands { Stands D.Disk self.new.store disk.new }
         ensures writes { WritesNothing D.Disk disk.old disk.new }
         ensures calls { DiskCalls D.Disk disk.old disk.new result }
@@ -196,10 +196,10 @@ impl Blocks {
         requires index { index < 512 }
         requires once { are_once self.old.writes ≡ true }
         requires fewer_than_160_writes { length self.old.writes < body_limit }
-        ensures staged { OnOk result (StagesBlock self.old.writes self.new.writes block (λ bytes. ForSome (D.seen disk.old) (λ image. (first : ℕ) → AreKept first (replayed (total_of self.old.store) image) self.old.kept
+        ensures staged { OnOk result (StagesBlock self.old.writes self.new.writes block (λ bytes. ForSome (D.seen disk.old) (λ image. (first : ℕ) → first ≤ block → AreKept first (replayed (total_of self.old.store) image) self.old.kept
             → block_words bytes ≡ slice_set (block_words (block_at (coming_of self.old.store self.old.writes image) block)) index value))) }
         ensures failed { OnErr result (self.new.writes ≡ self.old.writes) }
-        ensures keeps { (first : ℕ) → first ≤ block → KeepsMore (D.seen disk.old) first self.old self.new }
+        ensures keeps { (first : ℕ) → KeepsMore (D.seen disk.old) first self.old self.new }
         ensures stands { Stands D.Disk self.new.store disk.new }
         ensures writes { WritesNothing D.Disk disk.old disk.new }
         ensures calls { DiskCalls D.Disk disk.old disk.new result }
@@ -221,10 +221,10 @@ impl Blocks {
         requires stands { Stands D.Disk self.old.store disk.old }
         requires place { block < total_of self.old.store }
         requires fewer_than_160_writes { length self.old.writes < body_limit }
-        ensures staged { OnOk result (StagesBlock self.old.writes self.new.writes block (λ bytes. ForSome (D.seen disk.old) (λ image. (first : ℕ) → AreKept first (replayed (total_of self.old.store) image) self.old.kept
+        ensures staged { OnOk result (StagesBlock self.old.writes self.new.writes block (λ bytes. ForSome (D.seen disk.old) (λ image. (first : ℕ) → first ≤ block → AreKept first (replayed (total_of self.old.store) image) self.old.kept
             → bytes ≡ block_at (replayed (total_of self.old.store) image) block))) }
         ensures failed { OnErr result (self.new.writes ≡ self.old.writes) }
-        ensures keeps { (first : ℕ) → first ≤ block → KeepsMore (D.seen disk.old) first self.old self.new }
+        ensures keeps { (first : ℕ) → KeepsMore (D.seen disk.old) first self.old self.new }
         ensures stands { Stands D.Disk self.new.store disk.new }
         ensures writes { WritesNothing D.Disk disk.old disk.new }
         ensures calls { DiskCalls D.Disk disk.old disk.new result }
@@ -243,7 +243,7 @@ impl Blocks {
         requires fewer_than_160_writes { length self.old.writes < body_limit }
         ensures staged { OnOk result (StagesBlock self.old.writes self.new.writes block (λ bytes. ForSome (D.seen disk.old) (λ image. bytes ≡ block_at (replayed (total_of self.old.store) image) block))) }
         ensures failed { OnErr result (self.new.writes ≡ self.old.writes) }
-        ensures keeps { (first : ℕ) → first ≤ block → KeepsMore (D.seen disk.old) first self.old self.new }
+        ensures keeps { (first : ℕ) → KeepsMore (D.seen disk.old) first self.old self.new }
         ensures stands { Stands D.Disk self.new.store disk.new }
         ensures writes { WritesNothing D.Disk disk.old disk.new }
         ensures calls { DiskCalls D.Disk disk.old disk.new result }
@@ -279,23 +279,11 @@ impl Blocks {
     {
         match self.store.commit(disk, &self.writes) {
             Ok(()) => {
-                self.kept.refresh(&self.writes, first);
-                self.writes.clear();
+                self.kept.take(&mut self.writes, first);
                 Ok(())
             }
             Err(Failed) => Err(Failed),
         }
-    }
-}
-
-// The word at an index of a staged block.
-fn staged_word(writes: &Writes, block: u64, index: u64) -> Option<u64>
-    requires { index < 512 }
-    ensures { MatchOption result (waiting writes.now block ≡ None) (λ word. IsSomeAnd (waiting writes.now block) (λ bytes. word ≡ number_at bytes (8 * index))) }
-{
-    match writes.get(block) {
-        Some(bytes) => Some(word_at(bytes, index)),
-        None => None,
     }
 }
 

@@ -1,47 +1,36 @@
-// The frame blocks that were read or written last.
-ghost use Rattle.std.specs.Prelude.{[], ◌≡◌, ◌≤◌, ◌<◌, ◌*◌, ℕ, IfOk, IfSome, IsSomeAnd, MatchOption, None, false, is_some, length, true};
+// What is in memory of the contents.
+ghost use Rattle.std.specs.Prelude.{[], ◌≡◌, ◌≤◌, ◌<◌, ◌*◌, ◌++◌, ℕ, IfOk, IfSome, IsSomeAnd, MatchOption, is_some, length, true};
 ghost use Rattle.mg_disk.specs.Disk.{Image};
 ghost use Rattle.mg_journal.specs.Staged.{staged};
 ghost use Rattle.mg_model.specs.Bytes.{number_at};
 ghost use Rattle.mg_model.specs.Layout.{body_limit};
 ghost use Rattle.mg_model.specs.Replay.{homes_fit, written};
-ghost use Rattle.mg_pages.specs.Kept.{AreKept, KeepsSame, KeepsThis, kept_at};
+ghost use Rattle.mg_pages.specs.Kept.{AreKept, AreKeptBut, KeepsBesides, KeepsSame, kept_at};
 
-use crate::words::word_at;
-use lru::LruCache;
+use crate::cache::Cache;
+use crate::words::staged_word;
 use mg_disk::Block;
 use mg_journal::Writes;
 use std::alloc::{AllocError, Global};
 use std::marker::Model;
-use std::num::NonZeroUsize;
+use std::mem::swap;
 
-/// How many blocks are kept at most.
-const MOST_KEPT: usize = 256;
-
-/// How many sets the blocks make by their numbers, one behind the other.
-const SETS: usize = 256;
-
-/// Up to 256 blocks of the contents, those that were used last. One that is read is kept, and so is one that is written while there
-/// is room. In a full cache one that is written and not kept is kept from its second write on, where no other such block of its set
-/// came between: blocks that are written once, as by a copy, push none out, and no bytes are copied for them.
+/// Blocks of the contents that are in memory: those that the last commit wrote, where they were staged, and before these the frame
+/// blocks in a cache. A block that each commit writes is so copied once a commit, when it is staged.
 #[derive(Drop)]
 pub(crate) struct Kept {
-    // In boxes, so that a block which goes out of a full cache is not copied on the way.
-    blocks: LruCache<u64, Box<Block>>,
-    // The box of the block that went out last. It takes the next one that comes.
-    spare: Option<Box<Block>>,
-    // Of each set of blocks the one that was written last while it was not kept; 0, which is no frame's, where none was.
-    written: [u64; SETS],
-    alloc: Global,
+    // What the last commit wrote.
+    last: Writes,
+    // Of a block that the last commit wrote it may have what was there before.
+    cache: Cache,
 }
 
 impl Model for Kept {
-    ghost use Rattle.std.specs.Prelude.{ℕ, List};
-    ghost use Rattle.mg_pages.specs.Kept.{shown};
+    ghost use Rattle.std.specs.Prelude.{◌++◌, ℕ, List};
 
     ghost Value = { List (ℕ × List ℕ) };
 
-    ghost view = { λ k. shown (λ b. b.value) k.blocks.entries };
+    ghost view = { λ k. k.last ++ k.cache };
 }
 
 impl Kept {
@@ -49,16 +38,9 @@ impl Kept {
     pub(crate) fn new(alloc: Global) -> Result<Kept, AllocError>
         ensures { IfOk result (λ kept. kept ≡ []) }
     {
-        let most = match NonZeroUsize::new(MOST_KEPT) {
-            Some(most) => most,
-            None => unreachable!(),
-        };
-        Ok(Kept {
-            blocks: LruCache::new(alloc, most)?,
-            spare: None,
-            written: [0; SETS],
-            alloc,
-        })
+        let last = Writes::new(alloc)?;
+        let cache = Cache::new(alloc)?;
+        Ok(Kept { last, cache })
     }
 
     /// The word at an index of a block that is kept.
@@ -67,9 +49,9 @@ impl Kept {
         ensures word { IfSome result (λ word. IsSomeAnd (kept_at self.old block) (λ bytes. word ≡ number_at bytes (8 * index))) }
         ensures same { KeepsSame self.old self.new }
     {
-        match self.blocks.get(&block) {
-            Some(bytes) => Some(word_at(bytes, index)),
-            None => None,
+        match staged_word(&self.last, block, index) {
+            Some(word) => Some(word),
+            None => self.cache.word(block, index),
         }
     }
 
@@ -79,105 +61,44 @@ impl Kept {
         ensures kept { result ≡ is_some (kept_at self.now block) }
         ensures staged { MatchOption (kept_at self.now block) (writes.new ≡ writes.old) (λ bytes. writes.new ≡ staged writes.old block bytes) }
     {
-        match self.blocks.peek(&block) {
+        match self.last.get(block) {
             Some(bytes) => {
                 writes.stage(block, bytes);
                 true
             }
-            None => false,
+            None => self.cache.stage(block, writes),
         }
     }
 
-    /// Keeps a block in place of what was kept of it. Where memory is refused, nothing is kept of it.
+    /// Keeps a block of the contents.
     pub(crate) fn put(&mut self, block: u64, bytes: &Block)
-        ensures { KeepsThis block bytes.now self.old self.new }
+        ensures { KeepsBesides block bytes.now self.old self.new }
     {
-        if !self.replace(block, bytes) {
-            self.add(block, bytes);
+        self.cache.put(block, bytes);
+    }
+
+    /// Takes over what a commit wrote, so that nothing is staged. What the commit before wrote, and this one not, goes into the cache
+    /// where it is a block from `first` on.
+    pub(crate) fn take(&mut self, writes: &mut Writes, first: u64)
+        ensures kept { (total : ℕ) (r : Image) → homes_fit total writes.old ≡ true → total ≤ length r → AreKept first r self.old → AreKept first (written r writes.old) self.new }
+        ensures empty { writes.new ≡ [] }
+    {
+        if writes.len() > 0 {
+            keep_others(&mut self.cache, &self.last, writes, first);
+            swap(&mut self.last, writes);
+            writes.clear();
         }
     }
+}
 
-    // Puts bytes in place of what is kept of a block, and says whether anything is.
-    fn replace(&mut self, block: u64, bytes: &Block) -> bool
-        ensures put { result ≡ true → KeepsThis block bytes.now self.old self.new }
-        ensures same { result ≡ false → self.new ≡ self.old }
-        ensures none { result ≡ false → kept_at self.old block ≡ None }
-    {
-        match self.blocks.get_mut(&block) {
-            Some(kept) => {
-                **kept = *bytes;
-                true
-            }
-            None => false,
-        }
-    }
-
-    // Keeps a block of which nothing is kept. Where memory is refused, nothing is then either.
-    fn add(&mut self, block: u64, bytes: &Block)
-        requires none { kept_at self.old block ≡ None }
-        ensures { KeepsThis block bytes.now self.old self.new }
-    {
-        let Some(boxed) = self.boxed(bytes) else {
-            return;
-        };
-        match self.blocks.push(block, boxed) {
-            Ok(Some((_, gone))) => self.spare = Some(gone),
-            Ok(None) => {}
-            Err(_) => {}
-        }
-    }
-
-    // A box with these bytes: the spare one, if there is one. None where memory is refused.
-    fn boxed(&mut self, bytes: &Block) -> Option<Box<Block>>
-        ensures holds { IfSome result (λ boxed. boxed.value ≡ bytes.now) }
-        ensures same { self.new ≡ self.old }
-    {
-        match self.spare.take() {
-            Some(mut spare) => {
-                *spare = *bytes;
-                Some(spare)
-            }
-            None => match Box::new(self.alloc, *bytes) {
-                Ok(boxed) => Some(boxed),
-                Err(_) => None,
-            },
-        }
-    }
-
-    // Puts what was written to a block in place of what was kept of it. Where nothing was, it is kept if there is room for it or it
-    // was written before.
-    fn renew(&mut self, block: u64, bytes: &Block)
-        ensures { KeepsThis block bytes.now self.old self.new }
-    {
-        if !self.replace(block, bytes) && (self.has_room() || self.was_written(block)) {
-            self.add(block, bytes);
-        }
-    }
-
-    // Whether one more is kept and none goes out for it.
-    fn has_room(&self) -> bool {
-        self.blocks.len() < MOST_KEPT
-    }
-
-    // Whether this block was the last of its set for which that was asked. It is now.
-    fn was_written(&mut self, block: u64) -> bool
-        ensures { self.new ≡ self.old }
-    {
-        let set = (block % SETS as u64) as usize;
-        let was = self.written[set] == block;
-        self.written[set] = block;
-        was
-    }
-
-    /// Keeps blocks that were written, those from `first` on, in place of what was kept of them.
-    pub(crate) fn refresh(&mut self, writes: &Writes, first: u64)
-        ensures { (total : ℕ) (r : Image) → homes_fit total writes.now ≡ true → total ≤ length r → AreKept first r self.old → AreKept first (written r writes.now) self.new }
-    {
-        for k in 0..writes.len() {
-            let block = writes.home(k);
-            if first <= block {
-                self.renew(block, writes.body(k));
-            }
+// Keeps what the commit before wrote of blocks from `first` on that were not written again.
+fn keep_others(cache: &mut Cache, last: &Writes, writes: &Writes, first: u64)
+    ensures { (r : Image) → AreKept first r (last.now ++ cache.old) → AreKeptBut writes.now first r cache.new }
+{
+    for k in 0..last.len() {
+        let block = last.home(k);
+        if first <= block && writes.get(block).is_none() {
+            cache.renew(block, last.body(k));
         }
     }
 }

@@ -10,6 +10,7 @@
 
 mod blank;
 mod blocks;
+mod cache;
 mod coming;
 mod kept;
 mod loading;

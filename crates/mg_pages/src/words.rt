@@ -1,8 +1,10 @@
 // The words of a block.
-ghost use Rattle.std.specs.Prelude.{◌≡◌, ◌≢◌, ◌<◌, ◌*◌, ℕ};
+ghost use Rattle.std.specs.Prelude.{◌≡◌, ◌≢◌, ◌<◌, ◌*◌, ℕ, IsSomeAnd, MatchOption, None};
+ghost use Rattle.mg_journal.specs.Staged.{waiting};
 ghost use Rattle.mg_model.specs.Bytes.{number_at};
 
 use mg_disk::Block;
+use mg_journal::Writes;
 use mg_layout::{number_at, put_number};
 
 /// The word at an index of a block, below 512.
@@ -20,4 +22,15 @@ pub(crate) fn put_word(block: &mut Block, index: u64, word: u64)
     ensures others { (j : ℕ) → j ≢ index → number_at block.new (8 * j) ≡ number_at block.old (8 * j) }
 {
     put_number(block, 8 * index as usize, word);
+}
+
+/// The word at an index, below 512, of what goes to a block.
+pub(crate) fn staged_word(writes: &Writes, block: u64, index: u64) -> Option<u64>
+    requires { index < 512 }
+    ensures { MatchOption result (waiting writes.now block ≡ None) (λ word. IsSomeAnd (waiting writes.now block) (λ bytes. word ≡ number_at bytes (8 * index))) }
+{
+    match writes.get(block) {
+        Some(bytes) => Some(word_at(bytes, index)),
+        None => None,
+    }
 }

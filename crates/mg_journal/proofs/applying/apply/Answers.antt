@@ -1,4 +1,4 @@
-use Rattle.std.proofs.Common.{rules, ◌≡◌, ◌≤◌, ◌∙◌, ℕ, arith, length, refl, true}
+use Rattle.std.proofs.Common.{rules, ◌≡◌, ◌∙◌, ℕ, arith, refl, true}
 use Rattle.mg_disk.specs.Disk.{InRange, SameBut}
 use Rattle.mg_disk.specs.Runs.{torn_at}
 use Rattle.mg_journal.specs.Applied.{filled, nth_home}
@@ -14,7 +14,7 @@ returns-in_err-write_blocks-clause-any_moment g c pending image told =
     let first = c.loop-first.first in
     let P : ℕ → Type 0 = λ i. names (filled image places) i ≡ true in
     (torn_at g.D.Disk P image c.args.disk.now c.loop-first.disk c.write_blocks.new.self (InRange (nth_home places first) _) (SameBut P image) (c.loop-first.invariant.tracks pending image told)
-    c.write_blocks.ensures.stops (named_row image places first c.count_row-count.result c.gather.new.run row.there row.row) (λ x same. same)).leaves
+    c.write_blocks.ensures.stops (named_row image places first c.count_row-count.result c.row_among-row.result.now row.there row.row c.row_among-row.ensures.long) (λ x same. same)).leaves
 
 pub returns-in_err-write_blocks-clause-torn : goal.returns-in_err-write_blocks-clause-torn
 returns-in_err-write_blocks-clause-torn g c =
@@ -22,35 +22,36 @@ returns-in_err-write_blocks-clause-torn g c =
     let row = c.count_row-count.ensures in
     let first = c.loop-first.first in
     torn_more (λ image i. names (filled image places) i ≡ true) (InRange (nth_home places first) _) (g.D.Disk.seen c.args.disk.now) (g.D.Disk.seen c.loop-first.disk) (g.D.Disk.seen c.write_blocks.new.self)
-    (λ image. named_row image places first c.count_row-count.result c.gather.new.run row.there row.row) c.loop-first.invariant.torn c.write_blocks.ensures.unknown
+    (λ image. named_row image places first c.count_row-count.result c.row_among-row.result.now row.there row.row c.row_among-row.ensures.long) c.loop-first.invariant.torn c.write_blocks.ensures.unknown
 
 pub loop-first-preserved : goal.loop-first-preserved
 loop-first-preserved g c =
     let places = c.args.places.now in
-    let row = c.count_row-count.ensures in
+    let counted = c.count_row-count.ensures in
     let first = c.loop-first.first in
     let n = c.count_row-count.result in
-    let run = c.gather.new.run in
+    let row = c.row_among-row.result.now in
+    let made = c.row_among-row.ensures in
     let inv = c.loop-first.invariant in
-    let room : n ≤ length run = omega (arith, row.at_most, c.gather.ensures.room) in
     record {
-      within = row.there;
+      within = counted.there;
       room = c.gather.ensures.room ∙ inv.room;
       blocks = c.write_blocks.ensures.blocks ∙ inv.blocks;
       count = search rules;
-      written = row_applied (g.D.Disk.block_count c.args.disk.now) places first n c.args.journal.now run (g.D.Disk.seen c.args.disk.now) (g.D.Disk.seen c.loop-first.disk) (g.D.Disk.seen c.write_blocks.new.self)
-          c.requires.all_on_disk row.there row.row c.gather.ensures.gathered room c.requires.read inv.written c.write_blocks.ensures.unknown c.in_ok-write_blocks.ensures.written;
+      written = row_applied (g.D.Disk.block_count c.args.disk.now) places first n c.args.journal.now row (g.D.Disk.seen c.args.disk.now) (g.D.Disk.seen c.loop-first.disk) (g.D.Disk.seen c.write_blocks.new.self)
+          c.requires.all_on_disk counted.there counted.row made.row made.long c.requires.read inv.written c.write_blocks.ensures.unknown c.in_ok-write_blocks.ensures.written;
       torn = torn_more (λ image i. names (filled image places) i ≡ true) (InRange (nth_home places first) _) (g.D.Disk.seen c.args.disk.now) (g.D.Disk.seen c.loop-first.disk) (g.D.Disk.seen c.write_blocks.new.self)
-          (λ image. named_row image places first n run row.there row.row) inv.torn c.write_blocks.ensures.unknown;
+          (λ image. named_row image places first n row counted.there counted.row made.long) inv.torn c.write_blocks.ensures.unknown;
       tells = told_still (InRange (nth_home places first) _) (g.D.Disk.seen c.loop-first.disk) (g.D.Disk.seen c.write_blocks.new.self) (g.D.Disk.seen c.write_blocks.new.self) c.write_blocks.ensures.unknown refl ∙ inv.tells;
       tracks = λ pending image told.
           let P : ℕ → Type 0 = λ i. names (filled image places) i ≡ true in
           torn_at g.D.Disk P image c.args.disk.now c.loop-first.disk c.write_blocks.new.self (InRange (nth_home places first) _) (SameBut P image) (inv.tracks pending image told)
-          c.write_blocks.ensures.stops (named_row image places first n run row.there row.row) (λ x same. same);
+          c.write_blocks.ensures.stops (named_row image places first n row counted.there counted.row made.long) (λ x same. same);
     }
 
 pub write_blocks-requires : goal.write_blocks-requires
 write_blocks-requires g c =
-    let row = c.count_row-count.ensures in
-    let fits = row_fits (g.D.Disk.block_count c.args.disk.now) c.args.places.now c.loop-first.first c.count_row-count.result c.gather.new.run c.requires.all_on_disk row.some row.there row.row in
+    let counted = c.count_row-count.ensures in
+    let made = c.row_among-row.ensures in
+    let fits = row_fits (g.D.Disk.block_count c.args.disk.now) c.args.places.now c.loop-first.first c.count_row-count.result c.row_among-row.result.now c.requires.all_on_disk counted.some counted.there counted.row made.long in
     record { in_range = omega (arith, fits, c.loop-first.invariant.blocks) }

@@ -1,4 +1,4 @@
-use Rattle.std.proofs.Common.{◌≡◌, ◌+◌, ◌*◌, ◌∙◌, ℕ, ap, arith, length, slice_index, sym}
+use Rattle.std.proofs.Common.{◌≡◌, ◌+◌, ◌≤◌, ◌*◌, ◌∙◌, ℕ, ap, arith, length, slice_index, sym}
 use Rattle.std.proofs.lemmas.List.{get_or-replicate}
 use Rattle.std.proofs.lemmas.Result.{IfOk-weaker}
 use Rattle.std.specs.Option.{ForSome}
@@ -25,10 +25,10 @@ returns-in-Some-clause-word g c =
     let block = c.frame_block.result in
     let at : block ≡ first_frame (length frames) + c.in-Some.frame = c.frame_block.ensures ∙ ap (λ n. first_frame n + c.in-Some.frame) c.len.ensures.count in
     IfOk-weaker c.word.result
-    (λ word. ForSome (g.D.Disk.seen c.args.disk.now) (λ image. (first : ℕ) → AreKept first (replayed (total_of store) image) kept → word ≡ number_at (block_at (coming_of store writes image) block) (8 * index)))
+    (λ word. ForSome (g.D.Disk.seen c.args.disk.now) (λ image. (first : ℕ) → first ≤ block → AreKept first (replayed (total_of store) image) kept → word ≡ number_at (block_at (coming_of store writes image) block) (8 * index)))
     (λ word. ForSome (g.D.Disk.seen c.args.disk.now) (λ image. AreKept (first_frame (length frames)) (replayed (total_of store) image) kept → word ≡ slice_index (page_words (coming_of store writes image) (length frames) frames c.args.page) index))
     (λ word is image told are.
-    is image told (first_frame (length frames)) are
+    is image told (first_frame (length frames)) (omega (arith, at)) are
     ∙ block-word (block_at (coming_of store writes image) block) index c.requires.index
     ∙ ap (λ b. slice_index (block_words (block_at (coming_of store writes image) b)) index) at
     ∙ ap (λ words. slice_index words index) (sym (page-in (coming_of store writes image) (length frames) frames c.args.page c.in-Some.frame (sym c.bound_frame.ensures ∙ c.in-Some.is))))
@@ -36,8 +36,7 @@ returns-in-Some-clause-word g c =
 
 pub returns-in-Some-clause-keeps : goal.returns-in-Some-clause-keeps
 returns-in-Some-clause-keeps g c =
-    let at : c.frame_block.result ≡ first_frame (length c.args.frames.now) + c.in-Some.frame = c.frame_block.ensures ∙ ap (λ n. first_frame n + c.in-Some.frame) c.len.ensures.count in
-    c.word.ensures.keeps (first_frame (length c.args.frames.now)) (omega arith)
+    c.word.ensures.keeps (first_frame (length c.args.frames.now))
 
 pub returns-in-None-clause-word : goal.returns-in-None-clause-word
 returns-in-None-clause-word g c image told are =

@@ -23,20 +23,20 @@ returns-in-Some-clause-stored g c =
     let told = g.D.Disk.seen c.args.disk.now in
     let first = first_frame (length frames) in
     let block = c.frame_block.result in
+    let at : block ≡ first + c.in-Some.frame = c.frame_block.ensures ∙ ap (λ n. first_frame n + c.in-Some.frame) c.len.ensures.count in
     on_ok_weaker c.set_word.result
     (λ stages.
     inl (
       refl,
       changes-word told b.store b.kept c.args.page c.args.index c.args.value frames b.writes c.set_word.new.self.writes c.in-Some.frame block
-          (sym c.bound_frame.ensures ∙ c.in-Some.is) (c.frame_block.ensures ∙ ap (λ n. first_frame n + c.in-Some.frame) c.len.ensures.count)
-          (record { bytes = stages.bytes; more = stages.more; are = λ image seen are. stages.are image seen first are }),
+          (sym c.bound_frame.ensures ∙ c.in-Some.is) at
+          (record { bytes = stages.bytes; more = stages.more; are = λ image seen are. stages.are image seen first (omega (arith, at)) are }),
     ))
     c.set_word.ensures.staged
 
 pub returns-in-Some-clause-keeps : goal.returns-in-Some-clause-keeps
 returns-in-Some-clause-keeps g c =
-    let at : c.frame_block.result ≡ first_frame (length c.args.frames.now) + c.in-Some.frame = c.frame_block.ensures ∙ ap (λ n. first_frame n + c.in-Some.frame) c.len.ensures.count in
-    c.set_word.ensures.keeps (first_frame (length c.args.frames.now)) (omega arith)
+    c.set_word.ensures.keeps (first_frame (length c.args.frames.now))
 
 pub returns-in-None-clause-stored : goal.returns-in-None-clause-stored
 returns-in-None-clause-stored g c =

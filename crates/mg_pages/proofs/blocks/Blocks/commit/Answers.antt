@@ -15,8 +15,8 @@ pub returns-in-Ok-clause-kept : goal.returns-in-Ok-clause-kept
 returns-in-Ok-clause-kept g c r long are =
     let now = c.args.self.now in
     let same = ap (λ (b : BlocksHeld). b.writes) c.self.view_is in
-    subst (λ ws. AreKept c.args.first (written r ws) c.refresh.new.self) same
-    (c.refresh.ensures (total_of now.store) r (ap (homes_fit (total_of now.store)) same ∙ c.requires.homes) long (subst (λ (b : BlocksHeld). AreKept c.args.first r b.kept) (sym c.self.view_is) are))
+    subst (λ ws. AreKept c.args.first (written r ws) c.take.new.self) same
+    (c.take.ensures.kept (total_of now.store) r (ap (homes_fit (total_of now.store)) same ∙ c.requires.homes) long (subst (λ (b : BlocksHeld). AreKept c.args.first r b.kept) (sym c.self.view_is) are))
 
 pub returns-in-Ok-clause-late : goal.returns-in-Ok-clause-late
 returns-in-Ok-clause-late g c some = c.in-Ok.ensures.late (subst (λ (b : BlocksHeld). b.writes ≢ []) (sym c.self.view_is) some)

@@ -17,7 +17,7 @@ returns-then-put_staged-clause-staged g c =
     record {
       bytes = here.2.bytes;
       more = here.2.more ∙ ap (λ (b : BlocksHeld). staged b.writes c.args.block here.2.bytes) c.self.view_is;
-      are = λ image told first are.
+      are = λ image told first low are.
           let stands = c.requires.stands in
           let counted = g.met.D.Disk.seen_count c.args.disk.now image told in
           let high = stands.room in
@@ -29,7 +29,7 @@ returns-then-put_staged-clause-staged g c =
     }
 
 pub returns-then-put_staged-clause-keeps : goal.returns-then-put_staged-clause-keeps
-returns-then-put_staged-clause-keeps g c first low =
+returns-then-put_staged-clause-keeps g c first =
     let i = c.self.inside in
     let told = g.D.Disk.seen c.args.disk.now in
     keeps-alike told first c.args.self.now c.args.self.now c.args.self.now (blocks_held i.store c.put_staged.new.writes i.kept) refl refl
@@ -50,9 +50,9 @@ returns-in-Ok-clause-staged g c =
           ∙ ap (λ ws. staged ws block put.bytes) between
           ∙ staged-twice c.put_staged.new.writes block whole.bytes put.bytes
           ∙ ap (λ ws. staged ws block put.bytes) (none.1 ∙ ap (λ (b : BlocksHeld). b.writes) c.self.view_is);
-      are = λ image told first are.
+      are = λ image told first low are.
           let read =
-          whole.are image told first (subst (λ (b : BlocksHeld). AreKept first (replayed (total_of b.store) image) b.kept) (sym c.self.view_is) are)
+          whole.are image told first low (subst (λ (b : BlocksHeld). AreKept first (replayed (total_of b.store) image) b.kept) (sym c.self.view_is) are)
           ∙ ap (λ (b : BlocksHeld). block_at (replayed (total_of b.store) image) block) c.self.view_is in
           put.are
           ∙ ap (λ bytes. slice_set (block_words bytes) c.args.index c.args.value)
@@ -61,15 +61,15 @@ returns-in-Ok-clause-staged g c =
     }
 
 pub returns-in-Ok-clause-keeps : goal.returns-in-Ok-clause-keeps
-returns-in-Ok-clause-keeps g c first low =
+returns-in-Ok-clause-keeps g c first =
     let i = c.self.inside in
     let j = c.self-2.inside in
     keeps-alike (g.D.Disk.seen c.args.disk.now) first (blocks_held i.store c.put_staged.new.writes i.kept) c.args.self.now c.stage_whole.new.self (blocks_held j.store c.put_staged-there.new.writes j.kept)
     (sym (ap (λ (b : BlocksHeld). b.store) c.self.view_is)) (sym (ap (λ (b : BlocksHeld). b.kept) c.self.view_is))
-    (ap (λ (b : BlocksHeld). b.store) c.self-2.view_is) (ap (λ (b : BlocksHeld). b.kept) c.self-2.view_is) (c.stage_whole.ensures.keeps first low)
+    (ap (λ (b : BlocksHeld). b.store) c.self-2.view_is) (ap (λ (b : BlocksHeld). b.kept) c.self-2.view_is) (c.stage_whole.ensures.keeps first)
 
 pub returns-in-Err-clause-keeps : goal.returns-in-Err-clause-keeps
-returns-in-Err-clause-keeps g c first low =
+returns-in-Err-clause-keeps g c first =
     let i = c.self.inside in
     keeps-alike (g.D.Disk.seen c.args.disk.now) first (blocks_held i.store c.put_staged.new.writes i.kept) c.args.self.now c.stage_whole.new.self c.stage_whole.new.self
-    (sym (ap (λ (b : BlocksHeld). b.store) c.self.view_is)) (sym (ap (λ (b : BlocksHeld). b.kept) c.self.view_is)) refl refl (c.stage_whole.ensures.keeps first low)
+    (sym (ap (λ (b : BlocksHeld). b.store) c.self.view_is)) (sym (ap (λ (b : BlocksHeld). b.kept) c.self.view_is)) refl refl (c.stage_whole.ensures.keeps first)

@@ -15,11 +15,11 @@ returns-then-stage-clause-staged g c =
     record {
       bytes = here.0;
       more = here.2 ∙ ap (λ (b : BlocksHeld). staged b.writes c.args.block here.0) c.self.view_is;
-      are = λ image told first are. (are c.args.block here.0 (sym (ap (λ (b : BlocksHeld). kept_at b.kept c.args.block) c.self.view_is) ∙ here.1)).1;
+      are = λ image told first low are. are c.args.block here.0 (sym (ap (λ (b : BlocksHeld). kept_at b.kept c.args.block) c.self.view_is) ∙ here.1) low;
     }
 
 pub returns-then-stage-clause-keeps : goal.returns-then-stage-clause-keeps
-returns-then-stage-clause-keeps g c first low =
+returns-then-stage-clause-keeps g c first =
     let i = c.self.inside in
     let told = g.D.Disk.seen c.args.disk.now in
     keeps-alike told first c.args.self.now c.args.self.now c.args.self.now (blocks_held i.store c.stage.new.writes i.kept) refl refl
@@ -32,12 +32,12 @@ returns-else-stage-clause-staged g c =
     (λ s. record {
       bytes = s.bytes;
       more = s.more ∙ ap (λ ws. staged ws c.args.block s.bytes) (none.1 ∙ ap (λ (b : BlocksHeld). b.writes) c.self.view_is);
-      are = λ image told first are. s.are image told ∙ ap (λ (b : BlocksHeld). block_at (replayed (total_of b.store) image) c.args.block) c.self.view_is;
+      are = λ image told first low are. s.are image told ∙ ap (λ (b : BlocksHeld). block_at (replayed (total_of b.store) image) c.args.block) c.self.view_is;
     })
     c.stage_read.ensures.staged
 
 pub returns-else-stage-clause-keeps : goal.returns-else-stage-clause-keeps
-returns-else-stage-clause-keeps g c first low =
+returns-else-stage-clause-keeps g c first =
     let i = c.self.inside in
     keeps-alike (g.D.Disk.seen c.args.disk.now) first (blocks_held i.store c.stage.new.writes i.kept) c.args.self.now c.stage_read.new.self c.stage_read.new.self
-    (sym (ap (λ (b : BlocksHeld). b.store) c.self.view_is)) (sym (ap (λ (b : BlocksHeld). b.kept) c.self.view_is)) refl refl (c.stage_read.ensures.keeps first low)
+    (sym (ap (λ (b : BlocksHeld). b.store) c.self.view_is)) (sym (ap (λ (b : BlocksHeld). b.kept) c.self.view_is)) refl refl (c.stage_read.ensures.keeps first)

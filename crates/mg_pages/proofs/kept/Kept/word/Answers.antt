@@ -1,31 +1,27 @@
-use Rattle.std.proofs.Common.{◌≡◌, ◌*◌, ◌∙◌, IsSomeAnd, Some, ap, nat_eq, option_copied, subst, sym}
+use Rattle.std.proofs.Common.{◌≡◌, ◌*◌, ◌++◌, ◌∙◌, IfSome, IsSomeAnd, ap, subst, sym}
+use Rattle.mg_journal.specs.ResultLemmas.{some_of}
+use Rattle.mg_journal.specs.Staged.{waiting}
 use Rattle.mg_model.specs.Bytes.{number_at}
-use Rattle.mg_pages.proofs.Looked.{look-promoted}
-use Rattle.mg_pages.proofs.Showing.{kept-found, promoted-shown}
-use Rattle.mg_pages.specs.Kept.{kept_at, shown}
+use Rattle.mg_pages.proofs.KeptWrites.{kept-before, kept-behind, same-behind}
+use Rattle.mg_pages.specs.Kept.{KeepsSame, kept_at}
 use Rattle.mg_pages.proofs.kept.Kept.word.Goals as goal
-use Rattle.mg_pages.proofs.kept.Kept.word.Goals.{in-Some, in-None}
 
-pub returns-clause-same : goal.returns-clause-same
-returns-clause-same c i =
-    let moved =
-    ap (λ l. kept_at (shown (λ b. b.value) l.entries) i) c.get.follows.holds-at-none
-    ∙ ap (λ es. kept_at es i) (sym (promoted-shown (λ b. b.value) (nat_eq c.args.block) c.self.inside.blocks.entries))
-    ∙ look-promoted (shown (λ b. b.value) c.self.inside.blocks.entries) c.args.block i
-    ∙ ap (λ es. kept_at es i) c.self.view_is in
-    elim c.match-get.branch [
-      | in-Some w ↦ rw w.self-inside-is moved
-      | in-None w ↦ rw w.self-inside-is moved
-    ]
+pub returns-in-Some-clause-word : goal.returns-in-Some-clause-word
+returns-in-Some-clause-word c =
+    let i = c.self.inside in
+    let block = c.args.block in
+    let found = some_of (λ bytes. c.in-Some.word ≡ number_at bytes (8 * c.args.index)) (waiting i.last block) c.in-Some.ensures in
+    subst (λ o. IsSomeAnd o (λ bytes. c.in-Some.word ≡ number_at bytes (8 * c.args.index)))
+    (sym (ap (λ es. kept_at es block) (sym c.self.view_is) ∙ kept-before i.last i.cache block found.0 found.1)) found.2
 
-pub returns-clause-word : goal.returns-clause-word
-returns-clause-word c =
-    elim c.match-get.branch [
-      | in-Some w ↦
-          let found = sym (ap option_copied w.in-Some.is) ∙ c.get.ensures.value in
-          let kept =
-          ap (λ es. kept_at es c.args.block) (sym c.self.view_is) ∙ kept-found (λ b. b.value) c.self.inside.blocks.entries c.args.block w.in-Some.bytes.now found
-          ∙ ap (λ bytes. Some bytes) (sym w.deref.ensures) in
-          rw w.result-is (subst (λ o. IsSomeAnd o (λ bytes. w.word_at.result ≡ number_at bytes (8 * c.args.index))) (sym kept) w.word_at.ensures)
-      | in-None w ↦ rw w.result-is tt
-    ]
+pub returns-in-None-clause-word : goal.returns-in-None-clause-word
+returns-in-None-clause-word c =
+    let i = c.self.inside in
+    let block = c.args.block in
+    subst (λ o. IfSome c.word.result (λ word. IsSomeAnd o (λ bytes. word ≡ number_at bytes (8 * c.args.index))))
+    (sym (ap (λ es. kept_at es block) (sym c.self.view_is) ∙ kept-behind i.last i.cache block c.in-None.ensures)) c.word.ensures.word
+
+pub returns-in-None-clause-same : goal.returns-in-None-clause-same
+returns-in-None-clause-same c =
+    let i = c.self.inside in
+    subst (λ es. KeepsSame es (i.last ++ c.word.new.self)) c.self.view_is (same-behind i.last i.cache c.word.new.self c.word.ensures.same)

@@ -5,8 +5,8 @@ use Rattle.std.specs.Map.{set_value}
 use Rattle.lru.specs.LruCache.{promoted}
 use Rattle.mg_pages.proofs.Showing.{kept-none, written-shown}
 use Rattle.mg_pages.specs.Kept.{KeepsThis, kept_at, shown}
-use Rattle.mg_pages.proofs.kept.Kept.replace.Goals as goal
-use Rattle.mg_pages.proofs.kept.Kept.replace.Goals.{in-Some, in-None}
+use Rattle.mg_pages.proofs.cache.Cache.replace.Goals as goal
+use Rattle.mg_pages.proofs.cache.Cache.replace.Goals.{in-Some, in-None}
 
 pub returns-clause-put : goal.returns-clause-put
 returns-clause-put c is =

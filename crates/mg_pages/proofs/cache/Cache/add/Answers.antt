@@ -3,7 +3,7 @@ use Rattle.lru.specs.LruCache.{LruCache, lru_cache, put_entries}
 use Rattle.mg_pages.proofs.Looked.{look-refused}
 use Rattle.mg_pages.proofs.Showing.{put-kept}
 use Rattle.mg_pages.specs.Kept.{KeepsThis, shown}
-use Rattle.mg_pages.proofs.kept.Kept.add.Goals as goal
+use Rattle.mg_pages.proofs.cache.Cache.add.Goals as goal
 
 -- what is kept once a box with these bytes is put
 in_box : (block : ℕ) (bytes : List ℕ) (kept : List (ℕ × List ℕ)) (was now : LruCache ℕ (Box (List ℕ) Global)) (boxed : Box (List ℕ) Global)
