@@ -172,7 +172,7 @@ fn both_on<L: Ledger>(
     disk: &mut MemDisk,
     steps: &mut Steps<L>,
 ) -> Option<[Part; 2]> {
-    if !is_made(disk) {
+    if !is_made(disk, 64) {
         return None;
     }
     let making = stepped_anew(alloc, disk, &MAKING, steps)?;

@@ -96,7 +96,7 @@ const READ_BEHIND: [Row; 1] = [Row::Loads {
 }];
 
 // Thread 1 puts the other object into the root's list.
-const LISTED: [Row; 4] = [
+pub(crate) const LISTED: [Row; 4] = [
     Row::Store {
         a: ROOT,
         value: 2,
@@ -182,7 +182,7 @@ const SHARED: [Row; 6] = [
 ];
 
 /// How many blocks some rows read, where they are answered as they say.
-fn read_by<L: Ledger>(
+pub(crate) fn read_by<L: Ledger>(
     kernel: &mut Kernel,
     disk: &mut MemDisk,
     rows: &[Row],
@@ -268,16 +268,16 @@ fn all_go_well<L: Ledger>(
     steps: &mut Steps<L>,
 ) -> bool {
     let is_ready = match trial {
-        Trial::Sharing | Trial::Writing => are_put(disk),
+        Trial::Sharing | Trial::Writing => are_put(disk, 1),
         Trial::StillOut => is_opened_well(alloc, disk, Trial::LockedOut, steps),
         _ => true,
     };
     is_ready && is_opened_well(alloc, disk, trial, steps)
 }
 
-/// Makes a volume of 64 frames.
-pub(crate) fn is_made<D: Disk>(disk: &mut D) -> bool {
-    match Params::new(64, [0; 32], 1000, Tariff::usual(64)) {
+/// Makes a volume of so many frames.
+pub(crate) fn is_made<D: Disk>(disk: &mut D, frames: u64) -> bool {
+    match Params::new(frames, [0; 32], 1000, Tariff::usual(frames)) {
         Some(params) => format(disk, &params).is_ok(),
         None => false,
     }
@@ -285,7 +285,7 @@ pub(crate) fn is_made<D: Disk>(disk: &mut D) -> bool {
 
 fn goes_well_on_zeros<L: Ledger>(alloc: Global, trial: Trial, steps: &mut Steps<L>) -> bool {
     match MemDisk::new(alloc, 2660, 20_000, Vec::new(alloc)) {
-        Ok(mut disk) => is_made(&mut disk) && all_go_well(alloc, &mut disk, trial, steps),
+        Ok(mut disk) => is_made(&mut disk, 64) && all_go_well(alloc, &mut disk, trial, steps),
         Err(_) => false,
     }
 }

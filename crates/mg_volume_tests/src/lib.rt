@@ -9,6 +9,8 @@ mod calls;
 #[cfg(test)]
 mod failing;
 #[cfg(test)]
+mod filling;
+#[cfg(test)]
 mod kernels;
 #[cfg(test)]
 mod probes;

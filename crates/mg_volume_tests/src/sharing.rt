@@ -7,7 +7,7 @@ use mg_layout::{FIRST_OBJECT_BLOCK, FIRST_THREAD_BLOCK, GLOBALS_BLOCK};
 use mg_model::{Frame, ObjRow, Pw, Rights, Slot, ThrRow};
 use mg_rows::{Spelled, put_object, read_globals, read_thread, write_globals, write_thread};
 
-/// The base of another object, of one page behind the root's.
+/// The base of another object, behind the root's one page.
 pub(crate) const OTHER: u64 = ROOT + 4096;
 
 /// Its password.
@@ -68,16 +68,16 @@ fn is_thread_put<D: Disk>(disk: &mut D) -> Option<bool> {
     Some(is_put(disk, FIRST_THREAD_BLOCK + 37, &thread) && is_put(disk, GLOBALS_BLOCK, &counters))
 }
 
-/// Puts the other object into the row behind the root's.
-fn is_other_put<D: Disk>(disk: &mut D) -> Option<bool> {
-    let mut row = ObjRow::new(OTHER, 1, 1);
+/// Puts the other object, of so many pages, into the row behind the root's.
+fn is_other_put<D: Disk>(disk: &mut D, pages: u64) -> Option<bool> {
+    let mut row = ObjRow::new(OTHER, pages, 1);
     row.add_password(Pw::new(PASSWORD, Rights::all(), Pw::NEVER));
     let mut spelled = block(disk, FIRST_OBJECT_BLOCK)?;
     put_object(Some(&row), 1, &mut spelled);
     Some(is_put(disk, FIRST_OBJECT_BLOCK, &spelled))
 }
 
-/// Puts both on a disk with a fresh volume, and says whether that was done.
-pub(crate) fn are_put<D: Disk>(disk: &mut D) -> bool {
-    is_thread_put(disk) == Some(true) && is_other_put(disk) == Some(true)
+/// Puts both on a disk with a fresh volume, the object with so many pages, and says whether that was done.
+pub(crate) fn are_put<D: Disk>(disk: &mut D, pages: u64) -> bool {
+    is_thread_put(disk) == Some(true) && is_other_put(disk, pages) == Some(true)
 }
