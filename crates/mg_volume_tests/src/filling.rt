@@ -7,7 +7,7 @@ use crate::sharing::{OTHER, are_put};
 use crate::trials::{Row, wrong_row};
 use mg_disk::{Disk, MemDisk};
 use mg_kernel::Kernel;
-use mg_model::Steps;
+use mg_model::{ObjRow, Steps};
 use std::alloc::Global;
 use std::marker::Brand;
 use std::sync::ledger::{Blank, Ledger};
@@ -65,7 +65,7 @@ fn reads_on<L: Ledger>(
     disk: &mut MemDisk,
     steps: &mut Steps<L>,
 ) -> Option<[u64; 3]> {
-    if !is_made(disk, 512) || !are_put(disk, PAGES) {
+    if !is_made(disk, 512) || !are_put(disk, ObjRow::new(OTHER, PAGES, 1)) {
         return None;
     }
     match Kernel::open(alloc, disk) {

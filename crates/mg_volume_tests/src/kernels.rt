@@ -1,5 +1,5 @@
 // Kernels on volumes in memory: what their caches keep is counted in words and in blocks, and told by probes.
-ghost use Rattle.std.specs.Prelude.{◌≡◌, ◌<◌, IsSome};
+ghost use Rattle.std.specs.Prelude.{◌≡◌, ◌≤◌, ◌<◌, IsSome};
 ghost use Rattle.mg_kernel.specs.Meaning.{StandsOn};
 
 use crate::sharing::{OTHER, PASSWORD, are_put};
@@ -8,7 +8,7 @@ use mg_disk::{Disk, MemDisk};
 use mg_kernel::Kernel;
 use mg_layout::format;
 pub(crate) use mg_model::limits::ROOT_BASE as ROOT;
-use mg_model::{Params, Steps, Tariff};
+use mg_model::{ObjRow, Params, Steps, Tariff};
 use std::alloc::Global;
 use std::marker::Brand;
 use std::sync::ledger::{Blank, Ledger};
@@ -268,7 +268,7 @@ fn all_go_well<L: Ledger>(
     steps: &mut Steps<L>,
 ) -> bool {
     let is_ready = match trial {
-        Trial::Sharing | Trial::Writing => are_put(disk, 1),
+        Trial::Sharing | Trial::Writing => are_put(disk, ObjRow::new(OTHER, 1, 1)),
         Trial::StillOut => is_opened_well(alloc, disk, Trial::LockedOut, steps),
         _ => true,
     };
@@ -276,7 +276,10 @@ fn all_go_well<L: Ledger>(
 }
 
 /// Makes a volume of so many frames.
-pub(crate) fn is_made<D: Disk>(disk: &mut D, frames: u64) -> bool {
+pub(crate) fn is_made<D: Disk>(disk: &mut D, frames: u64) -> bool
+    requires at_least_16_frames { 16 ≤ frames }
+    requires at_most_65536_frames { frames ≤ 65536 }
+{
     match Params::new(frames, [0; 32], 1000, Tariff::usual(frames)) {
         Some(params) => format(disk, &params).is_ok(),
         None => false,

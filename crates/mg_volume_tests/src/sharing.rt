@@ -1,5 +1,5 @@
 // A volume with a second thread, whose rights and those of the first have one seat.
-ghost use Rattle.std.specs.Prelude.{◌≡◌};
+ghost use Rattle.std.specs.Prelude.{◌≡◌, length};
 
 use crate::kernels::ROOT;
 use mg_disk::{BLOCK_SIZE, Block, Disk};
@@ -68,16 +68,19 @@ fn is_thread_put<D: Disk>(disk: &mut D) -> Option<bool> {
     Some(is_put(disk, FIRST_THREAD_BLOCK + 37, &thread) && is_put(disk, GLOBALS_BLOCK, &counters))
 }
 
-/// Puts the other object, of so many pages, into the row behind the root's.
-fn is_other_put<D: Disk>(disk: &mut D, pages: u64) -> Option<bool> {
-    let mut row = ObjRow::new(OTHER, pages, 1);
+/// Puts the other object, which has no password yet, into the row behind the root's.
+fn is_other_put<D: Disk>(disk: &mut D, mut row: ObjRow) -> Option<bool>
+    requires no_password { length row.passwords ≡ 0 }
+{
     row.add_password(Pw::new(PASSWORD, Rights::all(), Pw::NEVER));
     let mut spelled = block(disk, FIRST_OBJECT_BLOCK)?;
     put_object(Some(&row), 1, &mut spelled);
     Some(is_put(disk, FIRST_OBJECT_BLOCK, &spelled))
 }
 
-/// Puts both on a disk with a fresh volume, the object with so many pages, and says whether that was done.
-pub(crate) fn are_put<D: Disk>(disk: &mut D, pages: u64) -> bool {
-    is_thread_put(disk) == Some(true) && is_other_put(disk, pages) == Some(true)
+/// Puts both on a disk with a fresh volume, and says whether that was done.
+pub(crate) fn are_put<D: Disk>(disk: &mut D, other: ObjRow) -> bool
+    requires no_password { length other.passwords ≡ 0 }
+{
+    is_thread_put(disk) == Some(true) && is_other_put(disk, other) == Some(true)
 }
