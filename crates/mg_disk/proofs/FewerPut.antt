@@ -1,12 +1,32 @@
--- Only the first of some blocks were put: that is a run of all of them that failed.
-use Rattle.std.specs.Prelude.{ℕ, ◌≤◌, length, take, Option, Some, None}
-use Rattle.std.proofs.Common.{arith}
-use Rattle.std.proofs.Math.Nat.{min-le_right}
-use Rattle.std.proofs.lemmas.List.{length-take}
+-- Only the first of some blocks were put or read. Of a write that is a run of all of them that failed.
+use Rattle.std.specs.Prelude.{◌≡◌, ℕ, ◌<◌, ◌≤◌, ◌++◌, drop, length, min, take, Option, Some, None}
+use Rattle.std.proofs.Common.{ap, arith, ◌∙◌}
+use Rattle.std.proofs.Math.Nat.{le-min, min-eq_left, min-le_right}
+use Rattle.std.proofs.lemmas.List.{drop_at, length-take, length-take-le, take_at}
 use Rattle.mg_disk.specs.Disk.{Image, InRange, SameBut, SeenBut, TornAt}
 use Rattle.mg_disk.specs.Runs.{time_wider}
 use Rattle.mg_disk.specs.Stops.{TimeGoes}
 use Rattle.mg_disk.specs.declared.disk.Disk.{Ghosts}
+
+-- how many of some calls pass
+pub all_pass : (left calls passing : ℕ) → passing ≡ min left calls → calls ≤ left → calls ≤ passing
+all_pass left calls passing is enough =
+    let low : calls ≤ min left calls = le-min enough (omega arith) in
+    omega arith
+
+pub few_pass : (left calls passing : ℕ) → passing ≡ min left calls → left < calls → passing ≡ left
+few_pass left calls passing is few = is ∙ min-eq_left (omega arith)
+
+-- the first n of some blocks were read, and the others stay
+module _ (n : ℕ) (before part out : Image) (few : n ≤ length before) (long : length part ≡ length (take n before)) (is : out ≡ part ++ drop n before) where
+  pub as_many : length part ≡ n
+  as_many = long ∙ length-take-le n before few
+
+  pub part_read : take n out ≡ part
+  part_read = ap (take n) is ∙ take_at part (drop n before) n as_many
+
+  pub others_stay : drop n out ≡ drop n before
+  others_stay = ap (drop n) is ∙ drop_at part (drop n before) n as_many
 
 module _ (first n : ℕ) (blocks : Image) where
   among : (k : ℕ) → InRange first (length (take n blocks)) k → InRange first (length blocks) k

@@ -1,12 +1,16 @@
 -- A run of calls of a `MemDisk`, call by call.
-use Rattle.std.specs.Prelude.{◌≡◌, ◌+◌, ◌<◌, ℕ, Contains, Ok, Err, IsErr, Some, length, true}
+use Rattle.std.specs.Prelude.{◌≡◌, ◌+◌, ◌<◌, ◌≤◌, ℕ, [], Contains, Ok, Err, IsErr, Some, length, slice_set, true}
 use Rattle.std.specs.Vec.{vec_len}
 use Rattle.std.proofs.Common.{ap, arith, inl, inr, refl, subst, sym, ◌∙◌, ⊎_elim}
 use Rattle.std.proofs.lemmas.Bool.{cases_lt}
+use Rattle.std.proofs.lemmas.List.{get_or-set_same}
 use Rattle.mg_faults.specs.Faults.{is_last}
-use Rattle.mg_disk.specs.Disk.{At}
+use Rattle.mg_disk.proofs.BlockByBlock.{ArePutSoFar}
+use Rattle.mg_disk.specs.Blocks.{gates_block}
+use Rattle.mg_disk.specs.Disk.{At, Image, InRange, SameBut, block_at, only_place}
 use Rattle.mg_disk.specs.Held.{BeenIn, LeftIn}
-use Rattle.mg_disk.specs.Memory.{FailsAt, Numbered, NumberedRun, counts_of, fails_of, more_reads, more_writes, calls_made, one_read, one_write, room_of}
+use Rattle.mg_disk.specs.Memory.{FailsAt, FailsFirst, IsCutAt, Numbered, NumberedRun, content_of, counts_of, fails_of, more_reads, more_writes, calls_made, one_read, one_write, room_of}
+use Rattle.mg_disk.specs.PlaceLemmas.{same_after, same_as, same_set}
 use Rattle.mg_disk.specs.declared.disk.Disk.{Ghosts}
 use Rattle.mg_disk.specs.declared.memory.Counts.{Counts}
 use Rattle.mg_disk.specs.declared.memory.MemDisk.{MemDisk}
@@ -74,22 +78,54 @@ module _ (made : ℕ → Counts) (old mid : MemDisk) (n : ℕ) (counted : sum_of
   }
 
   -- one that fails
+  pub failed_first : {T E : Type 0} (new : MemDisk) (e : E) (calls : ℕ) (one : Counts) → n < calls → one ≡ made (n + 1) → Numbered {T = T} {E = E} mid new one (Err e) → FailsFirst old new made calls n
+  failed_first new e calls one few next call = record {
+    one = few;
+    fails = as_old (call.exact.0 refl);
+    passed = passed.none;
+    recorded = λ room. call.recorded (let is = number in let same = passed.same_room in omega arith) ∙ next;
+    past = λ past. ap (λ (disk : MemDisk). counts_of disk) (call.past (let is = number in let same = passed.same_room in omega arith)) ∙ passed.recorded;
+  }
+
   pub fails_first : {S T E F : Type 0} (new : MemDisk) (e : E) (f : F) (calls : ℕ) (one : Counts) → n < calls → one ≡ made (n + 1) → Numbered {T = T} {E = E} mid new one (Err e) → NumberedRun {T = S} {E = F} calls old new made (Err f)
   fails_first new e f calls one few next call = record {
     all = tt;
-    first = (
-      n,
-      record {
-        one = few;
-        fails = as_old (call.exact.0 refl);
-        passed = passed.none;
-        recorded = λ room. call.recorded (let is = number in let same = passed.same_room in omega arith) ∙ next;
-        past = λ past. ap (λ (disk : MemDisk). counts_of disk) (call.past (let is = number in let same = passed.same_room in omega arith)) ∙ passed.recorded;
-      },
-    );
+    first = (n, failed_first new e calls one few next call);
     same_room = call.same_room ∙ passed.same_room;
     same_fails = call.same_fails ∙ passed.same_fails;
   }
 
 pub all_passed : {T E : Type 0} (made : ℕ → Counts) (old new : MemDisk) (x : T) (calls : ℕ) → Passed made calls old new → NumberedRun {T = T} {E = E} calls old new made (Ok x)
 all_passed made old new x calls passed = record { all = (passed.recorded, passed.none); first = tt; same_room = passed.same_room; same_fails = passed.same_fails }
+
+-- The content of a run of writes that ended with block k: it was written up to there, and then one more call failed.
+module _ (old mid new : MemDisk) (first k : ℕ) (from : Image) (so_far : ArePutSoFar told_by first from k old mid) (passed : Passed (more_writes (counts_of old)) k old mid) where
+  same_number : calls_made mid ≡ calls_made old + k
+  same_number = number (more_writes (counts_of old)) old mid k (omega arith) passed
+
+  -- the call changed at most its own block
+  cut_by : (at_k : SameBut (only_place (first + k)) (content_of mid) (content_of new))
+      → (calls_made mid < room_of mid → block_at (content_of new) (first + k) ≡ gates_block)
+      → (room_of mid ≤ calls_made mid → content_of new ≡ content_of mid) → IsCutAt old new first from k
+  cut_by at_k gates past = record {
+    before = λ j low. at_k.others (first + j) (λ is. omega arith) ∙ so_far.put (content_of mid) refl j low;
+    gates = λ room. gates (let is = same_number in let same = passed.same_room in omega arith);
+    past = λ out. ap (λ image. block_at image (first + k)) (past (let is = same_number in let same = passed.same_room in omega arith))
+        ∙ so_far.seen.others (first + k) (λ inside. let before = inside.before in omega arith);
+    elsewhere = same_after (InRange first k) (only_place (first + k)) (InRange first (k + 1)) (content_of old) (content_of mid) (content_of new)
+        (λ j inside. record { from = inside.from; before = let before = inside.before in omega arith }) (λ j is. record { from = omega arith; before = omega arith }) so_far.seen at_k;
+  }
+
+  pub cut_at : {T E : Type 0} (one : Counts) (e : E) → first + k < length (content_of mid) → Numbered {T = T} {E = E} mid new one (Err e)
+      → (calls_made mid < room_of mid → content_of new ≡ slice_set (content_of mid) (first + k) gates_block) → IsCutAt old new first from k
+  cut_at one e inside call gates = cut_by at_k at_gates past
+    where
+      past : room_of mid ≤ calls_made mid → content_of new ≡ content_of mid
+      past out = ap (λ (disk : MemDisk). content_of disk) (call.past out)
+
+      at_gates : calls_made mid < room_of mid → block_at (content_of new) (first + k) ≡ gates_block
+      at_gates room = ap (λ image. block_at image (first + k)) (gates room) ∙ get_or-set_same (content_of mid) (first + k) gates_block [] inside
+
+      at_k : SameBut (only_place (first + k)) (content_of mid) (content_of new)
+      at_k = ⊎_elim (λ room. subst (SameBut (only_place (first + k)) (content_of mid)) (sym (gates room)) (same_set (content_of mid) (first + k) gates_block))
+          (λ out. same_as (only_place (first + k)) (content_of mid) (content_of new) (past out)) (cases_lt (calls_made mid) (room_of mid))

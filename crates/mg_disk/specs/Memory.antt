@@ -1,8 +1,8 @@
 -- What a `MemDisk` shows, and how it numbers its calls.
 use Rattle.std.specs.Prelude.{◌≡◌, ◌⊎◌, ◌↔◌, ◌+◌, ◌<◌, ◌≤◌, ℕ, List, length, Contains, Result, IsErr, OnErr, OnOk}
 use Rattle.std.proofs.Common.{sym, subst, arith}
-use Rattle.mg_disk.specs.Blocks.{IsGated}
-use Rattle.mg_disk.specs.Disk.{Image, SameBut, At}
+use Rattle.mg_disk.specs.Blocks.{IsGated, gates_block}
+use Rattle.mg_disk.specs.Disk.{Image, InRange, SameBut, At, block_at}
 use Rattle.mg_disk.specs.Held.{MayLeave, LeftIn}
 use Rattle.mg_disk.specs.HeldLemmas.{since}
 use Rattle.mg_disk.specs.PlaceLemmas.{same_as}
@@ -87,6 +87,14 @@ pub record NumberedRun {T E : Type 0} (calls : ℕ) (old new : MemDisk) (made : 
   pub first : OnErr result ((k : ℕ) × FailsFirst old new made calls k)
   pub same_room : room_of new ≡ room_of old
   pub same_fails : fails_of new ≡ fails_of old
+
+-- A run of writes that ended with block k of `from`, which failed: what was written before it stays, its own place holds gates, or past
+-- the room what it held, and every other block is as it was.
+pub record IsCutAt (old new : MemDisk) (first : ℕ) (from : Image) (k : ℕ) : Type 0 where
+  pub before : (j : ℕ) → j < k → block_at (content_of new) (first + j) ≡ block_at from j
+  pub gates : calls_made old + k < room_of old → block_at (content_of new) (first + k) ≡ gates_block
+  pub past : room_of old ≤ calls_made old + k → block_at (content_of new) (first + k) ≡ block_at (content_of old) (first + k)
+  pub elsewhere : SameBut (InRange first (k + 1)) (content_of old) (content_of new)
 
 may_be : (disk : MemDisk) (image : Image) → SameBut (Contains disk.touched.items) disk.synced.items image → LeftIn disk.first.items disk.events.items (At (length disk.events.items)) image
 may_be disk image same = since disk.first.items disk.events.items (length disk.events.items) image (omega arith) (subst (λ h. MayLeave h image) (sym disk.held) same)

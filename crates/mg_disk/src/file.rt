@@ -7,9 +7,9 @@ ghost use Rattle.mg_disk.specs.Disk.{At, file_blocks};
 use crate::watching::{FileFault, Unwatched, Watch};
 use crate::{BLOCK_SIZE, Block, Disk, Failed};
 use mg_faults::FaultCount;
-use std::fs::{File, OpenFile, OpenOptions};
+use std::fs::{File, Metadata, OpenFile, OpenOptions};
 use std::io::{self, ErrorKind};
-use std::os::unix::fs::FileExt;
+use std::os::unix::fs::{FileExt, OpenOptionsExt, PermissionsExt};
 use std::rt::Files;
 use std::slice;
 
@@ -39,11 +39,28 @@ impl OneHolder for File {
     }
 }
 
+/// Which bits of a file's mode tell its kind, and those of a pipe with a name.
+const KIND_BITS: u32 = 0o170000;
+
+const PIPE: u32 = 0o010000;
+
+/// The permissions of a file that is made, unless others are asked for: its owner reads and writes it, and nobody else.
+const PRIVATE: u32 = 0o600;
+
+/// What the file of a [`FileDisk`] was when it was opened.
+#[derive(Clone, Copy)]
+pub struct Found {
+    /// Whether there was no file, so that an empty one was made.
+    pub is_new: bool,
+    /// How many bytes it had, where it is a regular file; a device has no length of its own.
+    pub bytes: Option<u64>,
+}
+
 /// A disk of [`FILE_BLOCKS`] blocks in a file, opened at the first read, write or sync. Past the end of the file it reads zeros.
 ///
 /// A file that may be written is made empty where there is none, and is held for this run alone ([`OneHolder`]). One that is only
 /// read is shared with others that read it, and reads as zeros where there is none. A file that another run holds counts as one that
-/// cannot be opened.
+/// cannot be opened, and so does a pipe.
 ///
 /// A call fails where the file cannot be opened, where the system answers an error, and where it takes less than the
 /// whole of what is written, a block or a run of them; the next call tries again. A sync is `sync_data` of the file: one that answers Ok
@@ -58,7 +75,11 @@ where
     path: &'a str,
     // Whether the file may be written, and is made where there is none.
     writes: bool,
+    // The permissions of a file that is made, and the blocks that a file that may be written has at least.
+    mode: u32,
+    least: u64,
     file: Option<R::File>,
+    found: Option<Found>,
     count: FaultCount,
     fault: Option<FileFault>,
     end: Option<u64>,
@@ -97,7 +118,10 @@ where
             rt,
             path,
             writes: true,
+            mode: PRIVATE,
+            least: 0,
             file: None,
+            found: None,
             count: FaultCount::new(),
             fault: None,
             end: None,
@@ -113,12 +137,36 @@ where
             rt,
             path,
             writes: false,
+            mode: PRIVATE,
+            least: 0,
             file: None,
+            found: None,
             count: FaultCount::new(),
             fault: None,
             end: None,
             watch,
         }
+    }
+
+    /// A file that is made gets these permissions, less those that the process takes from each file that it makes. Without this call its
+    /// owner reads and writes it, and nobody else (0600). Nothing changes of a file that is open.
+    pub fn set_mode(&mut self, mode: u32)
+        ensures { self.new.count ≡ self.old.count }
+    {
+        self.mode = mode;
+    }
+
+    /// The file is given so many blocks when it is opened to be written, where it is shorter. What is added takes no room on the
+    /// medium and reads as zeros, as it did past the end of the file. Nothing changes of a file that is open.
+    pub fn set_length(&mut self, blocks: u64)
+        ensures { self.new.count ≡ self.old.count }
+    {
+        self.least = blocks;
+    }
+
+    /// What the file was when it was opened; none where it was not opened, or is only read and there is none.
+    pub fn found(&self) -> Option<Found> {
+        self.found
     }
 
     /// Why the first call failed of those that did; none while none did.
@@ -135,10 +183,22 @@ where
     fn take_file(&mut self) -> io::Result<Option<R::File>>
         ensures { self.new.count ≡ self.old.count }
     {
-        match self.file.take() {
-            Some(file) => Ok(Some(file)),
-            None if self.writes => Ok(Some(held(self.rt, self.path)?)),
-            None => shared(self.rt, self.path),
+        if let Some(file) = self.file.take() {
+            return Ok(Some(file));
+        }
+        let opened = if self.writes {
+            Some(held(self.rt, self.path, self.mode, self.least)?)
+        } else {
+            shared(self.rt, self.path)?
+        };
+        match opened {
+            Some((file, found)) => {
+                if self.found.is_none() {
+                    self.found = Some(found);
+                }
+                Ok(Some(file))
+            }
+            None => Ok(None),
         }
     }
 
@@ -222,33 +282,69 @@ where
     }
 }
 
-/// The file, opened to be read and written, made where there is none, and held for this run alone.
-fn held<R: Files>(rt: &R, path: &str) -> io::Result<R::File>
+/// The file, opened to be read and written, and held for this run alone. Where there is none it is made, with these permissions. It
+/// has at least so many blocks then.
+fn held<R: Files>(rt: &R, path: &str, mode: u32, least: u64) -> io::Result<(R::File, Found)>
 where
     R::File: OneHolder,
 {
-    let file = OpenOptions::new()
-        .read(true)
-        .write(true)
-        .create(true)
-        .open(rt, path)?;
+    let (file, is_new) = open_or_make(rt, path, mode)?;
+    let bytes = length_of(&file.metadata()?)?;
     file.hold()?;
-    Ok(file)
+    let wanted = least.saturating_mul(BLOCK_SIZE as u64);
+    match bytes {
+        Some(bytes) if bytes < wanted => file.set_len(wanted)?,
+        _ => {}
+    }
+    Ok((file, Found { is_new, bytes }))
+}
+
+/// The file, opened to be read and written, and whether it had to be made.
+fn open_or_make<R: Files>(rt: &R, path: &str, mode: u32) -> io::Result<(R::File, bool)> {
+    match OpenOptions::new().read(true).write(true).open(rt, path) {
+        Ok(file) => Ok((file, false)),
+        Err(e) if e.kind() == ErrorKind::NotFound => {
+            let file = OpenOptions::new()
+                .read(true)
+                .write(true)
+                .create(true)
+                .mode(mode)
+                .open(rt, path)?;
+            Ok((file, true))
+        }
+        Err(e) => Err(e),
+    }
 }
 
 /// The file, opened to be read and shared with others that read it; none where there is none.
-fn shared<R: Files>(rt: &R, path: &str) -> io::Result<Option<R::File>>
+fn shared<R: Files>(rt: &R, path: &str) -> io::Result<Option<(R::File, Found)>>
 where
     R::File: OneHolder,
 {
-    match OpenOptions::new().read(true).open(rt, path) {
-        Ok(file) => {
-            file.share()?;
-            Ok(Some(file))
+    // A pipe is refused before it is opened, since opening it waits for a writer.
+    match rt.metadata(path) {
+        Ok(metadata) => {
+            let _ = length_of(&metadata)?;
         }
-        Err(e) if e.kind() == ErrorKind::NotFound => Ok(None),
-        Err(e) => Err(e),
+        Err(e) if e.kind() == ErrorKind::NotFound => return Ok(None),
+        Err(e) => return Err(e),
     }
+    let file = OpenOptions::new().read(true).open(rt, path)?;
+    file.share()?;
+    let bytes = length_of(&file.metadata()?)?;
+    let is_new = false;
+    Ok(Some((file, Found { is_new, bytes })))
+}
+
+/// How many bytes a regular file has; none of a device. An error comes for a pipe, which has no places to read and write at.
+fn length_of(metadata: &Metadata) -> io::Result<Option<u64>> {
+    if metadata.is_file() {
+        return Ok(Some(metadata.len()));
+    }
+    if metadata.permissions().mode() & KIND_BITS == PIPE {
+        return Err(ErrorKind::NotSeekable.into());
+    }
+    Ok(None)
 }
 
 /// Reads the bytes at an offset. Where the file ends within them, the rest is zeros. Gives how many bytes the file had.

@@ -43,7 +43,7 @@ impl<D: Disk> Fuse<D> {
 }
 
 impl<D: Disk> Disk for Fuse<D> {
-    ghost use Rattle.mg_disk.specs.Fuse.{Burns};
+    ghost use Rattle.mg_disk.specs.Fuse.{Burns, PassesReads, PassesWrites};
     ghost use Rattle.mg_disk.specs.Calls.{IsRead, IsReadRun, IsWrite, IsWriteRun, IsSync};
 
     ghost block_count = { λ f. D.Disk.block_count f.inner };
@@ -107,6 +107,7 @@ impl<D: Disk> Disk for Fuse<D> {
         requires in_range { first + length out.old ≤ ⟦<Fuse<D> as Disk>⟧.block_count self.old }
         ensures meets { IsReadRun ⟦<Fuse<D> as Disk>⟧ self.old self.new first (length out.old) out.new result }
         ensures burns { Burns (length out.old) D.Disk self.old self.new result }
+        ensures passes { PassesReads D.Disk self.old self.new first out.old out.new result }
     {
         let passing = spend_run(&mut self.calls_left, out.len());
         let outcome = if passing < out.len() {
@@ -127,6 +128,7 @@ impl<D: Disk> Disk for Fuse<D> {
         requires in_range { first + length from.now ≤ ⟦<Fuse<D> as Disk>⟧.block_count self.old }
         ensures meets { IsWriteRun ⟦<Fuse<D> as Disk>⟧ self.old self.new first from.now result }
         ensures burns { Burns (length from.now) D.Disk self.old self.new result }
+        ensures passes { PassesWrites D.Disk self.old self.new first from.now result }
     {
         let passing = spend_run(&mut self.calls_left, from.len());
         let outcome = if passing < from.len() {

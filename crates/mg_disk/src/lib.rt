@@ -22,7 +22,7 @@ mod syncing;
 mod watching;
 
 pub use disk::{BLOCK_SIZE, Block, COPY_BLOCKS, Disk, GATE_OPEN};
-pub use file::{FILE_BLOCKS, FileDisk, OneHolder};
+pub use file::{FILE_BLOCKS, FileDisk, Found, OneHolder};
 pub use fuse::Fuse;
 pub use memory::{Counts, Left, MemDisk};
 pub use mg_faults::Failed;

@@ -227,7 +227,7 @@ impl MemDisk {
 
 impl Disk for MemDisk {
     ghost use Rattle.mg_disk.specs.Calls.{IsRead, IsReadRun, IsWrite, IsWriteRun, IsSync};
-    ghost use Rattle.mg_disk.specs.Memory.{counts_of, calls_made, room_of, content_of, Numbered, NumberedRun, more_reads, more_writes, one_read, one_write, one_sync};
+    ghost use Rattle.mg_disk.specs.Memory.{counts_of, calls_made, room_of, content_of, FailsFirst, IsCutAt, Numbered, NumberedRun, more_reads, more_writes, one_read, one_write, one_sync};
 
     ghost block_count = { λ d. vec_len d.content };
 
@@ -315,11 +315,12 @@ impl Disk for MemDisk {
         Ok(())
     }
 
-    /// Each block is a call, with a number of its own.
+    /// Each block is a call, with a number of its own. A run that fails keeps the blocks before the one that failed, and writes none after it.
     fn write_blocks(&mut self, first: u64, from: &[Block]) -> Result<(), Failed>
         requires in_range { first + length from.now ≤ ⟦<MemDisk as Disk>⟧.block_count self.old }
         ensures meets { IsWriteRun ⟦<MemDisk as Disk>⟧ self.old self.new first from.now result }
         ensures numbered { NumberedRun (length from.now) self.old self.new (more_writes (counts_of self.old)) result }
+        ensures cut { OnErr result ((k : ℕ) × FailsFirst self.old self.new (more_writes (counts_of self.old)) (length from.now) k × IsCutAt self.old self.new first from.now k) }
     {
         self.keeps_count();
         for (k, block) in from.iter().enumerate() {

@@ -14,6 +14,7 @@ pub fn write_firmly<D: Disk>(disk: &mut D, i: u64, from: &Block) -> Result<(), F
     ensures torn { SeenBut (only_place i) (D.seen disk.old) (D.seen disk.new) }
     ensures settled { OnOk result (NothingPending D.Disk disk.new) }
     ensures calls { DiskCalls D.Disk disk.old disk.new result }
+    ensures tells { D.tells_stops disk.new ≡ D.tells_stops disk.old }
 {
     disk.write(i, from)?;
     disk.sync()

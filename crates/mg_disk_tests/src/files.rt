@@ -2,9 +2,10 @@
 ghost use Rattle.std.specs.Prelude.{◌≡◌, ◌+◌, ◌≤◌};
 
 use crate::calls::{byte_of, synced, wrote};
-use mg_disk::{BLOCK_SIZE, Block, Disk, FileDisk, FileFault};
+use mg_disk::{BLOCK_SIZE, Block, Disk, FileDisk, FileFault, Found};
 use std::alloc::Global;
 use std::fs;
+use std::os::unix::fs::PermissionsExt;
 use std::rt::Files;
 
 /// Whether a file was there, and is no more.
@@ -175,4 +176,63 @@ fn readers_share_a_file(rt: HostRuntime) {
     let mut third = FileDisk::new(&rt, "shared");
     assert!(rt; share(&mut first, &mut second, &mut third));
     assert!(rt; removed(&rt, "shared"));
+}
+
+/// Whether a file that was opened was made then.
+fn is_new(found: Option<Found>) -> bool {
+    found.is_some_and(|found| found.is_new)
+}
+
+/// How many bytes a file had that was opened and not made then.
+fn bytes_found(found: Option<Found>) -> Option<u64> {
+    match found {
+        Some(found) if !found.is_new => found.bytes,
+        _ => None,
+    }
+}
+
+/// How many bytes a file has.
+fn length_of(rt: &impl Files, path: &str) -> Option<u64> {
+    match fs::metadata(rt, path) {
+        Ok(metadata) => Some(metadata.len()),
+        Err(_) => None,
+    }
+}
+
+/// Whether a file is its owner's alone.
+fn is_private(rt: &impl Files, path: &str) -> bool {
+    match fs::metadata(rt, path) {
+        Ok(metadata) => metadata.permissions().mode() & 0o777 == 0o600,
+        Err(_) => false,
+    }
+}
+
+#[test]
+fn a_file_that_is_made_is_new_and_has_the_length_that_was_set(rt: HostRuntime) {
+    let _ = removed(&rt, "long");
+    let mut disk = FileDisk::new(&rt, "long");
+    disk.set_length(20);
+    assert!(rt; disk.found().is_none());
+    assert!(rt; byte_of(&mut disk, 19) == Some(0));
+    assert!(rt; is_new(disk.found()));
+    assert!(rt; disk.end().is_none());
+    assert!(rt; length_of(&rt, "long") == Some(81_920));
+    assert!(rt; is_private(&rt, "long"));
+    assert!(rt; removed(&rt, "long"));
+}
+
+#[test]
+fn a_file_that_is_there_has_its_bytes_and_is_made_no_shorter(rt: HostRuntime) {
+    assert!(rt; fs::write(&rt, "there", [9; BLOCK_SIZE + 100]).is_ok());
+    let mut disk = FileDisk::new(&rt, "there");
+    disk.set_length(1);
+    assert!(rt; byte_of(&mut disk, 0) == Some(9));
+    assert!(rt; bytes_found(disk.found()) == Some(4_196));
+    assert!(rt; wrote(&mut disk, 2, 7));
+    assert!(rt; bytes_found(disk.found()) == Some(4_196));
+    drop(disk);
+    let mut reader = FileDisk::reader(&rt, "there");
+    assert!(rt; byte_of(&mut reader, 2) == Some(7));
+    assert!(rt; bytes_found(reader.found()) == Some(12_288));
+    assert!(rt; removed(&rt, "there"));
 }

@@ -1,6 +1,6 @@
 use Rattle.std.proofs.Common.{◌≡◌, arith, length, refl, rules, subst}
 use Rattle.mg_disk.proofs.BlockByBlock.{ArePutSoFar}
-use Rattle.mg_disk.proofs.NumberedRuns.{Passed, all_passed, fails_first, one_more_write, passed_more, told_by}
+use Rattle.mg_disk.proofs.NumberedRuns.{Passed, all_passed, cut_at, failed_first, fails_first, one_more_write, passed_more, told_by}
 use Rattle.mg_disk.proofs.RunSteps.{all_put, put_failed, put_more, same_item}
 use Rattle.mg_disk.specs.Blocks.{told_count}
 use Rattle.mg_disk.specs.Memory.{counts_of, more_writes, one_write}
@@ -17,6 +17,19 @@ returns-in-Err-clause-numbered c =
     let made = counts_of c.args.self.now in
     fails_first (more_writes made) c.args.self.now loop.self loop.k (omega arith) loop.invariant.passed c.write.new.self _ _ _ (one_write (counts_of loop.self)) (search rules)
     (one_more_write made (counts_of loop.self) loop.k loop.invariant.passed.recorded) c.in-Err.ensures.numbered
+
+pub returns-in-Err-clause-cut : goal.returns-in-Err-clause-cut
+returns-in-Err-clause-cut c =
+    let loop = c.loop-k in
+    let made = counts_of c.args.self.now in
+    let passed = loop.invariant.passed in
+    let call = c.in-Err.ensures in (
+      loop.k,
+      failed_first (more_writes made) c.args.self.now loop.self loop.k (omega arith) passed c.write.new.self _ _ (one_write (counts_of loop.self)) (search rules)
+          (one_more_write made (counts_of loop.self) loop.k passed.recorded) call.numbered,
+      cut_at c.args.self.now loop.self c.write.new.self c.args.first loop.k c.args.from.now loop.invariant.so_far passed (one_write (counts_of loop.self)) _
+          (let long = loop.self.content.ok.0 in let same = loop.invariant.so_far.blocks in let room = c.requires.in_range in let more = c.loop-k-test.true in omega arith) call.numbered call.gates,
+    )
 
 pub loop-k-preserved : goal.loop-k-preserved
 loop-k-preserved c =
