@@ -14,6 +14,7 @@ ghost use Rattle.mg_model.specs.Threads.{is_thread};
 ghost use Rattle.mg_model.specs.Volume.{Damaged, Is, NotVolume, OldVolume, volume};
 ghost use Rattle.mg_model.specs.Counts.{CountsAlike};
 ghost use Rattle.mg_model.specs.FewSlots.{HasFewSlots};
+ghost use Rattle.mg_volume.specs.Opening.{WritesOnlyVolumes};
 
 use crate::answering::answer;
 use crate::ranges::keeps_ranges;
@@ -40,7 +41,7 @@ impl Kernel {
     ///
     /// [`OpenFault::Not`], [`OpenFault::Old`] and [`OpenFault::Damaged`] come exactly where the image that reads give is no
     /// volume, an older one, or a damaged one, and then nothing is written, on every disk; [`OpenFault::Disk`] comes only where
-    /// a call of the disk failed.
+    /// a call of the disk failed. Where that image is no sound volume nothing is written, whatever the answer.
     pub fn open<D: Disk>(alloc: Global, disk: &mut D) -> Result<Kernel, OpenFault>
         ensures opens { IfOk result (λ k. ForSome (D.seen disk.old) (λ image. Opens (volume image) k (D.seen disk.new))) }
         ensures stands { IfOk result (λ k. StandsOn D.Disk k disk.new) }
@@ -54,6 +55,7 @@ impl Kernel {
         ensures untouched_not { result ≡ Err OpenFault.Not → WritesNothing D.Disk disk.old disk.new }
         ensures untouched_old { result ≡ Err OpenFault.Old → WritesNothing D.Disk disk.old disk.new }
         ensures untouched_damaged { result ≡ Err OpenFault.Damaged → WritesNothing D.Disk disk.old disk.new }
+        ensures untouched { WritesOnlyVolumes D.Disk disk.old disk.new }
         ensures calls { DiskCallsBy D.Disk disk.old disk.new (result ≡ Err OpenFault.Disk) }
     {
         match Volume::open(alloc, disk) {

@@ -67,9 +67,10 @@ module _ {M N : Type 0} (facts : disks.Ghosts N) (view : M → N) where
       disk_failed = h.lines.disk_failed;
       without = none to result m m' sink sink' h.lines.without;
       none_source = h.lines.none_source;
-      not_opened = λ image seen no_state. let (alone, quiet, kept) = h.lines.not_opened image seen no_state in (alone, quiet, (λ failed. writes_nothing m m' (kept failed)));
-      not_opened_leaves = λ settled image seen no_state. leaves m m' _ (h.lines.not_opened_leaves settled image seen no_state);
+      not_opened = λ image seen no_state. let (alone, kept, quiet) = h.lines.not_opened image seen no_state in (alone, writes_nothing m m' kept, quiet);
       complete = h.lines.complete;
     };
     cost = h.cost;
+    none_steps = h.none_steps;
+    not_opened_steps = h.not_opened_steps;
   }

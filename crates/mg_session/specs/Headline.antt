@@ -87,11 +87,9 @@ pub record LinesKeep {D S K : Type 0} (facts : disks.Ghosts D) (from : sources.G
   -- The disk failed only where its count rose.
   pub disk_failed : result ≡ status.Disk → CountRose facts disk disk'
   pub without : TellsOfNone facts to result disk disk' sink sink'
-  -- Where there is no volume nothing is taken. Nothing is put there where the disk failed, and nothing is written where the sink
-  -- failed. At each status, where nothing was pending, each image that a stop may leave spells what the image at entry spelled.
+  -- Where there is no volume nothing is taken, and nothing is written at any status. Nothing is put there where the disk failed.
   pub none_source : result ≡ status.NoVolume → source' ≡ source
-  pub not_opened : ForSome (facts.seen disk) (λ image. IsNoState (volume image) → (source' ≡ source) × (result ≡ status.Disk → sink' ≡ sink) × (result ≡ status.Sink → WritesNothing facts disk disk'))
-  pub not_opened_leaves : NothingPending facts disk → ForSome (facts.seen disk) (λ image. IsNoState (volume image) → Leaves facts disk disk' (λ c. volume c ≡ volume image))
+  pub not_opened : ForSome (facts.seen disk) (λ image. IsNoState (volume image) → (source' ≡ source) × WritesNothing facts disk disk' × (result ≡ status.Disk → sink' ≡ sink))
   -- Where reads give a volume, no call failed and the input is not too long, all is done, or memory was wanting.
   pub complete : OnVolume (facts.seen disk) (λ _. (CountRose facts disk disk' → ⊥) → (Rose (from.faults source) (from.faults source') (from.is_spent source') → ⊥)
       → (Rose (to.faults sink) (to.faults sink') (to.is_spent sink') → ⊥) → IfSome (from.left source) (λ input. length input ≤ input_limit → IsDoneOrMemory result))
@@ -101,6 +99,9 @@ pub record RunKeeps {D S K : Type 0} (facts : disks.Ghosts D) (from : sources.Gh
   pub lines : LinesKeep facts from to text after batch result disk disk' source source' sink sink'
   -- At each status the counter rose by no more than the lines that were read may cost.
   pub cost : OnVolume (facts.seen disk) (λ s. IsWithinCost s result (from.left source) (from.left source') steps steps')
+  -- Where there is no volume it stands still.
+  pub none_steps : result ≡ status.NoVolume → steps' ≡ steps
+  pub not_opened_steps : ForSome (facts.seen disk) (λ image. IsNoState (volume image) → steps' ≡ steps)
 
 -- `VOLUME dry FRAMES SEED CREDITS`
 

@@ -322,14 +322,6 @@ fault_quiet fault.Damaged result ends no_line no_sink = ⊎_elim no_line no_sink
 fault_quiet fault.Disk result ends no_line no_sink = tt
 fault_quiet fault.Memory result ends no_line no_sink = tt
 
--- one that ended because the sink failed had another
-sink_is_loud : (f : OpenFault) (result : Status) → EndsUnopenedBy f result → result ≡ status.Sink → TellsNothing f → ⊥
-sink_is_loud fault.Not result ends h quiet = quiet
-sink_is_loud fault.Old result ends h quiet = quiet
-sink_is_loud fault.Damaged result ends h quiet = quiet
-sink_is_loud fault.Disk result ends h quiet = let e : result ≡ status.Disk = ends in cc
-sink_is_loud fault.Memory result ends h quiet = let e : result ≡ status.Memory = ends in cc
-
 fault_disk : {T : Type 0} (f : OpenFault) (result : Status) → EndsUnopenedBy f result → result ≡ status.Disk → ◌≡◌ {A = Result T OpenFault} (Err f) (Err fault.Disk)
 fault_disk fault.Not result ends h = ⊎_elim (λ (e : result ≡ status.NoVolume). absurd (cc)) (λ (e : result ≡ status.Sink). absurd (cc)) ends
 fault_disk fault.Old result ends h = ⊎_elim (λ (e : result ≡ status.NoVolume). absurd (cc)) (λ (e : result ≡ status.Sink). absurd (cc)) ends
@@ -358,7 +350,6 @@ module _ {D S K : Type 0} (facts : Ghosts D) (from : sources.Ghosts S) (to : sin
     without = opened_without facts to k result d mid d' sink sink' opens serves.which;
     none_source = λ h. absurd (no_volume result serves.which h);
     not_opened = λ image seen no_state. absurd (gone image seen no_state);
-    not_opened_leaves = λ pending image seen no_state. absurd (gone image seen no_state);
     complete = opened_then k (facts.seen d) (facts.seen mid) _ opens (λ image seen. λ no_disk no_source no_sink. serves.complete (λ rose. no_disk (then_rose _ _ _ _ _ _ count rose)) no_source no_sink);
   }
     where
@@ -366,12 +357,13 @@ module _ {D S K : Type 0} (facts : Ghosts D) (from : sources.Ghosts S) (to : sin
       gone image seen no_state = let o = opens image seen in subst IsNoState o.is no_state
 
   -- no volume was opened, and the line of the fault was put, or a part of it
-  pub lines_unopened : (f : OpenFault) (result : Status) (d d' : D) (source : S) (sink sink' : K) → FaultTells f (facts.seen d) → EndsUnopenedBy f result → ((TellsNothing f → ⊥) → WritesNothing facts d d') → (TellsNothing f → sink' ≡ sink)
+  pub lines_unopened : (f : OpenFault) (result : Status) (d d' : D) (source : S) (sink sink' : K) → FaultTells f (facts.seen d) → EndsUnopenedBy f result → ((TellsNothing f → ⊥) → WritesNothing facts d d')
+      → ForSome (facts.seen d) (λ image. IsNoState (volume image) → WritesNothing facts d d') → (TellsNothing f → sink' ≡ sink)
       → (result ≡ status.NoVolume → Appends (to.taken sink) (to.taken sink') (fault_line f)) → AppendsPrefix (to.taken sink) (to.taken sink') (fault_line f)
       → (result ≡ status.Sink → Rose (to.faults sink) (to.faults sink') (to.is_spent sink')) → (◌≡◌ {A = Result Kernel OpenFault} (Err f) (Err fault.Disk) → CountRose facts d d')
       → (NothingPending facts d → ForSome (facts.seen d) (λ image. Leaves facts d d' (λ c. volume c ≡ volume image))) → ((s : State) → said s [] ≡ []) → ((s : State) → kept s [] ≡ s)
       → LinesKeep facts from to said kept batch result d d' source source sink sink'
-  lines_unopened f result d d' source sink sink' tells ends writes quiet put prefix sink_rose disk_rose first says none =
+  lines_unopened f result d d' source sink sink' tells ends writes none_written quiet put prefix sink_rose disk_rose first says none =
       let un : EndsUnopened result = fault_ends f result ends in
       let disk : result ≡ status.Disk → CountRose facts d d' = λ h. disk_rose (fault_disk f result ends h) in record {
         answers = unopened_answers said says f (facts.seen d) result (from.left source) (to.taken sink) (to.taken sink') tells ends (λ q. ap (λ v. to.taken v) (quiet q));
@@ -391,8 +383,7 @@ module _ {D S K : Type 0} (facts : Ghosts D) (from : sources.Ghosts S) (to : sin
         disk_failed = disk;
         without = unopened_without facts to f result d d' sink sink' tells ends writes put prefix;
         none_source = λ h. refl;
-        not_opened = λ image seen no_state. (refl, (λ failed. quiet (fault_quiet f result ends (λ line. cc) (λ sink. cc))), (λ failed. writes (λ q. sink_is_loud f result ends failed q)));
-        not_opened_leaves = λ pending image seen no_state. first pending image seen;
+        not_opened = λ image seen no_state. (refl, none_written image seen no_state, (λ failed. quiet (fault_quiet f result ends (λ line. cc) (λ sink. cc))));
         complete = unopened f (facts.seen d) _ tells (λ q image seen s spelled. λ no_disk no_source no_sink. within_any input_limit (from.left source) (IsDoneOrMemory result) (⊎_elim
             (λ (e : result ≡ status.NoVolume). absurd (quiet_volume f result q ends e))
             (⊎_elim (λ (e : result ≡ status.Memory). inr e) (⊎_elim (λ (e : result ≡ status.Disk). absurd (no_disk (disk e))) (λ (e : result ≡ status.Sink). absurd (no_sink (sink_rose e)))))

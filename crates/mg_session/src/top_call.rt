@@ -60,7 +60,8 @@ pub fn put_usage<K: Sink>(sink: &mut K) -> Status
 /// the sink failed once a volume was made, that volume stands.
 ///
 /// `steps` counts the words that are read and written, one each. Whatever the status of `dry`, `run` and `gen`, it rises by no
-/// more than the lines that were read, or the generated ones, may cost.
+/// more than the lines that were read, or the generated ones, may cost. Under all else it stands still, and under `run` where
+/// there is no volume.
 pub fn top<D: Disk, S: Source, K: Sink, L: Ledger>(
     alloc: Global,
     words: &[String],
@@ -83,12 +84,14 @@ pub fn top<D: Disk, S: Source, K: Sink, L: Ledger>(
     ensures generated_alone { (number count : ℕ) → spelled words.now ≡ Some (Gen number count) → (disk.new ≡ disk.old) × (source.new ≡ source.old) }
     ensures usage { spelled words.now ≡ None → UsageKeeps K.Sink result disk.old disk.new source.old source.new sink.old sink.new }
 
-    // Which commands a status comes of, and which make a call on the source.
+    // Which commands a status comes of, which make a call on the source, and which count.
     ensures not_spelled { result ≡ Status.Usage → spelled words.now ≡ None }
     ensures no_volume { result ≡ Status.NoVolume → (spelled words.now ≡ Some Check) ⊎ ((batch : ℕ) × (spelled words.now ≡ Some (Run batch))) }
     ensures too_small { result ≡ Status.TooSmall → (settings : Settings) × (spelled words.now ≡ Some (Format settings)) }
     ensures source { result ≡ Status.Source → ((settings : Settings) × (spelled words.now ≡ Some (Dry settings))) ⊎ ((batch : ℕ) × (spelled words.now ≡ Some (Run batch))) }
     ensures source_alone { ((settings : Settings) → spelled words.now ≢ Some (Dry settings)) → ((batch : ℕ) → spelled words.now ≢ Some (Run batch)) → source.new ≡ source.old }
+    ensures steps_alone { ((settings : Settings) → spelled words.now ≢ Some (Dry settings)) → ((batch : ℕ) → spelled words.now ≢ Some (Run batch))
+        → ((number count : ℕ) → spelled words.now ≢ Some (Gen number count)) → steps.new ≡ steps.old }
 {
     let command = match read_words(words) {
         Some(command) => command,

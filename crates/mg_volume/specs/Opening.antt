@@ -1,6 +1,10 @@
--- What an opening and a commit give.
+-- What an opening and a commit give, and what an opening leaves alone.
 use Rattle.std.specs.Prelude.{◌≡◌, Option, Some}
+use Rattle.std.specs.Option.{ForSome}
 use Rattle.mg_disk.specs.Disk.{Image}
+use Rattle.mg_disk.specs.Stops.{WritesNothing}
+use Rattle.mg_disk.specs.declared.disk.Disk.{Ghosts}
+use Rattle.mg_layout.specs.MayFormat.{IsNoState}
 use Rattle.mg_model.specs.State.{State}
 use Rattle.mg_model.specs.Volume.{Is, VolumeRead, volume}
 use Rattle.mg_volume.specs.Held.{VolumeHeld}
@@ -18,3 +22,7 @@ pub record Opens (before : VolumeRead) (v : VolumeHeld) (told : Option Image) : 
   pub state : State
   pub is : before ≡ Is state
   pub holds : Holds state v told
+
+-- where reads gave no volume, nothing was written
+abbrev pub WritesOnlyVolumes : {D : Type 0} → Ghosts D → D → D → Type 0
+WritesOnlyVolumes facts old new = ForSome (facts.seen old) (λ image. IsNoState (volume image) → WritesNothing facts old new)

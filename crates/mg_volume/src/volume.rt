@@ -14,7 +14,7 @@ ghost use Rattle.mg_model.specs.State.{Thread};
 ghost use Rattle.mg_model.specs.Turn.{picked};
 ghost use Rattle.mg_model.specs.Volume.{Damaged, NotVolume, OldVolume, volume};
 ghost use Rattle.mg_volume.specs.Meaning.{IsBaseAt, StandsOn, accounts_in, bare_rows, counters_in, is_live, is_sound, now_of, objects_in, settings_in, staged_of, threads_in, words_in};
-ghost use Rattle.mg_volume.specs.Opening.{Opens};
+ghost use Rattle.mg_volume.specs.Opening.{Opens, WritesOnlyVolumes};
 ghost use Rattle.mg_volume.specs.Staging.{lives};
 
 use crate::opening::open_rows;
@@ -64,7 +64,7 @@ impl Volume {
     ///
     /// [`OpenFault::Not`], [`OpenFault::Old`] and [`OpenFault::Damaged`] come exactly where the image that reads give is no
     /// volume, an older one, or a damaged one, and then nothing is written, on every disk; [`OpenFault::Disk`] only where a
-    /// call of the disk failed.
+    /// call of the disk failed. Where that image is no sound volume nothing is written, whatever the answer.
     pub fn open<D: Disk>(alloc: Global, disk: &mut D) -> Result<Volume, OpenFault>
         ensures opens { IfOk result (λ v. ForSome (D.seen disk.old) (λ image. Opens (volume image) v (D.seen disk.new))) }
         ensures stands { IfOk result (λ v. StandsOn D.Disk v disk.new) }
@@ -78,6 +78,7 @@ impl Volume {
         ensures untouched_not { result ≡ Err OpenFault.Not → WritesNothing D.Disk disk.old disk.new }
         ensures untouched_old { result ≡ Err OpenFault.Old → WritesNothing D.Disk disk.old disk.new }
         ensures untouched_damaged { result ≡ Err OpenFault.Damaged → WritesNothing D.Disk disk.old disk.new }
+        ensures untouched { WritesOnlyVolumes D.Disk disk.old disk.new }
         ensures calls { DiskCallsBy D.Disk disk.old disk.new (result ≡ Err OpenFault.Disk) }
     {
         let (view, rows) = match read_volume(alloc, disk) {

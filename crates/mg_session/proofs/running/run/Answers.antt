@@ -1,10 +1,11 @@
-use Rattle.std.proofs.Common.{refl}
+use Rattle.std.proofs.Common.{refl, subst}
 use Rattle.mg_disk.specs.Stops.{WritesNothing}
 use Rattle.mg_kernel.specs.Meaning.{now_of}
+use Rattle.mg_layout.specs.MayFormat.{IsNoState}
 use Rattle.mg_model.specs.Print.{text}
 use Rattle.mg_model.specs.Step.{after}
 use Rattle.mg_session.specs.Headline.{IsWithinCost}
-use Rattle.mg_session.specs.OpeningLemmas.{fault_tells, lines_opened, lines_unopened, none_spent, opened_then, traced_cost, unopened, untouched}
+use Rattle.mg_session.specs.OpeningLemmas.{fault_tells, lines_opened, lines_unopened, no_volume, none_spent, opened_then, traced_cost, unopened, untouched}
 use Rattle.mg_session.proofs.running.run.Goals as goal
 
 pub returns-in-Ok-clause-keeps : goal.returns-in-Ok-clause-keeps
@@ -15,6 +16,8 @@ returns-in-Ok-clause-keeps g c = record {
       c.in-Ok.ensures.opens
       (λ image seen. traced_cost _ c.costs_add_up.ensures.prefix c.args.batch c.run.result c.in-Ok.kernel c.run.new.machine image (now_of c.in-Ok.kernel image) (g.S.Source.left c.args.source.now) (g.S.Source.left c.run.new.source) (g.K.Sink.taken c.args.sink.now) (g.K.Sink.taken c.run.new.sink) c.args.steps.now c.run.new.steps
       (λ ls st. st.spent) (λ ls st. st) (c.run.ensures.serves.traces image seen));
+  none_steps = λ h. absurd (no_volume c.run.result c.run.ensures.serves.which h);
+  not_opened_steps = λ image seen no_state. absurd (subst IsNoState (c.in-Ok.ensures.opens image seen).is no_state);
 }
 
 pub returns-in-Err-clause-keeps : goal.returns-in-Err-clause-keeps
@@ -22,8 +25,10 @@ returns-in-Err-clause-keeps g c = record {
   lines = lines_unopened g.D.Disk g.S.Source g.K.Sink text after c.args.batch c.in-Err.fault c.put_fault.result c.args.disk.now c.open.new.disk c.args.source.now c.args.sink.now c.put_fault.new.sink
       (fault_tells c.in-Err.fault (g.D.Disk.seen c.args.disk.now) c.in-Err.ensures.not c.in-Err.ensures.old c.in-Err.ensures.damaged) c.put_fault.ensures.ends
       (untouched c.in-Err.fault (WritesNothing g.D.Disk c.args.disk.now c.open.new.disk) c.in-Err.ensures.untouched_not c.in-Err.ensures.untouched_old c.in-Err.ensures.untouched_damaged)
-      c.put_fault.ensures.quiet c.put_fault.ensures.put c.put_fault.ensures.prefix c.put_fault.ensures.sink c.in-Err.ensures.calls.cause c.in-Err.ensures.any_moment (λ s. refl) (λ s. refl);
+      c.in-Err.ensures.untouched c.put_fault.ensures.quiet c.put_fault.ensures.put c.put_fault.ensures.prefix c.put_fault.ensures.sink c.in-Err.ensures.calls.cause c.in-Err.ensures.any_moment (λ s. refl) (λ s. refl);
   cost = unopened c.in-Err.fault (g.D.Disk.seen c.args.disk.now) (λ s. IsWithinCost s c.put_fault.result (g.S.Source.left c.args.source.now) (g.S.Source.left c.args.source.now) c.args.steps.now c.args.steps.now)
       (fault_tells c.in-Err.fault (g.D.Disk.seen c.args.disk.now) c.in-Err.ensures.not c.in-Err.ensures.old c.in-Err.ensures.damaged)
       (λ quiet image is s spelled. none_spent s c.put_fault.result (g.S.Source.left c.args.source.now) c.args.steps.now);
+  none_steps = λ h. refl;
+  not_opened_steps = λ image seen no_state. refl;
 }

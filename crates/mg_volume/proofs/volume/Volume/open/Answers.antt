@@ -1,4 +1,5 @@
-use Rattle.std.proofs.Common.{sym, ◌∙◌}
+use Rattle.std.proofs.Common.{subst, sym, ◌∙◌}
+use Rattle.mg_layout.specs.MayFormat.{IsNoState}
 use Rattle.mg_volume.proofs.OpenRuns.{quiet_then}
 use Rattle.mg_volume.proofs.volume.Volume.open.Goals as goal
 
@@ -12,3 +13,6 @@ pub returns-clause-any_moment : goal.returns-clause-any_moment
 returns-clause-any_moment g c pending =
     let disk = c.args.disk.now in
     quiet_then g.D.Disk disk c.read_volume.new.disk c.open_rows.new.disk (g.met.D.Disk.now_has_been disk) c.in-Ok.ensures.writes pending c.open_rows.ensures.any_moment
+
+pub returns-clause-untouched : goal.returns-clause-untouched
+returns-clause-untouched g c image told no_state = absurd (subst IsNoState (c.in-Ok.ensures.told image told).is no_state)
