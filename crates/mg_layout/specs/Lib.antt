@@ -4,5 +4,6 @@ pub mod FreshImage
 pub mod FreshBelow
 pub mod MayFormat
 pub mod Laws
--- A lemma that crates above cite. It is part of no statement.
+-- Lemmas that crates above cite. They are part of no statement.
 pub mod WordLemmas
+pub mod GateLemmas

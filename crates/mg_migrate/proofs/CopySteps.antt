@@ -7,7 +7,7 @@ use Rattle.mg_disk.specs.Disk.{HasBlocks, Image, Moment, SameBut, SeenBut, no_im
 use Rattle.mg_disk.specs.declared.disk.Disk.{Ghosts}
 use Rattle.mg_disk.specs.Runs.{Tracks, leaves_then, leaves_wider, quiet}
 use Rattle.mg_disk.specs.Stops.{Leaves, NothingPending, TimeGoes}
-use Rattle.mg_migrate.proofs.GateAlone.{gate_alone}
+use Rattle.mg_layout.specs.GateLemmas.{gate_alone}
 use Rattle.mg_migrate.specs.Copied.{AreCopied, AreSame, IsClosed, IsCopy, MayCopy, ReadsNow, StandsClosed}
 use Rattle.mg_model.specs.Layout.{gate_block, gate_open}
 use Rattle.mg_model.specs.Replay.{block_of}

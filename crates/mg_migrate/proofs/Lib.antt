@@ -9,7 +9,6 @@ pub mod LiftedVolume
 pub mod MovedParts
 pub mod SuperBlocks
 pub mod FreshBlocks1
-pub mod GateAlone
 pub mod CopySteps
 pub mod LiftedCopy
 pub mod LiftedReads

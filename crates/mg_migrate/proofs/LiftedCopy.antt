@@ -12,7 +12,7 @@ use Rattle.mg_disk.specs.Runs.{leaves_yet, only_image}
 use Rattle.mg_disk.specs.Stops.{Leaves, NothingPending}
 use Rattle.mg_disk.specs.declared.disk.Disk.{Ghosts}
 use Rattle.mg_layout.specs.MayFormat.{IsNoState, opened}
-use Rattle.mg_migrate.proofs.GateAlone.{gate_alone}
+use Rattle.mg_layout.specs.GateLemmas.{gate_alone}
 use Rattle.mg_migrate.proofs.LiftedBlocks.{block-of-lifted}
 use Rattle.mg_migrate.proofs.LiftedState.{replayed-lifted}
 use Rattle.mg_migrate.proofs.LiftedVolume.{volume-lifted}

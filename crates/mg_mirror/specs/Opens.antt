@@ -2,6 +2,7 @@
 use Rattle.std.specs.Prelude.{◌≡◌, ◌≢◌, ◌&&◌, min, Some, Result, IfOk, IfErr}
 use Rattle.mg_disk.specs.Stops.{NothingPending, WritesNothing, CountRose}
 use Rattle.mg_disk.specs.declared.disk.Disk.{Ghosts}
+use Rattle.mg_mirror.specs.Copy.{LeavesCopy}
 use Rattle.mg_mirror.specs.Mirror.{told_cut}
 use Rattle.mg_mirror.specs.declared.mirror.Mirror.{Mirror}
 use Rattle.mg_mirror.specs.declared.mirror.MirrorFailed.{MirrorFailed}
@@ -10,7 +11,7 @@ use Rattle.mg_mirror.specs.declared.mirror.Side.{Side}
 use Rattle.mg_mirror.specs.declared.mirror.Side.TheVariants.{Left, Right}
 
 -- A mirror of two disks that is opened from the one on a side; or both disks as they are, where that one failed.
-pub record Opens {D E K : Type 0} (d : Ghosts D) (e : Ghosts E) (k : counts.Ghosts K) (facts : Ghosts (Mirror D E K d e k)) (from : Side) (left : D) (right : E)
+pub record Opens {D E K : Type 0} (d : Ghosts D) (e : Ghosts E) (k : counts.Ghosts K D E) (facts : Ghosts (Mirror D E K d e k)) (from : Side) (left : D) (right : E)
     (result : Result (Mirror D E K d e k) (MirrorFailed D E)) : Type 0 where
   -- Its reads are told exactly where those of both disks are, whether or not stops are: they give the first blocks of that disk.
   pub left_reads : from ≡ Left → IfOk result (λ m. facts.seen m ≡ told_cut (facts.block_count m) (d.seen left) (e.seen right))
@@ -30,6 +31,12 @@ pub record Opens {D E K : Type 0} (d : Ghosts D) (e : Ghosts E) (k : counts.Ghos
   pub right_kept : from ≡ Right → IfOk result (λ m. WritesNothing e right m.right)
   pub left_back : from ≡ Left → IfErr result (λ disks. WritesNothing d left disks.left)
   pub right_back : from ≡ Right → IfErr result (λ disks. WritesNothing e right disks.right)
+  -- On the other disk, whatever opening answers, a stop within the copy leaves its blocks as they were but for block 0, a closed block 0,
+  -- or the blocks of that disk but for block 0, of those that the mirror has.
+  pub right_copy : from ≡ Left → IfOk result (λ m. LeavesCopy e (min (d.block_count left) (e.block_count right)) (d.seen left) right m.right)
+  pub left_copy : from ≡ Right → IfOk result (λ m. LeavesCopy d (min (d.block_count left) (e.block_count right)) (e.seen right) left m.left)
+  pub right_torn : from ≡ Left → IfErr result (λ disks. LeavesCopy e (min (d.block_count left) (e.block_count right)) (d.seen left) right disks.right)
+  pub left_torn : from ≡ Right → IfErr result (λ disks. LeavesCopy d (min (d.block_count left) (e.block_count right)) (e.seen right) left disks.left)
   -- Opening fails only where the count of that disk rose.
   pub left_cause : from ≡ Left → IfErr result (λ disks. CountRose d left disks.left)
   pub right_cause : from ≡ Right → IfErr result (λ disks. CountRose e right disks.right)

@@ -1,12 +1,13 @@
-// A copy of one disk's first blocks on another.
-ghost use Rattle.std.specs.Prelude.{◌≡◌, ◌+◌, ◌≤◌, false, IfOk, IsTrue, OnErr, is_some, length};
+// A copy of one disk's first blocks on another. Block 0 of the other disk is closed first and written last, so that a stop within
+// the copy leaves nothing there that is taken for a volume.
+ghost use Rattle.std.specs.Prelude.{◌≡◌, ◌+◌, ◌≤◌, IfOk, IsTrue, OnOk, length};
 ghost use Rattle.std.specs.Option.{ForSome};
-ghost use Rattle.mg_disk.specs.Disk.{HasBlocks};
-ghost use Rattle.mg_disk.specs.Stops.{NothingPending, WritesNothing, CountGoes, CountRose};
-ghost use Rattle.mg_mirror.specs.Copy.{Copies, IsCopied};
+ghost use Rattle.mg_disk.specs.Disk.{HasBlocks, InRange, SameBut, SeenBut, TornAt, only_place};
+ghost use Rattle.mg_disk.specs.Stops.{DiskCalls, Leaves, NothingPending, TimeGoes};
+ghost use Rattle.mg_mirror.specs.Copy.{AreFrom, AreSame, Copies, CopyCalls, first_byte};
 
 use crate::mirror::Side;
-use mg_disk::{BLOCK_SIZE, Block, COPY_BLOCKS, Disk, Failed};
+use mg_disk::{BLOCK_SIZE, Block, COPY_BLOCKS, Disk, Failed, write_firmly};
 
 /// Copies the first blocks of the disk on the side `from` to the other one, as [`copy_blocks`] does.
 pub(crate) fn copy_side<D: Disk, E: Disk>(
@@ -31,7 +32,7 @@ pub(crate) fn copy_side<D: Disk, E: Disk>(
 }
 
 /// Copies the first blocks of `from` to `to` and makes sure of them, or says that `to` failed, whose count then rose. It fails where
-/// `from` does. The first of these blocks are `first`, which were read already.
+/// `from` does. The first of these blocks are `first`, which were read already; where there are none, block 0 is read here.
 fn copy_blocks<D: Disk, E: Disk>(
     from: &mut D,
     to: &mut E,
@@ -44,17 +45,105 @@ fn copy_blocks<D: Disk, E: Disk>(
     requires at_most_so_many_blocks { length first.now ≤ blocks }
     ensures copies { Copies D.Disk E.Disk blocks from.old from.new to.old to.new result }
 {
-    if to.write_blocks(0, first).is_err() {
+    if blocks == 0 {
+        return Ok(to.sync().is_ok());
+    }
+    if !first.is_empty() {
+        return copy_gated(from, to, blocks, first);
+    }
+    let mut gate = [[0; BLOCK_SIZE]; 1];
+    from.read_blocks(0, &mut gate)?;
+    copy_gated(from, to, blocks, &gate)
+}
+
+/// Closes block 0 of `to`, copies the blocks after it, and writes block 0, which is the first of `first`, with a sync after each.
+fn copy_gated<D: Disk, E: Disk>(
+    from: &mut D,
+    to: &mut E,
+    blocks: u64,
+    first: &[Block],
+) -> Result<bool, Failed>
+    requires from_long { blocks ≤ D.block_count from.old }
+    requires to_long { blocks ≤ E.block_count to.old }
+    requires are_first { ForSome (D.seen from.old) (HasBlocks 0 first.now) }
+    requires some { 1 ≤ length first.now }
+    requires at_most_so_many_blocks { length first.now ≤ blocks }
+    ensures copies { Copies D.Disk E.Disk blocks from.old from.new to.old to.new result }
+{
+    if close(to).is_err() {
         return Ok(false);
     }
+    if !copy_after(from, to, blocks, first)? {
+        return Ok(false);
+    }
+    Ok(write_firmly(to, 0, &first[0]).is_ok())
+}
+
+/// Writes zeros over block 0 and makes sure of them.
+fn close<E: Disk>(to: &mut E) -> Result<(), Failed>
+    requires some { 1 ≤ E.block_count to.old }
+    ensures any_moment { NothingPending E.Disk to.old → ForSome (E.seen to.old) (λ image. Leaves E.Disk to.old to.new (SameBut (only_place 0) image)) }
+    ensures closed { OnOk result (ForSome (E.seen to.new) (λ c. first_byte c ≡ 0)) }
+    ensures seen { SeenBut (only_place 0) (E.seen to.old) (E.seen to.new) }
+    ensures settled { OnOk result (NothingPending E.Disk to.new) }
+    ensures calls { DiskCalls E.Disk to.old to.new result }
+    ensures tells { E.tells_stops to.new ≡ E.tells_stops to.old }
+{
+    let mut gate = [0; BLOCK_SIZE];
+    gate[0] = 0;
+    write_firmly(to, 0, &gate)
+}
+
+/// Copies the blocks after block 0 and makes sure of them, or says that `to` failed.
+fn copy_after<D: Disk, E: Disk>(
+    from: &mut D,
+    to: &mut E,
+    blocks: u64,
+    first: &[Block],
+) -> Result<bool, Failed>
+    requires from_long { blocks ≤ D.block_count from.old }
+    requires to_long { blocks ≤ E.block_count to.old }
+    requires are_first { ForSome (D.seen from.old) (HasBlocks 0 first.now) }
+    requires some { 1 ≤ length first.now }
+    requires at_most_so_many_blocks { length first.now ≤ blocks }
+    ensures any_moment { NothingPending E.Disk to.old → ForSome (E.seen to.old) (λ image. Leaves E.Disk to.old to.new (SameBut (λ k. 1 ≤ k) image)) }
+    ensures seen { SeenBut (λ k. 1 ≤ k) (E.seen to.old) (E.seen to.new) }
+    ensures copied { IfOk result (λ good. IsTrue good → ForSome (D.seen from.old) (λ x. ForSome (E.seen to.new) (AreFrom 1 blocks x))) }
+    ensures settled { IfOk result (λ good. IsTrue good → NothingPending E.Disk to.new) }
+    ensures calls { CopyCalls D.Disk E.Disk from.old from.new to.old to.new result }
+{
+    if to.write_blocks(1, &first[1..]).is_err() {
+        return Ok(false);
+    }
+    if !copy_rest(from, to, first.len() as u64, blocks)? {
+        return Ok(false);
+    }
+    Ok(to.sync().is_ok())
+}
+
+/// Copies the blocks from `start` on, or says that `to` failed. Nothing is made sure of.
+fn copy_rest<D: Disk, E: Disk>(
+    from: &mut D,
+    to: &mut E,
+    start: u64,
+    blocks: u64,
+) -> Result<bool, Failed>
+    requires from_long { blocks ≤ D.block_count from.old }
+    requires to_long { blocks ≤ E.block_count to.old }
+    requires start { start ≤ blocks }
+    ensures stops { TimeGoes E.Disk to.old to.new (TornAt (λ k. start ≤ k) (E.left_since to.old (E.moment to.old))) }
+    ensures seen { SeenBut (λ k. start ≤ k) (E.seen to.old) (E.seen to.new) }
+    ensures copied { IfOk result (λ good. IsTrue good → ForSome (D.seen from.old) (λ x. ForSome (E.seen to.new) (AreFrom start blocks x))) }
+    ensures calls { CopyCalls D.Disk E.Disk from.old from.new to.old to.new result }
+{
     let mut run = [[0; BLOCK_SIZE]; COPY_BLOCKS];
-    for next in (first.len() as u64..blocks).step_by(COPY_BLOCKS) {
+    for next in (start..blocks).step_by(COPY_BLOCKS) {
         let count = (blocks - next).min(COPY_BLOCKS as u64);
         if !copy_run(from, to, next, &mut run[..count as usize])? {
             return Ok(false);
         }
     }
-    Ok(to.sync().is_ok())
+    Ok(true)
 }
 
 // Copies blocks, the first of them block `first`, as many as `run` has room for, or says that `to` failed.
@@ -66,17 +155,10 @@ fn copy_run<D: Disk, E: Disk>(
 ) -> Result<bool, Failed>
     requires from_long { first + length run.old ≤ D.block_count from.old }
     requires to_long { first + length run.old ≤ E.block_count to.old }
-    ensures copied { IfOk result (λ good. IsTrue good → IsCopied first (D.seen from.old) (E.seen to.old) → IsCopied (first + length run.old) (D.seen from.old) (E.seen to.new)) }
-    ensures reads { WritesNothing D.Disk from.old from.new }
-    ensures from_blocks { D.block_count from.new ≡ D.block_count from.old }
-    ensures to_blocks { E.block_count to.new ≡ E.block_count to.old }
-    ensures from_tells { D.tells_stops from.new ≡ D.tells_stops from.old }
-    ensures to_tells { E.tells_stops to.new ≡ E.tells_stops to.old }
-    ensures to_told { is_some (E.seen to.new) ≡ is_some (E.seen to.old) }
-    ensures from_count { CountGoes D.Disk from.old from.new }
-    ensures to_count { CountGoes E.Disk to.old to.new }
-    ensures to_cause { IfOk result (λ good. good ≡ false → CountRose E.Disk to.old to.new) }
-    ensures cause { OnErr result (CountRose D.Disk from.old from.new) }
+    ensures stops { TimeGoes E.Disk to.old to.new (TornAt (InRange first (length run.old)) (E.left_since to.old (E.moment to.old))) }
+    ensures seen { SeenBut (InRange first (length run.old)) (E.seen to.old) (E.seen to.new) }
+    ensures copied { IfOk result (λ good. IsTrue good → ForSome (D.seen from.old) (λ x. ForSome (E.seen to.new) (AreSame first (length run.old) x))) }
+    ensures calls { CopyCalls D.Disk E.Disk from.old from.new to.old to.new result }
 {
     from.read_blocks(first, run)?;
     Ok(to.write_blocks(first, run).is_ok())

@@ -1,5 +1,5 @@
 // One disk of two.
-ghost use Rattle.std.specs.Prelude.{◌≡◌, ◌+◌, ◌<◌, ◌≤◌, ℕ, Some, ◌&&◌, option_map, slice_set, length, OnOk, OnErr};
+ghost use Rattle.std.specs.Prelude.{◌≡◌, ◌+◌, ◌<◌, ◌≤◌, ℕ, Option, None, Some, ◌&&◌, option_map, slice_set, length, OnOk, OnErr};
 ghost use Rattle.std.specs.Option.{ForSome};
 ghost use Rattle.mg_disk.specs.Stops.{NothingPending, WritesNothing, TimeGoes, CountGoes, CountRose};
 ghost use Rattle.mg_disk.specs.Disk.{HasBlocks, InRange, SeenBut, TornAt, block_at, no_image, only_place};
@@ -24,26 +24,37 @@ pub enum Side {
     Right,
 }
 
-/// What the counts of faults of the two disks were as opening began. A run picks them.
-pub trait Opened {
+/// What is known of the two disks from before: the counts of faults as opening began, and a disk that stood outside once the mirror was
+/// opened. A run picks them.
+pub trait Opened<D, E> {
     /// The count of the left disk.
     ghost left_faults: { ℕ };
 
     /// The count of the right disk.
     ghost right_faults: { ℕ };
+
+    /// The left disk, where the right one is known to have stood alone since it was this one.
+    ghost left_out: { Option D };
+
+    /// The right disk, where the left one is known to have stood alone since it was this one.
+    ghost right_out: { Option E };
 }
 
-impl Opened for Brand {
+impl<D, E> Opened<D, E> for Brand {
     ghost left_faults = { 0 };
 
     ghost right_faults = { 0 };
+
+    ghost left_out = { None };
+
+    ghost right_out = { None };
 }
 
 /// One disk of two. A side whose write or sync fails is dropped, and the mirror goes on with the other.
 /// A side is dropped only where its count of faults rose since opening began, or stands at its last value, and the
-/// mirror's own count is above 0 only where that holds of both sides.
+/// mirror's own count is above 0 only where that holds of both sides. No call reaches a side that was dropped.
 #[derive(Drop)]
-pub struct Mirror<D: Disk, E: Disk, K: Opened = Brand> {
+pub struct Mirror<D: Disk, E: Disk, K: Opened<D, E> = Brand> {
     left: D,
     right: E,
     blocks: u64,
@@ -58,6 +69,8 @@ pub struct Mirror<D: Disk, E: Disk, K: Opened = Brand> {
     ghost right_no_less: { K.right_faults ≤ E.faults right },
     ghost dropped_right: { alone ≡ Some Side.Left → RoseFrom K.right_faults (E.faults right) (E.is_spent right) },
     ghost dropped_left: { alone ≡ Some Side.Right → RoseFrom K.left_faults (D.faults left) (D.is_spent left) },
+    ghost left_out: { ForSome K.left_out (λ d. (alone ≡ Some Side.Right) × (left ≡ d)) },
+    ghost right_out: { ForSome K.right_out (λ e. (alone ≡ Some Side.Left) × (right ≡ e)) },
     ghost both_rose: { 0 < count → BothRose K.left_faults (D.faults left) (D.is_spent left) K.right_faults (E.faults right) (E.is_spent right) },
 }
 
@@ -67,15 +80,20 @@ pub struct MirrorFailed<D: Disk, E: Disk> {
     pub right: E,
 }
 
-impl<D: Disk, E: Disk, K: Opened> Mirror<D, E, K> {
+impl<D: Disk, E: Disk, K: Opened<D, E>> Mirror<D, E, K> {
     ghost use Rattle.mg_mirror.specs.Opens.{Opens};
 
-    /// Opens a mirror with what the disk on the side `from` has, whose first blocks are read and written to the other.
+    /// Opens a mirror with what the disk on the side `from` has, whose first blocks are read and written to the other. Block 0 of the
+    /// other one is closed with zeros first and written last, with a sync after each step, so that a stop within the copy leaves no
+    /// mixture of both behind a block 0 that tells of a volume.
+    ///
     /// It fails where `from` does; where the other fails, the mirror stands alone on `from`. Its reads are told where those of both
     /// disks are. `K` has the counts of both disks.
     pub fn open(left: D, right: E, from: Side) -> Result<Mirror<D, E, K>, MirrorFailed<D, E>>
         requires left_faults { D.faults left ≡ K.left_faults }
         requires right_faults { E.faults right ≡ K.right_faults }
+        requires left_unknown { K.left_out ≡ None }
+        requires right_unknown { K.right_out ≡ None }
         ensures opens { Opens D.Disk E.Disk K.Opened ⟦<Mirror<D, E, K> as Disk>⟧ from left right result }
     {
         Mirror::open_behind(left, right, from, &[])
@@ -91,6 +109,8 @@ impl<D: Disk, E: Disk, K: Opened> Mirror<D, E, K> {
     ) -> Result<Mirror<D, E, K>, MirrorFailed<D, E>>
         requires left_faults { K.left_faults ≤ D.faults left }
         requires right_faults { K.right_faults ≤ E.faults right }
+        requires left_unknown { K.left_out ≡ None }
+        requires right_unknown { K.right_out ≡ None }
         requires left_first { from ≡ Side.Left → ForSome (D.seen left) (HasBlocks 0 first.now) }
         requires right_first { from ≡ Side.Right → ForSome (E.seen right) (HasBlocks 0 first.now) }
         requires left_long { length first.now ≤ D.block_count left }
@@ -114,12 +134,36 @@ impl<D: Disk, E: Disk, K: Opened> Mirror<D, E, K> {
         })
     }
 
+    /// The same mirror, of which more is known: a side that stands alone, and the other disk. It stays so.
+    pub fn known<J: Opened<D, E>>(self) -> Mirror<D, E, J>
+        requires left_faults { J.left_faults ≡ K.left_faults }
+        requires right_faults { J.right_faults ≡ K.right_faults }
+        requires left_out { ForSome J.left_out (λ d. (self.alone ≡ Some Side.Right) × (self.left ≡ d)) }
+        requires right_out { ForSome J.right_out (λ e. (self.alone ≡ Some Side.Left) × (self.right ≡ e)) }
+        ensures left { result.left ≡ self.left }
+        ensures right { result.right ≡ self.right }
+        ensures blocks { result.blocks ≡ self.blocks }
+        ensures alone { result.alone ≡ self.alone }
+        ensures count { result.count ≡ self.count }
+    {
+        Mirror {
+            left: self.left,
+            right: self.right,
+            blocks: self.blocks,
+            alone: self.alone,
+            count: self.count,
+            of: PhantomData,
+        }
+    }
+
     /// Both disks, as they are. Where the mirror's own count is above 0, the counts of both rose since opening began.
     pub fn sides(self) -> (D, E)
         ensures left { result.0 ≡ self.left }
         ensures right { result.1 ≡ self.right }
         ensures left_count { K.left_faults ≤ D.faults result.0 }
         ensures right_count { K.right_faults ≤ E.faults result.1 }
+        ensures left_out { ForSome K.left_out (λ d. result.0 ≡ d) }
+        ensures right_out { ForSome K.right_out (λ e. result.1 ≡ e) }
         ensures cause { 0 < ⟦<Mirror<D, E, K> as Disk>⟧.faults self → BothRose K.left_faults (D.faults result.0) (D.is_spent result.0) K.right_faults (E.faults result.1) (E.is_spent result.1) }
     {
         (self.left, self.right)
@@ -135,7 +179,7 @@ impl<D: Disk, E: Disk, K: Opened> Mirror<D, E, K> {
     }
 }
 
-impl<D: Disk, E: Disk, K: Opened> Disk for Mirror<D, E, K> {
+impl<D: Disk, E: Disk, K: Opened<D, E>> Disk for Mirror<D, E, K> {
     ghost block_count = { λ m. m.blocks };
 
     ghost seen = { λ m. seen_of m.blocks m.alone (D.seen m.left) (E.seen m.right) };

@@ -7,16 +7,11 @@ use Rattle.mg_disk.specs.Stops.{CountGoes, NothingPending, WritesNothing}
 use Rattle.mg_disk.specs.declared.disk.Disk as disks
 use Rattle.mg_faults.specs.Faults.{count_none}
 use Rattle.mg_mirror.specs.Mirror.{told_cut}
-use Rattle.mg_mirror.specs.declared.mirror.Mirror.{Mirror}
-use Rattle.mg_mirror.specs.declared.mirror.Opened as counts
 use Rattle.mg_mirror.specs.declared.mirror.Side.{Side}
 use Rattle.mg_mirror.specs.declared.mirror.Side.TheVariants.{Left, Right}
-use Rattle.mg_mirror_session.specs.Headline.{IsOpenedFrom, OfSide, seen_on}
+use Rattle.mg_mirror_session.proofs.Copying.{copy_since}
+use Rattle.mg_mirror_session.specs.Headline.{CopyHolds, IsOpenedFrom, OfSide, seen_on}
 use Rattle.mg_mirror_session.specs.Mirrored.{Two, mirror}
-
--- a mirror as two disks
-abbrev pub as_two : {D E O : Type 0} (d : disks.Ghosts D) (e : disks.Ghosts E) (o : counts.Ghosts O) → Mirror D E O d e o → Two D E
-as_two d e o m = record { left = m.left; right = m.right; blocks = m.blocks; alone = m.alone; failed = m.count }
 
 false_true : false ≡ true → ⊥
 false_true is = cc
@@ -46,13 +41,15 @@ module _ {D E : Type 0} (d : disks.Ghosts D) (e : disks.Ghosts E) (left_stays : 
       → (from ≡ Left → (mirror d e).seen opened ≡ told_cut opened.blocks (d.seen left) (e.seen right)) → (from ≡ Right → (mirror d e).seen opened ≡ told_cut opened.blocks (e.seen right) (d.seen left))
       → (from ≡ Left → NothingPending d left → NothingPending (mirror d e) opened) → (from ≡ Right → NothingPending e right → NothingPending (mirror d e) opened)
       → opened.blocks ≡ min (d.block_count left) (e.block_count right) → (from ≡ Left → opened.alone ≢ Some Right) → (from ≡ Right → opened.alone ≢ Some Left)
-      → (from ≡ Left → WritesNothing d left opened.left) → (from ≡ Right → WritesNothing e right opened.right) → IsOpenedFrom d e from left right opened
-  opened_from from left right opened left_reads right_reads left_settled right_settled blocks left_serves right_serves left_kept right_kept = record {
+      → (from ≡ Left → WritesNothing d left opened.left) → (from ≡ Right → WritesNothing e right opened.right)
+      → (from ≡ Left → CopyHolds e opened.blocks (d.seen left) right opened.right) → (from ≡ Right → CopyHolds d opened.blocks (e.seen right) left opened.left) → IsOpenedFrom d e from left right opened
+  opened_from from left right opened left_reads right_reads left_settled right_settled blocks left_serves right_serves left_kept right_kept right_copied left_copied = record {
     blocks = blocks;
     told = of_side from _ _ left_reads right_reads;
     reads = reads from left_reads right_reads;
     serves = of_side from _ _ left_serves right_serves;
     kept = of_side from _ _ left_kept right_kept;
+    copied = of_side from _ _ right_copied left_copied;
     settled = from_side from _ _ _ left_settled right_settled;
   }
     where
@@ -81,16 +78,22 @@ module _ {D E : Type 0} (d : disks.Ghosts D) (e : disks.Ghosts E) (left left' : 
   same_seen Left = on_left.writes.same
   same_seen Right = on_right.writes.same
 
-  pub opened_since : (from : Side) (opened : Two D E) → IsOpenedFrom d e from left' right' opened → IsOpenedFrom d e from left right opened
-  opened_since from opened opens = record {
+  pub opened_since : (from : Side) (opened : Two D E) → d.has_been left (d.moment left) → e.has_been right (e.moment right) → IsOpenedFrom d e from left' right' opened → IsOpenedFrom d e from left right opened
+  opened_since from opened left_been right_been opens = record {
     blocks = opens.blocks ∙ same_blocks;
     reads = λ l r. opens.reads (on_left.tells ∙ l) (on_right.tells ∙ r) ∙ ap (option_map (take opened.blocks)) (same_seen from);
     told = told from opens.told;
     serves = opens.serves;
     kept = kept from opens.kept;
+    copied = copied from opens.copied;
     settled = settled from opens.settled;
   }
     where
+      copied : (from : Side) → OfSide from (CopyHolds e opened.blocks (d.seen left') right' opened.right) (CopyHolds d opened.blocks (e.seen right') left' opened.left)
+          → OfSide from (CopyHolds e opened.blocks (d.seen left) right opened.right) (CopyHolds d opened.blocks (e.seen right) left opened.left)
+      copied Left h = copy_since e opened.blocks (d.seen left) (d.seen left') right right' opened.right on_left.writes.same right_been on_right.writes h
+      copied Right h = copy_since d opened.blocks (e.seen right) (e.seen right') left left' opened.left on_right.writes.same left_been on_left.writes h
+
       told : (from : Side) → OfSide from ((mirror d e).seen opened ≡ told_cut opened.blocks (d.seen left') (e.seen right')) ((mirror d e).seen opened ≡ told_cut opened.blocks (e.seen right') (d.seen left'))
           → OfSide from ((mirror d e).seen opened ≡ told_cut opened.blocks (d.seen left) (e.seen right)) ((mirror d e).seen opened ≡ told_cut opened.blocks (e.seen right) (d.seen left))
       told Left h = h ∙ ap (λ o. told_cut opened.blocks o (e.seen right')) on_left.writes.same ∙ ap (told_cut opened.blocks (d.seen left)) on_right.writes.same

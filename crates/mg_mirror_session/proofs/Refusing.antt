@@ -17,8 +17,10 @@ use Rattle.mg_layout.specs.MayFormat.{IsNoState}
 use Rattle.mg_mirror.specs.declared.mirror.Side.{Side}
 use Rattle.mg_mirror.specs.declared.mirror.Side.TheVariants.{Left, Right}
 use Rattle.mg_mirror_session.proofs.FirstFault.{fault-cut, fault-read, fault_volume}
-use Rattle.mg_mirror_session.proofs.Opening.{OnlyRead, left_alone, of_side}
-use Rattle.mg_mirror_session.specs.Headline.{MirrorKeeps, OfSide, seen_behind, seen_on}
+use Rattle.mg_mirror.specs.Copy.{LeavesCopy}
+use Rattle.mg_mirror_session.proofs.Copying.{copy_holds, copy_none, copy_since}
+use Rattle.mg_mirror_session.proofs.Opening.{OnlyRead, left_alone, of_side, same_blocks}
+use Rattle.mg_mirror_session.specs.Headline.{CopyHolds, MirrorKeeps, OfSide, seen_behind, seen_on}
 use Rattle.mg_mirror_session.specs.Judged.{IsJudged, IsKind, first_fault}
 use Rattle.mg_model.specs.Volume.{Damaged, NotVolume, OldVolume, VolumeRead}
 use Rattle.mg_session.specs.Headline.{check_line}
@@ -80,6 +82,21 @@ module _ {D E F : Type 0} (d : disks.Ghosts D) (e : disks.Ghosts E) (left left' 
   kept_side : (from : Side) → IsSideJudged d e from left left' right right' first result → OfSide from (WritesNothing d left left') (WritesNothing e right right')
   kept_side from judged = of_side from _ _ (λ is. (judged.on_left is).writes) (λ is. (judged.on_right is).writes)
 
+-- what reads of SIDE's disk give told of no fault, in the mirror's blocks
+module _ {D E : Type 0} (d : disks.Ghosts D) (e : disks.Ghosts E) where
+  cut_of : (n : ℕ) (o : Option Image) → ForSome (option_map (take n) o) (λ image. first_fault image ≡ None) → ForSome o (λ x. first_fault (take n x) ≡ None)
+  cut_of n o fine x is = fine (take n x) (ap (option_map (take n)) is)
+
+  pub fine_left : (n : ℕ) (from : Side) (left left' : D) (right : E) → d.seen left' ≡ d.seen left → from ≡ Left → ForSome (option_map (take n) (seen_on d e from left right)) (λ image. first_fault image ≡ None)
+      → ForSome (d.seen left') (λ x. first_fault (take n x) ≡ None)
+  fine_left n from left left' right same is fine =
+      subst (λ o. ForSome o (λ x. first_fault (take n x) ≡ None)) (sym same) (cut_of n (d.seen left) (subst (λ s. ForSome (option_map (take n) (seen_on d e s left right)) (λ image. first_fault image ≡ None)) is fine))
+
+  pub fine_right : (n : ℕ) (from : Side) (left : D) (right right' : E) → e.seen right' ≡ e.seen right → from ≡ Right → ForSome (option_map (take n) (seen_on d e from left right)) (λ image. first_fault image ≡ None)
+      → ForSome (e.seen right') (λ x. first_fault (take n x) ≡ None)
+  fine_right n from left right right' same is fine =
+      subst (λ o. ForSome o (λ x. first_fault (take n x) ≡ None)) (sym same) (cut_of n (e.seen right) (subst (λ s. ForSome (option_map (take n) (seen_on d e s left right)) (λ image. first_fault image ≡ None)) is fine))
+
 -- SIDE's first blocks were read
 module _ {D E F : Type 0} (d : disks.Ghosts D) (e : disks.Ghosts E) (from : Side) (left left' : D) (right right' : E) (first : Image) (said : Option OpenFault)
     (left_count : ForSome (d.seen left) (λ image. length image ≡ d.block_count left)) (right_count : ForSome (e.seen right) (λ image. length image ≡ e.block_count right))
@@ -107,6 +124,25 @@ module _ {D E F : Type 0} (d : disks.Ghosts D) (e : disks.Ghosts E) (from : Side
   pub no_fault : said ≡ None → ForSome (seen_behind d e from left right) (λ image. first_fault image ≡ None)
   no_fault is image told = sym (same_fault image told) ∙ subst (λ s. IsKind s (first_fault first)) is said_kind
 
+  -- so SIDE's blocks spell what a stop may leave of the other disk, once they are copied
+  pub right_copied : (n : ℕ) (right'' : E) → said ≡ None → d.has_been left (d.moment left) → e.has_been right (e.moment right) → n ≡ min (d.block_count left') (e.block_count right') → from ≡ Left
+      → LeavesCopy e (min (d.block_count left') (e.block_count right')) (d.seen left') right' right'' → CopyHolds e n (d.seen left') right' right''
+  right_copied n right'' none left_been right_been is_n is leaves =
+      let l = read_left d e left left' right right' first (Ok said) left_been right_been from judged in
+      let r = read_right d e left left' right right' first (Ok said) left_been right_been from judged in
+      let count = is_n ∙ same_blocks d e left left' right right' l r in
+      let fine = subst (λ m. ForSome (option_map (take m) (seen_on d e from left right)) (λ image. first_fault image ≡ None)) (sym count) (no_fault none) in
+      copy_holds e n (d.seen left') right' right'' (fine_left d e n from left left' right l.writes.same is fine) (subst (λ m. LeavesCopy e m (d.seen left') right' right'') (sym is_n) leaves)
+
+  pub left_copied : (n : ℕ) (left'' : D) → said ≡ None → d.has_been left (d.moment left) → e.has_been right (e.moment right) → n ≡ min (d.block_count left') (e.block_count right') → from ≡ Right
+      → LeavesCopy d (min (d.block_count left') (e.block_count right')) (e.seen right') left' left'' → CopyHolds d n (e.seen right') left' left''
+  left_copied n left'' none left_been right_been is_n is leaves =
+      let l = read_left d e left left' right right' first (Ok said) left_been right_been from judged in
+      let r = read_right d e left left' right right' first (Ok said) left_been right_been from judged in
+      let count = is_n ∙ same_blocks d e left left' right right' l r in
+      let fine = subst (λ m. ForSome (option_map (take m) (seen_on d e from left right)) (λ image. first_fault image ≡ None)) (sym count) (no_fault none) in
+      copy_holds d n (e.seen right') left' left'' (fine_right d e n from left right right' r.writes.same is fine) (subst (λ m. LeavesCopy d m (e.seen right') left' left'') (sym is_n) leaves)
+
   -- so nothing is owed where they tell of no fault
   pub none_judged : (P : Type 0) → said ≡ None → ForSome (seen_behind d e from left right) (λ image. first_fault image ≢ None → P)
   none_judged P is image told some = absurd (some (no_fault is image told))
@@ -128,11 +164,12 @@ module _ {D E S K : Type 0} (d : disks.Ghosts D) (e : disks.Ghosts E) (input : s
     (source : S) (sink : K) (steps : ℕ) where
   -- SIDE's disk failed
   failed : OfSide from (WritesNothing d left left') (WritesNothing e right right') → OfSide from (CountRose d left left') (CountRose e right right')
+      → OfSide from (CopyHolds e (min (d.block_count left) (e.block_count right)) (d.seen left) right right') (CopyHolds d (min (d.block_count left) (e.block_count right)) (e.seen right) left left')
       → ForSome (seen_on d e from left right) (λ image. first_fault image ≢ None → WritesNothing d left left' × WritesNothing e right right')
       → ForSome (seen_behind d e from left right) (λ image. first_fault image ≢ None → WritesNothing d left left' × WritesNothing e right right')
       → MirrorKeeps d e input to from status.Disk None left left' right right' source source sink sink steps steps
-  failed nothing rose of_side of_mirror = record {
-    how = inl (record { status = refl; none = refl; failed = rose; kept = nothing; nothing = (refl, refl, refl) });
+  failed nothing rose copied of_side of_mirror = record {
+    how = inl (record { status = refl; none = refl; failed = rose; kept = nothing; copied = copied; nothing = (refl, refl, refl) });
     side_judged = of_side;
     judged = of_mirror;
     which = inr (inr (inr (inl refl)));
@@ -150,19 +187,29 @@ module _ {D E S K F : Type 0} (d : disks.Ghosts D) (e : disks.Ghosts E) (input :
       let l = read_left d e left left' right right' first (Err failure) left_been right_been from judged in
       let r = read_right d e left left' right right' first (Err failure) left_been right_been from judged in
       failed d e input to from left left' right right' source sink steps (kept_side d e left left' right right' first (Err failure) left_been right_been from judged)
-      (of_side from _ _ (λ is. (judged.on_left is).cause) (λ is. (judged.on_right is).cause)) (λ image told some. (l.writes, r.writes)) (λ image told some. (l.writes, r.writes))
+      (of_side from _ _ (λ is. (judged.on_left is).cause) (λ is. (judged.on_right is).cause))
+      (of_side from _ _ (λ is. copy_none e (min (d.block_count left) (e.block_count right)) (d.seen left) right right' right_been r.writes) (λ is. copy_none d (min (d.block_count left) (e.block_count right)) (e.seen right) left left' left_been l.writes))
+      (λ image told some. (l.writes, r.writes)) (λ image told some. (l.writes, r.writes))
 
   module _ (left_count : ForSome (d.seen left) (λ image. length image ≡ d.block_count left)) (right_count : ForSome (e.seen right) (λ image. length image ≡ e.block_count right))
       (room : length first ≡ min (min (d.block_count left) (e.block_count right)) 32) where
     -- or as the blocks behind them were
     pub not_opened : (left'' : D) (right'' : E) → IsSideJudged {F = F} d e from left left' right right' first (Ok None)
         → (from ≡ Left → WritesNothing d left' left'') → (from ≡ Right → WritesNothing e right' right'') → (from ≡ Left → CountRose d left' left'') → (from ≡ Right → CountRose e right' right'')
+        → (from ≡ Left → LeavesCopy e (min (d.block_count left') (e.block_count right')) (d.seen left') right' right'') → (from ≡ Right → LeavesCopy d (min (d.block_count left') (e.block_count right')) (e.seen right') left' left'')
         → MirrorKeeps d e input to from status.Disk None left left'' right right'' source source sink sink steps steps
-    not_opened left'' right'' judged left_kept right_kept left_rose right_rose =
+    not_opened left'' right'' judged left_kept right_kept left_rose right_rose right_torn left_torn =
+        let n = min (d.block_count left) (e.block_count right) in
+        let l = read_left d e left left' right right' first (Ok None) left_been right_been from judged in
+        let r = read_right d e left left' right right' first (Ok None) left_been right_been from judged in
+        let n_is = sym (same_blocks d e left left' right right' l r) in
         let none = none_judged {F = F} d e from left left' right right' first None left_count right_count room judged (WritesNothing d left left'' × WritesNothing e right right'') refl in
         failed d e input to from left left'' right right'' source sink steps
         (of_side from _ _ (λ is. nothing_then d left left' left'' (judged.on_left is).writes (left_kept is)) (λ is. nothing_then e right right' right'' (judged.on_right is).writes (right_kept is)))
         (of_side from _ _ (λ is. then_rose _ _ _ _ _ _ (judged.on_left is).count (left_rose is)) (λ is. then_rose _ _ _ _ _ _ (judged.on_right is).count (right_rose is)))
+        (of_side from _ _
+        (λ is. copy_since e n (d.seen left) (d.seen left') right right' right'' l.writes.same right_been r.writes (right_copied {F = F} d e from left left' right right' first None left_count right_count room judged n right'' refl left_been right_been n_is is (right_torn is)))
+        (λ is. copy_since d n (e.seen right) (e.seen right') left left' left'' r.writes.same left_been l.writes (left_copied {F = F} d e from left left' right right' first None left_count right_count room judged n left'' refl left_been right_been n_is is (left_torn is))))
         (of_side_too d e from left right (WritesNothing d left left'' × WritesNothing e right right'') left_count right_count none) none
 
     -- SIDE's first two blocks told of a fault

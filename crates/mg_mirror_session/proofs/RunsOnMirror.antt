@@ -67,6 +67,7 @@ module _ {D E S K : Type 0} (d : disks.Ghosts D) (e : disks.Ghosts E) (input : s
     (keeps : RunKeeps (mirror d e) input to 1 ran opened closed source source' sink replied steps steps') (ends : PutsSide to ran closed.alone result replied sink')
     (before : CountGoesOn (to.faults sink) (to.faults replied) (to.is_spent sink) (to.is_spent replied)) (after : CountGoesOn (to.faults replied) (to.faults sink') (to.is_spent replied) (to.is_spent sink'))
     (both : 0 < closed.failed → BothRose (d.faults left) (d.faults closed.left) (d.is_spent closed.left) (e.faults right) (e.faults closed.right) (e.is_spent closed.right))
+    (right_out : opened.alone ≡ Some Left → closed.right ≡ opened.right) (left_out : opened.alone ≡ Some Right → closed.left ≡ opened.left)
     (left_told : (t : Moment) (c : Image) → d.left_since closed.left t c → IsTrue (d.tells_stops closed.left)) (right_told : (t : Moment) (c : Image) → e.left_since closed.right t c → IsTrue (e.tells_stops closed.right)) where
   mirror_rose : CountRose (mirror d e) opened closed → CountRose d left closed.left × CountRose e right closed.right
   mirror_rose rose =
@@ -84,6 +85,8 @@ module _ {D E S K : Type 0} (d : disks.Ghosts D) (e : disks.Ghosts E) (input : s
     failed = closed.failed;
     closed = closed;
     closes = ap (λ (n : ℕ). record { left = closed.left; right = closed.right; blocks = n; alone = closed.alone; failed = closed.failed }) blocks;
+    dropped_right = right_out;
+    dropped_left = left_out;
     ran = ran;
     replied = replied;
     keeps = keeps;
@@ -114,17 +117,3 @@ module _ {D E S K : Type 0} (d : disks.Ghosts D) (e : disks.Ghosts E) (input : s
     left_failed = λ is. rose_from (d.faults left) (d.faults closed.left) (d.is_spent closed.left) (dropped_left is);
     sink_failed = sink_failed to ran (last_line closed.alone) result replied sink' ends.last sink before keeps.lines.ends.sink_failed;
   }
-
--- the same of what the calls gave back
-pub given_back : {D E : Type 0} (P : D → E → Option Side → Type 0) (left left' : D) (right right' : E) (alone alone' : Option Side) → left' ≡ left → right' ≡ right → alone' ≡ alone → P left right alone → P left' right' alone'
-given_back P left left' right right' alone alone' l r a h =
-    subst (λ x. P x right' alone') (sym l) (subst (λ y. P left y alone') (sym r) (subst (λ z. P left right z) (sym a) h))
-
--- the counts of both rose from what they were as the call began
-pub both_rose_from : {D E : Type 0} (d : disks.Ghosts D) (e : disks.Ghosts E) (left_count right_count : ℕ) (left now now' : D) (right here here' : E) → d.faults left ≡ left_count → e.faults right ≡ right_count → now' ≡ now → here' ≡ here
-    → BothRose left_count (d.faults now') (d.is_spent now') right_count (e.faults here') (e.is_spent here') → BothRose (d.faults left) (d.faults now) (d.is_spent now) (e.faults right) (e.faults here) (e.is_spent here)
-both_rose_from d e left_count right_count left now now' right here here' a b l r rose =
-    subst (λ n. BothRose n (d.faults now) (d.is_spent now) (e.faults right) (e.faults here) (e.is_spent here)) (sym a)
-    (subst (λ n. BothRose left_count (d.faults now) (d.is_spent now) n (e.faults here) (e.is_spent here)) (sym b)
-    (subst (λ x. BothRose left_count (d.faults x) (d.is_spent x) right_count (e.faults here) (e.is_spent here)) l
-    (subst (λ y. BothRose left_count (d.faults now') (d.is_spent now') right_count (e.faults y) (e.is_spent y)) r rose)))

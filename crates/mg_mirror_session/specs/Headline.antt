@@ -3,13 +3,13 @@ use Rattle.std.specs.Prelude.{ℕ, ◌≡◌, ◌≢◌, ◌⊎◌, IsTrue, List
 use Rattle.std.specs.Io.KnownBytes.{Appends}
 use Rattle.std.specs.Option.{ForSome}
 use Rattle.mg_disk.specs.Disk.{Image}
-use Rattle.mg_disk.specs.Stops.{CountRose, NothingPending, WritesNothing}
+use Rattle.mg_disk.specs.Stops.{CountRose, Leaves, NothingPending, WritesNothing}
 use Rattle.mg_disk.specs.declared.disk.Disk as disks
 use Rattle.mg_faults.specs.Faults.{Rose}
 use Rattle.mg_io.specs.Known.{AppendsPrefix}
 use Rattle.mg_io.specs.declared.traits.Sink as sinks
 use Rattle.mg_io.specs.declared.traits.Source as sources
-use Rattle.mg_layout.specs.MayFormat.{IsNoState}
+use Rattle.mg_layout.specs.MayFormat.{IsNoState, opened}
 use Rattle.mg_mirror.specs.Mirror.{CutOf, told_cut}
 use Rattle.mg_mirror.specs.declared.mirror.Side.{Side}
 use Rattle.mg_mirror.specs.declared.mirror.Side.TheVariants.{Left, Right}
@@ -17,7 +17,7 @@ use Rattle.mg_mirror_session.specs.Judged.{first_fault}
 use Rattle.mg_mirror_session.specs.Mirrored.{Two, mirror}
 use Rattle.mg_model.specs.Lines.{lines}
 use Rattle.mg_model.specs.Print.{text}
-use Rattle.mg_model.specs.Volume.{VolumeRead, volume}
+use Rattle.mg_model.specs.Volume.{NotVolume, VolumeRead, volume}
 use Rattle.mg_serve.specs.Sessions.{IsDoneOrMemory, IsWithin, input_limit}
 use Rattle.mg_session.specs.Headline.{OnVolume, PutsLast, RunKeeps, UsageKeeps, check_line}
 use Rattle.mg_session.specs.Unopened.{EndsRun}
@@ -40,6 +40,17 @@ seen_on d e Right left right = e.seen right
 abbrev pub seen_behind : {D E : Type 0} → disks.Ghosts D → disks.Ghosts E → Side → D → E → Option Image
 seen_behind d e from left right = option_map (take (min (d.block_count left) (e.block_count right))) (seen_on d e from left right)
 
+-- The copy
+
+-- What a stop within the copy may leave of the other disk, in its first n blocks, where it held an image and SIDE's disk x: no volume,
+-- what its blocks after the gate spelled before, or what those of x spell.
+abbrev pub MayHold : ℕ → Image → Image → Image → Type 0
+MayHold n image x c = (volume (take n c) ≡ NotVolume) ⊎ ((volume (take n c) ≡ volume (opened (take n image))) ⊎ (volume (take n c) ≡ volume (take n x)))
+
+-- At each moment in which what a disk tells is copied to this one, which nothing was pending on, a stop leaves that.
+abbrev pub CopyHolds : {E : Type 0} → disks.Ghosts E → ℕ → Option Image → E → E → Type 0
+CopyHolds e n from to to' = NothingPending e to → ForSome (e.seen to) (λ image. ForSome from (λ x. Leaves e to to' (MayHold n image x)))
+
 -- The mirror
 
 -- A mirror as it was opened from the disk on that side.
@@ -53,6 +64,8 @@ pub record IsOpenedFrom {D E : Type 0} (d : disks.Ghosts D) (e : disks.Ghosts E)
   -- That disk is in use, and nothing was written on it.
   pub serves : OfSide from (opened.alone ≢ Some Right) (opened.alone ≢ Some Left)
   pub kept : OfSide from (WritesNothing d left opened.left) (WritesNothing e right opened.right)
+  -- To the other one it was copied.
+  pub copied : OfSide from (CopyHolds e opened.blocks (d.seen left) right opened.right) (CopyHolds d opened.blocks (e.seen right) left opened.left)
   -- Where nothing was pending on it, nothing is on the mirror: a stop leaves what reads give.
   pub settled : OfSide from (NothingPending d left) (NothingPending e right) → NothingPending (mirror d e) opened
 
@@ -73,12 +86,14 @@ pub record PutsSide {K : Type 0} (to : sinks.Ghosts K) (ran : Status) (alone : O
 
 -- What a command keeps that runs over a mirror
 
--- The disk on the side that the mirror was to be opened from failed meanwhile: no mirror, no write on it, and nothing else was done.
+-- The disk on the side that the mirror was to be opened from failed meanwhile: no mirror, no write on it, some of it copied to the other
+-- one, and nothing else was done.
 pub record IsNotOpened {D E S K : Type 0} (d : disks.Ghosts D) (e : disks.Ghosts E) (from : Side) (result : Status) (alone : Option Side) (left left' : D) (right right' : E) (source source' : S) (sink sink' : K) (steps steps' : ℕ) : Type 0 where
   pub status : result ≡ status.Disk
   pub none : alone ≡ None
   pub failed : OfSide from (CountRose d left left') (CountRose e right right')
   pub kept : OfSide from (WritesNothing d left left') (WritesNothing e right right')
+  pub copied : OfSide from (CopyHolds e (min (d.block_count left) (e.block_count right)) (d.seen left) right right') (CopyHolds d (min (d.block_count left) (e.block_count right)) (e.seen right) left left')
   pub nothing : (source' ≡ source) × (sink' ≡ sink) × (steps' ≡ steps)
 
 -- The first two blocks that the mirror was to have tell of no volume: no mirror, no write on either disk, nothing was taken, and the
@@ -107,6 +122,9 @@ pub record RanOnMirror {D E S K : Type 0} (d : disks.Ghosts D) (e : disks.Ghosts
   pub failed : ℕ
   pub closed : Two D E
   pub closes : closed ≡ record { left = left'; right = right'; blocks = opened.blocks; alone = alone; failed = failed }
+  -- A disk that was dropped within the copy is left as the copy left it.
+  pub dropped_right : opened.alone ≡ Some Left → right' ≡ opened.right
+  pub dropped_left : opened.alone ≡ Some Right → left' ≡ opened.left
   -- How the run ended, and the sink once all replies were put.
   pub ran : Status
   pub replied : K

@@ -2,6 +2,7 @@
 ghost use Rattle.std.specs.Prelude.{◌≡◌, IfSome, None};
 ghost use Rattle.mg_mirror_session.specs.Commands.{mirror_of};
 ghost use Rattle.mg_mirror_session.specs.Headline.{MirrorKeeps, NoMirrorKeeps};
+ghost use Rattle.mg_mirror_session.specs.Ran.{RanOpened, as_two, out_left, out_right};
 ghost use Rattle.mg_session.specs.ByCommand.{words_of};
 
 use crate::judging::read_first;
@@ -34,7 +35,9 @@ pub struct Mirrored<D: Disk, E: Disk> {
 /// two tell, is told after the copy.
 ///
 /// Else it makes one disk of the first blocks of two, as many as the smaller has, with what the disk on SIDE holds, which is copied
-/// to the other one; each block of SIDE's disk is read once. Then it runs the source's lines on the volume of that disk, a reply a
+/// to the other one; each block of SIDE's disk is read once. Block 0 of the other one, its gate, is closed first and written last, with
+/// a sync after each step: a stop within the copy leaves there no volume, what its blocks after the gate spelled before, or what SIDE's
+/// spell; and where the other disk fails within the copy, it is left so. Then it runs the source's lines on the volume of that disk, a reply a
 /// batch, as `VOLUME run` does. A side whose write or sync fails is dropped, and the other one stands alone from then on. Once all
 /// lines are answered the line `alone left` or `alone right` is put, exactly where a side stands alone.
 ///
@@ -74,7 +77,7 @@ pub fn top_mirror<D: Disk, E: Disk, S: Source, K: Sink, L: Ledger>(
 
 /// Judges the first blocks of the disk on that side, opens a mirror from it, and runs the source's lines on the volume of it. `O` has
 /// the counts of both disks.
-fn run_on_mirror<D: Disk, E: Disk, S: Source, K: Sink, L: Ledger, O: Opened>(
+fn run_on_mirror<D: Disk, E: Disk, S: Source, K: Sink, L: Ledger, O: Opened<D, E>>(
     alloc: Global,
     from: Side,
     left: D,
@@ -85,6 +88,8 @@ fn run_on_mirror<D: Disk, E: Disk, S: Source, K: Sink, L: Ledger, O: Opened>(
 ) -> Mirrored<D, E>
     requires left_faults { D.faults left ≡ O.left_faults }
     requires right_faults { E.faults right ≡ O.right_faults }
+    requires left_unknown { O.left_out ≡ None }
+    requires right_unknown { O.right_out ≡ None }
     ensures { MirrorKeeps D.Disk E.Disk S.Source K.Sink from result.status result.alone
         left result.left right result.right source.old source.new sink.old sink.new steps.old steps.new }
 {
@@ -112,7 +117,7 @@ fn run_on_mirror<D: Disk, E: Disk, S: Source, K: Sink, L: Ledger, O: Opened>(
             };
         }
     }
-    let mut mirror = match Mirror::<D, E, O>::open_behind(left, right, from, first) {
+    let mirror = match Mirror::<D, E, O>::open_behind(left, right, from, first) {
         Ok(mirror) => mirror,
         Err(MirrorFailed { left, right }) => {
             return Mirrored {
@@ -123,6 +128,25 @@ fn run_on_mirror<D: Disk, E: Disk, S: Source, K: Sink, L: Ledger, O: Opened>(
             };
         }
     };
+    run_opened::<D, E, S, K, L, O, Brand>(alloc, mirror, source, sink, steps)
+}
+
+/// Runs the source's lines on the volume of a mirror that was just opened. `J` has what is known of its disks now.
+fn run_opened<D: Disk, E: Disk, S: Source, K: Sink, L: Ledger, O: Opened<D, E>, J: Opened<D, E>>(
+    alloc: Global,
+    mirror: Mirror<D, E, O>,
+    source: &mut S,
+    sink: &mut K,
+    steps: &mut Steps<L>,
+) -> Mirrored<D, E>
+    requires left_faults { J.left_faults ≡ O.left_faults }
+    requires right_faults { J.right_faults ≡ O.right_faults }
+    requires left_out { J.left_out ≡ out_left mirror.alone mirror.left }
+    requires right_out { J.right_out ≡ out_right mirror.alone mirror.right }
+    ensures { RanOpened D.Disk E.Disk S.Source K.Sink O.left_faults O.right_faults (as_two D.Disk E.Disk O.Opened mirror) result.status result.alone
+        result.left result.right source.old source.new sink.old sink.new steps.old steps.new }
+{
+    let mut mirror = mirror.known::<J>();
     let ran = run(alloc, 1, &mut mirror, source, sink, steps);
     let alone = mirror.alone();
     let status = put_side(ran, alone, sink);

@@ -70,11 +70,11 @@ const ROWS: [Row; 8] = [
         writes: 0,
         ..CLOSED
     },
-    // A byte behind the counters, which only the whole examination finds: the 2,660 blocks are copied first.
+    // A byte after the counters, which only the whole examination finds: block 0 is closed and the 2,660 blocks are copied first.
     Row {
         harm: (1298, 4095, 1),
         put: "open damaged\n",
-        writes: 2660,
+        writes: 2661,
         ..CLOSED
     },
     // The wrong disk is named: the volume stays.

@@ -1,0 +1,17 @@
+use Rattle.std.specs.Option.{ForSome}
+use Rattle.mg_disk.specs.Disk.{HasBlocks}
+use Rattle.std.proofs.Common.{◌-◌, subst, take, ◌<◌, ◌+◌, arith, drop, length, refl, rules, []}
+use Rattle.std.proofs.lemmas.Grind.{get_or_after_one}
+use Rattle.std.proofs.lemmas.List.{length-drop, take_rest}
+use Rattle.mg_mirror.proofs.Copied.{after_all}
+use Rattle.mg_mirror.proofs.copy.copy_after.Goals as goal
+
+pub returns-clause-copied : goal.returns-clause-copied
+returns-clause-copied g c good =
+    let d = g.D.Disk in
+    let e = g.E.Disk in
+    let first = c.args.first.now in
+    let one = c.write_blocks.new.self in
+    let wrote : ForSome (e.seen one) (HasBlocks 1 (take (length first - 1) (drop 1 first))) = search rules in
+    after_all c.args.blocks first (drop 1 first) (d.seen c.args.from.now) (d.seen c.args.from.now) (e.seen c.write_blocks.new.self) (e.seen c.copy_rest.new.to) (e.seen c.sync.new.self)
+    (λ k below. let dropped = length-drop 1 first in omega arith) (λ k. get_or_after_one first k []) c.sync.ensures.seen refl c.requires.are_first (subst (λ rest. ForSome (e.seen one) (HasBlocks 1 rest)) (take_rest first 1) wrote) c.copy_rest.ensures.seen (c.in_ok-copy_rest.ensures.copied c.if-not-branch.false)

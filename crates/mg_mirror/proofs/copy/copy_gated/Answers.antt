@@ -1,0 +1,101 @@
+use Rattle.std.specs.Option.{ForSome}
+use Rattle.std.proofs.Common.{◌≡◌, ◌∙◌, ◌≤◌, Some, arith, length, option_map, refl, rules, slice_set}
+use Rattle.mg_disk.specs.Disk.{Image, block_at, only_place}
+use Rattle.mg_disk.specs.Stops.{NothingPending}
+use Rattle.mg_mirror.specs.Copy.{AreFrom, first_byte}
+use Rattle.mg_mirror.proofs.Copied.{all_copied, first_phase, second_phase, seen_then, steps_then, steps_to, still_told, third_phase}
+use Rattle.mg_mirror.proofs.copy.copy_gated.Goals as goal
+
+pub returns-in_err-copy_after : goal.returns-in_err-copy_after
+returns-in_err-copy_after g c =
+    let d = g.D.Disk in
+    let e = g.E.Disk in
+    let n = c.args.blocks in
+    let from = c.args.from.now in
+    let to = c.args.to.now in
+    let shut = c.close.new.to in
+    let last = c.copy_after.new.to in
+    let settled : NothingPending e shut = search rules in
+    let zero : ForSome (e.seen shut) (λ s. first_byte s ≡ 0) = search rules in
+    record {
+      copies = record {
+        copied = search rules;
+        settled = search rules;
+        leaves = λ pending image told x read.
+            let s = seen_then (only_place 0) (e.seen to) (e.seen shut) image c.close.ensures.seen told in
+            second_phase e n image x to shut last s.c (zero s.c s.is) (first_phase e n image x to shut (c.close.ensures.any_moment pending image told)) (c.copy_after.ensures.any_moment settled s.c s.is);
+        to_told = still_told (λ k. 1 ≤ k) (e.seen shut) (e.seen last) c.copy_after.ensures.seen ∙ still_told (only_place 0) (e.seen to) (e.seen shut) c.close.ensures.seen;
+        calls = record {
+          steps = steps_then d e from from c.copy_after.new.from to shut last (steps_to d e from to shut (g.met.D.Disk.now_has_been from) c.close.ensures.calls.blocks c.close.ensures.tells c.close.ensures.calls.count) c.copy_after.ensures.calls.steps;
+          to_cause = search rules;
+          cause = search rules;
+        };
+      };
+    }
+
+pub returns-then-not-branch : goal.returns-then-not-branch
+returns-then-not-branch g c =
+    let d = g.D.Disk in
+    let e = g.E.Disk in
+    let n = c.args.blocks in
+    let from = c.args.from.now in
+    let to = c.args.to.now in
+    let shut = c.close.new.to in
+    let last = c.copy_after.new.to in
+    let settled : NothingPending e shut = search rules in
+    let zero : ForSome (e.seen shut) (λ s. first_byte s ≡ 0) = search rules in
+    record {
+      copies = record {
+        copied = search rules;
+        settled = search rules;
+        leaves = λ pending image told x read.
+            let s = seen_then (only_place 0) (e.seen to) (e.seen shut) image c.close.ensures.seen told in
+            second_phase e n image x to shut last s.c (zero s.c s.is) (first_phase e n image x to shut (c.close.ensures.any_moment pending image told)) (c.copy_after.ensures.any_moment settled s.c s.is);
+        to_told = still_told (λ k. 1 ≤ k) (e.seen shut) (e.seen last) c.copy_after.ensures.seen ∙ still_told (only_place 0) (e.seen to) (e.seen shut) c.close.ensures.seen;
+        calls = record {
+          steps = steps_then d e from from c.copy_after.new.from to shut last (steps_to d e from to shut (g.met.D.Disk.now_has_been from) c.close.ensures.calls.blocks c.close.ensures.tells c.close.ensures.calls.count) c.copy_after.ensures.calls.steps;
+          to_cause = search rules;
+          cause = search rules;
+        };
+      };
+    }
+
+pub returns : goal.returns
+returns g c =
+    let d = g.D.Disk in
+    let e = g.E.Disk in
+    let n = c.args.blocks in
+    let first = c.args.first.now in
+    let from = c.args.from.now in
+    let to = c.args.to.now in
+    let shut = c.close.new.to in
+    let after = c.copy_after.new.to in
+    let last = c.write_firmly.new.disk in
+    let settled : NothingPending e shut = search rules in
+    let zero : ForSome (e.seen shut) (λ s. first_byte s ≡ 0) = search rules in
+    let copied : ForSome (d.seen from) (λ x. ForSome (e.seen after) (AreFrom 1 n x)) = c.in_ok-copy_after.ensures.copied c.if-not-branch.false in
+    let from_long = λ (x : Image) (is : d.seen from ≡ Some x). let count = g.met.D.Disk.seen_count from x is in let room = c.requires.from_long in let fits : n ≤ length x = omega arith in fits in
+    let after_long = λ (s : Image) (is : e.seen after ≡ Some s). let count = g.met.E.Disk.seen_count after s is in let room = c.requires.to_long in let one = c.close.ensures.calls.blocks in let two = c.copy_after.ensures.calls.steps.to_blocks in let fits : n ≤ length s = omega arith in fits in
+    let steps = steps_then d e from from c.copy_after.new.from to shut after (steps_to d e from to shut (g.met.D.Disk.now_has_been from) c.close.ensures.calls.blocks c.close.ensures.tells c.close.ensures.calls.count) c.copy_after.ensures.calls.steps in
+    record {
+      copies = record {
+        copied = λ good.
+            let put : e.seen last ≡ option_map (λ image. slice_set image 0 (block_at first 0)) (e.seen after) = search rules in
+            all_copied n first (d.seen from) (d.seen from) (e.seen after) (e.seen last) refl c.requires.some put c.requires.are_first from_long after_long copied;
+        settled = search rules;
+        leaves = λ pending image told x read.
+            let s = seen_then (only_place 0) (e.seen to) (e.seen shut) image c.close.ensures.seen told in
+            let t = seen_then (λ k. 1 ≤ k) (e.seen shut) (e.seen after) s.c c.copy_after.ensures.seen s.is in
+            let safe : NothingPending e after = search rules in
+            third_phase e n image x to after last t.c (from_long x read) (after_long t.c t.is) (copied x read t.c t.is)
+            (second_phase e n image x to shut after s.c (zero s.c s.is) (first_phase e n image x to shut (c.close.ensures.any_moment pending image told)) (c.copy_after.ensures.any_moment settled s.c s.is))
+            (c.write_firmly.ensures.any_moment safe t.c t.is);
+        to_told = still_told (only_place 0) (e.seen after) (e.seen last) c.write_firmly.ensures.torn ∙ (still_told (λ k. 1 ≤ k) (e.seen shut) (e.seen after) c.copy_after.ensures.seen ∙ still_told (only_place 0) (e.seen to) (e.seen shut) c.close.ensures.seen);
+        calls = record {
+          steps = steps_then d e from c.copy_after.new.from c.copy_after.new.from to after last steps
+              (steps_to d e c.copy_after.new.from after last (g.met.D.Disk.now_has_been c.copy_after.new.from) c.write_firmly.ensures.calls.blocks c.write_firmly.ensures.tells c.write_firmly.ensures.calls.count);
+          to_cause = search rules;
+          cause = search rules;
+        };
+      };
+    }

@@ -1,0 +1,63 @@
+use Rattle.std.proofs.Common.{◌≡◌, min, rules, subst}
+use Rattle.mg_mirror.specs.Copy.{LeavesCopy}
+use Rattle.mg_mirror.proofs.mirror.Mirror.open_behind.Goals as goal
+
+pub returns-in-Err : goal.returns-in-Err
+returns-in-Err g c =
+    let d = g.D.Disk in
+    let e = g.E.Disk in
+    let told = c.in-Err.ensures in
+    let n_is : c.min-blocks.result ≡ min (d.block_count c.args.left) (e.block_count c.args.right) = search rules in
+    record {
+      opens = record {
+        left_reads = search rules;
+        right_reads = search rules;
+        left_settled = search rules;
+        right_settled = search rules;
+        no_faults = search rules;
+        blocks = search rules;
+        tells = search rules;
+        left_serves = search rules;
+        right_serves = search rules;
+        left_kept = search rules;
+        right_kept = search rules;
+        left_back = λ is. (told.left is).calls.steps.reads;
+        right_back = λ is. (told.right is).calls.steps.reads;
+        right_copy = search rules;
+        left_copy = search rules;
+        right_torn = λ is. subst (λ n. LeavesCopy e n (d.seen c.args.left) c.args.right c.copy_side.new.right) n_is (told.left is).leaves;
+        left_torn = λ is. subst (λ n. LeavesCopy d n (e.seen c.args.right) c.args.left c.copy_side.new.left) n_is (told.right is).leaves;
+        left_cause = λ is. (told.left is).calls.cause;
+        right_cause = λ is. (told.right is).calls.cause;
+      };
+    }
+
+pub returns : goal.returns
+returns g c =
+    let d = g.D.Disk in
+    let e = g.E.Disk in
+    let told = c.copy_side.ensures in
+    let n_is : c.min-blocks.result ≡ min (d.block_count c.args.left) (e.block_count c.args.right) = search rules in
+    record {
+      opens = record {
+        left_reads = λ is. let steps = (told.left is).calls.steps in search rules;
+        right_reads = λ is. let steps = (told.right is).calls.steps in search rules;
+        left_settled = λ is. let steps = (told.left is).calls.steps in search rules;
+        right_settled = λ is. let steps = (told.right is).calls.steps in search rules;
+        no_faults = search rules;
+        blocks = n_is;
+        tells = search rules;
+        left_serves = search rules;
+        right_serves = search rules;
+        left_kept = λ is. (told.left is).calls.steps.reads;
+        right_kept = λ is. (told.right is).calls.steps.reads;
+        left_back = search rules;
+        right_back = search rules;
+        right_copy = λ is. subst (λ n. LeavesCopy e n (d.seen c.args.left) c.args.right c.copy_side.new.right) n_is (told.left is).leaves;
+        left_copy = λ is. subst (λ n. LeavesCopy d n (e.seen c.args.right) c.args.left c.copy_side.new.left) n_is (told.right is).leaves;
+        right_torn = search rules;
+        left_torn = search rules;
+        left_cause = search rules;
+        right_cause = search rules;
+      };
+    }

@@ -1,0 +1,103 @@
+-- What a stop within the copy leaves of the other disk, as the promise speaks of it.
+use Rattle.std.specs.Prelude.{ℕ, ◌≡◌, ◌⊎◌, ◌≤◌, List, [], length, min, slice_index, take, Option, Some, None}
+use Rattle.std.specs.Option.{ForSome}
+use Rattle.std.proofs.Common.{refl, sym, ap, subst, ◌∙◌, inl, inr, ⊎_elim, arith}
+use Rattle.std.proofs.lemmas.Bool.{cases_eq, cases_lt}
+use Rattle.std.proofs.lemmas.List.{get_or-take, length-take}
+use Rattle.std.proofs.Math.Nat.{min-le_left}
+use Rattle.mg_disk.specs.Disk.{Image, SameBut, only_place}
+use Rattle.mg_disk.specs.PlaceLemmas.{same_as}
+use Rattle.mg_disk.specs.Runs.{leaves_quiet, leaves_then, leaves_wider, leaves_yet, still_seen}
+use Rattle.mg_disk.specs.Stops.{Leaves, NothingPending, WritesNothing}
+use Rattle.mg_disk.specs.declared.disk.Disk as disks
+use Rattle.mg_layout.specs.GateLemmas.{gate_alone}
+use Rattle.mg_mirror.specs.Copy.{LeavesCopy, MayCopy, first_byte}
+use Rattle.mg_mirror.specs.declared.mirror.Side.{Side}
+use Rattle.mg_mirror.specs.declared.mirror.Side.TheVariants.{Left, Right}
+use Rattle.mg_mirror_session.proofs.FirstFault.{fault-closed, fault-short}
+use Rattle.mg_mirror_session.specs.Headline.{CopyHolds, MayHold}
+use Rattle.mg_mirror_session.specs.Judged.{first_fault}
+use Rattle.mg_mirror_session.specs.Ran.{out_left, out_right}
+use Rattle.mg_model.specs.Layout.{gate_block, gate_open}
+use Rattle.mg_model.specs.Replay.{block_of}
+use Rattle.mg_model.specs.Volume.{IsOpened, NotVolume, gate_byte, volume}
+use Rattle.mg_model.specs.VolumeLemmas.{volume-closed, volume-same_behind, volume-short}
+
+some_none : {A : Type 0} (x : A) → Some x ≡ None → ⊥
+some_none x is = cc
+
+-- an image whose first two blocks tell of no fault has an open gate
+is_opened : (image : Image) → first_fault image ≡ None → IsOpened image
+is_opened image none = record {
+  long = ⊎_elim (λ short. absurd (some_none NotVolume (sym (fault-short image short) ∙ none))) (λ long. long) (cases_lt (length image) 2);
+  gate = ⊎_elim (λ is. is) (λ closed. absurd (some_none NotVolume (sym (fault-closed image closed) ∙ none))) (cases_eq (gate_byte image) gate_open);
+}
+
+-- a closed block 0 is a closed gate, cut too
+cut_closed : (n : ℕ) (c : Image) → first_byte c ≡ 0 → volume (take n c) ≡ NotVolume
+cut_closed n c zero = ⊎_elim (λ short. volume-short (take n c) short) long (cases_lt (length (take n c)) 2)
+  where
+    long : 2 ≤ length (take n c) → volume (take n c) ≡ NotVolume
+    long more =
+        let count = length-take n c in
+        let low = min-le_left n (length c) in
+        let gate : gate_byte (take n c) ≡ 0 = ap (λ (block : List ℕ). slice_index block 0) (get_or-take n c gate_block [] (omega arith)) ∙ zero in
+        volume-closed (take n c) (λ is. let both : 0 ≡ gate_open = sym gate ∙ is in omega arith)
+
+-- what has all blocks of x but block 0
+as_copied : (x c : Image) → IsOpened x → SameBut (only_place 0) x c → (volume c ≡ NotVolume) ⊎ (volume c ≡ volume x)
+as_copied x c opened same = ⊎_elim opens (λ not. inl (volume-closed c not)) (cases_eq (gate_byte c) gate_open)
+  where
+    opens : gate_byte c ≡ gate_open → (volume c ≡ NotVolume) ⊎ (volume c ≡ volume x)
+    opens gate = ⊎_elim (λ short. inl (volume-short c short)) (λ long. inr (volume-same_behind c x (record { long = long; gate = gate }) opened same.count (λ k low. same.others k (λ e. omega arith)))) (cases_lt (length c) 2)
+
+holds_before : (n : ℕ) (image x c : Image) → SameBut (only_place 0) (take n image) (take n c) → MayHold n image x c
+holds_before n image x c same = ⊎_elim (λ none. inl none) (λ before. inr (inl before)) (gate_alone (take n image) (take n c) same)
+
+holds : (n : ℕ) (image x c : Image) → IsOpened (take n x) → MayCopy n image x c → MayHold n image x c
+holds n image x c opened may =
+    ⊎_elim (holds_before n image x c) (λ more. ⊎_elim (λ zero. inl (cut_closed n c zero)) (λ same. ⊎_elim (λ none. inl none) (λ copied. inr (inr copied)) (as_copied (take n x) (take n c) opened same)) more) may
+
+some_inj : (s c : Image) → Some s ≡ Some c → c ≡ s
+some_inj s c is = cc
+
+module _ {E : Type 0} (e : disks.Ghosts E) (n : ℕ) where
+  pub copy_holds : (from : Option Image) (to to' : E) → ForSome from (λ x. first_fault (take n x) ≡ None) → LeavesCopy e n from to to' → CopyHolds e n from to to'
+  copy_holds from to to' none leaves pending image told x read =
+      leaves_wider e to to' (MayCopy n image x) (MayHold n image x) (leaves pending image told x read) (λ c may. holds n image x c (is_opened (take n x) (none x read)) may)
+
+  -- nothing was written yet
+  yet : (image x : Image) (to : E) → e.has_been to (e.moment to) → NothingPending e to → e.seen to ≡ Some image → Leaves e to to (MayHold n image x)
+  yet image x to been pending told =
+      leaves_yet e to (MayHold n image x) been (λ c left. let is : c ≡ image = some_inj image c (sym told ∙ pending c left) in holds_before n image x c (same_as (only_place 0) (take n image) (take n c) (ap (take n) is)))
+
+  pub copy_none : (from : Option Image) (to to' : E) → e.has_been to (e.moment to) → WritesNothing e to to' → CopyHolds e n from to to'
+  copy_none from to to' been none pending image told x read = leaves_quiet e to to to' (MayHold n image x) (yet image x to been pending told) none.stops
+
+  -- both disks were read before, or left alone
+  pub copy_since : (was from : Option Image) (to mid to' : E) → from ≡ was → e.has_been to (e.moment to) → WritesNothing e to mid → CopyHolds e n from mid to' → CopyHolds e n was to to'
+  copy_since was from to mid to' same been none leaves pending image told x read =
+      leaves_then e to mid to' (MayHold n image x) (MayHold n image x) (copy_none was to mid been none pending image told x read)
+      (leaves (still_seen e to mid pending none.same none.stops) image (none.same ∙ told) x (same ∙ read)) (λ c may. may)
+
+none_some : {A : Type 0} (x : A) → None ≡ Some x → ⊥
+none_some x is = cc
+
+some_is : {A : Type 0} (x y : A) → Some x ≡ Some y → x ≡ y
+some_is x y is = cc
+
+pub left_known : {D : Type 0} (alone : Option Side) (disk : D) → ForSome (out_left alone disk) (λ d. (alone ≡ Some Right) × (disk ≡ d))
+left_known (Some Right) disk d is = (refl, some_is disk d is)
+left_known (Some Left) disk d is = absurd (none_some d is)
+left_known None disk d is = absurd (none_some d is)
+
+pub right_known : {E : Type 0} (alone : Option Side) (disk : E) → ForSome (out_right alone disk) (λ e. (alone ≡ Some Left) × (disk ≡ e))
+right_known (Some Left) disk e is = (refl, some_is disk e is)
+right_known (Some Right) disk e is = absurd (none_some e is)
+right_known None disk e is = absurd (none_some e is)
+
+pub left_stayed : {D : Type 0} (alone : Option Side) (disk last : D) → ForSome (out_left alone disk) (λ d. last ≡ d) → alone ≡ Some Right → last ≡ disk
+left_stayed alone disk last known is = known disk (ap (λ a. out_left a disk) is)
+
+pub right_stayed : {E : Type 0} (alone : Option Side) (disk last : E) → ForSome (out_right alone disk) (λ e. last ≡ e) → alone ≡ Some Left → last ≡ disk
+right_stayed alone disk last known is = known disk (ap (λ a. out_right a disk) is)
