@@ -1,14 +1,54 @@
-// What is told once a command has ended.
-use mg_disk::{BLOCK_SIZE, Disk, FileDisk, FileFault, OneHolder, Watch};
-use mg_layout::{Geometry, SUPER_BLOCK, Super, read_super};
-use std::io::{self, Eprint};
-use std::os::unix::fs::FileExt;
-use std::rt::Files;
+// A line on standard error, and why a file or a stream failed.
+use mg_disk::FileFault;
+use std::fmt;
+use std::fmt::Formatter;
+use std::io::{self, Eprint, ErrorKind};
+
+/// The number that the system gives the error of a stream that is not open.
+const NOT_OPEN: i32 = 9;
+
+/// What is told of a write that took less than it was given.
+const ONLY_A_PART: &str = "took only a part: the disk may be full";
+
+/// Tells this text.
+pub fn tell<R: Eprint>(rt: &R, program: &str, text: &str) {
+    let _ = eprintln!(rt; "{program}: {text}");
+}
+
+/// Tells this text of a file or a stream.
+pub fn tell_of<R: Eprint>(rt: &R, program: &str, what: &str, text: &str) {
+    let _ = eprintln!(rt; "{program}: {what}: {text}");
+}
+
+/// Why a call of a file failed, in words that say what to do about it where the system's don't.
+#[derive(Clone, Copy)]
+pub(crate) struct Cause<'a> {
+    fault: &'a FileFault,
+}
+
+/// Why this call failed.
+pub(crate) fn cause_of(fault: &FileFault) -> Cause<'_> {
+    Cause { fault }
+}
+
+impl<'a> fmt::Display for Cause<'a> {
+    fn fmt<W: fmt::Write>(&self, f: &mut Formatter<W>) -> fmt::Result {
+        let kind = self.fault.error.kind();
+        if kind == ErrorKind::WriteZero {
+            f.write_str(ONLY_A_PART)
+        } else if kind == ErrorKind::NotSeekable {
+            f.write_str("a pipe or a terminal can hold no volume")
+        } else {
+            write!(f, "{}", self.fault)
+        }
+    }
+}
 
 /// Tells why a call of a file failed, where one did.
 pub fn tell_fault<R: Eprint>(rt: &R, program: &str, path: &str, fault: Option<&FileFault>) {
     if let Some(fault) = fault {
-        let _ = eprintln!(rt; "{program}: {path}: {fault}");
+        let cause = cause_of(fault);
+        let _ = eprintln!(rt; "{program}: {path}: {cause}");
     }
 }
 
@@ -19,67 +59,33 @@ pub fn tell_error<R: Eprint>(rt: &R, program: &str, what: &str, error: Option<&i
     }
 }
 
-/// Tells what only the file of a volume shows: that it is of an older version, which `migrate` takes, where `is_refused` says that
-/// the command took no volume there; and that it ends before its frame table does, as a file that was cut.
-pub fn tell_volume<R: Eprint, F: Files, W: Watch>(
-    rt: &R,
-    program: &str,
-    path: &str,
-    disk: &mut FileDisk<'_, F, W>,
-    is_refused: bool,
-)
-where
-    F::File: FileExt + OneHolder,
-{
-    let end = disk.end();
-    if end.is_none() && !is_refused {
-        return;
-    }
-    match super_of(disk) {
-        Super::Old => {
-            if is_refused {
-                tell_old(rt, program, path);
-            }
+/// Tells why standard input failed, where it did.
+///
+/// A program that keeps the numbers of the standard streams ([`begin`](crate::begin)) has a folder in place of an input that is
+/// closed, so it can't tell these two apart.
+pub(crate) fn tell_input<R: Eprint>(rt: &R, program: &str, error: Option<&io::Error>) {
+    let what = "standard input";
+    match error {
+        Some(error) if error.kind() == ErrorKind::IsADirectory => {
+            tell_of(rt, program, what, "it is closed, or a folder");
         }
-        Super::Is(params) => {
-            tell_end(
-                rt,
-                program,
-                path,
-                end,
-                Geometry::of(params.frames()).first_frame,
-            );
+        Some(error) if error.raw_os_error() == Some(NOT_OPEN) => {
+            tell_of(rt, program, what, "it is closed");
         }
-        Super::Not => {}
-        Super::Damaged => {}
+        _ => tell_error(rt, program, what, error),
     }
 }
 
-/// Tells that a volume is of the older version.
-fn tell_old<R: Eprint>(rt: &R, program: &str, path: &str) {
-    let _ = eprintln!(rt;
-        "{program}: {path}: a volume of version 1; mungi NEW migrate {path} copies it into one of today's"
-    );
-}
-
-/// Tells that a file ends before its frame table, if it does.
-fn tell_end<R: Eprint>(rt: &R, program: &str, path: &str, end: Option<u64>, tables: u64) {
-    match end {
-        Some(end) if end < tables => {
-            let _ = eprintln!(rt;
-                "{program}: {path}: the file ends in block {end}, before block {tables}, where its frame table ends: it was cut short"
-            );
+/// Tells why standard output failed, where it did.
+pub(crate) fn tell_output<R: Eprint>(rt: &R, program: &str, error: Option<&io::Error>) {
+    let what = "standard output";
+    match error {
+        Some(error) if error.kind() == ErrorKind::WriteZero => {
+            tell_of(rt, program, what, ONLY_A_PART);
         }
-        _ => {}
-    }
-}
-
-/// What the superblock of a disk spells.
-fn super_of<D: Disk>(disk: &mut D) -> Super {
-    let mut block = [0; BLOCK_SIZE];
-    if SUPER_BLOCK < disk.blocks() && disk.read(SUPER_BLOCK, &mut block).is_ok() {
-        read_super(&block)
-    } else {
-        Super::Not
+        Some(error) if error.raw_os_error() == Some(NOT_OPEN) => {
+            tell_of(rt, program, what, "it is closed");
+        }
+        _ => tell_error(rt, program, what, error),
     }
 }

@@ -1,4 +1,5 @@
 // What is told while a command runs.
+use crate::endings::cause_of;
 use mg_disk::{FileFault, Watch};
 use std::io::Eprint;
 
@@ -81,7 +82,8 @@ impl<'a, R: Eprint> Watch for Notes<'a, R> {
         self.clear();
         if self.task == Task::Side && !self.read_told {
             let (program, path) = (self.program, self.path);
-            let _ = eprintln!(self.rt; "{program}: {path}: a read failed: {fault}");
+            let cause = cause_of(fault);
+            let _ = eprintln!(self.rt; "{program}: {path}: a read failed: {cause}");
             self.read_told = true;
         }
     }
@@ -90,7 +92,8 @@ impl<'a, R: Eprint> Watch for Notes<'a, R> {
         self.clear();
         if self.task == Task::Side && !self.write_told {
             let (program, path) = (self.program, self.path);
-            let _ = eprintln!(self.rt; "{program}: {path}: {fault}; this side is dropped");
+            let cause = cause_of(fault);
+            let _ = eprintln!(self.rt; "{program}: {path}: {cause}; this side is dropped");
             self.write_told = true;
         }
     }

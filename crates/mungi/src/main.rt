@@ -11,16 +11,18 @@
 
 ghost use Rattle.std.specs.Prelude.{◌≡◌, ◌<◌};
 
-mod status_notes;
 mod usage;
 
-use mg_console::{NO_WORDS, Notes, Task, begin, tell_fault, tell_volume, word};
+use mg_console::{
+    NO_WORDS, Notes, Task, begin, mode_of, tell_fault, tell_status, tell_volume, word,
+};
 use mg_disk::{Disk, FileDisk, OneHolder};
 use mg_io::{ReaderSource, Sink, Source, WriterSink};
+use mg_layout::Geometry;
 use mg_migrate_session::{is_migrate, top_migrate};
 use mg_model::Steps;
 use mg_session::{Status, top};
-use status_notes::tell_status;
+use mg_text::read_number;
 use std::alloc::Global;
 use std::io::{Eprint, IsTerminal};
 use std::marker::Brand;
@@ -28,6 +30,7 @@ use std::os::unix::fs::FileExt;
 use std::process::ExitCode;
 use std::rt::Files;
 use std::sync::ledger::{Blank, Ledger};
+use usage::tell_usage;
 
 /// The program's name.
 const NAME: &str = "mungi";
@@ -48,11 +51,15 @@ fn carried_out(rt: &HostRuntime, words: &[String]) -> u8 {
     } else {
         command(rt, words, &mut source, &mut sink)
     };
-    tell_status(rt, words, status, source.error(), sink.error());
+    if status == Status::Usage {
+        tell_usage(rt, words);
+    }
+    tell_status(rt, NAME, status, source.error(), sink.error());
     status.code()
 }
 
-/// The migration of the volume in the file of the third word to that of the first one.
+/// The migration of the volume in the file of the third word to that of the first one. Where this one is made, it has the permissions
+/// of the other.
 fn migrate<R: Files + AllocGlobal + Eprint, K: Sink>(
     rt: &R,
     words: &[String],
@@ -65,6 +72,9 @@ where
     let (path, old_path) = (word(words, 0), word(words, 2));
     let notes = Notes::new(rt, NAME, path, Task::Copy, is_terminal);
     let mut new = FileDisk::watched(rt, path, notes);
+    if let Some(mode) = mode_of(rt, old_path) {
+        new.set_mode(mode);
+    }
     let mut old = FileDisk::reader(rt, old_path);
     let status = top_migrate(rt.alloc(), words, &mut new, &mut old, sink);
     if status == Status::Disk {
@@ -74,7 +84,7 @@ where
     status
 }
 
-/// Every other command, on the file of the first word. `check` only reads it.
+/// Every other command, on the file of the first word. `check` only reads it, and `format` gives it the length of its volume.
 fn command<R: Files + AllocGlobal + Eprint, S: Source, K: Sink>(
     rt: &R,
     words: &[String],
@@ -90,12 +100,29 @@ where
     } else {
         FileDisk::new(rt, path)
     };
+    let made = blocks_made(words);
+    if let Some(blocks) = made {
+        disk.set_length(blocks);
+    }
     let status = run::<_, _, _, Brand>(rt.alloc(), words, &mut disk, source, sink, Blank::new(1));
     if status == Status::Disk {
         tell_fault(rt, NAME, path, disk.fault());
     }
-    tell_volume(rt, NAME, path, &mut disk, status == Status::NoVolume);
+    if made.is_none() {
+        tell_volume(rt, NAME, path, &mut disk, status == Status::NoVolume);
+    }
     status
+}
+
+/// How many blocks the volume has that the words ask to make; none where they ask for none.
+fn blocks_made(words: &[String]) -> Option<u64> {
+    if word(words, 1) != "format" {
+        return None;
+    }
+    match read_number(word(words, 2).as_bytes()) {
+        Some(frames) if 16 <= frames && frames <= 65_536 => Some(Geometry::of(frames).total),
+        _ => None,
+    }
 }
 
 /// The top call, with a count of steps of its own.

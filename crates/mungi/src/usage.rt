@@ -1,7 +1,6 @@
 // Which word is at fault where the words spell no command.
 use crate::NAME;
-use crate::status_notes::tell;
-use mg_text::read_number;
+use mg_console::{is_told, tell, tell_lines};
 use std::io::Eprint;
 
 /// What the program can be asked.
@@ -19,32 +18,31 @@ const DIGITS: usize = 64;
 
 /// Tells what the program can be asked, and which word is at fault where one can be named.
 pub(crate) fn tell_usage<R: Eprint>(rt: &R, words: &[String]) {
-    for line in SYNOPSIS {
-        let _ = eprintln!(rt; "{line}");
-    }
+    tell_lines(rt, &SYNOPSIS);
     match words.split_first() {
-        None => tell(rt, "no VOLUME is given"),
+        None => tell(rt, NAME, "no VOLUME is given"),
         Some((_, rest)) => match rest.split_first() {
-            None => tell(rt, "no command is given"),
+            None => tell(rt, NAME, "no command is given"),
             Some((command, rest)) => tell_command(rt, command.as_str(), rest),
         },
     }
 }
 
-/// Tells what is at fault of a command with these words behind it.
+/// Tells what is at fault of a command and the words after it.
 fn tell_command<R: Eprint>(rt: &R, command: &str, rest: &[String]) {
     if command == "dry" {
         tell_settings(rt, rest, false);
     } else if command == "format" {
         tell_settings(rt, rest, true);
     } else if command == "check" {
-        tell(rt, "check has no word behind it");
+        tell(rt, NAME, "check takes no word");
     } else if command == "run" {
         tell_batch(rt, rest);
     } else if command == "migrate" {
         tell(
             rt,
-            "migrate has one word behind it, OLD, and OLD is not VOLUME",
+            NAME,
+            "migrate takes one word, OLD, and OLD is not VOLUME",
         );
     } else if command == "gen" {
         tell_run(rt, rest);
@@ -53,29 +51,29 @@ fn tell_command<R: Eprint>(rt: &R, command: &str, rest: &[String]) {
     }
 }
 
-/// Tells what is at fault of the words behind `run`.
+/// Tells what is at fault of the words after `run`.
 fn tell_batch<R: Eprint>(rt: &R, rest: &[String]) {
     match rest {
         [batch] => {
-            let _ = is_told(rt, "BATCH", batch.as_str(), 1, 64);
+            let _ = is_told(rt, NAME, "BATCH", batch.as_str(), 1, 64);
         }
-        _ => tell(rt, "run has at most one word behind it, BATCH"),
+        _ => tell(rt, NAME, "run takes at most one word, BATCH"),
     }
 }
 
-/// Tells what is at fault of the words behind `gen`.
+/// Tells what is at fault of the words after `gen`.
 fn tell_run<R: Eprint>(rt: &R, rest: &[String]) {
     match rest {
         [number, lines] => {
-            if !is_told(rt, "NUMBER", number.as_str(), 0, u64::MAX) {
-                let _ = is_told(rt, "LINES", lines.as_str(), 0, 1_000_000);
+            if !is_told(rt, NAME, "NUMBER", number.as_str(), 0, u64::MAX) {
+                let _ = is_told(rt, NAME, "LINES", lines.as_str(), 0, 1_000_000);
             }
         }
-        _ => tell(rt, "gen has two words behind it, NUMBER and LINES"),
+        _ => tell(rt, NAME, "gen takes two words, NUMBER and LINES"),
     }
 }
 
-/// Tells what is at fault of the words behind `dry` or `format`.
+/// Tells what is at fault of the words after `dry` or `format`.
 fn tell_settings<R: Eprint>(rt: &R, rest: &[String], has_tariff: bool) {
     match rest {
         [frames, seed, credits] => {
@@ -85,23 +83,25 @@ fn tell_settings<R: Eprint>(rt: &R, rest: &[String], has_tariff: bool) {
             if !is_setting_told(rt, frames.as_str(), seed.as_str(), credits.as_str()) {
                 tell(
                     rt,
+                    NAME,
                     "a tariff has four steps F:R, the first from 0 pages on, each from more than the one before; no number is above 1048576",
                 );
             }
         }
         _ if has_tariff => tell(
             rt,
-            "format has three words behind it, FRAMES SEED CREDITS, and then four steps F:R or none",
+            NAME,
+            "format takes three words, FRAMES SEED CREDITS, and then four steps F:R or none",
         ),
-        _ => tell(rt, "dry has three words behind it, FRAMES SEED CREDITS"),
+        _ => tell(rt, NAME, "dry takes three words, FRAMES SEED CREDITS"),
     }
 }
 
 /// Whether one of these is at fault, which is then told.
 fn is_setting_told<R: Eprint>(rt: &R, frames: &str, seed: &str, credits: &str) -> bool {
-    is_told(rt, "FRAMES", frames, 16, 65_536)
+    is_told(rt, NAME, "FRAMES", frames, 16, 65_536)
         || is_seed_told(rt, seed)
-        || is_told(rt, "CREDITS", credits, 0, 1 << 62)
+        || is_told(rt, NAME, "CREDITS", credits, 0, 1 << 62)
 }
 
 /// Whether a seed is at fault, which is then told.
@@ -112,25 +112,12 @@ fn is_seed_told<R: Eprint>(rt: &R, seed: &str) -> bool {
         return true;
     }
     if !seed.as_bytes().iter().all(|byte| byte.is_ascii_hexdigit()) {
-        tell(rt, "SEED has a character that is no hexadecimal digit");
+        tell(
+            rt,
+            NAME,
+            "SEED has a character that is no hexadecimal digit",
+        );
         return true;
     }
     false
-}
-
-/// Whether a number is at fault, which is then told: no number, or outside these two.
-fn is_told<R: Eprint>(rt: &R, name: &str, word: &str, least: u64, most: u64) -> bool {
-    match read_number(word.as_bytes()) {
-        None => {
-            let _ = eprintln!(rt; "{NAME}: {name} is no number: {word}");
-            true
-        }
-        Some(number) if number < least || number > most => {
-            let _ = eprintln!(rt;
-                "{NAME}: {name} is {number}, and has to be from {least} to {most}"
-            );
-            true
-        }
-        Some(_) => false,
-    }
 }

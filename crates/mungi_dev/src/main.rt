@@ -9,9 +9,14 @@
 
 ghost use Rattle.std.specs.Prelude.{◌≡◌, ◌<◌};
 
-mod status_notes;
+mod bases;
+mod usage;
 
-use mg_console::{NO_WORDS, Notes, Task, begin, tell_fault, tell_volume, word};
+use bases::tell_bases;
+use mg_console::{
+    NO_WORDS, Notes, Task, are_one_file, begin, mode_of, tell, tell_fault, tell_status,
+    tell_volume, word,
+};
 use mg_disk::{Disk, FileDisk, OneHolder};
 use mg_io::{ReaderSource, Sink, Source, WriterSink};
 use mg_mirror_session::{Mirrored, top_mirror};
@@ -19,7 +24,6 @@ use mg_model::Steps;
 use mg_session::Status;
 use mg_window::{Console, Counter, Device, Latch, Windows};
 use mg_window_session::{read_words, top_dev};
-use status_notes::{tell_bases, tell_status};
 use std::alloc::{AllocError, Global};
 use std::io::{Eprint, IsTerminal};
 use std::marker::Brand;
@@ -27,6 +31,7 @@ use std::os::unix::fs::FileExt;
 use std::process::ExitCode;
 use std::rt::Files;
 use std::sync::ledger::{Blank, Ledger};
+use usage::tell_usage;
 
 /// The program's name.
 const NAME: &str = "mungi_dev";
@@ -50,7 +55,10 @@ fn carried_out(rt: &HostRuntime, words: &[String]) -> u8 {
     } else {
         on_devices(rt, words, &mut source, &mut sink)
     };
-    tell_status(rt, status, source.error(), sink.error());
+    if status == Status::Usage {
+        tell_usage(rt, words);
+    }
+    tell_status(rt, NAME, status, source.error(), sink.error());
     status.code()
 }
 
@@ -127,7 +135,8 @@ where
     status
 }
 
-/// Runs lines on the volume in the files of the first word and the third one. Which side failed is told by the notes on it.
+/// Runs lines on the volume in the files of the first word and the third one. Which side failed is told by the notes on it. Where a
+/// file is made, it has the permissions of the other one.
 fn on_sides<R: Files + AllocGlobal + Eprint, S: Source, K: Sink>(
     rt: &R,
     words: &[String],
@@ -139,17 +148,36 @@ where
     R::File: FileExt + OneHolder,
 {
     let (left_path, right_path) = (word(words, 0), word(words, 2));
-    let left_notes = Notes::new(rt, NAME, left_path, Task::Side, is_terminal);
-    let right_notes = Notes::new(rt, NAME, right_path, Task::Side, is_terminal);
-    let left = FileDisk::watched(rt, left_path, left_notes);
-    let right = FileDisk::watched(rt, right_path, right_notes);
+    if left_path != right_path && are_one_file(rt, left_path, right_path) {
+        tell(rt, NAME, "LEFT and RIGHT are one file");
+    }
+    let left = side(rt, left_path, right_path, is_terminal);
+    let right = side(rt, right_path, left_path, is_terminal);
     let blank = Blank::new(1);
     let ended = mirror::<_, _, _, _, Brand>(rt.alloc(), words, left, right, source, sink, blank);
     side_told(rt, words, ended)
 }
 
+/// A side of a mirror in the file at `path`. Where it is made, it has the permissions of the other one.
+fn side<'a, R: Files + Eprint>(
+    rt: &'a R,
+    path: &'a str,
+    other_path: &str,
+    is_terminal: bool,
+) -> FileDisk<'a, R, Notes<'a, R>>
+where
+    R::File: FileExt + OneHolder,
+{
+    let notes = Notes::new(rt, NAME, path, Task::Side, is_terminal);
+    let mut disk = FileDisk::watched(rt, path, notes);
+    if let Some(mode) = mode_of(rt, other_path) {
+        disk.set_mode(mode);
+    }
+    disk
+}
+
 /// Tells what only the file on SIDE shows, and gives the status.
-fn side_told<R: Files + Eprint>(
+fn side_told<R: Files + AllocGlobal + Eprint>(
     rt: &R,
     words: &[String],
     ended: Mirrored<FileDisk<'_, R, Notes<'_, R>>, FileDisk<'_, R, Notes<'_, R>>>,

@@ -1,0 +1,137 @@
+// Where a volume is damaged.
+ghost use Rattle.std.specs.Prelude.{◌≡◌, ◌≤◌};
+ghost use Rattle.mg_disk.specs.Disk.{file_blocks};
+
+use crate::endings::tell_of;
+use mg_disk::{BLOCK_SIZE, Block, Disk, FileDisk, OneHolder, Watch};
+use mg_journal::{View, ViewFault};
+use mg_layout::{
+    BLOCK_WORDS, FIRST_ACCOUNT_BLOCK, FIRST_OBJECT_BLOCK, FIRST_THREAD_BLOCK, GLOBALS_BLOCK,
+    Geometry, TABLE_BLOCK, are_zeros,
+};
+use mg_model::Params;
+use mg_rows::{account_in, object_in, read_globals, read_thread};
+use std::io::Eprint;
+use std::os::unix::fs::FileExt;
+use std::rt::Files;
+
+/// Tells what is damaged of a volume with these settings that was refused: its journal, or the first block with a row that is not
+/// well formed, or else a rule between rows. Nothing is told where a read fails, or memory is wanting. It writes nothing.
+pub(crate) fn tell_damage<R: AllocGlobal + Eprint, F: Files, W: Watch>(
+    rt: &R,
+    program: &str,
+    path: &str,
+    disk: &mut FileDisk<'_, F, W>,
+    params: &Params,
+)
+where
+    F::File: FileExt + OneHolder,
+{
+    let total = Geometry::of(params.frames()).total;
+    if total > disk.blocks() || total < GLOBALS_BLOCK {
+        return;
+    }
+    match View::look(rt.alloc(), disk, total) {
+        Ok(view) => tell_rows(rt, program, path, disk, &view, params, total),
+        Err(ViewFault::Damaged) => {
+            tell_of(
+                rt,
+                program,
+                path,
+                "the journal is damaged: an open segment can't be replayed",
+            );
+        }
+        Err(ViewFault::Disk) => {}
+        Err(ViewFault::Memory) => {}
+    }
+}
+
+/// Tells the first block with a row that is not well formed, or that each one is.
+fn tell_rows<R: Eprint, F: Files, W: Watch>(
+    rt: &R,
+    program: &str,
+    path: &str,
+    disk: &mut FileDisk<'_, F, W>,
+    view: &View,
+    params: &Params,
+    total: u64,
+)
+where
+    F::File: FileExt + OneHolder,
+    requires total { view.now.total ≡ total }
+    requires within_disk { total ≤ file_blocks }
+{
+    let end = Geometry::of(params.frames()).first_frame.min(total);
+    for i in GLOBALS_BLOCK..end {
+        let mut block = [0; BLOCK_SIZE];
+        if view.read(disk, i, &mut block).is_err() {
+            return;
+        }
+        if !is_spelled(i, &block, params.frames()) {
+            let part = part_of(i);
+            let _ = eprintln!(rt; "{program}: {path}: block {i}, {part}, is damaged");
+            return;
+        }
+    }
+    tell_of(
+        rt,
+        program,
+        path,
+        "each row is well formed, but a rule between rows is broken",
+    );
+}
+
+/// What lies in a block behind the journal.
+fn part_of(i: u64) -> &'static str {
+    if i < FIRST_ACCOUNT_BLOCK {
+        "the counters"
+    } else if i < FIRST_THREAD_BLOCK {
+        "in the table of accounts"
+    } else if i < FIRST_OBJECT_BLOCK {
+        "in the table of threads"
+    } else if i < TABLE_BLOCK {
+        "in the table of objects"
+    } else {
+        "in the frame table"
+    }
+}
+
+/// Whether each row is well formed that lies in this block behind the journal, of a volume of so many frames.
+fn is_spelled(i: u64, block: &Block, frames: u64) -> bool {
+    if i < FIRST_ACCOUNT_BLOCK {
+        read_globals(block).is_some()
+    } else if i < FIRST_THREAD_BLOCK {
+        are_accounts(block)
+    } else if i < FIRST_OBJECT_BLOCK {
+        read_thread(block).is_some()
+    } else if i < TABLE_BLOCK {
+        are_objects(block)
+    } else {
+        is_table(i - TABLE_BLOCK, block, frames)
+    }
+}
+
+fn are_accounts(block: &Block) -> bool {
+    for j in 0..64 {
+        if account_in(block, j).is_none() {
+            return false;
+        }
+    }
+    true
+}
+
+fn are_objects(block: &Block) -> bool {
+    for j in 0..4 {
+        if object_in(block, j).is_none() {
+            return false;
+        }
+    }
+    true
+}
+
+/// Whether a block of the frame table has no entry behind that of the last frame.
+fn is_table(i: u64, block: &Block, frames: u64) -> bool {
+    let first = i.saturating_mul(BLOCK_WORDS);
+    let entries = frames.saturating_sub(first).min(BLOCK_WORDS);
+    are_zeros(&block[entries as usize * 8..])
+}

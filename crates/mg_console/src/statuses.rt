@@ -1,0 +1,49 @@
+// What is told of a status.
+use crate::endings::{tell, tell_input, tell_output};
+use mg_serve::Status;
+use std::io::{self, Eprint};
+
+/// Tells why a command on a volume ended with this status, where neither its words nor one of its disks is at fault. The errors are
+/// those that standard input and standard output met.
+pub fn tell_status<R: Eprint>(
+    rt: &R,
+    program: &str,
+    status: Status,
+    read: Option<&io::Error>,
+    written: Option<&io::Error>,
+) {
+    match status {
+        Status::Done => {}
+        Status::Usage => {}
+        Status::NoVolume => {}
+        Status::Memory => tell(rt, program, "not enough memory"),
+        Status::Disk => {}
+        Status::Source => tell_input(rt, program, read),
+        Status::Sink => tell_output(rt, program, written),
+        Status::TooLong => tell(rt, program, "standard input has more than 4294967296 bytes"),
+        Status::TooSmall => tell(rt, program, "the disk has too few blocks for the volume"),
+    }
+}
+
+/// Tells why a program that turns an input into a text ended with this status, where its words are not at fault and the input is
+/// none that it told a fault of. The input may have `limit` bytes at most.
+pub fn tell_filter_status<R: Eprint>(
+    rt: &R,
+    program: &str,
+    status: mg_filter::Status,
+    limit: u64,
+    read: Option<&io::Error>,
+    written: Option<&io::Error>,
+) {
+    match status {
+        mg_filter::Status::Done => {}
+        mg_filter::Status::Fault => {}
+        mg_filter::Status::Usage => {}
+        mg_filter::Status::Memory => tell(rt, program, "not enough memory"),
+        mg_filter::Status::Source => tell_input(rt, program, read),
+        mg_filter::Status::Sink => tell_output(rt, program, written),
+        mg_filter::Status::TooLong => {
+            let _ = eprintln!(rt; "{program}: standard input has more than {limit} bytes");
+        }
+    }
+}

@@ -1,0 +1,98 @@
+// What is told of the file of a volume.
+use crate::damage::tell_damage;
+use crate::endings::tell_of;
+use mg_disk::{BLOCK_SIZE, Disk, FileDisk, Found, OneHolder, Watch};
+use mg_layout::{GATE_BLOCK, GATE_OPEN, Geometry, SUPER_BLOCK, Super, read_super};
+use mg_model::Params;
+use std::io::Eprint;
+use std::os::unix::fs::FileExt;
+use std::rt::Files;
+
+/// Tells what only the file of a volume shows, a line each: that there was none; that it is shorter than its volume was when it was
+/// opened; and where `is_refused` says that the command took no volume there, that it is of an older version, which `migrate`
+/// takes, or what of it is damaged.
+pub fn tell_volume<R: AllocGlobal + Eprint, F: Files, W: Watch>(
+    rt: &R,
+    program: &str,
+    path: &str,
+    disk: &mut FileDisk<'_, F, W>,
+    is_refused: bool,
+)
+where
+    F::File: FileExt + OneHolder,
+{
+    let found = match disk.found() {
+        Some(found) => found,
+        None => {
+            if is_refused {
+                tell_of(rt, program, path, "there is no such file");
+            }
+            return;
+        }
+    };
+    match super_of(disk) {
+        Super::Not => tell_made(rt, program, path, found),
+        Super::Old => {
+            if is_refused {
+                tell_old(rt, program, path);
+            }
+        }
+        Super::Damaged => {
+            if is_refused {
+                tell_of(rt, program, path, "block 1, the superblock, is damaged");
+            }
+        }
+        Super::Is(params) => {
+            tell_cut(rt, program, path, found, &params);
+            if is_refused {
+                tell_damage(rt, program, path, disk, &params);
+            }
+        }
+    }
+}
+
+/// Tells that a file was made, if it was.
+fn tell_made<R: Eprint>(rt: &R, program: &str, path: &str, found: Found) {
+    if found.is_new {
+        tell_of(
+            rt,
+            program,
+            path,
+            "there was no such file; an empty one was made",
+        );
+    }
+}
+
+/// Tells that a volume is of the older version.
+fn tell_old<R: Eprint>(rt: &R, program: &str, path: &str) {
+    let _ = eprintln!(rt;
+        "{program}: {path}: a volume of version 1; mungi NEW migrate {path} copies it into one of today's"
+    );
+}
+
+/// Tells that the file of a volume was shorter than the volume, if it was.
+fn tell_cut<R: Eprint>(rt: &R, program: &str, path: &str, found: Found, params: &Params) {
+    let whole = Geometry::of(params.frames())
+        .total
+        .saturating_mul(BLOCK_SIZE as u64);
+    match found.bytes {
+        Some(bytes) if bytes < whole => {
+            let _ = eprintln!(rt;
+                "{program}: {path}: the file has {bytes} bytes, and its volume {whole}: it was cut short, or made by an older program; what lies past its end reads as zeros"
+            );
+        }
+        _ => {}
+    }
+}
+
+/// What the superblock of a disk spells whose gate is open; of any other that it is no volume.
+fn super_of<D: Disk>(disk: &mut D) -> Super {
+    let mut block = [0; BLOCK_SIZE];
+    if disk.blocks() <= SUPER_BLOCK || disk.read(GATE_BLOCK, &mut block).is_err() {
+        return Super::Not;
+    }
+    if block[0] != GATE_OPEN || disk.read(SUPER_BLOCK, &mut block).is_err() {
+        return Super::Not;
+    }
+    read_super(&block)
+}

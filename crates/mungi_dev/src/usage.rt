@@ -1,0 +1,99 @@
+// Which word is at fault where the words spell no command.
+use crate::NAME;
+use mg_console::{tell, tell_lines};
+use mg_window_session::read_device;
+use std::io::Eprint;
+
+/// What the program can be asked.
+const SYNOPSIS: [&str; 4] = [
+    "usage: mungi_dev LEFT mirror RIGHT SIDE",
+    "       mungi_dev VOLUME dev [KIND:BASE ..]",
+    "LEFT and RIGHT are two files; SIDE, left or right, names the one that is copied over the other",
+    "KIND is latch, console or counter, BASE the address of an object; up to 16, no address twice",
+];
+
+/// How many devices a volume can have.
+const DEVICE_LIMIT: usize = 16;
+
+/// Tells what the program can be asked, and which word is at fault.
+pub(crate) fn tell_usage<R: Eprint>(rt: &R, words: &[String]) {
+    tell_lines(rt, &SYNOPSIS);
+    match words {
+        [] => tell(rt, NAME, "no file is given"),
+        [_] => tell(rt, NAME, "no command is given"),
+        [left, command, rest @ ..] => tell_command(rt, left.as_str(), command.as_str(), rest),
+    }
+}
+
+/// Tells what is at fault of a command, the word before it and the words after it.
+fn tell_command<R: Eprint>(rt: &R, left: &str, command: &str, rest: &[String]) {
+    if command == "mirror" {
+        tell_mirror(rt, left, rest);
+    } else if command == "dev" {
+        tell_devices(rt, rest);
+    } else {
+        let _ = eprintln!(rt; "{NAME}: {command} is no command");
+    }
+}
+
+/// Tells what is at fault of the words before and after `mirror`.
+fn tell_mirror<R: Eprint>(rt: &R, left: &str, rest: &[String]) {
+    match rest {
+        [right, side] => {
+            if right.as_str() == left {
+                tell(rt, NAME, "LEFT and RIGHT are one file");
+            } else {
+                let side = side.as_str();
+                let _ = eprintln!(rt; "{NAME}: SIDE is {side}, and has to be left or right");
+            }
+        }
+        _ => tell(rt, NAME, "mirror takes two words, RIGHT and SIDE"),
+    }
+}
+
+/// Tells which of the words after `dev` is at fault.
+fn tell_devices<R: Eprint>(rt: &R, devices: &[String]) {
+    let count = devices.len();
+    if count > DEVICE_LIMIT {
+        let _ = eprintln!(rt;
+            "{NAME}: {count} devices are asked for, and {DEVICE_LIMIT} is the most"
+        );
+        return;
+    }
+    for (place, device) in devices.iter().enumerate() {
+        if is_device_told(rt, device, &devices[..place]) {
+            return;
+        }
+    }
+}
+
+/// Whether this word for a device is at fault, which is then told. Others are before it.
+fn is_device_told<R: Eprint>(rt: &R, word: &String, others: &[String]) -> bool {
+    let text = word.as_str();
+    match read_device(word) {
+        None => {
+            let _ = eprintln!(rt;
+                "{NAME}: {text} is no device: KIND:BASE is wanted, with the KIND latch, console or counter, and a number as BASE"
+            );
+            true
+        }
+        Some((_, base)) => {
+            let is_taken = is_base_of(base, others);
+            if is_taken {
+                let _ = eprintln!(rt; "{NAME}: {text} has the BASE of a device before it");
+            }
+            is_taken
+        }
+    }
+}
+
+/// Whether one of these words asks for a device at this base.
+fn is_base_of(base: u64, words: &[String]) -> bool {
+    for word in words {
+        match read_device(word) {
+            Some((_, other)) if other == base => return true,
+            _ => {}
+        }
+    }
+    false
+}

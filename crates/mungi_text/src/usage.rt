@@ -1,0 +1,61 @@
+// Which word is at fault where the words spell no command.
+use crate::NAME;
+use mg_console::{is_address_told, is_told, tell, tell_lines};
+use mg_document::BYTE_LIMIT;
+use std::io::Eprint;
+
+/// What the program can be asked, after the line `usage`.
+const SYNOPSIS: [&str; 3] = [
+    "       mungi_text put THREAD ADDRESS",
+    "       mungi_text get THREAD ADDRESS BYTES",
+    "       mungi_text bytes",
+];
+
+/// Tells what the program can be asked, and which word is at fault.
+pub(crate) fn tell_usage<R: Eprint>(rt: &R, words: &[String]) {
+    tell_lines(rt, &SYNOPSIS);
+    match words.split_first() {
+        None => tell(rt, NAME, "no command is given"),
+        Some((command, rest)) => tell_command(rt, command.as_str(), rest),
+    }
+}
+
+/// Tells what is at fault of a command and the words after it.
+fn tell_command<R: Eprint>(rt: &R, command: &str, rest: &[String]) {
+    if command == "put" {
+        tell_put(rt, rest);
+    } else if command == "get" {
+        tell_get(rt, rest);
+    } else if command == "bytes" {
+        tell(rt, NAME, "bytes takes no word");
+    } else {
+        let _ = eprintln!(rt; "{NAME}: {command} is no command");
+    }
+}
+
+/// Tells what is at fault of the words after `put`.
+fn tell_put<R: Eprint>(rt: &R, rest: &[String]) {
+    match rest {
+        [thread, address] => {
+            let _ = is_place_told(rt, thread.as_str(), address.as_str());
+        }
+        _ => tell(rt, NAME, "put takes two words, THREAD and ADDRESS"),
+    }
+}
+
+/// Tells what is at fault of the words after `get`.
+fn tell_get<R: Eprint>(rt: &R, rest: &[String]) {
+    match rest {
+        [thread, address, bytes] => {
+            if !is_place_told(rt, thread.as_str(), address.as_str()) {
+                let _ = is_told(rt, NAME, "BYTES", bytes.as_str(), 0, BYTE_LIMIT);
+            }
+        }
+        _ => tell(rt, NAME, "get takes three words, THREAD, ADDRESS and BYTES"),
+    }
+}
+
+/// Whether one of these is at fault, which is then told.
+fn is_place_told<R: Eprint>(rt: &R, thread: &str, address: &str) -> bool {
+    is_told(rt, NAME, "THREAD", thread, 0, u64::MAX) || is_address_told(rt, NAME, address)
+}
