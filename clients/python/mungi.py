@@ -10,6 +10,9 @@
         reader = document.grant("R", until=3)
         reader.revoke()
 
+Python finds this file where its folder is on the path of modules, as in `PYTHONPATH=clients/python python3 program.py`. The program `mungi` is
+the one that the environment variable MUNGI names, or the one of the path, or else the script at the top of the repository.
+
 A `Machine` runs `mungi VOLUME run BATCH` and holds the volume until it is closed. Every value that a method returns was durable before it
 was returned. A refused call raises the exception of its refusal, such as `Denied`, and has changed nothing. A program that ended early
 raises `Ended`, which tells which lines were answered.
@@ -30,6 +33,7 @@ from __future__ import annotations
 
 import collections
 import contextlib
+import errno
 import functools
 import os
 import secrets
@@ -38,6 +42,7 @@ import selectors
 import shutil
 import subprocess
 import tempfile
+import warnings
 from pathlib import Path
 from typing import Callable, Iterable, NamedTuple
 
@@ -223,6 +228,27 @@ class ListIsFull(Exception):
     """The capability list has 255 entries. Nothing was changed."""
 
 
+class ListPage(ValueError):
+    """The address lies in a page that is a capability list, and the call does not say `into_list=True`. Nothing was sent. A store there can
+    take rights away for ever: `store` of 0 to the root's first word locks thread 1 out of all that it has."""
+
+
+class BackupFailed(Exception):
+    """The script `backup` made no good copy; the text is what it said. The volume is as it was."""
+
+
+class VolumeWarning(UserWarning):
+    """What the program said on standard error about a volume's file while it went on."""
+
+
+class CutShort(VolumeWarning):
+    """The file is shorter than its volume: its end is missing, and what lay there reads as zeros."""
+
+
+class SideDropped(VolumeWarning):
+    """Of a volume in two files one failed, and the run goes on with the other alone."""
+
+
 class Capability(NamedTuple):
     """The base of an object and a password of it. Both together, in a list that a thread uses, give the thread a right."""
 
@@ -300,26 +326,83 @@ class Fresh(NamedTuple):
     treasury: int
 
 
+class Unreached(NamedTuple):
+    """An object on which no thread has a right now. It costs its account rent all the same.
+
+    - `password` is one of its passwords that gives D now, or None where none does.
+    - `is_named` says whether some slot, extension, or two words in a row name it by one of its passwords: then a thread may come to it
+      again, for instance behind a door, or by `ret`. Where it is not named, only who noted its password elsewhere can.
+    """
+
+    base: int
+    pages: int
+    account: int
+    password: int | None
+    is_named: bool
+
+
 # Starting the program
 
 
-def default_program() -> str:
-    """The program `mungi` of the path, or else the script `mungi` two folders above this file, which builds the program if it is not built:
-    that takes long, so build it before. Raises FileNotFoundError where there is neither."""
-    found = shutil.which("mungi")
+def default_program(name: str = "mungi") -> str:
+    """The program `mungi`, or `mungi_dev` or `mungi_show` by its name.
+
+    It is the one that the environment variable MUNGI, MUNGI_DEV or MUNGI_SHOW names; for the last two else the one that lies beside the
+    program that MUNGI names; else the one of the path; else the script of that name two folders above this file. The script builds the
+    program if it is not built, which takes long, so build it before. Raises FileNotFoundError where there is none."""
+    variable = name.upper()
+    told = os.environ.get(variable)
+    if told:
+        found = shutil.which(told)
+        if found is None:
+            raise FileNotFoundError(f"{variable} names {told}, which is no program")
+        return found
+    mungi = os.environ.get("MUNGI")
+    beside = os.path.join(os.path.dirname(mungi), name) if mungi else name
+    found = shutil.which(beside) or shutil.which(name)
     if found is not None:
         return found
-    script = Path(__file__).resolve().parents[2] / "mungi"
+    script = Path(__file__).resolve().parents[2] / name
     if script.is_file():
         return str(script)
-    raise FileNotFoundError("there is no program mungi on the path, and no script mungi two folders above mungi.py")
+    raise FileNotFoundError(f"{variable} names no program {name}, there is none on the path, and no script {name} two folders above mungi.py")
+
+
+def _there(path: str | os.PathLike) -> str:
+    """The name of a volume's file. Raises FileNotFoundError where there is none, so that a wrong name makes no empty file."""
+    if not os.path.exists(path):
+        raise FileNotFoundError(errno.ENOENT, "there is no volume", os.fspath(path))
+    return os.fspath(path)
+
+
+def _look_before_mirror(volume: str, mirror: str, side: str) -> None:
+    """Raises ValueError where both names are one file, and FileExistsError where the copy would write over something else than a volume. A
+    volume is known by its superblock, in block 1; an empty file, or one whose first 256 blocks are zeros, holds nothing."""
+    if os.path.exists(volume) and os.path.exists(mirror) and os.path.samefile(volume, mirror):
+        raise ValueError(f"{volume} and {mirror} are one file: a mirror needs two")
+    other = volume if side == "right" else mirror
+    if os.path.isfile(other):
+        with open(other, "rb") as file:
+            start = file.read(256 * 4096)
+        if start.strip(b"\0") and start[4096:4104] != b"MUNGIVOL":
+            raise FileExistsError(errno.EEXIST, "it holds something that is no volume, and would be written over: remove it first", other)
+
+
+def _warn(said: str, names: Iterable[str], depth: int) -> None:
+    """Hands on what the program said of these files on standard error while it went on. The script that builds it says other things there."""
+    for line in said.splitlines():
+        if any(f": {name}: " in line for name in names):
+            kind = CutShort if "cut short" in line else SideDropped if "drop" in line else VolumeWarning
+            warnings.warn(line, kind, stacklevel=depth + 1)
 
 
 def _put_by(words: list[str], program: str | os.PathLike | None) -> str:
-    """What a command puts that reads no input. Raises Ended where its status is not 0."""
+    """What a command puts that reads no input, and whose first word is the volume. Raises Ended where its status is not 0, and hands on
+    what it said else."""
     done = subprocess.run([program or default_program(), *words], stdin=subprocess.DEVNULL, capture_output=True, text=True, check=False)
     if done.returncode != 0:
         raise Ended(done.returncode, done.stderr, done.stdout.splitlines(), [], [], [])
+    _warn(done.stderr, words[:1], 3)
     return done.stdout
 
 
@@ -352,8 +435,46 @@ def new_volume(
 
 
 def check(path: str | os.PathLike, program: str | os.PathLike | None = None) -> Check:
-    """Tells what the volume in the file `path` holds. It only reads. Raises Ended with status 2 where the file is no volume."""
-    return Check(*(int(word) for word in _put_by([os.fspath(path), "check"], program).split()[1:]))
+    """Tells what the volume in the file `path` holds. It only reads. Raises FileNotFoundError where there is no file, and Ended with status
+    2 where it is no volume, 4 where a run has it. Warns with CutShort where the file is shorter than its volume."""
+    return Check(*(int(word) for word in _put_by([_there(path), "check"], program).split()[1:]))
+
+
+def unreached(path: str | os.PathLike, program: str | os.PathLike | None = None) -> list[Unreached]:
+    """The objects of the volume on which no thread has a right now, in the order of their bases. It only reads; no run may have the volume.
+
+    A kill between a `create` and the store of its entry leaves such an object. docs/CLIENT.md tells how it is taken back. `program` is
+    mungi_show, else that of `default_program`. Raises FileNotFoundError and Ended as `check` does.
+    """
+    show = program or default_program("mungi_show")
+    words = [line.split() for line in _put_by([_there(path), "state"], show).splitlines()]
+    reached = {line.split()[2] for line in _put_by([os.fspath(path), "reach"], show).splitlines() if line.startswith("reach ")}
+    period = next(int(line[1]) for line in words if line[0] == "period")
+    named = _named(words)
+    found = []
+    for at, line in enumerate(words):
+        if line[0] != "object" or line[1] in reached:
+            continue
+        base = int(line[1], 16)
+        rows = []
+        for row in words[at + 1 :]:
+            if row[0] not in ("password", "entry", "extension"):
+                break
+            if row[0] == "password" and (row[3] == "never" or period < int(row[3])):
+                rows.append((int(row[1], 16), row[2]))
+        deletes = [password for password, rights in rows if "D" in rights]
+        is_named = any((base, password) in named for password, _ in rows)
+        found.append(Unreached(base, int(line[2]), int(line[3]), deletes[0] if deletes else None, is_named))
+    return found
+
+
+def _named(words: list[list[str]]) -> set[tuple[int, int]]:
+    """Each base and password that stand together in a state: in a slot or an extension, or in two words in a row."""
+    pairs = {(int(line[1], 16), int(line[2], 16)) for line in words if line[0] in ("slot", "extension")}
+    stored = {int(line[1], 16): int(line[2], 16) for line in words if line[0] == "word"}
+    # A word that is not told is 0, and may be a password too.
+    pairs |= {(value, stored.get(address + WORD_BYTES, 0)) for address, value in stored.items()}
+    return pairs
 
 
 # Lines and answers
@@ -478,7 +599,15 @@ class Machine:
     the program may neither take nor put anything while it is waited for; then it is killed, and Ended is raised with status -9. Without it
     a wait lasts as long as the program runs.
 
-    Raises Ended where the volume can't be opened: status 2 where the file is no volume, 4 where another run has it.
+    With `mirror`, another file, the volume is kept in both, by a run of `mungi_dev VOLUME mirror MIRROR SIDE`; `program` is mungi_dev then, and
+    `batch` 1. `side` names the file that holds the volume: "left" is `volume`, "right" is `mirror`. **The other file is written over
+    first**, with 287 MB, which the opening waits for; one that holds something else than a volume raises FileExistsError. Where one file
+    fails the run goes on with the other: `dropped` says so, and a SideDropped warning.
+
+    Raises FileNotFoundError where there is no file (none is made), and Ended where the volume can't be opened: status 2 where the file is
+    no volume, 4 where another run has it. Warns with CutShort where the file is shorter than its volume; with
+    `warnings.simplefilter("error", mungi.CutShort)` that is raised, and the volume is closed again. Other lines that the program says
+    on standard error while it goes on are warned of as VolumeWarning.
 
     Used in a `with` block the machine is closed behind it.
     """
@@ -489,29 +618,57 @@ class Machine:
         batch: int = 1,
         program: str | os.PathLike | None = None,
         timeout: float | None = None,
+        mirror: str | os.PathLike | None = None,
+        side: str | None = None,
     ):
         if not 1 <= batch <= MOST_BATCH:
             raise ValueError(f"batch is {batch}, and has to be from 1 to {MOST_BATCH}")
+        if mirror is None and side is not None:
+            raise ValueError("side is told, and there is no mirror")
+        if mirror is not None and batch != 1:
+            raise ValueError("with a mirror each line is made durable by itself: batch is 1")
+        if side not in (None, "left", "right"):
+            raise ValueError(f"side is {side!r}, and has to be 'left' or 'right'")
         self.volume = os.fspath(volume)
+        self.mirror = None if mirror is None else os.fspath(mirror)
+        self.side = None if mirror is None else side or "left"
+        # The side of a mirror that was dropped in this run, "left" or "right", or None: known as soon as a call is answered behind it.
+        self.dropped: str | None = None
+        self._program = program
+        # The first pages of objects that are known to be capability lists.
+        self._lists = {ROOT}
         self._batch = batch
         self._timeout = timeout
+        self._block: Batch | None = None
+        self._needs_values = False
+        self._at_once = 1
+        self._open()
+
+    def _open(self) -> None:
+        """Starts the program, and waits until the volume is open."""
+        _there(self.mirror if self.side == "right" else self.volume)
+        self.dropped = None
+        if self.mirror is None:
+            words = [self._program or default_program(), self.volume, "run", str(self._batch)]
+        else:
+            _look_before_mirror(self.volume, self.mirror, self.side)
+            words = [self._program or default_program("mungi_dev"), self.volume, "mirror", self.mirror, self.side]
         # The lines that are not sent yet, and the answers that the program owes, in order; None stands for that of a line that fills.
         self._unsent: collections.deque[tuple[bytes, Answer | None]] = collections.deque()
         self._owed: collections.deque[Answer | None] = collections.deque()
         # The answers of the call or block that is under way.
         self._asked: list[Answer] = []
-        self._block: Batch | None = None
-        self._needs_values = False
-        self._at_once = 1
         self._begun_line = b""
         self._put: list[str] = []
         self._sent_bytes = 0
         self._status: int | None = None
         self._said = ""
+        # How many bytes of standard error were looked at.
+        self._looked = 0
         self._errors = tempfile.TemporaryFile()
         try:
             self._process = subprocess.Popen(
-                [program or default_program(), self.volume, "run", str(batch)],
+                words,
                 bufsize=0,
                 stdin=subprocess.PIPE,
                 stdout=subprocess.PIPE,
@@ -530,8 +687,9 @@ class Machine:
         self._selector.register(self._output, selectors.EVENT_READ)
         self._takes_input = True
         # A batch of lines that change nothing: once they are answered the volume is open.
-        self._fill(batch)
+        self._fill(self._batch)
         self._pump(lambda: not self._unsent and not self._owed)
+        self._look()
 
     def thread(self, number: int) -> Thread:
         """The thread with this number, 1 to 256. Nothing is asked of the machine; a fresh volume has thread 1."""
@@ -595,9 +753,51 @@ class Machine:
             self._end_input()
             with contextlib.suppress(Ended):
                 self._pump(lambda: self._status is not None)
+            if self._status == 0:
+                self._look()
+            for alone, dropped in (("left", "right"), ("right", "left")):
+                if f"alone {alone}" in self._put and self.dropped is None:
+                    self.dropped = dropped
+                    name = self.mirror if dropped == "right" else self.volume
+                    warnings.warn(f"{name}, the {dropped} side, was dropped: the volume is in the {alone} one alone", SideDropped, stacklevel=2)
         if any(answer is not None for answer in self._owed) or any(answer is not None for _, answer in self._unsent):
             raise self._ended()
         return self._status
+
+    def backup(self, path: str | os.PathLike, script: str | os.PathLike | None = None) -> Check:
+        """Copies the volume to the file `path`, which must not be there, and gives what the copy holds. The machine is closed meanwhile, and
+        open again behind it: all that was answered before is in the copy, and nothing else.
+
+        The copy is made by `scripts/backup`, two folders above this file, or by the `script` that is told; its SHA-256 lies beside it, in
+        `path` with `.sha256`. Of a volume in two files the one in use is copied. Raises BackupFailed where there is no good copy, and Ended
+        where the volume can't be closed in order or opened again; another run may have it then.
+        """
+        if self._block is not None:
+            raise RuntimeError("a batch is open: a backup is made between calls")
+        script = Path(script or Path(__file__).resolve().parents[2] / "scripts/backup")
+        if not script.is_file():
+            raise FileNotFoundError(errno.ENOENT, "there is no script backup", str(script))
+        if self.close() != 0:
+            raise self._ended()
+        if self.dropped is not None:
+            # The side that is left holds the newer state, so the next copy goes from it.
+            self.side = "left" if self.dropped == "right" else "right"
+        mungi = os.fspath(self._program) if self._program and self.mirror is None else default_program()
+        source = self.mirror if self.side == "right" else self.volume
+        try:
+            done = subprocess.run(
+                [script, source, os.fspath(path)],
+                stdin=subprocess.DEVNULL,
+                capture_output=True,
+                text=True,
+                check=False,
+                env=dict(os.environ, MUNGI=mungi),
+            )
+        finally:
+            self._open()
+        if done.returncode != 0:
+            raise BackupFailed(done.stderr.strip() or f"backup ended with status {done.returncode}")
+        return Check(*(int(word) for word in done.stdout.split()[1:]))
 
     def kill(self) -> None:
         """Kills the program. All that was answered is kept. The next call, or `close`, tells what was not answered."""
@@ -641,9 +841,50 @@ class Machine:
         answer = self._ask(line, read)
         return answer if self._gives_answers() else answer.value
 
+    def _guard(self, address: int, into_list: bool) -> None:
+        """Raises ListPage where a store would change a list that is known, and is not asked to."""
+        page = address - address % PAGE_BYTES
+        if page in self._lists and not into_list and address != page + WORD_BYTES:
+            raise ListPage(f"{address:#x} lies in a capability list: use add and remove, or say into_list=True")
+
+    def _made(self, made: Capability, pages: int) -> Capability:
+        """Notes that an object is new: no page of it is a list that was there before."""
+        self._lists.difference_update(range(made.base, made.base + pages * PAGE_BYTES, PAGE_BYTES))
+        return made
+
+    def _listed(self, bases: list[int]) -> list[int]:
+        """Notes that objects are used as lists."""
+        self._lists.update(bases)
+        return bases
+
     def _gives_answers(self) -> bool:
         """Whether a call gives its answer, and not its value."""
         return self._block is not None and not self._needs_values
+
+    def _look(self) -> None:
+        """Hands on what the program said on standard error since the last look. Where a warning is made an error the run ends."""
+        if self._status is None:
+            if os.fstat(self._errors.fileno()).st_size <= self._looked:
+                return
+            said = os.pread(self._errors.fileno(), 1 << 16, self._looked)
+            # A line that is not whole waits.
+            said = said[: said.rfind(b"\n") + 1]
+        else:
+            said = self._said.encode()[self._looked :]
+        self._looked += len(said)
+        text = said.decode("utf-8", "backslashreplace")
+        names = {"left": self.volume, "right": self.mirror} if self.mirror is not None else {"": self.volume}
+        for line in text.splitlines():
+            for side, name in names.items():
+                if side and "drop" in line and f": {name}: " in line:
+                    self.dropped = side
+        try:
+            _warn(text, names.values(), 4)
+        except VolumeWarning:
+            if self._status is None:
+                self._process.kill()
+                self._finish()
+            raise
 
     def _begin(self) -> None:
         """A method of a user begins, unless it is part of a block or of another method: `Ended` then tells of its lines alone."""
@@ -677,6 +918,7 @@ class Machine:
             # However the program cut its batches, the one that has the last line is full behind these.
             self._fill(self._batch - 1)
             self._pump(lambda: last.text is not None)
+            self._look()
 
     def _pump(self, is_done: Callable[[], bool]) -> None:
         """Sends and reads, whichever is possible, until `is_done`. Raises Ended where that will not be."""
@@ -796,15 +1038,20 @@ class Thread:
         """The word at an address. Raises Align, or Denied without R."""
         return self._call(f"load {_hex(address)}", _first)
 
-    def store(self, address: int, value: int) -> None:
-        """The word at an address becomes `value`. Raises Align, or Denied without W."""
+    def store(self, address: int, value: int, into_list: bool = False) -> None:
+        """The word at an address becomes `value`. Raises Align, or Denied without W.
+
+        Raises ListPage where the address lies in the first page of an object that is known to be a capability list, unless `into_list` is
+        true, or it is that page's second word, which the machine does not use. Known are the root, each `CapabilityList` that was made over
+        this machine, and each list that `apdadd` or `apdlist` named."""
+        self._machine._guard(address, into_list)
         return self._call(f"store {_hex(address)} {_number(value)}", _nothing)
 
     def create(self, pages: int, account: int, password: int) -> Capability:
         """Makes an object of 1 to 1,024 pages, all zeros, which this account pays for: its base, and a password with all rights. No list
         names it yet, so no thread can use it: see `Home.create`. Raises Size, Account, Debt, Limit, Full."""
         words = f"create {_number(pages)} {_number(account)} {_hex(password)}"
-        return self._call(words, lambda words: Capability(*_numbers(words)))
+        return self._call(words, lambda words: self._machine._made(Capability(*_numbers(words)), pages))
 
     def delete(self, base: int) -> None:
         """The object is gone. Raises Denied without D."""
@@ -839,6 +1086,7 @@ class Thread:
 
     def apdadd(self, list_base: int, list_password: int) -> int:
         """Adds a slot to the thread's domain, which is not tested: its place, from 0. Raises SlotFull."""
+        self._machine._lists.add(list_base - list_base % PAGE_BYTES)
         return self._call(f"apdadd {_hex(list_base)} {_hex(list_password)}", _first)
 
     def apddel(self, slot: int) -> None:
@@ -847,7 +1095,7 @@ class Thread:
 
     def apdlist(self) -> list[int]:
         """The bases of the slots' lists."""
-        return self._call("apdlist", lambda words: _numbers(words[1:]))
+        return self._call("apdlist", lambda words: self._machine._listed(_numbers(words[1:])))
 
     def pdx(self, address: int, mask: int) -> int:
         """Enters an object at an entry, keeping slot j where bit j of `mask` is 1, 0 to 255: the number of frames. Raises Align, Denied
@@ -938,17 +1186,21 @@ class Object:
         self.base = base
         self.password = password
         self._machine = thread._machine
+        # How many pages it has, once they were asked for. An object never grows or shrinks.
+        self._pages: int | None = None
 
     def __repr__(self):
         return f"<{type(self).__name__} {self.base:#x} of {self.thread!r}>"
 
     def load(self, offset: int) -> int:
-        """The word at `offset` bytes from the base, a multiple of 8. Raises Align, Denied."""
-        return self.thread.load(self.base + offset)
+        """The word at `offset` bytes from the base, a multiple of 8. Raises Align, Denied, and ValueError where the offset is none of this
+        object: below 0, or not below its pages' bytes. Behind the first page `info` is asked once for the pages."""
+        return self.thread.load(self._place(offset))
 
-    def store(self, offset: int, value: int) -> None:
-        """The word at `offset` bytes from the base becomes `value`. Raises Align, Denied."""
-        return self.thread.store(self.base + offset, value)
+    def store(self, offset: int, value: int, into_list: bool = False) -> None:
+        """The word at `offset` bytes from the base becomes `value`. Raises Align, Denied, ValueError as `load` does, and ListPage as
+        `Thread.store` does."""
+        return self.thread.store(self._place(offset), value, into_list)
 
     def info(self) -> Info:
         """Tells of the object. Raises Denied."""
@@ -977,13 +1229,16 @@ class Object:
         """The account pays for the object from now on. Raises Denied, Account, Debt."""
         return self.thread.recharge(self.base, purse.number, purse.password)
 
-    def put(self, data: bytes) -> None:
+    def put(self, data: bytes | bytearray | memoryview) -> None:
         """The object holds these bytes, as `get` reads them: their number is its first word, and they follow it, 8 a word, the first byte
         the lowest, with zeros behind the last. An object of n pages has room for 4096 n - 8 bytes; more raise ValueError.
 
         The first word is 0 meanwhile, and becomes the number last. So after a stop in `put` the object holds what it held, nothing
-        (`get` returns b""), or all of the new bytes. Raises Denied without W."""
-        data = bytes(data)
+        (`get` returns b""), or all of the new bytes. Raises Denied without W, TypeError where `data` is no bytes, and ListPage where the
+        object is known to be a capability list."""
+        # (bytes(5) would be five zeros)
+        data = bytes(memoryview(data))
+        self._machine._guard(self.base, False)
         with self._machine._values():
             room = self.info().pages * PAGE_BYTES - WORD_BYTES
         if len(data) > room:
@@ -1002,6 +1257,15 @@ class Object:
             raise ValueError(f"the object holds no bytes of put: its first word is {count}, and it has room for {room} bytes")
         answers = [self._load(WORD_BYTES + at) for at in range(0, count, WORD_BYTES)]
         return b"".join(answer.value.to_bytes(WORD_BYTES, "little") for answer in answers)[:count]
+
+    def _place(self, offset: int) -> int:
+        """The address at `offset` bytes from the base. Raises ValueError where it is none of the object."""
+        if offset >= PAGE_BYTES and self._pages is None:
+            with self._machine._values():
+                self._pages = self.info().pages
+        if not 0 <= offset < PAGE_BYTES * (self._pages or 1):
+            raise ValueError(f"the offset is {offset}, and the object has {PAGE_BYTES * (self._pages or 1)} bytes")
+        return self.base + offset
 
     def _load(self, offset: int) -> Answer:
         return self.thread._ask(f"load {_hex(self.base + offset)}", _first)
@@ -1028,7 +1292,13 @@ class Grant:
 class CapabilityList(Object):
     """An object whose first page is a capability list: a count, a word not used, and up to 255 pairs of a base and a password.
 
-    A thread that has the list in its domain may use what the list names. To change it a thread needs W on the object, to read it R."""
+    A thread that has the list in its domain may use what the list names. To change it a thread needs W on the object, to read it R.
+
+    The second word is for the program's own use: `store(8, number)` needs no `into_list`, and no other store to the page goes without."""
+
+    def __init__(self, thread: Thread, base: int, password: int | None = None):
+        super().__init__(thread, base, password)
+        self._machine._lists.add(base)
 
     @_waits
     def entries(self) -> list[Capability]:
@@ -1084,10 +1354,12 @@ class Home(CapabilityList):
         """Makes an object of 1 to 1,024 pages, all zeros, that the purse pays for, and adds it to the list. Raises Size, Account, Debt,
         Limit, Full, and ListIsFull before anything is made.
 
-        After a stop between the two the object is there and no list names it: it costs rent, and only who noted its password can use it."""
+        After a stop between the two the object is there and no list names it: it costs rent, and only who noted its password can use it.
+        `unreached` finds it."""
         if self._count() == MOST_ENTRIES:
             raise ListIsFull
         made = Object(self.thread, *self.thread.create(pages, self.purse.number, self.purse.password))
+        made._pages = pages
         self.add(made)
         return made
 

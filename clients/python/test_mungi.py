@@ -1,7 +1,8 @@
 """Tests of the client on real volumes in a temporary folder: python3 -m unittest, in this folder.
 
 The program is the one that the environment variable MUNGI names, or else `mungi` of the path, or the built program of this repository.
-Where there is none the tests are skipped. Seeds and bytes are random; each test that fails shows the seed of its volume.
+Where there is none the tests are skipped. So it is with MUNGI_DEV and MUNGI_SHOW and the few tests that need these. Seeds and bytes are
+random.
 """
 
 import os
@@ -15,6 +16,8 @@ import tempfile
 import threading
 import time
 import unittest
+import unittest.mock
+import warnings
 from pathlib import Path
 
 import mungi
@@ -23,18 +26,18 @@ HERE = Path(__file__).resolve().parent
 TOP = HERE.parents[1]
 
 
-def find_program():
-    named = os.environ.get("MUNGI")
+def find_program(name):
+    named = os.environ.get(name.upper())
     if named:
         return named
-    found = shutil.which("mungi")
+    found = shutil.which(name)
     if found is not None:
         return found
-    built = TOP / "crates/mungi/out/mungi"
+    built = TOP / "crates" / name / "out" / name
     return str(built) if built.is_file() else None
 
 
-PROGRAM = find_program()
+PROGRAM, DEV, SHOW = find_program("mungi"), find_program("mungi_dev"), find_program("mungi_show")
 # The most seconds that a wait may take without any answer, so that a test that would hang fails.
 PATIENCE = 30
 
@@ -141,12 +144,12 @@ class Calls(OnVolumes):
         machine, root = self.begin()
         thread = machine.thread(1)
         value = random.getrandbits(64)
-        self.assertIsNone(thread.store(mungi.ROOT + 4088, value))
+        self.assertIsNone(thread.store(mungi.ROOT + 4088, value, into_list=True))
         self.assertEqual(thread.load(mungi.ROOT + 4088), value)
         for refusal, call in (
             (mungi.Align, lambda: thread.load(mungi.ROOT + 4)),
             (mungi.Denied, lambda: thread.load(mungi.ROOT + 4096)),
-            (mungi.Align, lambda: thread.store(mungi.ROOT + 1, 0)),
+            (mungi.Align, lambda: thread.store(mungi.ROOT + 1, 0, into_list=True)),
             (mungi.Denied, lambda: thread.store(8, 0)),
             (mungi.NoThread, lambda: machine.thread(2).load(mungi.ROOT)),
         ):
@@ -344,6 +347,244 @@ class Calls(OnVolumes):
         self.assertEqual(root.info().passwords, 1)
 
 
+class Mistakes(OnVolumes):
+    """What the client refuses before it sends a line, or before it starts a program."""
+
+    def test_offsets_that_are_none_of_the_object(self):
+        machine, root = self.begin(64)
+        first, second = root.create(2), root.create()
+        same = machine.thread(1).object(first)
+        first.store(4096, 7)
+        self.assertEqual((same.load(4096), same.load(8184)), (7, 0))
+        for call in (
+            lambda: first.load(-8),
+            lambda: first.load(8192),
+            lambda: same.store(8192, 1),
+            lambda: machine.thread(1).object(second.base).store(4096, 1),
+            lambda: second.store(-4096, 0),
+            lambda: root.load(-4096),
+        ):
+            with self.assertRaises(ValueError):
+                call()
+        with machine.batch():
+            stored = machine.thread(1).object(first.base).store(4104, 8)
+        self.assertEqual((stored.value, same.load(4104), second.load(0), root.load(0)), (None, 8, 0, 3))
+
+    def test_bytes_that_are_none(self):
+        _, root = self.begin(64)
+        document = root.create()
+        document.put(b"kept")
+        for data in (5, "text", [1, 2], None):
+            with self.assertRaises(TypeError):
+                document.put(data)
+        self.assertEqual(document.get(), b"kept")
+        for data in (bytearray(b"more"), memoryview(b"more")):
+            document.put(data)
+            self.assertEqual(document.get(), b"more")
+
+    def test_pages_of_lists(self):
+        machine, root = self.begin(64)
+        thread, shared, document = machine.thread(1), root.create_list(), root.create()
+        for call in (
+            lambda: root.store(0, 0),
+            lambda: thread.store(mungi.ROOT + 32, 5),
+            lambda: shared.store(4088, 1),
+            lambda: thread.object(shared).store(0, 1),
+            lambda: thread.object(shared).put(b"gone"),
+        ):
+            with self.assertRaises(mungi.ListPage):
+                call()
+        # The second word is free, and what is asked for is done.
+        shared.store(8, 6)
+        shared.store(4088, 7, into_list=True)
+        self.assertEqual((shared.load(8), shared.load(4088), shared.entries()), (6, 7, []))
+        document.store(0, 9)
+        thread.apdadd(document.base, 9)
+        with self.assertRaises(mungi.ListPage):
+            document.store(0, 10)
+        # Where a list is gone, the next object in its place is none.
+        shared.delete()
+        again = root.create()
+        self.assertEqual(again.base, shared.base)
+        again.put(b"a document")
+        self.assertEqual(again.get(), b"a document")
+
+    def test_a_file_that_is_not_there(self):
+        path = self.folder / "typo"
+        for call in (
+            lambda: mungi.Machine(path, program=PROGRAM),
+            lambda: mungi.Machine(self.folder / "new", program=PROGRAM, mirror=path, side="right"),
+            lambda: mungi.check(path, PROGRAM),
+            lambda: mungi.unreached(path, PROGRAM),
+        ):
+            with self.assertRaises(FileNotFoundError):
+                call()
+        self.assertEqual(list(self.folder.iterdir()), [])
+
+    def test_the_program_that_the_environment_names(self):
+        with unittest.mock.patch.dict(os.environ, {"MUNGI": PROGRAM}):
+            self.assertEqual(mungi.default_program(), PROGRAM)
+            path = self.folder / "vol"
+            mungi.new_volume(path, 16, 5)
+            self.assertEqual(mungi.check(path).credits, 5)
+        with unittest.mock.patch.dict(os.environ, {"MUNGI": str(self.folder / "none")}):
+            with self.assertRaises(FileNotFoundError):
+                mungi.default_program()
+        for name in ("mungi", "mungi_show"):
+            (self.folder / name).symlink_to(Path(PROGRAM).resolve())
+        with unittest.mock.patch.dict(os.environ, {"MUNGI": str(self.folder / "mungi"), "MUNGI_SHOW": ""}):
+            self.assertEqual(mungi.default_program("mungi_show"), str(self.folder / "mungi_show"))
+
+    def test_words_for_a_mirror(self):
+        path, _ = self.new()
+        for more in ({"side": "left"}, {"mirror": "b", "batch": 2}, {"mirror": "b", "side": "both"}):
+            with self.assertRaises(ValueError):
+                mungi.Machine(path, program=PROGRAM, **more)
+
+    def test_files_that_a_mirror_does_not_take(self):
+        path, _ = self.new()
+        before, text, link = path.read_bytes(), self.folder / "text", self.folder / "link"
+        text.write_bytes(b"mine")
+        link.symlink_to(path)
+        for first, second, side in ((path, text, "left"), (text, path, "right")):
+            with self.assertRaises(FileExistsError):
+                mungi.Machine(first, program=PROGRAM, mirror=second, side=side)
+        for first, second in ((path, link), (path, path)):
+            with self.assertRaises(ValueError):
+                mungi.Machine(first, program=PROGRAM, mirror=second)
+        self.assertEqual((text.read_bytes(), path.read_bytes()), (b"mine", before))
+
+
+class Keeping(OnVolumes):
+    """Files that were cut, copies, two files, and what nobody reaches."""
+
+    @staticmethod
+    def lengthen(path, frames=64):
+        """Gives a file the whole length of its volume, as `format` does."""
+        os.truncate(path, 4096 * (2595 + (frames + 511) // 512 + frames))
+
+    def test_a_file_that_was_cut_short(self):
+        path, _ = self.new()
+        os.truncate(path, 4096 * 2000)
+        with self.assertWarns(mungi.CutShort) as caught:
+            mungi.check(path, PROGRAM)
+        self.assertIn("cut short", str(caught.warning))
+        with self.assertWarns(mungi.CutShort):
+            self.open(path).close()
+
+    def test_a_warning_that_is_an_error(self):
+        path, _ = self.new()
+        os.truncate(path, 4096 * 2000)
+        with warnings.catch_warnings():
+            warnings.simplefilter("error", mungi.CutShort)
+            with self.assertRaises(mungi.CutShort):
+                with self.open(path):
+                    pass
+        # Nothing holds the file any more.
+        os.truncate(path, 4096 * 1300)
+        with self.assertRaises(mungi.Ended) as caught:
+            self.open(path)
+        self.assertEqual(caught.exception.put, ["open damaged"])
+
+    def test_a_backup_between_calls(self):
+        path, fresh = self.new()
+        self.lengthen(path)
+        machine = self.open(path)
+        root, copy = machine.root(fresh.treasury), self.folder / "copy"
+        document = root.create()
+        document.put(b"first")
+        self.assertEqual(machine.backup(copy).objects, 2)
+        document.put(b"second")
+        self.assertEqual(document.get(), b"second")
+        with self.assertRaises(mungi.BackupFailed) as caught:
+            machine.backup(copy)
+        self.assertIn("is there already", str(caught.exception))
+        self.assertEqual(document.get(), b"second")
+        with machine.batch():
+            with self.assertRaises(RuntimeError):
+                machine.backup(self.folder / "other")
+        self.assertEqual(machine.close(), 0)
+        self.assertEqual(self.open(copy).thread(1).object(document.base).get(), b"first")
+
+    def test_a_backup_of_a_file_that_was_cut(self):
+        path, _ = self.new()
+        self.lengthen(path)
+        with warnings.catch_warnings(), self.open(path) as machine:
+            warnings.simplefilter("ignore", mungi.CutShort)
+            os.truncate(path, os.path.getsize(path) - 4096)
+            with self.assertRaises(mungi.BackupFailed) as caught:
+                machine.backup(self.folder / "copy")
+            self.assertIn("cut short", str(caught.exception))
+        self.assertFalse((self.folder / "copy").exists())
+
+    @unittest.skipIf(DEV is None, "there is no program mungi_dev: set MUNGI_DEV, or build it")
+    def test_two_files(self):
+        path, fresh = self.new()
+        other = self.folder / "other"
+        machine = mungi.Machine(path, program=DEV, mirror=other)
+        self.addCleanup(self.quit, machine)
+        machine.root(fresh.treasury).store(8, 6)
+        self.assertEqual((machine.close(), machine.dropped), (0, None))
+        with self.open(other) as machine:
+            self.assertEqual(machine.thread(1).load(mungi.ROOT + 8), 6)
+        # The other way round, with a file that can't be written.
+        with warnings.catch_warnings(record=True) as caught:
+            warnings.simplefilter("always")
+            machine = mungi.Machine("/dev/full", program=DEV, mirror=other, side="right")
+            self.addCleanup(self.quit, machine)
+            machine.root(fresh.treasury).store(8, 7)
+            self.assertEqual((machine.close(), machine.dropped), (0, "left"))
+        self.assertIn(mungi.SideDropped, {warning.category for warning in caught})
+
+    @unittest.skipIf(SHOW is None, "there is no program mungi_show: set MUNGI_SHOW, or build it")
+    def test_what_nobody_reaches(self):
+        path, fresh = self.new()
+        with self.open(path) as machine:
+            root = machine.root(fresh.treasury)
+            kept, named = root.create(), root.create()
+            kept.store(8, 5)
+            # As a kill between `create` and the store of the entry leaves it.
+            lost = root.thread.create(3, 1, fresh.treasury)
+            # A slot names this one, by a password without R, so nobody has a right there now.
+            root.thread.apdadd(named.base, named.grant("X").password)
+            root.remove(named)
+        found = mungi.unreached(path, SHOW)
+        self.assertEqual(found, [mungi.Unreached(named.base, 1, 1, named.password, True), mungi.Unreached(lost.base, 3, 1, lost.password, False)])
+        self.assertEqual(mungi.check(path, PROGRAM).pages, 6)
+        with self.open(path) as machine:
+            root = machine.root(fresh.treasury)
+            for it in found:
+                if not it.is_named:
+                    root.add(it)
+                    root.thread.delete(it.base)
+                    root.remove(it)
+            self.assertEqual(kept.base, root.entries()[1].base)
+        self.assertEqual([it.base for it in mungi.unreached(path, SHOW)], [named.base])
+        self.assertEqual(mungi.check(path, PROGRAM).pages, 3)
+
+    def test_what_a_debt_does_and_how_it_ends(self):
+        machine, root = self.begin(credits=100)
+        friend = root.purse.open(1)
+        document = root.create(3)
+        document.recharge(friend)
+        document.put(b"still there")
+        machine.rent()
+        self.assertEqual(friend.balance(), mungi.Balance(0, 2, 3))
+        self.assertEqual(document.get(), b"still there")
+        with self.assertRaises(mungi.Debt):
+            root.thread.create(1, friend.number, friend.password)
+        with self.assertRaises(mungi.Debt):
+            root.recharge(friend)
+        # Credits alone end no debt: the next rent does.
+        root.purse.pay(friend, 10)
+        self.assertEqual(friend.balance(), mungi.Balance(10, 2, 3))
+        with self.assertRaises(mungi.Debt):
+            root.thread.create(1, friend.number, friend.password)
+        machine.rent()
+        self.assertEqual(friend.balance(), mungi.Balance(5, 0, 3))
+        self.assertEqual(root.thread.create(1, friend.number, friend.password).base, document.base + 3 * 4096)
+
+
 class Pipes(OnVolumes):
     """What docs/CLIENT.md says of lines and replies, without the client."""
 
@@ -358,8 +599,8 @@ class Pipes(OnVolumes):
 
     def test_a_last_line_without_newline_is_run(self):
         path, _ = self.new()
-        self.assertEqual(self.put_by(path, "1 store 0x100000020 12"), "ok\n")
-        self.assertEqual(self.put_by(path, "1 load 0x100000020"), "ok 0x000000000000000c\n")
+        self.assertEqual(self.put_by(path, "1 store 0x100000008 12"), "ok\n")
+        self.assertEqual(self.put_by(path, "1 load 0x100000008"), "ok 0x000000000000000c\n")
 
     def test_replies_wait_for_a_full_batch(self):
         path, _ = self.new()
@@ -533,9 +774,9 @@ class Rights(OnVolumes):
             shared.remove(wanted[3])
         with machine.batch():
             for place, capability in enumerate(wanted):
-                shared.store(16 + 16 * place, capability.base)
-                shared.store(24 + 16 * place, capability.password)
-            shared.store(0, 1 << 40)
+                shared.store(16 + 16 * place, capability.base, into_list=True)
+                shared.store(24 + 16 * place, capability.password, into_list=True)
+            shared.store(0, 1 << 40, into_list=True)
         self.assertEqual(shared.entries(), wanted)
         with self.assertRaises(mungi.ListIsFull):
             shared.add(wanted[0])
@@ -560,7 +801,7 @@ class Batches(OnVolumes):
             for lines in (1, 10, 4096):
                 machine, root = self.begin(batch)
                 with machine.batch(lines) as block:
-                    stored = [root.store(8 * place, 3 * place) for place in range(8, 58)]
+                    stored = [root.store(8 * place, 3 * place, into_list=True) for place in range(8, 58)]
                     loaded = [root.load(8 * place) for place in range(8, 58)]
                 self.assertEqual([answer.value for answer in stored], [None] * 50)
                 self.assertEqual([answer.value for answer in loaded], [3 * place for place in range(8, 58)])
@@ -588,10 +829,10 @@ class Batches(OnVolumes):
             with machine.batch():
                 root.store(8, 1)
                 machine.thread(1).store(8, 1)
-                root.store(64, 2)
+                root.store(64, 2, into_list=True)
         self.assertEqual((root.load(8), root.load(64)), (1, 2))
         with machine.batch(check=False):
-            refused, stored, line = machine.thread(1).load(3), root.store(72, 4), machine.call("1 laod")
+            refused, stored, line = machine.thread(1).load(3), root.store(72, 4, into_list=True), machine.call("1 laod")
         with self.assertRaises(mungi.Align):
             _ = refused.value
         self.assertEqual((stored.value, root.load(72), line.text), (None, 4, "no Syntax"))
@@ -663,7 +904,7 @@ class Stops(OnVolumes):
     def store_until_it_ends(self, machine, first, count):
         with machine.batch(4096):
             for number in range(first, first + count):
-                machine.thread(1).store(mungi.ROOT + 64 + 8 * (number % self.RING), number)
+                machine.thread(1).store(mungi.ROOT + 64 + 8 * (number % self.RING), number, into_list=True)
 
     def kept(self, path, first):
         """The number k for which the volume holds the stores 1 to k and no others."""
@@ -747,7 +988,7 @@ class Stops(OnVolumes):
             "machine = mungi.Machine(sys.argv[1], 8, sys.argv[2])\n"
             "with machine.batch(100):\n"
             "    for number in range(1, 1_000_000):\n"
-            f"        machine.thread(1).store({mungi.ROOT + 64} + 8 * (number % {self.RING}), number)\n"
+            f"        machine.thread(1).store({mungi.ROOT + 64} + 8 * (number % {self.RING}), number, into_list=True)\n"
             "        if number == 3000: print(flush=True)\n"
         )
         client = subprocess.Popen([sys.executable, "-c", source, path, PROGRAM], stdout=subprocess.PIPE, cwd=HERE)
@@ -861,7 +1102,8 @@ class Tour(OnVolumes):
         if words[0] in ("next", "rent"):
             return getattr(machine, words[0])()
         numbers = [word if word.isalpha() else int(word, 0) for word in words[2:]]
-        return getattr(machine.thread(int(words[0])), words[1])(*numbers)
+        more = {"into_list": True} if words[1] == "store" else {}
+        return getattr(machine.thread(int(words[0])), words[1])(*numbers, **more)
 
     @classmethod
     def flat(cls, value):
@@ -915,21 +1157,54 @@ class Examples(OnVolumes):
         text = (HERE / "examples" / name).read_text().split("It prints\n\n")[1].split('\n"""')[0]
         return "".join(line[4:] + "\n" for line in text.splitlines())
 
-    def test_the_examples_of_the_pages(self):
-        # These find the program on the path.
-        (self.folder / "mungi").symlink_to(Path(PROGRAM).resolve())
-        path = f"{self.folder}:{os.environ['PATH']}"
-        for page, put in ((TOP / "docs/CLIENT.md", "Hello\nHello\n2 info 0x100001000 -> no Denied\n"), (HERE / "mungi.py", "")):
-            lines = page.read_text().splitlines()
-            first = lines.index("    import mungi")
+    def run_by(self, words):
+        """What a Python program puts, which finds the client by PYTHONPATH and the program on the path."""
+        environment = dict(os.environ, PATH=f"{self.folder}:{os.environ['PATH']}", PYTHONPATH=str(HERE), PYTHONDONTWRITEBYTECODE="1")
+        environment.pop("MUNGI", None)
+        if SHOW is not None:
+            environment["MUNGI_SHOW"] = SHOW
+        return subprocess.run([sys.executable, *words], cwd=self.folder, env=environment, capture_output=True, text=True, timeout=PATIENCE, check=False)
+
+    @staticmethod
+    def sources(page):
+        """The programs that a page shows: each begins with `import mungi`."""
+        lines = page.read_text().splitlines()
+        for first in (at for at, line in enumerate(lines) if line == "    import mungi"):
             last = next(at for at in range(first, len(lines)) if lines[at] and not lines[at].startswith("    "))
-            source = "\n".join(line[4:] for line in lines[first:last])
-            environment = dict(os.environ, PATH=path, PYTHONPATH=str(HERE), PYTHONDONTWRITEBYTECODE="1")
-            command = [sys.executable, "-c", source]
-            done = subprocess.run(command, cwd=self.folder, env=environment, capture_output=True, text=True, timeout=PATIENCE, check=False)
-            self.assertEqual((done.returncode, done.stderr, done.stdout), (0, "", put))
+            yield "\n".join(line[4:] for line in lines[first:last])
+
+    def test_the_examples_of_the_pages(self):
+        (self.folder / "mungi").symlink_to(Path(PROGRAM).resolve())
+        sources = list(self.sources(TOP / "docs/CLIENT.md"))
+        puts = ["Hello\nHello\n2 info 0x100001000 -> no Denied\n", "Hello\nHello again\n19 0 1\n", "took back 3 pages\n"]
+        self.assertEqual(len(sources), len(puts))
+        for number, (source, put) in enumerate(zip(sources, puts)):
+            if "unreached" in source:
+                if SHOW is None:
+                    continue
+                with self.open(self.folder / "documents") as machine:
+                    treasury = int((self.folder / "treasury").read_text())
+                    machine.thread(1).create(3, 1, treasury)
+            done = self.run_by(["-c", source])
+            self.assertEqual((done.returncode, done.stderr, done.stdout), (0, "", put), number)
         self.assertEqual(mungi.check(self.folder / "documents", PROGRAM).objects, 4)
+        done = self.run_by(["-c", next(self.sources(HERE / "mungi.py"))])
+        self.assertEqual((done.returncode, done.stderr, done.stdout), (0, "", ""))
         self.assertEqual(mungi.check(self.folder / "vol", PROGRAM).objects, 2)
+
+    def test_an_example_that_can_not_run(self):
+        (self.folder / "there").write_bytes(b"mine")
+        for name in ("letters.py", "mailbox.py", "shared_documents.py"):
+            script = str(HERE / "examples" / name)
+            done = subprocess.run([sys.executable, script, "there"], cwd=self.folder, capture_output=True, text=True, timeout=PATIENCE, check=False)
+            self.assertEqual((done.returncode, done.stdout, done.stderr.count("\n")), (1, "", 1), done.stderr)
+            self.assertIn("there: File exists", done.stderr)
+            done = subprocess.run([sys.executable, script, "one", "two"], cwd=self.folder, capture_output=True, text=True, timeout=PATIENCE, check=False)
+            self.assertEqual((done.returncode, done.stdout, done.stderr.count("\n")), (1, "", 1), done.stderr)
+
+    def test_letters(self):
+        put = self.put_by("letters.py")
+        self.assertEqual(put, self.told("letters.py"))
 
     def test_shared_documents(self):
         put = self.put_by("shared_documents.py")

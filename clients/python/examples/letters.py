@@ -11,7 +11,6 @@ the client's own choice. It prints
     2 info 0x100004000 -> no Denied
 """
 
-import os
 import sys
 from pathlib import Path
 
@@ -20,9 +19,8 @@ import mungi
 
 
 def main(volume):
-    program = os.environ.get("MUNGI")
-    fresh = mungi.new_volume(volume, frames=64, credits=1000, program=program)
-    with mungi.Machine(volume, program=program) as machine:
+    fresh = mungi.new_volume(volume, frames=64, credits=1000)
+    with mungi.Machine(volume) as machine:
         root = machine.root(fresh.treasury)
         letter = root.create()
         letter.put(b"Come at nine.\n")
@@ -58,4 +56,9 @@ def main(volume):
 
 
 if __name__ == "__main__":
-    main(sys.argv[1])
+    if len(sys.argv) != 2:
+        sys.exit("usage: letters.py VOLUME")
+    try:
+        main(sys.argv[1])
+    except (OSError, mungi.Ended) as error:
+        sys.exit(f"letters: {sys.argv[1]}: {getattr(error, 'strerror', None) or error}")

@@ -14,7 +14,6 @@ variable MUNGI names, or else the client's own choice. It prints
     the owner reads: Dear owner, hello.
 """
 
-import os
 import sys
 import tempfile
 from pathlib import Path
@@ -33,9 +32,8 @@ def tried(call, *words):
 
 
 def main(volume):
-    program = os.environ.get("MUNGI")
-    fresh = mungi.new_volume(volume, frames=64, credits=1000, program=program)
-    with mungi.Machine(volume, batch=64, program=program) as machine:
+    fresh = mungi.new_volume(volume, frames=64, credits=1000)
+    with mungi.Machine(volume, batch=64) as machine:
         root = machine.root(fresh.treasury)
         mailbox, door = root.create(), root.create()
 
@@ -64,5 +62,11 @@ def main(volume):
 
 
 if __name__ == "__main__":
+    if len(sys.argv) > 2:
+        sys.exit("usage: mailbox.py [VOLUME]")
     with tempfile.TemporaryDirectory() as folder:
-        main(sys.argv[1] if len(sys.argv) > 1 else Path(folder) / "volume")
+        volume = sys.argv[1] if len(sys.argv) > 1 else Path(folder) / "volume"
+        try:
+            main(volume)
+        except (OSError, mungi.Ended) as error:
+            sys.exit(f"mailbox: {volume}: {getattr(error, 'strerror', None) or error}")

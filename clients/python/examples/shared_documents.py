@@ -15,7 +15,6 @@ variable MUNGI names, or else the client's own choice. It prints
     in a new run the owner reads: The meeting is at ten.
 """
 
-import os
 import sys
 import tempfile
 from pathlib import Path
@@ -33,9 +32,8 @@ def tried(call, *words):
 
 
 def main(volume):
-    program = os.environ.get("MUNGI")
-    fresh = mungi.new_volume(volume, frames=64, credits=1000, program=program)
-    with mungi.Machine(volume, batch=64, program=program) as machine:
+    fresh = mungi.new_volume(volume, frames=64, credits=1000)
+    with mungi.Machine(volume, batch=64) as machine:
         root = machine.root(fresh.treasury)
         note, diary = root.create(), root.create()
         note.put(b"The meeting is at nine.")
@@ -59,10 +57,16 @@ def main(volume):
         shared.add(again)
         again.revoke()
         print("granted again, and taken back:", tried(reader.object(note).get))
-    with mungi.Machine(volume, program=program) as machine:
+    with mungi.Machine(volume) as machine:
         print("in a new run the owner reads:", machine.thread(1).object(note.base).get().decode())
 
 
 if __name__ == "__main__":
+    if len(sys.argv) > 2:
+        sys.exit("usage: shared_documents.py [VOLUME]")
     with tempfile.TemporaryDirectory() as folder:
-        main(sys.argv[1] if len(sys.argv) > 1 else Path(folder) / "volume")
+        volume = sys.argv[1] if len(sys.argv) > 1 else Path(folder) / "volume"
+        try:
+            main(volume)
+        except (OSError, mungi.Ended) as error:
+            sys.exit(f"shared_documents: {volume}: {getattr(error, 'strerror', None) or error}")
