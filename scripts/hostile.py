@@ -1,11 +1,12 @@
 #!/usr/bin/env python3
 """Runs mungi on real files in ways that a machine or a user may be hostile, and tells a line a case.
 
-    scripts/hostile.py files            files, folders, limits, streams, two runs at once, migrations
+    scripts/hostile.py files            files, folders, modes, limits, streams, two runs at once, two files, migrations
     scripts/hostile.py kill [RUNS]      runs that are killed at random moments, 100 of them
     scripts/hostile.py memory           each allocation refused in turn, which takes a C compiler
 
-Behind --program stands the program, which else is the one that the script mungi builds. A line begins with 'ok', with 'not
+Behind --program stands the program, which else is the one that the script mungi builds. The cases of a volume in two files take the program
+that the variable MUNGI_DEV names, or else the one that the script mungi_dev has built. No input is read. A line begins with 'ok', with 'not
 tried' and why, or with 'FAILED'; the status is 0 where no line is FAILED. docs/HOSTILE.md tells what each case shows.
 """
 import argparse
@@ -96,7 +97,8 @@ def held(volume, first, last):
 def fresh(folder, name="vol"):
     path = str(Path(folder) / name)
     ended = run([path, "format", "64", SEED, "1000"])
-    assert (ended.status, ended.put) == (0, FORMATTED), str(ended)
+    if (ended.status, ended.put) != (0, FORMATTED):
+        sys.exit(f"hostile: {PROGRAM} makes no volume: {ended}")
     return path
 
 
@@ -146,10 +148,38 @@ def file_cases(folder):
         same = Path(volume).read_bytes() == before
         tell((ended.status, ended.put, ended.took, same) == (2, put, 0, True), f"the file is cut to {blocks} blocks", str(ended))
 
-    volume = fresh(folder, "cut")
-    os.truncate(volume, 4096 * 2000)
-    ended = run([volume, "check"])
-    tell(ended.status == 0 and b"it was cut short" in ended.said, "check of a file that ends before its frame table", str(ended))
+    # The journal may hold the newest words, so a run on no lines writes them home before the file is cut.
+    for blocks, where in ((2000, "before its frame table"), (2596, "before its first frame"), (2659, "a block before its last frame")):
+        volume = fresh(folder, f"short{blocks}")
+        run([volume, "run"])
+        os.truncate(volume, 4096 * blocks)
+        ended = run([volume, "check"])
+        good = ended.status == 0 and ended.put.startswith(b"ok 64 ") and b"cut short" in ended.said
+        tell(good, f"check of a file that ends {where}", str(ended))
+        done = script("backup", volume, volume + ".copy")
+        tell(done.returncode == 1 and b"cut short" in done.stderr and not os.path.exists(volume + ".copy"), f"backup of a file that ends {where}", said(done))
+    backup_cases(folder)
+
+    path = folder + "/fifo"
+    os.mkfifo(path)
+    for command in (["run"], ["check"], ["format", "64", SEED, "1000"]):
+        case = f"{command[0]} of a fifo"
+        try:
+            ended = run([path, *command], lines, timeout=10)
+        except subprocess.TimeoutExpired:
+            tell(False, case, "it waits")
+            continue
+        tell(told(ended, path, ""), case, str(ended))
+
+    path = folder + "/empty"
+    Path(path).touch(0o640)
+    for command in ("run", "check"):
+        ended = run([path, command], lines)
+        good = (ended.status, ended.put, ended.took, os.path.getsize(path)) == (2, b"open not\n", 0, 0)
+        tell(good, f"{command} of an empty file", str(ended))
+    ended = run([path, "format", "64", SEED, "1000"])
+    good = (ended.status, ended.put, run([path, "check"]).put, mode_of(path)) == (0, FORMATTED, FRESH, 0o640)
+    tell(good, "format of an empty file", f"{ended}, mode {mode_of(path):o}")
 
     volume = fresh(folder, "readonly")
     os.chmod(volume, 0o444)
@@ -164,9 +194,96 @@ def file_cases(folder):
     tell((ended.status, ended.put) == (0, FRESH), "check of a file that may not be written", str(ended))
 
 
+def script(name, *words):
+    """Runs a script of this folder with the program."""
+    return subprocess.run([str(TOP / "scripts" / name), *words], capture_output=True, env=dict(os.environ, MUNGI=PROGRAM))
+
+
+def said(done):
+    return f"status {done.returncode}, said {done.stderr.decode(errors='backslashreplace').strip()!r}"
+
+
+def mode_of(path):
+    return os.stat(path).st_mode & 0o777
+
+
+def backup_cases(folder):
+    """A volume is copied whole, and the copy is told to be cut when it is."""
+    volume, copy = fresh(folder, "whole"), folder + "/whole.copy"
+    os.chmod(volume, 0o640)
+    done = script("backup", volume, copy)
+    good = done.returncode == 0 and done.stdout == FRESH and mode_of(copy) == 0o640 and script("backup", "--verify", copy).returncode == 0
+    tell(good and Path(copy).read_bytes() == Path(volume).read_bytes(), "backup of a whole file, and its --verify", said(done))
+    if not good:
+        return
+    os.truncate(copy, 4096 * 2659)
+    done = script("backup", "--verify", copy)
+    tell(done.returncode == 1, "--verify of a copy that was cut", said(done))
+    digest = subprocess.run(["sha256sum"], stdin=open(copy, "rb"), capture_output=True).stdout.split()[0].decode()
+    Path(copy + ".sha256").write_text(f"{digest}  whole.copy\n")
+    done = script("backup", "--verify", copy)
+    tell(done.returncode == 1 and b"cut short" in done.stderr, "--verify of a cut copy whose sum fits", said(done))
+
+
+def mode_cases(folder):
+    """Who reads a volume has every password: a new file is for its owner alone, or for those who might read what it copies."""
+    before = os.umask(0)
+    try:
+        volume = fresh(folder, "mode")
+        tell(mode_of(volume) == 0o600, "format makes a file for its owner alone", f"mode {mode_of(volume):o}")
+        os.chmod(volume, 0o644)
+        fresh(folder, "mode")
+        tell(mode_of(volume) == 0o644, "format of a file that is there keeps its mode", f"mode {mode_of(volume):o}")
+        assert run([volume, "run"]).status == 0
+        old, new = version1(volume, folder + "/mode.old"), folder + "/mode.new"
+        os.chmod(old, 0o640)
+        ended = run([new, "migrate", old])
+        tell(ended.status == 0 and mode_of(new) == 0o640, "migrate makes a file with the mode of OLD", f"{ended}, mode {mode_of(new) if os.path.exists(new) else 0:o}")
+    finally:
+        os.umask(before)
+
+
+def mirror_cases(folder):
+    """A volume in two files: which files are taken."""
+    program = os.environ.get("MUNGI_DEV", str(TOP / "mungi_dev"))
+    if "MUNGI_DEV" not in os.environ and not (TOP / "crates/mungi_dev/out/mungi_dev").is_file():
+        not_tried("a volume in two files", "mungi_dev is not built")
+        return
+
+    def mirrored(*words):
+        return subprocess.run([program, *words], cwd=folder, stdin=subprocess.DEVNULL, capture_output=True)
+
+    volume = Path(fresh(folder, "side"))
+    before = volume.read_bytes()
+    os.symlink("side", folder + "/side.link")
+    os.link(volume, folder + "/side.hard")
+    for other in ("./side", "side.link", "side.hard"):
+        for side, words in (("left", ("side", "mirror", other, "left")), ("right", (other, "mirror", "side", "right"))):
+            done = mirrored(*words)
+            # The script refuses; the program says so, and goes on with one side, since the lock on the file keeps the other out.
+            good = b"one file" in done.stderr and volume.read_bytes() == before
+            good = good and ("MUNGI_DEV" in os.environ or (done.returncode, done.stdout) == (1, b""))
+            tell(good, f"a mirror whose two files are one, {other}, from {side}", said(done))
+    if "MUNGI_DEV" in os.environ:
+        not_tried("a mirror over a file that is no volume", "the script mungi_dev refuses it, and not the program")
+    else:
+        text = Path(folder) / "text"
+        text.write_bytes(b"no volume\n")
+        for words in (("side", "mirror", "text", "left"), ("text", "mirror", "side", "right")):
+            done = mirrored(*words)
+            good = done.returncode == 1 and done.stdout == b"" and b"--overwrite" in done.stderr and text.read_bytes() == b"no volume\n"
+            tell(good, f"a mirror over a file that is no volume, from {words[3]}", said(done))
+    volume.chmod(0o640)
+    umask = os.umask(0)
+    done = mirrored("side", "mirror", "side.copy", "left")
+    os.umask(umask)
+    good = done.returncode == 0 and mode_of(folder + "/side.copy") == 0o640 and run([folder + "/side.copy", "check"]).put == FRESH
+    tell(good, "a mirror makes a file with the mode of the one that it copies", said(done))
+
+
 def maker_cases(folder):
     def made(*words):
-        return subprocess.run([str(TOP / "scripts/new_volume"), *words], capture_output=True, env=dict(os.environ, MUNGI=PROGRAM))
+        return script("new_volume", *words)
 
     path = folder + "/made"
     done = made(path, "64", "1000")
@@ -174,7 +291,11 @@ def maker_cases(folder):
     tell(done.returncode == 0 and mode == 0o600 and run([path, "check"]).put == FRESH, "new_volume makes a volume", f"mode {mode and oct(mode)}")
     before = Path(path).read_bytes()
     done = made(path, "64", "1000")
-    tell(done.returncode == 1 and Path(path).read_bytes() == before, "new_volume where there is a file", done.stderr.decode().strip())
+    good = done.returncode == 1 and b"is there already" in done.stderr and Path(path).read_bytes() == before
+    tell(good, "new_volume where there is a file", done.stderr.decode().strip())
+    done = made(folder + "/no_folder/made", "64", "1000")
+    good = done.returncode == 1 and b"can't be made" in done.stderr
+    tell(good, "new_volume in a folder that is not there", done.stderr.decode().strip())
     done = made(folder + "/few", "15", "1000")
     tell(done.returncode == 1 and not os.path.exists(folder + "/few"), "new_volume with words that format refuses", f"status {done.returncode}")
 
@@ -445,12 +566,15 @@ def main():
     parser.add_argument("--program")
     words = parser.parse_args()
     if words.program is None:
-        subprocess.run([str(TOP / "mungi"), "x", "dry", "16", SEED, "0"], stdin=subprocess.DEVNULL, check=True)
+        if subprocess.run([str(TOP / "mungi"), "x", "dry", "16", SEED, "0"], stdin=subprocess.DEVNULL).returncode != 0:
+            sys.exit("hostile: the script mungi builds no program")
         words.program = str(TOP / "crates/mungi/out/mungi")
     PROGRAM = os.path.abspath(words.program)
+    if not os.path.isfile(PROGRAM) or not os.access(PROGRAM, os.X_OK):
+        sys.exit(f"hostile: {words.program!r} is no program")
     with tempfile.TemporaryDirectory() as folder:
         if words.kind == "files":
-            for cases in (file_cases, maker_cases, limit_cases, full_cases, stream_cases, two_cases, migrate_cases):
+            for cases in (file_cases, maker_cases, mode_cases, mirror_cases, limit_cases, full_cases, stream_cases, two_cases, migrate_cases):
                 cases(folder)
         elif words.kind == "kill":
             kill_cases(folder, words.runs)
@@ -460,4 +584,7 @@ def main():
 
 
 if __name__ == "__main__":
-    sys.exit(main())
+    try:
+        sys.exit(main())
+    except KeyboardInterrupt:
+        sys.exit("hostile: interrupted")

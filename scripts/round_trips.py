@@ -3,15 +3,18 @@
 
     scripts/round_trips.py [ROUNDS [NUMBER]]
 
+It reads no input.
+
 Each of ROUNDS trips, 100 where it is not said, puts 0 to 9,000 random bytes into one object, by `mungi_text put` and a run, over those of the
 trip before; and gets them in a run of its own, by `mungi_text get` and `mungi_text bytes`. The lengths begin with 0 to 17 and those around a
 page. The last trip is one of 4,194,296 bytes, the most that a document has, through files; one byte more has to be refused. NUMBER is where the random numbers begin, and is
 drawn where it is not said; it is printed. The volume lies in a temporary folder.
 
 The programs are those that the environment variables MUNGI and MUNGI_TEXT name, or else the scripts at the top of the repository. It prints
-what the last trip took, and ends with status 1 at the first bytes that come back changed.
+what the last trip took, and ends with status 1 at the first bytes that come back changed, or at a program that can't be run.
 """
 
+import argparse
 import os
 import random
 import secrets
@@ -30,7 +33,10 @@ MOST_BYTES = 1024 * 4096 - 8
 
 def put_by(words, given=b""):
     """What a program puts of this input. It has to end with status 0."""
-    done = subprocess.run(words, input=given, capture_output=True)
+    try:
+        done = subprocess.run(words, input=given, capture_output=True)
+    except OSError as error:
+        sys.exit(f"round_trips: {words[0]} can't be run: {error.strerror}")
     if done.returncode != 0:
         sys.exit(f"{' '.join(words)} ended with status {done.returncode}: {done.stderr.decode()}")
     return done.stdout
@@ -102,6 +108,20 @@ def main(rounds, number):
         large_trip(Path(folder), large)
 
 
+def count(word):
+    """A whole number that is not negative."""
+    number = int(word)
+    if number < 0:
+        raise ValueError
+    return number
+
+
 if __name__ == "__main__":
-    words = [int(word) for word in sys.argv[1:]]
-    main(*(words + [100, secrets.randbits(32)][len(words) :]))
+    parser = argparse.ArgumentParser(description=__doc__, formatter_class=argparse.RawDescriptionHelpFormatter)
+    parser.add_argument("rounds", nargs="?", type=count, default=100, metavar="ROUNDS")
+    parser.add_argument("number", nargs="?", type=count, default=secrets.randbits(32), metavar="NUMBER")
+    told = parser.parse_args()
+    try:
+        main(told.rounds, told.number)
+    except KeyboardInterrupt:
+        sys.exit("round_trips: interrupted")

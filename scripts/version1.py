@@ -3,10 +3,11 @@
 
     scripts/version1.py VOLUME OLD
 
-The file VOLUME is only read; OLD is made, or written over. VOLUME must be a volume whose journal holds nothing, as a run on no
+The file VOLUME is only read; OLD is made, or written over, and is another file. VOLUME must be a volume whose journal holds nothing, as a run on no
 lines leaves it, and whose objects have at most 16 passwords each, none of which ends. Version 1 has another superblock, objects of
 512 bytes without untils, and so its frame table and its frames 512 blocks lower; all else is as it is today (docs/VOLUME.md).
 """
+import os
 import sys
 from pathlib import Path
 
@@ -24,6 +25,8 @@ def lowered(row):
 
 def version1(volume, old):
     """Writes the volume of version 1 that this volume was, and gives the name of its file."""
+    if os.path.exists(old) and os.path.samefile(volume, old):
+        raise ValueError("VOLUME and OLD are one file, and VOLUME is not to be changed")
     whole = Path(volume).read_bytes()
     if whole[:1] != b"\xa5" or whole[BLOCK : BLOCK + 9] != b"MUNGIVOL\x02":
         raise ValueError("no volume of today")
@@ -36,9 +39,14 @@ def version1(volume, old):
 
 
 if __name__ == "__main__":
+    if sys.argv[1:] in (["--help"], ["-h"]):
+        print(__doc__.strip())
+        sys.exit(0)
     if len(sys.argv) != 3:
-        sys.exit(__doc__.split("\n\n")[1])
+        sys.exit("usage: scripts/version1.py VOLUME OLD")
     try:
         version1(*sys.argv[1:])
-    except (OSError, ValueError) as fault:
+    except OSError as fault:
+        sys.exit(f"version1: {fault.filename}: {fault.strerror}")
+    except ValueError as fault:
         sys.exit(f"version1: {fault}")
