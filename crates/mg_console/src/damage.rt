@@ -1,9 +1,11 @@
 // Where a volume is damaged.
 ghost use Rattle.std.specs.Prelude.{◌≡◌, ◌≤◌};
-ghost use Rattle.mg_disk.specs.Disk.{file_blocks};
+ghost use Rattle.std.specs.Option.{ForSome};
+ghost use Rattle.mg_disk.specs.Stops.{WritesNothing};
+ghost use Rattle.mg_journal.specs.Looked.{Fits};
 
 use crate::endings::tell_of;
-use mg_disk::{BLOCK_SIZE, Block, Disk, FileDisk, OneHolder, Watch};
+use mg_disk::{BLOCK_SIZE, Block, Disk};
 use mg_journal::{View, ViewFault};
 use mg_layout::{
     BLOCK_WORDS, FIRST_ACCOUNT_BLOCK, FIRST_OBJECT_BLOCK, FIRST_THREAD_BLOCK, GLOBALS_BLOCK,
@@ -12,20 +14,17 @@ use mg_layout::{
 use mg_model::Params;
 use mg_rows::{account_in, object_in, read_globals, read_thread};
 use std::io::Eprint;
-use std::os::unix::fs::FileExt;
-use std::rt::Files;
 
 /// Tells what is damaged of a volume with these settings that was refused: its journal, or the first block with a row that is not
 /// well formed, or else a rule between rows. Nothing is told where a read fails, or memory is wanting. It writes nothing.
-pub(crate) fn tell_damage<R: AllocGlobal + Eprint, F: Files, W: Watch>(
+pub(crate) fn tell_damage<R: AllocGlobal + Eprint, D: Disk>(
     rt: &R,
     program: &str,
     path: &str,
-    disk: &mut FileDisk<'_, F, W>,
+    disk: &mut D,
     params: &Params,
 )
-where
-    F::File: FileExt + OneHolder,
+    ensures { WritesNothing D.Disk disk.old disk.new }
 {
     let total = Geometry::of(params.frames()).total;
     if total > disk.blocks() || total < GLOBALS_BLOCK {
@@ -47,19 +46,19 @@ where
 }
 
 /// Tells the first block with a row that is not well formed, or that each one is.
-fn tell_rows<R: Eprint, F: Files, W: Watch>(
+fn tell_rows<R: Eprint, D: Disk>(
     rt: &R,
     program: &str,
     path: &str,
-    disk: &mut FileDisk<'_, F, W>,
+    disk: &mut D,
     view: &View,
     params: &Params,
     total: u64,
 )
-where
-    F::File: FileExt + OneHolder,
     requires total { view.now.total ≡ total }
-    requires within_disk { total ≤ file_blocks }
+    requires within_disk { total ≤ D.block_count disk.old }
+    requires fits { ForSome (D.seen disk.old) (λ image. Fits view.now image) }
+    ensures { WritesNothing D.Disk disk.old disk.new }
 {
     let end = Geometry::of(params.frames()).first_frame.min(total);
     for i in GLOBALS_BLOCK..end {

@@ -1,27 +1,28 @@
 // What is told of the file of a volume.
+ghost use Rattle.std.specs.Prelude.{◌≡◌, ◌<◌};
+ghost use Rattle.mg_disk.specs.Stops.{WritesNothing};
+
 use crate::damage::tell_damage;
 use crate::endings::tell_of;
-use mg_disk::{BLOCK_SIZE, Disk, FileDisk, Found, OneHolder, Watch};
+use mg_disk::{BLOCK_SIZE, Block, Disk, Found};
 use mg_layout::{GATE_BLOCK, GATE_OPEN, Geometry, SUPER_BLOCK, Super, read_super};
 use mg_model::Params;
 use std::io::Eprint;
-use std::os::unix::fs::FileExt;
-use std::rt::Files;
 
 /// Tells what only the file of a volume shows, a line each: that there was none; that it is shorter than its volume was when it was
 /// opened; and where `is_refused` says that the command took no volume there, that it is of an older version, which `migrate`
-/// takes, or what of it is damaged.
-pub fn tell_volume<R: AllocGlobal + Eprint, F: Files, W: Watch>(
+/// takes, or what of it is damaged. `found` is what the file was when it was opened, if it was. The disk is only read.
+pub fn tell_volume<R: AllocGlobal + Eprint, D: Disk>(
     rt: &R,
     program: &str,
     path: &str,
-    disk: &mut FileDisk<'_, F, W>,
+    disk: &mut D,
+    found: Option<Found>,
     is_refused: bool,
 )
-where
-    F::File: FileExt + OneHolder,
+    ensures { WritesNothing D.Disk disk.old disk.new }
 {
-    let found = match disk.found() {
+    let found = match found {
         Some(found) => found,
         None => {
             if is_refused {
@@ -86,13 +87,25 @@ fn tell_cut<R: Eprint>(rt: &R, program: &str, path: &str, found: Found, params: 
 }
 
 /// What the superblock of a disk spells whose gate is open; of any other that it is no volume.
-fn super_of<D: Disk>(disk: &mut D) -> Super {
+fn super_of<D: Disk>(disk: &mut D) -> Super
+    ensures writes { WritesNothing D.Disk disk.old disk.new }
+    ensures blocks { D.block_count disk.new ≡ D.block_count disk.old }
+{
     let mut block = [0; BLOCK_SIZE];
-    if disk.blocks() <= SUPER_BLOCK || disk.read(GATE_BLOCK, &mut block).is_err() {
+    if disk.blocks() <= SUPER_BLOCK || !has_read(disk, GATE_BLOCK, &mut block) {
         return Super::Not;
     }
-    if block[0] != GATE_OPEN || disk.read(SUPER_BLOCK, &mut block).is_err() {
+    if block[0] != GATE_OPEN || !has_read(disk, SUPER_BLOCK, &mut block) {
         return Super::Not;
     }
     read_super(&block)
+}
+
+/// Reads a block, and says whether that did not fail.
+fn has_read<D: Disk>(disk: &mut D, i: u64, block: &mut Block) -> bool
+    requires { i < D.block_count disk.old }
+    ensures writes { WritesNothing D.Disk disk.old disk.new }
+    ensures blocks { D.block_count disk.new ≡ D.block_count disk.old }
+{
+    disk.read(i, block).is_ok()
 }

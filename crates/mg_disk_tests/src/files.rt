@@ -120,7 +120,13 @@ fn a_file_that_another_run_holds_fails_at_each_call(rt: HostRuntime) {
     let mut first = FileDisk::new(&rt, "held");
     let mut second = FileDisk::new(&rt, "held");
     assert!(rt; keeps_out(&mut first, &mut second));
-    assert!(rt; says(rt.alloc(), second.fault(), "another run holds it"));
+    assert!(rt;
+        says(
+            rt.alloc(),
+            second.fault(),
+            "another run holds it, and has for 0.3 s"
+        )
+    );
     drop(first);
     assert!(rt; byte_of(&mut second, 0) == Some(7));
     assert!(rt; removed(&rt, "held"));

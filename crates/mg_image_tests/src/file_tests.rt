@@ -3,7 +3,7 @@ use mg_disk::{FileDisk, OneHolder};
 use mg_testing::{MAKING, is_told_of};
 use std::fs;
 use std::os::unix::fs::FileExt;
-use std::rt::Files;
+use std::rt::{Clock, Files};
 use std::test::Fail;
 
 const MADE: &str = "0 ok 0x0000000100000000 0x903df1a0ade0b876 0x28bd8653e56a5d40\n";
@@ -22,7 +22,7 @@ const PARTS: [(usize, &[u8]); 5] = [
 ];
 
 // Whether a volume is made in this file.
-fn is_made<R: Files + AllocGlobal>(rt: &R, path: &str) -> bool
+fn is_made<R: Files + Clock + AllocGlobal>(rt: &R, path: &str) -> bool
 where
     R::File: FileExt + OneHolder,
 {
@@ -42,7 +42,7 @@ fn wrong(bytes: &[u8], parts: &[(usize, &[u8])]) -> Option<usize> {
 }
 
 // How long the file is, and the first place where it has other bytes.
-fn found<R: Files + AllocGlobal>(rt: &R, path: &str) -> Option<(usize, Option<usize>)> {
+fn found<R: Files + Clock + AllocGlobal>(rt: &R, path: &str) -> Option<(usize, Option<usize>)> {
     match fs::read(rt, path) {
         Ok(bytes) => Some((bytes.len(), wrong(&bytes, &PARTS))),
         Err(_) => None,

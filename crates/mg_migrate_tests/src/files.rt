@@ -6,7 +6,7 @@ use std::alloc::{Alloc, Global};
 use std::fs;
 use std::os::unix::fs::FileExt;
 use std::process::Abort;
-use std::rt::Files;
+use std::rt::{Clock, Files};
 
 /// Whether the first disk's blocks could be written to the second.
 fn copied<D: Disk>(made: &mut MemDisk, disk: &mut D) -> bool {
@@ -15,7 +15,7 @@ fn copied<D: Disk>(made: &mut MemDisk, disk: &mut D) -> bool {
 }
 
 /// Whether a volume of version 1 could be written to a file.
-fn fills<R: Files + Abort>(rt: &R, alloc: Global, path: &str) -> bool
+fn fills<R: Files + Clock + Abort>(rt: &R, alloc: Global, path: &str) -> bool
 where
     R::File: FileExt + OneHolder,
 {
@@ -24,7 +24,7 @@ where
 }
 
 /// Whether a file holds that volume.
-fn is_filled<R: Files + Abort>(rt: &R, alloc: Global, path: &str) -> bool
+fn is_filled<R: Files + Clock + Abort>(rt: &R, alloc: Global, path: &str) -> bool
 where
     R::File: FileExt + OneHolder,
 {
@@ -33,7 +33,7 @@ where
 }
 
 /// Whether the migration of this line from one file to another tells this.
-fn tells<R: Files + Abort>(
+fn tells<R: Files + Clock + Abort>(
     rt: &R,
     alloc: Global,
     line: &str,
@@ -49,7 +49,7 @@ where
 }
 
 /// Whether a check of a file tells the volume that was migrated.
-fn is_moved<R: Files + Abort>(rt: &R, alloc: Global, path: &str) -> bool
+fn is_moved<R: Files + Clock + Abort>(rt: &R, alloc: Global, path: &str) -> bool
 where
     R::File: FileExt + OneHolder,
 {

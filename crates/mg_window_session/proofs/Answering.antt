@@ -1,5 +1,5 @@
 -- How calls of the kernel follow each other, and what a line is answered where it reaches a device or none.
-use Rattle.std.specs.Prelude.{ℕ, ◌≡◌, ◌+◌, ◌%◌, ◌^◌, Some, None}
+use Rattle.std.specs.Prelude.{ℕ, ◌≡◌, ◌+◌, ◌%◌, ◌^◌}
 use Rattle.std.specs.Option.{ForSome}
 use Rattle.std.proofs.Common.{arith, sym, ap, ◌∙◌}
 use Rattle.std.proofs.Math.Nat.{mod-add-mod}
@@ -9,15 +9,12 @@ use Rattle.mg_kernel.specs.declared.kernel.Kernel.{Kernel}
 use Rattle.mg_kernel.specs.Meaning.{now_of, words_in}
 use Rattle.mg_model.specs.declared.calls.Line.{Line}
 use Rattle.mg_model.specs.declared.replies.Reply.{Reply}
-use Rattle.mg_model.specs.declared.replies.Reply.TheVariants.{Value}
-use Rattle.mg_model.specs.declared.rights.Right.TheVariants.{R, W}
 use Rattle.mg_model.specs.Counts.{CountsAlike}
 use Rattle.mg_model.specs.State.{State}
 use Rattle.mg_model.specs.Step.{step}
-use Rattle.mg_window.specs.Attached.{Attached, device_at}
-use Rattle.mg_window.specs.Devices.{reading}
-use Rattle.mg_window_session.specs.Machine.{Equipped, Outcome, load_step, plain_step, reached, staying, store_step, stored_at}
-use Rattle.mg_window_session.specs.Stepping.{IsAnswered, Looks, Serves, bases_of, dropped, machine}
+use Rattle.mg_window.specs.Attached.{Attached}
+use Rattle.mg_window_session.specs.Machine.{Equipped, plain_step, staying}
+use Rattle.mg_window_session.specs.Stepping.{IsAnswered, Looks, Serves, bases_of, dropped}
 use Rattle.mg_window_session.proofs.LeavingDevices.{dropped_stay}
 
 alike_then : (w0 w1 w2 s0 s1 s2 : ℕ) → CountsAlike w0 w1 s0 s1 → CountsAlike w1 w2 s1 s2 → CountsAlike w0 w2 s0 s2
@@ -49,52 +46,4 @@ module _ {D : Type 0} (facts : Ghosts D) where
         ap (λ s. (equipped windows' s, reply)) (state image is)
         ∙ ap (λ w. (equipped w (step (now_of k image) line).0, reply)) stay
         ∙ ap (λ r. (equipped (staying (now_of k image) (step (now_of k image) line).0 windows) (step (now_of k image) line).0, r)) (replies image is);
-  }
-
-  answered_behind : (does : Equipped → Outcome) (k k1 k2 : Kernel) (windows windows' : Attached) (d d1 : D) (n n1 : ℕ) (reply : Reply)
-      → Looks facts k k1 d d1 n n1 → IsAnswered facts does k1 k2 windows windows' d1 reply → IsAnswered facts does k k2 windows windows' d reply
-  answered_behind does k k1 k2 windows windows' d d1 n n1 reply first second = record {
-    told = λ image is. second.told image (first.serves.writes.same ∙ is) ∙ ap (λ s. does (equipped windows s)) (first.same image is);
-  }
-
-  pub load_missed : (line : Line) (a : ℕ) (k k1 k2 : Kernel) (windows windows' : Attached) (d d1 : D) (n n1 : ℕ) (reply : Reply)
-      → ForSome (facts.seen d) (λ image. None ≡ reached (machine k windows image) line.thread a R) → Looks facts k k1 d d1 n n1
-      → IsAnswered facts (λ m. plain_step m line) k1 k2 windows windows' d1 reply
-      → IsAnswered facts (λ m. load_step m line (reached m line.thread a R)) k k2 windows windows' d reply
-  load_missed line a k k1 k2 windows windows' d d1 n n1 reply missed looks answer = record {
-    told = λ image is.
-        (answered_behind (λ m. plain_step m line) k k1 k2 windows windows' d d1 n n1 reply looks answer).told image is
-        ∙ ap (λ r. load_step (machine k windows image) line r) (missed image is);
-  }
-
-  pub store_missed : (line : Line) (a value : ℕ) (k k1 k2 : Kernel) (windows windows' : Attached) (d d1 : D) (n n1 : ℕ) (reply : Reply)
-      → ForSome (facts.seen d) (λ image. None ≡ reached (machine k windows image) line.thread a W) → Looks facts k k1 d d1 n n1
-      → IsAnswered facts (λ m. plain_step m line) k1 k2 windows windows' d1 reply
-      → IsAnswered facts (λ m. store_step m line value (reached m line.thread a W)) k k2 windows windows' d reply
-  store_missed line a value k k1 k2 windows windows' d d1 n n1 reply missed looks answer = record {
-    told = λ image is.
-        (answered_behind (λ m. plain_step m line) k k1 k2 windows windows' d d1 n n1 reply looks answer).told image is
-        ∙ ap (λ r. store_step (machine k windows image) line value r) (missed image is);
-  }
-
-  pub load_reached : (line : Line) (a i off v : ℕ) (k k1 : Kernel) (windows : Attached) (d d1 : D) (n n1 : ℕ)
-      → ForSome (facts.seen d) (λ image. Some (i, off) ≡ reached (machine k windows image) line.thread a R) → Looks facts k k1 d d1 n n1
-      → v ≡ reading (device_at windows i).kind (device_at windows i).tape off
-      → IsAnswered facts (λ m. load_step m line (reached m line.thread a R)) k k1 windows windows d (Value v)
-  load_reached line a i off v k k1 windows d d1 n n1 hit looks is_read = record {
-    told = λ image is.
-        ap (λ s. (equipped windows s, Value v)) (looks.same image is)
-        ∙ ap (λ w. (machine k windows image, Value w)) is_read
-        ∙ ap (λ r. load_step (machine k windows image) line r) (hit image is);
-  }
-
-  pub store_reached : (line : Line) (a value i off : ℕ) (k k1 : Kernel) (windows windows' : Attached) (d d1 : D) (n n1 : ℕ) (reply : Reply)
-      → ForSome (facts.seen d) (λ image. Some (i, off) ≡ reached (machine k windows image) line.thread a W) → Looks facts k k1 d d1 n n1
-      → (windows', reply) ≡ stored_at windows i off value
-      → IsAnswered facts (λ m. store_step m line value (reached m line.thread a W)) k k1 windows windows' d reply
-  store_reached line a value i off k k1 windows windows' d d1 n n1 reply hit looks stores = record {
-    told = λ image is.
-        ap (λ s. (equipped windows' s, reply)) (looks.same image is)
-        ∙ ap (λ p. (equipped p.0 (now_of k image), p.1)) stores
-        ∙ ap (λ r. store_step (machine k windows image) line value r) (hit image is);
   }

@@ -17,5 +17,5 @@ mod top_call;
 mod words;
 
 pub use device_kernel::DeviceKernel;
-pub use top_call::top_dev;
+pub use top_call::{top_dev, top_dev_of};
 pub use words::{Asked, read_device, read_words};

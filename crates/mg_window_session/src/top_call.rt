@@ -59,6 +59,24 @@ pub fn top_dev<D: Disk, S: Source, K: Sink, L: Ledger>(
     ensures usage { asks_for (words_of words.now) (seen ⟦<Box<dyn Device> as Device>⟧.held windows.old) ≡ false → NoDevKeeps K.Sink result
         (seen ⟦<Box<dyn Device> as Device>⟧.held windows.old) (seen ⟦<Box<dyn Device> as Device>⟧.held windows.new) disk.old disk.new source.old source.new sink.old sink.new }
 {
+    top_dev_of(alloc, words, disk, source, sink, windows, steps)
+}
+
+/// The same with devices of any one type, so that a contract can speak of them where boxed devices are made.
+pub fn top_dev_of<T: Device, D: Disk, S: Source, K: Sink, L: Ledger>(
+    alloc: Global,
+    words: &[String],
+    disk: &mut D,
+    source: &mut S,
+    sink: &mut K,
+    windows: &mut Windows<T>,
+    steps: &mut Steps<L>,
+) -> Status
+    ensures dev { IsTrue (asks_for (words_of words.now) (seen T.held windows.old)) → DevKeeps D.Disk S.Source K.Sink result
+        (seen T.held windows.old) (seen T.held windows.new) disk.old disk.new source.old source.new sink.old sink.new }
+    ensures usage { asks_for (words_of words.now) (seen T.held windows.old) ≡ false → NoDevKeeps K.Sink result
+        (seen T.held windows.old) (seen T.held windows.new) disk.old disk.new source.old source.new sink.old sink.new }
+{
     if ask_for(words, windows) {
         run_and_tell(alloc, windows, disk, source, sink, steps)
     } else {

@@ -1,7 +1,9 @@
 //! The program: the words of its command line, the files that they name, its standard input and its standard output, handed to
-//! [`mg_migrate_session::top_migrate`] where the words are `VOLUME migrate OLD`, and else to [`mg_session::top`].
+//! [`program::carry_out`], whose result it exits with.
 //!
-//! What it then does, and with which status it ends, is what these two ensure of the words, the disks, the source and the sink. The
+//! That function is the program over any disks, source and sink. It calls [`mg_migrate_session::top_migrate`] where the words are
+//! `VOLUME migrate OLD`, and else [`mg_session::top`], and ensures of the words what these two ensure, that the exit status is the
+//! number of their status, and that after them nothing is written on a disk, taken or put. Here the real objects are made: the
 //! file of `check`, and OLD, are only read, and are not made where there are none. Why a command failed is told on standard error.
 //!
 //! Nothing is held back between them: a reply is written when its batch closes. That is at once under `run` with no BATCH or
@@ -11,133 +13,74 @@
 
 ghost use Rattle.std.specs.Prelude.{◌≡◌, ◌<◌};
 
+mod program;
 mod usage;
 
-use mg_console::{
-    NO_WORDS, Notes, Task, begin, mode_of, tell_fault, tell_status, tell_volume, word,
-};
-use mg_disk::{Disk, FileDisk, OneHolder};
-use mg_io::{ReaderSource, Sink, Source, WriterSink};
-use mg_layout::Geometry;
-use mg_migrate_session::{is_migrate, top_migrate};
+use mg_console::{NO_WORDS, Notes, Task, begin, mode_of, word};
+use mg_disk::FileDisk;
+use mg_io::{ReaderSource, WriterSink};
+use mg_migrate_session::is_migrate;
 use mg_model::Steps;
-use mg_session::{Status, top};
-use mg_text::read_number;
-use std::alloc::Global;
-use std::io::{Eprint, IsTerminal};
+use program::{blocks_made, carry_out};
+use std::io::IsTerminal;
 use std::marker::Brand;
-use std::os::unix::fs::FileExt;
 use std::process::ExitCode;
-use std::rt::Files;
 use std::sync::ledger::{Blank, Ledger};
-use usage::tell_usage;
 
 /// The program's name.
 const NAME: &str = "mungi";
 
 fn main(rt: HostRuntime) -> ExitCode {
     match begin(&rt, NAME) {
-        Some((words, _numbers)) => ExitCode::from(carried_out(&rt, &words)),
+        Some((words, _numbers)) => ExitCode::from(on_files::<Brand>(&rt, &words, Blank::new(1))),
         None => ExitCode::from(NO_WORDS),
     }
 }
 
-/// Carries out what the words ask for, and tells why it ended so.
-fn carried_out(rt: &HostRuntime, words: &[String]) -> u8 {
-    let mut source = ReaderSource::new(rt.stdin());
-    let mut sink = WriterSink::new(rt.stdout());
-    let status = if is_migrate(words) {
-        migrate(rt, words, &mut sink, rt.stderr().is_terminal())
-    } else {
-        command(rt, words, &mut source, &mut sink)
-    };
-    if status == Status::Usage {
-        tell_usage(rt, words);
-    }
-    tell_status(rt, NAME, status, source.error(), sink.error());
-    status.code()
-}
-
-/// The migration of the volume in the file of the third word to that of the first one. Where this one is made, it has the permissions
-/// of the other.
-fn migrate<R: Files + AllocGlobal + Eprint, K: Sink>(
-    rt: &R,
-    words: &[String],
-    sink: &mut K,
-    is_terminal: bool,
-) -> Status
-where
-    R::File: FileExt + OneHolder,
-{
-    let (path, old_path) = (word(words, 0), word(words, 2));
-    let notes = Notes::new(rt, NAME, path, Task::Copy, is_terminal);
-    let mut new = FileDisk::watched(rt, path, notes);
-    if let Some(mode) = mode_of(rt, old_path) {
-        new.set_mode(mode);
-    }
-    let mut old = FileDisk::reader(rt, old_path);
-    let status = top_migrate(rt.alloc(), words, &mut new, &mut old, sink);
-    if status == Status::Disk {
-        tell_fault(rt, NAME, path, new.fault());
-        tell_fault(rt, NAME, old_path, old.fault());
-    }
-    status
-}
-
-/// Every other command, on the file of the first word. `check` only reads it, and `format` gives it the length of its volume.
-fn command<R: Files + AllocGlobal + Eprint, S: Source, K: Sink>(
-    rt: &R,
-    words: &[String],
-    source: &mut S,
-    sink: &mut K,
-) -> Status
-where
-    R::File: FileExt + OneHolder,
-{
-    let path = word(words, 0);
-    let mut disk = if word(words, 1) == "check" {
-        FileDisk::reader(rt, path)
-    } else {
-        FileDisk::new(rt, path)
-    };
-    let made = blocks_made(words);
-    if let Some(blocks) = made {
-        disk.set_length(blocks);
-    }
-    let status = run::<_, _, _, Brand>(rt.alloc(), words, &mut disk, source, sink, Blank::new(1));
-    if status == Status::Disk {
-        tell_fault(rt, NAME, path, disk.fault());
-    }
-    if made.is_none() {
-        tell_volume(rt, NAME, path, &mut disk, status == Status::NoVolume);
-    }
-    status
-}
-
-/// How many blocks the volume has that the words ask to make; none where they ask for none.
-fn blocks_made(words: &[String]) -> Option<u64> {
-    if word(words, 1) != "format" {
-        return None;
-    }
-    match read_number(word(words, 2).as_bytes()) {
-        Some(frames) if 16 <= frames && frames <= 65_536 => Some(Geometry::of(frames).total),
-        _ => None,
-    }
-}
-
-/// The top call, with a count of steps of its own.
-fn run<D: Disk, S: Source, K: Sink, L: Ledger>(
-    alloc: Global,
-    words: &[String],
-    disk: &mut D,
-    source: &mut S,
-    sink: &mut K,
-    blank: Blank,
-) -> Status
+/// Carries out what the words ask for, on the files of the first word and the third one and the standard streams, with a count of steps
+/// of its own.
+fn on_files<L: Ledger>(rt: &HostRuntime, words: &[String], blank: Blank) -> u8
     requires name { blank.name ≡ L.name }
     requires parts { blank.parts ≡ L.parts }
     requires has_parts { 0 < blank.parts }
 {
+    let mut disk = volume_of(rt, words);
+    let mut old = FileDisk::reader(rt, word(words, 2));
+    let mut source = ReaderSource::new(rt.stdin());
+    let mut sink = WriterSink::new(rt.stdout());
     let mut steps = Steps::<L>::new(blank);
-    top(alloc, words, disk, source, sink, &mut steps)
+    carry_out(
+        rt,
+        words,
+        &mut disk,
+        &mut old,
+        &mut source,
+        &mut sink,
+        &mut steps,
+    )
+}
+
+/// The disk in the file of the first word. `check` only reads it, `format` gives it the length of its volume, and where `migrate` makes
+/// it, it has the permissions of the file of the third word.
+fn volume_of<'a>(
+    rt: &'a HostRuntime,
+    words: &'a [String],
+) -> FileDisk<'a, HostRuntime, Notes<'a, HostRuntime>> {
+    let path = word(words, 0);
+    let copies = is_migrate(words);
+    let task = if copies { Task::Copy } else { Task::Volume };
+    let notes = Notes::new(rt, NAME, path, task, copies && rt.stderr().is_terminal());
+    if word(words, 1) == "check" {
+        return FileDisk::watched_reader(rt, path, notes);
+    }
+    let mut disk = FileDisk::watched(rt, path, notes);
+    if copies {
+        if let Some(mode) = mode_of(rt, word(words, 2)) {
+            disk.set_mode(mode);
+        }
+    }
+    if let Some(blocks) = blocks_made(words) {
+        disk.set_length(blocks);
+    }
+    disk
 }

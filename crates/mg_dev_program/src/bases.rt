@@ -1,4 +1,6 @@
 // What is told of the bases that devices are asked for at.
+ghost use Rattle.mg_disk.specs.Stops.{WritesNothing};
+
 use crate::NAME;
 use mg_check::{VolumeRows, read_volume};
 use mg_disk::Disk;
@@ -12,7 +14,9 @@ pub(crate) fn tell_bases<R: AllocGlobal + Eprint, D: Disk>(
     path: &str,
     asked: &[(u64, u64)],
     disk: &mut D,
-) {
+)
+    ensures { WritesNothing D.Disk disk.old disk.new }
+{
     if asked.is_empty() {
         return;
     }

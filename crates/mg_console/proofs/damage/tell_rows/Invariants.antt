@@ -1,0 +1,13 @@
+use Rattle.std.proofs.Common.{◌≡◌}
+use Rattle.std.specs.Option.{ForSome}
+use Rattle.mg_disk.specs.Stops.{WritesNothing}
+use Rattle.mg_journal.specs.Looked.{Fits}
+use Rattle.mg_console.proofs.damage.tell_rows.Given as goal
+
+-- nothing was written, and the view fits what reads give
+abbrev pub invariant-loop-i : goal.invariant-loop-i
+invariant-loop-i g l = record {
+  writes : WritesNothing g.D.Disk l.initial.disk l.disk;
+  blocks : g.D.Disk.block_count l.disk ≡ g.D.Disk.block_count l.initial.disk;
+  fits : ForSome (g.D.Disk.seen l.disk) (λ image. Fits l.view image);
+}

@@ -1,0 +1,2 @@
+-- What a program did.
+pub mod Programs

@@ -1,0 +1,46 @@
+// What a program asks a disk, a source or a sink once a command has ended, to tell about it. None of this changes them.
+use mg_disk::{FileDisk, FileFault, Found, OneHolder, Watch};
+use mg_io::{ReaderSource, WriterSink};
+use std::io::{self, Read, Write};
+use std::os::unix::fs::FileExt;
+use std::rt::{Clock, Files};
+
+/// A disk that may lie in a file.
+pub trait InFile {
+    /// What the file was when it was opened; none where it was not opened, or is only read and there is none.
+    fn found(&self) -> Option<Found>;
+
+    /// Why the first call failed of those that did; none while none did.
+    fn fault(&self) -> Option<&FileFault>;
+}
+
+impl<'a, R: Files + Clock, W: Watch> InFile for FileDisk<'a, R, W>
+where
+    R::File: FileExt + OneHolder,
+{
+    fn found(&self) -> Option<Found> {
+        FileDisk::found(self)
+    }
+
+    fn fault(&self) -> Option<&FileFault> {
+        FileDisk::fault(self)
+    }
+}
+
+/// A source or a sink that may be a stream of the system.
+pub trait Stream {
+    /// The first error that it met; none while there was none.
+    fn error(&self) -> Option<&io::Error>;
+}
+
+impl<R: Read> Stream for ReaderSource<R> {
+    fn error(&self) -> Option<&io::Error> {
+        ReaderSource::error(self)
+    }
+}
+
+impl<W: Write> Stream for WriterSink<W> {
+    fn error(&self) -> Option<&io::Error> {
+        WriterSink::error(self)
+    }
+}

@@ -1,0 +1,2 @@
+-- What the program keeps.
+pub mod Program

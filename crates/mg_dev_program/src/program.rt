@@ -1,0 +1,192 @@
+// The program, over any two disks, source and sink.
+ghost use Rattle.std.specs.Prelude.{◌≡◌, codes};
+ghost use Rattle.mg_console.specs.Programs.{AfterReads, EndsAs, ThenReads};
+ghost use Rattle.mg_disk.specs.Stops.{WritesNothing};
+ghost use Rattle.mg_model.specs.Words.{same_bytes};
+ghost use Rattle.mg_serve.specs.Sessions.{code_of};
+ghost use Rattle.mg_session.specs.ByCommand.{words_of};
+ghost use Rattle.mg_window.specs.Attached.{seen};
+ghost use Rattle.mg_dev_program.specs.Program.{Did, OverMirror, RanDevices, is_mirror};
+
+use crate::NAME;
+use crate::bases::tell_bases;
+use crate::usage::tell_usage;
+use mg_console::{InFile, Stream, tell_fault, tell_status, tell_volume, word};
+use mg_disk::Disk;
+use mg_io::{Sink, Source};
+use mg_mirror_session::{Mirrored, top_mirror};
+use mg_model::Steps;
+use mg_session::Status;
+use mg_window::{Device, Windows};
+use mg_window_session::{read_words, top_dev_of};
+use std::alloc::Global;
+use std::io::Eprint;
+use std::sync::ledger::Ledger;
+
+/// The exit status, and the two disks as they are at the end.
+#[derive(Drop)]
+pub struct Ended<D: Disk, E: Disk> {
+    pub code: u8,
+    pub left: D,
+    pub right: E,
+}
+
+/// Carries out what the words ask for, tells on standard error why it ended so, and gives the exit status. `left` is the disk in the
+/// file of the first word, and `right` the one in the file of the third; `windows` has the devices, and `steps` counts as in [`top_mirror`] and [`top_dev_of`].
+///
+/// Beside the command a disk is only read: the volume of `dev` before it, and after it the disk of which it is told what its file shows.
+pub fn carry_out<
+    R: AllocGlobal + Eprint,
+    T: Device,
+    D: Disk + InFile,
+    E: Disk + InFile,
+    S: Source + Stream,
+    K: Sink + Stream,
+    L: Ledger,
+>(
+    rt: &R,
+    words: &[String],
+    left: D,
+    right: E,
+    source: &mut S,
+    sink: &mut K,
+    windows: &mut Windows<T>,
+    steps: &mut Steps<L>,
+) -> Ended<D, E>
+    ensures { EndsAs code_of (λ status. ThenReads D.Disk (λ left'. ThenReads E.Disk (λ right'. Did D.Disk E.Disk S.Source K.Sink words.now status
+        left left' right right' source.old source.new sink.old sink.new (seen T.held windows.old)
+        (seen T.held windows.new) steps.old steps.new) result.right) result.left) result.code }
+{
+    let ran = command(rt, words, left, right, source, sink, windows, steps);
+    let status = ran.status;
+    let mut left = ran.left;
+    let mut right = ran.right;
+    tell_files(rt, words, status, &mut left, &mut right);
+    if status == Status::Usage {
+        tell_usage(rt, words);
+    }
+    tell_status(rt, NAME, status, source.error(), sink.error());
+    Ended {
+        code: status.code(),
+        left,
+        right,
+    }
+}
+
+/// Whether the second word is `mirror`.
+pub fn is_mirror(words: &[String]) -> bool
+    ensures { result ≡ is_mirror (words_of words.now) }
+{
+    match words {
+        [_, word, ..] => is_that(word.as_bytes()),
+        _ => false,
+    }
+}
+
+/// The one of the two top calls that the words ask for. No side is told where it is not that over a mirror.
+fn command<R: AllocGlobal + Eprint, T: Device, D: Disk, E: Disk, S: Source, K: Sink, L: Ledger>(
+    rt: &R,
+    words: &[String],
+    left: D,
+    right: E,
+    source: &mut S,
+    sink: &mut K,
+    windows: &mut Windows<T>,
+    steps: &mut Steps<L>,
+) -> Mirrored<D, E>
+    ensures { Did D.Disk E.Disk S.Source K.Sink words.now result.status left result.left right result.right source.old source.new sink.old sink.new
+        (seen T.held windows.old) (seen T.held windows.new) steps.old steps.new }
+{
+    if is_mirror(words) {
+        over_mirror(rt.alloc(), words, left, right, source, sink, steps)
+    } else {
+        let mut left = left;
+        let status = on_devices(rt, words, &mut left, source, sink, windows, steps);
+        Mirrored {
+            status,
+            alone: None,
+            left,
+            right,
+        }
+    }
+}
+
+/// The top call over a mirror.
+fn over_mirror<D: Disk, E: Disk, S: Source, K: Sink, L: Ledger>(
+    alloc: Global,
+    words: &[String],
+    left: D,
+    right: E,
+    source: &mut S,
+    sink: &mut K,
+    steps: &mut Steps<L>,
+) -> Mirrored<D, E>
+    ensures { OverMirror D.Disk E.Disk S.Source K.Sink words.now result.status result.alone left result.left right result.right source.old source.new sink.old sink.new steps.old steps.new }
+{
+    top_mirror(alloc, words, left, right, source, sink, steps)
+}
+
+/// The top call with devices. What is told of the bases of those that the words ask for is told first.
+fn on_devices<R: AllocGlobal + Eprint, T: Device, D: Disk, S: Source, K: Sink, L: Ledger>(
+    rt: &R,
+    words: &[String],
+    disk: &mut D,
+    source: &mut S,
+    sink: &mut K,
+    windows: &mut Windows<T>,
+    steps: &mut Steps<L>,
+) -> Status
+    ensures { AfterReads D.Disk disk.old (λ found. RanDevices D.Disk S.Source K.Sink words.now result (seen T.held windows.old)
+        (seen T.held windows.new) found disk.new source.old source.new sink.old sink.new) }
+{
+    let asked = read_words(words).unwrap_or_default();
+    tell_bases(rt, word(words, 0), asked.as_slice(), disk);
+    with_devices(rt.alloc(), words, disk, source, sink, windows, steps)
+}
+
+fn with_devices<T: Device, D: Disk, S: Source, K: Sink, L: Ledger>(
+    alloc: Global,
+    words: &[String],
+    disk: &mut D,
+    source: &mut S,
+    sink: &mut K,
+    windows: &mut Windows<T>,
+    steps: &mut Steps<L>,
+) -> Status
+    ensures { RanDevices D.Disk S.Source K.Sink words.now result (seen T.held windows.old)
+        (seen T.held windows.new) disk.old disk.new source.old source.new sink.old sink.new }
+{
+    top_dev_of(alloc, words, disk, source, sink, windows, steps)
+}
+
+/// Tells why a disk failed, and what only the file of the volume shows: of a mirror that of SIDE. Which side of a mirror failed is told
+/// while the lines run.
+fn tell_files<R: AllocGlobal + Eprint, D: Disk + InFile, E: Disk + InFile>(
+    rt: &R,
+    words: &[String],
+    status: Status,
+    left: &mut D,
+    right: &mut E,
+)
+    ensures left { WritesNothing D.Disk left.old left.new }
+    ensures right { WritesNothing E.Disk right.old right.new }
+{
+    let is_refused = status == Status::NoVolume;
+    let mirrors = is_mirror(words);
+    if mirrors && word(words, 3) == "right" {
+        let found = right.found();
+        tell_volume(rt, NAME, word(words, 2), right, found, is_refused);
+    } else {
+        if !mirrors && status == Status::Disk {
+            tell_fault(rt, NAME, word(words, 0), left.fault());
+        }
+        let found = left.found();
+        tell_volume(rt, NAME, word(words, 0), left, found, is_refused);
+    }
+}
+
+fn is_that(word: &[u8]) -> bool
+    ensures { result ≡ same_bytes word.now (codes "mirror") }
+{
+    word == b"mirror".as_slice()
+}

@@ -1,0 +1,134 @@
+// The program, over any disks, source and sink.
+ghost use Rattle.mg_console.specs.Programs.{EndsAs, ThenReads};
+ghost use Rattle.mg_disk.specs.Stops.{WritesNothing};
+ghost use Rattle.mg_serve.specs.Sessions.{code_of};
+ghost use Rattle.mungi.specs.Program.{Did, Ran};
+
+use crate::NAME;
+use crate::usage::tell_usage;
+use mg_console::{InFile, Stream, tell_fault, tell_status, tell_volume, word};
+use mg_disk::{Disk, Found};
+use mg_io::{Sink, Source};
+use mg_layout::Geometry;
+use mg_migrate_session::{is_migrate, top_migrate};
+use mg_model::Steps;
+use mg_session::{Status, top};
+use mg_text::read_number;
+use std::alloc::Global;
+use std::io::{self, Eprint};
+use std::sync::ledger::Ledger;
+
+/// Carries out what the words ask for, tells on standard error why it ended so, and gives the exit status. `disk` is the one in the
+/// file of the first word, and `old` the one in the file of the third; `steps` counts as in [`top`].
+///
+/// What is told comes after the command: until then nothing but the command makes a call on a disk, the source and the sink, and after
+/// it the first disk alone is read.
+pub(crate) fn carry_out<
+    R: AllocGlobal + Eprint,
+    D: Disk + InFile,
+    E: Disk + InFile,
+    S: Source + Stream,
+    K: Sink + Stream,
+    L: Ledger,
+>(
+    rt: &R,
+    words: &[String],
+    disk: &mut D,
+    old: &mut E,
+    source: &mut S,
+    sink: &mut K,
+    steps: &mut Steps<L>,
+) -> u8
+    ensures { EndsAs code_of (λ status. ThenReads D.Disk (λ left. Did D.Disk E.Disk S.Source K.Sink words.now status
+        disk.old left old.old old.new source.old source.new sink.old sink.new steps.old steps.new) disk.new) result }
+{
+    let status = command(rt.alloc(), words, disk, old, source, sink, steps);
+    tell_end(rt, words, status, disk, old, source.error(), sink.error());
+    status.code()
+}
+
+/// The one of the two top calls that the words ask for.
+fn command<D: Disk, E: Disk, S: Source, K: Sink, L: Ledger>(
+    alloc: Global,
+    words: &[String],
+    disk: &mut D,
+    old: &mut E,
+    source: &mut S,
+    sink: &mut K,
+    steps: &mut Steps<L>,
+) -> Status
+    ensures { Did D.Disk E.Disk S.Source K.Sink words.now result disk.old disk.new old.old old.new source.old source.new sink.old sink.new steps.old steps.new }
+{
+    if is_migrate(words) {
+        top_migrate(alloc, words, disk, old, sink)
+    } else {
+        ran(alloc, words, disk, source, sink, steps)
+    }
+}
+
+/// The top call of every command but `migrate`.
+fn ran<D: Disk, S: Source, K: Sink, L: Ledger>(
+    alloc: Global,
+    words: &[String],
+    disk: &mut D,
+    source: &mut S,
+    sink: &mut K,
+    steps: &mut Steps<L>,
+) -> Status
+    ensures { Ran D.Disk S.Source K.Sink words.now result disk.old disk.new source.old source.new sink.old sink.new steps.old steps.new }
+{
+    top(alloc, words, disk, source, sink, steps)
+}
+
+/// Tells why a command ended with this status, and what only the file of its volume shows. The errors are those that standard input and
+/// standard output met.
+fn tell_end<R: AllocGlobal + Eprint, D: Disk + InFile, E: InFile>(
+    rt: &R,
+    words: &[String],
+    status: Status,
+    disk: &mut D,
+    old: &E,
+    read: Option<&io::Error>,
+    written: Option<&io::Error>,
+)
+    ensures { WritesNothing D.Disk disk.old disk.new }
+{
+    let path = word(words, 0);
+    if status == Status::Disk {
+        tell_fault(rt, NAME, path, disk.fault());
+        tell_fault(rt, NAME, word(words, 2), old.fault());
+    }
+    let found = disk.found();
+    tell_file(rt, words, disk, found, status == Status::NoVolume);
+    if status == Status::Usage {
+        tell_usage(rt, words);
+    }
+    tell_status(rt, NAME, status, read, written);
+}
+
+/// Tells what only the file of a volume shows. Nothing is told of `format`, which makes one, and of `migrate`.
+fn tell_file<R: AllocGlobal + Eprint, D: Disk>(
+    rt: &R,
+    words: &[String],
+    disk: &mut D,
+    found: Option<Found>,
+    is_refused: bool,
+)
+    ensures { WritesNothing D.Disk disk.old disk.new }
+{
+    if is_migrate(words) || blocks_made(words).is_some() {
+        return;
+    }
+    tell_volume(rt, NAME, word(words, 0), disk, found, is_refused);
+}
+
+/// How many blocks the volume has that the words ask to make; none where they ask for none.
+pub(crate) fn blocks_made(words: &[String]) -> Option<u64> {
+    if word(words, 1) != "format" {
+        return None;
+    }
+    match read_number(word(words, 2).as_bytes()) {
+        Some(frames) if 16 <= frames && frames <= 65_536 => Some(Geometry::of(frames).total),
+        _ => None,
+    }
+}

@@ -1,0 +1,45 @@
+// The program, over any source and sinks.
+ghost use Rattle.mg_console.specs.Programs.{EndsAs};
+ghost use Rattle.mg_filter.specs.Statuses.{code_of};
+ghost use Rattle.mungi_asm.specs.Program.{Did};
+
+use crate::NAME;
+use crate::usage::tell_usage;
+use mg_asm_session::{TEXT_LIMIT, top};
+use mg_console::{Stream, tell_filter_status};
+use mg_filter::Status;
+use mg_io::{Sink, Source};
+use std::alloc::Global;
+use std::io::Eprint;
+
+/// Carries out what the words ask for, tells on standard error why it ended so, and gives the exit status.
+pub(crate) fn carry_out<R: AllocGlobal + Eprint, S: Source + Stream, O: Sink + Stream, E: Sink>(
+    rt: &R,
+    words: &[String],
+    source: &mut S,
+    out: &mut O,
+    err: &mut E,
+) -> u8
+    ensures { EndsAs code_of (λ status. Did S.Source O.Sink E.Sink words.now status source.old source.new out.old out.new err.old err.new) result }
+{
+    let status = command(rt.alloc(), words, source, out, err);
+    if status == Status::Usage {
+        tell_usage(rt, words);
+    }
+    let limit = TEXT_LIMIT as u64;
+    tell_filter_status(rt, NAME, status, limit, source.error(), out.error());
+    status.code()
+}
+
+/// The top call.
+fn command<S: Source, O: Sink, E: Sink>(
+    alloc: Global,
+    words: &[String],
+    source: &mut S,
+    out: &mut O,
+    err: &mut E,
+) -> Status
+    ensures { Did S.Source O.Sink E.Sink words.now result source.old source.new out.old out.new err.old err.new }
+{
+    top(alloc, words, source, out, err)
+}

@@ -1,0 +1,78 @@
+// The program, over any disk and sink.
+ghost use Rattle.mg_console.specs.Programs.{EndsAs, ThenReads};
+ghost use Rattle.mg_disk.specs.Stops.{WritesNothing};
+ghost use Rattle.mg_serve.specs.Sessions.{code_of};
+ghost use Rattle.mungi_show.specs.Program.{Did};
+
+use crate::NAME;
+use mg_console::{InFile, Stream, tell, tell_fault, tell_lines, tell_status, tell_volume, word};
+use mg_disk::Disk;
+use mg_io::Sink;
+use mg_session::Status;
+use mg_show::top_show;
+use std::alloc::Global;
+use std::io::{self, Eprint};
+
+/// What the program can be asked.
+const SYNOPSIS: [&str; 3] = [
+    "usage: mungi_show VOLUME [state]",
+    "       mungi_show VOLUME reach",
+    "       mungi_show VOLUME dot",
+];
+
+/// Carries out what the words ask for, tells on standard error why it ended so, and gives the exit status. What is told comes after the
+/// command, and the disk alone is read for it.
+pub(crate) fn carry_out<R: AllocGlobal + Eprint, D: Disk + InFile, K: Sink + Stream>(
+    rt: &R,
+    words: &[String],
+    disk: &mut D,
+    sink: &mut K,
+) -> u8
+    ensures { EndsAs code_of (λ status. ThenReads D.Disk (λ left. Did D.Disk K.Sink words.now status disk.old left sink.old sink.new) disk.new) result }
+{
+    let status = show(rt.alloc(), words, disk, sink);
+    tell_end(rt, words, status, disk, sink.error());
+    status.code()
+}
+
+/// Puts the text that the words ask for.
+fn show<D: Disk, K: Sink>(alloc: Global, words: &[String], disk: &mut D, sink: &mut K) -> Status
+    ensures { Did D.Disk K.Sink words.now result disk.old disk.new sink.old sink.new }
+{
+    top_show(alloc, words, disk, sink)
+}
+
+/// Tells why the program ended with this status, and what only the file of the volume shows.
+fn tell_end<R: AllocGlobal + Eprint, D: Disk + InFile>(
+    rt: &R,
+    words: &[String],
+    status: Status,
+    disk: &mut D,
+    written: Option<&io::Error>,
+)
+    ensures { WritesNothing D.Disk disk.old disk.new }
+{
+    let path = word(words, 0);
+    if status == Status::Disk {
+        tell_fault(rt, NAME, path, disk.fault());
+    }
+    let found = disk.found();
+    tell_volume(rt, NAME, path, disk, found, status == Status::NoVolume);
+    if status == Status::Usage {
+        tell_usage(rt, words);
+    }
+    tell_status(rt, NAME, status, None, written);
+}
+
+/// Tells what the program can be asked, and which word is at fault.
+fn tell_usage<R: Eprint>(rt: &R, words: &[String]) {
+    tell_lines(rt, &SYNOPSIS);
+    match words {
+        [] => tell(rt, NAME, "no VOLUME is given"),
+        [_, text] => {
+            let text = text.as_str();
+            let _ = eprintln!(rt; "{NAME}: {text} is no text: state, reach and dot are");
+        }
+        _ => tell(rt, NAME, "there are more than two words"),
+    }
+}
