@@ -14,7 +14,7 @@ use Rattle.mg_model.specs.Tariff.{is_tariff}
 use Rattle.mg_model.specs.Words.{same_bytes}
 use Rattle.mg_migrate.proofs.Fronts.{same_bytes-tells}
 use Rattle.mg_migrate.proofs.LiftedVolume.{long-super1, seed-long}
-use Rattle.mg_migrate.specs.Spelling1.{BadSuper1, NewSuper1, NotSuper1, OldSuper1, Spells1, super1_bytes, super1_read}
+use Rattle.mg_migrate.specs.Spelling1.{BadSuper1, NewSuper1, OldSuper1, Spells1, super1_bytes, super1_read}
 
 -- a byte that is written twice
 set-twice : (xs : List ℕ) (i a b : ℕ) → slice_set (slice_set xs i a) i b ≡ slice_set xs i b
@@ -119,10 +119,6 @@ first-byte b bytes is =
     let e7 = each 7 (omega arith) in
     let b0 = bytes 8 in
     omega arith
-
--- each answer
-pub super1-not : (bytes : List ℕ) → same_bytes magic (bytes_at bytes 0 8) ≡ false → super1_read bytes ≡ NotSuper1
-super1-not bytes other = rw other
 
 pub super1-old : (bytes : List ℕ) → same_bytes magic (bytes_at bytes 0 8) ≡ true → number_at bytes 8 < 1 → super1_read bytes ≡ OldSuper1
 super1-old bytes begins older = let e = lt-ltb (number_at bytes 8) 1 older in rw (begins, e)

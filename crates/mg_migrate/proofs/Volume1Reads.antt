@@ -1,7 +1,7 @@
 -- What an image spells as a volume of version 1, case by case.
 use Rattle.std.specs.Prelude.{◌≡◌, ◌≢◌, ℕ, ◌<◌, ◌≤◌, ◌==◌, nat_le, Bool, true, List, length, if◌then◌else◌, Option, Some, None}
 use Rattle.std.specs.Option.{option_map_or}
-use Rattle.std.proofs.Common.{refl, ap, ◌∙◌}
+use Rattle.std.proofs.Common.{ap, ◌∙◌}
 use Rattle.std.proofs.lemmas.Bool.{and_left, and_right, eq-eqb, le-leb, lt-leb, ne_eqb}
 use Rattle.mg_model.specs.Layout.{gate_open, super_block}
 use Rattle.mg_model.specs.Replay.{block_of, replay}
@@ -34,9 +34,6 @@ volume1-opened image is =
 -- of an image with a superblock of version 1: too short, with a journal that gives none, or with one that gives an image
 abbrev gives : Settings → Bool → Option (List (List ℕ)) → VolumeRead
 gives settings enough replayed = if enough then option_map_or (λ replayed. replayed1_volume settings replayed) replayed Damaged else Damaged
-
-settled1-is : (settings : Settings) (image : List (List ℕ)) → settled1_volume image settings ≡ gives settings (nat_le (total1_blocks settings.frames) (length image)) (replay image (total1_blocks settings.frames))
-settled1-is settings image = refl
 
 pub settled1-short : (settings : Settings) (image : List (List ℕ)) → length image < total1_blocks settings.frames → settled1_volume image settings ≡ Damaged
 settled1-short settings image short = ap (λ t. gives settings t (replay image (total1_blocks settings.frames))) (lt-leb (total1_blocks settings.frames) (length image) short)

@@ -77,9 +77,6 @@ module _ (h p g e z : List ℕ) (n : ℕ) (long : AreLong h p g e) where
           let w : length (g ++ replicate 16 0) ≡ 32 = length-wide g 16 16 32 long.rights refl in
           front (g ++ replicate 16 0) (e ++ u) [] k (omega arith) ∙ front g (replicate 16 0) [] k (omega arith) ∙ sym (front g (e ++ z) [] k (omega arith))
 
-  abbrev behind_rights : List ℕ
-  behind_rights = e ++ u
-
   entries-same : (m : ℕ) → m ≤ 16 → numbers_at new 368 m ≡ numbers_at old 224 m
   entries-same m few =
       let l = long.entries in

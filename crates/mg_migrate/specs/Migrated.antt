@@ -22,8 +22,12 @@ IsState1 _ P = ⊥
 abbrev pub needed : State → ℕ
 needed state = total_blocks state.settings.frames
 
--- What an answer tells of the old image and of how many blocks the new disk has. Of a call that failed, and of a want of
--- memory, nothing but that the new disk was large enough where it failed.
+-- the old image is a volume of version 1, and a disk with so many blocks has room for it
+abbrev pub Fits1 : ℕ → Volume1Read → Type 0
+Fits1 have old = IsState1 old (λ state. needed state ≤ have)
+
+-- What an answer says of the old image and of how many blocks the new disk has. A failed call of the old disk and a lack of memory say
+-- nothing; a failed call of the new disk says that the volume fits there.
 abbrev pub Tells1 : Result Summary MigrateFault → ℕ → Volume1Read → Type 0
 Tells1 (Ok summary) have old = IsState1 old (λ state. (summary ≡ summary_of (lift state)) × (needed state ≤ have))
 Tells1 (Err fault.OldDisk) have old = Unit {0}
@@ -33,7 +37,7 @@ Tells1 (Err fault.New) have old = old ≡ NewVolume1
 Tells1 (Err fault.Damaged) have old = old ≡ Damaged1
 Tells1 (Err (fault.TooSmall need h)) have old = IsState1 old (λ state. (need ≡ needed state) × (h ≡ have) × (have < need))
 Tells1 (Err fault.Memory) have old = Unit {0}
-Tells1 (Err fault.NewDisk) have old = IsState1 old (λ state. needed state ≤ have)
+Tells1 (Err fault.NewDisk) have old = Fits1 have old
 
 -- it spells the state of the old image with passwords that never end
 abbrev pub IsLiftOf : Volume1Read → Image → Type 0
@@ -51,10 +55,14 @@ pub record HasLifted (old c : Image) : Type 0 where
 abbrev pub MayMigrate : Image → Volume1Read → Image → Type 0
 MayMigrate image old c = IsNoState (volume c) ⊎ ((volume c ≡ volume (opened image)) ⊎ IsLiftOf old c)
 
--- no call was made on the new disk but where one failed, or where all was done; a failed read of the old disk may come before
--- them or behind some
+-- After these answers no call was made on the new disk. Of a failed read of the old disk, which may come after calls of the new
+-- one, `StandsBack` and the clause `closed` of `migrate` speak.
 abbrev pub IsUntouched : {D : Type 0} → D → D → Result Summary MigrateFault → Type 0
 IsUntouched old new (Ok summary) = Unit {0}
 IsUntouched old new (Err fault.OldDisk) = Unit {0}
 IsUntouched old new (Err fault.NewDisk) = Unit {0}
 IsUntouched old new _ = new ≡ old
+
+-- No call was made on the new disk, whatever the answer is, where the old image is no volume of version 1 that fits there.
+abbrev pub StandsBack : {D : Type 0} → ℕ → Volume1Read → D → D → Type 0
+StandsBack have before old new = (Fits1 have before → ⊥) → new ≡ old

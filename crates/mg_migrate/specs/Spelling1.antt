@@ -2,7 +2,6 @@
 -- was read the untils are 0; the row that it becomes has the until of a password that never ends.
 use Rattle.std.specs.Prelude.{ℕ, zero, suc, ◌+◌, ◌-◌, ◌*◌, ◌&&◌, nat_le, nat_lt, Bool, not, min, List, [], ◌∷◌, ◌++◌, if◌then◌else◌, length, map, replicate, slice_index, ◌==◌, Option, Some, None, option_map}
 use Rattle.mg_model.specs.declared.slots.Pw.{Pw}
-use Rattle.mg_model.specs.declared.slots.Slot.{Slot}
 use Rattle.mg_model.specs.Bytes.{bytes_at, number_at, numbers_at, padded_to, words_bytes}
 use Rattle.mg_model.specs.Layout.{block_size, magic}
 use Rattle.mg_model.specs.Limits.{entry_point_limit, never}

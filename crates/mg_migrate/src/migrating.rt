@@ -4,7 +4,7 @@ ghost use Rattle.std.specs.Option.{ForSome};
 ghost use Rattle.mg_disk.specs.Disk.{Image};
 ghost use Rattle.mg_disk.specs.Stops.{DiskCallsBy, Leaves, NothingPending, WritesNothing};
 ghost use Rattle.mg_migrate.specs.Copied.{ReadsNow, StandsClosed};
-ghost use Rattle.mg_migrate.specs.Migrated.{HasLifted, IsLiftOf, IsUntouched, MayMigrate, Tells1};
+ghost use Rattle.mg_migrate.specs.Migrated.{Fits1, HasLifted, IsLiftOf, IsUntouched, MayMigrate, StandsBack, Tells1};
 ghost use Rattle.mg_migrate.specs.Version1.{volume1};
 
 use crate::copying::{CopyFault, copy};
@@ -18,8 +18,8 @@ use thiserror::Error;
 /// Why a volume was not migrated.
 #[derive(Debug, Drop, Error)]
 pub enum MigrateFault {
-    /// A call of the old disk failed. Where the copying had begun, the gate of the new disk is closed, and a stop leaves it so; else no
-    /// call was made on it.
+    /// A call of the old disk failed. Where the copying had begun, the old disk holds a volume of version 1 that fits on the new one, and
+    /// the gate of the new one is closed, which a stop leaves so; else no call was made on it.
     #[error("a call of the old disk failed")]
     OldDisk,
     /// The old disk holds no volume: its gate is closed, or no superblock is behind it. No call was made on the new disk.
@@ -55,7 +55,8 @@ pub enum MigrateFault {
 /// The answer tells of the new volume what `check` does. [`MigrateFault::Not`], [`MigrateFault::Old`], [`MigrateFault::New`] and
 /// [`MigrateFault::Damaged`] come exactly where the old image is none, and [`MigrateFault::TooSmall`] exactly where it is a volume
 /// that needs more blocks than the new disk has, unless memory was wanting or a call of the old disk failed before that was known.
-/// [`MigrateFault::OldDisk`] and [`MigrateFault::NewDisk`] come only where a call of that disk failed.
+/// [`MigrateFault::OldDisk`] and [`MigrateFault::NewDisk`] come only where a call of that disk failed. Whatever the answer is, no call is
+/// made on the new disk where the old image is no volume of version 1, or needs more blocks than the new disk has.
 pub fn migrate<D: Disk, E: Disk>(
     alloc: Global,
     new: &mut D,
@@ -69,7 +70,8 @@ pub fn migrate<D: Disk, E: Disk>(
     ensures places { OnOk result (ForSome (E.seen old.old) (λ before. ReadsNow (HasLifted before) (D.seen new.old) (D.seen new.new))) }
     ensures left_places { OnOk result (ForSome (E.seen old.old) (λ before. (c : Image) → D.left_since new.new (D.moment new.new) c → HasLifted before c)) }
     ensures untouched { IsUntouched new.old new.new result }
-    ensures closed { result ≡ Err MigrateFault.OldDisk → (new.new ≡ new.old) ⊎ StandsClosed D.Disk new.new }
+    ensures stands_back { ForSome (E.seen old.old) (λ before. StandsBack (D.block_count new.old) (volume1 before) new.old new.new) }
+    ensures closed { result ≡ Err MigrateFault.OldDisk → (new.new ≡ new.old) ⊎ (StandsClosed D.Disk new.new × ForSome (E.seen old.old) (λ before. Fits1 (D.block_count new.old) (volume1 before))) }
     ensures old_kept { WritesNothing E.Disk old.old old.new }
     ensures old_calls { DiskCallsBy E.Disk old.old old.new (result ≡ Err MigrateFault.OldDisk) }
     ensures new_calls { DiskCallsBy D.Disk new.old new.new (result ≡ Err MigrateFault.NewDisk) }

@@ -13,7 +13,7 @@ use Rattle.mg_faults.specs.Faults.{Rose}
 use Rattle.mg_io.specs.Known.{AppendsPrefix, AppendsPrefix-none}
 use Rattle.mg_io.specs.declared.traits.Sink as sinks
 use Rattle.mg_migrate.specs.Copied.{ReadsNow, StandsClosed}
-use Rattle.mg_migrate.specs.Migrated.{IsLiftOf, IsState1, MayMigrate, needed}
+use Rattle.mg_migrate.specs.Migrated.{Fits1, IsLiftOf, IsState1, MayMigrate, StandsBack, needed}
 use Rattle.mg_migrate.specs.Version1.{Damaged1, Is1, NewVolume1, NotVolume1, OldVolume1, Volume1Read, lift, volume1}
 use Rattle.mg_migrate_session.specs.Headline.{GoesWith, HasPlaces, HasPut, IfState1, MigrateKeeps, StandsAfter, migrate_line, migrate_status}
 use Rattle.mg_model.specs.State.{State}
@@ -61,9 +61,6 @@ disk_no_memory s disk h = cc
 
 disk_no_none : (s : Status) → s ≡ status.Disk → (s ≡ status.NoVolume) ⊎ (s ≡ status.TooSmall) → ⊥
 disk_no_none s disk h = ⊎_elim (λ (e : s ≡ status.NoVolume). cc) (λ (e : s ≡ status.TooSmall). cc) h
-
-memory_no_none : (s : Status) → s ≡ status.Memory → (s ≡ status.NoVolume) ⊎ (s ≡ status.TooSmall) → ⊥
-memory_no_none s memory h = ⊎_elim (λ (e : s ≡ status.NoVolume). cc) (λ (e : s ≡ status.TooSmall). cc) h
 
 -- what the old image spells is told by this status and this line
 pub record IsTold {D : Type 0} (d : disks.Ghosts D) (end : Status) (line : List ℕ) (new new' : D) (v : Volume1Read) : Type 0 where
@@ -117,7 +114,7 @@ small_state1 d need have new (Is1 state) P (needs, has, few) = λ room. absurd (
 
 module _ {D E K : Type 0} (d : disks.Ghosts D) (e : disks.Ghosts E) (to : sinks.Ghosts K) (result : Status) (new new' : D) (old old' : E) (sink sink' : K)
     (moments : NothingPending d new → ForSome (d.seen new) (λ image. ForSome (e.seen old) (λ before. Leaves d new new' (MayMigrate image (volume1 before)))))
-    (kept : WritesNothing e old old') where
+    (back : ForSome (e.seen old) (λ before. StandsBack (d.block_count new) (volume1 before) new new')) (kept : WritesNothing e old old') where
   -- A line tells of the old image, or the sink failed.
   pub told_keeps : (end : Status) (line : List ℕ) → HasPut end → GoesWith end line → ForSome (e.seen old) (λ before. IsTold d end line new new' (volume1 before))
       → ForSome (e.seen old) (λ before. IfState1 (volume1 before) (λ state. needed state ≤ d.block_count new → HasPlaces d before new new'))
@@ -138,6 +135,7 @@ module _ {D E K : Type 0} (d : disks.Ghosts D) (e : disks.Ghosts E) (to : sinks.
     old_kept = kept;
     memory = λ h. absurd (no_memory h);
     disk_failed = λ h. absurd (no_disk h);
+    stands_back = back;
     closed = λ h. absurd (no_disk h);
     sink_failed = rose;
     complete = λ before is. if_state1_then (volume1 before) _ _ (λ state enough room no_new no_old no_sink. ⊎_elim (λ as_told. inl (as_told ∙ enough room)) (λ failed. absurd (no_sink (rose failed))) ends) (told before is).enough;
@@ -167,13 +165,14 @@ module _ {D E K : Type 0} (d : disks.Ghosts D) (e : disks.Ghosts E) (to : sinks.
     old_kept = kept;
     memory = λ h. same;
     disk_failed = λ h. absurd (disk_no_memory result h memory);
+    stands_back = back;
     closed = λ h. absurd (disk_no_memory result h memory);
     sink_failed = λ h. absurd (sink_no_memory result h memory);
     complete = λ before is. every_state1 (volume1 before) _ (λ state room no_new no_old no_sink. inr memory);
   }
 
   -- A call of a disk failed.
-  pub disk_keeps : result ≡ status.Disk → CountRose d new new' ⊎ CountRose e old old' → ((CountRose d new new' → ⊥) → (new' ≡ new) ⊎ StandsClosed d new') → sink' ≡ sink → MigrateKeeps d e to result new new' old old' sink sink'
+  pub disk_keeps : result ≡ status.Disk → CountRose d new new' ⊎ CountRose e old old' → ((CountRose d new new' → ⊥) → (new' ≡ new) ⊎ (StandsClosed d new' × ForSome (e.seen old) (λ before. Fits1 (d.block_count new) (volume1 before)))) → sink' ≡ sink → MigrateKeeps d e to result new new' old old' sink sink'
   disk_keeps disk rose closed same = record {
     ends = λ before is. inr (inr (inl disk));
     which = inr (inr (inl disk));
@@ -187,6 +186,7 @@ module _ {D E K : Type 0} (d : disks.Ghosts D) (e : disks.Ghosts E) (to : sinks.
     old_kept = kept;
     memory = λ h. same;
     disk_failed = λ h. (rose, same);
+    stands_back = back;
     closed = λ h. closed;
     sink_failed = λ h. absurd (sink_no_disk result h disk);
     complete = λ before is. every_state1 (volume1 before) _ (λ state room no_new no_old no_sink. absurd (⊎_elim no_new no_old rose));

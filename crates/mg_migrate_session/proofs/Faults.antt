@@ -10,7 +10,7 @@ use Rattle.mg_faults.specs.Faults.{Rose}
 use Rattle.mg_io.specs.Known.{AppendsPrefix}
 use Rattle.mg_io.specs.declared.traits.Sink as sinks
 use Rattle.mg_migrate.specs.Copied.{StandsClosed}
-use Rattle.mg_migrate.specs.Migrated.{IsUntouched, MayMigrate, Tells1}
+use Rattle.mg_migrate.specs.Migrated.{Fits1, IsUntouched, MayMigrate, StandsBack, Tells1}
 use Rattle.mg_migrate.specs.Version1.{Damaged1, NewVolume1, NotVolume1, OldVolume1, Volume1Read, volume1}
 use Rattle.mg_migrate.specs.declared.migrating.MigrateFault.{MigrateFault}
 use Rattle.mg_migrate.specs.declared.migrating.MigrateFault.TheVariants as fault
@@ -33,37 +33,39 @@ no_state1 v kind P none is = subst (λ w. IfState1 w P) (sym is) none
 pub fault_keeps : {D E K : Type 0} (d : disks.Ghosts D) (e : disks.Ghosts E) (to : sinks.Ghosts K) (f : MigrateFault) (result : Status) (new new' : D) (old old' : E) (sink sink' : K)
     → ForSome (e.seen old) (λ before. Tells1 (Err f) (d.block_count new) (volume1 before))
     → (NothingPending d new → ForSome (d.seen new) (λ image. ForSome (e.seen old) (λ before. Leaves d new new' (MayMigrate image (volume1 before)))))
-    → IsUntouched new new' (Err f) → (◌≡◌ {A = Result Summary MigrateFault} (Err f) (Err fault.OldDisk) → (new' ≡ new) ⊎ StandsClosed d new') → WritesNothing e old old'
+    → IsUntouched new new' (Err f) → ForSome (e.seen old) (λ before. StandsBack (d.block_count new) (volume1 before) new new')
+    → (◌≡◌ {A = Result Summary MigrateFault} (Err f) (Err fault.OldDisk) → (new' ≡ new) ⊎ (StandsClosed d new' × ForSome (e.seen old) (λ before. Fits1 (d.block_count new) (volume1 before))))
+    → WritesNothing e old old'
     → (◌≡◌ {A = Result Summary MigrateFault} (Err f) (Err fault.OldDisk) → CountRose e old old') → (◌≡◌ {A = Result Summary MigrateFault} (Err f) (Err fault.NewDisk) → CountRose d new new')
     → EndsUnmigratedBy f result → (HasPut result → Appends (to.taken sink) (to.taken sink') (fault_line f)) → AppendsPrefix (to.taken sink) (to.taken sink') (fault_line f)
     → (TellsNothingOld f → sink' ≡ sink) → (result ≡ status.Sink → Rose (to.faults sink) (to.faults sink') (to.is_spent sink'))
     → MigrateKeeps d e to result new new' old old' sink sink'
-fault_keeps d e to fault.OldDisk result new new' old old' sink sink' told moments untouched closed kept old_rose new_rose ends put prefix quiet rose =
-    disk_keeps d e to result new new' old old' sink sink' moments kept ends (inr (old_rose refl)) (λ no. closed refl) (quiet tt)
-fault_keeps d e to fault.Not result new new' old old' sink sink' told moments untouched closed kept old_rose new_rose ends put prefix quiet rose =
-    told_keeps d e to result new new' old old' sink sink' moments kept status.NoVolume (fault_line fault.Not) (inr (inl refl)) (inl refl)
+fault_keeps d e to fault.OldDisk result new new' old old' sink sink' told moments untouched back closed kept old_rose new_rose ends put prefix quiet rose =
+    disk_keeps d e to result new new' old old' sink sink' moments back kept ends (inr (old_rose refl)) (λ no. closed refl) (quiet tt)
+fault_keeps d e to fault.Not result new new' old old' sink sink' told moments untouched back closed kept old_rose new_rose ends put prefix quiet rose =
+    told_keeps d e to result new new' old old' sink sink' moments back kept status.NoVolume (fault_line fault.Not) (inr (inl refl)) (inl refl)
     (λ before is. of_kind d (fault_line fault.Not) new new' (volume1 before) NotVolume1 (record { ends = refl; puts = refl; stands = untouched; enough = tt }) (told before is))
     (λ before is. no_state1 (volume1 before) NotVolume1 _ tt (told before is))
     (λ none. untouched) ends (λ none. put (inr (inl none))) prefix rose
-fault_keeps d e to fault.Old result new new' old old' sink sink' told moments untouched closed kept old_rose new_rose ends put prefix quiet rose =
-    told_keeps d e to result new new' old old' sink sink' moments kept status.NoVolume (fault_line fault.Old) (inr (inl refl)) (inr (inl refl))
+fault_keeps d e to fault.Old result new new' old old' sink sink' told moments untouched back closed kept old_rose new_rose ends put prefix quiet rose =
+    told_keeps d e to result new new' old old' sink sink' moments back kept status.NoVolume (fault_line fault.Old) (inr (inl refl)) (inr (inl refl))
     (λ before is. of_kind d (fault_line fault.Old) new new' (volume1 before) OldVolume1 (record { ends = refl; puts = refl; stands = untouched; enough = tt }) (told before is))
     (λ before is. no_state1 (volume1 before) OldVolume1 _ tt (told before is))
     (λ none. untouched) ends (λ none. put (inr (inl none))) prefix rose
-fault_keeps d e to fault.New result new new' old old' sink sink' told moments untouched closed kept old_rose new_rose ends put prefix quiet rose =
-    told_keeps d e to result new new' old old' sink sink' moments kept status.NoVolume (fault_line fault.New) (inr (inl refl)) (inr (inr (inl refl)))
+fault_keeps d e to fault.New result new new' old old' sink sink' told moments untouched back closed kept old_rose new_rose ends put prefix quiet rose =
+    told_keeps d e to result new new' old old' sink sink' moments back kept status.NoVolume (fault_line fault.New) (inr (inl refl)) (inr (inr (inl refl)))
     (λ before is. of_kind d (fault_line fault.New) new new' (volume1 before) NewVolume1 (record { ends = refl; puts = refl; stands = untouched; enough = tt }) (told before is))
     (λ before is. no_state1 (volume1 before) NewVolume1 _ tt (told before is))
     (λ none. untouched) ends (λ none. put (inr (inl none))) prefix rose
-fault_keeps d e to fault.Damaged result new new' old old' sink sink' told moments untouched closed kept old_rose new_rose ends put prefix quiet rose =
-    told_keeps d e to result new new' old old' sink sink' moments kept status.NoVolume (fault_line fault.Damaged) (inr (inl refl)) (inr (inr (inr refl)))
+fault_keeps d e to fault.Damaged result new new' old old' sink sink' told moments untouched back closed kept old_rose new_rose ends put prefix quiet rose =
+    told_keeps d e to result new new' old old' sink sink' moments back kept status.NoVolume (fault_line fault.Damaged) (inr (inl refl)) (inr (inr (inr refl)))
     (λ before is. of_kind d (fault_line fault.Damaged) new new' (volume1 before) Damaged1 (record { ends = refl; puts = refl; stands = untouched; enough = tt }) (told before is))
     (λ before is. no_state1 (volume1 before) Damaged1 _ tt (told before is))
     (λ none. untouched) ends (λ none. put (inr (inl none))) prefix rose
-fault_keeps d e to (fault.TooSmall need have) result new new' old old' sink sink' told moments untouched closed kept old_rose new_rose ends put prefix quiet rose =
-    told_keeps d e to result new new' old old' sink sink' moments kept status.TooSmall (fault_line (fault.TooSmall need have)) (inr (inr refl)) ((need, have), refl)
+fault_keeps d e to (fault.TooSmall need have) result new new' old old' sink sink' told moments untouched back closed kept old_rose new_rose ends put prefix quiet rose =
+    told_keeps d e to result new new' old old' sink sink' moments back kept status.TooSmall (fault_line (fault.TooSmall need have)) (inr (inr refl)) ((need, have), refl)
     (λ before is. too_small d need have new new' (volume1 before) (told before is) untouched) (λ before is. small_state1 d need have new (volume1 before) _ (told before is)) (λ small. untouched) ends (λ small. put (inr (inr small))) prefix rose
-fault_keeps d e to fault.Memory result new new' old old' sink sink' told moments untouched closed kept old_rose new_rose ends put prefix quiet rose =
-    memory_keeps d e to result new new' old old' sink sink' moments kept ends untouched (quiet tt)
-fault_keeps d e to fault.NewDisk result new new' old old' sink sink' told moments untouched closed kept old_rose new_rose ends put prefix quiet rose =
-    disk_keeps d e to result new new' old old' sink sink' moments kept ends (inl (new_rose refl)) (λ no. absurd (no (new_rose refl))) (quiet tt)
+fault_keeps d e to fault.Memory result new new' old old' sink sink' told moments untouched back closed kept old_rose new_rose ends put prefix quiet rose =
+    memory_keeps d e to result new new' old old' sink sink' moments back kept ends untouched (quiet tt)
+fault_keeps d e to fault.NewDisk result new new' old old' sink sink' told moments untouched back closed kept old_rose new_rose ends put prefix quiet rose =
+    disk_keeps d e to result new new' old old' sink sink' moments back kept ends (inl (new_rose refl)) (λ no. absurd (no (new_rose refl))) (quiet tt)

@@ -10,7 +10,7 @@ use Rattle.mg_faults.specs.Faults.{Rose}
 use Rattle.mg_io.specs.Known.{AppendsPrefix}
 use Rattle.mg_io.specs.declared.traits.Sink as sinks
 use Rattle.mg_migrate.specs.Copied.{ReadsNow, StandsClosed}
-use Rattle.mg_migrate.specs.Migrated.{HasLifted, IsLiftOf, MayMigrate, needed}
+use Rattle.mg_migrate.specs.Migrated.{Fits1, HasLifted, IsLiftOf, MayMigrate, StandsBack, needed}
 use Rattle.mg_migrate.specs.Version1.{Damaged1, Is1, NewVolume1, NotVolume1, OldVolume1, Volume1Read, lift, volume1}
 use Rattle.mg_model.specs.State.{State}
 use Rattle.mg_model.specs.Volume.{Damaged, Is, NotVolume, OldVolume}
@@ -100,8 +100,11 @@ pub record MigrateKeeps {D E K : Type 0} (d : disks.Ghosts D) (e : disks.Ghosts 
   -- Where memory was wanting, or a disk failed, nothing was put; a disk and the sink failed only where their counts rose.
   pub memory : result ≡ status.Memory → sink' ≡ sink
   pub disk_failed : result ≡ status.Disk → (CountRose d new new' ⊎ CountRose e old old') × (sink' ≡ sink)
-  -- Where the old disk failed alone, no call was made on the new one, or the copying had begun and the gate of the new one is closed.
-  pub closed : result ≡ status.Disk → (CountRose d new new' → ⊥) → (new' ≡ new) ⊎ StandsClosed d new'
+  -- No call was made on the new disk, at any status, where the old image is no volume of version 1 that fits there.
+  pub stands_back : ForSome (e.seen old) (λ before. StandsBack (d.block_count new) (volume1 before) new new')
+  -- Where the old disk failed alone, no call was made on the new one, or the copying of a volume that fits had begun, and the gate of the
+  -- new one is closed.
+  pub closed : result ≡ status.Disk → (CountRose d new new' → ⊥) → (new' ≡ new) ⊎ (StandsClosed d new' × ForSome (e.seen old) (λ before. Fits1 (d.block_count new) (volume1 before)))
   pub sink_failed : result ≡ status.Sink → Rose (to.faults sink) (to.faults sink') (to.is_spent sink')
   -- Of a volume that the new disk is large enough for, where no call failed, all is done, or memory was wanting.
   pub complete : ForSome (e.seen old) (λ before. IfState1 (volume1 before) (λ state. needed state ≤ d.block_count new → (CountRose d new new' → ⊥) → (CountRose e old old' → ⊥)

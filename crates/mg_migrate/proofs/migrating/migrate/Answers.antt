@@ -1,4 +1,4 @@
-use Rattle.std.proofs.Common.{rules, sym, ap, subst, ◌∙◌, ◌≡◌, arith}
+use Rattle.std.proofs.Common.{rules, sym, ap, subst, ◌∙◌, ◌≡◌, arith, inr}
 use Rattle.mg_disk.specs.Runs.{leaves_wider}
 use Rattle.mg_migrate.proofs.LiftedCopy.{contents-are, copy-may, left-lifts, reads-lift, reads-places, tells-done, tells-enough, tells-small, untouched_may}
 use Rattle.mg_migrate.specs.Layout1.{total1_blocks}
@@ -91,3 +91,19 @@ returns-in-Ok-clause-places g c before read =
 pub returns-in-Ok-clause-left_places : goal.returns-in-Ok-clause-left_places
 returns-in-Ok-clause-left_places g c before read i left =
     left-lifts (HasLifted before) (g.D.Disk.seen c.args.new.now) (g.D.Disk.seen c.copy.new.new) i (returns-in-Ok-clause-places g c before read) (c.in-Ok.ensures.settled i left)
+
+pub returns-in-Ok-clause-stands_back : goal.returns-in-Ok-clause-stands_back
+returns-in-Ok-clause-stands_back g c before read unfit =
+    absurd (unfit (tells-enough c.in_ok-lifting.lifting c.in_ok-lifting.rows before (c.in_ok-lifting.ensures.told before read) (g.D.Disk.block_count c.args.new.now) (search rules)))
+
+pub returns-in-Err-From-clause-stands_back : goal.returns-in-Err-From-clause-stands_back
+returns-in-Err-From-clause-stands_back g c before read unfit =
+    absurd (unfit (tells-enough c.in_ok-lifting.lifting c.in_ok-lifting.rows before (c.in_ok-lifting.ensures.told before read) (g.D.Disk.block_count c.args.new.now) (search rules)))
+
+pub returns-in-Err-From-clause-closed : goal.returns-in-Err-From-clause-closed
+returns-in-Err-From-clause-closed g c failed =
+    inr (c.in-Err-From.ensures.closed (search rules), λ before read. tells-enough c.in_ok-lifting.lifting c.in_ok-lifting.rows before (c.in_ok-lifting.ensures.told before read) (g.D.Disk.block_count c.args.new.now) (search rules))
+
+pub returns-clause-stands_back : goal.returns-clause-stands_back
+returns-clause-stands_back g c before read unfit =
+    absurd (unfit (tells-enough c.in_ok-lifting.lifting c.in_ok-lifting.rows before (c.in_ok-lifting.ensures.told before read) (g.D.Disk.block_count c.args.new.now) (search rules)))
