@@ -30,10 +30,6 @@ pub entry-miss : (test : ℕ × ℕ → Bool) (words : List ℕ) (j n : ℕ) →
 entry-miss test words j n h miss same =
     same ∙ list_any-entries_from test words j n h ∙ ap (λ v. v || list_any test (entries_from words (j + 1) (n - (j + 1)))) (sym miss)
 
--- behind the last there is none
-pub entry-end : (test : ℕ × ℕ → Bool) (words : List ℕ) (n : ℕ) → list_any test (entries_of words) ≡ list_any test (entries_from words n (n - n)) → false ≡ list_any test (entries_of words)
-entry-end test words n same = let e : n - n ≡ 0 = omega arith in sym (same ∙ ap (λ k. list_any test (entries_from words n k)) e)
-
 -- a search through lists of entries, one list after another
 list_any-flat_map : {X Y : Type 0} (test : Y → Bool) (f : X → List Y) (xs : List X) → list_any test (flat_map f xs) ≡ list_any (λ x. list_any test (f x)) xs
 list_any-flat_map test f [] = refl

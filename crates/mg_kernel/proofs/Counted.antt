@@ -25,14 +25,6 @@ use Rattle.mg_volume.specs.RunLemmas.{told_thread}
 pub no-keys : (state : State) (kept kept' : Key → Bool) → ((key : Key) → kept' key ≡ kept key) → KeepsKeys state [] kept kept'
 no-keys state kept kept' same = record { stays = λ key was own. same key ∙ was; comes = λ key first. cc }
 
--- a call that makes no access and has no word
-pub still-call : (state : State) (t : ℕ) (made : Call) (kept : Key → Bool) (steps : ℕ) → call_accesses state t made ≡ [] → call_words state t made ≡ 0 → KeepsCall state t made kept kept steps steps
-still-call state t made kept steps none own = record {
-  keys = λ quiet. subst (λ those. KeepsKeys state those kept kept) (sym none) (no-keys state kept kept (λ key. refl));
-  least = omega arith;
-  most = omega arith;
-}
-
 -- and a line like that
 pub still-line : (state : State) (line : Line) (kept : Key → Bool) (steps : ℕ) → accesses state line ≡ [] → words_of state line ≡ 0 → KeepsLine state line kept kept steps steps
 still-line state line kept steps none own = record {

@@ -10,8 +10,7 @@ use Rattle.mg_laws.specs.Backing.{BackingRestsOnDomain}
 use Rattle.mg_laws.specs.Laws.{RanNext, RunsNextReady}
 use Rattle.mg_laws.specs.Scripts.{RestsOnNoCursor, at_cursor}
 use Rattle.mg_model.specs.declared.replies.After.{After}
-use Rattle.mg_model.specs.declared.replies.Refusal.TheVariants.{Idle}
-use Rattle.mg_model.specs.declared.replies.Reply.TheVariants.{No, Ran}
+use Rattle.mg_model.specs.declared.replies.Reply.TheVariants.{Ran}
 use Rattle.mg_model.specs.declared.seats.Seat.{Seat}
 use Rattle.mg_model.specs.Backed.{KeepsBacked, by_none}
 use Rattle.mg_model.specs.Access.{thread_of}
@@ -38,13 +37,6 @@ picks state n numbered = by_picked (picked state) refl numbered
     by_picked : (o : Option Thread) → picked state ≡ o → Some n ≡ option_map (λ (thread : Thread). thread.number) o → Picks state n
     by_picked None is numbered = cc
     by_picked (Some thread) is numbered = let same : thread.number ≡ n = cc in record { thread = thread; is = is; number = same }
-
-pub picks-none : (state : State) → None ≡ option_map (λ (thread : Thread). thread.number) (picked state) → picked state ≡ None
-picks-none state none = by_picked (picked state) none
-  where
-    by_picked : (o : Option Thread) → None ≡ option_map (λ (thread : Thread). thread.number) o → o ≡ None
-    by_picked None none = refl
-    by_picked (Some thread) none = cc
 
 -- a thread that is found is found by its number
 found-numbered : (test : Thread → Bool) (threads : List Thread) (thread : Thread) → find test threads ≡ Some thread → find (λ (other : Thread). other.number == thread.number) threads ≡ None → ⊥
@@ -123,9 +115,6 @@ module _ (state : State) (n : ℕ) (has : Picks state n) where
       ∙ ap (λ (s : State). (s, Ran n (after_of s n))) (law state n n ∙ ap (λ s. at_cursor s n) turns)
       ∙ ap (λ l. (at_cursor middle n, Ran n l)) (sym after)
       ∙ ap (λ s. (s, Ran n left)) (sym moves)
-
-pub next-idle : (state : State) → picked state ≡ None → next state ≡ (state, No Idle)
-next-idle state none = ap (λ o. run_next state o) none
 
 -- no seat rests on the cursor
 pub cursor-backed : (state last : State) (n : ℕ) (seats : List (Option Seat)) → BackingRestsOnDomain → last ≡ at_cursor state n → AllBacked state seats → AllBacked last seats

@@ -187,8 +187,3 @@ module _ (state : State) (u : ℕ) (thread : Thread) (runs : picked state ≡ So
 
   pub next-within : (kept : Key → Bool) (steps steps' : ℕ) → steps' ≤ steps + turn_limit kept state thread → steps' ≤ steps + line_limit kept state nexts
   next-within kept steps steps' few = limit-line state nexts thread next-accesses next-words kept steps steps' few
-
--- `next` where no thread is Ready
-pub idle-next : (state : State) (u : ℕ) (kept : Key → Bool) (steps : ℕ) → picked state ≡ None → KeepsLine state (record { thread = u; call = call.Next }) kept kept steps steps
-idle-next state u kept steps idle =
-    still-line state (record { thread = u; call = call.Next }) kept steps (ap (λ o. option_map_or (λ x. turn_accesses state x) o []) idle) (ap (λ o. option_map_or (λ x. turn_words state x) o 0) idle)

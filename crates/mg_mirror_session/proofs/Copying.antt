@@ -1,7 +1,7 @@
 -- What a stop within the copy leaves of the other disk, as the promise speaks of it.
-use Rattle.std.specs.Prelude.{ℕ, ◌≡◌, ◌⊎◌, ◌≤◌, List, [], length, min, slice_index, take, Option, Some, None}
+use Rattle.std.specs.Prelude.{ℕ, ◌≡◌, ◌⊎◌, ◌≤◌, List, [], length, slice_index, take, Option, Some, None}
 use Rattle.std.specs.Option.{ForSome}
-use Rattle.std.proofs.Common.{refl, sym, ap, subst, ◌∙◌, inl, inr, ⊎_elim, arith}
+use Rattle.std.proofs.Common.{sym, ap, ◌∙◌, inl, inr, ⊎_elim, arith}
 use Rattle.std.proofs.lemmas.Bool.{cases_eq, cases_lt}
 use Rattle.std.proofs.lemmas.List.{get_or-take, length-take}
 use Rattle.std.proofs.Math.Nat.{min-le_left}
@@ -19,7 +19,6 @@ use Rattle.mg_mirror_session.specs.Headline.{CopyHolds, MayHold}
 use Rattle.mg_mirror_session.specs.Judged.{first_fault}
 use Rattle.mg_mirror_session.specs.Ran.{out_left, out_right}
 use Rattle.mg_model.specs.Layout.{gate_block, gate_open}
-use Rattle.mg_model.specs.Replay.{block_of}
 use Rattle.mg_model.specs.Volume.{IsOpened, NotVolume, gate_byte, volume}
 use Rattle.mg_model.specs.VolumeLemmas.{volume-closed, volume-same_behind, volume-short}
 
@@ -85,16 +84,6 @@ none_some x is = cc
 
 some_is : {A : Type 0} (x y : A) → Some x ≡ Some y → x ≡ y
 some_is x y is = cc
-
-pub left_known : {D : Type 0} (alone : Option Side) (disk : D) → ForSome (out_left alone disk) (λ d. (alone ≡ Some Right) × (disk ≡ d))
-left_known (Some Right) disk d is = (refl, some_is disk d is)
-left_known (Some Left) disk d is = absurd (none_some d is)
-left_known None disk d is = absurd (none_some d is)
-
-pub right_known : {E : Type 0} (alone : Option Side) (disk : E) → ForSome (out_right alone disk) (λ e. (alone ≡ Some Left) × (disk ≡ e))
-right_known (Some Left) disk e is = (refl, some_is disk e is)
-right_known (Some Right) disk e is = absurd (none_some e is)
-right_known None disk e is = absurd (none_some e is)
 
 pub left_stayed : {D : Type 0} (alone : Option Side) (disk last : D) → ForSome (out_left alone disk) (λ d. last ≡ d) → alone ≡ Some Right → last ≡ disk
 left_stayed alone disk last known is = known disk (ap (λ a. out_left a disk) is)

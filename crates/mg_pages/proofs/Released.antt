@@ -1,7 +1,7 @@
 -- What is left of a frame table once the pages of a range are released.
 use Rattle.std.specs.Prelude.{◌≡◌, ◌≢◌, ◌⊎◌, ◌+◌, ◌≤◌, ◌<◌, ◌==◌, nat_le, nat_lt, if◌then◌else◌, ℕ, true, false, List, [], ◌∷◌, length, map, option_map, suc}
 use Rattle.std.specs.List.{list_any, position}
-use Rattle.std.proofs.Common.{refl, sym, ap, ◌∙◌, ⊎_elim, inl, inr, arith}
+use Rattle.std.proofs.Common.{refl, sym, ap, subst, ◌∙◌, ⊎_elim, inl, inr, arith}
 use Rattle.std.proofs.lemmas.Bool.{and_from, and_parts, both_ways, cases_Bool, eqb-true, le-leb, leb-true, lt-ltb, ltb-true, ne_eqb, or_cases, or_from, or_left, or_right}
 use Rattle.std.proofs.lemmas.List.{length-map}
 use Rattle.mg_disk.specs.Disk.{Image, block_at}
@@ -9,18 +9,18 @@ use Rattle.mg_frames.specs.Distinct.{distinct-released}
 use Rattle.mg_frames.specs.Places.{nowhere, position-here, position-there}
 use Rattle.mg_frames.specs.Words.{is_within, unless_within}
 use Rattle.mg_journal.specs.WrittenLemmas.{written_elsewhere}
-use Rattle.mg_journal.specs.Held.{Store}
 use Rattle.mg_model.specs.Layout.{body_limit, first_frame, table_block, table_blocks, total_blocks}
 use Rattle.mg_model.specs.Volume.{page_words}
 use Rattle.mg_pages.proofs.Changed.{long-coming}
-use Rattle.mg_pages.proofs.Counted.{page-is}
-use Rattle.mg_pages.proofs.OneBlock.{stages-more}
-use Rattle.mg_pages.proofs.Opened.{coming-is, held-spelled, staged-is, table-is}
 use Rattle.mg_pages.proofs.PageWords.{page-none, page-same}
-use Rattle.mg_pages.proofs.Tables.{held, spelled-is, spelled-new}
-use Rattle.mg_pages.specs.Held.{IsSound, PagesHeld}
-use Rattle.mg_pages.specs.Meaning.{IsSpelledBy, Releases, StagesMore, Unbinds, page_now, replayed, staged_of}
 use Rattle.mg_pages.specs.Parts.{StagesTable, coming_of}
+use Rattle.mg_pages.proofs.Counted.{coming-as, page-as}
+use Rattle.mg_pages.proofs.Tables.{spelled-new}
+use Rattle.mg_pages.specs.declared.pages.Pages.{Pages}
+use Rattle.mg_pages.specs.declared.blocks.Blocks.{Blocks}
+use Rattle.mg_pages.specs.Held.{IsSound, with_writes}
+use Rattle.mg_pages.specs.Kept.{AreKept}
+use Rattle.mg_pages.specs.Meaning.{IsSpelledBy, Releases, Unbinds, coming, page_now, replayed, table_in}
 
 within-parts : (first pages x : ℕ) → is_within first pages x ≡ true → (first ≤ x) × (x < first + pages)
 within-parts first pages x is = let parts = and_parts (nat_le first x) (nat_lt x (first + pages)) is in (leb-true first x parts.0, ltb-true x (first + pages) parts.1)
@@ -88,79 +88,67 @@ none-new first pages page (x ∷ frames) some is =
         (λ within. absurd (some (sym (eqb-true 0 page (sym (ap (λ t. (if t then 0 else x) == page) within) ∙ here)))))
         (λ out. sym (ap (λ t. (if t then 0 else x) == page) out) ∙ here) (cases_Bool (is_within first pages x))
 
-module _ (store : Store) (frames : List ℕ) (writes writes' : List (ℕ × List ℕ)) (count : ℕ) (kept : List (ℕ × List ℕ)) (first pages : ℕ) (p : PagesHeld) (view : held store frames writes count kept ≡ p) (sound : IsSound (held store frames writes count kept))
-    (stages : StagesTable frames (map (unless_within first pages) frames) (table_blocks (length frames)) writes writes') (room : length writes + 128 ≤ body_limit) where
-  abbrev left : PagesHeld
-  left = held store (map (unless_within first pages) frames) writes' count kept
+pub sound-released : (total : ℕ) (frames : List ℕ) (writes writes' : List (ℕ × List ℕ)) (first pages : ℕ) → StagesTable frames (map (unless_within first pages) frames) (table_blocks (length frames)) writes writes' → length writes + 128 ≤ body_limit
+    → IsSound total frames writes → IsSound total (map (unless_within first pages) frames) writes'
+sound-released total frames writes writes' first pages stages room sound =
+    let same = length-map frames (unless_within first pages) in
+    let some = sound.some in
+    let few = sound.few in
+    let size = sound.size in
+    let more = stages.few in
+    record {
+      some = omega arith;
+      few = omega arith;
+      size = sound.size ∙ ap total_blocks (sym same);
+      distinct = distinct-released first pages frames sound.distinct;
+      waiting = omega arith;
+      homes = stages.homes total (omega arith) sound.homes;
+      once = stages.once;
+    }
 
-  pub as-many : length (map (unless_within first pages) frames) ≡ length frames
-  as-many = length-map frames (unless_within first pages)
+module _ (p q : Pages) (first pages : ℕ) (same_blocks : q.blocks ≡ with_writes p.blocks q.blocks.writes) (new_frames : q.frames ≡ map (unless_within first pages) p.frames)
+    (stages : StagesTable p.frames (map (unless_within first pages) p.frames) (table_blocks (length p.frames)) p.blocks.writes q.blocks.writes) where
+  abbrev released : List ℕ
+  released = map (unless_within first pages) p.frames
 
-  pub sound-released : IsSound left
-  sound-released =
-      let same = as-many in
-      let some = sound.some in
-      let few = sound.few in
-      let size = sound.size in
-      let more = stages.few in
-      record {
-        some = omega arith;
-        few = omega arith;
-        size = sound.size ∙ ap total_blocks (sym same);
-        distinct = distinct-released first pages frames sound.distinct;
-        waiting = omega arith;
-        homes = stages.homes store.total (omega arith) sound.homes;
-        once = stages.once;
-      }
+  many : length q.frames ≡ length p.frames
+  many = ap (λ (xs : List ℕ). length xs) new_frames ∙ length-map p.frames (unless_within first pages)
 
-  pub staged-released : StagesMore 128 p left
-  staged-released =
-      let few = sound.few in
-      let more = stages.few in
-      stages-more 128 store frames (map (unless_within first pages) frames) writes writes' count kept count kept p view stages.least (omega arith) stages.still
+  same_store : q.blocks.store ≡ p.blocks.store
+  same_store = ap (λ (b : Blocks). b.store) same_blocks
 
-  long-replayed : (image : Image) → IsSpelledBy p image → table_block + table_blocks (length frames) ≤ length (replayed store.total image)
+  long-replayed : (image : Image) → IsSpelledBy p image → table_block + table_blocks (length p.frames) ≤ length (replayed p.blocks.store.total image)
   long-replayed image is =
-      let long = long-coming store frames writes count kept image (spelled-is (held store frames writes count kept) image (held-spelled store frames writes count kept p view image is)) in
-      let size = sound.size in
-      let e = (written_elsewhere writes (replayed store.total image)).count in
+      let long = long-coming p image is in
+      let size = p.sound.size in
+      let e = (written_elsewhere p.blocks.writes (replayed p.blocks.store.total image)).count in
       omega arith
 
-  pub spelled-released : (image : Image) → IsSpelledBy p image → IsSpelledBy left image
+  pub spelled-released : (image : Image) → IsSpelledBy p image → IsSpelledBy q image
   spelled-released image is =
-      spelled-new store frames (map (unless_within first pages) frames) writes writes' count kept count kept image as-many sound-released.homes sound-released.distinct
-      (λ holds k few. stages.holds (replayed store.total image) k few (long-replayed image is) (holds k few))
-      (λ kept. kept)
-      (held-spelled store frames writes count kept p view image is)
+      spelled-new p q image same_store many (λ holds k few. rw new_frames (stages.holds (replayed p.blocks.store.total image) k few (long-replayed image is) (holds k few)))
+      (subst (λ (b : Blocks). AreKept (first_frame (length p.frames)) (replayed p.blocks.store.total image) p.blocks.kept → AreKept (first_frame (length p.frames)) (replayed p.blocks.store.total image) b.kept) (sym same_blocks) (λ kept. kept)) is
 
-  pub unbinds-released : Unbinds first pages p left
+  pub unbinds-released : Unbinds first pages p q
+  unfolding table_in
   unbinds-released = record {
-    inside = λ page some low high.
-        ap (list_any (λ entry. entry == page)) (table-is store (map (unless_within first pages) frames) writes' count kept left refl) ∙ none-within first pages page frames some low high;
-    outside = λ page some bound.
-        ap (list_any (λ entry. entry == page)) (table-is store frames writes count kept p view)
-        ∙ none-new first pages page frames some (sym (ap (list_any (λ entry. entry == page)) (table-is store (map (unless_within first pages) frames) writes' count kept left refl)) ∙ bound);
+    inside = λ page some low high. rw new_frames (none-within first pages page p.frames some low high);
+    outside = λ page some bound. none-new first pages page p.frames some (rw new_frames at bound);
   }
 
-  pub releases : (image : Image) → Releases p left image first pages
+  pub releases : (image : Image) → Releases p q image first pages
+  unfolding coming
   releases image =
-      let r = coming_of store writes image in
-      let r' = coming_of store writes' image in
-      let n = length frames in
-      let frames' = map (unless_within first pages) frames in
-      let now : (page : ℕ) → page_now left image page ≡ page_words r' n frames' page = λ page. page-is store frames' writes' count kept left refl image page ∙ ap (λ m. page_words r' m frames' page) as-many in
-      let was : (page : ℕ) → page_now p image page ≡ page_words r n frames page = page-is store frames writes count kept p view image in
+      let r = coming_of p.blocks.store p.blocks.writes image in
+      let r' = coming_of p.blocks.store q.blocks.writes image in
+      let n = length p.frames in
+      let now : (page : ℕ) → page_now q image page ≡ page_words r' n released page = λ page. page-as q p.blocks.store released q.blocks.writes same_store new_frames refl image page ∙ ap (λ m. page_words r' m released page) (length-map p.frames (unless_within first pages)) in
+      let was : (page : ℕ) → page_now p image page ≡ page_words r n p.frames page = page-as p p.blocks.store p.frames p.blocks.writes refl refl refl image in
       record {
-        inside = λ page some low high. now page ∙ page-none r' n frames' page (nowhere (λ entry. entry == page) frames' (none-within first pages page frames some low high));
+        inside = λ page some low high. now page ∙ page-none r' n released page (nowhere (λ entry. entry == page) released (none-within first pages page p.frames some low high));
         outside = λ page some out.
             now page
-            ∙ page-same r r' n frames frames' page (same-place first pages page frames some out) (λ k there. stages.apart (replayed store.total image) (first_frame n + k) (inr (omega arith)))
+            ∙ page-same r r' n p.frames released page (same-place first pages page p.frames some out) (λ k there. stages.apart (replayed p.blocks.store.total image) (first_frame n + k) (inr (omega arith)))
             ∙ sym (was page);
-        rows = λ k few.
-            ap (λ i. block_at i k) (coming-is store frames' writes' count kept left refl image)
-            ∙ stages.apart (replayed store.total image) k (inl few)
-            ∙ ap (λ i. block_at i k) (sym (coming-is store frames writes count kept p view image));
+        rows = λ k few. ap (λ i. block_at i k) (coming-as q p.blocks.store released q.blocks.writes same_store new_frames refl image) ∙ stages.apart (replayed p.blocks.store.total image) k (inl few);
       }
-
-pub room-many : (store : Store) (frames : List ℕ) (writes : List (ℕ × List ℕ)) (count : ℕ) (kept : List (ℕ × List ℕ)) (p : PagesHeld) → held store frames writes count kept ≡ p → staged_of p ≤ 32 → length writes + 128 ≤ body_limit
-room-many store frames writes count kept p view few = let e = staged-is store frames writes count kept p view in omega arith

@@ -1,11 +1,11 @@
 -- Blocks of the frame table are staged one after another.
-use Rattle.std.specs.Prelude.{◌≡◌, ◌≢◌, ◌+◌, ◌*◌, ◌/◌, ◌≤◌, ◌<◌, ℕ, true, false, if◌then◌else◌, List, [], length, map, slice_index}
-use Rattle.std.proofs.Common.{refl, sym, ap, ◌∙◌, ⊎_elim, inl, inr, arith}
+use Rattle.std.specs.Prelude.{◌≡◌, ◌≢◌, ◌+◌, ◌*◌, ◌/◌, ◌≤◌, ◌<◌, ℕ, false, if◌then◌else◌, List, [], length, map, slice_index}
+use Rattle.std.proofs.Common.{sym, ap, ◌∙◌, ⊎_elim, inl, inr, arith}
 use Rattle.std.proofs.lemmas.Bool.{cases_eq, cases_lt}
 use Rattle.std.proofs.lemmas.List.{get_or-map, get_or-set_other, get_or-set_same, get_or_past, length-map}
 use Rattle.mg_disk.specs.Disk.{Image, block_at}
 use Rattle.mg_frames.specs.Words.{is_within, unless_within}
-use Rattle.mg_journal.specs.Staged.{are_once, staged}
+use Rattle.mg_journal.specs.Staged.{staged}
 use Rattle.mg_journal.specs.WrittenLemmas.{written_elsewhere}
 use Rattle.mg_model.specs.Bytes.{number_at}
 use Rattle.mg_model.specs.Layout.{table_block}
@@ -14,17 +14,6 @@ use Rattle.mg_pages.proofs.OneBlock.{still-named}
 use Rattle.mg_pages.proofs.Staging.{fit-staged, length-kept, length-staged, once-staged, written-staged}
 use Rattle.mg_pages.specs.Entries.{HoldsEntries}
 use Rattle.mg_pages.specs.Parts.{StagesTable}
-
-pub none-staged : (frames new_frames : List ℕ) (writes : List (ℕ × List ℕ)) → are_once writes ≡ true → StagesTable frames new_frames 0 writes writes
-none-staged frames new_frames writes once = record {
-  once = once;
-  least = omega arith;
-  few = omega arith;
-  still = λ block is. is;
-  homes = λ total room fit. fit;
-  apart = λ r block where'. refl;
-  holds = λ r k below long hold. absurd (omega arith);
-}
 
 module _ (frames new_frames : List ℕ) (k : ℕ) (old mid : List (ℕ × List ℕ)) (so_far : StagesTable frames new_frames k old mid) where
   -- a block more that is staged

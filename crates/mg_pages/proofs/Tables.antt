@@ -1,50 +1,38 @@
 -- What changes of an image and of the frames leave of the frame table.
-use Rattle.std.specs.Prelude.{◌≡◌, ◌≢◌, ◌+◌, ◌*◌, ◌/◌, ◌≤◌, ◌<◌, ℕ, true, List, length, slice_set}
+use Rattle.std.specs.Prelude.{◌≡◌, ◌≢◌, ◌+◌, ◌*◌, ◌/◌, ◌≤◌, ◌<◌, ℕ, List, length, slice_set}
 use Rattle.std.proofs.Common.{sym, ap, subst, ◌∙◌, ⊎_elim, arith, get_or}
 use Rattle.std.proofs.lemmas.Bool.{cases_eq}
 use Rattle.std.proofs.lemmas.List.{get_or-set_other}
 use Rattle.mg_disk.specs.Disk.{Image, block_at}
 use Rattle.mg_journal.specs.Held.{Store}
+use Rattle.mg_journal.specs.Standing as journal
 use Rattle.mg_model.specs.Bytes.{number_at}
-use Rattle.mg_model.specs.Layout.{first_frame, table_block, table_blocks, total_blocks}
-use Rattle.mg_model.specs.Replay.{homes_fit}
-use Rattle.mg_model.specs.Tests.{all_distinct}
-use Rattle.mg_model.specs.Volume.{bound_pages}
+use Rattle.mg_model.specs.Layout.{first_frame, table_block, table_blocks}
 use Rattle.mg_pages.proofs.Entries.{holds-spelled, spelled-past, spelled-table}
 use Rattle.mg_pages.specs.Entries.{HoldsEntries, HoldsTable}
-use Rattle.mg_pages.specs.Held.{PagesHeld}
+use Rattle.mg_pages.specs.declared.pages.Pages.{Pages}
 use Rattle.mg_pages.specs.Kept.{AreKept}
-use Rattle.mg_pages.specs.Meaning.{IsSpelledBy, Spelled, coming, frame_count, kept_in, replayed, table_in, total_of}
+use Rattle.mg_pages.specs.Meaning.{IsSpelledBy, coming, frame_count, kept_in, replayed, table_in, total_of}
 use Rattle.mg_pages.specs.Parts.{coming_of}
 
-abbrev pub held : Store → List ℕ → List (ℕ × List ℕ) → ℕ → List (ℕ × List ℕ) → PagesHeld
-held store frames writes count kept = record { blocks = record { store = store; writes = writes; kept = kept }; frames = frames; count = count }
-
-pub spelled-is : (p : PagesHeld) (image : Image) → IsSpelledBy p image → Spelled p image
-unfolding IsSpelledBy
-spelled-is p image is = is
-
--- a value that spells another table, with other writes
-pub spelled-new : (store : Store) (frames frames' : List ℕ) (writes writes' : List (ℕ × List ℕ)) (count : ℕ) (kept : List (ℕ × List ℕ)) (count' : ℕ) (kept' : List (ℕ × List ℕ)) (image : Image)
-    → length frames' ≡ length frames → homes_fit store.total writes' ≡ true → all_distinct (bound_pages frames') ≡ true
-    → (HoldsTable frames (table_blocks (length frames)) (coming_of store writes image) → HoldsTable frames' (table_blocks (length frames)) (coming_of store writes' image))
-    → (AreKept (first_frame (length frames)) (replayed store.total image) kept → AreKept (first_frame (length frames)) (replayed store.total image) kept')
-    → IsSpelledBy (held store frames writes count kept) image → IsSpelledBy (held store frames' writes' count' kept') image
+-- a value with the same journal that spells another table, with other writes
+pub spelled-new : (p q : Pages) (image : Image) → q.blocks.store ≡ p.blocks.store → length q.frames ≡ length p.frames
+    → (HoldsTable p.frames (table_blocks (length p.frames)) (coming_of p.blocks.store p.blocks.writes image) → HoldsTable q.frames (table_blocks (length p.frames)) (coming_of p.blocks.store q.blocks.writes image))
+    → (AreKept (first_frame (length p.frames)) (replayed p.blocks.store.total image) p.blocks.kept → AreKept (first_frame (length p.frames)) (replayed p.blocks.store.total image) q.blocks.kept)
+    → IsSpelledBy p image → IsSpelledBy q image
 unfolding IsSpelledBy total_of coming frame_count table_in kept_in
-spelled-new store frames frames' writes writes' count kept count' kept' image same fit distinct step keeps is =
-    let new : HoldsTable frames' (table_blocks (length frames')) (coming_of store writes' image) =
-    subst (λ n. HoldsTable frames' (table_blocks n) (coming_of store writes' image)) (sym same) (step (holds-spelled frames (coming_of store writes image) is.table is.past)) in
+spelled-new p q image store many step keeps is =
+    let new : HoldsTable q.frames (table_blocks (length q.frames)) (coming_of q.blocks.store q.blocks.writes image) =
+    subst (λ s. HoldsTable q.frames (table_blocks (length q.frames)) (coming_of s q.blocks.writes image)) (sym store)
+    (subst (λ n. HoldsTable q.frames (table_blocks n) (coming_of p.blocks.store q.blocks.writes image)) (sym many) (step (holds-spelled p.frames (coming_of p.blocks.store p.blocks.writes image) is.table is.past))) in
     record {
-      fitting = is.fitting;
-      long = is.long;
-      some = subst (λ n. 16 ≤ n) (sym same) is.some;
-      few = subst (λ n. n ≤ 65536) (sym same) is.few;
-      size = is.size ∙ ap total_blocks (sym same);
-      homes = fit;
-      table = spelled-table frames' (coming_of store writes' image) new;
-      past = spelled-past frames' (coming_of store writes' image) new;
-      distinct = distinct;
-      kept = subst (λ n. AreKept (first_frame n) (replayed store.total image) kept') (sym same) (keeps is.kept);
+      fitting = subst (λ s. journal.IsFitting s image) (sym store) is.fitting;
+      long = subst (λ (s : Store). s.total ≤ length image) (sym store) is.long;
+      table = spelled-table q.frames (coming_of q.blocks.store q.blocks.writes image) new;
+      past = spelled-past q.frames (coming_of q.blocks.store q.blocks.writes image) new;
+      kept =
+          subst (λ (s : Store). AreKept (first_frame (length q.frames)) (replayed s.total image) q.blocks.kept) (sym store)
+          (subst (λ n. AreKept (first_frame n) (replayed p.blocks.store.total image) q.blocks.kept) (sym many) (keeps is.kept));
     }
 
 -- the table's blocks are as they were

@@ -12,7 +12,7 @@ use Rattle.mg_journal.specs.Standing as journal
 use Rattle.mg_model.specs.Layout.{body_limit, globals_block, segment_count}
 use Rattle.mg_model.specs.Replay.{block_of, body_count, homes_fit, is_open, replay, segment_fits, segments_fit, writes_of, writes_since, written}
 use Rattle.mg_model.specs.VolumeLemmas.{length-written}
-use Rattle.mg_pages.specs.Held.{PagesHeld}
+use Rattle.mg_pages.specs.declared.pages.Pages.{Pages}
 use Rattle.mg_pages.specs.SpelledLemmas.{replays}
 use Rattle.mg_pages.specs.Meaning.{IsSpelledBy, coming, replayed, total_of}
 
@@ -60,7 +60,7 @@ length_replay total a r is = ap (λ (i : Image). length i) (replayed-is total a 
 replayed_is : (total : ℕ) (image r : Image) → replay image total ≡ Some r → replayed total image ≡ r
 replayed_is total image r is = ap (λ (o : Option Image). option_map_or (λ (v : Image). v) o image) is
 
-pub length_coming : (p : PagesHeld) (image : Image) → IsSpelledBy p image → length (coming p image) ≡ length image
+pub length_coming : (p : Pages) (image : Image) → IsSpelledBy p image → length (coming p image) ≡ length image
 unfolding coming total_of
 length_coming p image is =
     let r = replays p image is in
@@ -68,11 +68,11 @@ length_coming p image is =
     ∙ ap (λ (i : Image). length i) (replayed_is (journal.total_of p.blocks.store) image r.0 r.1)
     ∙ length_replay (journal.total_of p.blocks.store) image r.0 r.1
 
-pub low_coming : (p : PagesHeld) (image : Image) (k : ℕ) → IsSpelledBy p image → k < globals_block → block_of (coming p image) k ≡ block_of image k
+pub low_coming : (p : Pages) (image : Image) (k : ℕ) → IsSpelledBy p image → k < globals_block → block_of (coming p image) k ≡ block_of image k
 unfolding coming total_of IsSpelledBy
 low_coming p image k is low =
     let r = replays p image is in
-    let fit : homes_fit (total_of p) p.blocks.writes ≡ true = is.homes in
+    let fit : homes_fit (total_of p) p.blocks.writes ≡ true = p.sound.homes in
     written_low (total_of p) (replayed (journal.total_of p.blocks.store) image) p.blocks.writes k fit low
     ∙ ap (λ i. block_of i k) (replayed_is (journal.total_of p.blocks.store) image r.0 r.1)
     ∙ replay_low (journal.total_of p.blocks.store) image r.0 k r.1 low

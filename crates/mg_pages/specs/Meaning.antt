@@ -12,10 +12,10 @@ use Rattle.mg_journal.specs.Held.{Store}
 use Rattle.mg_model.specs.Abbreviations.{table_of}
 use Rattle.mg_model.specs.Bytes.{are_zeros}
 use Rattle.mg_model.specs.Layout.{first_frame, table_block, total_blocks}
-use Rattle.mg_model.specs.Replay.{homes_fit, replay, written}
+use Rattle.mg_model.specs.Replay.{replay, written}
 use Rattle.mg_model.specs.Tests.{all_distinct}
 use Rattle.mg_model.specs.Volume.{bound_pages, page_words, whole_table}
-use Rattle.mg_pages.specs.Held.{PagesHeld}
+use Rattle.mg_pages.specs.declared.pages.Pages.{Pages}
 use Rattle.mg_pages.specs.Kept.{AreKept}
 use Rattle.std.specs.Prelude.{drop}
 
@@ -24,86 +24,81 @@ abbrev pub replayed : ℕ → Image → Image
 replayed total image = option_map_or (λ (r : Image). r) (replay image total) image
 
 -- how many blocks the volume has
-unfoldable pub total_of : PagesHeld → ℕ
+unfoldable pub total_of : Pages → ℕ
 total_of p = journal.total_of p.blocks.store
 
 -- its journal
-unfoldable pub store_of : PagesHeld → Store
+unfoldable pub store_of : Pages → Store
 store_of p = p.blocks.store
 
 -- how many frames it has
-unfoldable pub frame_count : PagesHeld → ℕ
+unfoldable pub frame_count : Pages → ℕ
 frame_count p = length p.frames
 
 -- the page that each frame holds, or 0
-unfoldable pub table_in : PagesHeld → List ℕ
+unfoldable pub table_in : Pages → List ℕ
 table_in p = p.frames
 
 -- the blocks that an image will have once what is staged is committed: those after replay, with the staged ones over them
-unfoldable pub coming : PagesHeld → Image → Image
+unfoldable pub coming : Pages → Image → Image
 coming p image = written (replayed (journal.total_of p.blocks.store) image) p.blocks.writes
 
 -- how many blocks are staged, and whether this one is
-unfoldable pub staged_of : PagesHeld → ℕ
+unfoldable pub staged_of : Pages → ℕ
 staged_of p = length p.blocks.writes
 
-unfoldable pub is_staged : PagesHeld → ℕ → Bool
+unfoldable pub is_staged : Pages → ℕ → Bool
 is_staged p block = names p.blocks.writes block
 
 -- what waits for this block
-unfoldable pub waiting_in : PagesHeld → ℕ → Option (List ℕ)
+unfoldable pub waiting_in : Pages → ℕ → Option (List ℕ)
 waiting_in p block = waiting p.blocks.writes block
 
 -- the frame blocks that are kept
-unfoldable pub kept_in : PagesHeld → List (ℕ × List ℕ)
+unfoldable pub kept_in : Pages → List (ℕ × List ℕ)
 kept_in p = p.blocks.kept
 
 -- no commit has failed
-unfoldable pub is_live : PagesHeld → Bool
+unfoldable pub is_live : Pages → Bool
 is_live p = journal.is_live p.blocks.store
 
 -- how many words were read and written, modulo 2^64
-unfoldable pub words_in : PagesHeld → ℕ
+unfoldable pub words_in : Pages → ℕ
 words_in p = p.count
 
 -- whether a frame holds this page
-abbrev pub is_bound : PagesHeld → ℕ → Bool
+abbrev pub is_bound : Pages → ℕ → Bool
 is_bound p page = list_any (λ entry. entry == page) (table_in p)
 
 -- the words of a page
-abbrev pub page_now : PagesHeld → Image → ℕ → List ℕ
+abbrev pub page_now : Pages → Image → ℕ → List ℕ
 page_now p image page = page_words (coming p image) (frame_count p) (table_in p) page
 
 -- the journal fits the image, what is coming spells the frame table that is held, and what is kept are blocks of the contents
-pub record Spelled (p : PagesHeld) (image : Image) : Type 0 where
+pub record Spelled (p : Pages) (image : Image) : Type 0 where
   pub fitting : journal.IsFitting p.blocks.store image
   pub long : total_of p ≤ length image
-  pub some : 16 ≤ frame_count p
-  pub few : frame_count p ≤ 65536
-  pub size : total_of p ≡ total_blocks (frame_count p)
-  pub homes : homes_fit (total_of p) p.blocks.writes ≡ true
   pub table : table_of (coming p image) (frame_count p) ≡ table_in p
   pub past : are_zeros (drop (frame_count p) (whole_table (coming p image) (frame_count p))) ≡ true
-  pub distinct : all_distinct (bound_pages (table_in p)) ≡ true
   pub kept : AreKept (first_frame (frame_count p)) (replayed (total_of p) image) (kept_in p)
 
-unfoldable pub IsSpelledBy : PagesHeld → Image → Type 0
+unfoldable pub IsSpelledBy : Pages → Image → Type 0
 IsSpelledBy p image = Spelled p image
 
 -- the pages stand on the disk: nothing is pending, and they are what reads give and what is staged
-pub record StandsOn {D : Type 0} (facts : Ghosts D) (p : PagesHeld) (disk : D) : Type 0 where
+pub record StandsOn {D : Type 0} (facts : Ghosts D) (p : Pages) (disk : D) : Type 0 where
   pub room : total_of p ≤ facts.block_count disk
   pub settled : NothingPending facts disk
   pub fits : ForSome (facts.seen disk) (λ image. IsSpelledBy p image)
 
 -- the same volume, and as live
-pub record SameShape (old new : PagesHeld) : Type 0 where
+pub record SameShape (old new : Pages) : Type 0 where
   pub total : total_of new ≡ total_of old
   pub frames : frame_count new ≡ frame_count old
   pub live : is_live new ≡ is_live old
 
 -- what every value keeps, wherever it stands
-pub record IsKept (p : PagesHeld) : Type 0 where
+pub record IsKept (p : Pages) : Type 0 where
   pub some : 16 ≤ frame_count p
   pub few : frame_count p ≤ 65536
   pub size : total_of p ≡ total_blocks (frame_count p)
@@ -111,7 +106,7 @@ pub record IsKept (p : PagesHeld) : Type 0 where
   pub distinct : all_distinct (bound_pages (table_in p)) ≡ true
 
 -- nothing changed but the count of words
-pub record Keeps (old new : PagesHeld) : Type 0 where
+pub record Keeps (old new : Pages) : Type 0 where
   pub shape : SameShape old new
   pub coming : (image : Image) → coming new image ≡ coming old image
   pub table : table_in new ≡ table_in old
@@ -119,13 +114,13 @@ pub record Keeps (old new : PagesHeld) : Type 0 where
   pub each : (block : ℕ) → is_staged new block ≡ is_staged old block
 
 -- what was staged still is, and so many blocks more at most
-pub record StagesMore (most : ℕ) (old new : PagesHeld) : Type 0 where
+pub record StagesMore (most : ℕ) (old new : Pages) : Type 0 where
   pub least : staged_of old ≤ staged_of new
   pub staged : staged_of new ≤ staged_of old + most
   pub still : (block : ℕ) → is_staged old block ≡ true → is_staged new block ≡ true
 
 -- a block that was staged is staged with these bytes, and nothing else has changed
-pub record Restages (block : ℕ) (bytes : List ℕ) (old new : PagesHeld) : Type 0 where
+pub record Restages (block : ℕ) (bytes : List ℕ) (old new : Pages) : Type 0 where
   pub waits : waiting_in new block ≡ Some bytes
   pub coming : (image : Image) → coming new image ≡ slice_set (coming old image) block bytes
   pub table : table_in new ≡ table_in old
@@ -136,22 +131,22 @@ pub record Restages (block : ℕ) (bytes : List ℕ) (old new : PagesHeld) : Typ
   pub spelled : (image : Image) → IsSpelledBy old image → IsSpelledBy new image
 
 -- a word of a page was changed; the other pages, and all blocks before the frame table, are as they were
-pub record SetsWord (old new : PagesHeld) (image : Image) (page index value : ℕ) : Type 0 where
+pub record SetsWord (old new : Pages) (image : Image) (page index value : ℕ) : Type 0 where
   pub this : page_now new image page ≡ slice_set (page_now old image page) index value
   pub others : (other : ℕ) → other ≢ 0 → other ≢ page → page_now new image other ≡ page_now old image other
   pub rows : (k : ℕ) → k < table_block → block_at (coming new image) k ≡ block_at (coming old image) k
 
 -- no page is bound that was not, but this one
-abbrev pub BindsOnly : ℕ → PagesHeld → PagesHeld → Type 0
+abbrev pub BindsOnly : ℕ → Pages → Pages → Type 0
 BindsOnly page old new = (other : ℕ) → is_bound new other ≡ true → (other ≡ page) ⊎ (is_bound old other ≡ true)
 
 -- one word was read or written, and counted
-pub record CountsOne (old new : PagesHeld) (before now : ℕ) : Type 0 where
+pub record CountsOne (old new : Pages) (before now : ℕ) : Type 0 where
   pub words : words_in new ≡ (words_in old + 1) % 2 ^ 64
   pub ticks : now ≡ before + 1
 
 -- none was
-pub record CountsNone (old new : PagesHeld) (before now : ℕ) : Type 0 where
+pub record CountsNone (old new : Pages) (before now : ℕ) : Type 0 where
   pub words : words_in new ≡ words_in old
   pub ticks : now ≡ before
 
@@ -166,17 +161,17 @@ pub record SpellsTable (frames : ℕ) (r : Image) : Type 0 where
   pub distinct : all_distinct (bound_pages (table_of r frames)) ≡ true
 
 -- nothing is staged, and no block is kept
-pub record IsBare (p : PagesHeld) : Type 0 where
+pub record IsBare (p : Pages) : Type 0 where
   pub staged : staged_of p ≡ 0
   pub kept : kept_in p ≡ []
 
 -- the pages of a range read as zeros; the other pages, and all blocks before the frame table, are as they were
-pub record Releases (old new : PagesHeld) (image : Image) (first pages : ℕ) : Type 0 where
+pub record Releases (old new : Pages) (image : Image) (first pages : ℕ) : Type 0 where
   pub inside : (page : ℕ) → page ≢ 0 → first ≤ page → page < first + pages → page_now new image page ≡ replicate 512 0
   pub outside : (page : ℕ) → page ≢ 0 → (page < first) ⊎ (first + pages ≤ page) → page_now new image page ≡ page_now old image page
   pub rows : (k : ℕ) → k < table_block → block_at (coming new image) k ≡ block_at (coming old image) k
 
 -- the pages of a range are bound no more, and no page is that was not
-pub record Unbinds (first pages : ℕ) (old new : PagesHeld) : Type 0 where
+pub record Unbinds (first pages : ℕ) (old new : Pages) : Type 0 where
   pub inside : (page : ℕ) → page ≢ 0 → first ≤ page → page < first + pages → is_bound new page ≡ false
   pub outside : (page : ℕ) → page ≢ 0 → is_bound new page ≡ true → is_bound old page ≡ true

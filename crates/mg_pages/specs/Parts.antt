@@ -10,7 +10,7 @@ use Rattle.mg_model.specs.Bytes.{block_words}
 use Rattle.mg_model.specs.Layout.{first_frame, table_block}
 use Rattle.mg_model.specs.Replay.{homes_fit, written}
 use Rattle.mg_pages.specs.Entries.{HoldsEntries}
-use Rattle.mg_pages.specs.Held.{BlocksHeld}
+use Rattle.mg_pages.specs.declared.blocks.Blocks.{Blocks}
 use Rattle.mg_pages.specs.Kept.{AreKept}
 use Rattle.mg_pages.specs.Meaning.{replayed}
 
@@ -19,7 +19,7 @@ abbrev pub coming_of : Store → List (ℕ × List ℕ) → Image → Image
 coming_of store writes image = written (replayed store.total image) writes
 
 -- the journal is as it was, and what is kept are blocks of the contents where they were
-pub record KeepsMore (told : Option Image) (first : ℕ) (old new : BlocksHeld) : Type 0 where
+pub record KeepsMore (told : Option Image) (first : ℕ) (old new : Blocks) : Type 0 where
   pub store : new.store ≡ old.store
   pub kept : ForSome told (λ image. AreKept first (replayed old.store.total image) old.kept → AreKept first (replayed old.store.total image) new.kept)
 

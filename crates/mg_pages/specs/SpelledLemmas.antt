@@ -12,37 +12,41 @@ use Rattle.mg_model.specs.Layout.{total_blocks}
 use Rattle.mg_model.specs.Replay.{replay, written}
 use Rattle.mg_model.specs.Tests.{all_distinct}
 use Rattle.mg_model.specs.Volume.{bound_pages, whole_table}
-use Rattle.mg_pages.specs.Held.{PagesHeld}
+use Rattle.mg_pages.specs.declared.pages.Pages.{Pages}
 use Rattle.mg_pages.specs.Meaning.{IsSpelledBy, Spelled, StandsOn, coming, frame_count, replayed, staged_of, store_of, table_in, total_of}
 
-spelled : (p : PagesHeld) (image : Image) → IsSpelledBy p image → Spelled p image
+spelled : (p : Pages) (image : Image) → IsSpelledBy p image → Spelled p image
 unfolding IsSpelledBy
 spelled p image is = is
 
-pub long_of : (p : PagesHeld) (image : Image) → IsSpelledBy p image → total_of p ≤ length image
+pub long_of : (p : Pages) (image : Image) → IsSpelledBy p image → total_of p ≤ length image
 long_of p image is = (spelled p image is).long
 
-pub some_frames : (p : PagesHeld) (image : Image) → IsSpelledBy p image → 16 ≤ frame_count p
-some_frames p image is = (spelled p image is).some
+pub some_frames : (p : Pages) (image : Image) → IsSpelledBy p image → 16 ≤ frame_count p
+unfolding total_of frame_count table_in
+some_frames p image is = p.sound.some
 
-pub few_frames : (p : PagesHeld) (image : Image) → IsSpelledBy p image → frame_count p ≤ 65536
-few_frames p image is = (spelled p image is).few
+pub few_frames : (p : Pages) (image : Image) → IsSpelledBy p image → frame_count p ≤ 65536
+unfolding total_of frame_count table_in
+few_frames p image is = p.sound.few
 
-pub size_of : (p : PagesHeld) (image : Image) → IsSpelledBy p image → total_of p ≡ total_blocks (frame_count p)
-size_of p image is = (spelled p image is).size
+pub size_of : (p : Pages) (image : Image) → IsSpelledBy p image → total_of p ≡ total_blocks (frame_count p)
+unfolding total_of frame_count table_in
+size_of p image is = p.sound.size
 
 -- what is coming spells the frame table, and no page stands there twice
-pub table_spelled : (p : PagesHeld) (image : Image) → IsSpelledBy p image → table_of (coming p image) (frame_count p) ≡ table_in p
+pub table_spelled : (p : Pages) (image : Image) → IsSpelledBy p image → table_of (coming p image) (frame_count p) ≡ table_in p
 table_spelled p image is = (spelled p image is).table
 
-pub past_spelled : (p : PagesHeld) (image : Image) → IsSpelledBy p image → are_zeros (drop (frame_count p) (whole_table (coming p image) (frame_count p))) ≡ true
+pub past_spelled : (p : Pages) (image : Image) → IsSpelledBy p image → are_zeros (drop (frame_count p) (whole_table (coming p image) (frame_count p))) ≡ true
 past_spelled p image is = (spelled p image is).past
 
-pub no_page_twice : (p : PagesHeld) (image : Image) → IsSpelledBy p image → all_distinct (bound_pages (table_in p)) ≡ true
-no_page_twice p image is = (spelled p image is).distinct
+pub no_page_twice : (p : Pages) (image : Image) → IsSpelledBy p image → all_distinct (bound_pages (table_in p)) ≡ true
+unfolding total_of frame_count table_in
+no_page_twice p image is = p.sound.distinct
 
 -- pages whose journal stands on a disk stand there, where what it tells spells them
-pub stands_spelled : {D : Type 0} (facts : Ghosts D) (store : Store) (p : PagesHeld) (disk : D) → store_of p ≡ store → journal.Stands facts store disk → ForSome (facts.seen disk) (IsSpelledBy p) → StandsOn facts p disk
+pub stands_spelled : {D : Type 0} (facts : Ghosts D) (store : Store) (p : Pages) (disk : D) → store_of p ≡ store → journal.Stands facts store disk → ForSome (facts.seen disk) (IsSpelledBy p) → StandsOn facts p disk
 unfolding total_of store_of
 stands_spelled facts store p disk is stands spells =
     let e : total_of p ≡ store.total = ap (λ (s : Store). s.total) is in
@@ -57,7 +61,7 @@ stands_spelled facts store p disk is stands spells =
 replayed_is : (total : ℕ) (image r : Image) → replay image total ≡ Some r → replayed total image ≡ r
 replayed_is total image r is = ap (λ (o : Option Image). option_map_or (λ (v : Image). v) o image) is
 
-pub replays : (p : PagesHeld) (image : Image) → IsSpelledBy p image → (r : Image) × (replay image (total_of p) ≡ Some r)
+pub replays : (p : Pages) (image : Image) → IsSpelledBy p image → (r : Image) × (replay image (total_of p) ≡ Some r)
 unfolding total_of
 replays p image is = journal.fitting_replays p.blocks.store image (spelled p image is).fitting
 
@@ -66,7 +70,7 @@ none_written : (writes : List (ℕ × List ℕ)) (image : Image) → length writ
 none_written [] image none = refl
 none_written (w ∷ writes) image none = absurd (omega arith)
 
-pub coming_still : (p : PagesHeld) (image : Image) → IsSpelledBy p image → staged_of p ≡ 0 → replay image (total_of p) ≡ Some (coming p image)
+pub coming_still : (p : Pages) (image : Image) → IsSpelledBy p image → staged_of p ≡ 0 → replay image (total_of p) ≡ Some (coming p image)
 unfolding total_of coming staged_of
 coming_still p image is none =
     let r = replays p image is in

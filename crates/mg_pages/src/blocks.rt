@@ -23,7 +23,6 @@ use mg_disk::{BLOCK_SIZE, Block, Disk};
 use mg_faults::Failed;
 use mg_journal::{Store, Writes};
 use std::alloc::{AllocError, Global};
-use std::marker::Model;
 
 /// The blocks of a volume, with what is staged.
 #[derive(Drop)]
@@ -35,18 +34,12 @@ pub(crate) struct Blocks {
     blank: Blank,
 }
 
-impl Model for Blocks {
-    ghost use Rattle.mg_pages.specs.Held.{BlocksHeld};
-
-    ghost Value = { BlocksHeld };
-
-    ghost view = { λ b. record { store = b.store; writes = b.writes; kept = b.kept } };
-}
-
 impl Blocks {
     /// The blocks of this journal's volume, with nothing staged.
     pub(crate) fn open(alloc: Global, store: Store) -> Result<Blocks, AllocError>
-        ensures { IfOk result (λ b. b ≡ record { store = store; writes = []; kept = [] }) }
+        ensures store { IfOk result (λ b. b.store ≡ store) }
+        ensures none { IfOk result (λ b. b.writes ≡ []) }
+        ensures bare { IfOk result (λ b. b.kept ≡ []) }
     {
         let writes = Writes::new(alloc)?;
         let kept = Kept::new(alloc)?;

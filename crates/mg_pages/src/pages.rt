@@ -11,8 +11,8 @@ ghost use Rattle.mg_model.specs.Bytes.{are_zeros, padded_to, word_bytes};
 ghost use Rattle.mg_model.specs.Layout.{block_size, body_limit, globals_block, table_block, total_blocks};
 ghost use Rattle.mg_model.specs.Tests.{all_distinct};
 ghost use Rattle.mg_model.specs.Volume.{bound_pages};
-ghost use Rattle.mg_pages.specs.Meaning.{BindsOnly, CountsNone, CountsOne, HasTable, IsBare, IsKept, Keeps, Releases, Restages, SameShape, SetsWord, SpellsTable, StagesMore, StandsOn, Unbinds, IsSpelledBy, coming, frame_count, is_bound, is_live, is_staged, page_now, replayed, staged_of, store_of, table_in, total_of, waiting_in, words_in};
 ghost use Rattle.mg_pages.specs.Committing.{HasContents};
+ghost use Rattle.mg_pages.specs.Held.{IsSound};
 ghost use Rattle.mg_pages.specs.Loading.{HoldFirstEntries};
 
 use crate::blocks::Blocks;
@@ -28,7 +28,6 @@ use mg_journal::Store;
 use mg_layout::Geometry;
 use mg_model::Steps;
 use std::alloc::{AllocError, Global};
-use std::marker::Model;
 use std::sync::ledger::Ledger;
 
 /// The pages of a volume, with what is staged.
@@ -37,19 +36,13 @@ pub struct Pages {
     blocks: Blocks,
     frames: Frames,
     count: u64,
+    ghost sound: { IsSound blocks.store.total frames blocks.writes },
 }
 
-impl Model for Pages {
-    ghost use Rattle.mg_pages.specs.Held.{IsSound, PagesHeld};
-
-    ghost Value = { PagesHeld };
-
-    ghost view = { λ p. record { blocks = p.blocks; frames = p.frames; count = p.count } };
-
-    ghost invariant = { λ p. IsSound (record { blocks = p.blocks; frames = p.frames; count = p.count }) };
-}
-
+#[tactic(auto, unfolding(crate::specs::Meaning::total_of, crate::specs::Meaning::store_of, crate::specs::Meaning::frame_count, crate::specs::Meaning::table_in, crate::specs::Meaning::coming, crate::specs::Meaning::staged_of, crate::specs::Meaning::is_staged, crate::specs::Meaning::waiting_in, crate::specs::Meaning::kept_in, crate::specs::Meaning::is_live, crate::specs::Meaning::words_in))]
 impl Pages {
+    ghost use Rattle.mg_pages.specs.Meaning.{BindsOnly, CountsNone, CountsOne, HasTable, IsBare, IsKept, Keeps, Releases, Restages, SameShape, SetsWord, SpellsTable, StagesMore, StandsOn, Unbinds, IsSpelledBy, coming, frame_count, is_bound, is_live, is_staged, page_now, replayed, staged_of, store_of, table_in, total_of, waiting_in, words_in};
+
     /// The pages of a volume with this journal and these entries of its frame table, one a frame, 16 to 65,536 of them: the
     /// page that the frame holds, or 0. No page stands there twice. All memory that they will need is taken here.
     pub fn open(alloc: Global, store: Store, entries: Vec<u64>) -> Result<Pages, AllocError>
@@ -126,9 +119,10 @@ impl Pages {
         ensures writes { WritesNothing D.Disk disk.old disk.new }
         ensures calls { DiskCalls D.Disk disk.old disk.new result }
     {
-        let loaded = load_pages(&self.blocks, &mut self.frames, disk);
+        let frames = &mut self.frames;
+        let loaded = load_pages(&self.blocks, frames, disk);
         // It tells that no page has two frames.
-        self.frames.len();
+        frames.len();
         loaded
     }
 

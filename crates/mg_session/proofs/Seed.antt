@@ -1,9 +1,8 @@
 -- A seed is read byte by byte.
-use Rattle.std.proofs.Common.{ℕ, suc, ◌+◌, ◌*◌, ◌<◌, ◌≡◌, ◌==◌, true, List, [], ◌∷◌, ◌++◌, length, get_or, take, drop, Option, Some, None, if◌then◌else◌, refl, sym, ap, ◌∙◌, append_assoc, append-nil, arith, rules}
+use Rattle.std.proofs.Common.{ℕ, suc, ◌+◌, ◌*◌, ◌<◌, ◌≡◌, ◌==◌, List, [], ◌∷◌, ◌++◌, length, get_or, take, drop, Option, Some, None, if◌then◌else◌, refl, sym, ap, ◌∙◌, append_assoc, arith}
 use Rattle.std.proofs.Math.ListN.{set, length-set}
 use Rattle.std.proofs.Math.Seq.{drop-cons, take-suc-set}
-use Rattle.std.proofs.lemmas.List.{take_all, drop_all}
-use Rattle.mg_session.specs.Commands.{byte_of, bytes_of, seed_of}
+use Rattle.mg_session.specs.Commands.{byte_of, bytes_of}
 use Rattle.mg_session.specs.Forms.{byte_before}
 
 -- bytes go before others
@@ -35,9 +34,6 @@ bytes_of-next word i h =
     ∙ ap (λ v. byte_before (byte_of (get_or word (2 * i) 0) (get_or word v 0)) (bytes_of (drop (suc (suc (2 * i))) word))) (sym e)
     ∙ ap (λ v. byte_before (byte_at word i) (bytes_of (drop v word))) (sym f)
 
-seed_of-long : (word : List ℕ) → length word ≡ 64 → seed_of word ≡ bytes_of word
-seed_of-long word h = let t : (length word == 64) ≡ true = search rules in ap (λ v. if v then bytes_of word else None) t
-
 -- what is read so far, with all that is still to be read
 pub record IsRead (word seed : List ℕ) (i : ℕ) : Type 0 where
   pub digits : length word ≡ 64
@@ -60,19 +56,3 @@ seed-next word seed i byte r h is =
           ∙ bytes_then-next (take i seed) byte (bytes_of (drop (2 * (i + 1)) word))
           ∙ ap (λ v. bytes_then v (bytes_of (drop (2 * (i + 1)) word))) (sym (ap (λ v. take v (set seed i byte)) e ∙ take-suc-set seed i byte (omega arith)));
     }
-
--- a pair that spells none
-pub seed-none : (word seed : List ℕ) (i : ℕ) → IsRead word seed i → i < 32 → byte_at word i ≡ None → seed_of word ≡ None
-seed-none word seed i r h is =
-    let d = r.digits in
-    seed_of-long word r.digits ∙ r.same
-    ∙ ap (λ v. bytes_then (take i seed) v) (bytes_of-next word i (omega arith) ∙ ap (λ o. byte_before o (bytes_of (drop (2 * (i + 1)) word))) is)
-
-pub seed-all : (word seed : List ℕ) → IsRead word seed 32 → seed_of word ≡ Some seed
-seed-all word seed r =
-    let d = r.digits in
-    let k = r.long in
-    seed_of-long word r.digits ∙ r.same
-    ∙ ap (λ v. bytes_then v (bytes_of (drop 64 word))) (take_all 32 seed (omega arith))
-    ∙ ap (λ v. bytes_then seed (bytes_of v)) (drop_all 64 word (omega arith))
-    ∙ ap (λ v. Some v) (append-nil seed)

@@ -7,7 +7,6 @@ use Rattle.mg_check.specs.ReadRuns.{only_none, only_then, same_contents}
 use Rattle.mg_check.specs.Reads.{OnlyRead, contents}
 use Rattle.mg_disk.specs.declared.disk.Disk as disks
 use Rattle.mg_disk.specs.Disk.{Image}
-use Rattle.mg_faults.specs.Faults.{then_rose}
 use Rattle.mg_io.specs.Known.{AppendsPrefix}
 use Rattle.mg_io.specs.declared.traits.Sink as sinks
 use Rattle.mg_model.specs.State.{ObjectRow}
@@ -39,15 +38,6 @@ module _ {D : Type 0} (facts : disks.Ghosts D) (of : Image → Option Image) (ob
           subst (λ c. Marks objects period c p p'') (is r) (marks_then objects period (a r) (b r) p p' p'' (so_far.marks r told) (more.marks r (same_contents facts of d d' so_far.reads ∙ told)));
       long = more.long ∙ so_far.long;
       reads = only_then facts d d' d'' so_far.reads more.reads;
-    }
-
-    -- a failure behind them
-    pub found_fails : (e : E) (whole : Image → List (ℕ × ℕ)) → Finds facts of objects period b (Err e) d' d'' p' p'' → Finds facts of objects period whole (Err e) d d'' p p''
-    found_fails e whole failed = record {
-      marks = tt;
-      long = failed.long ∙ so_far.long;
-      cause = then_rose (facts.faults d) (facts.faults d') (facts.faults d'') (facts.is_spent d) (facts.is_spent d') (facts.is_spent d'') so_far.reads.count failed.cause;
-      reads = only_then facts d d' d'' so_far.reads failed.reads;
     }
 
   module _ {E : Type 0} (a b : Image → List (ℕ × ℕ)) (d d' : D) (p p' : List ℕ) (is : (r : Image) → a r ≡ b r) where

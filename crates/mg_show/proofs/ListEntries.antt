@@ -70,10 +70,6 @@ module _ (block : List ℕ) (count n : ℕ) (first : count ≡ number_at block 0
       ∙ ap (λ v. (v, slice_index (block_words block) (3 + 2 * k))) (word-of block (2 + 2 * k) (at + 16) (omega arith) (omega arith) ∙ sym b)
       ∙ ap (λ v. (base, v)) (word-of block (3 + 2 * k) (at + 24) (omega arith) (omega arith) ∙ sym p)
 
--- all of them
-pub block-entries-all : (block : List ℕ) (n count : ℕ) → count ≡ number_at block 0 → n ≡ min count 255 → entries_from (block_words block) 0 n ≡ entries_of (block_words block)
-block-entries-all block n count c is = ap (entries_from (block_words block) 0) (is ∙ ap (λ v. min v 255) (c ∙ sym (word-of block 0 0 (omega arith) refl)))
-
 -- the list in a page that a frame holds, and in one that none holds
 pub page-list-held : (image : List (List ℕ)) (frames : ℕ) (table : List ℕ) (page frame : ℕ) → position (λ entry. entry == page) table ≡ Some frame
     → entries_of (block_words (block_of image (first_frame frames + frame))) ≡ entries_of (page_words image frames table page)

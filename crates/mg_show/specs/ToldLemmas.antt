@@ -5,7 +5,7 @@ use Rattle.std.proofs.Common.{◌≡◌, ℕ, suc, ◌+◌, ◌<◌, List, [], �
 use Rattle.std.proofs.lemmas.Grind.{flat_map-append}
 use Rattle.std.proofs.Math.Seq.{take-suc}
 use Rattle.std.specs.Io.KnownBytes.{Appends}
-use Rattle.mg_faults.specs.Faults.{count_none, count_then, then_rose}
+use Rattle.mg_faults.specs.Faults.{count_then, then_rose}
 use Rattle.mg_io.specs.Known.{Appends-none, Appends-then, AppendsPrefix, AppendsPrefix-longer}
 use Rattle.mg_io.specs.declared.traits.Sink as sinks
 use Rattle.mg_show.specs.Told.{Adds, HasFailed, HasPut}
@@ -36,9 +36,6 @@ Adds-fails a b c w v p q first (put, more, parts, h) = (
       ∙ append_assoc w p q,
   Appends-then a b c first.put put first.took h,
 )
-
-pub put_none : {K : Type 0} (to : sinks.Ghosts K) (a : K) (w : List ℕ) → HasPut to a a w w []
-put_none to a w = record { adds = Adds-none (to.taken a) w; goes_on = count_none (to.faults a) (to.is_spent a) }
 
 pub put_then : {K : Type 0} (to : sinks.Ghosts K) (a b c : K) (w v u p q : List ℕ)
     → HasPut to a b w v p → HasPut to b c v u q → HasPut to a c w u (p ++ q)

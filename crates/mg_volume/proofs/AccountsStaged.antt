@@ -13,18 +13,17 @@ use Rattle.mg_model.specs.Replay.{block_of}
 use Rattle.mg_model.specs.Spelling.{Read, account_read, globals_read}
 use Rattle.mg_model.specs.Volume.{live_rows}
 use Rattle.mg_pages.specs.ComingLemmas.{length_coming}
-use Rattle.mg_pages.specs.Held.{PagesHeld}
+use Rattle.mg_pages.specs.declared.pages.Pages.{Pages}
 use Rattle.mg_pages.specs.SpelledLemmas as laws
 use Rattle.mg_pages.specs.Meaning as pages
 use Rattle.mg_rows.specs.Blocks.{account_in}
 use Rattle.mg_volume.proofs.AccountLists.{account_here, accounts_rise}
-use Rattle.mg_volume.proofs.PagesChange.{held_same}
 use Rattle.mg_volume.proofs.Staged.{objects_behind}
 use Rattle.mg_volume.proofs.Stages.{stages_is}
 use Rattle.mg_volume.specs.Calls.{Stages}
 use Rattle.mg_volume.specs.Contents.{objects_within, threads_within}
 use Rattle.mg_volume.specs.Held.{VolumeHeld}
-use Rattle.mg_volume.specs.Meaning.{IsKept, IsSpelledBy, Spelled, now_of, objects_in, threads_in}
+use Rattle.mg_volume.specs.Meaning.{IsSpelledBy, Spelled, now_of, threads_in}
 use Rattle.mg_volume.specs.RowLists.{tell, told}
 use Rattle.mg_volume.specs.Sound.{all_spelled}
 use Rattle.mg_volume.specs.StagesAccounts.{DifferWithin, HasAccounts, StagesAccounts}
@@ -46,10 +45,10 @@ accounts_told f g named old new are few within here rest =
           (cases_Bool (named (i / 64)));
     })
 
-abbrev pub with_accounts : VolumeHeld → List AccRow → PagesHeld → VolumeHeld
+abbrev pub with_accounts : VolumeHeld → List AccRow → Pages → VolumeHeld
 with_accounts v rows p = record v { accounts = rows; pages = p }
 
-module _ (v : VolumeHeld) (p : PagesHeld) (most : ℕ) (named : ℕ → Bool) (rows : List AccRow) (stages : StagesAccounts most named rows v.pages p) (image : Image) where
+module _ (v : VolumeHeld) (p : Pages) (most : ℕ) (named : ℕ → Bool) (rows : List AccRow) (stages : StagesAccounts most named rows v.pages p) (image : Image) where
   pub accounts_now : (rows' : List AccRow) → rows ≡ rows' → now_of (with_accounts v rows p) image ≡ record (now_of v image) { accounts = rows' }
   unfolding now_of threads_in
   accounts_now rows' same =
@@ -85,7 +84,7 @@ module _ (v : VolumeHeld) (p : PagesHeld) (most : ℕ) (named : ℕ → Bool) (r
       }
 
 -- one block is staged
-pub one_staged : (p p' : PagesHeld) (rows : List AccRow) (k : ℕ) (bytes : List ℕ) → k < 16 → HasAccounts rows k bytes → ((image : Image) → pages.coming p' image ≡ slice_set (pages.coming p image) (first_account_block + k) bytes)
+pub one_staged : (p p' : Pages) (rows : List AccRow) (k : ℕ) (bytes : List ℕ) → k < 16 → HasAccounts rows k bytes → ((image : Image) → pages.coming p' image ≡ slice_set (pages.coming p image) (first_account_block + k) bytes)
     → pages.table_in p' ≡ pages.table_in p → pages.SameShape p p' → pages.words_in p' ≡ pages.words_in p → pages.StagesMore 1 p p' → ((image : Image) → pages.IsSpelledBy p image → pages.IsSpelledBy p' image)
     → StagesAccounts 1 (λ i. i == k) rows p p'
 one_staged p p' rows k bytes few has coming table shape words staged spelled = record {
@@ -113,7 +112,7 @@ one_staged p p' rows k bytes few has coming table shape words staged spelled = r
 }
 
 -- and then others
-pub staged_then : (p q r : PagesHeld) (m n : ℕ) (f g h : ℕ → Bool) (rows : List AccRow) → StagesAccounts m f rows p q → StagesAccounts n g rows q r → ((k : ℕ) → h k ≡ (f k || g k)) → StagesAccounts (m + n) h rows p r
+pub staged_then : (p q r : Pages) (m n : ℕ) (f g h : ℕ → Bool) (rows : List AccRow) → StagesAccounts m f rows p q → StagesAccounts n g rows q r → ((k : ℕ) → h k ≡ (f k || g k)) → StagesAccounts (m + n) h rows p r
 staged_then p q r m n f g h rows first second joins = record {
   table = second.table ∙ first.table;
   shape = record { total = second.shape.total ∙ first.shape.total; frames = second.shape.frames ∙ first.shape.frames; live = second.shape.live ∙ first.shape.live };
@@ -138,7 +137,7 @@ staged_then p q r m n f g h rows first second joins = record {
 }
 
 -- none
-pub none_staged : (p : PagesHeld) (rows : List AccRow) → StagesAccounts 0 (λ k. nat_lt k 0) rows p p
+pub none_staged : (p : Pages) (rows : List AccRow) → StagesAccounts 0 (λ k. nat_lt k 0) rows p p
 none_staged p rows = record {
   table = refl;
   shape = record { total = refl; frames = refl; live = refl };
@@ -150,7 +149,7 @@ none_staged p rows = record {
   beside = λ image block outside. refl;
 }
 
-pub staged_wider : (p q : PagesHeld) (m n : ℕ) (f : ℕ → Bool) (rows : List AccRow) → m ≤ n → StagesAccounts m f rows p q → StagesAccounts n f rows p q
+pub staged_wider : (p q : Pages) (m n : ℕ) (f : ℕ → Bool) (rows : List AccRow) → m ≤ n → StagesAccounts m f rows p q → StagesAccounts n f rows p q
 staged_wider p q m n f rows wide stages = record {
   table = stages.table;
   shape = stages.shape;
@@ -174,32 +173,10 @@ next_named k i =
     (cases_eq i k))
     (cases_lt i k)
 
-pub next_staged : (p q r : PagesHeld) (k : ℕ) (rows : List AccRow) → StagesAccounts k (λ i. nat_lt i k) rows p q → StagesAccounts 1 (λ i. i == k) rows q r → StagesAccounts (k + 1) (λ i. nat_lt i (k + 1)) rows p r
+pub next_staged : (p q r : Pages) (k : ℕ) (rows : List AccRow) → StagesAccounts k (λ i. nat_lt i k) rows p q → StagesAccounts 1 (λ i. i == k) rows q r → StagesAccounts (k + 1) (λ i. nat_lt i (k + 1)) rows p r
 next_staged p q r k rows first second = staged_then p q r k 1 (λ i. nat_lt i k) (λ i. i == k) (λ i. nat_lt i (k + 1)) rows first second (next_named k)
 
 -- what a call that stages accounts does to the volume
-module _ (v : VolumeHeld) (p : PagesHeld) (most : ℕ) (named : ℕ → Bool) (rows : List AccRow) (stages : StagesAccounts most named rows v.pages p) (within : DifferWithin named v.accounts rows) (few : length rows ≤ account_limit) where
+module _ (v : VolumeHeld) (p : Pages) (most : ℕ) (named : ℕ → Bool) (rows : List AccRow) (stages : StagesAccounts most named rows v.pages p) (within : DifferWithin named v.accounts rows) (few : length rows ≤ account_limit) where
   pub accounts_stages : Stages most v (with_accounts v rows p)
   accounts_stages = stages_is v (with_accounts v rows p) most refl stages.shape stages.words stages.staged (λ image was. accounts_spelled v p most named rows stages image within few was)
-
-  pub accounts_held : IsKept v → 1 ≤ length rows → IsKept (with_accounts v rows p)
-  unfolding objects_in
-  accounts_held held some =
-      held_same (record v { accounts = rows }) p
-      (record {
-        frames = held.frames;
-        rows = held.rows;
-        places = held.places;
-        apart = held.apart;
-        used = held.used;
-        few_objects = held.few_objects;
-        some_accounts = some;
-        few_accounts = few;
-        few_threads = held.few_threads;
-        inside = held.inside;
-      })
-      stages.shape.frames stages.table
-
-pub accounts_objects : (v : VolumeHeld) (p : PagesHeld) (rows : List AccRow) → objects_in (with_accounts v rows p) ≡ objects_in v
-unfolding objects_in
-accounts_objects v p rows = refl

@@ -14,7 +14,7 @@ use Rattle.mg_model.specs.State.{ObjectRow}
 use Rattle.mg_model.specs.Volume.{Is, object_spelled, volume, whole_table}
 use Rattle.mg_pages.specs.ComingLemmas.{length_coming, low_coming}
 use Rattle.mg_pages.specs.Committing.{HasContents}
-use Rattle.mg_pages.specs.Held.{PagesHeld}
+use Rattle.mg_pages.specs.declared.pages.Pages.{Pages}
 use Rattle.mg_pages.specs.SpelledLemmas as laws
 use Rattle.mg_pages.specs.Meaning as pages
 use Rattle.mg_volume.proofs.StandingPages.{spelled_again, with_pages}
@@ -53,7 +53,7 @@ unfolding IsSpelledBy
 left_volume v image c s kept sound left = ⊎_elim (λ same. inl (old_volume v image c s same)) (λ has. inr (new_volume v image c s kept sound has)) left
 
 -- with nothing staged, what is coming of the new image is what was coming
-coming_again : (v : VolumeHeld) (p : PagesHeld) (image c : Image) → pages.IsSpelledBy p c → pages.staged_of p ≡ 0 → pages.total_of p ≡ pages.total_of v.pages → HasContents (pages.total_of v.pages) (pages.coming v.pages image) c
+coming_again : (v : VolumeHeld) (p : Pages) (image c : Image) → pages.IsSpelledBy p c → pages.staged_of p ≡ 0 → pages.total_of p ≡ pages.total_of v.pages → HasContents (pages.total_of v.pages) (pages.coming v.pages image) c
     → AgreeBehind (pages.total_of v.pages) (pages.coming v.pages image) (pages.coming p c)
 coming_again v p image c fitting none total has =
     let still : replay c (pages.total_of v.pages) ≡ Some (pages.coming p c) = ap (replay c) (sym total) ∙ laws.coming_still p c fitting none in
@@ -74,7 +74,7 @@ short_table v image s =
     let frames = s.frames in
     omega arith
 
-now_again : (v : VolumeHeld) (p : PagesHeld) (image c : Image) → Spelled v image → AgreeBehind (pages.total_of v.pages) (pages.coming v.pages image) (pages.coming p c) → pages.table_in p ≡ pages.table_in v.pages → now_of (with_pages v p) c ≡ now_of v image
+now_again : (v : VolumeHeld) (p : Pages) (image c : Image) → Spelled v image → AgreeBehind (pages.total_of v.pages) (pages.coming v.pages image) (pages.coming p c) → pages.table_in p ≡ pages.table_in v.pages → now_of (with_pages v p) c ≡ now_of v image
 unfolding now_of threads_in
 now_again v p image c s same table =
     let whole : AgreeBehind (total_blocks v.settings.frames) (pages.coming v.pages image) (pages.coming p c) = subst (λ n. AgreeBehind n (pages.coming v.pages image) (pages.coming p c)) (total_is v image s) same in
@@ -83,7 +83,7 @@ now_again v p image c s same table =
     (spelled-behind v.settings.frames (pages.coming v.pages image) (pages.coming p c) (pages.table_in v.pages) v.objects whole (short_table v image s))
 
 -- all of it, after a commit that went well
-module _ {D : Type 0} (facts : Ghosts D) (old new : D) (v : VolumeHeld) (p : PagesHeld) (stands : StandsOn facts v old) (kept : IsKept v) (sound : ForSome (facts.seen old) (λ image. is_sound (now_of v image) ≡ true))
+module _ {D : Type 0} (facts : Ghosts D) (old new : D) (v : VolumeHeld) (p : Pages) (stands : StandsOn facts v old) (kept : IsKept v) (sound : ForSome (facts.seen old) (λ image. is_sound (now_of v image) ≡ true))
     (standing : pages.StandsOn facts p new) (none : pages.staged_of p ≡ 0) (total : pages.total_of p ≡ pages.total_of v.pages) (table : pages.table_in p ≡ pages.table_in v.pages) (frames : pages.frame_count p ≡ pages.frame_count v.pages) where
   pub held_now : (image : Image) → facts.seen old ≡ Some image → IsSomeAnd (facts.seen new) (HasContents (pages.total_of v.pages) (pages.coming v.pages image)) → Holds (now_of v image) (with_pages v p) (facts.seen new)
   unfolding IsSpelledBy

@@ -14,9 +14,3 @@ module _ (v : VolumeHeld) (image : Image) (counters : Counters) (draws : ℕ) (h
   unfolding now_of settings_in counters_in
   password_next settings seed password made begins is =
       is ∙ ap (λ s. password_drawn s draws) (begins ∙ ap (λ (x : Settings). x.seed) made) ∙ ap (λ d. password_drawn v.settings.seed d) (count ∙ ap (λ (k : Counters). k.draws) held)
-
-  pub drawn_now : (new : VolumeHeld) (set : Counters) → set ≡ record counters { draws = draws + 1 } → now_of new image ≡ record (now_of v image) { counters = set } → now_of new image ≡ drawn (now_of v image)
-  unfolding now_of counters_in
-  drawn_now new set is now =
-      now
-      ∙ ap (λ k. record (now_of v image) { counters = k }) (is ∙ ap (λ d. record counters { draws = d + 1 }) count ∙ ap (λ (k : Counters). record k { draws = k.draws + 1 }) held)

@@ -13,7 +13,7 @@ use Rattle.mg_model.specs.Objects as model
 use Rattle.mg_model.specs.Ranges.{IsObjectRow}
 use Rattle.mg_model.specs.State.{ObjectRow}
 use Rattle.mg_objects.specs.Held.{with_row}
-use Rattle.mg_pages.specs.Held.{PagesHeld}
+use Rattle.mg_pages.specs.declared.pages.Pages.{Pages}
 use Rattle.mg_pages.specs.Meaning as pages
 use Rattle.mg_volume.proofs.BareRows.{any_bare}
 use Rattle.mg_volume.proofs.Found.{object_found}
@@ -100,7 +100,7 @@ module _ (v : VolumeHeld) (i : ℕ) (d : ℕ × ObjectRow) (row : ObjectRow) (ke
   unfolding is_object_staged
   changed_room staged = ap (λ place. pages.is_staged v.pages (first_object_block + place / 4)) (sym place-is) ∙ staged
 
-  pub changed_rows : (p : PagesHeld) → objects_in (with_objects v (set v.objects i (d.0, row)) p) ≡ with_other_row row (objects_in v)
+  pub changed_rows : (p : Pages) → objects_in (with_objects v (set v.objects i (d.0, row)) p) ≡ with_other_row row (objects_in v)
   unfolding objects_in
   changed_rows p =
       let long = length-map v.objects (λ (o : ℕ × ObjectRow). o.1) in
@@ -108,19 +108,19 @@ module _ (v : VolumeHeld) (i : ℕ) (d : ℕ × ObjectRow) (row : ObjectRow) (ke
       map-set (λ (o : ℕ × ObjectRow). o.1) v.objects i (d.0, row)
       ∙ set_is (λ (y : ObjectRow). y.base) (λ y. row) row.base (bare_rows v.objects) i d.1 (distinct_bare v.objects (bases_distinct v kept)) (omega arith) (ap (λ (y : ObjectRow). y.base) read ∙ sym at)
 
-  pub changed_here : (p : PagesHeld) → has_base row.base (objects_in v) ≡ true → pages.is_staged p (first_object_block + d.0 / 4) ≡ true → is_object_staged (with_objects v (set v.objects i (d.0, row)) p) row.base ≡ true
+  pub changed_here : (p : Pages) → has_base row.base (objects_in v) ≡ true → pages.is_staged p (first_object_block + d.0 / 4) ≡ true → is_object_staged (with_objects v (set v.objects i (d.0, row)) p) row.base ≡ true
   unfolding objects_in is_object_staged
   changed_here p has staged =
       ap (λ place. pages.is_staged p (first_object_block + place / 4)) (place-set row.base v.objects i d (d.0, row) few (ap (λ (o : ℕ × ObjectRow). o.0) there) at has ∙ place-is) ∙ staged
 
-  pub changed_still : (p : PagesHeld) (most : ℕ) → pages.StagesMore most v.pages p → ObjectsStillStaged v (with_objects v (set v.objects i (d.0, row)) p)
+  pub changed_still : (p : Pages) (most : ℕ) → pages.StagesMore most v.pages p → ObjectsStillStaged v (with_objects v (set v.objects i (d.0, row)) p)
   unfolding objects_in
   changed_still p most more =
       objects_still v (with_objects v (set v.objects i (d.0, row)) p) more.still
       (λ base' was is. place-set base' v.objects i d (d.0, row) few (ap (λ (o : ℕ × ObjectRow). o.0) there) at was)
 
   -- the volume with it is held
-  pub changed_held : (p : PagesHeld) → IsObjectRow row → pages.frame_count p ≡ pages.frame_count v.pages → pages.table_in p ≡ pages.table_in v.pages
+  pub changed_held : (p : Pages) → IsObjectRow row → pages.frame_count p ≡ pages.frame_count v.pages → pages.table_in p ≡ pages.table_in v.pages
       → IsKept (with_objects v (set v.objects i (d.0, row)) p)
   changed_held p is frames table =
       held_same (record v { objects = set v.objects i (d.0, row) }) p (held_change v i d d.0 row kept is few changed_low at same) frames table
@@ -195,7 +195,7 @@ module _ (v : VolumeHeld) (row : ObjectRow) (place : ℕ) (kept : IsKept v) (put
   pub put_room : is_object_staged v row.base ≡ true → pages.is_staged v.pages (first_object_block + place / 4) ≡ true
   put_room staged = ap (λ n. pages.is_staged v.pages (first_object_block + n / 4)) (sym put.at) ∙ changed_room v put.index put.old row kept put.stands staged
 
-  module _ (p : PagesHeld) (objects : List (ℕ × ObjectRow)) (now : objects ≡ with_row row v.objects) where
+  module _ (p : Pages) (objects : List (ℕ × ObjectRow)) (now : objects ≡ with_row row v.objects) where
     is : objects ≡ set v.objects put.index (put.old.0, row)
     is = now ∙ put.set
 

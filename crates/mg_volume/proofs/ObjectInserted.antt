@@ -15,7 +15,7 @@ use Rattle.mg_model.specs.Ranges.{IsObjectRow}
 use Rattle.mg_model.specs.Replay.{block_of}
 use Rattle.mg_model.specs.State.{ObjectRow}
 use Rattle.mg_model.specs.Volume.{bound_pages, page_words, pages_words}
-use Rattle.mg_pages.specs.Held.{PagesHeld}
+use Rattle.mg_pages.specs.declared.pages.Pages.{Pages}
 use Rattle.mg_pages.specs.Meaning as pages
 use Rattle.mg_volume.proofs.BareRows.{sum_bare}
 use Rattle.mg_volume.proofs.FreePlace.{is_taken, lowest_is}
@@ -102,7 +102,7 @@ module _ (v : VolumeHeld) (row : ObjectRow) (place : ℕ) (is : IsObjectRow row)
   unfolding is_object_staged objects_in
   inserted_room staged = ap (λ place. pages.is_staged v.pages (first_object_block + place / 4)) (at ∙ sym (place_new row.base v.objects absent)) ∙ staged
 
-  module _ (p : PagesHeld) (objects : List (ℕ × ObjectRow)) (put : objects ≡ into_place (place, row) v.objects) where
+  module _ (p : Pages) (objects : List (ℕ × ObjectRow)) (put : objects ≡ into_place (place, row) v.objects) where
     pub inserted_here : pages.is_staged p (first_object_block + place / 4) ≡ true → is_object_staged (with_objects v objects p) row.base ≡ true
     unfolding is_object_staged
     inserted_here staged =

@@ -14,7 +14,7 @@ use Rattle.mg_model.specs.Replay.{block_of}
 use Rattle.mg_model.specs.Spelling.{Read, globals_read, object_read}
 use Rattle.mg_model.specs.State.{ObjectRow}
 use Rattle.mg_model.specs.Volume.{live_rows, object_spelled, pages_words}
-use Rattle.mg_pages.specs.Held.{PagesHeld}
+use Rattle.mg_pages.specs.declared.pages.Pages.{Pages}
 use Rattle.mg_pages.specs.Meaning as pages
 use Rattle.mg_rows.specs.Blocks.{object_in}
 use Rattle.mg_volume.proofs.ObjectLists.{by_base_all, by_base_distinct, by_base_row, changed_order, placed_distinct, put_at, row_of_index, set_is}
@@ -27,7 +27,7 @@ use Rattle.mg_volume.specs.Sound.{all_spelled}
 use Rattle.mg_volume.specs.StagesRows.{StagesRows}
 use Rattle.mg_volume.proofs.Staged.{agree, objects_apart, set_apart, set_there}
 
-abbrev pub with_objects : VolumeHeld → List (ℕ × ObjectRow) → PagesHeld → VolumeHeld
+abbrev pub with_objects : VolumeHeld → List (ℕ × ObjectRow) → Pages → VolumeHeld
 with_objects v objects p = record v { objects = objects; pages = p }
 
 rows-told : (f g : ℕ → Read ObjectRow) (quad : ℕ) (rows rows' : List (ℕ × ObjectRow)) → live_rows f 0 object_limit ≡ Some rows → ArePlaced 0 object_limit rows'
@@ -44,7 +44,7 @@ rows-told f g quad rows rows' is placed here there others =
     })
 
 -- four rows were staged, as they are held now
-pub objects_staged : (v : VolumeHeld) (p : PagesHeld) (image : Image) (quad : ℕ) (bytes : List ℕ) (rows' objects' : List (ℕ × ObjectRow)) (s : Spelled v image) → pages.IsSpelledBy p image → pages.frame_count p ≡ pages.frame_count v.pages
+pub objects_staged : (v : VolumeHeld) (p : Pages) (image : Image) (quad : ℕ) (bytes : List ℕ) (rows' objects' : List (ℕ × ObjectRow)) (s : Spelled v image) → pages.IsSpelledBy p image → pages.frame_count p ≡ pages.frame_count v.pages
     → pages.coming p image ≡ slice_set (pages.coming v.pages image) (first_object_block + quad) bytes → quad < 1024 → ArePlaced 0 object_limit rows' → by_base rows' ≡ objects'
     → ((j : ℕ) → j < 4 → object_in bytes j ≡ Some (row_at (4 * quad + j) objects')) → ((j : ℕ) → j / 4 ≢ quad → row_at j rows' ≡ row_at j s.objects)
     → Spelled (with_objects v objects' p) image
@@ -99,7 +99,7 @@ place_below v image i d s few =
     (subst (All (λ (y : ℕ × ObjectRow). y.0 < object_limit)) s.ordered (by_base_all (λ (y : ℕ × ObjectRow). y.0 < object_limit) s.objects (placed-below 0 object_limit s.objects (placed_of v image s))))
 
 -- a row in the place of the one with its base
-pub change_spelled : (v : VolumeHeld) (p : PagesHeld) (image : Image) (i : ℕ) (d : ℕ × ObjectRow) (row : ObjectRow) (bytes : List ℕ) → IsSpelledBy v image → pages.IsSpelledBy p image → pages.frame_count p ≡ pages.frame_count v.pages
+pub change_spelled : (v : VolumeHeld) (p : Pages) (image : Image) (i : ℕ) (d : ℕ × ObjectRow) (row : ObjectRow) (bytes : List ℕ) → IsSpelledBy v image → pages.IsSpelledBy p image → pages.frame_count p ≡ pages.frame_count v.pages
     → i < length v.objects → row.base ≡ (get_or v.objects i d).1.base → pages.coming p image ≡ slice_set (pages.coming v.pages image) (first_object_block + (get_or v.objects i d).0 / 4) bytes
     → ((j : ℕ) → j < 4 → object_in bytes j ≡ Some (row_at (4 * ((get_or v.objects i d).0 / 4) + j) (set v.objects i ((get_or v.objects i d).0, row))))
     → IsSpelledBy (with_objects v (set v.objects i ((get_or v.objects i d).0, row)) p) image
@@ -170,7 +170,7 @@ changed-now r frames table p row (o ∷ os) (suc i) d distinct few base same =
     ∙ sym (ap (λ b. (if b then record (object_spelled r frames table o.1) { row = row } else object_spelled r frames table o.1) ∷ with_row row.base (λ old. row) (all_spelled r frames table os)) (ne_eqb o.1.base row.base (λ is. other (sym base ∙ sym is))))
 
 -- all of it, where the row was put in the place of the one that stands at an index
-module _ (v : VolumeHeld) (p : PagesHeld) (image : Image) (i : ℕ) (d : ℕ × ObjectRow) (row : ObjectRow) (objects : List (ℕ × ObjectRow)) (few : i < length v.objects) where
+module _ (v : VolumeHeld) (p : Pages) (image : Image) (i : ℕ) (d : ℕ × ObjectRow) (row : ObjectRow) (objects : List (ℕ × ObjectRow)) (few : i < length v.objects) where
   at_index : IsSpelledBy v image → pages.IsSpelledBy p image → pages.frame_count p ≡ pages.frame_count v.pages → row.base ≡ (get_or v.objects i d).1.base → objects ≡ set v.objects i ((get_or v.objects i d).0, row)
       → StagesRows objects (get_or v.objects i d).0 v.pages p → IsSpelledBy (with_objects v (set v.objects i ((get_or v.objects i d).0, row)) p) image
   unfolding IsSpelledBy

@@ -14,7 +14,7 @@ use Rattle.mg_model.specs.Objects.{page_behind, page_of, without_object}
 use Rattle.mg_model.specs.Ranges.{IsObjectRow}
 use Rattle.mg_model.specs.State.{Object, ObjectRow}
 use Rattle.mg_model.specs.Volume.{object_spelled, page_words}
-use Rattle.mg_pages.specs.Held.{PagesHeld}
+use Rattle.mg_pages.specs.declared.pages.Pages.{Pages}
 use Rattle.mg_pages.specs.Meaning as pages
 use Rattle.mg_volume.proofs.Indexed.{found_index}
 use Rattle.mg_volume.proofs.ObjectRemoved.{IsOrApart, LiesBefore, any_kept, apart_pairs, bases_differ, filter_mapped, find_kept, others_apart, pairs_apart, remove_is}
@@ -135,14 +135,14 @@ place-found : (found : Option (ℕ × ObjectRow)) (x : ℕ × ObjectRow) (free :
 place-found found x free is = ap (λ (o : Option (ℕ × ObjectRow)). option_map_or (λ (o : ℕ × ObjectRow). o.0) o free) is
 
 -- one call after the other stages no more than both
-pub stages_then : (a b : ℕ) (old middle new : PagesHeld) → pages.StagesMore a old middle → pages.StagesMore b middle new → pages.StagesMore (a + b) old new
+pub stages_then : (a b : ℕ) (old middle new : Pages) → pages.StagesMore a old middle → pages.StagesMore b middle new → pages.StagesMore (a + b) old new
 stages_then a b old middle new first second = record {
   least = (let x = first.least in let y = second.least in omega arith);
   staged = (let x = first.staged in let y = second.staged in omega arith);
   still = λ block is. second.still block (first.still block is);
 }
 
-pub shape_then : (old middle new : PagesHeld) → pages.SameShape old middle → pages.SameShape middle new → pages.SameShape old new
+pub shape_then : (old middle new : Pages) → pages.SameShape old middle → pages.SameShape middle new → pages.SameShape old new
 shape_then old middle new first second = record { total = second.total ∙ first.total; frames = second.frames ∙ first.frames; live = second.live ∙ first.live }
 
 module _ (v : VolumeHeld) (i : ℕ) (gone : ℕ × ObjectRow) (os : List (ℕ × ObjectRow)) (g : Goes v i gone os) where
@@ -150,7 +150,7 @@ module _ (v : VolumeHeld) (i : ℕ) (gone : ℕ × ObjectRow) (os : List (ℕ ×
   stays o = not (o.1.base == gone.1.base)
 
   -- it is kept as before
-  pub held_without : (middle p : PagesHeld) → IsKept v → pages.frame_count p ≡ pages.frame_count v.pages → pages.table_in middle ≡ pages.table_in v.pages
+  pub held_without : (middle p : Pages) → IsKept v → pages.frame_count p ≡ pages.frame_count v.pages → pages.table_in middle ≡ pages.table_in v.pages
       → pages.Unbinds (page_of gone.1) gone.1.pages middle p → IsKept (with_objects v os p)
   unfolding objects_in stays
   held_without middle p kept frames table unbinds =
@@ -184,12 +184,12 @@ module _ (v : VolumeHeld) (i : ℕ) (gone : ℕ × ObjectRow) (os : List (ℕ ×
           had
 
   -- the rows
-  pub rows_without : (p : PagesHeld) → objects_in (with_objects v os p) ≡ without_row gone.1.base (objects_in v)
+  pub rows_without : (p : Pages) → objects_in (with_objects v os p) ≡ without_row gone.1.base (objects_in v)
   unfolding objects_in
   rows_without p = ap (map (λ (o : ℕ × ObjectRow). o.1)) g.rest ∙ filter_mapped (λ (o : ℕ × ObjectRow). o.1) (λ (row : ObjectRow). not (row.base == gone.1.base)) v.objects
 
   -- the rows that are left, and no other, are spelled
-  spelled-middle : (middle : PagesHeld) (image : Image) → Spelled v image → pages.IsSpelledBy middle image → pages.frame_count middle ≡ pages.frame_count v.pages → StagesRows os gone.0 v.pages middle → Spelled (with_objects v os middle) image
+  spelled-middle : (middle : Pages) (image : Image) → Spelled v image → pages.IsSpelledBy middle image → pages.frame_count middle ≡ pages.frame_count v.pages → StagesRows os gone.0 v.pages middle → Spelled (with_objects v os middle) image
   spelled-middle middle image s fitting frames staged =
       let place = gone.0 in
       let below = g.place in
@@ -202,13 +202,13 @@ module _ (v : VolumeHeld) (i : ℕ) (gone : ℕ × ObjectRow) (os : List (ℕ ×
       objects_staged v middle image (place / 4) staged.bytes (row_set place None s.objects) os s fitting frames (staged.coming image) (omega arith) (set_placed 0 object_limit place None s.objects placed (omega arith) below) order staged.rows
       (λ j other. set_other j place None s.objects (λ is. other (ap (λ k. k / 4) is)))
 
-  pub spelled_without : (middle p : PagesHeld) (image : Image) → IsSpelledBy v image → pages.IsSpelledBy middle image → pages.frame_count middle ≡ pages.frame_count v.pages → StagesRows os gone.0 v.pages middle
+  pub spelled_without : (middle p : Pages) (image : Image) → IsSpelledBy v image → pages.IsSpelledBy middle image → pages.frame_count middle ≡ pages.frame_count v.pages → StagesRows os gone.0 v.pages middle
       → pages.IsSpelledBy p image → pages.frame_count p ≡ pages.frame_count middle → pages.Releases middle p image (page_of gone.1) gone.1.pages → IsSpelledBy (with_objects v os p) image
   unfolding IsSpelledBy
   spelled_without middle p image is fitting frames staged fitting' frames' released = spelled_same (with_objects v os middle) p image (spelled-middle middle image is fitting frames staged) fitting' frames' released.rows
 
   -- the state without the object
-  pub now_without : (middle p : PagesHeld) (image : Image) → IsKept v → pages.frame_count middle ≡ pages.frame_count v.pages → pages.table_in middle ≡ pages.table_in v.pages → StagesRows os gone.0 v.pages middle
+  pub now_without : (middle p : Pages) (image : Image) → IsKept v → pages.frame_count middle ≡ pages.frame_count v.pages → pages.table_in middle ≡ pages.table_in v.pages → StagesRows os gone.0 v.pages middle
       → pages.frame_count p ≡ pages.frame_count middle → pages.Releases middle p image (page_of gone.1) gone.1.pages
       → now_of (with_objects v os p) image ≡ record (now_of v image) { objects = without_object gone.1.base (now_of v image).objects }
   unfolding now_of threads_in stays
@@ -243,7 +243,7 @@ module _ (v : VolumeHeld) (i : ℕ) (gone : ℕ × ObjectRow) (os : List (ℕ ×
           ∙ ap (λ n. page_words (pages.coming middle image) n (pages.table_in middle) page) (frames ∙ kept.frames)
 
   -- the other objects have the places that they had
-  place-same : (base : ℕ) (p : PagesHeld) → has_base base (objects_in v) ≡ true → has_base base (objects_in (with_objects v os p)) ≡ true → place_for base os ≡ place_for base v.objects
+  place-same : (base : ℕ) (p : Pages) → has_base base (objects_in v) ≡ true → has_base base (objects_in (with_objects v os p)) ≡ true → place_for base os ≡ place_for base v.objects
   unfolding objects_in
   place-same base p there here =
       let other : base ≢ gone.1.base = λ same.
@@ -257,5 +257,5 @@ module _ (v : VolumeHeld) (i : ℕ) (gone : ℕ × ObjectRow) (os : List (ℕ ×
       place-found (find (λ (o : ℕ × ObjectRow). o.1.base == base) os) found.0 (free_place os) still
       ∙ sym (place-found (find (λ (o : ℕ × ObjectRow). o.1.base == base) v.objects) found.0 (free_place v.objects) found.1)
 
-  pub still_without : (p : PagesHeld) (most : ℕ) → pages.StagesMore most v.pages p → ObjectsStillStaged v (with_objects v os p)
+  pub still_without : (p : Pages) (most : ℕ) → pages.StagesMore most v.pages p → ObjectsStillStaged v (with_objects v os p)
   still_without p most more = objects_still v (with_objects v os p) more.still (λ base there here. place-same base p there here)

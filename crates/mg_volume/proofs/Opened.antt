@@ -27,7 +27,7 @@ use Rattle.mg_model.specs.Tests.{all_distinct}
 use Rattle.mg_model.specs.Volume.{Rows, accounts_fit, bound_pages, has_no_gap, is_page_of, live_rows, objects_fit, replayed_volume, state_fits, threads_fit, volume, whole_table}
 use Rattle.mg_objects.specs.Held as held
 use Rattle.mg_objects.specs.Held.{AreApart, by_base}
-use Rattle.mg_pages.specs.Held.{PagesHeld}
+use Rattle.mg_pages.specs.declared.pages.Pages.{Pages}
 use Rattle.mg_pages.specs.SpelledLemmas as laws
 use Rattle.mg_pages.specs.Meaning as pages
 use Rattle.mg_volume.proofs.BareRows.{sum_bare}
@@ -53,7 +53,7 @@ pub same_objects : (rows : VolumeRows) → held.objects_in rows.objects.items �
 same_objects rows = ap by_base (live-same 0 rows.objects.items)
 
 -- the volume that holds these rows
-abbrev pub holding : VolumeRows → PagesHeld → VolumeHeld
+abbrev pub holding : VolumeRows → Pages → VolumeHeld
 holding rows p = record {
   settings = rows.params;
   counters = rows.globals;
@@ -160,7 +160,7 @@ module _ (rows : VolumeRows) (kept : AreKept rows) where
   apart_is = apart_pairs (by_base (objects_of rows)) apart-rows
 
   -- with pages of the frame table that was read
-  module _ (p : PagesHeld) (table : pages.table_in p ≡ rows.table.items) (frames : pages.frame_count p ≡ length rows.table.items) where
+  module _ (p : Pages) (table : pages.table_in p ≡ rows.table.items) (frames : pages.frame_count p ≡ length rows.table.items) where
     same_frames : pages.frame_count p ≡ rows.params.frames
     same_frames = frames ∙ kept.held.entries
 
@@ -215,7 +215,7 @@ module _ (rows : VolumeRows) (kept : AreKept rows) where
             ∙ (fits []).inside
 
 -- pages of these rows over an open journal
-pub record ArePages (rows : VolumeRows) (store : Store) (p : PagesHeld) : Type 0 where
+pub record ArePages (rows : VolumeRows) (store : Store) (p : Pages) : Type 0 where
   pub store_is : pages.store_of p ≡ store
   pub total : journal.total_of store ≡ total_blocks rows.params.frames
   pub frames : pages.frame_count p ≡ length rows.table.items
@@ -226,7 +226,7 @@ pub record ArePages (rows : VolumeRows) (store : Store) (p : PagesHeld) : Type 0
 replayed-is : (total : ℕ) (image r : Image) → replay image total ≡ Some r → pages.replayed total image ≡ r
 replayed-is total image r is = ap (λ (o : Option Image). option_map_or (λ (v : Image). v) o image) is
 
-module _ (rows : VolumeRows) (kept : AreKept rows) (store : Store) (p : PagesHeld) (are : ArePages rows store p) where
+module _ (rows : VolumeRows) (kept : AreKept rows) (store : Store) (p : Pages) (are : ArePages rows store p) where
   module _ (image now : Image) (read : IsReadAs rows image) (is_there : IsThere rows image now) (fits_now : journal.IsFitting store now) where
     same_replay : pages.replayed (journal.total_of store) now ≡ is_there.replayed
     same_replay = ap (λ n. pages.replayed n now) are.total ∙ replayed-is (total_blocks rows.params.frames) now is_there.replayed is_there.replay_is
@@ -314,17 +314,17 @@ module _ (rows : VolumeRows) {D : Type 0} (facts : Ghosts D) (total : ℕ) (same
       (λ c contents. (there rows image c (read image told) (let P : ℕ → Type 0 = λ n. SameContents n image c in subst P same contents)).same)
 
 -- the volume with the lists that were made of the rows
-pub made_is : (rows : VolumeRows) (p : PagesHeld) (objects : List (ℕ × ObjectRow)) (accounts : List AccRow) (threads : List (ℕ × ThreadRow)) → objects ≡ by_base (objects_of rows) → accounts ≡ rows.accounts.items → threads ≡ numbered rows.threads.items
+pub made_is : (rows : VolumeRows) (p : Pages) (objects : List (ℕ × ObjectRow)) (accounts : List AccRow) (threads : List (ℕ × ThreadRow)) → objects ≡ by_base (objects_of rows) → accounts ≡ rows.accounts.items → threads ≡ numbered rows.threads.items
     → ◌≡◌ {A = VolumeHeld} (record { settings = rows.params; counters = rows.globals; objects = objects; accounts = accounts; threads = threads; pages = p }) (holding rows p)
 made_is rows p objects accounts threads are_objects are_accounts are_threads =
     ap (λ os. record (holding rows p) { objects = os; accounts = accounts; threads = threads }) are_objects
     ∙ ap (λ rs. record (holding rows p) { accounts = rs; threads = threads }) are_accounts
     ∙ ap (λ ts. record (holding rows p) { threads = ts }) are_threads
 
-pub staged_none : (rows : VolumeRows) (p : PagesHeld) → pages.staged_of p ≡ 0 → staged_of (holding rows p) ≡ 0
+pub staged_none : (rows : VolumeRows) (p : Pages) → pages.staged_of p ≡ 0 → staged_of (holding rows p) ≡ 0
 unfolding staged_of
 staged_none rows p none = none
 
-pub live_is : (rows : VolumeRows) (p : PagesHeld) → pages.is_live p ≡ true → is_live (holding rows p) ≡ true
+pub live_is : (rows : VolumeRows) (p : Pages) → pages.is_live p ≡ true → is_live (holding rows p) ≡ true
 unfolding is_live
 live_is rows p live = live

@@ -13,7 +13,7 @@ use Rattle.mg_model.specs.Objects.{page_behind, page_of, with_word, word_at}
 use Rattle.mg_model.specs.Ranges.{IsObjectRow}
 use Rattle.mg_model.specs.State.{ObjectRow}
 use Rattle.mg_model.specs.Volume.{bound_pages, page_words}
-use Rattle.mg_pages.specs.Held.{PagesHeld}
+use Rattle.mg_pages.specs.declared.pages.Pages.{Pages}
 use Rattle.mg_pages.specs.Meaning as pages
 use Rattle.mg_volume.proofs.FreeFrame.{free_frame}
 use Rattle.mg_volume.proofs.StandingPages.{with_pages}
@@ -23,15 +23,15 @@ use Rattle.mg_volume.specs.PageWordLemmas.{objects-set, word-spelled}
 use Rattle.mg_volume.specs.Sound.{all_spelled, is_sound_held, sound_is}
 
 -- what is not pages stays
-pub same_objects : (v : VolumeHeld) (p : PagesHeld) → objects_in (with_pages v p) ≡ objects_in v
+pub same_objects : (v : VolumeHeld) (p : Pages) → objects_in (with_pages v p) ≡ objects_in v
 unfolding objects_in
 same_objects v p = refl
 
-pub same_parts : (v : VolumeHeld) (p : PagesHeld) → SameParts v (with_pages v p)
+pub same_parts : (v : VolumeHeld) (p : Pages) → SameParts v (with_pages v p)
 unfolding settings_in counters_in accounts_in threads_in
 same_parts v p = record { settings = refl; counters = refl; accounts = refl; threads = refl }
 
-pub same_sound : (v : VolumeHeld) (p : PagesHeld) (image image' : Image) → is_sound (now_of (with_pages v p) image') ≡ is_sound (now_of v image)
+pub same_sound : (v : VolumeHeld) (p : Pages) (image image' : Image) → is_sound (now_of (with_pages v p) image') ≡ is_sound (now_of v image)
 unfolding objects_in threads_in
 same_sound v p image image' =
     let here : is_sound_held (with_pages v p) ≡ is_sound_held v = refl in
@@ -88,7 +88,7 @@ all-bound q (entry ∷ table) each =
     (cases_Bool (entry == 0))
 
 -- the pages that are bound lie in objects still
-pub held_again : (v : VolumeHeld) (p : PagesHeld) → IsKept v → pages.frame_count p ≡ pages.frame_count v.pages
+pub held_again : (v : VolumeHeld) (p : Pages) → IsKept v → pages.frame_count p ≡ pages.frame_count v.pages
     → ((x : ℕ) → x ≢ 0 → pages.is_bound p x ≡ true → (has_page v x ≡ true) ⊎ (pages.is_bound v.pages x ≡ true)) → IsKept (with_pages v p)
 unfolding objects_in
 held_again v p kept frames bound = record {
@@ -105,7 +105,7 @@ held_again v p kept frames bound = record {
 }
 
 -- where the table stays
-pub held_same : (v : VolumeHeld) (p : PagesHeld) → IsKept v → pages.frame_count p ≡ pages.frame_count v.pages → pages.table_in p ≡ pages.table_in v.pages → IsKept (with_pages v p)
+pub held_same : (v : VolumeHeld) (p : Pages) → IsKept v → pages.frame_count p ≡ pages.frame_count v.pages → pages.table_in p ≡ pages.table_in v.pages → IsKept (with_pages v p)
 held_same v p held frames table =
     held_again v p held frames (λ x other is. inr (ap (λ t. list_any (λ entry. entry == x) t) (sym table) ∙ is))
 
@@ -125,12 +125,12 @@ counted-one old new steps steps' words ticks = (1, ticks, omega arith)
 counted-none : (old new steps steps' : ℕ) → new ≡ old → steps' ≡ steps → CountsAlike old new steps steps'
 counted-none old new steps steps' words ticks = (0, omega arith, omega arith)
 
-pub counted : {T E : Type 0} (r : Result T E) (p p' : PagesHeld) (steps steps' : ℕ) → OnOk r (pages.CountsOne p p' steps steps') → OnErr r (pages.CountsNone p p' steps steps') → CountsAlike (pages.words_in p) (pages.words_in p') steps steps'
+pub counted : {T E : Type 0} (r : Result T E) (p p' : Pages) (steps steps' : ℕ) → OnOk r (pages.CountsOne p p' steps steps') → OnErr r (pages.CountsNone p p' steps steps') → CountsAlike (pages.words_in p) (pages.words_in p') steps steps'
 counted (Ok x) p p' steps steps' one none = counted-one (pages.words_in p) (pages.words_in p') steps steps' one.words one.ticks
 counted (Err e) p p' steps steps' one none = counted-none (pages.words_in p) (pages.words_in p') steps steps' none.words none.ticks
 
 -- nothing changed but the count
-pub keeps_now : (v : VolumeHeld) (p : PagesHeld) → pages.Keeps v.pages p → Keeps v (with_pages v p)
+pub keeps_now : (v : VolumeHeld) (p : Pages) → pages.Keeps v.pages p → Keeps v (with_pages v p)
 unfolding now_of staged_of is_live total_of threads_in
 keeps_now v p keeps = record {
   now = λ image.
@@ -149,7 +149,7 @@ word_now v image page index kept has within =
     ∙ sym (word-spelled (pages.coming v.pages image) v.settings.frames (pages.table_in v.pages) page index v.objects kept.rows within has)
 
 -- a word was put
-pub word_set : (v : VolumeHeld) (p : PagesHeld) (image : Image) (page index value : ℕ) → IsKept v → index < 512 → pages.frame_count p ≡ pages.frame_count v.pages → pages.SetsWord v.pages p image page index value
+pub word_set : (v : VolumeHeld) (p : Pages) (image : Image) (page index value : ℕ) → IsKept v → index < 512 → pages.frame_count p ≡ pages.frame_count v.pages → pages.SetsWord v.pages p image page index value
     → now_of (with_pages v p) image ≡ record (now_of v image) { objects = with_word (now_of v image).objects (4096 * page + 8 * index) value }
 unfolding now_of threads_in
 word_set v p image page index value kept within frames sets =
@@ -164,7 +164,7 @@ word_set v p image page index value kept within frames sets =
     in_old other = ap (λ n. page_words (pages.coming v.pages image) n (pages.table_in v.pages) other) kept.frames
 
 -- the rows stay, whether it was put or not
-pub rows_same : {T E D : Type 0} (r : Result T E) (facts : Ghosts D) (old : D) (v : VolumeHeld) (p : PagesHeld) (page index value : ℕ)
+pub rows_same : {T E D : Type 0} (r : Result T E) (facts : Ghosts D) (old : D) (v : VolumeHeld) (p : Pages) (page index value : ℕ)
     → OnOk r (ForSome (facts.seen old) (λ image. pages.SetsWord v.pages p image page index value)) → OnErr r (pages.Keeps v.pages p)
     → ForSome (facts.seen old) (λ image. (k : ℕ) → k < table_block → block_at (pages.coming p image) k ≡ block_at (pages.coming v.pages image) k)
 rows_same (Ok x) facts old v p page index value sets keeps image told = (sets image told).rows

@@ -6,12 +6,12 @@ use Rattle.std.proofs.lemmas.List.{set-set}
 use Rattle.mg_model.specs.Bytes.{word_bytes}
 use Rattle.mg_model.specs.Spelling.{thread_bytes}
 use Rattle.mg_model.specs.State.{ThreadRow}
-use Rattle.mg_pages.specs.Held.{PagesHeld}
+use Rattle.mg_pages.specs.declared.pages.Pages.{Pages}
 use Rattle.mg_pages.specs.Meaning as pages
 use Rattle.mg_rows.specs.ThreadParts.{with_word}
 use Rattle.mg_volume.specs.Standing.{Respells}
 
-pub restages_then : (block : ℕ) (x y : List ℕ) (p q r : PagesHeld) → pages.Restages block x p q → pages.Restages block y q r → pages.Restages block y p r
+pub restages_then : (block : ℕ) (x y : List ℕ) (p q r : Pages) → pages.Restages block x p q → pages.Restages block y q r → pages.Restages block y p r
 restages_then block x y p q r first second =
     let few = first.staged in
     let more = second.staged in
@@ -30,7 +30,7 @@ restages_then block x y p q r first second =
       spelled = λ image is. second.spelled image (first.spelled image is);
     }
 
-pub goes_on : (block at word : ℕ) (first row row' : ThreadRow) (p q r : PagesHeld) → with_word at word (thread_bytes row) ≡ thread_bytes row'
+pub goes_on : (block at word : ℕ) (first row row' : ThreadRow) (p q r : Pages) → with_word at word (thread_bytes row) ≡ thread_bytes row'
     → MatchOption (pages.waiting_in q block) (r ≡ q) (λ bytes. pages.Restages block (splice bytes at (at + 8) (word_bytes word)) q r) → Respells block first row p q → Respells block first row' p r
 goes_on block at word first row row' p q r step puts told =
     let put : pages.Restages block (with_word at word told.bytes) q r =

@@ -9,7 +9,7 @@ use Rattle.mg_model.specs.Ranges.{IsCounters}
 use Rattle.mg_model.specs.Replay.{block_of}
 use Rattle.mg_model.specs.Spelling.{globals_bytes, globals_read}
 use Rattle.mg_model.specs.State.{Counters}
-use Rattle.mg_pages.specs.Held.{PagesHeld}
+use Rattle.mg_pages.specs.declared.pages.Pages.{Pages}
 use Rattle.mg_pages.specs.Meaning as pages
 use Rattle.mg_rows.specs.Laws.{IsSpelledInOneWay}
 use Rattle.mg_rows.specs.ThreadParts.{with_word}
@@ -20,15 +20,15 @@ use Rattle.mg_volume.specs.Meaning.{IsSpelledBy, Spelled}
 use Rattle.mg_volume.specs.Standing.{RespellsCounters}
 
 -- what stood in the block is staged there with a change
-pub record Rewrites (block : ℕ) (change : List ℕ → List ℕ) (old new : PagesHeld) : Type 0 where
+pub record Rewrites (block : ℕ) (change : List ℕ → List ℕ) (old new : Pages) : Type 0 where
   pub was : List ℕ
   pub waited : (image : Image) → pages.IsSpelledBy old image → block_at (pages.coming old image) block ≡ was
   pub restages : pages.Restages block (change was) old new
 
-abbrev pub Puts : ℕ → ℕ → ℕ → PagesHeld → PagesHeld → Type 0
+abbrev pub Puts : ℕ → ℕ → ℕ → Pages → Pages → Type 0
 Puts block at word old new = MatchOption (pages.waiting_in old block) (new ≡ old) (λ bytes. pages.Restages block (splice bytes at (at + 8) (word_bytes word)) old new)
 
-pub first_put : (block at word : ℕ) (old new : PagesHeld) → is_some (pages.waiting_in old block) ≡ true → IfSome (pages.waiting_in old block) (λ bytes. (image : Image) → pages.IsSpelledBy old image → block_at (pages.coming old image) block ≡ bytes)
+pub first_put : (block at word : ℕ) (old new : Pages) → is_some (pages.waiting_in old block) ≡ true → IfSome (pages.waiting_in old block) (λ bytes. (image : Image) → pages.IsSpelledBy old image → block_at (pages.coming old image) block ≡ bytes)
     → Puts block at word old new → Rewrites block (with_word at word) old new
 first_put block at word old new = by_waiting (pages.waiting_in old block)
   where
@@ -37,7 +37,7 @@ first_put block at word old new = by_waiting (pages.waiting_in old block)
     by_waiting None there waited puts = absurd (cc)
     by_waiting (Some bytes) there waited puts = record { was = bytes; waited = waited; restages = puts }
 
-pub then_put : (block at word : ℕ) (change : List ℕ → List ℕ) (p q r : PagesHeld) → Rewrites block change p q → Puts block at word q r → Rewrites block (λ bytes. with_word at word (change bytes)) p r
+pub then_put : (block at word : ℕ) (change : List ℕ → List ℕ) (p q r : Pages) → Rewrites block change p q → Puts block at word q r → Rewrites block (λ bytes. with_word at word (change bytes)) p r
 then_put block at word change p q r told puts =
     let put : pages.Restages block (with_word at word (change told.was)) q r =
     subst (λ (o : Option (List ℕ)). MatchOption o (r ≡ q) (λ bytes. pages.Restages block (splice bytes at (at + 8) (word_bytes word)) q r)) told.restages.waits puts in
@@ -53,7 +53,7 @@ same_words g old = refl
 abbrev counters_at : ℕ → ℕ → ℕ → ℕ → Counters
 counters_at draws period cursor births = record { draws = draws; period = period; cursor = cursor; births = births }
 
-pub counters_respelled : (draws period cursor births : ℕ) (g : Counters) (old new : PagesHeld) → draws ≡ g.draws → period ≡ g.period → cursor ≡ g.cursor → births ≡ g.births
+pub counters_respelled : (draws period cursor births : ℕ) (g : Counters) (old new : Pages) → draws ≡ g.draws → period ≡ g.period → cursor ≡ g.cursor → births ≡ g.births
     → Rewrites globals_block (words_at draws period cursor births) old new → RespellsCounters g old new
 counters_respelled draws period cursor births g old new draws_is period_is cursor_is births_is told =
     subst (λ (k : Counters). RespellsCounters k old new)
@@ -66,7 +66,7 @@ counters_respelled draws period cursor births g old new draws_is period_is curso
     })
 
 -- the counters after their block was staged again
-pub counters_rewritten : (v : VolumeHeld) (p : PagesHeld) (g : Counters) (image : Image) → RespellsCounters g v.pages p → IsSpelledInOneWay globals_read globals_bytes IsCounters → IsCounters g → IsSpelledBy v image → IsSpelledBy (with_counters v p g) image
+pub counters_rewritten : (v : VolumeHeld) (p : Pages) (g : Counters) (image : Image) → RespellsCounters g v.pages p → IsSpelledInOneWay globals_read globals_bytes IsCounters → IsCounters g → IsSpelledBy v image → IsSpelledBy (with_counters v p g) image
 unfolding IsSpelledBy
 counters_rewritten v p g image told way range is =
     let s : Spelled v image = is in

@@ -12,7 +12,7 @@ use Rattle.mg_model.specs.Volume.{object_spelled, page_words}
 use Rattle.mg_model.specs.Spelling.{globals_read}
 use Rattle.mg_model.specs.State.{Counters, ObjectRow}
 use Rattle.mg_pages.specs.ComingLemmas.{length_coming}
-use Rattle.mg_pages.specs.Held.{PagesHeld}
+use Rattle.mg_pages.specs.declared.pages.Pages.{Pages}
 use Rattle.mg_pages.specs.SpelledLemmas as laws
 use Rattle.mg_pages.specs.Meaning as pages
 use Rattle.mg_volume.specs.Contents.{AgreeIn, accounts_within, objects_within, threads_within}
@@ -37,10 +37,10 @@ set_there v image block bytes s low =
     get_or-set_same (pages.coming v.pages image) block bytes [] (omega arith)
 
 -- the counters
-abbrev pub with_counters : VolumeHeld → PagesHeld → Counters → VolumeHeld
+abbrev pub with_counters : VolumeHeld → Pages → Counters → VolumeHeld
 with_counters v p counters = record v { counters = counters; pages = p }
 
-pub counters_staged : (v : VolumeHeld) (p : PagesHeld) (counters : Counters) (bytes : List ℕ) (image : Image) → IsSpelledBy v image → (pages.IsSpelledBy v.pages image → pages.IsSpelledBy p image) → pages.frame_count p ≡ pages.frame_count v.pages
+pub counters_staged : (v : VolumeHeld) (p : Pages) (counters : Counters) (bytes : List ℕ) (image : Image) → IsSpelledBy v image → (pages.IsSpelledBy v.pages image → pages.IsSpelledBy p image) → pages.frame_count p ≡ pages.frame_count v.pages
     → pages.coming p image ≡ slice_set (pages.coming v.pages image) globals_block bytes → globals_read bytes ≡ Some counters → IsSpelledBy (with_counters v p counters) image
 unfolding IsSpelledBy
 counters_staged v p counters bytes image is fitting frames coming read =
@@ -83,14 +83,14 @@ pub objects_apart : (r : Image) (block : ℕ) (bytes : List ℕ) (frames : ℕ) 
 objects_apart r block bytes frames table os low = objects_behind (slice_set r block bytes) r frames table os (λ k above. get_or-set_other r block k bytes [] (λ is. omega arith))
 
 -- after a block was staged the objects are those that they were
-pub staged_objects : (v : VolumeHeld) (p : PagesHeld) (image : Image) (block : ℕ) (bytes : List ℕ) → block < table_block → pages.table_in p ≡ pages.table_in v.pages → pages.coming p image ≡ slice_set (pages.coming v.pages image) block bytes
+pub staged_objects : (v : VolumeHeld) (p : Pages) (image : Image) (block : ℕ) (bytes : List ℕ) → block < table_block → pages.table_in p ≡ pages.table_in v.pages → pages.coming p image ≡ slice_set (pages.coming v.pages image) block bytes
     → all_spelled (pages.coming p image) v.settings.frames (pages.table_in p) v.objects ≡ all_spelled (pages.coming v.pages image) v.settings.frames (pages.table_in v.pages) v.objects
 staged_objects v p image block bytes low table coming =
     ap (λ t. all_spelled (pages.coming p image) v.settings.frames t v.objects) table
     ∙ ap (λ r. all_spelled r v.settings.frames (pages.table_in v.pages) v.objects) coming
     ∙ objects_apart (pages.coming v.pages image) block bytes v.settings.frames (pages.table_in v.pages) v.objects low
 
-pub counters_now : (v : VolumeHeld) (p : PagesHeld) (counters : Counters) (bytes : List ℕ) (image : Image) → pages.table_in p ≡ pages.table_in v.pages → pages.coming p image ≡ slice_set (pages.coming v.pages image) globals_block bytes
+pub counters_now : (v : VolumeHeld) (p : Pages) (counters : Counters) (bytes : List ℕ) (image : Image) → pages.table_in p ≡ pages.table_in v.pages → pages.coming p image ≡ slice_set (pages.coming v.pages image) globals_block bytes
     → now_of (with_counters v p counters) image ≡ record (now_of v image) { counters = counters }
 unfolding now_of threads_in
 counters_now v p counters bytes image table coming = ap (λ objects. record (now_of v image) { counters = counters; objects = objects }) (staged_objects v p image globals_block bytes (omega arith) table coming)

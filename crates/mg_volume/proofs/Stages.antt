@@ -1,6 +1,5 @@
 -- What staging a block leaves as it was.
-use Rattle.std.specs.Prelude.{◌≡◌, ◌⊎◌, ◌+◌, ◌≤◌, ◌<◌, ℕ, true}
-use Rattle.std.proofs.Common.{inr}
+use Rattle.std.specs.Prelude.{◌≡◌, ◌⊎◌, ◌+◌, ◌≤◌, ◌<◌, ℕ}
 use Rattle.mg_disk.specs.Disk.{Image}
 use Rattle.mg_model.specs.State.{Counters}
 use Rattle.mg_pages.specs.Meaning as pages
@@ -31,10 +30,6 @@ stages_is v w most settings shape words more spelled = record {
   staged = staged_more v w most more;
   still = still_staged v w more.still;
 }
-
-pub room_for : (v : VolumeHeld) (block : ℕ) → staged_of v < 160 → (pages.is_staged v.pages block ≡ true) ⊎ (pages.staged_of v.pages < 160)
-unfolding staged_of
-room_for v block few = inr few
 
 -- other counters are held as well
 pub held_counters : (v : VolumeHeld) (counters : Counters) → IsKept v → IsKept (record v { counters = counters })

@@ -8,18 +8,18 @@ use Rattle.mg_model.specs.Layout.{globals_block, table_block}
 use Rattle.mg_model.specs.Spelling.{globals_read}
 use Rattle.mg_model.specs.State.{State}
 use Rattle.mg_model.specs.Volume.{Is, volume}
-use Rattle.mg_pages.specs.Held.{PagesHeld}
+use Rattle.mg_pages.specs.declared.pages.Pages.{Pages}
 use Rattle.mg_pages.specs.Meaning as pages
 use Rattle.mg_volume.specs.Contents.{AgreeBehind, IsSet, accounts-same, objects-same, threads-same}
 use Rattle.mg_volume.specs.Held.{VolumeHeld}
 use Rattle.mg_volume.specs.StateLemmas.{set_of}
 use Rattle.mg_volume.specs.Meaning.{IsSpelledBy, Spelled, StandsOn, total_of}
 
-abbrev pub with_pages : VolumeHeld → PagesHeld → VolumeHeld
+abbrev pub with_pages : VolumeHeld → Pages → VolumeHeld
 with_pages v p = record v { pages = p }
 
 -- the same rows are spelled, whatever became of the pages and of the image
-pub spelled_again : (v : VolumeHeld) (p : PagesHeld) (image image' : Image) → Spelled v image → pages.IsSpelledBy p image' → pages.frame_count p ≡ pages.frame_count v.pages → IsSet v.settings image' → (kept : State)
+pub spelled_again : (v : VolumeHeld) (p : Pages) (image image' : Image) → Spelled v image → pages.IsSpelledBy p image' → pages.frame_count p ≡ pages.frame_count v.pages → IsSet v.settings image' → (kept : State)
     → volume image' ≡ Is kept → AgreeBehind table_block (pages.coming p image') (pages.coming v.pages image) → Spelled (with_pages v p) image'
 spelled_again v p image image' s fitting frames whole kept spelled same = record {
   fitting = fitting;
@@ -39,7 +39,7 @@ spelled_again v p image image' s fitting frames whole kept spelled same = record
 }
 
 -- at the same image
-pub spelled_same : (v : VolumeHeld) (p : PagesHeld) (image : Image) → IsSpelledBy v image → pages.IsSpelledBy p image → pages.frame_count p ≡ pages.frame_count v.pages
+pub spelled_same : (v : VolumeHeld) (p : Pages) (image : Image) → IsSpelledBy v image → pages.IsSpelledBy p image → pages.frame_count p ≡ pages.frame_count v.pages
     → ((k : ℕ) → k < table_block → block_at (pages.coming p image) k ≡ block_at (pages.coming v.pages image) k) → IsSpelledBy (with_pages v p) image
 unfolding IsSpelledBy
 spelled_same v p image s fitting frames same =
@@ -58,7 +58,7 @@ module _ {D : Type 0} (facts : Ghosts D) (v : VolumeHeld) (old : D) (stands : St
   pages_stand = record { room = stands.room; settled = stands.settled; fits = λ image told. (let s : Spelled v image = stands.fits image told in s.fitting) }
 
   -- after a call that wrote nothing
-  pub stands_same : (p : PagesHeld) (new : D) → pages.StandsOn facts p new → facts.seen new ≡ facts.seen old → pages.frame_count p ≡ pages.frame_count v.pages
+  pub stands_same : (p : Pages) (new : D) → pages.StandsOn facts p new → facts.seen new ≡ facts.seen old → pages.frame_count p ≡ pages.frame_count v.pages
       → ForSome (facts.seen old) (λ image. (k : ℕ) → k < table_block → block_at (pages.coming p image) k ≡ block_at (pages.coming v.pages image) k) → StandsOn facts (with_pages v p) new
   unfolding total_of
   stands_same p new standing seen frames same = record {

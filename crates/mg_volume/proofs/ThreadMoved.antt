@@ -10,7 +10,7 @@ use Rattle.mg_model.specs.Ranges.{IsThreadRow}
 use Rattle.mg_model.specs.Replay.{block_of}
 use Rattle.mg_model.specs.Spelling.{Read, thread_bytes, thread_read}
 use Rattle.mg_model.specs.State.{Thread, ThreadRow}
-use Rattle.mg_pages.specs.Held.{PagesHeld}
+use Rattle.mg_pages.specs.declared.pages.Pages.{Pages}
 use Rattle.mg_pages.specs.Meaning as pages
 use Rattle.mg_rows.specs.Laws.{IsSpelledInOneWay, live}
 use Rattle.mg_volume.proofs.ByNumber.{find-number}
@@ -40,7 +40,7 @@ live-some None row is = cc
 live-some (Some None) row is = cc
 live-some (Some (Some r)) row is = ap (λ (v : Option ThreadRow). Some v) is
 
-module _ (v : VolumeHeld) (p : PagesHeld) (t : ℕ) (row row' : ThreadRow) (rows : List (ℕ × ThreadRow)) (low : 1 ≤ t) (high : t ≤ 256)
+module _ (v : VolumeHeld) (p : Pages) (t : ℕ) (row row' : ThreadRow) (rows : List (ℕ × ThreadRow)) (low : 1 ≤ t) (high : t ≤ 256)
     (found : Some row ≡ option_map (λ (x : ℕ × ThreadRow). x.1) (find (λ (x : ℕ × ThreadRow). x.0 == t) v.threads)) (put : rows ≡ rows_with t (Some row') v.threads)
     (respells : Respells (first_thread_block + t - 1) row row' v.pages p) where
   number : t - 1 + 1 ≡ t

@@ -9,7 +9,7 @@ use Rattle.mg_model.specs.Limits.{thread_limit}
 use Rattle.mg_model.specs.Replay.{block_of}
 use Rattle.mg_model.specs.Spelling.{globals_read, thread_read}
 use Rattle.mg_model.specs.State.{ThreadRow}
-use Rattle.mg_pages.specs.Held.{PagesHeld}
+use Rattle.mg_pages.specs.declared.pages.Pages.{Pages}
 use Rattle.mg_pages.specs.Meaning as pages
 use Rattle.mg_volume.proofs.Found.{as_thread}
 use Rattle.mg_volume.specs.RowLists.{ArePlaced, row_set, told, told_set}
@@ -21,10 +21,10 @@ use Rattle.mg_volume.specs.Staging.{threads_with}
 use Rattle.mg_volume.specs.Numbered.{numbered, rows_with}
 use Rattle.mg_volume.proofs.Staged.{agree, set_apart, set_there, staged_objects}
 
-abbrev pub with_threads : VolumeHeld → List (ℕ × ThreadRow) → PagesHeld → VolumeHeld
+abbrev pub with_threads : VolumeHeld → List (ℕ × ThreadRow) → Pages → VolumeHeld
 with_threads v rows p = record v { threads = rows; pages = p }
 
-module _ (v : VolumeHeld) (p : PagesHeld) (image : Image) (t place : ℕ) (row : Option ThreadRow) (rows : List (ℕ × ThreadRow)) (bytes : List ℕ)
+module _ (v : VolumeHeld) (p : Pages) (image : Image) (t place : ℕ) (row : Option ThreadRow) (rows : List (ℕ × ThreadRow)) (bytes : List ℕ)
     (number : place + 1 ≡ t) (few : place < 256) (coming : pages.coming p image ≡ slice_set (pages.coming v.pages image) (first_thread_block + t - 1) bytes) (put : rows ≡ rows_with t row v.threads) where
   placed : (s : Spelled v image) → ArePlaced 0 256 s.threads
   placed s = (told (λ i. thread_read (thread_row_bytes (pages.coming v.pages image) i)) 0 thread_limit s.threads s.threads_are).placed

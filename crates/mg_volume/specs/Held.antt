@@ -3,7 +3,7 @@ use Rattle.std.specs.Prelude.{ℕ, List}
 use Rattle.mg_model.specs.declared.accounts.AccRow.{AccRow}
 use Rattle.mg_model.specs.Settings.{Settings}
 use Rattle.mg_model.specs.State.{Counters, ObjectRow, ThreadRow}
-use Rattle.mg_pages.specs.Held.{PagesHeld}
+use Rattle.mg_pages.specs.declared.pages.Pages.{Pages}
 
 -- the settings, the counters, the objects in the order of their bases, each with the place of its row, the accounts, the
 -- threads with their numbers, and the pages
@@ -13,4 +13,4 @@ pub record VolumeHeld : Type 0 where
   pub objects : List (ℕ × ObjectRow)
   pub accounts : List AccRow
   pub threads : List (ℕ × ThreadRow)
-  pub pages : PagesHeld
+  pub pages : Pages

@@ -4,11 +4,11 @@ use Rattle.mg_disk.specs.Disk.{Image}
 use Rattle.mg_disk.specs.declared.disk.Disk.{Ghosts}
 use Rattle.mg_journal.specs.Held.{Store}
 use Rattle.mg_journal.specs.Standing as journal
-use Rattle.mg_pages.specs.Held.{PagesHeld}
+use Rattle.mg_pages.specs.declared.pages.Pages.{Pages}
 use Rattle.mg_pages.specs.Meaning as pages
 
 -- they have these entries of a frame table, nothing is staged, and their journal, of n blocks, stands on the disk as it is now
-pub record ArePagesOver {D : Type 0} (facts : Ghosts D) (store : Store) (entries : List ℕ) (n : ℕ) (p : PagesHeld) (now : D) : Type 0 where
+pub record ArePagesOver {D : Type 0} (facts : Ghosts D) (store : Store) (entries : List ℕ) (n : ℕ) (p : Pages) (now : D) : Type 0 where
   pub stands : journal.Stands facts store now
   pub total : journal.total_of store ≡ n
   pub frames : pages.frame_count p ≡ length entries

@@ -5,9 +5,9 @@ use Rattle.std.proofs.Common.{arith, refl, sym, ap, subst, ◌∙◌}
 use Rattle.std.proofs.Math.Nat.{mod-add-mod}
 use Rattle.mg_disk.specs.Disk.{Image}
 use Rattle.mg_disk.specs.Runs.{nothing_none, nothing_then}
-use Rattle.mg_disk.specs.Stops.{CountGoes, CountRose, WritesNothing}
+use Rattle.mg_disk.specs.Stops.{CountGoes, WritesNothing}
 use Rattle.mg_disk.specs.declared.disk.Disk.{Ghosts}
-use Rattle.mg_faults.specs.Faults.{count_none, count_then, then_rose}
+use Rattle.mg_faults.specs.Faults.{count_none, count_then}
 use Rattle.mg_model.specs.declared.replies.Refusal.{Refusal}
 use Rattle.mg_model.specs.declared.replies.Reply.{Reply}
 use Rattle.mg_model.specs.declared.replies.Reply.TheVariants.{No}
@@ -127,10 +127,6 @@ module _ {D : Type 0} (facts : Ghosts D) where
     count = count_then (facts.faults d) (facts.faults e) (facts.faults f) (facts.is_spent d) (facts.is_spent e) (facts.is_spent f) first.count second.count;
     blocks = second.blocks ∙ first.blocks;
   }
-
-  -- a fault after a run has its cause since the run began
-  pub reads_rose : (a b : VolumeHeld) (d e f : D) (s t : ℕ) → Reads facts a b d e s t → CountRose facts e f → CountRose facts d f
-  reads_rose a b d e f s t first rose = then_rose (facts.faults d) (facts.faults e) (facts.faults f) (facts.is_spent d) (facts.is_spent e) (facts.is_spent f) first.count rose
 
   -- what is told of the state after a run is told of the state before it
   pub told_since : {X : Type 0} (a b : VolumeHeld) (d e : D) (s t : ℕ) (x : X) (f : State → X) → Reads facts a b d e s t → ForSome (facts.seen e) (λ image. x ≡ f (now_of b image)) → ForSome (facts.seen d) (λ image. x ≡ f (now_of a image))

@@ -7,7 +7,7 @@ use Rattle.mg_model.specs.Layout.{first_account_block, first_thread_block}
 use Rattle.mg_model.specs.Limits.{account_limit}
 use Rattle.mg_model.specs.Replay.{block_of}
 use Rattle.mg_model.specs.State.{State}
-use Rattle.mg_pages.specs.Held.{PagesHeld}
+use Rattle.mg_pages.specs.declared.pages.Pages.{Pages}
 use Rattle.mg_pages.specs.Meaning as pages
 use Rattle.mg_rows.specs.Blocks.{account_in}
 
@@ -20,7 +20,7 @@ abbrev pub IsBeside : ℕ → Type 0
 IsBeside block = (block < first_account_block) ⊎ (first_thread_block ≤ block)
 
 -- The blocks of the table that a test names, at most so many, are staged as the rows say. Every other block is as it was.
-pub record StagesAccounts (most : ℕ) (named : ℕ → Bool) (rows : List AccRow) (old new : PagesHeld) : Type 0 where
+pub record StagesAccounts (most : ℕ) (named : ℕ → Bool) (rows : List AccRow) (old new : Pages) : Type 0 where
   pub table : pages.table_in new ≡ pages.table_in old
   pub shape : pages.SameShape old new
   pub words : pages.words_in new ≡ pages.words_in old

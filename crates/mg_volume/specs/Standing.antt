@@ -6,7 +6,7 @@ use Rattle.mg_model.specs.declared.threads.ThrState.{ThrState}
 use Rattle.mg_model.specs.Layout.{globals_block}
 use Rattle.mg_model.specs.Spelling.{globals_bytes, thread_bytes, thread_read}
 use Rattle.mg_model.specs.State.{Counters, ThreadRow}
-use Rattle.mg_pages.specs.Held.{PagesHeld}
+use Rattle.mg_pages.specs.declared.pages.Pages.{Pages}
 use Rattle.mg_pages.specs.Meaning as pages
 
 -- the row of a thread that stands elsewhere
@@ -14,19 +14,19 @@ abbrev pub stands_at : ℕ → ThrState → List ℕ → ThreadRow → ThreadRow
 stands_at pc state regs row = record row { pc = pc; state = state; regs = regs }
 
 -- a block that is staged is staged with other bytes: those of the second row where it had those of the first
-pub record Respells (block : ℕ) (row row' : ThreadRow) (old new : PagesHeld) : Type 0 where
+pub record Respells (block : ℕ) (row row' : ThreadRow) (old new : Pages) : Type 0 where
   pub bytes : List ℕ
   pub restages : pages.Restages block bytes old new
   pub are : (image : Image) → pages.IsSpelledBy old image → block_at (pages.coming old image) block ≡ thread_bytes row → bytes ≡ thread_bytes row'
 
 -- the block of the counters, that is staged, is staged with those of these counters where it had those of any
-pub record RespellsCounters (counters : Counters) (old new : PagesHeld) : Type 0 where
+pub record RespellsCounters (counters : Counters) (old new : Pages) : Type 0 where
   pub bytes : List ℕ
   pub restages : pages.Restages globals_block bytes old new
   pub are : (image : Image) → pages.IsSpelledBy old image → (was : Counters) → block_at (pages.coming old image) globals_block ≡ globals_bytes was → bytes ≡ globals_bytes counters
 
 -- a block is staged that spells this row of a thread, or that there is none; nothing else has changed
-pub record StagesThread (block : ℕ) (row : Option ThreadRow) (old new : PagesHeld) : Type 0 where
+pub record StagesThread (block : ℕ) (row : Option ThreadRow) (old new : Pages) : Type 0 where
   pub bytes : List ℕ
   pub read : thread_read bytes ≡ Some row
   pub coming : (image : Image) → pages.coming new image ≡ slice_set (pages.coming old image) block bytes

@@ -3,7 +3,7 @@ use Rattle.std.specs.Prelude.{◌≡◌, ◌≤◌, map, Some}
 use Rattle.std.proofs.Common.{refl, sym, ap, subst, ◌∙◌, arith}
 use Rattle.mg_disk.specs.Disk.{Image}
 use Rattle.mg_disk.specs.declared.disk.Disk.{Ghosts}
-use Rattle.mg_model.specs.State.{Object, State}
+use Rattle.mg_model.specs.State.{Object}
 use Rattle.mg_model.specs.Volume.{Is, volume}
 use Rattle.mg_model.specs.Layout.{total_blocks}
 use Rattle.mg_model.specs.Replay.{replay}
@@ -11,13 +11,8 @@ use Rattle.mg_pages.specs.SpelledLemmas as laws
 use Rattle.mg_pages.specs.Meaning as pages
 use Rattle.mg_volume.specs.Contents.{IsSet, volume_of_replay}
 use Rattle.mg_volume.specs.Held.{VolumeHeld}
-use Rattle.mg_volume.specs.Meaning.{IsSpelledBy, SameShape, Spelled, StandsOn, accounts_in, counters_in, is_sound, now_of, objects_in, settings_in, staged_of, threads_in}
-use Rattle.mg_volume.specs.Sound.{coming_kept, rows-spelled, sound_is}
-
--- an image that spells a volume is one
-pub spelled_volume : (v : VolumeHeld) (image : Image) → IsSpelledBy v image → (state : State) × (volume image ≡ Is state)
-unfolding IsSpelledBy
-spelled_volume v image whole = (whole.kept, whole.is)
+use Rattle.mg_volume.specs.Meaning.{IsSpelledBy, SameShape, Spelled, StandsOn, accounts_in, counters_in, now_of, objects_in, settings_in, staged_of, threads_in}
+use Rattle.mg_volume.specs.Sound.{coming_kept, rows-spelled}
 
 -- it has the settings, and as many blocks as they ask for
 pub set_of : (v : VolumeHeld) (image : Image) → Spelled v image → IsSet v.settings image
@@ -58,10 +53,6 @@ now_threads v image = refl
 pub now_rows : (v : VolumeHeld) (image : Image) → map (λ (object : Object). object.row) (now_of v image).objects ≡ objects_in v
 unfolding now_of objects_in
 now_rows v image = rows-spelled (pages.coming v.pages image) v.settings.frames (pages.table_in v.pages) v.objects
-
--- what is sound is so whatever the image
-pub sound_of : (v : VolumeHeld) (image image' : Image) → is_sound (now_of v image) ≡ is_sound (now_of v image')
-sound_of v image image' = sound_is v image ∙ sym (sound_is v image')
 
 -- after a call that stages, a volume stands where it stood
 pub staged_stands : {D : Type 0} (facts : Ghosts D) (old new : VolumeHeld) (disk : D) → StandsOn facts old disk → SameShape old new → ((image : Image) → IsSpelledBy old image → IsSpelledBy new image) → StandsOn facts new disk

@@ -38,12 +38,12 @@ fn block_count(accounts: u64) -> u64
     (accounts + 63) / 64
 }
 
+#[tactic(auto, unfolding(crate::specs::Meaning::settings_in, crate::specs::Meaning::counters_in, crate::specs::Meaning::objects_in, crate::specs::Meaning::accounts_in, crate::specs::Meaning::threads_in, crate::specs::Meaning::now_of, crate::specs::Meaning::staged_of, crate::specs::Meaning::is_live, crate::specs::Meaning::total_of, crate::specs::Meaning::words_in))]
 impl Volume {
     /// Stages one account more, with the password fresh and n credits of account acc, which pw opens; gives its number, the last.
     /// It owes nothing. The refusals come in this order: no such account, or another password than its own (Account); fewer
     /// credits than n (Credit); 1,024 accounts (Limit). Nothing changes then. At most 158 blocks are staged, and two more at most
     /// then.
-    #[tactic(auto, unfolding(crate::specs::Meaning::accounts_in))]
     pub fn open_account(&mut self, acc: u64, pw: u64, n: u64, fresh: u64) -> Result<u64, Refusal>
         requires at_most_158_staged { staged_of self.old ≤ 158 }
         ensures refusal { MatchResult result (λ _. opening_refusal (accounts_in self.old) acc pw n ≡ None) (λ word. opening_refusal (accounts_in self.old) acc pw n ≡ Some word) }
@@ -67,7 +67,6 @@ impl Volume {
     /// Stages that n credits of account acc, which pw opens, go to account to, which may be the same. The refusals come in this
     /// order: no such account, another password than its own, or no account to pay to (Account); fewer credits than n (Credit).
     /// Nothing changes then. At most 158 blocks are staged, and two more at most then.
-    #[tactic(auto, unfolding(crate::specs::Meaning::accounts_in))]
     pub fn pay(&mut self, acc: u64, pw: u64, to: u64, n: u64) -> Result<(), Refusal>
         requires at_most_158_staged { staged_of self.old ≤ 158 }
         ensures refusal { MatchResult result (λ _. paying_refusal (accounts_in self.old) acc pw to n ≡ None) (λ word. paying_refusal (accounts_in self.old) acc pw to n ≡ Some word) }

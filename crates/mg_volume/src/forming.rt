@@ -25,6 +25,7 @@ fn accounts_keep_rules(accounts: &[AccRow])
     }
 }
 
+#[tactic(auto, unfolding(crate::specs::Meaning::settings_in, crate::specs::Meaning::counters_in, crate::specs::Meaning::objects_in, crate::specs::Meaning::accounts_in, crate::specs::Meaning::threads_in, crate::specs::Meaning::now_of, crate::specs::Meaning::staged_of, crate::specs::Meaning::is_live, crate::specs::Meaning::total_of, crate::specs::Meaning::words_in))]
 impl Volume {
     /// With nothing staged the state is well formed, where it is sound: of each image that this volume fits. It asks for
     /// an image of bytes, as every disk gives. This looks at no disk and changes nothing; a layer above calls it where it

@@ -14,6 +14,7 @@ use crate::object_removing::{release_object, take_object};
 use crate::volume::Volume;
 use mg_model::ObjRow;
 
+#[tactic(auto, unfolding(crate::specs::Meaning::settings_in, crate::specs::Meaning::counters_in, crate::specs::Meaning::objects_in, crate::specs::Meaning::accounts_in, crate::specs::Meaning::threads_in, crate::specs::Meaning::now_of, crate::specs::Meaning::staged_of, crate::specs::Meaning::is_live, crate::specs::Meaning::total_of, crate::specs::Meaning::words_in))]
 impl Volume {
     // No two objects have one base, as in each volume.
     pub(crate) fn bases_differ(&self)

@@ -20,6 +20,7 @@ use mg_model::{Globals, ThrRow, ThrState};
 use mg_passwords::Draws;
 use mg_rows::{globals_start, rows_are_spelled_in_one_way};
 
+#[tactic(auto, unfolding(crate::specs::Meaning::settings_in, crate::specs::Meaning::counters_in, crate::specs::Meaning::objects_in, crate::specs::Meaning::accounts_in, crate::specs::Meaning::threads_in, crate::specs::Meaning::now_of, crate::specs::Meaning::staged_of, crate::specs::Meaning::is_live, crate::specs::Meaning::total_of, crate::specs::Meaning::words_in))]
 impl Volume {
     /// Stages the counters, in place of those that the state has. Their block is staged already, or fewer than 160 blocks are; one
     /// more is at most.

@@ -2,7 +2,7 @@
 ghost use Rattle.std.specs.Prelude.{◌≡◌, ◌≤◌, ◌<◌, true, false, length, slice_index_or, slice_set};
 ghost use Rattle.mg_model.specs.Layout.{globals_block, table_block};
 ghost use Rattle.mg_model.specs.State.{ThreadRow};
-ghost use Rattle.mg_pages.specs.Held.{PagesHeld};
+ghost use Rattle.mg_pages.specs.declared.pages.Pages.{Pages};
 ghost use Rattle.mg_volume.specs.Standing.{Respells, stands_at};
 
 use mg_model::{ThrRow, ThrState};
@@ -54,7 +54,7 @@ fn put_pc(pages: &mut Pages, block: u64, row: &ThrRow, pc: u64) -> bool
 fn put_state(pages: &mut Pages, block: u64, old: ThrState, new: ThrState)
     requires low { globals_block ≤ block }
     requires high { block < table_block }
-    ensures { (p : PagesHeld) (first row : ThreadRow) → row.state ≡ old → Respells block first row p pages.old → Respells block first (record row { state = new }) p pages.new }
+    ensures { (p : Pages) (first row : ThreadRow) → row.state ≡ old → Respells block first row p pages.old → Respells block first (record row { state = new }) p pages.new }
 {
     threads_change_by_words();
     if old == new {
@@ -67,7 +67,7 @@ fn put_state(pages: &mut Pages, block: u64, old: ThrState, new: ThrState)
 fn put_registers(pages: &mut Pages, block: u64, old: &[u64; 8], new: &[u64; 8])
     requires low { globals_block ≤ block }
     requires high { block < table_block }
-    ensures { (p : PagesHeld) (first row : ThreadRow) → row.regs ≡ old.now → Respells block first row p pages.old → Respells block first (record row { regs = new.now }) p pages.new }
+    ensures { (p : Pages) (first row : ThreadRow) → row.regs ≡ old.now → Respells block first row p pages.old → Respells block first (record row { regs = new.now }) p pages.new }
 {
     for k in 0..8 {
         put_register(pages, block, k, old[k], new[k]);
@@ -78,7 +78,7 @@ fn put_register(pages: &mut Pages, block: u64, k: usize, old: u64, new: u64)
     requires low { globals_block ≤ block }
     requires high { block < table_block }
     requires k_below_8 { k < 8 }
-    ensures { (p : PagesHeld) (first row : ThreadRow) → length row.regs ≡ 8 → slice_index_or row.regs k 0 ≡ old → Respells block first row p pages.old → Respells block first (record row { regs = slice_set row.regs k new }) p pages.new }
+    ensures { (p : Pages) (first row : ThreadRow) → length row.regs ≡ 8 → slice_index_or row.regs k 0 ≡ old → Respells block first row p pages.old → Respells block first (record row { regs = slice_set row.regs k new }) p pages.new }
 {
     threads_change_by_words();
     if old == new {

@@ -58,6 +58,7 @@ impl Model for Volume {
     ghost invariant = { λ v. IsVolume (record { settings = v.params; counters = v.globals; objects = v.objects; accounts = v.bank.accounts; threads = v.threads; pages = v.pages }) v.bank.pages };
 }
 
+#[tactic(auto, unfolding(crate::specs::Meaning::settings_in, crate::specs::Meaning::counters_in, crate::specs::Meaning::objects_in, crate::specs::Meaning::accounts_in, crate::specs::Meaning::threads_in, crate::specs::Meaning::now_of, crate::specs::Meaning::staged_of, crate::specs::Meaning::is_live, crate::specs::Meaning::total_of, crate::specs::Meaning::words_in))]
 impl Volume {
     /// Opens the volume of a disk, whatever a stop left of a commit. Its rows are read once, before the first write, and are
     /// those that it holds. All memory that it will need is taken here.
@@ -89,7 +90,6 @@ impl Volume {
     }
 
     /// What it was made with.
-    #[tactic(auto, unfolding(crate::specs::Meaning::settings_in))]
     pub fn params(&self) -> Params
         ensures { result ≡ settings_in self.now }
     {
@@ -97,7 +97,6 @@ impl Volume {
     }
 
     /// The period and the other counters.
-    #[tactic(auto, unfolding(crate::specs::Meaning::counters_in))]
     pub fn globals(&self) -> Globals
         ensures { result ≡ counters_in self.now }
     {
@@ -198,7 +197,6 @@ impl Volume {
     }
 
     /// Account n, 1 to 1,024.
-    #[tactic(auto, unfolding(crate::specs::Meaning::accounts_in))]
     pub fn account(&self, n: u64) -> Option<AccRow>
         ensures found { result ≡ account_of (accounts_in self.now) n }
         ensures within_1_and_1024 { IfSome result (λ _. (1 ≤ n) × (n ≤ 1024)) }
@@ -256,7 +254,6 @@ impl Volume {
     }
 
     /// How many blocks are staged, 0 to 160.
-    #[tactic(auto, unfolding(crate::specs::Meaning::staged_of))]
     pub fn staged(&self) -> usize
         ensures { result ≡ staged_of self.now }
     {
@@ -264,7 +261,6 @@ impl Volume {
     }
 
     /// Whether no commit has failed.
-    #[tactic(auto, unfolding(crate::specs::Meaning::is_live))]
     pub fn live(&self) -> bool
         ensures { result ≡ is_live self.now }
     {
@@ -272,7 +268,6 @@ impl Volume {
     }
 
     /// How many words were read and written, modulo `2^64`.
-    #[tactic(auto, unfolding(crate::specs::Meaning::words_in))]
     pub fn words(&self) -> u64
         ensures { result ≡ words_in self.now }
     {

@@ -55,7 +55,7 @@ returns-in-Some g c =
     let any = sym (any_hit (λ right. allowed state c.args.t c.args.a right) rights c.loop-right.right-index R c.loop-right-test.true (sym (reached_allowed state c.args.t c.args.a right c.in-Some.object found)) (c.loop-right.invariant.rest image told)) in
     info-known state c.args.t c.args.a right c.in-Some.object any found
     ∙ ap (λ reply. (state, reply)) (sym c.about.ensures))
-    (search rules)
+    (λ image told. c.reach.ensures.backed image (reads.writes.same ∙ told))
     (λ image told.
     let (n, low, words) = reads.counted in
     let (m, high, words') = c.reach.ensures.reads.counted in

@@ -5,12 +5,13 @@ use Rattle.mg_journal.specs.Staged.{staged}
 use Rattle.mg_model.specs.Layout.{table_block}
 use Rattle.mg_pages.proofs.StagedTables.{more-same, more-staged, same-entries}
 use Rattle.mg_pages.specs.Entries.{HoldsEntries}
-use Rattle.mg_pages.specs.Held.{BlocksHeld, with_writes}
+use Rattle.mg_pages.specs.declared.blocks.Blocks.{Blocks}
+use Rattle.mg_pages.specs.Held.{with_writes}
 use Rattle.mg_pages.specs.Parts.{StagesTable}
 use Rattle.mg_pages.proofs.releasing.release_pages.Goals as goal
 use Rattle.mg_pages.proofs.releasing.release_pages.Goals.{then-changed-k, else-changed-k}
 
-abbrev After : BlocksHeld → List ℕ → List ℕ → ℕ → BlocksHeld → Type 0
+abbrev After : Blocks → List ℕ → List ℕ → ℕ → Blocks → Type 0
 After was old new k b = record {
   staged : StagesTable old new k was.writes b.writes;
   keeps : b ≡ with_writes was b.writes;
@@ -29,12 +30,12 @@ loop-k-preserved c =
     elim c.if-changed-k.branch [
       | then-changed-k w ↦
           let hold = subst (λ frames. HoldsEntries frames k w.entries_block.result) (w.as_slice-then-changed-k.ensures ∙ c.release_range.ensures) w.entries_block.ensures in
-          subst (λ (b : BlocksHeld). After c.args.blocks.now old new (k + 1) b) (sym (w.blocks-is ∙ w.stage.ensures)) record {
+          subst (λ (b : Blocks). After c.args.blocks.now old new (k + 1) b) (sym (w.blocks-is ∙ w.stage.ensures)) record {
             staged = more-staged old new k was c.loop-k.blocks.writes so_far.staged w.entries_block.result hold;
             keeps = ap (λ b. with_writes b (staged c.loop-k.blocks.writes (table_block + k) w.entries_block.result)) so_far.keeps;
           }
       | else-changed-k w ↦
-          subst (λ (b : BlocksHeld). After c.args.blocks.now old new (k + 1) b) (sym w.blocks-is) record {
+          subst (λ (b : Blocks). After c.args.blocks.now old new (k + 1) b) (sym w.blocks-is) record {
             staged =
                 more-same old new k was c.loop-k.blocks.writes so_far.staged
                 (same-entries old c.args.first c.args.pages k (λ i below at.

@@ -1,12 +1,11 @@
-use Rattle.std.proofs.Common.{◌+◌, ◌/◌, ◌∙◌, ap, length, replicate, slice_set, subst}
+use Rattle.std.proofs.Common.{refl, ◌+◌, ◌/◌, ◌∙◌, ap, length, replicate, slice_set, subst}
 use Rattle.std.proofs.lemmas.List.{length-set}
 use Rattle.mg_journal.specs.Staged.{staged}
 use Rattle.mg_model.specs.Layout.{first_frame, table_block}
 use Rattle.mg_model.specs.RowLemmas.{block_words-zeros}
-use Rattle.mg_pages.proofs.BlocksKept.{writes-twice}
 use Rattle.mg_pages.proofs.Numbers.{block-set}
 use Rattle.mg_pages.specs.Entries.{HoldsEntries}
-use Rattle.mg_pages.specs.Held.{BlocksHeld}
+use Rattle.mg_pages.specs.declared.blocks.Blocks.{Blocks}
 use Rattle.mg_pages.proofs.storing.begin.Goals as goal
 
 pub returns-clause-begins : goal.returns-clause-begins
@@ -23,12 +22,12 @@ returns-clause-begins c =
       entries = c.entries_block.result;
       hold = subst (λ frames. HoldsEntries frames (frame / 512) c.entries_block.result) c.as_slice.ensures c.entries_block.ensures;
       more =
-          ap (λ (b : BlocksHeld). b.writes) c.stage-2.ensures
+          ap (λ (b : Blocks). b.writes) c.stage-2.ensures
           ∙ ap (λ writes. staged writes (table_block + frame / 512) c.entries_block.result)
-          (ap (λ (b : BlocksHeld). b.writes) c.stage.ensures
+          (ap (λ (b : Blocks). b.writes) c.stage.ensures
           ∙ ap (λ block. staged c.args.blocks.now.writes block c.put_word.new.block)
           (c.frame_block.ensures ∙ ap (λ n. first_frame n + frame) (c.len.ensures.count ∙ ap length c.bind-frame.ensures.bound ∙ length-set c.args.frames.now frame c.args.page)));
     }
 
 pub returns-clause-keeps : goal.returns-clause-keeps
-returns-clause-keeps c = writes-twice c.args.blocks.now c.stage.new.self c.stage-2.new.self _ _ c.stage.ensures c.stage-2.ensures
+returns-clause-keeps c = rw (c.stage-2.ensures, c.stage.ensures) refl

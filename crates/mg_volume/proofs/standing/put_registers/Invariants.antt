@@ -1,10 +1,10 @@
 use Rattle.std.proofs.Common.{◌≡◌, ◌++◌, drop, take}
 use Rattle.mg_model.specs.State.{ThreadRow}
-use Rattle.mg_pages.specs.Held.{PagesHeld}
+use Rattle.mg_pages.specs.declared.pages.Pages.{Pages}
 use Rattle.mg_volume.specs.Standing.{Respells}
 use Rattle.mg_volume.proofs.standing.put_registers.Given as goal
 
 -- the words of the first registers are those of the new ones
 abbrev pub invariant-loop-k : goal.invariant-loop-k
 invariant-loop-k l =
-    (p : PagesHeld) (first row : ThreadRow) → row.regs ≡ l.old → Respells l.block first row p l.initial.pages → Respells l.block first (record row { regs = take l.k l.new ++ drop l.k l.old }) p l.pages
+    (p : Pages) (first row : ThreadRow) → row.regs ≡ l.old → Respells l.block first row p l.initial.pages → Respells l.block first (record row { regs = take l.k l.new ++ drop l.k l.old }) p l.pages

@@ -1,9 +1,7 @@
-use Rattle.std.proofs.Common.{ap}
 use Rattle.std.proofs.lemmas.Result.{on_ok_weaker}
 use Rattle.mg_pages.proofs.BlocksKept.{read-block}
-use Rattle.mg_pages.specs.Held.{BlocksHeld}
 use Rattle.mg_pages.proofs.blocks.Blocks.contents.Goals as goal
 
 pub returns-clause-block : goal.returns-clause-block
 returns-clause-block g c =
-    on_ok_weaker c.read.result (λ is image told. read-block c.self.inside.store c.args.self.now.store image c.args.block c.read.new.out (ap (λ (b : BlocksHeld). b.store) c.self.view_is) (c.requires.stands.fits image told) (is image told)) c.read.ensures.block
+    on_ok_weaker c.read.result (λ is image told. read-block c.args.self.now.store image c.args.block c.read.new.out (c.requires.stands.fits image told) (is image told)) c.read.ensures.block

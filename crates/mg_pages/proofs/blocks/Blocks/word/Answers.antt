@@ -1,4 +1,4 @@
-use Rattle.std.proofs.Common.{◌≡◌, ◌≤◌, ◌<◌, ◌*◌, ◌∙◌, ap, arith, length, sym}
+use Rattle.std.proofs.Common.{◌≡◌, ◌≤◌, ◌<◌, ◌*◌, ◌∙◌, ap, arith, length, refl, sym}
 use Rattle.std.proofs.lemmas.Result.{IfOk-weaker}
 use Rattle.std.specs.Option.{ForSome}
 use Rattle.mg_disk.specs.Disk.{block_at}
@@ -7,9 +7,9 @@ use Rattle.mg_journal.specs.Staged.{waiting}
 use Rattle.mg_journal.specs.Standing.{total_of}
 use Rattle.mg_model.specs.Bytes.{number_at}
 use Rattle.mg_pages.proofs.Awaited.{coming-none, coming-waiting, replayed-some}
-use Rattle.mg_pages.proofs.BlocksKept.{blocks_held, keeps-same, keeps-then}
+use Rattle.mg_pages.proofs.BlocksKept.{keeps-then}
+use Rattle.mg_pages.proofs.KeptWrites.{kept-same}
 use Rattle.mg_pages.proofs.Staging.{written-none}
-use Rattle.mg_pages.specs.Held.{BlocksHeld}
 use Rattle.mg_pages.specs.Kept.{AreKept, kept_at}
 use Rattle.mg_pages.specs.Meaning.{replayed}
 use Rattle.mg_pages.specs.Parts.{coming_of}
@@ -23,43 +23,31 @@ returns-in-Some-clause-word g c image told first low are =
     let high = stands.room in
     let place = c.requires.place in
     let below : c.args.block < length image = omega arith in
-    let staged = some_of (λ bytes. c.in-Some.word ≡ number_at bytes (8 * c.args.index)) (waiting c.self.inside.writes c.args.block) c.in-Some.ensures in
-    staged.2
-    ∙ ap (λ bytes. number_at bytes (8 * c.args.index))
-    (sym (coming-waiting now.store now.writes image c.args.block staged.0 (stands.fits image told) c.requires.once below (sym (ap (λ (b : BlocksHeld). waiting b.writes c.args.block) c.self.view_is) ∙ staged.1)))
+    let staged = some_of (λ bytes. c.in-Some.word ≡ number_at bytes (8 * c.args.index)) (waiting now.writes c.args.block) c.in-Some.ensures in
+    staged.2 ∙ ap (λ bytes. number_at bytes (8 * c.args.index)) (sym (coming-waiting now.store now.writes image c.args.block staged.0 (stands.fits image told) c.requires.once below staged.1))
 
 pub returns-in-Some-word-clause-word : goal.returns-in-Some-word-clause-word
 returns-in-Some-word-clause-word g c image told first low are =
     let now = c.args.self.now in
-    let kept = some_of (λ bytes. c.in-Some-word.word ≡ number_at bytes (8 * c.args.index)) (kept_at c.self.inside.kept c.args.block) c.in-Some-word.ensures.word in
-    let read = are c.args.block kept.0 (sym (ap (λ (b : BlocksHeld). kept_at b.kept c.args.block) c.self.view_is) ∙ kept.1) low in
+    let kept = some_of (λ bytes. c.in-Some-word.word ≡ number_at bytes (8 * c.args.index)) (kept_at now.kept c.args.block) c.in-Some-word.ensures.word in
     kept.2
     ∙ ap (λ bytes. number_at bytes (8 * c.args.index))
-    (coming-none now.store now.writes image c.args.block kept.0 (c.requires.stands.fits image told) (sym (ap (λ (b : BlocksHeld). waiting b.writes c.args.block) c.self.view_is) ∙ c.in-None.ensures)
-    (λ r is. read ∙ ap (λ i. block_at i c.args.block) (replayed-some (total_of now.store) image r is)))
-
-pub returns-in-Some-word-clause-keeps : goal.returns-in-Some-word-clause-keeps
-returns-in-Some-word-clause-keeps g c first =
-    let i = c.self.inside in
-    keeps-same (g.D.Disk.seen c.args.disk.now) first i.store i.writes i.writes i.kept c.word.new.self c.args.self.now c.self.view_is c.word.ensures.same
+    (coming-none now.store now.writes image c.args.block kept.0 (c.requires.stands.fits image told) c.in-None.ensures
+    (λ r is. are c.args.block kept.0 kept.1 low ∙ ap (λ i. block_at i c.args.block) (replayed-some (total_of now.store) image r is)))
 
 pub returns-in-None-word-clause-word : goal.returns-in-None-word-clause-word
 returns-in-None-word-clause-word g c =
     let now = c.args.self.now in
-    let i = c.self.inside in
     let block = c.args.block in
-    IfOk-weaker c.read_word.result (λ word. ForSome (g.D.Disk.seen c.args.disk.now) (λ image. word ≡ number_at (block_at (replayed (total_of i.store) image) block) (8 * c.args.index)))
+    IfOk-weaker c.read_word.result (λ word. ForSome (g.D.Disk.seen c.args.disk.now) (λ image. word ≡ number_at (block_at (replayed (total_of now.store) image) block) (8 * c.args.index)))
     (λ word. ForSome (g.D.Disk.seen c.args.disk.now) (λ image. (first : _) → first ≤ block → AreKept first (replayed (total_of now.store) image) now.kept → word ≡ number_at (block_at (coming_of now.store now.writes image) block) (8 * c.args.index)))
-    (λ word is image told first low are.
-    is image told
-    ∙ ap (λ (b : BlocksHeld). number_at (block_at (replayed (total_of b.store) image) block) (8 * c.args.index)) c.self.view_is
-    ∙ ap (λ bytes. number_at bytes (8 * c.args.index))
-    (sym (written-none now.writes (replayed (total_of now.store) image) block (sym (ap (λ (b : BlocksHeld). waiting b.writes block) c.self.view_is) ∙ c.in-None.ensures))))
+    (λ word is image told first low are. is image told ∙ ap (λ bytes. number_at bytes (8 * c.args.index)) (sym (written-none now.writes (replayed (total_of now.store) image) block c.in-None.ensures)))
     c.read_word.ensures.word
 
 pub returns-in-None-word-clause-keeps : goal.returns-in-None-word-clause-keeps
 returns-in-None-word-clause-keeps g c first =
-    let i = c.self.inside in
+    let now = c.args.self.now in
+    let mid = c.word.new.self in
     let told = g.D.Disk.seen c.args.disk.now in
-    keeps-then told first c.args.self.now (blocks_held i.store i.writes c.word.new.self) c.read_word.new.self
-    (keeps-same told first i.store i.writes i.writes i.kept c.word.new.self c.args.self.now c.self.view_is c.word.ensures.same) (c.read_word.ensures.keeps first)
+    keeps-then told first now (record now { kept = mid }) c.read_word.new.self
+    (record { store = refl; kept = λ image seen are. kept-same first (replayed now.store.total image) now.kept mid c.word.ensures.same are }) (c.read_word.ensures.keeps first)

@@ -1,20 +1,15 @@
-use Rattle.std.proofs.Common.{◌≤◌, ◌∙◌, ap, length, refl, subst, arith}
+use Rattle.std.proofs.Common.{◌≤◌, length, refl, subst, arith}
 use Rattle.std.specs.Prelude.{List, nat_lt}
-use Rattle.mg_bank.specs.Bank.{pages_at}
 use Rattle.mg_model.specs.Limits.{account_limit}
 use Rattle.mg_model.specs.declared.accounts.AccRow.{AccRow}
 use Rattle.mg_volume.proofs.AccountLists.{all_within}
-use Rattle.mg_volume.proofs.AccountsStaged.{accounts_held, accounts_now, accounts_objects, accounts_stages, with_accounts}
+use Rattle.mg_volume.proofs.AccountsStaged.{accounts_now, accounts_stages, with_accounts}
 use Rattle.mg_volume.proofs.Collected.{charged_are, charged_paid, few-pages, pages-are}
 use Rattle.mg_volume.proofs.StillStaged.{objects_wait}
-use Rattle.mg_volume.specs.Meaning.{accounts_in, staged_of}
+use Rattle.mg_volume.specs.Meaning.{accounts_in}
 use Rattle.mg_volume.specs.StagesAccounts.{DifferWithin, StagesAccounts}
 use Rattle.mg_volume.specs.contracts.volume.Volume.{the_view}
 use Rattle.mg_volume.proofs.volume.Volume.charge.Goals as goal
-
-pub stage_first-requires-clause-at_most_144_staged : goal.stage_first-requires-clause-at_most_144_staged
-unfolding staged_of
-stage_first-requires-clause-at_most_144_staged c = rw (← c.self.view_is) at c.requires.at_most_144_staged
 
 pub charge_all-paid-requires-clause-pages : goal.charge_all-paid-requires-clause-pages
 charge_all-paid-requires-clause-pages c n =
@@ -36,15 +31,6 @@ within c =
     let all = c.block_count-blocks.ensures.all in
     all_within c.block_count-blocks.result c.self.inside.bank.accounts c.charge_all-paid.new.b.accounts c.charge_all-paid.ensures.count (omega arith)
 
-pub invariant_of-self : goal.invariant_of-self
-invariant_of-self c = record {
-  kept =
-      let some = c.self.invariant.kept.some_accounts in
-      let count = c.charge_all-paid.ensures.count in
-      accounts_held (the_view c.self.inside) c.stage_first.new.pages 16 (λ k. nat_lt k c.block_count-blocks.result) c.charge_all-paid.new.b.accounts (stages c) (within c) (few c) c.self.invariant.kept (omega arith);
-  paid = λ n. ap (λ pages. pages_at pages n) c.charge_all-paid.ensures.pages ∙ c.self.invariant.paid n;
-}
-
 pub returns-clause-now : goal.returns-clause-now
 unfolding accounts_in
 returns-clause-now c image =
@@ -61,13 +47,6 @@ unfolding accounts_in
 returns-clause-paid c =
     rw (← c.self.view_is)
     (λ few image. charged_paid (the_view c.self.inside) c.args.rate c.charge_all-paid.result image (λ objects same. c.charge_all-paid.ensures.paid few objects (pages-are objects c.self.inside.objects c.self.inside.bank.pages same c.self.invariant.paid)))
-
-pub returns-clause-sum : goal.returns-clause-sum
-unfolding accounts_in
-returns-clause-sum c = rw (← c.self.view_is) c.charge_all-paid.ensures.sum
-
-pub returns-clause-rows : goal.returns-clause-rows
-returns-clause-rows c = rw (← c.self.view_is) (accounts_objects (the_view c.self.inside) c.stage_first.new.pages c.charge_all-paid.new.b.accounts)
 
 pub returns-clause-stages : goal.returns-clause-stages
 returns-clause-stages c =

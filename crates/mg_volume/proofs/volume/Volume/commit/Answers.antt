@@ -7,26 +7,15 @@ use Rattle.mg_model.specs.Volume.{Is, volume}
 use Rattle.mg_pages.specs.Committing.{HasContents}
 use Rattle.mg_pages.specs.Meaning as pages
 use Rattle.mg_volume.proofs.CommitChange.{held_now, left_volume, stands_now}
-use Rattle.mg_volume.proofs.PagesChange.{held_same, same_objects, same_parts, same_sound}
+use Rattle.mg_volume.proofs.PagesChange.{same_sound}
 use Rattle.mg_volume.proofs.StandingPages.{pages_stand}
-use Rattle.mg_volume.specs.Meaning.{is_live, now_of, staged_of, total_of, words_in}
+use Rattle.mg_volume.specs.Meaning.{now_of}
 use Rattle.mg_volume.specs.contracts.volume.Volume.{the_view}
 use Rattle.std.specs.Prelude.{◌≡◌, ◌⊎◌, IsSome}
 use Rattle.mg_volume.proofs.volume.Volume.commit.Goals as goal
 
-pub commit-requires-clause-live : goal.commit-requires-clause-live
-unfolding is_live
-commit-requires-clause-live g c = rw (← c.self.view_is) at c.requires.live
-
 pub commit-requires-clause-stands : goal.commit-requires-clause-stands
 commit-requires-clause-stands g c = pages_stand g.D.Disk (the_view c.self.inside) c.args.disk.now (rw (← c.self.view_is) at c.requires.stands)
-
-pub invariant_of-self : goal.invariant_of-self
-invariant_of-self g c = record {
-  kept =
-      held_same (the_view c.self.inside) c.commit.new.self c.self.invariant.kept c.commit.ensures.frames c.commit.ensures.table;
-  paid = c.self.invariant.paid;
-}
 
 pub returns-clause-any_moment : goal.returns-clause-any_moment
 returns-clause-any_moment g c image told =
@@ -50,9 +39,6 @@ returns-clause-done g c =
     (λ all image told.
     held_now g.D.Disk c.args.disk.now c.commit.new.disk v c.commit.new.self stands c.self.invariant.kept sound all.0.0 all.0.1 c.commit.ensures.total c.commit.ensures.table c.commit.ensures.frames image told (all.1 image told))
     (on_ok_both _ _ c.commit.result (on_ok_both _ _ c.commit.result c.commit.ensures.stands c.commit.ensures.staged) c.commit.ensures.done))
-
-pub returns-clause-rows : goal.returns-clause-rows
-returns-clause-rows g c = rw (← c.self.view_is) (same_objects (the_view c.self.inside) c.commit.new.self)
 
 pub returns-clause-sound : goal.returns-clause-sound
 returns-clause-sound g c image told =
@@ -81,30 +67,3 @@ returns-clause-stands g c =
     (λ all.
     stands_now g.D.Disk c.args.disk.now c.commit.new.disk v c.commit.new.self stands c.self.invariant.kept sound all.0.0 all.0.1 c.commit.ensures.total c.commit.ensures.table c.commit.ensures.frames all.1)
     (on_ok_both _ _ c.commit.result (on_ok_both _ _ c.commit.result c.commit.ensures.stands c.commit.ensures.staged) c.commit.ensures.came_from)
-
-pub returns-clause-staged : goal.returns-clause-staged
-unfolding staged_of
-returns-clause-staged g c = c.commit.ensures.staged
-
-pub returns-clause-total : goal.returns-clause-total
-unfolding total_of
-returns-clause-total g c = rw (← c.self.view_is) c.commit.ensures.total
-
-pub returns-clause-live : goal.returns-clause-live
-unfolding is_live
-returns-clause-live g c = c.commit.ensures.live
-
-pub returns-clause-dead : goal.returns-clause-dead
-unfolding is_live
-returns-clause-dead g c = c.commit.ensures.dead
-
-pub returns-clause-words : goal.returns-clause-words
-unfolding words_in
-returns-clause-words g c = rw (← c.self.view_is) c.commit.ensures.words
-
-pub returns-clause-parts : goal.returns-clause-parts
-returns-clause-parts g c = rw (← c.self.view_is) (same_parts (the_view c.self.inside) c.commit.new.self)
-
-pub returns-clause-nothing : goal.returns-clause-nothing
-unfolding staged_of
-returns-clause-nothing g c none = c.commit.ensures.nothing (rw (← c.self.view_is) at none)

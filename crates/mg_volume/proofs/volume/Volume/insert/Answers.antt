@@ -1,5 +1,5 @@
 use Rattle.std.proofs.Common.{refl, ⊎_elim, inl, inr}
-use Rattle.mg_volume.proofs.ObjectInserted.{inserted_held, inserted_here, inserted_low, inserted_now, inserted_room, inserted_rows, inserted_spelled, inserted_still, join_few, join_meets}
+use Rattle.mg_volume.proofs.ObjectInserted.{inserted_held, inserted_here, inserted_now, inserted_room, inserted_rows, inserted_spelled, inserted_still, join_meets}
 use Rattle.mg_volume.proofs.ObjectStaged.{with_objects}
 use Rattle.mg_volume.proofs.Stages.{stages_is}
 use Rattle.mg_volume.proofs.StandingPages.{pages_spelled}
@@ -7,20 +7,10 @@ use Rattle.mg_volume.specs.Meaning.{staged_of}
 use Rattle.mg_volume.specs.contracts.volume.Volume.{the_view}
 use Rattle.mg_volume.proofs.volume.Volume.insert.Goals as goal
 
-pub insert-place-requires-clause-fewer_than_4096 : goal.insert-place-requires-clause-fewer_than_4096
-insert-place-requires-clause-fewer_than_4096 c =
-    let join = rw (← c.self.view_is) at c.requires.join in
-    join_few (the_view c.self.inside) c.args.row join
-
 pub insert-place-requires-clause-apart : goal.insert-place-requires-clause-apart
 insert-place-requires-clause-apart c =
     let join = rw (← c.self.view_is) at c.requires.join in
     join_meets (the_view c.self.inside) c.args.row join
-
-pub stage_row-requires-clause-place : goal.stage_row-requires-clause-place
-stage_row-requires-clause-place c =
-    let join = rw (← c.self.view_is) at c.requires.join in
-    inserted_low (the_view c.self.inside) c.args.row c.insert-place.result c.keep_rules.ensures c.self.invariant.kept join c.insert-place.ensures.place
 
 pub stage_row-requires-clause-staged_or_fewer_than_160 : goal.stage_row-requires-clause-staged_or_fewer_than_160
 unfolding staged_of

@@ -1,25 +1,15 @@
 use Rattle.std.proofs.Common.{◌∙◌, ◌==◌, Some, find, refl, sym}
 use Rattle.mg_model.specs.State.{Thread}
 use Rattle.mg_volume.proofs.Found.{thread_found}
-use Rattle.mg_volume.proofs.PagesChange.{held_same, same_objects}
 use Rattle.mg_volume.proofs.StillStaged.{objects_wait}
 use Rattle.mg_volume.proofs.StillWaiting.{thread_here}
 use Rattle.mg_volume.proofs.ThreadChanged.{thread_changed}
 use Rattle.mg_volume.proofs.ThreadMoved.{changes_found, moved_now, moved_stages}
-use Rattle.mg_volume.proofs.ThreadStaged.{held_threads, with_threads}
-use Rattle.mg_volume.specs.Meaning.{objects_in, threads_in}
+use Rattle.mg_volume.proofs.ThreadStaged.{with_threads}
+use Rattle.mg_volume.specs.Meaning.{threads_in}
 use Rattle.mg_volume.specs.Standing.{stands_at}
 use Rattle.mg_volume.specs.contracts.volume.Volume.{the_view}
 use Rattle.mg_volume.proofs.volume.Volume.move_staged.Goals as goal
-
-pub invariant_of-self-2 : goal.invariant_of-self-2
-invariant_of-self-2 c = record {
-  kept =
-      let v = the_view c.self.inside in
-      let more = c.if-not-respell.ensures.staged refl in
-      held_same (record v { threads = c.stand.new.self }) c.respell.new.pages (held_threads v c.stand.new.self c.self.invariant.kept c.keep_rules.ensures.at_most_256) more.restages.shape.frames more.restages.table;
-  paid = c.self.invariant.paid;
-}
 
 pub returns-clause-now : goal.returns-clause-now
 returns-clause-now c = λ _ change same image.
@@ -31,10 +21,6 @@ returns-clause-now c = λ _ change same image.
     (moved_now v c.respell.new.pages c.args.t row (stands row) c.stand.new.self c.keep_number.ensures.at_least_1 c.keep_number.ensures.at_most_256 c.in-Some.ensures.found put (c.if-not-respell.ensures.staged refl) image)
     ∙ thread_changed c.args.self.now image c.args.t (stands row) change c.numbers_differ.ensures c.requires.lives
     (changes_found change stands (find (λ (thread : Thread). thread.number == c.args.t) (threads_in c.args.self.now)) row (rw (← c.self.view_is) (thread_found v c.args.t (Some row) c.in-Some.ensures.found)) same)
-
-pub returns-clause-rows : goal.returns-clause-rows
-unfolding objects_in
-returns-clause-rows c = λ _. rw (← c.self.view_is) (same_objects (the_view c.self.inside) c.respell.new.pages)
 
 pub returns-clause-stages : goal.returns-clause-stages
 returns-clause-stages c = λ _.

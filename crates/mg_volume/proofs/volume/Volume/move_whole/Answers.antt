@@ -1,15 +1,15 @@
-use Rattle.std.proofs.Common.{◌≡◌, ◌+◌, ◌-◌, ◌==◌, ◌∙◌, ℕ, None, Some, ap, arith, is_some, refl, sym}
+use Rattle.std.proofs.Common.{◌≡◌, ◌+◌, ◌-◌, ◌==◌, ◌∙◌, ℕ, None, Some, arith, refl, sym}
 use Rattle.std.specs.Prelude.{find}
 use Rattle.mg_model.specs.State.{Thread}
 use Rattle.mg_volume.proofs.Found.{thread_found, thread_none}
-use Rattle.mg_volume.proofs.PagesChange.{held_same, same_objects}
+use Rattle.mg_volume.proofs.PagesChange.{held_same}
 use Rattle.mg_volume.proofs.Stages.{stages_is}
 use Rattle.mg_volume.proofs.StillStaged.{objects_wait}
 use Rattle.mg_volume.proofs.StillWaiting.{thread_here, thread_room}
 use Rattle.mg_volume.proofs.ThreadChanged.{living, thread_changed}
 use Rattle.mg_volume.proofs.ThreadMoved.{changes_found}
 use Rattle.mg_volume.proofs.ThreadStaged.{held_threads, thread_now, thread_spelled, with_threads}
-use Rattle.mg_volume.specs.Meaning.{objects_in, threads_in}
+use Rattle.mg_volume.specs.Meaning.{threads_in}
 use Rattle.mg_volume.specs.Standing.{stands_at}
 use Rattle.mg_volume.specs.contracts.volume.Volume.{the_view}
 use Rattle.mg_volume.proofs.volume.Volume.move_whole.Goals as goal
@@ -44,10 +44,6 @@ returns-clause-now c change same image =
     ∙ thread_changed c.args.self.now image c.args.t (stands row) change c.numbers_differ.ensures c.requires.lives
     (changes_found change stands (find (λ (thread : Thread). thread.number == c.args.t) (threads_in c.args.self.now)) row (rw (← c.self.view_is) (thread_found v c.args.t (Some row) c.in-Some.ensures.found)) same)
 
-pub returns-clause-rows : goal.returns-clause-rows
-unfolding objects_in
-returns-clause-rows c = rw (← c.self.view_is) (same_objects (the_view c.self.inside) c.stage_held.new.pages)
-
 pub returns-clause-stages : goal.returns-clause-stages
 returns-clause-stages c =
     let held = c.stage_held.ensures (stands_at c.args.pc c.args.state c.args.regs.now c.in-Some._row.now) (c.stand.ensures.there c.in-Some._row.now (sym c.in-Some.ensures.found)) in
@@ -74,6 +70,3 @@ pub returns-clause-here : goal.returns-clause-here
 returns-clause-here c =
     let held = c.stage_held.ensures (stands_at c.args.pc c.args.state c.args.regs.now c.in-Some._row.now) (c.stand.ensures.there c.in-Some._row.now (sym c.in-Some.ensures.found)) in
     thread_here (with_threads (the_view c.self.inside) c.stand.new.self c.stage_held.new.pages) c.args.t held.here
-
-pub stage_held-requires-clause-there : goal.stage_held-requires-clause-there
-stage_held-requires-clause-there c = ap is_some (c.stand.ensures.there c.in-Some._row.now (sym c.in-Some.ensures.found))

@@ -1,31 +1,16 @@
 use Rattle.std.proofs.Common.{refl, arith}
-use Rattle.mg_volume.proofs.PagesChange.{held_same, same_objects}
 use Rattle.mg_volume.proofs.Rewritten.{counters_rewritten}
-use Rattle.mg_volume.proofs.Stages.{held_counters, stages_is}
+use Rattle.mg_volume.proofs.Stages.{stages_is}
 use Rattle.mg_volume.proofs.StillStaged.{objects_wait}
 use Rattle.mg_volume.proofs.StillWaiting.{counters_here}
-use Rattle.mg_volume.specs.Meaning.{objects_in}
 use Rattle.mg_volume.proofs.Staged.{counters_now, with_counters}
 use Rattle.mg_volume.specs.contracts.volume.Volume.{the_view}
 use Rattle.mg_volume.proofs.volume.Volume.put_counters.Goals as goal
-
-pub invariant_of-self-2 : goal.invariant_of-self-2
-invariant_of-self-2 c = record {
-  kept =
-      let v = the_view c.self.inside in
-      let more = (c.if-not-respell_counters.ensures.staged refl).restages in
-      held_same (record v { counters = c.args.g.now }) c.respell_counters.new.pages (held_counters v c.args.g.now c.self.invariant.kept) more.shape.frames more.table;
-  paid = c.self.invariant.paid;
-}
 
 pub returns-clause-now : goal.returns-clause-now
 returns-clause-now c = λ _ image.
     let more = c.if-not-respell_counters.ensures.staged refl in
     rw (← c.self.view_is) (counters_now (the_view c.self.inside) c.respell_counters.new.pages c.args.g.now more.bytes image more.restages.table (more.restages.coming image))
-
-pub returns-clause-rows : goal.returns-clause-rows
-unfolding objects_in
-returns-clause-rows c = λ _. rw (← c.self.view_is) (same_objects (the_view c.self.inside) c.respell_counters.new.pages)
 
 pub returns-clause-stages : goal.returns-clause-stages
 returns-clause-stages c = λ _.

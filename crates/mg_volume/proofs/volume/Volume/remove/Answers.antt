@@ -1,21 +1,12 @@
-use Rattle.std.proofs.Common.{◌≡◌, ◌∙◌, ℕ, arith, refl}
+use Rattle.std.proofs.Common.{◌≡◌, ◌∙◌, ℕ, refl}
 use Rattle.mg_pages.specs.Meaning as pages
 use Rattle.mg_volume.proofs.ObjectChanged.{there_is}
 use Rattle.mg_volume.proofs.ObjectStaged.{with_objects}
 use Rattle.mg_volume.proofs.ObjectWithout.{Goes, goes, held_without, now_without, rows_without, shape_then, spelled_without, stages_then, still_without}
 use Rattle.mg_volume.proofs.Stages.{stages_is}
 use Rattle.mg_volume.proofs.StandingPages.{pages_spelled}
-use Rattle.mg_volume.specs.Meaning.{staged_of}
 use Rattle.mg_volume.specs.contracts.volume.Volume.{the_view}
 use Rattle.mg_volume.proofs.volume.Volume.remove.Goals as goal
-
-pub take_object-taken-requires-clause-fewer_than_160_staged : goal.take_object-taken-requires-clause-fewer_than_160_staged
-unfolding staged_of
-take_object-taken-requires-clause-fewer_than_160_staged c = let few = rw (← c.self.view_is) at c.requires.at_most_30_staged in omega arith
-
-pub release_object-requires : goal.release_object-requires
-unfolding staged_of
-release_object-requires c = let few = rw (← c.self.view_is) at c.requires.at_most_30_staged in let more = c.take_object-taken.ensures.staged.staged in omega arith
 
 pub take_object-taken-requires-clause-there : goal.take_object-taken-requires-clause-there
 take_object-taken-requires-clause-there c = let has = rw (← c.self.view_is) at c.requires.there in there_is (the_view c.self.inside) c.args.base has

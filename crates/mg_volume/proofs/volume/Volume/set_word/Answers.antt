@@ -1,9 +1,9 @@
 use Rattle.std.proofs.Common.{◌∙◌, ap, inl, inr, refl, ⊎_elim}
-use Rattle.std.proofs.lemmas.Result.{on_err_weaker, on_ok_weaker}
-use Rattle.mg_volume.proofs.PagesChange.{counted, frame_free, held_again, keeps_now, rows_same, same_objects, same_parts, same_sound, some_page, word_set}
+use Rattle.std.proofs.lemmas.Result.{on_ok_weaker}
+use Rattle.mg_volume.proofs.PagesChange.{counted, frame_free, held_again, rows_same, same_sound, some_page, word_set}
 use Rattle.mg_volume.proofs.StillStaged.{objects_wait, still_staged}
 use Rattle.mg_volume.proofs.StandingPages.{pages_stand, stands_same, with_pages}
-use Rattle.mg_volume.specs.Meaning.{has_page, is_live, staged_of, total_of, words_in}
+use Rattle.mg_volume.specs.Meaning.{has_page, is_live, staged_of, words_in}
 use Rattle.mg_volume.specs.contracts.volume.Volume.{the_view}
 use Rattle.mg_volume.proofs.volume.Volume.set_word.Goals as goal
 
@@ -15,10 +15,6 @@ set_word-requires-clause-page g c = some_page (the_view c.self.inside) c.args.pa
 
 pub set_word-requires-clause-frame : goal.set_word-requires-clause-frame
 set_word-requires-clause-frame g c = frame_free (the_view c.self.inside) c.args.page c.self.invariant.kept c.keep_rules.ensures (rw (← c.self.view_is) at c.requires.page)
-
-pub set_word-requires-clause-at_most_158_staged : goal.set_word-requires-clause-at_most_158_staged
-unfolding staged_of
-set_word-requires-clause-at_most_158_staged g c = rw (← c.self.view_is) at c.requires.at_most_158_staged
 
 pub invariant_of-self : goal.invariant_of-self
 invariant_of-self g c = record {
@@ -38,19 +34,8 @@ returns-clause-sets g c =
     (λ sets image told. word_set v c.set_word.new.self image c.args.page c.args.index c.args.value c.self.invariant.kept c.requires.index c.set_word.ensures.shape.frames (sets image told))
     c.set_word.ensures.sets)
 
-pub returns-clause-failed : goal.returns-clause-failed
-returns-clause-failed g c =
-    rw (← c.self.view_is) (on_err_weaker c.set_word.result (λ keeps. keeps_now (the_view c.self.inside) c.set_word.new.self keeps) c.set_word.ensures.failed)
-
-pub returns-clause-rows : goal.returns-clause-rows
-returns-clause-rows g c = rw (← c.self.view_is) (same_objects (the_view c.self.inside) c.set_word.new.self)
-
 pub returns-clause-sound : goal.returns-clause-sound
 returns-clause-sound g c image told = rw (← c.self.view_is) (same_sound (the_view c.self.inside) c.set_word.new.self image image)
-
-pub returns-clause-total : goal.returns-clause-total
-unfolding total_of
-returns-clause-total g c = rw (← c.self.view_is) c.set_word.ensures.shape.total
 
 pub returns-clause-serves : goal.returns-clause-serves
 unfolding is_live staged_of words_in
@@ -75,6 +60,3 @@ pub returns-clause-objects : goal.returns-clause-objects
 returns-clause-objects g c =
     let v = the_view c.self.inside in
     rw (← c.self.view_is) (objects_wait v (with_pages v c.set_word.new.self) refl c.set_word.ensures.staged.still)
-
-pub returns-clause-parts : goal.returns-clause-parts
-returns-clause-parts g c = rw (← c.self.view_is) (same_parts (the_view c.self.inside) c.set_word.new.self)

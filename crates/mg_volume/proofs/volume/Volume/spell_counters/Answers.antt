@@ -1,11 +1,10 @@
 use Rattle.std.proofs.Common.{refl}
 use Rattle.mg_model.specs.Bytes.{padded_to}
 use Rattle.mg_model.specs.Layout.{block_size}
-use Rattle.mg_volume.proofs.PagesChange.{held_same, same_objects}
+use Rattle.mg_volume.proofs.PagesChange.{held_same}
 use Rattle.mg_volume.proofs.Stages.{held_counters, stages_is}
 use Rattle.mg_volume.proofs.StillStaged.{objects_wait}
 use Rattle.mg_volume.proofs.StillWaiting.{counters_here, counters_room}
-use Rattle.mg_volume.specs.Meaning.{objects_in}
 use Rattle.mg_volume.proofs.Staged.{counters_now, counters_staged, with_counters}
 use Rattle.mg_volume.specs.contracts.volume.Volume.{the_view}
 use Rattle.mg_volume.proofs.volume.Volume.spell_counters.Goals as goal
@@ -24,10 +23,6 @@ invariant_of-self c = record {
 pub returns-clause-now : goal.returns-clause-now
 returns-clause-now c image =
     rw (← c.self.view_is) (counters_now (the_view c.self.inside) c.stage_start.new.self c.args.g (padded_to block_size c.globals_start.result) image c.stage_start.ensures.table (c.stage_start.ensures.coming image))
-
-pub returns-clause-rows : goal.returns-clause-rows
-unfolding objects_in
-returns-clause-rows c = rw (← c.self.view_is) (same_objects (the_view c.self.inside) c.stage_start.new.self)
 
 pub returns-clause-stages : goal.returns-clause-stages
 returns-clause-stages c =

@@ -1,10 +1,9 @@
 use Rattle.std.proofs.Common.{◌≡◌, ◌+◌, ◌-◌, refl, arith}
-use Rattle.mg_volume.proofs.PagesChange.{held_same, same_objects}
+use Rattle.mg_volume.proofs.PagesChange.{held_same}
 use Rattle.mg_volume.proofs.Stages.{stages_is}
 use Rattle.mg_volume.proofs.StillStaged.{objects_wait}
 use Rattle.mg_volume.proofs.StillWaiting.{thread_here, thread_room}
 use Rattle.mg_volume.proofs.ThreadStaged.{held_threads, thread_now, thread_spelled, with_threads}
-use Rattle.mg_volume.specs.Meaning.{objects_in}
 use Rattle.mg_volume.specs.contracts.volume.Volume.{the_view}
 use Rattle.mg_volume.proofs.volume.Volume.stage_thread.Goals as goal
 
@@ -24,10 +23,6 @@ returns-clause-now c image =
     let number : c.args.t - 1 + 1 ≡ c.args.t = omega arith in
     rw (← c.self.view_is)
     (thread_now (the_view c.self.inside) c.stage_any.new.pages image c.args.t (c.args.t - 1) c.args.row c.put.new.self c.stage_any.ensures.bytes number (omega arith) (c.stage_any.ensures.coming image) c.put.ensures c.stage_any.ensures.table)
-
-pub returns-clause-rows : goal.returns-clause-rows
-unfolding objects_in
-returns-clause-rows c = rw (← c.self.view_is) (same_objects (the_view c.self.inside) c.stage_any.new.pages)
 
 pub returns-clause-stages : goal.returns-clause-stages
 returns-clause-stages c =

@@ -5,7 +5,7 @@ use Rattle.mg_disk.specs.Disk.{block_at}
 use Rattle.mg_model.specs.Objects.{word_at}
 use Rattle.mg_pages.specs.Meaning as pages
 use Rattle.std.specs.Prelude.{slice_index, ◌+◌, ◌*◌}
-use Rattle.mg_volume.proofs.PagesChange.{counted, held_same, keeps_now, same_objects, some_page, word_now}
+use Rattle.mg_volume.proofs.PagesChange.{counted, keeps_now, same_objects, some_page, word_now}
 use Rattle.mg_volume.proofs.StillStaged.{objects_wait, still_staged}
 use Rattle.mg_volume.proofs.StandingPages.{pages_stand, stands_same, with_pages}
 use Rattle.mg_volume.specs.Meaning.{now_of, words_in}
@@ -18,13 +18,6 @@ page_word-requires-clause-stands g c = pages_stand g.D.Disk (the_view c.self.ins
 
 pub page_word-requires-clause-page : goal.page_word-requires-clause-page
 page_word-requires-clause-page g c = some_page (the_view c.self.inside) c.args.page c.self.invariant.kept (rw (← c.self.view_is) at c.requires.page)
-
-pub invariant_of-self : goal.invariant_of-self
-invariant_of-self g c = record {
-  kept =
-      held_same (the_view c.self.inside) c.page_word.new.self c.self.invariant.kept c.page_word.ensures.keeps.shape.frames c.page_word.ensures.keeps.table;
-  paid = c.self.invariant.paid;
-}
 
 pub returns-clause-word : goal.returns-clause-word
 returns-clause-word g c =

@@ -1,8 +1,0 @@
-use Rattle.std.proofs.Common.{sym}
-use Rattle.mg_pages.proofs.Opened.{words-is}
-use Rattle.mg_pages.proofs.pages.Pages.words.Goals as goal
-
-pub returns : goal.returns
-returns c =
-    let i = c.self.inside in
-    sym (words-is i.blocks.store i.frames i.blocks.writes i.count i.blocks.kept c.args.self.now c.self.view_is)
