@@ -1,5 +1,5 @@
 // How the command ends.
-use mg_disk::{Disk, ScratchDisk};
+use mg_disk::{Counts, Disk, MemDisk};
 use mg_session::Status;
 use mg_testing::{Outcome, Streams, command};
 use std::alloc::Global;
@@ -8,7 +8,12 @@ use std::test::Fail;
 /// A line, the puts that fail, the room of the sink, the status, and what is put.
 type Row = (&'static str, &'static [u64], usize, Status, &'static [u8]);
 
-const ROWS: [Row; 12] = [
+/// What is put of a run of one line, which is `ok`.
+const ONE_OK: &[u8] =
+    b"ok 1\nSyntax 0\nNoThread 0\nAlign 0\nDenied 0\nSize 0\nAccount 0\nDebt 0\nLimit 0\nFull 0\nNoPassword 0\nRange 0\nSlotFull 0\nNoSlot 0\nNoEntry 0\nDepth 0\nNoFrame 0\nNotYours 0\nNotReady 0\nIdle 0\nCredit 0\nCalendar 0\nPast 0\n";
+
+const ROWS: [Row; 13] = [
+    ("vol gen 7 1", &[], 65536, Status::Done, ONE_OK),
     ("vol gen 7 1", &[], 3, Status::Sink, b"ok "),
     ("vol gen 7 1", &[0], 65536, Status::Sink, b""),
     ("vol gen 7 1000001", &[], 65536, Status::Usage, b"usage\n"),
@@ -62,10 +67,10 @@ fn ends_on<D: Disk>(alloc: Global, disk: &mut D, row: &Row) -> bool {
     }
 }
 
-/// The same on a disk without a block, which gets none.
+/// The same on a disk of one block, of which no call is made.
 fn ends(alloc: Global, row: &Row) -> bool {
-    match ScratchDisk::new(alloc, 0) {
-        Ok(mut disk) => ends_on(alloc, &mut disk, row) && disk.blocks() == 0,
+    match MemDisk::new(alloc, 1, 16, Vec::new(alloc)) {
+        Ok(mut disk) => ends_on(alloc, &mut disk, row) && disk.counts() == Counts::default(),
         Err(_) => false,
     }
 }
@@ -80,30 +85,9 @@ fn wrong(alloc: Global, rows: &[Row]) -> Option<Row> {
     None
 }
 
-// A source that would fail is not called, and neither is a disk without a block.
+// A source that would fail is not called, and neither is the disk.
 #[test]
 fn each_status_comes(rt: HostRuntime) -> Result<(), Fail> {
     assert_eq!(rt; wrong(rt.alloc(), &ROWS), None);
-    Ok(())
-}
-
-/// With which code a command of this line ends on a disk without a block.
-fn code(alloc: Global, line: &str) -> Option<u8> {
-    match ScratchDisk::new(alloc, 0) {
-        Ok(mut disk) => match outcome(alloc, &mut disk, line, &[], 65536) {
-            Some(outcome) => Some(outcome.status.code()),
-            None => None,
-        },
-        Err(_) => None,
-    }
-}
-
-#[test]
-fn done_with_memory(rt: HostRuntime) -> Result<(), Fail> {
-    assert_eq!(rt; code(rt.alloc(), "vol gen 7 1"), Some(0));
-    assert_eq!(rt;
-        code(rt.alloc(), "vol gen 18446744073709551615 0x2d"),
-        Some(0)
-    );
     Ok(())
 }

@@ -519,9 +519,23 @@ struct Stopped {
     held: Contents,
 }
 
-/// The gate of the commit of two blocks was opened or was made. Eight commits of three blocks were made, of four in all: the
-/// opening writes each home once.
-const STOPPED: [Stopped; 3] = [
+/// The gate of the commit of two blocks was written, and what a stop left of it is as before, as written, or destroyed; then it was synced.
+/// Where it is as before, no segment is open. Eight commits of three blocks were made, of four in all: the opening writes each home once.
+const STOPPED: [Stopped; 5] = [
+    Stopped {
+        work: Work::Pair,
+        died: OPENING + 5,
+        left: Left::Old,
+        calls: OPENING,
+        held: [0; 4],
+    },
+    Stopped {
+        work: Work::Pair,
+        died: OPENING + 5,
+        left: Left::New,
+        calls: 24,
+        held: [1, 2, 0, 0],
+    },
     Stopped {
         work: Work::Pair,
         died: OPENING + 5,
@@ -566,12 +580,14 @@ fn wrong_opening(alloc: Global, case: &Stopped) -> Option<u64> {
     None
 }
 
-fn wrong_openings(alloc: Global) -> [Option<u64>; 3] {
-    let [first, second, third] = &STOPPED;
+fn wrong_openings(alloc: Global) -> [Option<u64>; 5] {
+    let [old, new, gates, synced, threes] = &STOPPED;
     [
-        wrong_opening(alloc, first),
-        wrong_opening(alloc, second),
-        wrong_opening(alloc, third),
+        wrong_opening(alloc, old),
+        wrong_opening(alloc, new),
+        wrong_opening(alloc, gates),
+        wrong_opening(alloc, synced),
+        wrong_opening(alloc, threes),
     ]
 }
 
@@ -579,5 +595,5 @@ fn wrong_openings(alloc: Global) -> [Option<u64>; 3] {
 #[test]
 fn stops_leave_old_contents_or_new(rt: HostRuntime) {
     let wrong = (wrong_calls(rt.alloc()), wrong_openings(rt.alloc()));
-    assert_eq!(rt; wrong, ([None; 2], [None; 3]));
+    assert_eq!(rt; wrong, ([None; 2], [None; 5]));
 }

@@ -112,7 +112,7 @@ fn stop(rt: &impl Abort, alloc: Global, before: Held, from: u64, to: u64) {
 
 #[test]
 fn the_first_calls_on_an_empty_disk(rt: HostRuntime) {
-    stop(&rt, rt.alloc(), Nothing, 0, 20);
+    stop(&rt, rt.alloc(), Nothing, 0, 21);
 }
 
 #[test]
@@ -122,7 +122,7 @@ fn the_last_calls_on_an_empty_disk(rt: HostRuntime) {
 
 #[test]
 fn the_first_calls_on_a_volume(rt: HostRuntime) {
-    stop(&rt, rt.alloc(), Before, 0, 20);
+    stop(&rt, rt.alloc(), Before, 0, 21);
 }
 
 #[test]

@@ -1,7 +1,7 @@
 // Runs over two disks of which one is a fresh volume and the other has zeros.
 use crate::disks::{BLOCKS, Made, VOLUME, ZEROS, are_same, calls_to_make};
 use crate::runs::{Case, Outcome, Run, Told, is_told, ran, run_over};
-use mg_disk::COPY_BLOCKS;
+use mg_disk::{COPY_BLOCKS, Fuse, MemDisk};
 use mg_mirror::Side;
 use mg_session::Status;
 use std::alloc::Global;
@@ -191,29 +191,60 @@ fn fails_where_both_die(rt: HostRuntime) -> Result<(), Fail> {
 }
 
 /// In how many of ten runs the same bytes are put as in one without a fault, where in each another read of the left disk fails
-/// once it is copied, the first of them after so many others. A write that failed would drop that disk, and be told.
+/// once it is copied, the first of them after so many others, and the right disk gives what that read asked for and nothing else. A write
+/// that failed would drop that disk, and be told.
 fn count_same(alloc: Global, reads: u64) -> usize {
     match calls_to_make(alloc) {
-        Some(calls) => {
-            let copied = calls.saturating_add(BLOCKS);
-            count_same_from(alloc, copied.saturating_add(reads))
-        }
+        Some(calls) => count_same_from(alloc, calls.saturating_add(BLOCKS), reads),
         None => 0,
     }
 }
 
-fn count_same_from(alloc: Global, first: u64) -> usize {
+fn count_same_from(alloc: Global, copied: u64, first: u64) -> usize {
     let mut same: usize = 0;
     for k in 0..10 {
+        let read = first.saturating_add(k);
         let left = Made {
-            fails: Some(first.saturating_add(k)),
+            fails: Some(copied.saturating_add(read)),
             ..VOLUME
         };
-        if is_told(alloc, &Case { left, ..GOOD }) {
+        if is_same(alloc, &Case { left, ..GOOD }, blocks_with(read)) {
             same = same.saturating_add(1);
         }
     }
     same
+}
+
+/// How many blocks are asked for with the block of this read, in the first 30 reads of an opening. The gate, the superblock, the gates of
+/// eight segments and the counters are read one by one, then the 16 blocks of accounts together, and then 32 rows of threads.
+fn blocks_with(read: u64) -> u64 {
+    match read {
+        0..=10 => 1,
+        11..=26 => 16,
+        _ => 32,
+    }
+}
+
+/// Whether a run told what it had to, and read so many blocks of the right disk.
+fn is_same(alloc: Global, case: &Case, blocks: u64) -> bool {
+    match ran(alloc, case) {
+        Some(outcome) => is_same_with(outcome, blocks),
+        None => false,
+    }
+}
+
+fn is_same_with(outcome: Outcome, blocks: u64) -> bool {
+    let is_told = outcome.is_told;
+    let disks = outcome.disks;
+    let found = reads(disks.left, disks.right);
+    is_told && found.1 == blocks
+}
+
+fn reads(left: Fuse<MemDisk>, right: Fuse<MemDisk>) -> (u64, u64) {
+    (
+        left.into_inner().counts().reads,
+        right.into_inner().counts().reads,
+    )
 }
 
 #[test]

@@ -10,7 +10,6 @@ use mg_testing::fresh;
 use std::alloc::{AllocError, Global};
 use std::marker::Brand;
 use std::sync::ledger::{Blank, Ledger};
-use std::test::Fail;
 
 // What a session reads from, puts into, and keeps its replies in.
 #[derive(Drop)]
@@ -20,10 +19,9 @@ struct Ends {
     owed: Buffers,
 }
 
-// The ends of a session of so many blanks.
-fn ends_of(alloc: Global, count: usize) -> Result<Ends, AllocError> {
-    let blanks = vec![in alloc; b' '; count]?;
-    let source = MemSource::new(blanks, 4, Vec::new(alloc));
+// The ends of a session that reads this.
+fn ends_of(alloc: Global, input: &[u8]) -> Result<Ends, AllocError> {
+    let source = MemSource::new(input.to_vec(alloc)?, 4, Vec::new(alloc));
     let sink = MemSink::new(alloc, 256, Vec::new(alloc))?;
     match Buffers::new(alloc) {
         Ok(owed) => Ok(Ends { source, sink, owed }),
@@ -31,20 +29,62 @@ fn ends_of(alloc: Global, count: usize) -> Result<Ends, AllocError> {
     }
 }
 
-// The status that a session of so many blanks stands for, with a limit of 16 bytes; none where memory is wanting or a call fails.
-fn serve_blanks<L: Ledger>(alloc: Global, count: usize, blank: Blank) -> Option<u8>
+// What a session reads with a limit of 16 bytes, the status that its end stands for, and what is put.
+type Row = (&'static [u8], u8, &'static [u8]);
+
+// Of a byte past the limit no line is made, and a line that ended before it is answered.
+const ROWS: &[Row] = &[
+    (b"                ", 0, b""),
+    (b"                 ", 7, b""),
+    (b"1 ret\n          ", 0, b"no NoFrame\n"),
+    (b"1 ret\n           ", 7, b"no NoFrame\n"),
+    (
+        b"1 ret\n1 ret\n1 re",
+        0,
+        b"no NoFrame\nno NoFrame\nno Syntax\n",
+    ),
+    (b"1 ret\n1 ret\n1 ret", 7, b"no NoFrame\nno NoFrame\n"),
+];
+
+// How many sessions, from the first on, end and put as their rows say.
+fn served<L: Ledger>(alloc: Global, blank: Blank) -> usize
     requires name { blank.name ≡ L.name }
     requires parts { blank.parts ≡ L.parts }
     requires has_parts { 0 < blank.parts }
 {
     let mut steps = Steps::<L>::new(blank);
-    match ends_of(alloc, count) {
-        Ok(mut ends) => serve_ends(alloc, &mut ends, &mut steps),
-        Err(_) => None,
+    count_served(alloc, &mut steps)
+}
+
+fn count_served<L: Ledger>(alloc: Global, steps: &mut Steps<L>) -> usize {
+    let mut served: usize = 0;
+    for row in ROWS {
+        if !is_served(alloc, row, steps) {
+            break;
+        }
+        served = served.saturating_add(1);
+    }
+    served
+}
+
+// Whether a session ends and puts as its row says.
+fn is_served<L: Ledger>(alloc: Global, row: &Row, steps: &mut Steps<L>) -> bool {
+    match ends_of(alloc, row.0) {
+        Ok(mut ends) => puts(alloc, row, &mut ends, steps),
+        Err(_) => false,
     }
 }
 
 // The same with these ends.
+fn puts<L: Ledger>(alloc: Global, row: &Row, ends: &mut Ends, steps: &mut Steps<L>) -> bool {
+    serve_ends(alloc, ends, steps) == Some(row.1) && are_same(ends.sink.bytes(), row.2)
+}
+
+fn are_same(put: &[u8], wanted: &[u8]) -> bool {
+    put == wanted
+}
+
+// The status that a session of these ends stands for; none where memory is wanting or a call fails.
 fn serve_ends<L: Ledger>(alloc: Global, ends: &mut Ends, steps: &mut Steps<L>) -> Option<u8> {
     match fresh(alloc) {
         Ok(mut disk) => serve_disk(alloc, &mut disk, ends, steps),
@@ -83,14 +123,6 @@ fn code(ended: Result<(), Ended>) -> Option<u8> {
 }
 
 #[test]
-fn a_limit_of_16_bytes(rt: HostRuntime) -> Result<(), Fail> {
-    assert_eq!(rt;
-        serve_blanks::<Brand>(rt.alloc(), 16, Blank::new(1)),
-        Some(0)
-    );
-    assert_eq!(rt;
-        serve_blanks::<Brand>(rt.alloc(), 17, Blank::new(1)),
-        Some(7)
-    );
-    Ok(())
+fn a_limit_of_16_bytes(rt: HostRuntime) {
+    assert!(rt; served::<Brand>(rt.alloc(), Blank::new(1)) == ROWS.len());
 }

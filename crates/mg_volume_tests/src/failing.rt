@@ -7,7 +7,7 @@ use crate::sharing::OTHER;
 use crate::trials::is_committed;
 use mg_disk::{Disk, MemDisk};
 use mg_kernel::Kernel;
-use mg_model::{Call, Line, Reply, Steps};
+use mg_model::{Call, Line, Refusal, Reply, Steps};
 use std::alloc::Global;
 use std::marker::Brand;
 use std::sync::ledger::{Blank, Ledger};
@@ -21,17 +21,19 @@ const GIVEN: u64 = 0x1aed_8da0_b819_d2bd;
 /// A call of thread 1, and its reply.
 type Row = (Call, Reply);
 
-// Thread 1 makes an object, puts it into the root's list, reads its word and writes it. The page of the root is read. The
-// object's page has no frame before it is written, and then its frame is staged.
-const MAKING: [Row; 7] = [
+// Thread 1 makes an object of two pages, which it may not read before it puts it into the root's list; then it reads its word and writes
+// it. The page of the root is read, for the line that is denied. The object's page has no frame before it is written, and then its
+// frame is staged.
+const MAKING: [Row; 8] = [
     (
         Call::Create {
-            pages: 1,
+            pages: 2,
             account: 1,
             password: TREASURY,
         },
         Reply::Made(OTHER, GIVEN),
     ),
+    (Call::Load { a: OTHER }, Reply::No(Refusal::Denied)),
     (
         Call::Store {
             a: ROOT + 32,

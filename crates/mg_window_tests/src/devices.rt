@@ -1,11 +1,11 @@
 // Which devices a run may have.
-use crate::runs::{Put, Run, count_told, count_words_told};
+use crate::runs::{Run, count_told, count_words_told};
 use mg_session::Status;
 use std::test::Fail;
 
 const LOAD: &[&str] = &["1 load 0x100000000\n"];
 
-const USAGE: Put = Put::All(&["usage\n"]);
+const USAGE: &[&str] = &["usage\n"];
 
 const SIXTEEN: &[&str] = &[
     "v", "dev", "latch:1", "latch:2", "latch:3", "latch:4", "latch:5", "latch:6", "latch:7",
@@ -19,6 +19,27 @@ const SEVENTEEN: &[&str] = &[
     "latch:16", "latch:17",
 ];
 
+/// What each of them puts at the end, behind the answer of the line.
+const SIXTEEN_LEFT: &[&str] = &[
+    "ok 0x0000000000000001\n",
+    "dev 0x0000000000000001 1 0\n",
+    "dev 0x0000000000000002 1 0\n",
+    "dev 0x0000000000000003 1 0\n",
+    "dev 0x0000000000000004 1 0\n",
+    "dev 0x0000000000000005 1 0\n",
+    "dev 0x0000000000000006 1 0\n",
+    "dev 0x0000000000000007 1 0\n",
+    "dev 0x0000000000000008 1 0\n",
+    "dev 0x0000000000000009 1 0\n",
+    "dev 0x000000000000000a 1 0\n",
+    "dev 0x000000000000000b 1 0\n",
+    "dev 0x000000000000000c 1 0\n",
+    "dev 0x000000000000000d 1 0\n",
+    "dev 0x000000000000000e 1 0\n",
+    "dev 0x000000000000000f 1 0\n",
+    "dev 0x0000000000000010 1 0\n",
+];
+
 const MOST_DEVICES: [Run; 2] = [
     Run {
         line: SIXTEEN,
@@ -26,10 +47,7 @@ const MOST_DEVICES: [Run; 2] = [
         room: 0,
         input: LOAD,
         status: Status::Done,
-        put: Put::Ends(
-            "ok 0x0000000000000001\ndev 0x0000000000000001 1 0\ndev 0x0000000000000002 1 0\n",
-            "dev 0x0000000000000010 1 0\n",
-        ),
+        put: SIXTEEN_LEFT,
         left: 16,
         tapes: &[],
     },
@@ -109,7 +127,7 @@ const FEW_DEVICES: [Run; 2] = [
         room: 1,
         input: LOAD,
         status: Status::Done,
-        put: Put::All(&["ok 0x0000000000000001\n"]),
+        put: &["ok 0x0000000000000001\n"],
         left: 0,
         tapes: &[],
     },
@@ -119,7 +137,7 @@ const FEW_DEVICES: [Run; 2] = [
         room: 1,
         input: &["1 store 0x100200000 1\n1 load 0x100000000\n"],
         status: Status::Done,
-        put: Put::All(&["no Denied\nok 0x0000000000000001\ndev 0x0000000100200000 2 0\n"]),
+        put: &["no Denied\nok 0x0000000000000001\ndev 0x0000000100200000 2 0\n"],
         left: 1,
         tapes: &[],
     },

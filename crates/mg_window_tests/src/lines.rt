@@ -1,5 +1,5 @@
 // Lines that reach devices, and lines that do not.
-use crate::runs::{Alone, Left, Put, Run, are_told, count_told};
+use crate::runs::{Alone, Left, Run, are_told, count_told};
 use mg_session::Status;
 use std::test::Fail;
 
@@ -17,7 +17,7 @@ const LATCHED: Run = Run {
     room: 1024,
     input: &[TWO_PAGES],
     status: Status::Done,
-    put: Put::All(&[MADE, "dev 0x0000000100001000 1 0\n"]),
+    put: &[MADE, "dev 0x0000000100001000 1 0\n"],
     left: 1,
     tapes: &[],
 };
@@ -36,11 +36,11 @@ const TAKES_STORES: Run = Run {
         TWO_PAGES,
         "1 store 0x100001008 9\n1 load 0x100001008\n1 pwdel 0x100001000 5\n1 store 0x100001004 1\n",
     ],
-    put: Put::All(&[
+    put: &[
         MADE,
         "ok\nok 0x0000000000000009\nno NoPassword\nno Align\n",
         "dev 0x0000000100001000 1 1\n",
-    ]),
+    ],
     tapes: LATCH_LEFT,
     ..LATCHED
 };
@@ -63,11 +63,11 @@ const FULL_TAPE: Run = Run {
         TWO_PAGES,
         "1 store 0x100001008 9\n1 store 0x100001008 8\n1 load 0x100001008\n1 pwdel 0x100001000 0x1aed8da0b819d2bd\n1 store 0x100001008 7\n",
     ],
-    put: Put::All(&[
+    put: &[
         MADE,
         "ok\nno Limit\nok 0x0000000000000009\nok\nno Denied\n",
         "dev 0x0000000100001000 1 1\n",
-    ]),
+    ],
     tapes: LATCH_LEFT,
     ..LATCHED
 };
@@ -97,7 +97,7 @@ const CONSOLE_LEFT: &[Left] = &[Left {
 const DELETED: Run = Run {
     line: &["vol", "dev", "counter:0x100001000", "console:0x100003000"],
     input: &[TWO_PAGES, COUNTED],
-    put: Put::All(&[MADE, COUNTED_ANSWERS, "dev 0x0000000100003000 2 1\n"]),
+    put: &[MADE, COUNTED_ANSWERS, "dev 0x0000000100003000 2 1\n"],
     tapes: CONSOLE_LEFT,
     ..LATCHED
 };
@@ -115,12 +115,12 @@ const MADE_AGAIN: Run = Run {
         COUNTED,
         "1 create 2 1 0x28bd8653e56a5d40\n1 store 0x100000028 0x8d4857517c5941da\n1 load 0x100001000\n",
     ],
-    put: Put::All(&[
+    put: &[
         MADE,
         COUNTED_ANSWERS,
         "ok 0x0000000100001000 0x8d4857517c5941da\nok\nok 0x0000000000000000\n",
         "dev 0x0000000100003000 2 1\n",
-    ]),
+    ],
     tapes: CONSOLE_LEFT,
     ..LATCHED
 };
@@ -138,11 +138,11 @@ const SCRIPT_DELETES: Run = Run {
         "1 store 0x100000100 0x0000000400000001\n1 store 0x100000108 0x0000100000000101\n1 store 0x100000110 0x0000000100000102\n1 store 0x100000118 0xe\n1 thread 0x100000100\n2 turn\n2 turn\n2 turn\n1 store 0x100001000 3\n2 turn\n1 load 0x100001000\n",
         "1 create 2 1 0x28bd8653e56a5d40\n1 store 0x100000028 0xc70d778bccef36a8\n1 load 0x100001000\n",
     ],
-    put: Put::All(&[
+    put: &[
         MADE,
         "ok\nok\nok\nok\nok 2\nok Ready\nok Ready\nok Ready\nok\nok Ready\nno Denied\n",
         "ok 0x0000000100001000 0xc70d778bccef36a8\nok\nok 0x0000000000000000\n",
-    ]),
+    ],
     left: 0,
     ..LATCHED
 };
@@ -159,13 +159,13 @@ const SCRIPT_STORES: Run = Run {
         // The script is: set 1 0x1000, high 1 1, set 2 7, store 2 1 0, load 3 1 0, store 3 1 8, halt.
         "1 store 0x100000100 0x0000100000000101\n1 store 0x100000108 0x0000000100000102\n1 store 0x100000110 0x0000000700000201\n1 store 0x100000118 0x10207\n1 store 0x100000120 0x10306\n1 store 0x100000128 0x0000000800010307\n1 thread 0x100000100\n1 store 0x100001000 9\n2 turn\n2 turn\n2 turn\n2 turn\n2 turn\n2 turn\n2 turn\n1 load 0x100001000\n1 load 0x100001008\n",
     ],
-    put: Put::All(&[
+    put: &[
         MADE,
         "ok\nok\nok\nok\nok\nok\nok 2\nok\n",
         "ok Ready\nok Ready\nok Ready\nok Ready\nok Ready\nok Ready\nok Stopped\n",
         "ok 0x0000000000000009\nok 0x0000000000000000\n",
         "dev 0x0000000100001000 1 1\n",
-    ]),
+    ],
     ..LATCHED
 };
 
@@ -194,10 +194,12 @@ const EACH_KIND: Run = Run {
         "1 store 0x100000020 0x100001000\n1 store 0x100000028 0x1aed8da0b819d2bd\n1 store 0x100000030 0x100002000\n1 store 0x100000038 0xc70d778bccef36a8\n1 store 0x100000040 0x100003000\n1 store 0x100000048 0x8d4857517c5941da\n1 store 0x100000000 4\n",
         "1 store 0x100001000 5\n1 store 0x100001000 7\n1 store 0x100002000 5\n1 store 0x100002000 7\n1 store 0x100003000 5\n1 store 0x100003000 7\n1 load 0x100001000\n1 load 0x100002000\n1 load 0x100003000\n",
     ],
-    put: Put::Ends(
-        "ok ",
-        "ok 0x0000000000000007\nok 0x0000000000000002\nok 0x000000000000000c\ndev 0x0000000100001000 1 2\ndev 0x0000000100002000 2 2\ndev 0x0000000100003000 3 2\n",
-    ),
+    put: &[
+        "ok 0x0000000100001000 0x1aed8da0b819d2bd\nok 0x0000000100002000 0xc70d778bccef36a8\nok 0x0000000100003000 0x8d4857517c5941da\n",
+        "ok\nok\nok\nok\nok\nok\nok\n",
+        "ok\nok\nok\nok\nok\nok\nok 0x0000000000000007\nok 0x0000000000000002\nok 0x000000000000000c\n",
+        "dev 0x0000000100001000 1 2\ndev 0x0000000100002000 2 2\ndev 0x0000000100003000 3 2\n",
+    ],
     left: 3,
     tapes: &[
         Left {

@@ -18,15 +18,6 @@ const BLOCKS: u64 = 2660;
 /// How many calls the disk counts.
 const ROOM: u64 = 12_000;
 
-/// What a run has to put.
-#[derive(Clone, Copy)]
-pub enum Put {
-    /// These texts one after the other, and nothing behind.
-    All(&'static [&'static str]),
-    /// What begins with the first text and ends with the second.
-    Ends(&'static str, &'static str),
-}
-
 /// A run with device windows.
 #[derive(Clone, Copy)]
 pub struct Run {
@@ -39,7 +30,8 @@ pub struct Run {
     /// Its lines are these texts one after the other.
     pub input: &'static [&'static str],
     pub status: Status,
-    pub put: Put,
+    /// It puts these texts one after the other, and nothing behind.
+    pub put: &'static [&'static str],
     /// How many devices are left.
     pub left: usize,
     /// The first of these, as they are read back.
@@ -220,7 +212,7 @@ fn is_told_with(
     }
     let status = with_windows(alloc, words, disk, source, sink, &mut windows);
     status == run.status
-        && is_put(&run.put, sink.bytes())
+        && are_all(run.put, sink.bytes())
         && are_left(run, windows.into_list().as_slice())
 }
 
@@ -259,16 +251,6 @@ fn is_left<D: Device>(left: &Left, base: u64, device: &D) -> bool {
         && device.kind() == left.kind
         && device.length() == left.length
         && device.load(left.off) == left.value
-}
-
-/// Whether what was put is what was wanted.
-fn is_put(wanted: &Put, put: &[u8]) -> bool {
-    match wanted {
-        Put::All(texts) => are_all(texts, put),
-        Put::Ends(first, last) => {
-            put.starts_with(first.as_bytes()) && put.ends_with(last.as_bytes())
-        }
-    }
 }
 
 /// Whether these bytes are these texts one after the other.
