@@ -35,16 +35,21 @@ import collections
 import contextlib
 import errno
 import functools
+import io
 import os
 import secrets
 import select
 import selectors
 import shutil
+import socket
 import subprocess
 import tempfile
+import time
 import warnings
 from pathlib import Path
 from typing import Callable, Iterable, NamedTuple
+
+from mungi_show import changes as changes, reach as reach, show as show
 
 WORD_BYTES = 8
 PAGE_BYTES = 4096
@@ -63,6 +68,10 @@ MOST_INPUT_BYTES = 1 << 32
 # The most lines that wait for their answers. It is more than a batch, so the program always has a full one to answer.
 MOST_IN_FLIGHT = 4096
 
+# What the program says on standard error where another run has the file, and how many seconds pass until it is started again.
+HELD = "another run holds it"
+PAUSE = 0.05
+
 # A line that is refused with Syntax, and so changes nothing. It fills a batch whose answers are wanted now.
 FILL = b".\n"
 
@@ -77,7 +86,10 @@ STATUSES = {
     7: "more than 2**32 bytes came",
     8: "the disk is too small",
     9: "the program could not have its words",
+    255: "the connection to the broker was cut",
 }
+# The status of a connection that ended without the broker's last word.
+CUT = 255
 
 
 class Refused(Exception):
@@ -178,6 +190,16 @@ class Past(Refused):
 
 
 REFUSALS = {kind.__name__: kind for kind in Refused.__subclasses__()}
+
+
+class NotAllowed(Exception):
+    """A broker did not give the line to the machine, so nothing was changed. `word` says why, and `line` is the line; docs/SERVICE.md lists the
+    words."""
+
+    def __init__(self, word: str, line: str):
+        super().__init__(f"{line} -> refused {word}")
+        self.word = word
+        self.line = line
 
 
 class Ended(Exception):
@@ -537,6 +559,8 @@ class Answer:
         verdict, *words = self.text.split()
         if verdict == "no":
             raise REFUSALS.get(words[0], Refused)(words[0], self.line)
+        if verdict == "refused":
+            raise NotAllowed(words[0], self.line)
         return self._read(words)
 
     def __repr__(self):
@@ -599,18 +623,27 @@ class Machine:
     the program may neither take nor put anything while it is waited for; then it is killed, and Ended is raised with status -9. Without it
     a wait lasts as long as the program runs.
 
+    `wait`, in seconds, is how long the volume is waited for while another run has it. The program itself asks for the lock for 0.3 s; with
+    `wait` the client then starts it again, until it has the lock or that many seconds are over. Without it the first status 4 is raised.
+    A `timeout` has to be longer than those 0.3 s, or it kills a program that still asks.
+
     With `mirror`, another file, the volume is kept in both, by a run of `mungi_dev VOLUME mirror MIRROR SIDE`; `program` is mungi_dev then, and
     `batch` 1. `side` names the file that holds the volume: "left" is `volume`, "right" is `mirror`. **The other file is written over
     first**, with 287 MB, which the opening waits for; one that holds something else than a volume raises FileExistsError. Where one file
     fails the run goes on with the other: `dropped` says so, and a SideDropped warning.
 
     Raises FileNotFoundError where there is no file (none is made), and Ended where the volume can't be opened: status 2 where the file is
-    no volume, 4 where another run has it. Warns with CutShort where the file is shorter than its volume; with
+    no volume, 4 where another run has it, and has it still after `wait`. Warns with CutShort where the file is shorter than its volume; with
     `warnings.simplefilter("error", mungi.CutShort)` that is raised, and the volume is closed again. Other lines that the program says
     on standard error while it goes on are warned of as VolumeWarning.
 
     Used in a `with` block the machine is closed behind it.
     """
+
+    # The first words of replies.
+    _verdicts: tuple[str, ...] = ("ok", "no")
+    # Whether a run ends when it has read so many bytes.
+    _is_bounded = True
 
     def __init__(
         self,
@@ -620,6 +653,7 @@ class Machine:
         timeout: float | None = None,
         mirror: str | os.PathLike | None = None,
         side: str | None = None,
+        wait: float | None = None,
     ):
         if not 1 <= batch <= MOST_BATCH:
             raise ValueError(f"batch is {batch}, and has to be from 1 to {MOST_BATCH}")
@@ -629,6 +663,8 @@ class Machine:
             raise ValueError("with a mirror each line is made durable by itself: batch is 1")
         if side not in (None, "left", "right"):
             raise ValueError(f"side is {side!r}, and has to be 'left' or 'right'")
+        if wait is not None and not wait >= 0:
+            raise ValueError(f"wait is {wait}, and has to be a number of seconds")
         self.volume = os.fspath(volume)
         self.mirror = None if mirror is None else os.fspath(mirror)
         self.side = None if mirror is None else side or "left"
@@ -639,20 +675,54 @@ class Machine:
         self._lists = {ROOT}
         self._batch = batch
         self._timeout = timeout
+        self._patience = wait or 0
         self._block: Batch | None = None
         self._needs_values = False
         self._at_once = 1
         self._open()
 
     def _open(self) -> None:
-        """Starts the program, and waits until the volume is open."""
-        _there(self.mirror if self.side == "right" else self.volume)
+        """Opens the volume, and waits for it where another run has it."""
+        end = time.monotonic() + self._patience
+        while True:
+            try:
+                self._start()
+                break
+            except Ended as ended:
+                is_held = ended.status == 4 and HELD in ended.said
+                if not is_held or time.monotonic() >= end:
+                    raise
+            time.sleep(PAUSE)
+        self._look()
+
+    def _start(self) -> None:
+        """Starts the program, and waits until it has opened the volume."""
+        _there(self.mirror if self.side == "right" and self.mirror is not None else self.volume)
         self.dropped = None
         if self.mirror is None:
             words = [self._program or default_program(), self.volume, "run", str(self._batch)]
         else:
+            assert self.side is not None
             _look_before_mirror(self.volume, self.mirror, self.side)
             words = [self._program or default_program("mungi_dev"), self.volume, "mirror", self.mirror, self.side]
+        self._errors = tempfile.TemporaryFile()
+        try:
+            process = subprocess.Popen(
+                words,
+                bufsize=0,
+                stdin=subprocess.PIPE,
+                stdout=subprocess.PIPE,
+                stderr=self._errors,
+                # An interrupt from the keyboard then reaches this program alone, which closes the run in order.
+                process_group=0,
+            )
+        except BaseException:
+            self._errors.close()
+            raise
+        self._begin_run(process)
+
+    def _begin_run(self, process: subprocess.Popen | _Link) -> None:
+        """Waits until the machine answers over the pipes of this program."""
         # The lines that are not sent yet, and the answers that the program owes, in order; None stands for that of a line that fills.
         self._unsent: collections.deque[tuple[bytes, Answer | None]] = collections.deque()
         self._owed: collections.deque[Answer | None] = collections.deque()
@@ -665,22 +735,10 @@ class Machine:
         self._said = ""
         # How many bytes of standard error were looked at.
         self._looked = 0
-        self._errors = tempfile.TemporaryFile()
-        try:
-            self._process = subprocess.Popen(
-                words,
-                bufsize=0,
-                stdin=subprocess.PIPE,
-                stdout=subprocess.PIPE,
-                stderr=self._errors,
-                # An interrupt from the keyboard then reaches this program alone, which closes the run in order.
-                process_group=0,
-            )
-        except BaseException:
-            self._errors.close()
-            raise
-        self._input = self._process.stdin.fileno()
-        self._output = self._process.stdout.fileno()
+        self._process = process
+        assert process.stdin is not None and process.stdout is not None
+        self._input = process.stdin.fileno()
+        self._output = process.stdout.fileno()
         os.set_blocking(self._input, False)
         os.set_blocking(self._output, False)
         self._selector = selectors.DefaultSelector()
@@ -689,7 +747,6 @@ class Machine:
         # A batch of lines that change nothing: once they are answered the volume is open.
         self._fill(self._batch)
         self._pump(lambda: not self._unsent and not self._owed)
-        self._look()
 
     def thread(self, number: int) -> Thread:
         """The thread with this number, 1 to 256. Nothing is asked of the machine; a fresh volume has thread 1."""
@@ -719,9 +776,9 @@ class Machine:
         self._begin()
         answer = self._ask(line, _nothing)
         if self._gives_answers():
-            return answer
+            return answer  # type: ignore[return-value]
         self._wait()
-        return answer.text
+        return answer.text  # type: ignore[return-value]
 
     def batch(self, lines: int = MOST_BATCH, check: bool = True) -> Batch:
         """A block whose lines are sent together, `lines` at a time, 1 to 4096, and whose answers are read at its end:
@@ -762,6 +819,7 @@ class Machine:
                     warnings.warn(f"{name}, the {dropped} side, was dropped: the volume is in the {alone} one alone", SideDropped, stacklevel=2)
         if any(answer is not None for answer in self._owed) or any(answer is not None for _, answer in self._unsent):
             raise self._ended()
+        assert self._status is not None
         return self._status
 
     def backup(self, path: str | os.PathLike, script: str | os.PathLike | None = None) -> Check:
@@ -770,7 +828,7 @@ class Machine:
 
         The copy is made by `scripts/backup`, two folders above this file, or by the `script` that is told; its SHA-256 lies beside it, in
         `path` with `.sha256`. Of a volume in two files the one in use is copied. Raises BackupFailed where there is no good copy, and Ended
-        where the volume can't be closed in order or opened again; another run may have it then.
+        where the volume can't be closed in order or opened again; another run may have it then, which is waited for as at the opening.
         """
         if self._block is not None:
             raise RuntimeError("a batch is open: a backup is made between calls")
@@ -783,7 +841,7 @@ class Machine:
             # The side that is left holds the newer state, so the next copy goes from it.
             self.side = "left" if self.dropped == "right" else "right"
         mungi = os.fspath(self._program) if self._program and self.mirror is None else default_program()
-        source = self.mirror if self.side == "right" else self.volume
+        source = self.mirror if self.side == "right" and self.mirror is not None else self.volume
         try:
             done = subprocess.run(
                 [script, source, os.fspath(path)],
@@ -823,7 +881,7 @@ class Machine:
             raise ValueError(f"a line has at most {MOST_LINE_BYTES} bytes, and no newline")
         if self._status is not None:
             raise self._ended([line])
-        if self._sent_bytes + len(data) + len(FILL) * MOST_BATCH > MOST_INPUT_BYTES:
+        if self._is_bounded and self._sent_bytes + len(data) + len(FILL) * MOST_BATCH > MOST_INPUT_BYTES:
             raise InputIsFull(line)
         self._sent_bytes += len(data)
         answer = Answer(self, line, read)
@@ -917,7 +975,7 @@ class Machine:
         if last is not None and last.text is None:
             # However the program cut its batches, the one that has the last line is full behind these.
             self._fill(self._batch - 1)
-            self._pump(lambda: last.text is not None)
+            self._pump(lambda: last.text is not None)  # type: ignore[union-attr]
             self._look()
 
     def _pump(self, is_done: Callable[[], bool]) -> None:
@@ -951,7 +1009,7 @@ class Machine:
                 self._send()
 
     def _send(self) -> None:
-        """Sends lines, as many as the pipe is sure to take whole or not at all: so no line is ever cut in two."""
+        """Sends lines, as many as a pipe is sure to take whole or not at all: so no line is ever cut in two there."""
         data = []
         room = select.PIPE_BUF
         for line, _ in self._unsent:
@@ -960,13 +1018,18 @@ class Machine:
             data.append(line)
             room -= len(line)
         try:
-            os.write(self._input, b"".join(data))
+            taken = os.write(self._input, b"".join(data))
         except BlockingIOError:
             return
-        except BrokenPipeError:
+        except (BrokenPipeError, ConnectionResetError):
             self._end_input()
             return
-        for _ in data:
+        for line in data:
+            if taken < len(line):
+                # A socket took a part. The broker gives no part of a line to the machine, so this line is not sent yet.
+                self._unsent[0] = (line[taken:], self._unsent[0][1])
+                break
+            taken -= len(line)
             self._owed.append(self._unsent.popleft()[1])
 
     def _take(self) -> None:
@@ -975,24 +1038,30 @@ class Machine:
             data = os.read(self._output, 1 << 16)
         except BlockingIOError:
             return
+        except ConnectionResetError:
+            data = b""
         if not data:
             self._finish()
             return
         *lines, self._begun_line = (self._begun_line + data).split(b"\n")
         for line in lines:
-            text = line.decode("utf-8", "backslashreplace")
-            if self._owed and text.split(" ", 1)[0] in ("ok", "no"):
-                answer = self._owed.popleft()
-                if answer is not None:
-                    answer.text = text
-            else:
-                self._put.append(text)
+            self._reply(line.decode("utf-8", "backslashreplace"))
+
+    def _reply(self, text: str) -> None:
+        """Gives a reply to its line."""
+        if self._owed and text.split(" ", 1)[0] in self._verdicts:
+            answer = self._owed.popleft()
+            if answer is not None:
+                answer.text = text
+        else:
+            self._put.append(text)
 
     def _end_input(self) -> None:
         if self._takes_input:
             self._takes_input = False
             if self._input in self._selector.get_map():
                 self._selector.unregister(self._input)
+            assert self._process.stdin is not None
             self._process.stdin.close()
 
     def _finish(self) -> None:
@@ -1004,6 +1073,7 @@ class Machine:
             self._process.kill()
             self._status = self._process.wait()
         self._selector.close()
+        assert self._process.stdout is not None
         self._process.stdout.close()
         with self._errors as errors:
             errors.seek(0)
@@ -1014,7 +1084,123 @@ class Machine:
         answered = [(answer.line, answer.text) for answer in self._asked if answer.text is not None]
         unanswered = [answer.line for answer in self._owed if answer is not None]
         unsent = [answer.line for _, answer in self._unsent if answer is not None]
-        return Ended(self._status, self._said, self._put, answered, unanswered, unsent + (more or []))
+        return Ended(self._status, self._said, self._put, answered, unanswered, unsent + (more or []))  # type: ignore[arg-type]
+
+
+class _Sending:
+    """The half of a connection that lines go into."""
+
+    def __init__(self, peer: socket.socket):
+        self._peer = peer.dup()
+
+    def fileno(self) -> int:
+        return self._peer.fileno()
+
+    def close(self) -> None:
+        with contextlib.suppress(OSError):
+            self._peer.shutdown(socket.SHUT_WR)
+        self._peer.close()
+
+
+class _Link:
+    """A connection to a broker, in the place of a program with two pipes."""
+
+    def __init__(self, path: str):
+        self.stdout = socket.socket(socket.AF_UNIX)
+        try:
+            self.stdout.connect(path)
+        except BaseException:
+            self.stdout.close()
+            raise
+        self.stdin = _Sending(self.stdout)
+        self.status = 0
+
+    def kill(self) -> None:
+        with contextlib.suppress(OSError):
+            self.stdout.shutdown(socket.SHUT_RDWR)
+
+    def wait(self, _timeout: float | None = None) -> int:
+        return self.status
+
+
+class Connected(Machine):
+    """A volume that a broker has, as `connect` gives it.
+
+    All of `Machine` goes over it but `backup`, which is the broker's to make. Each line becomes durable together with those of others, so
+    there is no batch to choose. A line that the broker does not give to the machine raises `NotAllowed`. `Ended` says that the broker or
+    its program ended; `unanswered` are then just the lines that may or may not be done. Its status is that of the program, or 0 where the
+    broker was ended in order, or `CUT` where no word of it came: then each line without an answer may be done.
+    """
+
+    _verdicts = ("ok", "no", "refused")
+    _is_bounded = False
+
+    def __init__(self, path: str | os.PathLike, timeout: float | None = None):
+        self.volume = os.fspath(path)
+        self.mirror = self.side = self.dropped = None
+        self._lists = {ROOT}
+        self._batch = 1
+        self._timeout = timeout
+        self._block = None
+        self._needs_values = False
+        self._at_once = 1
+        self._open()
+
+    def _open(self) -> None:
+        # The status that the broker ended the connection with, and how many lines may be done; and the word of one that it refused.
+        self._told: tuple[int, int] | None = None
+        self._refused: str | None = None
+        self._errors = io.BytesIO()
+        link = _Link(self.volume)
+        try:
+            self._begin_run(link)
+        except Ended:
+            if self._refused is None:
+                raise
+        if self._refused is not None:
+            self.kill()
+            with contextlib.suppress(Ended):
+                self.close()
+            raise PermissionError(errno.EACCES, f"the broker refused the connection: {self._refused}", self.volume)
+
+    def backup(self, path: str | os.PathLike, script: str | os.PathLike | None = None) -> Check:
+        raise RuntimeError("the broker has the volume, and makes the backups")
+
+    def _look(self) -> None:
+        pass
+
+    def _reply(self, text: str) -> None:
+        verdict, *words = text.split()
+        if verdict == "ended":
+            self._told = (int(words[0]), int(words[1]))
+            return
+        if verdict == "refused" and (not self._owed or self._owed[0] is None):
+            # It answers no call: the broker does not serve this user, and may have closed the connection before a line came.
+            self._refused = words[0]
+        super()._reply(text)
+
+    def _finish(self) -> None:
+        if self._told is not None:
+            self._process.status = self._told[0]  # type: ignore[union-attr]
+        else:
+            self._process.status = CUT if self._takes_input or self._owed or self._unsent else 0  # type: ignore[union-attr]
+        super()._finish()
+
+    def _ended(self, more: list[str] | None = None) -> Ended:
+        ended = super()._ended(more)
+        if self._told is None:
+            return ended
+        given = self._told[1]
+        unsent = ended.unanswered[given:] + ended.unsent
+        return Ended(ended.status, ended.said, ended.put, ended.answered, ended.unanswered[:given], unsent)
+
+
+def connect(path: str | os.PathLike, timeout: float | None = None) -> Machine:
+    """The volume of a broker that listens on the Unix socket `path`, as docs/SERVICE.md tells. `timeout` is that of `Machine`.
+
+    Raises FileNotFoundError or ConnectionRefusedError where nobody listens, and PermissionError where the broker does not name this user, or
+    the user has too many connections."""
+    return Connected(path, timeout)
 
 
 class Thread:
@@ -1059,7 +1245,7 @@ class Thread:
 
     def info(self, base: int) -> Info:
         """Tells of an object. Raises Denied without any right."""
-        return self._call(f"info {_hex(base)}", lambda words: Info(*_numbers(words[:5]), words[5] == "1"))
+        return self._call(f"info {_hex(base)}", lambda words: Info(*_numbers(words[:5]), words[5] == "1"))  # type: ignore[call-arg, arg-type]
 
     def pwadd(self, base: int, rights: str, until: int | None = None) -> int:
         """Adds a password with these rights, letters of RWXDPO, which holds while the period is below `until`, or always. Raises Denied

@@ -131,10 +131,46 @@ class Volumes(OnVolumes):
         with self.assertRaises(mungi.Ended) as caught:
             self.open(path)
         self.assertEqual(caught.exception.status, 4)
-        self.assertIn("another run holds it", caught.exception.said)
+        self.assertIn("another run holds it, and has for 0.3 s", caught.exception.said)
         first.root(fresh.treasury).store(8, 6)
         self.assertEqual(first.close(), 0)
         self.assertEqual(self.open(path).thread(1).load(mungi.ROOT + 8), 6)
+
+    def test_another_run_is_waited_for(self):
+        path, fresh = self.new()
+        first = self.open(path)
+        first.root(fresh.treasury).store(8, 6)
+        ends = threading.Timer(1.2, first.close)
+        ends.start()
+        begun = time.monotonic()
+        second = mungi.Machine(path, program=PROGRAM, timeout=PATIENCE, wait=PATIENCE)
+        self.addCleanup(self.quit, second)
+        self.assertGreater(time.monotonic() - begun, 1)
+        self.assertEqual(second.thread(1).load(mungi.ROOT + 8), 6)
+        ends.join()
+        self.assertEqual(first.close(), 0)
+
+    def test_a_wait_for_another_run_ends(self):
+        path, fresh = self.new()
+        first = self.open(path)
+        begun = time.monotonic()
+        with self.assertRaises(mungi.Ended) as caught:
+            mungi.Machine(path, program=PROGRAM, timeout=PATIENCE, wait=1)
+        self.assertGreater(time.monotonic() - begun, 1)
+        self.assertEqual((caught.exception.status, caught.exception.unanswered + caught.exception.unsent), (4, []))
+        self.assertIn("another run holds it, and has for 0.3 s", caught.exception.said)
+        first.root(fresh.treasury).store(8, 6)
+        with self.assertRaises(ValueError):
+            mungi.Machine(path, program=PROGRAM, wait=-1)
+
+    def test_what_is_no_volume_is_not_waited_for(self):
+        path = self.folder / "none"
+        path.write_bytes(bytes(8192))
+        begun = time.monotonic()
+        with self.assertRaises(mungi.Ended) as caught:
+            mungi.Machine(path, program=PROGRAM, timeout=PATIENCE, wait=2 * PATIENCE)
+        self.assertEqual(caught.exception.status, 2)
+        self.assertLess(time.monotonic() - begun, PATIENCE)
 
 
 class Calls(OnVolumes):
