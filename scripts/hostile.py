@@ -389,7 +389,7 @@ def two_cases(folder):
     assert first.stdout.readline() == b"ok\n"
     for command in (["run"], ["check"], ["format", "64", SEED, "1000"]):
         ended = run([volume, *command], stores(1, 600))
-        tell(told(ended, volume, "another run holds it"), f"{command[0]} while another run has the file", str(ended))
+        tell(told(ended, volume, "another run holds it, and has for 0.3 s"), f"{command[0]} while another run has the file", str(ended))
     os.symlink(volume, folder + "/other")
     ended = run([folder + "/other", "run"], stores(1, 600))
     tell(untouched(ended, 4), "run by another name while another run has the file", str(ended))
@@ -403,7 +403,7 @@ def two_cases(folder):
     with open(volume, "rb") as reader:
         fcntl.flock(reader, fcntl.LOCK_SH)
         ended, other = run([volume, "check"]), run([volume, "run"], stores(1, 600))
-    tell(ended.status == 0 and told(other, volume, "another run holds it"), "check, and run, while somebody reads the file", f"{ended}; {other}")
+    tell(ended.status == 0 and told(other, volume, "another run holds it, and has for 0.3 s"), "check, and run, while somebody reads the file", f"{ended}; {other}")
 
 
 # Migration
