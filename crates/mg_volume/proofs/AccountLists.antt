@@ -1,8 +1,9 @@
 -- Accounts as a list, and their rows by place.
-use Rattle.std.specs.Prelude.{◌≡◌, ◌≢◌, ◌+◌, ◌-◌, ◌*◌, ◌/◌, ◌≤◌, ◌<◌, ◌==◌, ◌||◌, ◌∷◌, ◌++◌, nat_lt, ℕ, zero, suc, Bool, false, List, [], if◌then◌else◌, length, slice_get, slice_set, Option, Some, None}
+use Rattle.std.proofs.lemmas.Bool.Decides.{nat_tests}
+use Rattle.std.specs.Prelude.{◌≡◌, ◌≢◌, ◌+◌, ◌-◌, ◌*◌, ◌/◌, ◌≤◌, ◌<◌, ◌==◌, ◌||◌, ◌∷◌, ◌++◌, nat_lt, ℕ, zero, suc, Bool, false, List, [], length, slice_get, slice_set, Option, Some, None}
 use Rattle.std.specs.Option.{option_map_or}
 use Rattle.std.proofs.Common.{refl, sym, ap, ◌∙◌, ⊎_elim, arith}
-use Rattle.std.proofs.lemmas.Bool.{both_ways, cases_lt, eq-eqb, lt-ltb, ne_eqb, or_parts}
+use Rattle.std.proofs.lemmas.Bool.{both_ways, cases_lt, eq-eqb, lt-ltb, or_parts}
 use Rattle.std.proofs.lemmas.Option.{slice_get_past}
 use Rattle.mg_bank.specs.AccountLemmas.{length-taken}
 use Rattle.mg_check.specs.RowsRead.{placed_from}
@@ -14,12 +15,8 @@ use Rattle.mg_volume.specs.StagesAccounts.{DifferWithin}
 -- accounts with their places stand there
 account_at : (i j : ℕ) (rows : List AccRow) → row_at (i + j) (placed_from i rows) ≡ slice_get rows j
 account_at i j [] = refl
-account_at i zero (r ∷ rows) = ap (λ b. if b then Some r else row_at (i + zero) (placed_from (i + 1) rows)) (eq-eqb i (i + zero) (omega arith))
-account_at i (suc j) (r ∷ rows) =
-    let next : i + suc j ≡ i + 1 + j = omega arith in
-    ap (λ b. if b then Some r else row_at (i + suc j) (placed_from (i + 1) rows)) (ne_eqb i (i + suc j) (λ is. omega arith))
-    ∙ ap (λ k. row_at k (placed_from (i + 1) rows)) next
-    ∙ account_at (i + 1) j rows
+account_at i zero (r ∷ rows) = grind (arith, nat_tests)
+account_at i (suc j) (r ∷ rows) = let next : i + suc j ≡ i + 1 + j = omega arith in grind (arith, nat_tests, account_at (i + 1) j rows)
 
 pub account_here : (j : ℕ) (rows : List AccRow) → row_at j (placed_from 0 rows) ≡ slice_get rows j
 account_here j rows = let same : j ≡ 0 + j = omega arith in ap (λ k. row_at k (placed_from 0 rows)) same ∙ account_at 0 j rows

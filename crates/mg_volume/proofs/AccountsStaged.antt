@@ -1,27 +1,24 @@
 -- Blocks of accounts are staged, and the state has their rows.
-use Rattle.std.specs.Prelude.{◌≡◌, ◌+◌, ◌*◌, ◌/◌, ◌%◌, ◌≤◌, ◌<◌, ◌==◌, ◌||◌, nat_lt, ℕ, Bool, true, false, List, [], length, slice_get, slice_set, Some}
+use Rattle.std.proofs.lemmas.Bool.Decides.{nat_tests}
+use Rattle.std.specs.Prelude.{◌≡◌, ◌+◌, ◌*◌, ◌/◌, ◌%◌, ◌≤◌, ◌<◌, ◌==◌, ◌||◌, nat_lt, ℕ, Bool, true, false, List, length, slice_get, Some}
 use Rattle.std.proofs.Common.{refl, sym, ap, ◌∙◌, ⊎_elim, inl, inr, arith}
-use Rattle.std.proofs.lemmas.Bool.{both_ways, cases_Bool, cases_eq, cases_lt, eq-eqb, eqb-false, eqb-true, le-ltb, lt-ltb, ne_eqb, or_cases, or_parts}
-use Rattle.std.proofs.lemmas.List.{get_or-set_other, get_or-set_same}
+use Rattle.std.proofs.lemmas.Bool.{both_ways, cases_Bool, eqb-false, eqb-true, le-ltb, or_cases, or_parts}
 use Rattle.mg_check.specs.RowsRead.{placed_from}
 use Rattle.mg_disk.specs.Disk.{Image}
 use Rattle.mg_model.specs.declared.accounts.AccRow.{AccRow}
 use Rattle.mg_model.specs.Abbreviations.{account_row_bytes}
-use Rattle.mg_model.specs.Layout.{first_account_block, first_thread_block, globals_block}
+use Rattle.mg_model.specs.Layout.{first_account_block, first_thread_block}
 use Rattle.mg_model.specs.Limits.{account_limit}
 use Rattle.mg_model.specs.Replay.{block_of}
-use Rattle.mg_model.specs.Spelling.{Read, account_read, globals_read}
+use Rattle.mg_model.specs.Spelling.{Read, account_read}
 use Rattle.mg_model.specs.Volume.{live_rows}
-use Rattle.mg_pages.specs.ComingLemmas.{length_coming}
 use Rattle.mg_pages.specs.declared.pages.Pages.{Pages}
-use Rattle.mg_pages.specs.SpelledLemmas as laws
 use Rattle.mg_pages.specs.Meaning as pages
 use Rattle.mg_rows.specs.Blocks.{account_in}
 use Rattle.mg_volume.proofs.AccountLists.{account_here, accounts_rise}
-use Rattle.mg_volume.proofs.Staged.{objects_behind}
-use Rattle.mg_volume.proofs.Stages.{stages_is}
-use Rattle.mg_volume.specs.Calls.{Stages}
-use Rattle.mg_volume.specs.Contents.{objects_within, threads_within}
+use Rattle.mg_volume.proofs.Staged.{counters_stay, objects_behind, objects_stay, threads_stay, block_there, but_one}
+use Rattle.mg_volume.proofs.Stages.{same_changes, shape_then, stages_then}
+use Rattle.mg_volume.specs.Changes.{Changes, StagesBlock}
 use Rattle.mg_volume.specs.Held.{VolumeHeld}
 use Rattle.mg_volume.specs.Meaning.{IsSpelledBy, Spelled, now_of, threads_in}
 use Rattle.mg_volume.specs.RowLists.{tell, told}
@@ -48,80 +45,67 @@ accounts_told f g named old new are few within here rest =
 abbrev pub with_accounts : VolumeHeld → List AccRow → Pages → VolumeHeld
 with_accounts v rows p = record v { accounts = rows; pages = p }
 
-module _ (v : VolumeHeld) (p : Pages) (most : ℕ) (named : ℕ → Bool) (rows : List AccRow) (stages : StagesAccounts most named rows v.pages p) (image : Image) where
-  pub accounts_now : (rows' : List AccRow) → rows ≡ rows' → now_of (with_accounts v rows p) image ≡ record (now_of v image) { accounts = rows' }
-  unfolding now_of threads_in
-  accounts_now rows' same =
-      ap (λ table. record (now_of v image) { accounts = rows; objects = all_spelled (pages.coming p image) v.settings.frames table v.objects }) stages.table
-      ∙ ap (λ objects. record (now_of v image) { accounts = rows; objects = objects })
-      (objects_behind (pages.coming p image) (pages.coming v.pages image) v.settings.frames (pages.table_in v.pages) v.objects (λ k above. stages.beside image k (inr (omega arith))))
-      ∙ ap (λ accounts. record (now_of v image) { accounts = accounts }) same
-
-  pub accounts_spelled : DifferWithin named v.accounts rows → length rows ≤ account_limit → IsSpelledBy v image → IsSpelledBy (with_accounts v rows p) image
+module _ (v : VolumeHeld) (p : Pages) (most : ℕ) (named : ℕ → Bool) (rows : List AccRow) (staged : StagesAccounts most named rows v.pages p) (within : DifferWithin named v.accounts rows) (few : length rows ≤ account_limit) where
+  spelled : (image : Image) → IsSpelledBy v image → IsSpelledBy (with_accounts v rows p) image
   unfolding IsSpelledBy
-  accounts_spelled within few is =
+  spelled image is =
       let s : Spelled v image = is in
-      let r = pages.coming v.pages image in
-      let r' = pages.coming p image in
+      let same = staged.beside image in
       record {
-        fitting = stages.spelled image s.fitting;
-        frames = stages.shape.frames ∙ s.frames;
+        fitting = staged.spelled image s.fitting;
+        frames = staged.shape.frames ∙ s.frames;
         gated = s.gated;
         super = s.super;
-        counters_are = ap globals_read (stages.beside image globals_block (inl (omega arith))) ∙ s.counters_are;
+        counters_are = counters_stay v p image s first_account_block first_thread_block same (inl (omega arith));
         accounts_are =
-            accounts_told (λ i. account_read (account_row_bytes r i)) (λ i. account_read (account_row_bytes r' i)) named v.accounts rows s.accounts_are few within
-            (λ i below named_it. let whole : 64 * (i / 64) + i % 64 ≡ i = omega arith in stages.here image (i / 64) s.fitting (omega arith) named_it (i % 64) (omega arith) ∙ ap (λ k. Some (slice_get rows k)) whole)
-            (λ i below not_named. ap (λ (b : List ℕ). account_in b (i % 64)) (stages.rest image (i / 64) (omega arith) not_named));
+            accounts_told (λ i. account_read (account_row_bytes (pages.coming v.pages image) i)) (λ i. account_read (account_row_bytes (pages.coming p image) i)) named v.accounts rows s.accounts_are few within
+            (λ i below named_it. let whole : 64 * (i / 64) + i % 64 ≡ i = omega arith in staged.here image (i / 64) s.fitting (omega arith) named_it (i % 64) (omega arith) ∙ ap (λ k. Some (slice_get rows k)) whole)
+            (λ i below not_named. ap (λ (b : List ℕ). account_in b (i % 64)) (staged.rest image (i / 64) (omega arith) not_named));
         threads = s.threads;
-        threads_are = threads_within r' r (record { each = λ k low high. stages.beside image k (inr (omega arith)) }) ∙ s.threads_are;
+        threads_are = threads_stay v p image s first_account_block first_thread_block same (inr (omega arith));
         numbered = s.numbered;
         objects = s.objects;
-        objects_are = objects_within r' r (record { each = λ k low high. stages.beside image k (inr (omega arith)) }) ∙ s.objects_are;
+        objects_are = objects_stay v p image s first_account_block first_thread_block same (inr (omega arith));
         ordered = s.ordered;
         kept = s.kept;
         is = s.is;
       }
 
+  now : (image : Image) → now_of (with_accounts v rows p) image ≡ record (now_of v image) { accounts = rows }
+  unfolding now_of threads_in
+  now image =
+      ap (λ table. record (now_of v image) { accounts = rows; objects = all_spelled (pages.coming p image) v.settings.frames table v.objects }) staged.table
+      ∙ ap (λ objects. record (now_of v image) { accounts = rows; objects = objects }) (objects_behind (pages.coming p image) (pages.coming v.pages image) v.settings.frames (pages.table_in v.pages) v.objects (λ k above. staged.beside image k (inr (omega arith))))
+
+  pub accounts_changes : Changes most (λ state. record state { accounts = rows }) (λ rows. rows) v (with_accounts v rows p)
+  accounts_changes = same_changes v (with_accounts v rows p) most (λ state. record state { accounts = rows }) refl refl staged.shape staged.words staged.staged spelled now
+
 -- one block is staged
-pub one_staged : (p p' : Pages) (rows : List AccRow) (k : ℕ) (bytes : List ℕ) → k < 16 → HasAccounts rows k bytes → ((image : Image) → pages.coming p' image ≡ slice_set (pages.coming p image) (first_account_block + k) bytes)
-    → pages.table_in p' ≡ pages.table_in p → pages.SameShape p p' → pages.words_in p' ≡ pages.words_in p → pages.StagesMore 1 p p' → ((image : Image) → pages.IsSpelledBy p image → pages.IsSpelledBy p' image)
-    → StagesAccounts 1 (λ i. i == k) rows p p'
-one_staged p p' rows k bytes few has coming table shape words staged spelled = record {
-  table = table;
-  shape = shape;
-  words = words;
-  staged = staged;
-  spelled = spelled;
+pub one_staged : (p q : Pages) (rows : List AccRow) (k : ℕ) (bytes : List ℕ) → k < 16 → HasAccounts rows k bytes → StagesBlock (first_account_block + k) bytes p q → StagesAccounts 1 (λ i. i == k) rows p q
+one_staged p q rows k bytes few has staged = record {
+  table = staged.table;
+  shape = staged.shape;
+  words = staged.words;
+  staged = staged.staged;
+  spelled = staged.spelled;
   here = λ image i fitting low is j below.
       let same : i ≡ k = eqb-true i k is in
-      let long = length_coming p image fitting in
-      let whole = laws.long_of p image fitting in
-      let size = laws.size_of p image fitting in
-      ap (λ m. account_in (block_of (pages.coming p' image) (first_account_block + m)) j) same
-      ∙ ap (λ (r : Image). account_in (block_of r (first_account_block + k)) j) (coming image)
-      ∙ ap (λ (b : List ℕ). account_in b j) (get_or-set_same (pages.coming p image) (first_account_block + k) bytes [] (omega arith))
+      ap (λ m. account_in (block_of (pages.coming q image) (first_account_block + m)) j) same
+      ∙ ap (λ (b : List ℕ). account_in b j) (block_there p q image (first_account_block + k) bytes staged fitting (omega arith))
       ∙ has j below
       ∙ ap (λ m. Some (slice_get rows (64 * m + j))) (sym same);
-  rest = λ image i low other.
-      let differ = eqb-false i k other in
-      ap (λ (r : Image). block_of r (first_account_block + i)) (coming image) ∙ get_or-set_other (pages.coming p image) (first_account_block + k) (first_account_block + i) bytes [] (λ is. differ (omega arith));
+  rest = λ image i low other. let differ = eqb-false i k other in but_one p q image (first_account_block + k) bytes staged (first_account_block + i) (λ is. differ (omega arith));
   beside = λ image block outside.
-      ap (λ (r : Image). block_of r block) (coming image)
-      ∙ get_or-set_other (pages.coming p image) (first_account_block + k) block bytes [] (λ is. ⊎_elim (λ (below : block < first_account_block). omega arith) (λ (above : first_thread_block ≤ block). omega arith) outside);
+      but_one p q image (first_account_block + k) bytes staged block (λ is. ⊎_elim (λ (below : block < first_account_block). omega arith) (λ (above : first_thread_block ≤ block). omega arith) outside);
 }
 
 -- and then others
 pub staged_then : (p q r : Pages) (m n : ℕ) (f g h : ℕ → Bool) (rows : List AccRow) → StagesAccounts m f rows p q → StagesAccounts n g rows q r → ((k : ℕ) → h k ≡ (f k || g k)) → StagesAccounts (m + n) h rows p r
 staged_then p q r m n f g h rows first second joins = record {
   table = second.table ∙ first.table;
-  shape = record { total = second.shape.total ∙ first.shape.total; frames = second.shape.frames ∙ first.shape.frames; live = second.shape.live ∙ first.shape.live };
+  shape = shape_then p q r first.shape second.shape;
   words = second.words ∙ first.words;
-  staged = record {
-    least = let a = first.staged.least in let b = second.staged.least in omega arith;
-    staged = let a = first.staged.staged in let b = second.staged.staged in omega arith;
-    still = λ block was. second.staged.still block (first.staged.still block was);
-  };
+  staged = stages_then m n p q r first.staged second.staged;
   spelled = λ image is. second.spelled image (first.spelled image is);
   here = λ image k fitting low is j below.
       ⊎_elim
@@ -163,20 +147,7 @@ staged_wider p q m n f rows wide stages = record {
 
 -- one more than the first ones
 next_named : (k i : ℕ) → nat_lt i (k + 1) ≡ (nat_lt i k || i == k)
-next_named k i =
-    ⊎_elim
-    (λ (low : i < k). lt-ltb i (k + 1) (omega arith) ∙ sym (ap (λ b. b || i == k) (lt-ltb i k low)))
-    (λ (high : k ≤ i).
-    ⊎_elim
-    (λ (same : i ≡ k). lt-ltb i (k + 1) (omega arith) ∙ sym (ap (λ b. b || i == k) (le-ltb i k high) ∙ eq-eqb i k same))
-    (λ other. le-ltb i (k + 1) (omega arith) ∙ sym (ap (λ b. b || i == k) (le-ltb i k high) ∙ ne_eqb i k other))
-    (cases_eq i k))
-    (cases_lt i k)
+next_named k i = grind (arith, nat_tests)
 
 pub next_staged : (p q r : Pages) (k : ℕ) (rows : List AccRow) → StagesAccounts k (λ i. nat_lt i k) rows p q → StagesAccounts 1 (λ i. i == k) rows q r → StagesAccounts (k + 1) (λ i. nat_lt i (k + 1)) rows p r
 next_staged p q r k rows first second = staged_then p q r k 1 (λ i. nat_lt i k) (λ i. i == k) (λ i. nat_lt i (k + 1)) rows first second (next_named k)
-
--- what a call that stages accounts does to the volume
-module _ (v : VolumeHeld) (p : Pages) (most : ℕ) (named : ℕ → Bool) (rows : List AccRow) (stages : StagesAccounts most named rows v.pages p) (within : DifferWithin named v.accounts rows) (few : length rows ≤ account_limit) where
-  pub accounts_stages : Stages most v (with_accounts v rows p)
-  accounts_stages = stages_is v (with_accounts v rows p) most refl stages.shape stages.words stages.staged (λ image was. accounts_spelled v p most named rows stages image within few was)

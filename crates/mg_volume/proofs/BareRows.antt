@@ -1,8 +1,8 @@
 -- Tests and sums over rows with their places are those over the rows.
+use Rattle.mg_volume.proofs.ObjectRemoved.{filter_mapped}
 use Rattle.std.specs.Prelude.{◌≡◌, ◌+◌, ◌||◌, ◌==◌, ℕ, Bool, List, [], ◌∷◌, filter, sum_by}
 use Rattle.std.specs.List.{list_any}
-use Rattle.std.proofs.Common.{refl, sym, ap, ◌∙◌, ⊎_elim}
-use Rattle.std.proofs.lemmas.Bool.{cases_Bool, cond-false, cond-true}
+use Rattle.std.proofs.Common.{refl, sym, ap, ◌∙◌}
 use Rattle.std.proofs.lemmas.List.Sums.{sum_by-cons}
 use Rattle.mg_model.specs.State.{ObjectRow}
 use Rattle.mg_volume.specs.Meaning.{bare_rows}
@@ -12,18 +12,7 @@ any_bare q [] = refl
 any_bare q (o ∷ os) = ap (λ t. q o.1 || t) (any_bare q os)
 
 bare_filter : (q : ObjectRow → Bool) (os : List (ℕ × ObjectRow)) → bare_rows (filter (λ (o : ℕ × ObjectRow). q o.1) os) ≡ filter q (bare_rows os)
-bare_filter q [] = refl
-bare_filter q (o ∷ os) =
-    ⊎_elim
-    (λ is.
-    ap bare_rows (cond-true (q o.1) (o ∷ filter (λ (o : ℕ × ObjectRow). q o.1) os) (filter (λ (o : ℕ × ObjectRow). q o.1) os) is)
-    ∙ ap (λ rows. o.1 ∷ rows) (bare_filter q os)
-    ∙ sym (cond-true (q o.1) (o.1 ∷ filter q (bare_rows os)) (filter q (bare_rows os)) is))
-    (λ is.
-    ap bare_rows (cond-false (q o.1) (o ∷ filter (λ (o : ℕ × ObjectRow). q o.1) os) (filter (λ (o : ℕ × ObjectRow). q o.1) os) is)
-    ∙ bare_filter q os
-    ∙ sym (cond-false (q o.1) (o.1 ∷ filter q (bare_rows os)) (filter q (bare_rows os)) is))
-    (cases_Bool (q o.1))
+bare_filter q os = filter_mapped (λ (o : ℕ × ObjectRow). o.1) q os
 
 pub sum_bare : (f : ObjectRow → ℕ) (os : List (ℕ × ObjectRow)) → sum_by (λ (o : ℕ × ObjectRow). f o.1) os ≡ sum_by f (bare_rows os)
 sum_bare f [] = refl

@@ -1,9 +1,9 @@
 -- Threads by their numbers: the rows of a table, each in its place, and the list of those that are there.
-use Rattle.std.specs.Prelude.{◌≡◌, ◌+◌, ◌-◌, ◌≤◌, ◌<◌, ◌==◌, ℕ, zero, suc, All, AllPairs, List, [], ◌∷◌, ◌++◌, find, if◌then◌else◌, length, option_map, replicate, slice_set, take, Option, Some, None}
+use Rattle.std.proofs.lemmas.Bool.Decides.{nat_tests}
+use Rattle.std.specs.Prelude.{◌≡◌, ◌+◌, ◌-◌, ◌≤◌, ◌<◌, ◌==◌, ℕ, zero, suc, All, AllPairs, List, [], ◌∷◌, ◌++◌, find, length, option_map, replicate, slice_set, take, Option, Some, None}
 use Rattle.std.specs.Option.{ForSome}
-use Rattle.std.proofs.Common.{refl, sym, ap, get_or, subst, ◌∙◌, ⊎_elim, arith, length-set}
-use Rattle.std.proofs.lemmas.Bool.{cases_eq, eq-eqb, le-ltb, lt-ltb, ne_eqb}
-use Rattle.std.proofs.lemmas.List.{get_or-take, get_or_default, length-replicate, length-take, take_more}
+use Rattle.std.proofs.Common.{refl, sym, ap, get_or, subst, ◌∙◌, arith, length-set}
+use Rattle.std.proofs.lemmas.List.{get_or-take, get_or_default, length-replicate, length-take, take_more, length-map}
 use Rattle.std.proofs.lemmas.List.Elements.{All-cons, All-head, All-nil, All-replicate, All-set, All-tail}
 use Rattle.mg_check.specs.RowsRead as check
 use Rattle.mg_model.specs.KeptListLemmas.{AllPairs-head, AllPairs-tail}
@@ -26,11 +26,9 @@ live-placed i (Some row ∷ rows) = (omega arith, omega arith, placed_wider (i +
 pub live-at : {R : Type 0} (i : ℕ) (rows : List (Option R)) (k : ℕ) → row_at (i + k) (live_from i rows) ≡ get_or rows k None
 live-at i [] k = refl
 live-at i (None ∷ rows) zero = row_before (i + 1) (i + 1 + length rows) (i + zero) (live_from (i + 1) rows) (live-placed (i + 1) rows) (omega arith)
-live-at i (Some row ∷ rows) zero = ap (λ b. if b then Some row else row_at (i + zero) (live_from (i + 1) rows)) (eq-eqb i (i + zero) (omega arith))
-live-at i (None ∷ rows) (suc k) = let e : i + suc k ≡ i + 1 + k = omega arith in ap (λ n. row_at n (live_from (i + 1) rows)) e ∙ live-at (i + 1) rows k
-live-at i (Some row ∷ rows) (suc k) =
-    let e : i + suc k ≡ i + 1 + k = omega arith in
-    ap (λ b. if b then Some row else row_at (i + suc k) (live_from (i + 1) rows)) (ne_eqb i (i + suc k) (λ is. omega arith)) ∙ ap (λ n. row_at n (live_from (i + 1) rows)) e ∙ live-at (i + 1) rows k
+live-at i (Some row ∷ rows) zero = grind (arith, nat_tests)
+live-at i (None ∷ rows) (suc k) = let e : i + suc k ≡ i + 1 + k = omega arith in grind (arith, live-at (i + 1) rows k)
+live-at i (Some row ∷ rows) (suc k) = let e : i + suc k ≡ i + 1 + k = omega arith in grind (arith, nat_tests, live-at (i + 1) rows k)
 
 -- with another one in a place, or none there
 live-cons : {R : Type 0} (i : ℕ) (row : Option R) (rows : List (Option R)) → live_from i (row ∷ rows) ≡ with_live i row (live_from (i + 1) rows)
@@ -39,30 +37,16 @@ live-cons i (Some row) rows = refl
 
 set-front : {R : Type 0} (low high p : ℕ) (new : Option R) (xs : List (ℕ × R)) → ArePlaced low high xs → p < low → row_set p new xs ≡ with_live p new xs
 set-front low high p new [] placed before = refl
-set-front low high p new ((j, r) ∷ xs) placed before =
-    let above = placed.0 in
-    ap (λ b. if b then with_live p new ((j, r) ∷ xs) else if p == j then with_live p new xs else (j, r) ∷ row_set p new xs) (lt-ltb p j (omega arith))
+set-front low high p new ((j, r) ∷ xs) placed before = let above = placed.0 in grind (arith, nat_tests)
 
 pub live-set : {R : Type 0} (i : ℕ) (rows : List (Option R)) (k : ℕ) (new : Option R) → k < length rows → live_from i (slice_set rows k new) ≡ row_set (i + k) new (live_from i rows)
 live-set i [] k new under = absurd (omega arith)
 live-set i (None ∷ rows) zero new under =
     let e : i ≡ i + zero = omega arith in
     live-cons i new rows ∙ ap (λ n. with_live n new (live_from (i + 1) rows)) e ∙ sym (set-front (i + 1) (i + 1 + length rows) (i + zero) new (live_from (i + 1) rows) (live-placed (i + 1) rows) (omega arith))
-live-set i (Some r ∷ rows) zero new under =
-    let e : i ≡ i + zero = omega arith in
-    let rest = live_from (i + 1) rows in
-    live-cons i new rows ∙ ap (λ n. with_live n new rest) e
-    ∙ sym (ap (λ b. if b then with_live (i + zero) new ((i, r) ∷ rest) else if i + zero == i then with_live (i + zero) new rest else (i, r) ∷ row_set (i + zero) new rest) (le-ltb (i + zero) i (omega arith))
-    ∙ ap (λ b. if b then with_live (i + zero) new rest else (i, r) ∷ row_set (i + zero) new rest) (eq-eqb (i + zero) i (omega arith)))
-live-set i (None ∷ rows) (suc k) new under =
-    let e : i + 1 + k ≡ i + suc k = omega arith in
-    live-set (i + 1) rows k new (omega arith) ∙ ap (λ n. row_set n new (live_from (i + 1) rows)) e
-live-set i (Some r ∷ rows) (suc k) new under =
-    let e : i + 1 + k ≡ i + suc k = omega arith in
-    let rest = live_from (i + 1) rows in
-    ap (λ xs. (i, r) ∷ xs) (live-set (i + 1) rows k new (omega arith) ∙ ap (λ n. row_set n new rest) e)
-    ∙ sym (ap (λ b. if b then with_live (i + suc k) new ((i, r) ∷ rest) else if i + suc k == i then with_live (i + suc k) new rest else (i, r) ∷ row_set (i + suc k) new rest) (le-ltb (i + suc k) i (omega arith))
-    ∙ ap (λ b. if b then with_live (i + suc k) new rest else (i, r) ∷ row_set (i + suc k) new rest) (ne_eqb (i + suc k) i (λ is. omega arith)))
+live-set i (Some r ∷ rows) zero new under = let e : i ≡ i + zero = omega arith in grind (arith, nat_tests, live-cons i new rows)
+live-set i (None ∷ rows) (suc k) new under = let e : i + 1 + k ≡ i + suc k = omega arith in grind (arith, live-set (i + 1) rows k new (omega arith))
+live-set i (Some r ∷ rows) (suc k) new under = let e : i + 1 + k ≡ i + suc k = omega arith in grind (arith, nat_tests, live-set (i + 1) rows k new (omega arith))
 
 pub put_is : (rows : List (Option ThreadRow)) (t : ℕ) (new : Option ThreadRow) → 1 ≤ t → t ≤ length rows → numbered (live_from 0 (slice_set rows (t - 1) new)) ≡ rows_with t new (numbered (live_from 0 rows))
 put_is rows t new some few =
@@ -101,16 +85,7 @@ none_held rows is = record {
 -- a thread by its number
 pub find-number : (xs : List (ℕ × ThreadRow)) (k : ℕ) → option_map (λ (x : ℕ × ThreadRow). x.1) (find (λ (x : ℕ × ThreadRow). x.0 == k + 1) (numbered xs)) ≡ row_at k xs
 find-number [] k = refl
-find-number ((i, r) ∷ xs) k =
-    ⊎_elim
-    (λ (here : i ≡ k).
-    ap (λ b. option_map (λ (x : ℕ × ThreadRow). x.1) (if b then Some (i + 1, r) else find (λ (x : ℕ × ThreadRow). x.0 == k + 1) (numbered xs))) (eq-eqb (i + 1) (k + 1) (ap (λ n. n + 1) here))
-    ∙ sym (ap (λ b. if b then Some r else row_at k xs) (eq-eqb i k here)))
-    (λ other.
-    ap (λ b. option_map (λ (x : ℕ × ThreadRow). x.1) (if b then Some (i + 1, r) else find (λ (x : ℕ × ThreadRow). x.0 == k + 1) (numbered xs))) (ne_eqb (i + 1) (k + 1) (λ is. omega arith))
-    ∙ find-number xs k
-    ∙ sym (ap (λ b. if b then Some r else row_at k xs) (ne_eqb i k other)))
-    (cases_eq i k)
+find-number ((i, r) ∷ xs) k = grind (arith, nat_tests, find-number xs k)
 
 pub thread_at : (rows : List (Option ThreadRow)) (t : ℕ) → 1 ≤ t → option_map (λ (x : ℕ × ThreadRow). x.1) (find (λ (x : ℕ × ThreadRow). x.0 == t) (numbered (live_from 0 rows))) ≡ get_or rows (t - 1) None
 thread_at rows t some =
@@ -123,8 +98,7 @@ thread_at rows t some =
 
 pub thread_zero : (xs : List (ℕ × ThreadRow)) → option_map (λ (x : ℕ × ThreadRow). x.1) (find (λ (x : ℕ × ThreadRow). x.0 == 0) (numbered xs)) ≡ None
 thread_zero [] = refl
-thread_zero ((i, r) ∷ xs) =
-    ap (λ b. option_map (λ (x : ℕ × ThreadRow). x.1) (if b then Some (i + 1, r) else find (λ (x : ℕ × ThreadRow). x.0 == 0) (numbered xs))) (ne_eqb (i + 1) 0 (λ is. omega arith)) ∙ thread_zero xs
+thread_zero ((i, r) ∷ xs) = grind (arith, nat_tests, thread_zero xs)
 
 -- how many there are, and their ranges
 placed-few : {R : Type 0} (low high : ℕ) (xs : List (ℕ × R)) → ArePlaced low high xs → low ≤ high → length xs + low ≤ high
@@ -135,14 +109,10 @@ placed-few low high ((i, r) ∷ xs) placed within =
     let rest = placed-few (i + 1) high xs placed.2 (omega arith) in
     omega arith
 
-length-numbered : (rows : List (ℕ × ThreadRow)) → length (numbered rows) ≡ length rows
-length-numbered [] = refl
-length-numbered (t ∷ rows) = let l = length-numbered rows in omega arith
-
 pub few_are : (rows : List (Option ThreadRow)) → AreByNumber rows → length (numbered (live_from 0 rows)) ≤ 256
 few_are rows held =
     let few = placed-few 0 (0 + length rows) (live_from 0 rows) (live-placed 0 rows) (omega arith) in
-    let same = length-numbered (live_from 0 rows) in
+    let same = length-map {B = ℕ × ThreadRow} (live_from 0 rows) (λ (t : ℕ × ThreadRow). (t.0 + 1, t.1)) in
     let long = held.long in
     omega (arith, few, same, long)
 
@@ -166,9 +136,7 @@ set-behind : {R : Type 0} (p : ℕ) (row : R) (xs : List (ℕ × R)) → All (λ
 set-behind p row [] low = refl
 set-behind {R} p row ((i, r) ∷ xs) low =
     let here = All-head (λ (x : ℕ × R). x.0 < p) (i, r) xs low in
-    ap (λ b. if b then with_live p (Some row) ((i, r) ∷ xs) else if p == i then with_live p (Some row) xs else (i, r) ∷ row_set p (Some row) xs) (le-ltb p i (omega arith))
-    ∙ ap (λ b. if b then with_live p (Some row) xs else (i, r) ∷ row_set p (Some row) xs) (ne_eqb p i (λ is. omega arith))
-    ∙ ap (λ ys. (i, r) ∷ ys) (set-behind p row xs (All-tail (λ (x : ℕ × R). x.0 < p) (i, r) xs low))
+    grind (arith, nat_tests, set-behind p row xs (All-tail (λ (x : ℕ × R). x.0 < p) (i, r) xs low))
 
 placed-rows : {R : Type 0} (low high : ℕ) (xs : List (ℕ × R)) → All (λ (x : ℕ × R). low ≤ x.0) xs → All (λ (x : ℕ × R). x.0 < high) xs → AllPairs (λ (x y : ℕ × R). x.0 < y.0) xs → ArePlaced low high xs
 placed-rows low high [] from below rise = tt

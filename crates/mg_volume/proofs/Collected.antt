@@ -1,7 +1,7 @@
 -- The rent is collected.
-use Rattle.std.specs.Prelude.{◌≡◌, ◌≤◌, ◌+◌, ◌==◌, ℕ, List, [], ◌∷◌, map, sum_by}
-use Rattle.std.proofs.Common.{refl, sym, ap, ◌∙◌, arith}
-use Rattle.std.proofs.lemmas.List.Sums.{sum_by-cons}
+use Rattle.mg_volume.specs.Sound.{used-rows}
+use Rattle.std.specs.Prelude.{◌≡◌, ◌≤◌, ◌==◌, ℕ, List, sum_by}
+use Rattle.std.proofs.Common.{sym, ap, ◌∙◌, arith}
 use Rattle.mg_bank.specs.Bank.{pages_at}
 use Rattle.mg_disk.specs.Disk.{Image}
 use Rattle.mg_model.specs.declared.accounts.AccRow.{AccRow}
@@ -15,14 +15,6 @@ use Rattle.mg_volume.specs.Held.{VolumeHeld}
 use Rattle.mg_volume.specs.StateLemmas.{now_accounts, now_rows, now_settings}
 use Rattle.mg_volume.specs.Meaning.{accounts_in, now_of, objects_in, settings_in}
 use Rattle.mg_volume.specs.StagesAccounts.{accounts_at}
-
--- the pages of objects are those of their rows
-used-rows : (objects : List Object) → used objects ≡ sum_by (λ (row : ObjectRow). row.pages) (map (λ (object : Object). object.row) objects)
-used-rows [] = refl
-used-rows (object ∷ objects) =
-    sum_by-cons (λ (object : Object). object.row.pages) object objects
-    ∙ ap (λ n. object.row.pages + n) (used-rows objects)
-    ∙ sym (sum_by-cons (λ (row : ObjectRow). row.pages) object.row (map (λ (object : Object). object.row) objects))
 
 pub rate_is : (v : VolumeHeld) (image : Image) (n : ℕ) → n ≡ sum_by (λ (row : ObjectRow). row.pages) (objects_in v) → rate_of (settings_in v).tariff n ≡ rate_now (now_of v image)
 rate_is v image n is =

@@ -1,9 +1,9 @@
 -- A password is drawn, in terms of the state.
-use Rattle.std.specs.Prelude.{◌≡◌, ◌+◌, ℕ, List}
+use Rattle.std.specs.Prelude.{◌≡◌, ℕ, List}
 use Rattle.std.proofs.Common.{ap, ◌∙◌}
 use Rattle.mg_disk.specs.Disk.{Image}
 use Rattle.mg_model.specs.Draw.{password_drawn}
-use Rattle.mg_model.specs.ObjectCalls.{drawn, next_password}
+use Rattle.mg_model.specs.ObjectCalls.{next_password}
 use Rattle.mg_model.specs.Settings.{Settings}
 use Rattle.mg_model.specs.State.{Counters}
 use Rattle.mg_volume.specs.Held.{VolumeHeld}

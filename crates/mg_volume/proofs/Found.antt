@@ -1,7 +1,7 @@
 -- A thread is found among the rows that are held.
-use Rattle.std.specs.Prelude.{◌≡◌, ◌==◌, ℕ, Bool, List, [], ◌∷◌, find, if◌then◌else◌, map, option_map, Option, Some, None}
-use Rattle.std.proofs.Common.{refl, sym, ap, ◌∙◌, ⊎_elim}
-use Rattle.std.proofs.lemmas.Bool.{cases_Bool}
+use Rattle.std.proofs.lemmas.List.Elements.{All-head, All-tail}
+use Rattle.std.specs.Prelude.{◌≡◌, ◌==◌, ℕ, Bool, List, [], ◌∷◌, find, if◌then◌else◌, map, option_map, Option, Some, None, All, true, false}
+use Rattle.std.proofs.Common.{refl, sym, ap, ◌∙◌, arith, subst}
 use Rattle.mg_model.specs.State.{ObjectRow, Thread, ThreadRow}
 use Rattle.mg_volume.specs.Held.{VolumeHeld}
 use Rattle.mg_volume.specs.Meaning.{objects_in, threads_in}
@@ -11,12 +11,7 @@ as_thread t = record { number = t.0; row = t.1 }
 
 pub find-mapped : {X Y : Type 0} (f : X → Y) (q : Y → Bool) (xs : List X) → find q (map f xs) ≡ option_map f (find (λ x. q (f x)) xs)
 find-mapped f q [] = refl
-find-mapped f q (x ∷ xs) =
-    ⊎_elim
-    (λ here. ap (λ b. if b then Some (f x) else find q (map f xs)) here ∙ sym (ap (λ b. option_map f (if b then Some x else find (λ x. q (f x)) xs)) here))
-    (λ elsewhere.
-    ap (λ b. if b then Some (f x) else find q (map f xs)) elsewhere ∙ find-mapped f q xs ∙ sym (ap (λ b. option_map f (if b then Some x else find (λ x. q (f x)) xs)) elsewhere))
-    (cases_Bool (q (f x)))
+find-mapped f q (x ∷ xs) = grind (arith, find-mapped f q xs)
 
 pub thread_found : (v : VolumeHeld) (t : ℕ) (o : Option ThreadRow) → o ≡ option_map (λ (thread : ℕ × ThreadRow). thread.1) (find (λ (thread : ℕ × ThreadRow). thread.0 == t) v.threads)
     → option_map (λ (thread : Thread). thread.row) (find (λ (thread : Thread). thread.number == t) (threads_in v)) ≡ o
@@ -58,3 +53,12 @@ object_found v q o is = ap (option_map (λ (o : ℕ × ObjectRow). o.1)) is ∙ 
 
 pub row_found : (v : VolumeHeld) (q : ObjectRow → Bool) (o : Option ObjectRow) → o ≡ option_map (λ (o : ℕ × ObjectRow). o.1) (find (λ (o : ℕ × ObjectRow). q o.1) v.objects) → o ≡ find q (objects_in v)
 row_found v q o is = is ∙ object_found v q (find (λ (o : ℕ × ObjectRow). q o.1) v.objects) refl
+
+-- what all have is had by what is found
+pub found_keeps : {X : Type 0} (P : X → Type 0) (test : X → Bool) (xs : List X) (x : X) → All P xs → find test xs ≡ Some x → P x
+found_keeps P test [] x all h = cc
+found_keeps P test (y ∷ xs) x all h = by_test (test y) (found_keeps P test xs x (All-tail P y xs all)) h
+  where
+    by_test : (v : Bool) → (find test xs ≡ Some x → P x) → (if v then Some y else find test xs) ≡ Some x → P x
+    by_test true later is = let same : y ≡ x = cc in subst P same (All-head P y xs all)
+    by_test false later is = later is

@@ -1,8 +1,9 @@
 -- A frame is free for each page of an object that is not bound: there are as many frames as the objects have pages at most.
-use Rattle.std.specs.Prelude.{◌≡◌, ◌⊎◌, ◌+◌, ◌≤◌, ◌==◌, ◌&&◌, ◌||◌, nat_le, nat_lt, ℕ, zero, suc, Bool, true, false, not, List, [], ◌∷◌, filter, if◌then◌else◌, length, map, sum_by}
+use Rattle.std.proofs.lemmas.Bool.Decides.{nat_tests}
+use Rattle.std.specs.Prelude.{◌≡◌, ◌⊎◌, ◌+◌, ◌≤◌, ◌==◌, ◌&&◌, ◌||◌, nat_le, nat_lt, ℕ, zero, suc, Bool, true, false, not, List, [], ◌∷◌, filter, length, map, sum_by}
 use Rattle.std.specs.List.{list_all, list_any}
 use Rattle.std.proofs.Common.{refl, sym, ap, ◌∙◌, ⊎_elim, inl, inr, arith}
-use Rattle.std.proofs.lemmas.Bool.{and_from, and_parts, both_ways, cases_Bool, eqb-false, eqb-true, leb-true, lt-ltb, ltb-true, not-true, not_from_false, ne_eqb, or_from, or_parts}
+use Rattle.std.proofs.lemmas.Bool.{and_from, and_parts, both_ways, cases_Bool, eqb-true, not-true, not_from_false}
 use Rattle.std.proofs.lemmas.List.Sums.{sum_by-cons}
 use Rattle.mg_model.specs.Objects.{page_of}
 use Rattle.mg_model.specs.State.{ObjectRow}
@@ -12,55 +13,24 @@ use Rattle.mg_volume.specs.Meaning.{is_page_in}
 
 any-filter : (p : ℕ → Bool) (x : ℕ) (xs : List ℕ) → list_any (λ y. x == y) xs ≡ false → list_any (λ y. x == y) (filter p xs) ≡ false
 any-filter p x [] out = refl
-any-filter p x (y ∷ ys) out =
-    let parts = or_parts (x == y) (list_any (λ y. x == y) ys) out in
-    ⊎_elim
-    (λ t. ap (λ b. list_any (λ y. x == y) (if b then y ∷ filter p ys else filter p ys)) t ∙ or_from (x == y) (list_any (λ y. x == y) (filter p ys)) parts.0 (any-filter p x ys parts.1))
-    (λ f. ap (λ b. list_any (λ y. x == y) (if b then y ∷ filter p ys else filter p ys)) f ∙ any-filter p x ys parts.1)
-    (cases_Bool (p y))
+any-filter p x (y ∷ ys) out = grind (arith, out, any-filter p x ys)
 
 distinct-filter : (p : ℕ → Bool) (xs : List ℕ) → all_distinct xs ≡ true → all_distinct (filter p xs) ≡ true
 distinct-filter p [] d = refl
-distinct-filter p (x ∷ xs) d =
-    let parts = and_parts (not (list_any (λ y. x == y) xs)) (all_distinct xs) d in
-    let out = any-filter p x xs (not-true (list_any (λ y. x == y) xs) parts.0) in
-    ⊎_elim
-    (λ t. ap (λ b. all_distinct (if b then x ∷ filter p xs else filter p xs)) t ∙ and_from (not (list_any (λ y. x == y) (filter p xs))) (all_distinct (filter p xs)) (not_from_false (list_any (λ y. x == y) (filter p xs)) out) (distinct-filter p xs parts.1))
-    (λ f. ap (λ b. all_distinct (if b then x ∷ filter p xs else filter p xs)) f ∙ distinct-filter p xs parts.1)
-    (cases_Bool (p x))
+distinct-filter p (x ∷ xs) d = grind (arith, d, any-filter p x xs, distinct-filter p xs)
 
 length-split : (p : ℕ → Bool) (xs : List ℕ) → length (filter p xs) + length (filter (λ x. not (p x)) xs) ≡ length xs
 length-split p [] = refl
-length-split p (x ∷ xs) =
-    ⊎_elim
-    (λ t.
-    let a : length (filter p (x ∷ xs)) ≡ suc (length (filter p xs)) = ap (λ b. length (if b then x ∷ filter p xs else filter p xs)) t in
-    let b : length (filter (λ x. not (p x)) (x ∷ xs)) ≡ length (filter (λ x. not (p x)) xs) = ap (λ b. length (if not b then x ∷ filter (λ x. not (p x)) xs else filter (λ x. not (p x)) xs)) t in
-    let rest = length-split p xs in
-    omega arith)
-    (λ f.
-    let a : length (filter p (x ∷ xs)) ≡ length (filter p xs) = ap (λ b. length (if b then x ∷ filter p xs else filter p xs)) f in
-    let b : length (filter (λ x. not (p x)) (x ∷ xs)) ≡ suc (length (filter (λ x. not (p x)) xs)) = ap (λ b. length (if not b then x ∷ filter (λ x. not (p x)) xs else filter (λ x. not (p x)) xs)) f in
-    let rest = length-split p xs in
-    omega arith)
-    (cases_Bool (p x))
+length-split p (x ∷ xs) = grind (arith, length-split p xs)
 
 -- what all pass, and those that pass p besides
 all-refined : (p q r : ℕ → Bool) → ((x : ℕ) → p x ≡ true → q x ≡ true → r x ≡ true) → (xs : List ℕ) → list_all q xs ≡ true → list_all r (filter p xs) ≡ true
 all-refined p q r both [] all = refl
-all-refined p q r both (x ∷ xs) all =
-    let parts = and_parts (q x) (list_all q xs) all in
-    ⊎_elim
-    (λ t. ap (λ b. list_all r (if b then x ∷ filter p xs else filter p xs)) t ∙ and_from (r x) (list_all r (filter p xs)) (both x t parts.0) (all-refined p q r both xs parts.1))
-    (λ f. ap (λ b. list_all r (if b then x ∷ filter p xs else filter p xs)) f ∙ all-refined p q r both xs parts.1)
-    (cases_Bool (p x))
+all-refined p q r both (x ∷ xs) all = grind (arith, all, both x, all-refined p q r both xs)
 
 none-equal : (k : ℕ) (xs : List ℕ) → list_any (λ y. k == y) xs ≡ false → length (filter (λ y. y == k) xs) ≡ 0
 none-equal k [] out = refl
-none-equal k (x ∷ xs) out =
-    let parts = or_parts (k == x) (list_any (λ y. k == y) xs) out in
-    let other : (x == k) ≡ false = ne_eqb x k (λ is. eqb-false k x parts.0 (sym is)) in
-    ap (λ b. length (if b then x ∷ filter (λ y. y == k) xs else filter (λ y. y == k) xs)) other ∙ none-equal k xs parts.1
+none-equal k (x ∷ xs) out = grind (arith, nat_tests, out, none-equal k xs)
 
 once : (k : ℕ) (xs : List ℕ) → all_distinct xs ≡ true → length (filter (λ y. y == k) xs) ≤ 1
 once k [] d = omega arith
@@ -69,13 +39,9 @@ once k (x ∷ xs) d =
     ⊎_elim
     (λ t.
     let is : x ≡ k = eqb-true x k t in
-    let here : length (filter (λ y. y == k) (x ∷ xs)) ≡ suc (length (filter (λ y. y == k) xs)) = ap (λ b. length (if b then x ∷ filter (λ y. y == k) xs else filter (λ y. y == k) xs)) t in
     let rest = none-equal k xs (ap (λ j. list_any (λ y. j == y) xs) (sym is) ∙ not-true (list_any (λ y. x == y) xs) parts.0) in
-    omega arith)
-    (λ f.
-    let here : length (filter (λ y. y == k) (x ∷ xs)) ≡ length (filter (λ y. y == k) xs) = ap (λ b. length (if b then x ∷ filter (λ y. y == k) xs else filter (λ y. y == k) xs)) f in
-    let rest = once k xs parts.1 in
-    omega arith)
+    grind arith)
+    (λ f. let rest = once k xs parts.1 in grind arith)
     (cases_Bool (x == k))
 
 abbrev in_range : ℕ → ℕ → ℕ → Bool
@@ -84,25 +50,14 @@ in_range first n x = nat_le first x && nat_lt x (first + n)
 -- distinct numbers of a range
 range-bound : (first n : ℕ) (xs : List ℕ) → all_distinct xs ≡ true → list_all (in_range first n) xs ≡ true → length xs ≤ n
 range-bound first zero [] d all = omega arith
-range-bound first zero (x ∷ xs) d all =
-    let parts = and_parts (nat_le first x && nat_lt x (first + zero)) (list_all (in_range first zero) xs) all in
-    let both = and_parts (nat_le first x) (nat_lt x (first + zero)) parts.0 in
-    let low = leb-true first x both.0 in
-    let high = ltb-true x (first + zero) both.1 in
-    absurd (omega arith)
+range-bound first zero (x ∷ xs) d all = absurd (grind (arith, nat_tests, all))
 range-bound first (suc n) xs d all =
     let last = first + n in
     let split = length-split (λ y. y == last) xs in
     let few = once last xs d in
     let rest =
     range-bound first n (filter (λ y. not (y == last)) xs) (distinct-filter (λ y. not (y == last)) xs d)
-    (all-refined (λ y. not (y == last)) (in_range first (suc n)) (in_range first n)
-    (λ x other within.
-    let both = and_parts (nat_le first x) (nat_lt x (first + suc n)) within in
-    let high = ltb-true x (first + suc n) both.1 in
-    let not_last = eqb-false x last (not-true (x == last) other) in
-    and_from (nat_le first x) (nat_lt x (first + n)) both.0 (lt-ltb x (first + n) (omega arith)))
-    xs all) in
+    (all-refined (λ y. not (y == last)) (in_range first (suc n)) (in_range first n) (λ x other within. grind (arith, nat_tests, other, within)) xs all) in
     omega arith
 
 -- distinct pages, each in an object
@@ -122,15 +77,11 @@ pages-bound (o ∷ os) xs d all =
 
 bound-all : (table : List ℕ) → list_any (λ entry. entry == 0) table ≡ false → bound_pages table ≡ table
 bound-all [] out = refl
-bound-all (entry ∷ table) out =
-    let parts = or_parts (entry == 0) (list_any (λ entry. entry == 0) table) out in
-    ap (λ b. if not b then entry ∷ bound_pages table else bound_pages table) parts.0 ∙ ap (λ entries. entry ∷ entries) (bound-all table parts.1)
+bound-all (entry ∷ table) out = grind (arith, out, bound-all table)
 
 any-turned : (page : ℕ) (table : List ℕ) → list_any (λ entry. entry == page) table ≡ false → list_any (λ entry. page == entry) table ≡ false
 any-turned page [] out = refl
-any-turned page (entry ∷ table) out =
-    let parts = or_parts (entry == page) (list_any (λ entry. entry == page) table) out in
-    or_from (page == entry) (list_any (λ entry. page == entry) table) (ne_eqb page entry (λ is. eqb-false entry page parts.0 (sym is))) (any-turned page table parts.1)
+any-turned page (entry ∷ table) out = grind (arith, nat_tests, out, any-turned page table)
 
 pub free_frame : (os : List (ℕ × ObjectRow)) (table : List ℕ) (page : ℕ) → all_distinct (bound_pages table) ≡ true
     → list_all (λ page. list_any (λ row. is_page_in page row) (map (λ (o : ℕ × ObjectRow). o.1) os)) (bound_pages table) ≡ true

@@ -1,6 +1,6 @@
 -- A new object, in the first row that is free.
-use Rattle.std.specs.Prelude.{◌≡◌, ◌≢◌, ◌+◌, ◌*◌, ◌/◌, ◌≤◌, ◌<◌, ◌==◌, ◌||◌, ◌⊎◌, nat_le, nat_lt, ℕ, zero, suc, true, false, not, All, List, [], ◌∷◌, ◌++◌, if◌then◌else◌, length, replicate, sum_by, Some, None}
-use Rattle.std.specs.List.{list_all, list_any, position_or_len}
+use Rattle.std.specs.Prelude.{◌≡◌, ◌≢◌, ◌+◌, ◌*◌, ◌/◌, ◌≤◌, ◌<◌, ◌==◌, ◌||◌, ◌⊎◌, nat_le, nat_lt, ℕ, zero, suc, true, false, not, All, List, [], ◌∷◌, ◌++◌, if◌then◌else◌, length, replicate, Some, None}
+use Rattle.std.specs.List.{list_any, position_or_len}
 use Rattle.std.specs.Option.{option_map_or}
 use Rattle.std.proofs.Common.{refl, sym, ap, subst, ◌∙◌, ⊎_elim, inl, inr, arith}
 use Rattle.std.proofs.lemmas.Bool.{and_from, and_parts, both_ways, cases_Bool, le-leb, le-ltb, leb-true, lt-ltb, or_cases, or_parts}
@@ -14,7 +14,7 @@ use Rattle.mg_model.specs.Objects.{page_behind, page_of, with_object}
 use Rattle.mg_model.specs.Ranges.{IsObjectRow}
 use Rattle.mg_model.specs.Replay.{block_of}
 use Rattle.mg_model.specs.State.{ObjectRow}
-use Rattle.mg_model.specs.Volume.{bound_pages, page_words, pages_words}
+use Rattle.mg_model.specs.Volume.{page_words, pages_words}
 use Rattle.mg_pages.specs.declared.pages.Pages.{Pages}
 use Rattle.mg_pages.specs.Meaning as pages
 use Rattle.mg_volume.proofs.BareRows.{sum_bare}
@@ -22,16 +22,18 @@ use Rattle.mg_volume.proofs.FreePlace.{is_taken, lowest_is}
 use Rattle.mg_volume.proofs.ObjectLists.{by_base_row, into-all, placed_distinct}
 use Rattle.mg_volume.proofs.ObjectOrder.{from_by_base, into_any, into_found, into_length, into_others, into_rows, into_sum, none_at, set_order}
 use Rattle.mg_volume.proofs.ObjectStaged.{objects_staged, placed_of, with_objects}
-use Rattle.mg_volume.proofs.PagesChange.{all-bound, each-bound}
+use Rattle.mg_volume.proofs.PagesChange.{all-bound, each-bound, held_same}
 use Rattle.mg_volume.proofs.RowsApart.{apart_with, base_apart, kept_rows, no_base, page_apart}
-use Rattle.mg_volume.proofs.StillStaged.{objects_still, place_found, place_new, place_same, with_base}
+use Rattle.mg_volume.proofs.StillStaged.{objects_still, place_found, place_new, place_same}
 use Rattle.mg_volume.specs.Held.{VolumeHeld}
-use Rattle.mg_objects.specs.Held.{IsLowestFree, MeetsNone, by_base, into_place}
+use Rattle.mg_objects.specs.Held.{IsLowestFree, MeetsNone, into_place}
 use Rattle.mg_volume.specs.Meaning.{IsKept, IsSpelledBy, Spelled, bare_rows, has_page, is_page_in, now_of, objects_in, rows_apart, settings_in, threads_in}
-use Rattle.mg_volume.specs.Staging.{MayJoin, ObjectsStillStaged, blank, free_place, has_base, is_apart_from, is_object_staged, place_for, with_new_row}
+use Rattle.mg_volume.specs.Staging.{MayJoin, ObjectsStillStaged, blank, free_place, has_base, is_apart_from, is_object_staged, with_new_row}
 use Rattle.mg_volume.specs.RowLists.{row_at, row_set, set_other, set_placed}
 use Rattle.mg_volume.specs.Sound.{all_spelled, object-placed}
-use Rattle.mg_volume.proofs.Staged.{objects_apart}
+use Rattle.mg_volume.proofs.Staged.{staged_objects}
+use Rattle.mg_volume.proofs.Stages.{changes_is}
+use Rattle.mg_volume.specs.Changes.{Changes}
 use Rattle.mg_volume.specs.StagesRows.{StagesRows}
 
 -- a page that no frame holds reads as zeros
@@ -98,90 +100,85 @@ module _ (v : VolumeHeld) (row : ObjectRow) (place : ℕ) (is : IsObjectRow row)
   absent = no_base row.base (objects_in v) other-rows
 
   -- it waits for a commit where the free row does
-  pub inserted_room : is_object_staged v row.base ≡ true → pages.is_staged v.pages (first_object_block + place / 4) ≡ true
+  pub inserted_room : (is_object_staged v row.base ≡ true) ⊎ (pages.staged_of v.pages < 160) → (pages.is_staged v.pages (first_object_block + place / 4) ≡ true) ⊎ (pages.staged_of v.pages < 160)
   unfolding is_object_staged objects_in
-  inserted_room staged = ap (λ place. pages.is_staged v.pages (first_object_block + place / 4)) (at ∙ sym (place_new row.base v.objects absent)) ∙ staged
+  inserted_room room = ⊎_elim (λ staged. inl (ap (λ place. pages.is_staged v.pages (first_object_block + place / 4)) (at ∙ sym (place_new row.base v.objects absent)) ∙ staged)) (λ few. inr few) room
 
-  module _ (p : Pages) (objects : List (ℕ × ObjectRow)) (put : objects ≡ into_place (place, row) v.objects) where
-    pub inserted_here : pages.is_staged p (first_object_block + place / 4) ≡ true → is_object_staged (with_objects v objects p) row.base ≡ true
+  -- the volume with it is held
+  pub inserted_held : (p : Pages) → pages.frame_count p ≡ pages.frame_count v.pages → pages.table_in p ≡ pages.table_in v.pages → IsKept (with_objects v (into_place (place, row) v.objects) p)
+  unfolding objects_in settings_in
+  inserted_held p frames table =
+      held_same (record v { objects = into_place (place, row) v.objects }) v.counters v.threads p
+      (record {
+        frames = kept.frames;
+        rows = into-all (λ (o : ℕ × ObjectRow). IsObjectRow o.1) (place, row) v.objects is kept.rows;
+        places = into-all (λ (o : ℕ × ObjectRow). o.0 < object_limit) (place, row) v.objects inserted_low kept.places;
+        apart = ap rows_apart (into_rows (place, row) v.objects) ∙ apart_with row is (objects_in v) (kept_rows v kept) join.apart kept.apart;
+        used =
+            (let s = into_sum (λ (o : ℕ × ObjectRow). o.1.pages) (place, row) v.objects in
+            let b = sum_bare (λ (row : ObjectRow). row.pages) v.objects in
+            let fit = join.fit in
+            omega arith);
+        few_objects = (let long = into_length (place, row) v.objects in let f = join_few v row join in omega arith);
+        some_accounts = kept.some_accounts;
+        few_accounts = kept.few_accounts;
+        few_threads = kept.few_threads;
+        inside =
+            all-bound (λ page. list_any (λ row. is_page_in page row) (bare_rows (into_place (place, row) v.objects))) (pages.table_in v.pages)
+            (λ page some bound. into_any (λ row. is_page_in page row) (place, row) v.objects (each-bound (λ page. has_page v page) page (pages.table_in v.pages) kept.inside some bound));
+      })
+      kept.few_threads frames table
+
+  -- its pages are bound nowhere
+  unbound : (page : ℕ) → page_of row ≤ page → page < page_of row + row.pages → list_any (λ entry. entry == page) (pages.table_in v.pages) ≡ false
+  unbound page low high =
+      let inside = and_from (nat_le (page_of row) page) (nat_lt page (page_behind row)) (le-leb (page_of row) page low) (lt-ltb page (page_behind row) high) in
+      let first = is.place.low in
+      ⊎_elim
+      (λ bound.
+      absurd (both_ways (has_page v page) (page_apart row is (objects_in v) page join.apart inside) (each-bound (λ page. has_page v page) page (pages.table_in v.pages) kept.inside (λ nil. omega arith) bound)))
+      (λ none. none)
+      (cases_Bool (list_any (λ entry. entry == page) (pages.table_in v.pages)))
+
+  module _ (p : Pages) (staged : StagesRows (into_place (place, row) v.objects) place v.pages p) where
+    pub inserted_here : is_object_staged (with_objects v (into_place (place, row) v.objects) p) row.base ≡ true
     unfolding is_object_staged
-    inserted_here staged =
-        ap (λ place. pages.is_staged p (first_object_block + place / 4)) (ap (place_for row.base) put ∙ place_found row.base (into_place (place, row) v.objects) (place, row) (into_found (place, row) v.objects others)) ∙ staged
+    inserted_here = ap (λ place. pages.is_staged p (first_object_block + place / 4)) (place_found row.base (into_place (place, row) v.objects) (place, row) (into_found (place, row) v.objects others)) ∙ staged.block.here
 
-    pub inserted_still : (most : ℕ) → pages.StagesMore most v.pages p → ObjectsStillStaged v (with_objects v objects p)
+    still : ObjectsStillStaged v (with_objects v (into_place (place, row) v.objects) p)
     unfolding objects_in
-    inserted_still most more =
-        objects_still v (with_objects v objects p) more.still
+    still =
+        objects_still v (with_objects v (into_place (place, row) v.objects) p) staged.block.staged.still
         (λ base was now.
-        place_same base v.objects objects was
-        (ap (with_base base) put ∙ into_others base (place, row) v.objects (λ same. both_ways (has_base base (objects_in v)) (ap (λ b. has_base b (objects_in v)) (sym same) ∙ absent) was)))
+        place_same base v.objects (into_place (place, row) v.objects) was
+        (into_others base (place, row) v.objects (λ same. both_ways (has_base base (objects_in v)) (ap (λ b. has_base b (objects_in v)) (sym same) ∙ absent) was)))
 
-    pub inserted_rows : objects_in (with_objects v objects p) ≡ with_new_row row (objects_in v)
-    unfolding objects_in
-    inserted_rows = ap bare_rows put ∙ into_rows (place, row) v.objects
-
-    -- the volume with it is held
-    pub inserted_held : pages.frame_count p ≡ pages.frame_count v.pages → pages.table_in p ≡ pages.table_in v.pages → IsKept (with_objects v objects p)
-    unfolding objects_in settings_in
-    inserted_held frames table = record {
-      frames = frames ∙ kept.frames;
-      rows = subst (All (λ (o : ℕ × ObjectRow). IsObjectRow o.1)) (sym put) (into-all (λ (o : ℕ × ObjectRow). IsObjectRow o.1) (place, row) v.objects is kept.rows);
-      places = subst (All (λ (o : ℕ × ObjectRow). o.0 < object_limit)) (sym put) (into-all (λ (o : ℕ × ObjectRow). o.0 < object_limit) (place, row) v.objects inserted_low kept.places);
-      apart = ap (λ l. rows_apart (bare_rows l)) put ∙ ap rows_apart (into_rows (place, row) v.objects) ∙ apart_with row is (objects_in v) (kept_rows v kept) join.apart kept.apart;
-      used =
-          (let s = ap (λ l. sum_by (λ (o : ℕ × ObjectRow). o.1.pages) l) put ∙ into_sum (λ (o : ℕ × ObjectRow). o.1.pages) (place, row) v.objects in
-          let b = sum_bare (λ (row : ObjectRow). row.pages) v.objects in
-          let fit = join.fit in
-          omega arith);
-      few_objects = (let long = ap (λ (l : List (ℕ × ObjectRow)). length l) put ∙ into_length (place, row) v.objects in let f = join_few v row join in omega arith);
-      some_accounts = kept.some_accounts;
-      few_accounts = kept.few_accounts;
-      few_threads = kept.few_threads;
-      inside =
-          ap (λ table. list_all (λ page. list_any (λ row. is_page_in page row) (bare_rows objects)) (bound_pages table)) table
-          ∙ all-bound (λ page. list_any (λ row. is_page_in page row) (bare_rows objects)) (pages.table_in v.pages)
-          (λ page some bound.
-          ap (λ l. list_any (λ row. is_page_in page row) (bare_rows l)) put
-          ∙ into_any (λ row. is_page_in page row) (place, row) v.objects (each-bound (λ page. has_page v page) page (pages.table_in v.pages) kept.inside some bound));
-    }
-
-    -- and spelled
-    pub inserted_spelled : (image : Image) → IsSpelledBy v image → pages.IsSpelledBy p image → pages.frame_count p ≡ pages.frame_count v.pages → StagesRows objects place v.pages p → IsSpelledBy (with_objects v objects p) image
+    spelled : (image : Image) → IsSpelledBy v image → IsSpelledBy (with_objects v (into_place (place, row) v.objects) p) image
     unfolding IsSpelledBy
-    inserted_spelled image spelled fitting frames staged =
-        let s : Spelled v image = spelled in
+    spelled image was =
+        let s : Spelled v image = was in
         let placed = placed_of v image s in
         let none : row_at place s.objects ≡ None = sym (by_base_row place s.objects (placed_distinct 0 object_limit s.objects placed)) ∙ ap (row_at place) s.ordered ∙ none_at place v.objects free in
         let differ : All (λ (o : ℕ × ObjectRow). o.1.base ≢ row.base) s.objects = from_by_base (λ (o : ℕ × ObjectRow). o.1.base ≢ row.base) s.objects (subst (All (λ (o : ℕ × ObjectRow). o.1.base ≢ row.base)) (sym s.ordered) others) in
-        let order : by_base (row_set place (Some row) s.objects) ≡ objects = set_order place row s.objects none differ ∙ ap (into_place (place, row)) s.ordered ∙ sym put in
-        let low = inserted_low in
-        objects_staged v p image (place / 4) staged.bytes (row_set place (Some row) s.objects) objects s fitting frames (staged.coming image) (omega arith)
-        (set_placed 0 object_limit place (Some row) s.objects placed (omega arith) low) order staged.rows
+        objects_staged v p image place (row_set place (Some row) s.objects) (into_place (place, row) v.objects) s staged inserted_low (set_placed 0 object_limit place (Some row) s.objects placed (omega arith) inserted_low)
+        (set_order place row s.objects none differ ∙ ap (into_place (place, row)) s.ordered)
         (λ j other. set_other j place (Some row) s.objects (λ same. other (ap (λ k. k / 4) same)))
 
-    -- its pages are bound nowhere
-    unbound : (page : ℕ) → page_of row ≤ page → page < page_of row + row.pages → list_any (λ entry. entry == page) (pages.table_in v.pages) ≡ false
-    unbound page low high =
-        let inside = and_from (nat_le (page_of row) page) (nat_lt page (page_behind row)) (le-leb (page_of row) page low) (lt-ltb page (page_behind row) high) in
-        let first = is.place.low in
-        ⊎_elim
-        (λ bound.
-        absurd (both_ways (has_page v page) (page_apart row is (objects_in v) page join.apart inside) (each-bound (λ page. has_page v page) page (pages.table_in v.pages) kept.inside (λ nil. omega arith) bound)))
-        (λ none. none)
-        (cases_Bool (list_any (λ entry. entry == page) (pages.table_in v.pages)))
-
     -- the state has it, with words 0
-    pub inserted_now : (image : Image) → pages.table_in p ≡ pages.table_in v.pages → StagesRows objects place v.pages p → now_of (with_objects v objects p) image ≡ record (now_of v image) { objects = with_object (blank row) (now_of v image).objects }
+    now : (image : Image) → now_of (with_objects v (into_place (place, row) v.objects) p) image ≡ record (now_of v image) { objects = with_object (blank row) (now_of v image).objects }
     unfolding now_of threads_in
-    inserted_now image table staged =
+    now image =
         let r = pages.coming v.pages image in
         let frames = v.settings.frames in
         let t = pages.table_in v.pages in
         let low = inserted_low in
-        ap (λ table. record (now_of v image) { objects = all_spelled (pages.coming p image) frames table objects }) table
-        ∙ ap (λ (coming : Image). record (now_of v image) { objects = all_spelled coming frames t objects }) (staged.coming image)
-        ∙ ap (λ objects. record (now_of v image) { objects = objects })
-        (objects_apart r (first_object_block + place / 4) staged.bytes frames t objects (omega arith)
-        ∙ ap (all_spelled r frames t) put
+        ap (λ objects. record (now_of v image) { objects = objects })
+        (staged_objects (with_objects v (into_place (place, row) v.objects) v.pages) p image (first_object_block + place / 4) staged.bytes (omega arith) staged.block.table (staged.block.coming image)
         ∙ sym (object-placed r frames t (place, row) v.objects)
         ∙ ap (λ words. with_object (record { row = row; words = words }) (all_spelled r frames t v.objects)) (unbound-words r frames t (page_of row) row.pages unbound))
+
+    pub inserted_changes : Changes 1 (λ state. record state { objects = with_object (blank row) state.objects }) (with_new_row row) v (with_objects v (into_place (place, row) v.objects) p)
+    unfolding objects_in
+    inserted_changes =
+        let w = with_objects v (into_place (place, row) v.objects) p in
+        changes_is v w 1 (λ state. record state { objects = with_object (blank row) state.objects }) (with_new_row row) refl staged.block.shape staged.block.words staged.block.staged spelled now (into_rows (place, row) v.objects) still

@@ -1,8 +1,9 @@
 -- A list of objects without the one at an index, which is the list without its base.
-use Rattle.std.specs.Prelude.{◌≡◌, ◌≢◌, ◌⊎◌, ◌/◌, ◌≤◌, ◌<◌, ◌==◌, nat_le, ℕ, zero, suc, Bool, true, not, All, AllPairs, List, [], ◌∷◌, filter, find, if◌then◌else◌, length, map, remove, Some}
+use Rattle.std.proofs.lemmas.Bool.Decides.{nat_tests}
+use Rattle.std.specs.Prelude.{◌≡◌, ◌≢◌, ◌⊎◌, ◌/◌, ◌≤◌, ◌<◌, ◌==◌, nat_le, ℕ, zero, suc, Bool, true, not, All, AllPairs, List, [], ◌∷◌, filter, find, length, map, remove}
 use Rattle.std.specs.List.{list_any}
 use Rattle.std.proofs.Common.{refl, sym, ap, subst, get_or, ◌∙◌, ⊎_elim, inl, inr, arith}
-use Rattle.std.proofs.lemmas.Bool.{and_from, and_parts, cases_Bool, cases_eq, cases_lt, eq-eqb, le-leb, leb-true, ne_eqb, or_cases, or_left, or_right}
+use Rattle.std.proofs.lemmas.Bool.{and_from, and_parts, cases_eq, cases_lt, le-leb, leb-true}
 use Rattle.std.proofs.lemmas.List.{get_or_default}
 use Rattle.std.proofs.lemmas.List.Elements.{All-cons, All-get_or, All-head, All-nil, All-tail, All-weaker}
 use Rattle.std.proofs.lemmas.List.Kept.{AllPairs-cons}
@@ -16,65 +17,28 @@ use Rattle.mg_volume.specs.Meaning.{rows_apart}
 -- none goes where none has the key
 pub filter-all : {X : Type 0} (key : X → ℕ) (k : ℕ) (xs : List X) → All (λ y. key y ≢ k) xs → filter (λ y. not (key y == k)) xs ≡ xs
 filter-all key k [] absent = refl
-filter-all key k (x ∷ xs) absent =
-    ap (λ b. if not b then x ∷ filter (λ y. not (key y == k)) xs else filter (λ y. not (key y == k)) xs) (ne_eqb (key x) k (All-head (λ y. key y ≢ k) x xs absent))
-    ∙ ap (λ rest. x ∷ rest) (filter-all key k xs (All-tail (λ y. key y ≢ k) x xs absent))
+filter-all key k (x ∷ xs) absent = grind (arith, nat_tests, All-head (λ y. key y ≢ k) x xs absent, filter-all key k xs (All-tail (λ y. key y ≢ k) x xs absent))
 
 -- where keys are distinct, one that goes by its index goes by its key
 pub remove_is : {X : Type 0} (key : X → ℕ) (k : ℕ) (xs : List X) (i : ℕ) (d : X) → DistinctBy key xs → i < length xs → key (get_or xs i d) ≡ k → remove xs i ≡ filter (λ y. not (key y == k)) xs
 remove_is key k [] i d distinct few is = absurd (omega arith)
-remove_is key k (x ∷ xs) zero d distinct few is =
-    sym
-    (ap (λ b. if not b then x ∷ filter (λ y. not (key y == k)) xs else filter (λ y. not (key y == k)) xs) (eq-eqb (key x) k is)
-    ∙ filter-all key k xs (All-weaker (λ y. key y ≢ key x) (λ y. key y ≢ k) (λ y other same. other (same ∙ sym is)) xs distinct.0))
+remove_is key k (x ∷ xs) zero d distinct few is = grind (arith, nat_tests, is, filter-all key k xs (All-weaker (λ y. key y ≢ key x) (λ y. key y ≢ k) (λ y other same. other (same ∙ sym is)) xs distinct.0))
 remove_is key k (x ∷ xs) (suc i) d distinct few is =
     let other : key (get_or xs i d) ≢ key x = All-get_or (λ y. key y ≢ key x) xs i d (omega arith) distinct.0 in
-    ap (λ rest. x ∷ rest) (remove_is key k xs i d distinct.1 (omega arith) is)
-    ∙ sym (ap (λ b. if not b then x ∷ filter (λ y. not (key y == k)) xs else filter (λ y. not (key y == k)) xs) (ne_eqb (key x) k (λ same. other (is ∙ sym same))))
+    grind (arith, nat_tests, is, other, remove_is key k xs i d distinct.1 (omega arith) is)
 
 pub filter_mapped : {X Y : Type 0} (f : X → Y) (p : Y → Bool) (xs : List X) → map f (filter (λ x. p (f x)) xs) ≡ filter p (map f xs)
 filter_mapped f p [] = refl
-filter_mapped f p (x ∷ xs) =
-    ⊎_elim
-    (λ t.
-    ap (λ b. map f (if b then x ∷ filter (λ x. p (f x)) xs else filter (λ x. p (f x)) xs)) t
-    ∙ ap (λ rest. f x ∷ rest) (filter_mapped f p xs)
-    ∙ sym (ap (λ b. if b then f x ∷ filter p (map f xs) else filter p (map f xs)) t))
-    (λ n.
-    ap (λ b. map f (if b then x ∷ filter (λ x. p (f x)) xs else filter (λ x. p (f x)) xs)) n
-    ∙ filter_mapped f p xs
-    ∙ sym (ap (λ b. if b then f x ∷ filter p (map f xs) else filter p (map f xs)) n))
-    (cases_Bool (p (f x)))
+filter_mapped f p (x ∷ xs) = grind (arith, filter_mapped f p xs)
 
 -- what a test finds is found where only others go
 pub find_kept : {X : Type 0} (q p : X → Bool) → ((x : X) → q x ≡ true → p x ≡ true) → (xs : List X) → find q (filter p xs) ≡ find q xs
 find_kept q p keeps [] = refl
-find_kept q p keeps (x ∷ xs) =
-    ⊎_elim
-    (λ here. ap (λ b. find q (if b then x ∷ filter p xs else filter p xs)) (keeps x here) ∙ ap (λ b. if b then Some x else find q (filter p xs)) here ∙ sym (ap (λ b. if b then Some x else find q xs) here))
-    (λ elsewhere.
-    ⊎_elim
-    (λ t. ap (λ b. find q (if b then x ∷ filter p xs else filter p xs)) t ∙ ap (λ b. if b then Some x else find q (filter p xs)) elsewhere)
-    (λ n. ap (λ b. find q (if b then x ∷ filter p xs else filter p xs)) n)
-    (cases_Bool (p x))
-    ∙ find_kept q p keeps xs
-    ∙ sym (ap (λ b. if b then Some x else find q xs) elsewhere))
-    (cases_Bool (q x))
+find_kept q p keeps (x ∷ xs) = grind (arith, keeps x, find_kept q p keeps xs)
 
 pub any_kept : {X Y : Type 0} (f : X → Y) (q : Y → Bool) (p : X → Bool) (xs : List X) → All (λ x. q (f x) ≡ true → p x ≡ true) xs → list_any q (map f xs) ≡ true → list_any q (map f (filter p xs)) ≡ true
 any_kept f q p [] keeps any = any
-any_kept {X} {Y} f q p (x ∷ xs) keeps any =
-    let head : q (f x) ≡ true → p x ≡ true = All-head (λ x. q (f x) ≡ true → p x ≡ true) x xs keeps in
-    ⊎_elim
-    (λ here.
-    ap (λ b. list_any q (map f (if b then x ∷ filter p xs else filter p xs))) (head here) ∙ or_left (q (f x)) (list_any q (map f (filter p xs))) here)
-    (λ elsewhere.
-    let rest = any_kept f q p xs (All-tail (λ x. q (f x) ≡ true → p x ≡ true) x xs keeps) elsewhere in
-    ⊎_elim
-    (λ t. ap (λ b. list_any q (map f (if b then x ∷ filter p xs else filter p xs))) t ∙ or_right (q (f x)) (list_any q (map f (filter p xs))) rest)
-    (λ n. ap (λ b. list_any q (map f (if b then x ∷ filter p xs else filter p xs))) n ∙ rest)
-    (cases_Bool (p x)))
-    (or_cases (q (f x)) (list_any q (map f xs)) any)
+any_kept f q p (x ∷ xs) keeps any = grind (arith, any, All-head (λ x. q (f x) ≡ true → p x ≡ true) x xs keeps, any_kept f q p xs (All-tail (λ x. q (f x) ≡ true → p x ≡ true) x xs keeps))
 
 -- an object ends before another begins
 abbrev pub LiesBefore : ℕ × ObjectRow → ℕ × ObjectRow → Type 0

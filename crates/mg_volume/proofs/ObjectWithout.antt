@@ -1,9 +1,9 @@
 -- A volume without one of its objects, whose pages are unbound.
-use Rattle.std.specs.Prelude.{◌≡◌, ◌≢◌, ◌⊎◌, ◌+◌, ◌/◌, ◌≤◌, ◌<◌, ◌==◌, ◌||◌, nat_le, nat_lt, ℕ, Bool, true, false, not, All, List, [], ◌∷◌, filter, find, if◌then◌else◌, length, map, remove, Option, Some, None}
+use Rattle.std.proofs.lemmas.Bool.Decides.{nat_tests}
+use Rattle.std.specs.Prelude.{◌≡◌, ◌≢◌, ◌⊎◌, ◌+◌, ◌/◌, ◌≤◌, ◌<◌, ◌==◌, nat_le, nat_lt, ℕ, Bool, true, false, not, All, List, [], ◌∷◌, filter, find, length, map, remove, Some, None}
 use Rattle.std.specs.List.{list_any}
-use Rattle.std.specs.Option.{option_map_or}
 use Rattle.std.proofs.Common.{refl, sym, ap, subst, get_or, ◌∙◌, ⊎_elim, inl, inr, arith}
-use Rattle.std.proofs.lemmas.Bool.{and_parts, both_ways, cases_Bool, eqb-false, eqb-true, leb-true, ltb-true, ne_eqb, not-true, not_from_false, or_cases}
+use Rattle.std.proofs.lemmas.Bool.{and_parts, both_ways, cases_Bool, eqb-false, eqb-true, leb-true, ltb-true, ne_eqb, not-true, not_from_false}
 use Rattle.std.proofs.lemmas.List.Elements.{All-filter, All-get_or, All-head, All-tail, All-weaker, filter_passes}
 use Rattle.std.proofs.lemmas.List.Kept.{AllPairs-filter}
 use Rattle.mg_disk.specs.Disk.{Image}
@@ -25,12 +25,14 @@ use Rattle.mg_volume.proofs.StandingPages.{spelled_same}
 use Rattle.mg_volume.specs.Held.{VolumeHeld}
 use Rattle.mg_objects.specs.Held.{by_base}
 use Rattle.mg_volume.specs.Meaning.{IsKept, IsSpelledBy, Spelled, has_page, is_page_in, now_of, objects_in, threads_in}
-use Rattle.mg_volume.proofs.StillStaged.{objects_still}
-use Rattle.mg_volume.specs.Staging.{ObjectsStillStaged, free_place, has_base, place_for, without_row}
+use Rattle.mg_volume.proofs.StillStaged.{base_found, objects_still, place_found, with_base}
+use Rattle.mg_volume.specs.Staging.{has_base, place_for, without_row}
 use Rattle.mg_volume.specs.PageWordLemmas.{pages-same}
 use Rattle.mg_volume.specs.RowLists.{row_set, set_other, set_placed}
 use Rattle.mg_volume.specs.Sound.{all_spelled}
-use Rattle.mg_volume.proofs.Staged.{objects_apart}
+use Rattle.mg_volume.proofs.Staged.{staged_objects}
+use Rattle.mg_volume.proofs.Stages.{changes_is, shape_then, stages_then}
+use Rattle.mg_volume.specs.Changes.{Changes}
 use Rattle.mg_volume.specs.StagesRows.{StagesRows}
 
 -- the objects but the one with a base
@@ -75,13 +77,7 @@ other-has : (gone : ObjectRow) (page : ℕ) (y : ℕ × ObjectRow) → 1 ≤ gon
 other-has gone page y some outside (inl same) inside = absurd (both_ways (is_page_in page gone) outside (ap (is_page_in page) (sym same) ∙ inside))
 other-has gone page y some outside (inr apart) inside =
     not_from_false (y.1.base == gone.base)
-    (ne_eqb y.1.base gone.base
-    (λ base.
-    let parts = and_parts (nat_le (page_of y.1) page) (nat_lt page (page_behind y.1)) inside in
-    let low = leb-true (page_of y.1) page parts.0 in
-    let high = ltb-true page (page_behind y.1) parts.1 in
-    let same : page_of y.1 ≡ page_of gone = ap (λ b. b / 4096) base in
-    ⊎_elim (λ before. omega arith) (λ behind. omega arith) apart))
+    (ne_eqb y.1.base gone.base (λ base. let same : page_of y.1 ≡ page_of gone = ap (λ b. b / 4096) base in ⊎_elim (λ before. grind (arith, nat_tests)) (λ behind. grind (arith, nat_tests)) apart))
 
 -- another page of another base is that of an object that lies apart
 apart-from : (gone row : ObjectRow) → row.base ≢ gone.base → IsOrApart gone row → (page_behind row ≤ page_of gone) ⊎ (page_behind gone ≤ page_of row)
@@ -108,55 +104,19 @@ objects-kept r r' frames table table' gone (y ∷ os) kept apart same =
 -- no object with a base is left
 none-left : (base : ℕ) (os : List (ℕ × ObjectRow)) → has_base base (map (λ (o : ℕ × ObjectRow). o.1) (without base os)) ≡ false
 none-left base [] = refl
-none-left base (o ∷ os) =
-    ⊎_elim
-    (λ t. ap (λ b. has_base base (map (λ (o : ℕ × ObjectRow). o.1) (if not b then o ∷ without base os else without base os))) t ∙ none-left base os)
-    (λ n.
-    ap (λ b. has_base base (map (λ (o : ℕ × ObjectRow). o.1) (if not b then o ∷ without base os else without base os))) n
-    ∙ ap (λ b. b || has_base base (map (λ (o : ℕ × ObjectRow). o.1) (without base os))) n
-    ∙ none-left base os)
-    (cases_Bool (o.1.base == base))
-
--- one that is there is found
-found-there : (q : ObjectRow → Bool) (os : List (ℕ × ObjectRow)) → list_any q (map (λ (o : ℕ × ObjectRow). o.1) os) ≡ true → (x : ℕ × ObjectRow) × (find (λ (o : ℕ × ObjectRow). q o.1) os ≡ Some x)
-found-there q [] any = absurd (both_ways false refl any)
-found-there q (o ∷ os) any =
-    ⊎_elim
-    (λ here. (o, ap (λ b. if b then Some o else find (λ (o : ℕ × ObjectRow). q o.1) os) here))
-    (λ elsewhere.
-    let rest = found-there q os elsewhere in
-    ⊎_elim
-    (λ t. (o, ap (λ b. if b then Some o else find (λ (o : ℕ × ObjectRow). q o.1) os) t))
-    (λ n. (rest.0, ap (λ b. if b then Some o else find (λ (o : ℕ × ObjectRow). q o.1) os) n ∙ rest.1))
-    (cases_Bool (q o.1)))
-    (or_cases (q o.1) (list_any q (map (λ (o : ℕ × ObjectRow). o.1) os)) any)
-
-place-found : (found : Option (ℕ × ObjectRow)) (x : ℕ × ObjectRow) (free : ℕ) → found ≡ Some x → option_map_or (λ (o : ℕ × ObjectRow). o.0) found free ≡ x.0
-place-found found x free is = ap (λ (o : Option (ℕ × ObjectRow)). option_map_or (λ (o : ℕ × ObjectRow). o.0) o free) is
-
--- one call after the other stages no more than both
-pub stages_then : (a b : ℕ) (old middle new : Pages) → pages.StagesMore a old middle → pages.StagesMore b middle new → pages.StagesMore (a + b) old new
-stages_then a b old middle new first second = record {
-  least = (let x = first.least in let y = second.least in omega arith);
-  staged = (let x = first.staged in let y = second.staged in omega arith);
-  still = λ block is. second.still block (first.still block is);
-}
-
-pub shape_then : (old middle new : Pages) → pages.SameShape old middle → pages.SameShape middle new → pages.SameShape old new
-shape_then old middle new first second = record { total = second.total ∙ first.total; frames = second.frames ∙ first.frames; live = second.live ∙ first.live }
+none-left base (o ∷ os) = grind (arith, none-left base os)
 
 module _ (v : VolumeHeld) (i : ℕ) (gone : ℕ × ObjectRow) (os : List (ℕ × ObjectRow)) (g : Goes v i gone os) where
   stays : ℕ × ObjectRow → Bool
   stays o = not (o.1.base == gone.1.base)
 
   -- it is kept as before
-  pub held_without : (middle p : Pages) → IsKept v → pages.frame_count p ≡ pages.frame_count v.pages → pages.table_in middle ≡ pages.table_in v.pages
-      → pages.Unbinds (page_of gone.1) gone.1.pages middle p → IsKept (with_objects v os p)
+  pub held_without : (middle p : Pages) → IsKept v → StagesRows os gone.0 v.pages middle → pages.frame_count p ≡ pages.frame_count middle → pages.Unbinds (page_of gone.1) gone.1.pages middle p → IsKept (with_objects v os p)
   unfolding objects_in stays
-  held_without middle p kept frames table unbinds =
+  held_without middle p kept staged frames unbinds =
       subst (λ (l : List (ℕ × ObjectRow)). IsKept (with_objects v l p)) (sym g.rest)
       (record {
-        frames = frames ∙ kept.frames;
+        frames = frames ∙ staged.block.shape.frames ∙ kept.frames;
         rows = All-filter stays (λ (o : ℕ × ObjectRow). IsObjectRow o.1) v.objects kept.rows;
         places = All-filter stays (λ (o : ℕ × ObjectRow). o.0 < object_limit) v.objects kept.places;
         apart = pairs_apart (without gone.1.base v.objects) (AllPairs-filter LiesBefore stays v.objects (apart_pairs v.objects kept.apart));
@@ -170,7 +130,7 @@ module _ (v : VolumeHeld) (i : ℕ) (gone : ℕ × ObjectRow) (os : List (ℕ ×
     where
       has : (page : ℕ) → page ≢ 0 → list_any (λ entry. entry == page) (pages.table_in p) ≡ true → has_page (with_objects v (without gone.1.base v.objects) p) page ≡ true
       has page some bound =
-          let was : pages.is_bound v.pages page ≡ true = ap (λ t. list_any (λ entry. entry == page) t) (sym table) ∙ unbinds.outside page some bound in
+          let was : pages.is_bound v.pages page ≡ true = ap (λ t. list_any (λ entry. entry == page) t) (sym staged.block.table) ∙ unbinds.outside page some bound in
           let had : has_page v page ≡ true = each-bound (λ page. has_page v page) page (pages.table_in v.pages) kept.inside some was in
           let outside : is_page_in page gone.1 ≡ false =
           ⊎_elim
@@ -184,44 +144,35 @@ module _ (v : VolumeHeld) (i : ℕ) (gone : ℕ × ObjectRow) (os : List (ℕ ×
           had
 
   -- the rows
-  pub rows_without : (p : Pages) → objects_in (with_objects v os p) ≡ without_row gone.1.base (objects_in v)
+  rows_without : (p : Pages) → objects_in (with_objects v os p) ≡ without_row gone.1.base (objects_in v)
   unfolding objects_in
   rows_without p = ap (map (λ (o : ℕ × ObjectRow). o.1)) g.rest ∙ filter_mapped (λ (o : ℕ × ObjectRow). o.1) (λ (row : ObjectRow). not (row.base == gone.1.base)) v.objects
 
   -- the rows that are left, and no other, are spelled
-  spelled-middle : (middle : Pages) (image : Image) → Spelled v image → pages.IsSpelledBy middle image → pages.frame_count middle ≡ pages.frame_count v.pages → StagesRows os gone.0 v.pages middle → Spelled (with_objects v os middle) image
-  spelled-middle middle image s fitting frames staged =
+  spelled-middle : (middle : Pages) (image : Image) → Spelled v image → StagesRows os gone.0 v.pages middle → Spelled (with_objects v os middle) image
+  spelled-middle middle image s staged =
       let place = gone.0 in
-      let below = g.place in
       let placed = placed_of v image s in
       let order : by_base (row_set place None s.objects) ≡ os =
       ap by_base (row_set_none 0 object_limit place s.objects placed)
       ∙ filter_order (λ (y : ℕ × ObjectRow). not (y.0 == place)) s.objects
       ∙ ap (filter (λ (y : ℕ × ObjectRow). not (y.0 == place))) s.ordered
       ∙ sym (g.removed ∙ remove_is (λ (y : ℕ × ObjectRow). y.0) place v.objects i gone (distinct_of v image s) g.within (ap (λ (x : ℕ × ObjectRow). x.0) (sym g.at))) in
-      objects_staged v middle image (place / 4) staged.bytes (row_set place None s.objects) os s fitting frames (staged.coming image) (omega arith) (set_placed 0 object_limit place None s.objects placed (omega arith) below) order staged.rows
+      objects_staged v middle image place (row_set place None s.objects) os s staged g.place (set_placed 0 object_limit place None s.objects placed (omega arith) g.place) order
       (λ j other. set_other j place None s.objects (λ is. other (ap (λ k. k / 4) is)))
 
-  pub spelled_without : (middle p : Pages) (image : Image) → IsSpelledBy v image → pages.IsSpelledBy middle image → pages.frame_count middle ≡ pages.frame_count v.pages → StagesRows os gone.0 v.pages middle
-      → pages.IsSpelledBy p image → pages.frame_count p ≡ pages.frame_count middle → pages.Releases middle p image (page_of gone.1) gone.1.pages → IsSpelledBy (with_objects v os p) image
-  unfolding IsSpelledBy
-  spelled_without middle p image is fitting frames staged fitting' frames' released = spelled_same (with_objects v os middle) p image (spelled-middle middle image is fitting frames staged) fitting' frames' released.rows
-
   -- the state without the object
-  pub now_without : (middle p : Pages) (image : Image) → IsKept v → pages.frame_count middle ≡ pages.frame_count v.pages → pages.table_in middle ≡ pages.table_in v.pages → StagesRows os gone.0 v.pages middle
-      → pages.frame_count p ≡ pages.frame_count middle → pages.Releases middle p image (page_of gone.1) gone.1.pages
+  now_without : (middle p : Pages) (image : Image) → IsKept v → StagesRows os gone.0 v.pages middle → pages.frame_count p ≡ pages.frame_count middle → pages.Releases middle p image (page_of gone.1) gone.1.pages
       → now_of (with_objects v os p) image ≡ record (now_of v image) { objects = without_object gone.1.base (now_of v image).objects }
   unfolding now_of threads_in stays
-  now_without middle p image kept frames table staged frames' released =
+  now_without middle p image kept staged frames' released =
       let below = g.place in
       let r = pages.coming v.pages image in
       let t = pages.table_in v.pages in
       let n = v.settings.frames in
       ap (λ objects. record (now_of v image) { objects = objects })
       (objects-kept (pages.coming middle image) (pages.coming p image) n (pages.table_in middle) (pages.table_in p) gone.1 os rows_left apart_left words
-      ∙ ap (λ table. all_spelled (pages.coming middle image) n table os) table
-      ∙ ap (λ (coming : Image). all_spelled coming n t os) (staged.coming image)
-      ∙ objects_apart r (first_object_block + gone.0 / 4) staged.bytes n t os (omega arith)
+      ∙ staged_objects (with_objects v os v.pages) middle image (first_object_block + gone.0 / 4) staged.bytes (omega arith) staged.block.table (staged.block.coming image)
       ∙ ap (all_spelled r n t) g.rest
       ∙ filter_mapped (λ (o : ℕ × ObjectRow). object_spelled r n t o.1) (λ (object : Object). not (object.row.base == gone.1.base)) v.objects)
     where
@@ -238,9 +189,9 @@ module _ (v : VolumeHeld) (i : ℕ) (gone : ℕ × ObjectRow) (os : List (ℕ ×
       words : (page : ℕ) → page ≢ 0 → (page < page_of gone.1) ⊎ (page_behind gone.1 ≤ page)
           → page_words (pages.coming p image) v.settings.frames (pages.table_in p) page ≡ page_words (pages.coming middle image) v.settings.frames (pages.table_in middle) page
       words page some outside =
-          ap (λ n. page_words (pages.coming p image) n (pages.table_in p) page) (sym (frames' ∙ frames ∙ kept.frames))
+          ap (λ n. page_words (pages.coming p image) n (pages.table_in p) page) (sym (frames' ∙ staged.block.shape.frames ∙ kept.frames))
           ∙ released.outside page some outside
-          ∙ ap (λ n. page_words (pages.coming middle image) n (pages.table_in middle) page) (frames ∙ kept.frames)
+          ∙ ap (λ n. page_words (pages.coming middle image) n (pages.table_in middle) page) (staged.block.shape.frames ∙ kept.frames)
 
   -- the other objects have the places that they had
   place-same : (base : ℕ) (p : Pages) → has_base base (objects_in v) ≡ true → has_base base (objects_in (with_objects v os p)) ≡ true → place_for base os ≡ place_for base v.objects
@@ -248,14 +199,23 @@ module _ (v : VolumeHeld) (i : ℕ) (gone : ℕ × ObjectRow) (os : List (ℕ ×
   place-same base p there here =
       let other : base ≢ gone.1.base = λ same.
       both_ways (has_base base (map (λ (o : ℕ × ObjectRow). o.1) os)) (ap (λ l. has_base base (map (λ (o : ℕ × ObjectRow). o.1) l)) g.rest ∙ ap (λ b. has_base base (map (λ (o : ℕ × ObjectRow). o.1) (without b v.objects))) (sym same) ∙ none-left base v.objects) here in
-      let found = found-there (λ (row : ObjectRow). row.base == base) v.objects there in
-      let still : find (λ (o : ℕ × ObjectRow). o.1.base == base) os ≡ Some found.0 =
-      ap (find (λ (o : ℕ × ObjectRow). o.1.base == base)) g.rest
+      let found = base_found base v.objects there in
+      let still : with_base base os ≡ Some found.0 =
+      ap (with_base base) g.rest
       ∙ find_kept (λ (o : ℕ × ObjectRow). o.1.base == base) (λ (o : ℕ × ObjectRow). not (o.1.base == gone.1.base))
       (λ x is. not_from_false (x.1.base == gone.1.base) (ne_eqb x.1.base gone.1.base (λ same. other (sym (eqb-true x.1.base base is) ∙ same)))) v.objects
       ∙ found.1 in
-      place-found (find (λ (o : ℕ × ObjectRow). o.1.base == base) os) found.0 (free_place os) still
-      ∙ sym (place-found (find (λ (o : ℕ × ObjectRow). o.1.base == base) v.objects) found.0 (free_place v.objects) found.1)
+      place_found base os found.0 still ∙ sym (place_found base v.objects found.0 found.1)
 
-  pub still_without : (p : Pages) (most : ℕ) → pages.StagesMore most v.pages p → ObjectsStillStaged v (with_objects v os p)
-  still_without p most more = objects_still v (with_objects v os p) more.still (λ base there here. place-same base p there here)
+  -- all of it
+  pub without_changes : (middle p : Pages) → IsKept v → StagesRows os gone.0 v.pages middle → pages.SameShape middle p → pages.words_in p ≡ pages.words_in middle → pages.StagesMore 128 middle p
+      → ((image : Image) → pages.IsSpelledBy middle image → pages.IsSpelledBy p image) → ((image : Image) → pages.Releases middle p image (page_of gone.1) gone.1.pages)
+      → Changes 129 (λ state. record state { objects = without_object gone.1.base state.objects }) (without_row gone.1.base) v (with_objects v os p)
+  unfolding IsSpelledBy
+  without_changes middle p kept staged shape words more spelled released =
+      let w = with_objects v os p in
+      let all = stages_then 1 128 v.pages middle p staged.block.staged more in
+      changes_is v w 129 (λ state. record state { objects = without_object gone.1.base state.objects }) (without_row gone.1.base) refl (shape_then v.pages middle p staged.block.shape shape) (words ∙ staged.block.words) all
+      (λ image is. let s = spelled-middle middle image is staged in spelled_same (with_objects v os middle) p image s (spelled image s.fitting) shape.frames (released image).rows)
+      (λ image. now_without middle p image kept staged shape.frames (released image)) (rows_without p)
+      (objects_still v w all.still (λ base there here. place-same base p there here))

@@ -1,9 +1,11 @@
 -- A volume is opened from the rows that were read of it.
-use Rattle.std.specs.Prelude.{◌≡◌, ◌≤◌, ◌<◌, ◌+◌, ℕ, ◌&&◌, ◌==◌, nat_le, true, List, [], ◌∷◌, length, map, sum_by, drop, IsSomeAnd, Option, Some, None}
+use Rattle.std.proofs.lemmas.List.{length-map}
+use Rattle.std.proofs.lemmas.Bool.Decides.{nat_tests}
+use Rattle.std.specs.Prelude.{◌≡◌, ◌≤◌, ◌<◌, ◌+◌, ℕ, ◌&&◌, true, List, [], ◌∷◌, length, map, sum_by, drop, IsSomeAnd, Option, Some, None}
 use Rattle.std.specs.List.{list_all, list_any}
 use Rattle.std.specs.Option.{ForSome, option_map_or}
 use Rattle.std.proofs.Common.{refl, sym, ap, subst, ◌∙◌, arith}
-use Rattle.std.proofs.lemmas.Bool.{and_from, and_parts, eqb-true, leb-true}
+use Rattle.std.proofs.lemmas.Bool.{and_from}
 use Rattle.mg_check.specs.RowsRead.{AreKept, IsReadAs, live_from, objects_of, rows_in, state_in}
 use Rattle.mg_check.specs.declared.volume_rows.VolumeRows.{VolumeRows}
 use Rattle.mg_disk.specs.Disk.{Image}
@@ -18,13 +20,13 @@ use Rattle.mg_model.specs.declared.accounts.AccRow.{AccRow}
 use Rattle.mg_model.specs.Abbreviations.{account_row_bytes, object_row_bytes, table_of, thread_row_bytes}
 use Rattle.mg_model.specs.Bytes.{are_zeros}
 use Rattle.mg_model.specs.Layout.{globals_block, total_blocks}
-use Rattle.mg_model.specs.Limits.{debt_limit, account_limit, thread_limit, object_limit}
+use Rattle.mg_model.specs.Limits.{account_limit, thread_limit, object_limit}
 use Rattle.mg_model.specs.Ranges.{IsObjectRow}
 use Rattle.mg_model.specs.Replay.{block_of, replay}
 use Rattle.mg_model.specs.Spelling.{account_read, globals_read, object_read, thread_read}
 use Rattle.mg_model.specs.State.{Object, ObjectRow, State, ThreadRow}
 use Rattle.mg_model.specs.Tests.{all_distinct}
-use Rattle.mg_model.specs.Volume.{Rows, accounts_fit, bound_pages, has_no_gap, is_page_of, live_rows, objects_fit, replayed_volume, state_fits, threads_fit, volume, whole_table}
+use Rattle.mg_model.specs.Volume.{Rows, accounts_fit, bound_pages, is_page_of, live_rows, objects_fit, replayed_volume, state_fits, threads_fit, volume, whole_table}
 use Rattle.mg_objects.specs.Held as held
 use Rattle.mg_objects.specs.Held.{AreApart, by_base}
 use Rattle.mg_pages.specs.declared.pages.Pages.{Pages}
@@ -72,42 +74,19 @@ pub record AreFit (rows : Rows) (state : State) : Type 0 where
   pub distinct : all_distinct (bound_pages rows.table) ≡ true
 
 are-fit : (rows : Rows) (state : State) → state_fits rows state ≡ true → AreFit rows state
-are-fit rows state fit =
-    let g = has_no_gap 0 rows.accounts in
-    let a = accounts_fit state.settings.credits state.counters.period state.accounts in
-    let o = objects_fit state.settings.frames (length state.accounts) state.objects in
-    let t = threads_fit state.counters.births state.threads in
-    let i = list_all (λ page. list_any (λ object. is_page_of page object) state.objects) (bound_pages rows.table) in
-    let d = all_distinct (bound_pages rows.table) in
-    let first = and_parts (g && a && o && t) (i && d) fit in
-    let second = and_parts (g && a && o) t first.0 in
-    let third = and_parts (g && a) o second.0 in
-    let fourth = and_parts g a third.0 in
-    let last = and_parts i d first.1 in
-    record { accounts = fourth.1; objects = third.1; threads = second.1; inside = last.0; distinct = last.1 }
+are-fit rows state fit = record { accounts = grind (arith, fit); objects = grind (arith, fit); threads = grind (arith, fit); inside = grind (arith, fit); distinct = grind (arith, fit) }
 
 -- what the accounts have together
 accounts-sum : (credits period : ℕ) (accounts : List AccRow) → accounts_fit credits period accounts ≡ true → sum_by (λ (row : AccRow). row.balance) accounts ≡ credits
-accounts-sum credits period accounts fit =
-    let some = nat_le 1 (length accounts) in
-    let sum = sum_by (λ (row : AccRow). row.balance) accounts == credits in
-    let parts = and_parts (some && sum) (list_all (λ (row : AccRow). nat_le row.owed (debt_limit period)) accounts) fit in
-    eqb-true (sum_by (λ (row : AccRow). row.balance) accounts) credits (and_parts some sum parts.0).1
+accounts-sum credits period accounts fit = grind (arith, nat_tests, fit)
 
 -- there is a treasury
 accounts-some : (credits period : ℕ) (accounts : List AccRow) → accounts_fit credits period accounts ≡ true → 1 ≤ length accounts
-accounts-some credits period accounts fit =
-    let some = nat_le 1 (length accounts) in
-    let sum = sum_by (λ (row : AccRow). row.balance) accounts == credits in
-    leb-true 1 (length accounts) (and_parts some sum (and_parts (some && sum) (list_all (λ (row : AccRow). nat_le row.owed (debt_limit period)) accounts) fit).0).0
+accounts-some credits period accounts fit = grind (arith, nat_tests, fit)
 
 by-base-length : (rows : List (ℕ × ObjectRow)) → length (by_base rows) ≡ length rows
 by-base-length [] = refl
 by-base-length (o ∷ rows) = let l = into_length o (by_base rows) in let r = by-base-length rows in omega arith
-
-length-numbered : (rows : List (ℕ × ThreadRow)) → length (numbered rows) ≡ length rows
-length-numbered [] = refl
-length-numbered (t ∷ rows) = let l = length-numbered rows in omega arith
 
 module _ (rows : VolumeRows) (kept : AreKept rows) where
   pub fits : (r : Image) → AreFit (rows_in rows) (state_in rows r)
@@ -131,20 +110,10 @@ module _ (rows : VolumeRows) (kept : AreKept rows) where
       ∙ (fits []).objects
 
   apart-rows : rows_apart (map (λ (o : ℕ × ObjectRow). o.1) (by_base (objects_of rows))) ≡ true
-  apart-rows =
-      let bare = map (λ (o : ℕ × ObjectRow). o.1) (by_base (objects_of rows)) in
-      let paid = list_all (λ (row : ObjectRow). nat_le row.account (length rows.accounts.items)) bare in
-      let few = nat_le (sum_by (λ (row : ObjectRow). row.pages) bare) rows.params.frames in
-      (and_parts (rows_apart bare) paid (and_parts (rows_apart bare && paid) few fit-rows).0).0
+  apart-rows = grind (arith, fit-rows)
 
   used-rows : sum_by (λ (o : ℕ × ObjectRow). o.1.pages) (by_base (objects_of rows)) ≤ rows.params.frames
-  used-rows =
-      let bare = map (λ (o : ℕ × ObjectRow). o.1) (by_base (objects_of rows)) in
-      let paid = list_all (λ (row : ObjectRow). nat_le row.account (length rows.accounts.items)) bare in
-      let few = nat_le (sum_by (λ (row : ObjectRow). row.pages) bare) rows.params.frames in
-      let sum = sum_bare (λ (row : ObjectRow). row.pages) (by_base (objects_of rows)) in
-      let most = leb-true (sum_by (λ (row : ObjectRow). row.pages) bare) rows.params.frames (and_parts (rows_apart bare && paid) few fit-rows).1 in
-      omega arith
+  used-rows = let sum = sum_bare (λ (row : ObjectRow). row.pages) (by_base (objects_of rows)) in grind (arith, nat_tests, fit-rows)
 
   accounts-there : 1 ≤ length rows.accounts.items
   accounts-there =
@@ -203,7 +172,7 @@ module _ (rows : VolumeRows) (kept : AreKept rows) where
     }
       where
         few-threads : length (numbered rows.threads.items) ≤ thread_limit
-        few-threads = (let few = kept.held.threads.few in let same : length (numbered rows.threads.items) ≡ length rows.threads.items = length-numbered rows.threads.items in omega arith)
+        few-threads = (let few = kept.held.threads.few in let same : length (numbered rows.threads.items) ≡ length rows.threads.items = length-map {B = ℕ × ThreadRow} rows.threads.items (λ (t : ℕ × ThreadRow). (t.0 + 1, t.1)) in omega arith)
 
         inside : list_all (λ page. has_page (holding rows p) page) (bound_pages (pages.table_in p)) ≡ true
         inside =

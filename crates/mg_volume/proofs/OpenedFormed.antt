@@ -1,4 +1,5 @@
 -- A volume with nothing staged is well formed, where it is sound and its disk gives bytes.
+use Rattle.mg_volume.proofs.ObjectRemoved.{LiesBefore, apart_pairs}
 use Rattle.std.specs.Prelude.{◌≡◌, ◌≢◌, ◌+◌, ◌*◌, ◌^◌, ◌≤◌, ◌<◌, ◌==◌, ◌&&◌, nat_le, ℕ, zero, suc, true, false, All, AllPairs, List, [], ◌∷◌, find, if◌then◌else◌, length, map, sum_by, Some, None}
 use Rattle.std.specs.List.{list_all}
 use Rattle.std.specs.Option.{option_map_or}
@@ -13,7 +14,7 @@ use Rattle.mg_model.specs.Abbreviations.{thread_row_bytes}
 use Rattle.mg_model.specs.Bank.{used}
 use Rattle.mg_model.specs.KeptListLemmas.{All-both, All-change, All-unmap, AllPairs-change, AllPairs-head, AllPairs-nil, AllPairs-tail}
 use Rattle.mg_model.specs.Limits.{thread_limit}
-use Rattle.mg_model.specs.Objects.{page_behind, page_of}
+use Rattle.mg_model.specs.Objects.{page_of}
 use Rattle.mg_model.specs.Ranges.{IsCounters, IsObjectRow, IsThreadRow, IsWord}
 use Rattle.mg_model.specs.Spelling.{thread_read}
 use Rattle.mg_model.specs.State.{Object, ObjectRow, Thread, ThreadRow}
@@ -28,26 +29,9 @@ use Rattle.mg_volume.proofs.Found.{as_thread}
 use Rattle.mg_volume.proofs.ImageBytes.{pages-words, replay-bytes}
 use Rattle.mg_volume.specs.Held.{VolumeHeld}
 use Rattle.mg_volume.specs.Numbered.{numbered}
-use Rattle.mg_volume.specs.Meaning.{IsKept, IsSpelledBy, Spelled, is_sound, now_of, staged_of, threads_in}
+use Rattle.mg_volume.specs.Meaning.{IsKept, IsSpelledBy, Spelled, is_sound, now_of, staged_of, threads_in, objects_in, rows_apart}
 use Rattle.mg_volume.specs.RowLists.{ArePlaced, told}
 use Rattle.mg_volume.specs.Sound.{all_spelled}
-
--- objects of which each lies before the next lie before all later ones
-apart-behind : (object next : Object) (objects : List Object) → are_apart (object ∷ next ∷ objects) ≡ true → are_apart (next ∷ objects) ≡ true
-apart-behind object next objects apart = (and_parts (nat_le (page_behind object.row) (page_of next.row)) (are_apart (next ∷ objects)) apart).1
-
-before-all : (object : Object) (objects : List Object) → are_apart (object ∷ objects) ≡ true → All (IsBefore object) objects
-before-all object [] apart = All-nil (IsBefore object)
-before-all object (next ∷ objects) apart =
-    let here = leb-true (page_behind object.row) (page_of next.row) (and_parts (nat_le (page_behind object.row) (page_of next.row)) (are_apart (next ∷ objects)) apart).0 in
-    All-cons (IsBefore object) next objects here
-    (All-weaker (IsBefore next) (IsBefore object) (λ later more. omega arith) objects (before-all next objects (apart-behind object next objects apart)))
-
-apart-all : (objects : List Object) → are_apart objects ≡ true → AllPairs IsBefore objects
-apart-all [] apart = AllPairs-nil IsBefore
-apart-all (object ∷ []) apart = AllPairs-cons IsBefore object [] (All-nil (IsBefore object)) (AllPairs-nil IsBefore)
-apart-all (object ∷ next ∷ objects) apart =
-    AllPairs-cons IsBefore object (next ∷ objects) (before-all object (next ∷ objects) apart) (apart-all (next ∷ objects) (apart-behind object next objects apart))
 
 length-pages : (r : Image) (frames : ℕ) (table : List ℕ) (page n : ℕ) → length (pages_words r frames table page n) ≡ 512 * n
 length-pages r frames table page zero = refl
@@ -57,9 +41,9 @@ length-pages r frames table page (suc n) =
     let whole = length-append (page_words r frames table page) (pages_words r frames table (page + 1) n) in
     omega arith
 
-objects-formed : (r : Image) (frames : ℕ) (table : List ℕ) (accounts : ℕ) (os : List (ℕ × ObjectRow)) → AreBytes r → All (λ (o : ℕ × ObjectRow). IsObjectRow o.1) os → length os ≤ 4096
+objects-formed : (r : Image) (frames : ℕ) (table : List ℕ) (accounts : ℕ) (os : List (ℕ × ObjectRow)) → AreBytes r → All (λ (o : ℕ × ObjectRow). IsObjectRow o.1) os → rows_apart (map (λ (o : ℕ × ObjectRow). o.1) os) ≡ true → length os ≤ 4096
     → objects_fit frames accounts (all_spelled r frames table os) ≡ true → AreObjects frames accounts (all_spelled r frames table os)
-objects-formed r frames table accounts os bytes rows few fit =
+objects-formed r frames table accounts os bytes rows apart few fit =
     let objects = all_spelled r frames table os in
     let parts = and_parts (are_apart objects && list_all (λ (object : Object). nat_le object.row.account accounts) objects) (nat_le (used objects) frames) fit in
     let rules = and_parts (are_apart objects) (list_all (λ (object : Object). nat_le object.row.account accounts) objects) parts.0 in
@@ -67,7 +51,7 @@ objects-formed r frames table accounts os bytes rows few fit =
       few = let long = length-map os (λ (o : ℕ × ObjectRow). object_spelled r frames table o.1) in omega arith;
       each = All-change (λ (o : ℕ × ObjectRow). IsObjectRow o.1) IsObject (λ (o : ℕ × ObjectRow). object_spelled r frames table o.1)
           (λ o is. record { row = is; long = length-pages r frames table (page_of o.1) o.1.pages; words = pages-words r frames table (page_of o.1) o.1.pages bytes }) os rows;
-      apart = apart-all objects rules.0;
+      apart = AllPairs-change LiesBefore IsBefore (λ (o : ℕ × ObjectRow). object_spelled r frames table o.1) (λ x y before. before) os (apart_pairs os apart);
       paid = list_all-tells (λ (object : Object). nat_le object.row.account accounts) (λ (object : Object). object.row.account ≤ accounts) (λ object is. leb-true object.row.account accounts is) objects rules.1;
       fit = leb-true (used objects) frames parts.1;
     }
@@ -155,7 +139,7 @@ placed v image s =
 
 pub opened_formed : (v : VolumeHeld) (image : Image) → IsKept v → IsSettings v.settings → IsCounters v.counters → All (λ (row : AccRow). IsWord row.password) v.accounts → All (λ (t : ℕ × ThreadRow). IsThreadRow t.1) v.threads
     → AreBytes image → IsSpelledBy v image → staged_of v ≡ 0 → is_sound (now_of v image) ≡ true → IsWellFormed (now_of v image)
-unfolding now_of threads_in staged_of
+unfolding now_of threads_in staged_of objects_in
 opened_formed v image kept settings counters words threads bytes is none sound =
     let s = spelled v image is in
     let r = pages.coming v.pages image in
@@ -171,7 +155,7 @@ opened_formed v image kept settings counters words threads bytes is none sound =
     record {
       settings = settings;
       counters = counters;
-      objects = objects-formed r frames (pages.table_in v.pages) (length v.accounts) v.objects (replay-bytes image r (pages.total_of v.pages) bytes (laws.coming_still v.pages image s.fitting none)) kept.rows kept.few_objects rules.1;
+      objects = objects-formed r frames (pages.table_in v.pages) (length v.accounts) v.objects (replay-bytes image r (pages.total_of v.pages) bytes (laws.coming_still v.pages image s.fitting none)) kept.rows kept.apart kept.few_objects rules.1;
       accounts = accounts-formed v.settings.credits v.counters.period v.accounts words kept.few_accounts rules.0;
       threads = threads-formed v.counters.births v.threads (placed v image s) threads parts.1;
       first = first-found (threads_in v) first.0;

@@ -1,24 +1,26 @@
 -- What a call of the pages does to the volume.
-use Rattle.std.specs.Prelude.{◌≡◌, ◌≢◌, ◌⊎◌, ◌+◌, ◌*◌, ◌%◌, ◌^◌, ◌<◌, ◌==◌, nat_le, nat_lt, ℕ, Bool, true, false, not, All, List, [], ◌∷◌, if◌then◌else◌, map, slice_index, slice_set, OnErr, OnOk, Result, Ok, Err}
+use Rattle.mg_model.specs.Limits.{thread_limit}
+use Rattle.std.proofs.lemmas.Bool.Decides.{nat_tests}
+use Rattle.std.specs.Prelude.{◌≡◌, ◌≢◌, ◌⊎◌, ◌+◌, ◌*◌, ◌%◌, ◌^◌, ◌<◌, ◌==◌, ℕ, Bool, true, false, All, List, [], ◌∷◌, map, slice_index, slice_set, OnErr, OnOk, Result, Ok, Err, length, ◌≤◌}
 use Rattle.std.specs.List.{list_all, list_any}
 use Rattle.std.specs.Option.{ForSome}
 use Rattle.std.proofs.Common.{refl, sym, ap, ◌∙◌, ⊎_elim, inr, arith}
-use Rattle.std.proofs.lemmas.Bool.{and_from, and_parts, both_ways, cases_Bool, eq-eqb, eqb-true, leb-true, ne_eqb, or_cases, or_left, or_right}
+use Rattle.std.proofs.lemmas.Bool.{both_ways, or_right}
 use Rattle.std.proofs.lemmas.List.Elements.{All-head, All-tail}
 use Rattle.mg_disk.specs.Disk.{Image, block_at}
 use Rattle.mg_disk.specs.declared.disk.Disk.{Ghosts}
 use Rattle.mg_model.specs.Counts.{CountsAlike}
 use Rattle.mg_model.specs.Layout.{table_block}
-use Rattle.mg_model.specs.Objects.{page_behind, page_of, with_word, word_at}
+use Rattle.mg_model.specs.Objects.{with_word, word_at}
 use Rattle.mg_model.specs.Ranges.{IsObjectRow}
-use Rattle.mg_model.specs.State.{ObjectRow}
+use Rattle.mg_model.specs.State.{ObjectRow, Counters, ThreadRow}
 use Rattle.mg_model.specs.Volume.{bound_pages, page_words}
 use Rattle.mg_pages.specs.declared.pages.Pages.{Pages}
 use Rattle.mg_pages.specs.Meaning as pages
 use Rattle.mg_volume.proofs.FreeFrame.{free_frame}
 use Rattle.mg_volume.proofs.StandingPages.{with_pages}
 use Rattle.mg_volume.specs.Held.{VolumeHeld}
-use Rattle.mg_volume.specs.Meaning.{IsKept, Keeps, SameParts, accounts_in, counters_in, has_page, is_live, is_page_in, is_sound, now_of, objects_in, settings_in, staged_of, threads_in, total_of}
+use Rattle.mg_volume.specs.Meaning.{IsKept, Keeps, has_page, is_live, is_page_in, is_sound, now_of, objects_in, staged_of, threads_in, total_of}
 use Rattle.mg_volume.specs.PageWordLemmas.{objects-set, word-spelled}
 use Rattle.mg_volume.specs.Sound.{all_spelled, is_sound_held, sound_is}
 
@@ -26,10 +28,6 @@ use Rattle.mg_volume.specs.Sound.{all_spelled, is_sound_held, sound_is}
 pub same_objects : (v : VolumeHeld) (p : Pages) → objects_in (with_pages v p) ≡ objects_in v
 unfolding objects_in
 same_objects v p = refl
-
-pub same_parts : (v : VolumeHeld) (p : Pages) → SameParts v (with_pages v p)
-unfolding settings_in counters_in accounts_in threads_in
-same_parts v p = record { settings = refl; counters = refl; accounts = refl; threads = refl }
 
 pub same_sound : (v : VolumeHeld) (p : Pages) (image image' : Image) → is_sound (now_of (with_pages v p) image') ≡ is_sound (now_of v image)
 unfolding objects_in threads_in
@@ -41,14 +39,8 @@ same_sound v p image image' =
 page-some : (page : ℕ) (os : List (ℕ × ObjectRow)) → All (λ (o : ℕ × ObjectRow). IsObjectRow o.1) os → list_any (λ row. is_page_in page row) (map (λ (o : ℕ × ObjectRow). o.1) os) ≡ true → page ≢ 0
 page-some page [] kept has = absurd (both_ways false refl has)
 page-some page (o ∷ os) kept has =
-    ⊎_elim
-    (λ inside is.
-    let row = All-head (λ (o : ℕ × ObjectRow). IsObjectRow o.1) o os kept in
-    let low = row.place.low in
-    let above = leb-true (page_of o.1) page (and_parts (nat_le (page_of o.1) page) (nat_lt page (page_behind o.1)) inside).0 in
-    omega arith)
-    (λ rest. page-some page os (All-tail (λ (o : ℕ × ObjectRow). IsObjectRow o.1) o os kept) rest)
-    (or_cases (is_page_in page o.1) (list_any (λ row. is_page_in page row) (map (λ (o : ℕ × ObjectRow). o.1) os)) has)
+    let low = (All-head (λ (o : ℕ × ObjectRow). IsObjectRow o.1) o os kept).place.low in
+    grind (arith, nat_tests, low, has, page-some page os (All-tail (λ (o : ℕ × ObjectRow). IsObjectRow o.1) o os kept))
 
 pub some_page : (v : VolumeHeld) (page : ℕ) → IsKept v → has_page v page ≡ true → page ≢ 0
 unfolding objects_in
@@ -58,40 +50,20 @@ some_page v page kept has = page-some page v.objects kept.rows has
 pub each-bound : (q : ℕ → Bool) (x : ℕ) (table : List ℕ) → list_all q (bound_pages table) ≡ true → x ≢ 0 → list_any (λ entry. entry == x) table ≡ true → q x ≡ true
 each-bound q x [] all other is = absurd (both_ways false refl is)
 each-bound q x (entry ∷ table) all other is =
-    ⊎_elim here
-    (λ there.
-    each-bound q x table
-    (⊎_elim
-    (λ nil. sym (ap (λ b. list_all q (if not b then entry ∷ bound_pages table else bound_pages table)) nil) ∙ all)
-    (λ more. (and_parts (q entry) (list_all q (bound_pages table)) (sym (ap (λ b. list_all q (if not b then entry ∷ bound_pages table else bound_pages table)) more) ∙ all)).1)
-    (cases_Bool (entry == 0)))
-    other there)
-    (or_cases (entry == x) (list_any (λ entry. entry == x) table) is)
-  where
-    here : (entry == x) ≡ true → q x ≡ true
-    here t =
-        let e = eqb-true entry x t in
-        let some_entry : (entry == 0) ≡ false = ne_eqb entry 0 (λ nil. other (sym e ∙ nil)) in
-        let whole : list_all q (entry ∷ bound_pages table) ≡ true = sym (ap (λ b. list_all q (if not b then entry ∷ bound_pages table else bound_pages table)) some_entry) ∙ all in
-        ap q (sym e) ∙ (and_parts (q entry) (list_all q (bound_pages table)) whole).0
+    let rest : list_all q (bound_pages table) ≡ true → list_any (λ e. e == x) table ≡ true → q x ≡ true = λ more. each-bound q x table more other in
+    grind (arith, nat_tests, all, other, is)
 
 pub all-bound : (q : ℕ → Bool) (table : List ℕ) → ((x : ℕ) → x ≢ 0 → list_any (λ entry. entry == x) table ≡ true → q x ≡ true) → list_all q (bound_pages table) ≡ true
 all-bound q [] each = refl
 all-bound q (entry ∷ table) each =
     let rest : list_all q (bound_pages table) ≡ true = all-bound q table (λ x other is. each x other (or_right (entry == x) (list_any (λ e. e == x) table) is)) in
-    ⊎_elim
-    (λ nil. ap (λ b. list_all q (if not b then entry ∷ bound_pages table else bound_pages table)) nil ∙ rest)
-    (λ more.
-    ap (λ b. list_all q (if not b then entry ∷ bound_pages table else bound_pages table)) more
-    ∙ and_from (q entry) (list_all q (bound_pages table))
-    (each entry (λ is. both_ways (entry == 0) more (eq-eqb entry 0 is)) (or_left (entry == entry) (list_any (λ e. e == entry) table) (eq-eqb entry entry refl))) rest)
-    (cases_Bool (entry == 0))
+    grind (arith, nat_tests, rest, each entry)
 
--- the pages that are bound lie in objects still
-pub held_again : (v : VolumeHeld) (p : Pages) → IsKept v → pages.frame_count p ≡ pages.frame_count v.pages
-    → ((x : ℕ) → x ≢ 0 → pages.is_bound p x ≡ true → (has_page v x ≡ true) ⊎ (pages.is_bound v.pages x ≡ true)) → IsKept (with_pages v p)
+-- the pages that are bound lie in objects still, whatever the counters and the threads are now
+pub held_again : (v : VolumeHeld) (counters : Counters) (threads : List (ℕ × ThreadRow)) (p : Pages) → IsKept v → length threads ≤ thread_limit → pages.frame_count p ≡ pages.frame_count v.pages
+    → ((x : ℕ) → x ≢ 0 → pages.is_bound p x ≡ true → (has_page v x ≡ true) ⊎ (pages.is_bound v.pages x ≡ true)) → IsKept (record v { counters = counters; threads = threads; pages = p })
 unfolding objects_in
-held_again v p kept frames bound = record {
+held_again v counters threads p kept few frames bound = record {
   frames = frames ∙ kept.frames;
   rows = kept.rows;
   places = kept.places;
@@ -100,14 +72,14 @@ held_again v p kept frames bound = record {
   few_objects = kept.few_objects;
   some_accounts = kept.some_accounts;
   few_accounts = kept.few_accounts;
-  few_threads = kept.few_threads;
+  few_threads = few;
   inside = all-bound (λ page. has_page v page) (pages.table_in p) (λ x other is. ⊎_elim (λ has. has) (each-bound (λ page. has_page v page) x (pages.table_in v.pages) kept.inside other) (bound x other is));
 }
 
 -- where the table stays
-pub held_same : (v : VolumeHeld) (p : Pages) → IsKept v → pages.frame_count p ≡ pages.frame_count v.pages → pages.table_in p ≡ pages.table_in v.pages → IsKept (with_pages v p)
-held_same v p held frames table =
-    held_again v p held frames (λ x other is. inr (ap (λ t. list_any (λ entry. entry == x) t) (sym table) ∙ is))
+pub held_same : (v : VolumeHeld) (counters : Counters) (threads : List (ℕ × ThreadRow)) (p : Pages) → IsKept v → length threads ≤ thread_limit → pages.frame_count p ≡ pages.frame_count v.pages → pages.table_in p ≡ pages.table_in v.pages
+    → IsKept (record v { counters = counters; threads = threads; pages = p })
+held_same v counters threads p kept few frames table = held_again v counters threads p kept few frames (λ x other is. inr (ap (λ t. list_any (λ entry. entry == x) t) (sym table) ∙ is))
 
 -- a frame is free for a page of an object
 pub frame_free : (v : VolumeHeld) (page : ℕ) → IsKept v → pages.IsKept v.pages → has_page v page ≡ true → (pages.is_bound v.pages page ≡ true) ⊎ (pages.is_bound v.pages 0 ≡ true)

@@ -1,7 +1,8 @@
 -- One word more of a thread's block that is staged.
+use Rattle.mg_volume.proofs.Stages.{shape_then, stages_then}
 use Rattle.std.specs.Prelude.{◌≡◌, ◌+◌, ℕ, List, MatchOption, Option, slice_set}
 use Rattle.std.specs.List.{splice}
-use Rattle.std.proofs.Common.{ap, subst, ◌∙◌, arith}
+use Rattle.std.proofs.Common.{ap, subst, ◌∙◌}
 use Rattle.std.proofs.lemmas.List.{set-set}
 use Rattle.mg_model.specs.Bytes.{word_bytes}
 use Rattle.mg_model.specs.Spelling.{thread_bytes}
@@ -13,18 +14,12 @@ use Rattle.mg_volume.specs.Standing.{Respells}
 
 pub restages_then : (block : ℕ) (x y : List ℕ) (p q r : Pages) → pages.Restages block x p q → pages.Restages block y q r → pages.Restages block y p r
 restages_then block x y p q r first second =
-    let few = first.staged in
-    let more = second.staged in
     record {
       waits = second.waits;
       coming = λ image. second.coming image ∙ ap (λ i. slice_set i block y) (first.coming image) ∙ set-set (pages.coming p image) block x y;
       table = second.table ∙ first.table;
-      shape = record { total = second.shape.total ∙ first.shape.total; frames = second.shape.frames ∙ first.shape.frames; live = second.shape.live ∙ first.shape.live };
-      staged = record {
-        least = let a = few.least in let b = more.least in omega arith;
-        staged = let a = few.staged in let b = more.staged in omega arith;
-        still = λ k is. more.still k (few.still k is);
-      };
+      shape = shape_then p q r first.shape second.shape;
+      staged = stages_then 0 0 p q r first.staged second.staged;
       here = second.here;
       words = second.words ∙ first.words;
       spelled = λ image is. second.spelled image (first.spelled image is);

@@ -14,9 +14,8 @@ use Rattle.mg_pages.specs.Meaning as pages
 use Rattle.mg_rows.specs.Laws.{IsSpelledInOneWay}
 use Rattle.mg_rows.specs.ThreadParts.{with_word}
 use Rattle.mg_volume.proofs.Respelled.{restages_then}
-use Rattle.mg_volume.proofs.Staged.{counters_staged, with_counters}
 use Rattle.mg_volume.specs.Held.{VolumeHeld}
-use Rattle.mg_volume.specs.Meaning.{IsSpelledBy, Spelled}
+use Rattle.mg_volume.specs.Meaning.{Spelled}
 use Rattle.mg_volume.specs.Standing.{RespellsCounters}
 
 -- what stood in the block is staged there with a change
@@ -65,10 +64,8 @@ counters_respelled draws period cursor births g old new draws_is period_is curso
           ap (words_at draws period cursor births) (sym (told.waited image spelled) ∙ is) ∙ same_words (counters_at draws period cursor births) counters;
     })
 
--- the counters after their block was staged again
-pub counters_rewritten : (v : VolumeHeld) (p : Pages) (g : Counters) (image : Image) → RespellsCounters g v.pages p → IsSpelledInOneWay globals_read globals_bytes IsCounters → IsCounters g → IsSpelledBy v image → IsSpelledBy (with_counters v p g) image
-unfolding IsSpelledBy
-counters_rewritten v p g image told way range is =
-    let s : Spelled v image = is in
+-- the bytes of the counters, staged again, spell them
+pub counters_read : (v : VolumeHeld) (p : Pages) (g : Counters) (told : RespellsCounters g v.pages p) → IsSpelledInOneWay globals_read globals_bytes IsCounters → IsCounters g → (image : Image) → Spelled v image → globals_read told.bytes ≡ Some g
+counters_read v p g told way range image s =
     let bytes : told.bytes ≡ globals_bytes g = told.are image s.fitting v.counters (sym (way.same (block_of (pages.coming v.pages image) globals_block) v.counters s.counters_are)) in
-    counters_staged v p g told.bytes image is (told.restages.spelled image) told.restages.shape.frames (told.restages.coming image) (ap globals_read bytes ∙ way.written g range)
+    ap globals_read bytes ∙ way.written g range

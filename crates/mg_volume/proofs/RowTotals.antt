@@ -1,8 +1,8 @@
 -- Pages that meet no object as it is held meet no row.
+use Rattle.std.proofs.lemmas.Bool.Decides.{nat_tests}
 use Rattle.std.specs.Prelude.{◌≡◌, ◌+◌, ◌≤◌, ◌⊎◌, ◌||◌, ℕ, true, nat_le, All, List, [], ◌∷◌}
 use Rattle.std.specs.List.{list_all}
-use Rattle.std.proofs.Common.{refl, ⊎_elim}
-use Rattle.std.proofs.lemmas.Bool.{and_from, le-leb, or_left, or_right}
+use Rattle.std.proofs.Common.{refl, arith}
 use Rattle.std.proofs.lemmas.List.Elements.{All-head, All-tail}
 use Rattle.mg_model.specs.Objects.{page_behind, page_of}
 use Rattle.mg_model.specs.State.{ObjectRow}
@@ -13,7 +13,5 @@ pub apart-bare : (page n : ℕ) (objects : List (ℕ × ObjectRow)) → All (λ 
 apart-bare page n [] all = refl
 apart-bare page n (o ∷ objects) all =
     let P : ℕ × ObjectRow → Type 0 = λ o. (page + n ≤ page_of o.1) ⊎ (page_behind o.1 ≤ page) in
-    and_from (nat_le (page + n) (page_of o.1) || nat_le (page_behind o.1) page) (list_all (λ (other : ObjectRow). nat_le (page + n) (page_of other) || nat_le (page_behind other) page) (bare_rows objects))
-    (⊎_elim (λ before. or_left (nat_le (page + n) (page_of o.1)) (nat_le (page_behind o.1) page) (le-leb (page + n) (page_of o.1) before))
-    (λ behind. or_right (nat_le (page + n) (page_of o.1)) (nat_le (page_behind o.1) page) (le-leb (page_behind o.1) page behind)) (All-head P o objects all))
-    (apart-bare page n objects (All-tail P o objects all))
+    let here : (page + n ≤ page_of o.1) ⊎ (page_behind o.1 ≤ page) = All-head P o objects all in
+    grind (arith, nat_tests, apart-bare page n objects (All-tail P o objects all))

@@ -1,9 +1,9 @@
 -- Objects that lie apart, in the order of their bases.
-use Rattle.std.specs.Prelude.{◌≡◌, ◌≢◌, ◌≤◌, ◌<◌, ◌/◌, ◌⊎◌, ◌==◌, ◌&&◌, ◌||◌, nat_le, nat_lt, ℕ, true, false, All, List, [], ◌∷◌, find, if◌then◌else◌, IsSomeAnd, Some}
+use Rattle.std.proofs.lemmas.Bool.Decides.{nat_tests}
+use Rattle.std.specs.Prelude.{◌≡◌, ◌≢◌, ◌≤◌, ◌<◌, ◌/◌, ◌⊎◌, ◌==◌, ◌||◌, nat_le, nat_lt, ℕ, true, false, All, List, [], ◌∷◌, find, if◌then◌else◌, IsSomeAnd, Some}
 use Rattle.std.specs.List.{list_any}
-use Rattle.std.proofs.Common.{refl, sym, ap, subst, ◌∙◌, ⊎_elim, inl, inr, arith}
-use Rattle.std.proofs.Math.Bool.{and-false}
-use Rattle.std.proofs.lemmas.Bool.{and_from, and_parts, cases_Bool, cases_lt, le-leb, le-ltb, leb-true, lt-leb, lt-ltb, ltb-true, ne_eqb, or_cases, or_from, or_left, or_right}
+use Rattle.std.proofs.Common.{refl, ap, subst, ⊎_elim, inl, inr, arith}
+use Rattle.std.proofs.lemmas.Bool.{and_from, and_parts, cases_Bool, le-leb, leb-true, or_cases, or_left, or_right, cond_both}
 use Rattle.std.proofs.lemmas.List.Elements.{All-cons, All-head, All-map, All-nil, All-tail, All-weaker}
 use Rattle.mg_model.specs.Objects.{page_behind, page_of}
 use Rattle.mg_model.specs.Ranges.{IsObjectRow}
@@ -20,7 +20,7 @@ kept_rows v kept = All-map IsObjectRow (λ (o : ℕ × ObjectRow). o.1) v.object
 -- of the rows behind the first
 pub apart_tail : (row : ObjectRow) (rows : List ObjectRow) → rows_apart (row ∷ rows) ≡ true → rows_apart rows ≡ true
 apart_tail row [] apart = refl
-apart_tail row (next ∷ rows) apart = (and_parts (nat_le (page_behind row) (page_of next)) (rows_apart (next ∷ rows)) apart).1
+apart_tail row (next ∷ rows) apart = grind (arith, apart)
 
 -- the first lies before all of them
 pub apart_first : (row : ObjectRow) (rows : List ObjectRow) → rows_apart (row ∷ rows) ≡ true → All IsObjectRow rows → All (λ other. page_behind row ≤ page_of other) rows
@@ -39,11 +39,7 @@ apart_from row (next ∷ rows) before apart =
 
 -- a row that is put before the next one, or behind it
 pub new_row_cases : (F : List ObjectRow → Type 0) (new row : ObjectRow) (rows : List ObjectRow) → (new.base < row.base → F (new ∷ row ∷ rows)) → (row.base ≤ new.base → F (row ∷ with_new_row new rows)) → F (with_new_row new (row ∷ rows))
-new_row_cases F new row rows before behind =
-    ⊎_elim
-    (λ (low : new.base < row.base). subst F (sym (ap (λ b. if b then new ∷ row ∷ rows else row ∷ with_new_row new rows) (lt-ltb new.base row.base low))) (before low))
-    (λ high. subst F (sym (ap (λ b. if b then new ∷ row ∷ rows else row ∷ with_new_row new rows) (le-ltb new.base row.base high))) (behind high))
-    (cases_lt new.base row.base)
+new_row_cases F new row rows before behind = cond_both (nat_lt new.base row.base) (new ∷ row ∷ rows) (row ∷ with_new_row new rows) F (λ t. before (grind (arith, nat_tests, t))) (λ f. behind (grind (arith, nat_tests, f)))
 
 pub new_row_all : (P : ObjectRow → Type 0) (new : ObjectRow) (rows : List ObjectRow) → P new → All P rows → All P (with_new_row new rows)
 new_row_all P new [] here all = All-cons P new [] here all
@@ -57,9 +53,7 @@ module _ (new : ObjectRow) (is : IsObjectRow new) where
   other-apart row rows apart = and_parts (nat_le (page_behind new) (page_of row) || nat_le (page_behind row) (page_of new)) (is_apart_from rows new) apart
 
   before-or-behind : (row : ObjectRow) → (nat_le (page_behind new) (page_of row) || nat_le (page_behind row) (page_of new)) ≡ true → (page_behind new ≤ page_of row) ⊎ (page_behind row ≤ page_of new)
-  before-or-behind row apart =
-      ⊎_elim (λ before. inl (leb-true (page_behind new) (page_of row) before)) (λ behind. inr (leb-true (page_behind row) (page_of new) behind))
-      (or_cases (nat_le (page_behind new) (page_of row)) (nat_le (page_behind row) (page_of new)) apart)
+  before-or-behind row apart = ⊎_elim (λ before. inl (leb-true (page_behind new) (page_of row) before)) (λ behind. inr (leb-true (page_behind row) (page_of new) behind)) (or_cases (nat_le (page_behind new) (page_of row)) (nat_le (page_behind row) (page_of new)) apart)
 
   -- lies apart in the order of the bases too
   pub apart_with : (rows : List ObjectRow) → All IsObjectRow rows → is_apart_from rows new ≡ true → rows_apart rows ≡ true → rows_apart (with_new_row new rows) ≡ true
@@ -94,23 +88,12 @@ module _ (new : ObjectRow) (is : IsObjectRow new) where
   -- and pages of its own
   pub page_apart : (rows : List ObjectRow) (page : ℕ) → is_apart_from rows new ≡ true → is_page_in page new ≡ true → list_any (λ row. is_page_in page row) rows ≡ false
   page_apart [] page apart inside = refl
-  page_apart (row ∷ rows) page apart inside =
-      let parts = other-apart row rows apart in
-      let both = and_parts (nat_le (page_of new) page) (nat_lt page (page_behind new)) inside in
-      let low = leb-true (page_of new) page both.0 in
-      let high = ltb-true page (page_behind new) both.1 in
-      or_from (is_page_in page row) (list_any (λ row. is_page_in page row) rows)
-      (⊎_elim
-      (λ before. ap (λ b. b && nat_lt page (page_behind row)) (lt-leb (page_of row) page (omega arith)))
-      (λ behind. ap (λ b. nat_le (page_of row) page && b) (le-ltb page (page_behind row) (omega arith)) ∙ and-false (nat_le (page_of row) page))
-      (before-or-behind row parts.0))
-      (page_apart rows page parts.1 inside)
+  page_apart (row ∷ rows) page apart inside = grind (arith, nat_tests, apart, inside, page_apart rows page)
 
 -- where no row has a base
 pub no_base : (base : ℕ) (rows : List ObjectRow) → All (λ row. row.base ≢ base) rows → has_base base rows ≡ false
 no_base base [] none = refl
-no_base base (row ∷ rows) none =
-    or_from (row.base == base) (has_base base rows) (ne_eqb row.base base (All-head (λ row. row.base ≢ base) row rows none)) (no_base base rows (All-tail (λ row. row.base ≢ base) row rows none))
+no_base base (row ∷ rows) none = grind (arith, nat_tests, All-head (λ row. row.base ≢ base) row rows none, no_base base rows (All-tail (λ row. row.base ≢ base) row rows none))
 
 -- what may change is there
 pub changes_there : (rows : List ObjectRow) (row : ObjectRow) → MayChange rows row → has_base row.base rows ≡ true

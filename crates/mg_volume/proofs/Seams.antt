@@ -1,4 +1,5 @@
 -- A list that is taken over item by item.
+use Rattle.std.proofs.lemmas.Grind.{common_steps}
 use Rattle.std.proofs.Common.{ℕ, zero, suc, ◌+◌, ◌<◌, ◌≡◌, ◌++◌, List, [], ◌∷◌, drop, get_or, length, refl, sym, take, ap, ◌∙◌, arith}
 use Rattle.std.specs.Prelude.{slice_set}
 
@@ -13,26 +14,11 @@ set-seam (n ∷ ns) (o ∷ os) (suc k) d below within =
 
 -- all of them
 pub seam-end : (new old : List ℕ) (k : ℕ) → length new ≡ k → length old ≡ k → take k new ++ drop k old ≡ new
-seam-end [] [] zero whole same = refl
-seam-end [] [] (suc k) whole same = refl
-seam-end [] (o ∷ os) k whole same = absurd (omega arith)
-seam-end (n ∷ ns) [] k whole same = absurd (omega arith)
-seam-end (n ∷ ns) (o ∷ os) zero whole same = absurd (omega arith)
-seam-end (n ∷ ns) (o ∷ os) (suc k) whole same = ap (λ xs. n ∷ xs) (seam-end ns os k (omega arith) (omega arith))
+seam-end new old k whole same = grind (arith, common_steps)
 
 -- as many, and the next of the old ones
 pub seam-long : (new old : List ℕ) (k : ℕ) → length new ≡ length old → length (take k new ++ drop k old) ≡ length old
-seam-long [] [] zero same = refl
-seam-long [] [] (suc k) same = refl
-seam-long [] (o ∷ os) k same = absurd (omega arith)
-seam-long (n ∷ ns) [] k same = absurd (omega arith)
-seam-long (n ∷ ns) (o ∷ os) zero same = refl
-seam-long (n ∷ ns) (o ∷ os) (suc k) same = ap (λ j. suc j) (seam-long ns os k (omega arith))
+seam-long new old k same = grind (arith, common_steps)
 
 pub seam-next : (new old : List ℕ) (k d : ℕ) → length new ≡ length old → get_or (take k new ++ drop k old) k d ≡ get_or old k d
-seam-next [] [] zero d same = refl
-seam-next [] [] (suc k) d same = refl
-seam-next [] (o ∷ os) k d same = absurd (omega arith)
-seam-next (n ∷ ns) [] k d same = absurd (omega arith)
-seam-next (n ∷ ns) (o ∷ os) zero d same = refl
-seam-next (n ∷ ns) (o ∷ os) (suc k) d same = seam-next ns os k d (omega arith)
+seam-next new old k d same = grind (arith, common_steps)

@@ -1,68 +1,62 @@
 -- A block before the frame table is staged, and one part of the state with it.
-use Rattle.std.specs.Prelude.{◌≡◌, ◌≢◌, ◌+◌, ◌≤◌, ◌<◌, ◌==◌, ℕ, List, [], ◌∷◌, position, replicate, slice_set, Option, Some, None}
+use Rattle.std.specs.Prelude.{◌≡◌, ◌≢◌, ◌+◌, ◌≤◌, ◌<◌, ◌==◌, ◌⊎◌, ℕ, List, [], ◌∷◌, position, replicate, slice_set, Option, Some, None}
 use Rattle.std.specs.Option.{option_map_or}
-use Rattle.std.proofs.Common.{refl, ap, ◌∙◌, arith}
+use Rattle.std.proofs.Common.{refl, ap, ◌∙◌, ⊎_elim, inl, inr, arith}
 use Rattle.std.proofs.lemmas.List.{get_or-set_other, get_or-set_same}
 use Rattle.mg_disk.specs.Disk.{Image}
 use Rattle.mg_model.specs.Layout.{first_account_block, first_frame, first_object_block, first_thread_block, globals_block, table_block}
 use Rattle.mg_model.specs.Bytes.{block_words}
 use Rattle.mg_model.specs.Objects.{page_of}
 use Rattle.mg_model.specs.Replay.{block_of}
-use Rattle.mg_model.specs.Volume.{object_spelled, page_words}
-use Rattle.mg_model.specs.Spelling.{globals_read}
+use Rattle.mg_model.specs.Volume.{live_rows, object_spelled, page_words}
+use Rattle.mg_model.specs.Spelling.{account_read, globals_read, object_read, thread_read}
 use Rattle.mg_model.specs.State.{Counters, ObjectRow}
 use Rattle.mg_pages.specs.ComingLemmas.{length_coming}
 use Rattle.mg_pages.specs.declared.pages.Pages.{Pages}
 use Rattle.mg_pages.specs.SpelledLemmas as laws
 use Rattle.mg_pages.specs.Meaning as pages
+use Rattle.mg_check.specs.RowsRead.{placed_from}
+use Rattle.mg_model.specs.Abbreviations.{account_row_bytes, object_row_bytes, thread_row_bytes}
+use Rattle.mg_model.specs.Limits.{account_limit, object_limit, thread_limit}
+use Rattle.mg_volume.proofs.Stages.{same_changes}
+use Rattle.mg_volume.specs.Changes.{Changes, StagesBlock}
 use Rattle.mg_volume.specs.Contents.{AgreeIn, accounts_within, objects_within, threads_within}
 use Rattle.mg_volume.specs.Held.{VolumeHeld}
 use Rattle.mg_volume.specs.Meaning.{IsSpelledBy, Spelled, now_of, threads_in}
 use Rattle.mg_volume.specs.PageWordLemmas.{pages-same}
 use Rattle.mg_volume.specs.Sound.{all_spelled}
 
--- other blocks are as they were
-pub set_apart : (image : Image) (block low high : ℕ) (bytes : List ℕ) → ((k : ℕ) → low ≤ k → k < high → k ≢ block) → AgreeIn low high (slice_set image block bytes) image
-set_apart image block low high bytes apart = record { each = λ k above below. get_or-set_other image block k bytes [] (apart k above below) }
+-- a block was staged: it is there, and the others are as they were
+module _ (p q : Pages) (image : Image) (block : ℕ) (bytes : List ℕ) (staged : StagesBlock block bytes p q) where
+  pub but_one : (k : ℕ) → k ≢ block → block_of (pages.coming q image) k ≡ block_of (pages.coming p image) k
+  but_one k other = ap (λ i. block_of i k) (staged.coming image) ∙ get_or-set_other (pages.coming p image) block k bytes [] other
 
-pub agree : (a b c : Image) → c ≡ b → (low high : ℕ) → AgreeIn low high b a → AgreeIn low high c a
-agree a b c is low high same = record { each = λ k above below. ap (λ i. block_of i k) is ∙ same.each k above below }
+  pub but_block : (k : ℕ) → (k < block) ⊎ (block + 1 ≤ k) → block_of (pages.coming q image) k ≡ block_of (pages.coming p image) k
+  but_block k out = but_one k (λ is. ⊎_elim (λ (low : k < block). omega arith) (λ (high : block + 1 ≤ k). omega arith) out)
 
--- what was staged is there
-pub set_there : (v : VolumeHeld) (image : Image) (block : ℕ) (bytes : List ℕ) → Spelled v image → block < table_block → block_of (slice_set (pages.coming v.pages image) block bytes) block ≡ bytes
-set_there v image block bytes s low =
-    let long = length_coming v.pages image s.fitting in
-    let whole = laws.long_of v.pages image s.fitting in
-    let size = laws.size_of v.pages image s.fitting in
-    get_or-set_same (pages.coming v.pages image) block bytes [] (omega arith)
+  pub block_there : pages.IsSpelledBy p image → block < table_block → block_of (pages.coming q image) block ≡ bytes
+  block_there fitting low =
+      let long = length_coming p image fitting in
+      let whole = laws.long_of p image fitting in
+      let size = laws.size_of p image fitting in
+      ap (λ i. block_of i block) (staged.coming image) ∙ get_or-set_same (pages.coming p image) block bytes [] (omega arith)
 
--- the counters
-abbrev pub with_counters : VolumeHeld → Pages → Counters → VolumeHeld
-with_counters v p counters = record v { counters = counters; pages = p }
+-- the tables that other blocks than these have
+module _ (v : VolumeHeld) (p : Pages) (image : Image) (s : Spelled v image) (low high : ℕ) (same : (k : ℕ) → (k < low) ⊎ (high ≤ k) → block_of (pages.coming p image) k ≡ block_of (pages.coming v.pages image) k) where
+  within : (from to : ℕ) → (to ≤ low) ⊎ (high ≤ from) → AgreeIn from to (pages.coming p image) (pages.coming v.pages image)
+  within from to out = record { each = λ k above below. same k (⊎_elim (λ (a : to ≤ low). inl (omega arith)) (λ (b : high ≤ from). inr (omega arith)) out) }
 
-pub counters_staged : (v : VolumeHeld) (p : Pages) (counters : Counters) (bytes : List ℕ) (image : Image) → IsSpelledBy v image → (pages.IsSpelledBy v.pages image → pages.IsSpelledBy p image) → pages.frame_count p ≡ pages.frame_count v.pages
-    → pages.coming p image ≡ slice_set (pages.coming v.pages image) globals_block bytes → globals_read bytes ≡ Some counters → IsSpelledBy (with_counters v p counters) image
-unfolding IsSpelledBy
-counters_staged v p counters bytes image is fitting frames coming read =
-    let s : Spelled v image = is in
-    let r = pages.coming v.pages image in
-    let r' = slice_set r globals_block bytes in
-    record {
-      fitting = fitting s.fitting;
-      frames = frames ∙ s.frames;
-      gated = s.gated;
-      super = s.super;
-      counters_are = ap (λ (i : Image). globals_read (block_of i globals_block)) coming ∙ ap globals_read (set_there v image globals_block bytes s (omega arith)) ∙ read;
-      accounts_are = accounts_within (pages.coming p image) r (agree r r' (pages.coming p image) coming first_account_block first_thread_block (set_apart r globals_block first_account_block first_thread_block bytes (λ k low high is. omega arith))) ∙ s.accounts_are;
-      threads = s.threads;
-      threads_are = threads_within (pages.coming p image) r (agree r r' (pages.coming p image) coming first_thread_block first_object_block (set_apart r globals_block first_thread_block first_object_block bytes (λ k low high is. omega arith))) ∙ s.threads_are;
-      numbered = s.numbered;
-      objects = s.objects;
-      objects_are = objects_within (pages.coming p image) r (agree r r' (pages.coming p image) coming first_object_block table_block (set_apart r globals_block first_object_block table_block bytes (λ k low high is. omega arith))) ∙ s.objects_are;
-      ordered = s.ordered;
-      kept = s.kept;
-      is = s.is;
-    }
+  pub counters_stay : (globals_block < low) ⊎ (high ≤ globals_block) → globals_read (block_of (pages.coming p image) globals_block) ≡ Some v.counters
+  counters_stay out = ap globals_read (same globals_block out) ∙ s.counters_are
+
+  pub accounts_stay : (first_thread_block ≤ low) ⊎ (high ≤ first_account_block) → live_rows (λ i. account_read (account_row_bytes (pages.coming p image) i)) 0 account_limit ≡ Some (placed_from 0 v.accounts)
+  accounts_stay out = accounts_within (pages.coming p image) (pages.coming v.pages image) (within first_account_block first_thread_block out) ∙ s.accounts_are
+
+  pub threads_stay : (first_object_block ≤ low) ⊎ (high ≤ first_thread_block) → live_rows (λ i. thread_read (thread_row_bytes (pages.coming p image) i)) 0 thread_limit ≡ Some s.threads
+  threads_stay out = threads_within (pages.coming p image) (pages.coming v.pages image) (within first_thread_block first_object_block out) ∙ s.threads_are
+
+  pub objects_stay : (table_block ≤ low) ⊎ (high ≤ first_object_block) → live_rows (λ i. object_read (object_row_bytes (pages.coming p image) i)) 0 object_limit ≡ Some s.objects
+  objects_stay out = objects_within (pages.coming p image) (pages.coming v.pages image) (within first_object_block table_block out) ∙ s.objects_are
 
 -- The words of pages lie behind.
 words_behind : (a b : Image) (frames : ℕ) (table : List ℕ) (page : ℕ) → ((k : ℕ) → table_block ≤ k → block_of a k ≡ block_of b k) → page_words a frames table page ≡ page_words b frames table page
@@ -90,7 +84,36 @@ staged_objects v p image block bytes low table coming =
     ∙ ap (λ r. all_spelled r v.settings.frames (pages.table_in v.pages) v.objects) coming
     ∙ objects_apart (pages.coming v.pages image) block bytes v.settings.frames (pages.table_in v.pages) v.objects low
 
-pub counters_now : (v : VolumeHeld) (p : Pages) (counters : Counters) (bytes : List ℕ) (image : Image) → pages.table_in p ≡ pages.table_in v.pages → pages.coming p image ≡ slice_set (pages.coming v.pages image) globals_block bytes
-    → now_of (with_counters v p counters) image ≡ record (now_of v image) { counters = counters }
-unfolding now_of threads_in
-counters_now v p counters bytes image table coming = ap (λ objects. record (now_of v image) { counters = counters; objects = objects }) (staged_objects v p image globals_block bytes (omega arith) table coming)
+-- the counters
+abbrev pub with_counters : VolumeHeld → Pages → Counters → VolumeHeld
+with_counters v p counters = record v { counters = counters; pages = p }
+
+module _ (v : VolumeHeld) (p : Pages) (counters : Counters) (bytes : List ℕ) (staged : StagesBlock globals_block bytes v.pages p) where
+  spelled : ((image : Image) → Spelled v image → globals_read bytes ≡ Some counters) → (image : Image) → IsSpelledBy v image → IsSpelledBy (with_counters v p counters) image
+  unfolding IsSpelledBy
+  spelled read image is =
+      let s : Spelled v image = is in
+      let same = but_block v.pages p image globals_block bytes staged in
+      record {
+        fitting = staged.spelled image s.fitting;
+        frames = staged.shape.frames ∙ s.frames;
+        gated = s.gated;
+        super = s.super;
+        counters_are = ap globals_read (block_there v.pages p image globals_block bytes staged s.fitting (omega arith)) ∙ read image s;
+        accounts_are = accounts_stay v p image s globals_block (globals_block + 1) same (inr (omega arith));
+        threads = s.threads;
+        threads_are = threads_stay v p image s globals_block (globals_block + 1) same (inr (omega arith));
+        numbered = s.numbered;
+        objects = s.objects;
+        objects_are = objects_stay v p image s globals_block (globals_block + 1) same (inr (omega arith));
+        ordered = s.ordered;
+        kept = s.kept;
+        is = s.is;
+      }
+
+  now : (image : Image) → now_of (with_counters v p counters) image ≡ record (now_of v image) { counters = counters }
+  unfolding now_of threads_in
+  now image = ap (λ objects. record (now_of v image) { counters = counters; objects = objects }) (staged_objects v p image globals_block bytes (omega arith) staged.table (staged.coming image))
+
+  pub counters_changes : ((image : Image) → Spelled v image → globals_read bytes ≡ Some counters) → Changes 1 (λ state. record state { counters = counters }) (λ rows. rows) v (with_counters v p counters)
+  counters_changes read = same_changes v (with_counters v p counters) 1 (λ state. record state { counters = counters }) refl refl staged.shape staged.words staged.staged (spelled read) now

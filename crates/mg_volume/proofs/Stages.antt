@@ -1,12 +1,16 @@
 -- What staging a block leaves as it was.
-use Rattle.std.specs.Prelude.{◌≡◌, ◌⊎◌, ◌+◌, ◌≤◌, ◌<◌, ℕ}
+use Rattle.std.specs.Prelude.{◌≡◌, ◌+◌, ◌≤◌, ℕ, List}
+use Rattle.std.proofs.Common.{ap, ◌∙◌, arith}
 use Rattle.mg_disk.specs.Disk.{Image}
-use Rattle.mg_model.specs.State.{Counters}
+use Rattle.mg_model.specs.State.{ObjectRow, State}
 use Rattle.mg_pages.specs.Meaning as pages
-use Rattle.mg_volume.proofs.StillStaged.{still_staged}
+use Rattle.mg_volume.proofs.StillStaged.{objects_wait, still_staged}
 use Rattle.mg_volume.specs.Calls.{Stages}
+use Rattle.mg_pages.specs.declared.pages.Pages.{Pages}
+use Rattle.mg_volume.specs.Changes.{Changes, StagesBlock}
+use Rattle.mg_volume.specs.Staging.{ObjectsStillStaged}
 use Rattle.mg_volume.specs.Held.{VolumeHeld}
-use Rattle.mg_volume.specs.Meaning.{IsKept, IsSpelledBy, SameShape, is_live, objects_in, settings_in, staged_of, total_of, words_in}
+use Rattle.mg_volume.specs.Meaning.{IsSpelledBy, SameShape, bare_rows, is_live, now_of, objects_in, settings_in, staged_of, total_of, words_in}
 
 pub same_shape : (v w : VolumeHeld) → w.settings ≡ v.settings → pages.SameShape v.pages w.pages → pages.words_in w.pages ≡ pages.words_in v.pages → SameShape v w
 unfolding settings_in is_live total_of words_in
@@ -31,18 +35,30 @@ stages_is v w most settings shape words more spelled = record {
   still = still_staged v w more.still;
 }
 
--- other counters are held as well
-pub held_counters : (v : VolumeHeld) (counters : Counters) → IsKept v → IsKept (record v { counters = counters })
+-- and so what it changes, also where it leaves the objects alone
+pub changes_is : (v w : VolumeHeld) (most : ℕ) (change : State → State) (rows : List ObjectRow → List ObjectRow) → w.settings ≡ v.settings → pages.SameShape v.pages w.pages → pages.words_in w.pages ≡ pages.words_in v.pages → pages.StagesMore most v.pages w.pages
+    → ((image : Image) → IsSpelledBy v image → IsSpelledBy w image) → ((image : Image) → now_of w image ≡ change (now_of v image)) → objects_in w ≡ rows (objects_in v) → ObjectsStillStaged v w → Changes most change rows v w
+changes_is v w most change rows settings shape words more spelled now rows_are objects = record { now = now; rows = rows_are; stages = stages_is v w most settings shape words more spelled; objects = objects }
+
+pub same_changes : (v w : VolumeHeld) (most : ℕ) (change : State → State) → w.settings ≡ v.settings → w.objects ≡ v.objects → pages.SameShape v.pages w.pages → pages.words_in w.pages ≡ pages.words_in v.pages → pages.StagesMore most v.pages w.pages
+    → ((image : Image) → IsSpelledBy v image → IsSpelledBy w image) → ((image : Image) → now_of w image ≡ change (now_of v image)) → Changes most change (λ rows. rows) v w
 unfolding objects_in
-held_counters v counters held = record {
-  frames = held.frames;
-  rows = held.rows;
-  places = held.places;
-  apart = held.apart;
-  used = held.used;
-  few_objects = held.few_objects;
-  some_accounts = held.some_accounts;
-  few_accounts = held.few_accounts;
-  few_threads = held.few_threads;
-  inside = held.inside;
+same_changes v w most change settings objects shape words more spelled now = changes_is v w most change (λ rows. rows) settings shape words more spelled now (ap bare_rows objects) (objects_wait v w objects more.still)
+
+-- a block that was staged is staged with other bytes
+pub restaged : (block : ℕ) (bytes : List ℕ) (old new : Pages) → pages.Restages block bytes old new → StagesBlock block bytes old new
+restaged block bytes old new told =
+    let least = told.staged.least in
+    let most = told.staged.staged in
+    record { coming = told.coming; table = told.table; shape = told.shape; staged = record { least = least; staged = omega arith; still = told.staged.still }; here = told.here; words = told.words; spelled = told.spelled }
+
+-- one call after the other stages no more than both
+pub stages_then : (a b : ℕ) (old middle new : Pages) → pages.StagesMore a old middle → pages.StagesMore b middle new → pages.StagesMore (a + b) old new
+stages_then a b old middle new first second = record {
+  least = (let x = first.least in let y = second.least in omega arith);
+  staged = (let x = first.staged in let y = second.staged in omega arith);
+  still = λ block is. second.still block (first.still block is);
 }
+
+pub shape_then : (old middle new : Pages) → pages.SameShape old middle → pages.SameShape middle new → pages.SameShape old new
+shape_then old middle new first second = record { total = second.total ∙ first.total; frames = second.frames ∙ first.frames; live = second.live ∙ first.live }

@@ -46,11 +46,6 @@ spelled_same v p image s fitting frames same =
     let spelled : Spelled v image = s in
     spelled_again v p image image spelled fitting frames (set_of v image spelled) spelled.kept spelled.is (record { each = λ k low high. same k high })
 
--- its pages are spelled
-pub pages_spelled : (v : VolumeHeld) (image : Image) → IsSpelledBy v image → pages.IsSpelledBy v.pages image
-unfolding IsSpelledBy
-pages_spelled v image whole = (let s : Spelled v image = whole in s.fitting)
-
 module _ {D : Type 0} (facts : Ghosts D) (v : VolumeHeld) (old : D) (stands : StandsOn facts v old) where
   -- its pages stand there
   pub pages_stand : pages.StandsOn facts v.pages old

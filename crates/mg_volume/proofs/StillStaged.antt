@@ -1,8 +1,8 @@
 -- What was staged still is.
 use Rattle.std.specs.Prelude.{◌≡◌, ◌==◌, ◌||◌, ◌+◌, ◌-◌, ◌/◌, ℕ, true, false, List, [], ◌∷◌, find, if◌then◌else◌, map, Option, Some, None}
 use Rattle.std.specs.Option.{option_map_or}
-use Rattle.std.proofs.Common.{refl, sym, ap, ◌∙◌, ⊎_elim}
-use Rattle.std.proofs.lemmas.Bool.{both_ways, cases_Bool, or_parts}
+use Rattle.std.proofs.Common.{refl, sym, ap, ◌∙◌, ⊎_elim, arith}
+use Rattle.std.proofs.lemmas.Bool.{both_ways, cases_Bool}
 use Rattle.mg_model.specs.Layout.{first_object_block, first_thread_block, globals_block}
 use Rattle.mg_model.specs.State.{ObjectRow}
 use Rattle.mg_pages.specs.Meaning as pages
@@ -25,9 +25,7 @@ base_found base (o ∷ os) has =
 
 pub base_absent : (base : ℕ) (os : List (ℕ × ObjectRow)) → has_base base (map (λ (o : ℕ × ObjectRow). o.1) os) ≡ false → with_base base os ≡ None
 base_absent base [] none = refl
-base_absent base (o ∷ os) none =
-    let parts = or_parts (o.1.base == base) (has_base base (map (λ (o : ℕ × ObjectRow). o.1) os)) none in
-    ap (λ b. if b then Some o else with_base base os) parts.0 ∙ base_absent base os parts.1
+base_absent base (o ∷ os) none = grind (arith, none, base_absent base os)
 
 -- the place of its row
 pub place_found : (base : ℕ) (os : List (ℕ × ObjectRow)) (o : ℕ × ObjectRow) → with_base base os ≡ Some o → place_for base os ≡ o.0

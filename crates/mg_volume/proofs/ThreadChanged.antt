@@ -1,7 +1,7 @@
 -- Another row of a thread that lives, by a change of the one that it has.
-use Rattle.std.specs.Prelude.{◌≡◌, ◌≢◌, ◌==◌, ◌||◌, ℕ, Bool, true, false, All, List, [], ◌∷◌, find, if◌then◌else◌, map, IfSome, MatchOption, Option, Some, None}
+use Rattle.std.specs.Prelude.{◌≡◌, ◌≢◌, ◌==◌, ℕ, Bool, true, false, All, List, [], ◌∷◌, find, if◌then◌else◌, map, IfSome, MatchOption, Option, Some, None}
 use Rattle.std.specs.List.{list_any}
-use Rattle.std.proofs.Common.{refl, sym, ap, subst, ◌∙◌}
+use Rattle.std.proofs.Common.{refl, sym, ap, subst, ◌∙◌, arith}
 use Rattle.std.proofs.lemmas.Bool.{eqb-true}
 use Rattle.mg_disk.specs.Disk.{Image}
 use Rattle.mg_model.specs.Domains.{with_thread}
@@ -37,11 +37,11 @@ same-change t row change (thread ∷ threads) apart gives = by_test (thread.numb
         → (IfSome (find (λ (x : Thread). x.number == t) threads) (λ x. change x.row ≡ row) → changed t (λ old. row) threads ≡ changed t change threads)
         → (if v then record thread { row = row } else thread) ∷ changed t (λ old. row) threads ≡ (if v then record thread { row = change thread.row } else thread) ∷ changed t change threads
     by_test true is gives later =
-        let own : thread.number ≡ t = eqb-true thread.number t is in
-        let differ : All (λ (x : Thread). x.number ≢ t) threads = subst (λ n. All (λ (x : Thread). x.number ≢ n) threads) own apart.0 in
-        ap (λ (r : ThreadRow). record thread { row = r } ∷ changed t (λ old. row) threads) (sym gives)
-        ∙ ap (λ rest. record thread { row = change thread.row } ∷ rest) (others-stay t (λ old. row) threads differ ∙ sym (others-stay t change threads differ))
-    by_test false is gives later = ap (λ rest. thread ∷ rest) (later gives)
+        let differ : All (λ (x : Thread). x.number ≢ t) threads = subst (λ n. All (λ (x : Thread). x.number ≢ n) threads) (eqb-true thread.number t is) apart.0 in
+        let stay = others-stay t (λ old. row) threads differ in
+        let stay' = others-stay t change threads differ in
+        cc
+    by_test false is gives later = let rest = later gives in cc
 
 -- so the state is the one that the change gives
 pub thread_changed : (v : VolumeHeld) (image : Image) (t : ℕ) (row : ThreadRow) (change : ThreadRow → ThreadRow) → DistinctBy (λ (x : Thread). x.number) (threads_in v) → list_any (λ (x : Thread). x.number == t) (threads_in v) ≡ true
@@ -55,12 +55,7 @@ thread_changed v image t row change apart there gives =
 -- a thread that lives is found
 living-found : (t : ℕ) (threads : List Thread) → find (λ (x : Thread). x.number == t) threads ≡ None → list_any (λ (x : Thread). x.number == t) threads ≡ true → ⊥
 living-found t [] none there = cc
-living-found t (thread ∷ threads) none there = by_test (thread.number == t) none there (living-found t threads)
-  where
-    by_test : (v : Bool) → (if v then Some thread else find (λ (x : Thread). x.number == t) threads) ≡ None → (v || list_any (λ (x : Thread). x.number == t) threads) ≡ true
-        → (find (λ (x : Thread). x.number == t) threads ≡ None → list_any (λ (x : Thread). x.number == t) threads ≡ true → ⊥) → ⊥
-    by_test true none there later = cc
-    by_test false none there later = later none there
+living-found t (thread ∷ threads) none there = grind (arith, none, there, living-found t threads)
 
 -- what is known of one that is found is known of it
 pub living : {X : Type 0} (F : X → Type 0) (P : Type 0) (o : Option X) (t : ℕ) (threads : List Thread) → MatchOption o (find (λ (x : Thread). x.number == t) threads ≡ None) F → IfSome o (λ x. P) → list_any (λ (x : Thread). x.number == t) threads ≡ true → P

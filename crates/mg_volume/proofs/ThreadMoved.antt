@@ -1,5 +1,5 @@
 -- A thread stands elsewhere, and the words of its block that was staged.
-use Rattle.std.specs.Prelude.{◌≡◌, ◌+◌, ◌-◌, ◌≤◌, ◌<◌, ◌==◌, ℕ, List, find, option_map, IfSome, Option, Some, None}
+use Rattle.std.specs.Prelude.{◌≡◌, ◌+◌, ◌-◌, ◌≤◌, ◌==◌, ℕ, List, find, option_map, IfSome, Option, Some, None}
 use Rattle.std.proofs.Common.{refl, sym, ap, ◌∙◌, arith}
 use Rattle.std.proofs.lemmas.Option.{same_Some}
 use Rattle.mg_disk.specs.Disk.{Image, block_at}
@@ -14,14 +14,10 @@ use Rattle.mg_pages.specs.declared.pages.Pages.{Pages}
 use Rattle.mg_pages.specs.Meaning as pages
 use Rattle.mg_rows.specs.Laws.{IsSpelledInOneWay, live}
 use Rattle.mg_volume.proofs.ByNumber.{find-number}
-use Rattle.mg_volume.proofs.Stages.{stages_is}
-use Rattle.mg_volume.proofs.ThreadStaged.{thread_now, thread_spelled, with_threads}
-use Rattle.mg_volume.specs.Calls.{Stages}
 use Rattle.mg_volume.specs.Held.{VolumeHeld}
-use Rattle.mg_volume.specs.Meaning.{IsSpelledBy, Spelled, now_of, threads_in}
-use Rattle.mg_volume.specs.Numbered.{numbered, rows_with}
+use Rattle.mg_volume.specs.Meaning.{Spelled}
+use Rattle.mg_volume.specs.Numbered.{numbered}
 use Rattle.mg_volume.specs.RowLists.{row_at, told}
-use Rattle.mg_volume.specs.Staging.{threads_with}
 use Rattle.mg_volume.specs.Standing.{Respells}
 
 -- a row that is found has a thread
@@ -40,45 +36,20 @@ live-some None row is = cc
 live-some (Some None) row is = cc
 live-some (Some (Some r)) row is = ap (λ (v : Option ThreadRow). Some v) is
 
-module _ (v : VolumeHeld) (p : Pages) (t : ℕ) (row row' : ThreadRow) (rows : List (ℕ × ThreadRow)) (low : 1 ≤ t) (high : t ≤ 256)
-    (found : Some row ≡ option_map (λ (x : ℕ × ThreadRow). x.1) (find (λ (x : ℕ × ThreadRow). x.0 == t) v.threads)) (put : rows ≡ rows_with t (Some row') v.threads)
-    (respells : Respells (first_thread_block + t - 1) row row' v.pages p) where
-  number : t - 1 + 1 ≡ t
-  number = omega arith
-
-  few : t - 1 < 256
-  few = omega arith
-
-  pub moved_now : (image : Image) → now_of (with_threads v rows p) image ≡ record (now_of v image) { threads = threads_with t (Some row') (threads_in v) }
-  moved_now image = thread_now v p image t (t - 1) (Some row') rows respells.bytes number few (respells.restages.coming image) put respells.restages.table
-
-  module _ (way : IsSpelledInOneWay (λ bytes. live (thread_read bytes)) thread_bytes IsThreadRow) (range : IsThreadRow row') where
-    -- the bytes that were staged
-    was : (image : Image) → Spelled v image → block_at (pages.coming v.pages image) (first_thread_block + t - 1) ≡ thread_bytes row
-    was image s =
-        let r = pages.coming v.pages image in
-        let here : first_thread_block + (t - 1) ≡ first_thread_block + t - 1 = omega arith in
-        let each = (told (λ i. thread_read (thread_row_bytes r i)) 0 thread_limit s.threads s.threads_are).each (t - 1) (omega arith) (omega arith) in
-        let held : row_at (t - 1) s.threads ≡ Some row =
-        sym (find-number s.threads (t - 1))
-        ∙ ap (λ n. option_map (λ (x : ℕ × ThreadRow). x.1) (find (λ (x : ℕ × ThreadRow). x.0 == n) (numbered s.threads))) number
-        ∙ ap (λ (xs : List (ℕ × ThreadRow)). option_map (λ (x : ℕ × ThreadRow). x.1) (find (λ (x : ℕ × ThreadRow). x.0 == t) xs)) s.numbered
-        ∙ sym found in
-        let bytes = block_of r (first_thread_block + (t - 1)) in
-        let read : live (thread_read bytes) ≡ Some row = ap (λ (o : Read ThreadRow). live o) (each ∙ ap (λ (o : Option ThreadRow). Some o) held) in
-        ap (λ k. block_at r k) (sym here) ∙ sym (way.same bytes row read)
-
-    pub moved_spelled : (image : Image) → IsSpelledBy v image → IsSpelledBy (with_threads v rows p) image
-    unfolding IsSpelledBy
-    moved_spelled image is =
-        let s : Spelled v image = is in
-        let bytes : respells.bytes ≡ thread_bytes row' = respells.are image s.fitting (was image s) in
-        thread_spelled v p image t (t - 1) (Some row') rows respells.bytes number few (respells.restages.coming image) put is (respells.restages.spelled image) respells.restages.shape.frames
-        (ap thread_read bytes ∙ live-some (thread_read (thread_bytes row')) row' (way.written row' range))
-
-    pub moved_stages : Stages 1 v (with_threads v rows p)
-    moved_stages =
-        let more = respells.restages.staged in
-        let least = more.least in
-        let most = more.staged in
-        stages_is v (with_threads v rows p) 1 refl respells.restages.shape respells.restages.words (record { least = least; staged = omega arith; still = more.still }) moved_spelled
+-- the bytes that were staged spelled the row that is held, and so those that are staged now spell the other one
+pub moved_read : (v : VolumeHeld) (p : Pages) (t : ℕ) (row row' : ThreadRow) → 1 ≤ t → t ≤ 256 → Some row ≡ option_map (λ (x : ℕ × ThreadRow). x.1) (find (λ (x : ℕ × ThreadRow). x.0 == t) v.threads)
+    → (respells : Respells (first_thread_block + t - 1) row row' v.pages p) → IsSpelledInOneWay (λ bytes. live (thread_read bytes)) thread_bytes IsThreadRow → IsThreadRow row' → (image : Image) → Spelled v image → thread_read respells.bytes ≡ Some (Some row')
+moved_read v p t row row' low high found respells way range image s =
+    let r = pages.coming v.pages image in
+    let number : t - 1 + 1 ≡ t = omega arith in
+    let here : first_thread_block + (t - 1) ≡ first_thread_block + t - 1 = omega arith in
+    let each = (told (λ i. thread_read (thread_row_bytes r i)) 0 thread_limit s.threads s.threads_are).each (t - 1) (omega arith) (omega arith) in
+    let held : row_at (t - 1) s.threads ≡ Some row =
+    sym (find-number s.threads (t - 1))
+    ∙ ap (λ n. option_map (λ (x : ℕ × ThreadRow). x.1) (find (λ (x : ℕ × ThreadRow). x.0 == n) (numbered s.threads))) number
+    ∙ ap (λ (xs : List (ℕ × ThreadRow)). option_map (λ (x : ℕ × ThreadRow). x.1) (find (λ (x : ℕ × ThreadRow). x.0 == t) xs)) s.numbered
+    ∙ sym found in
+    let bytes = block_of r (first_thread_block + (t - 1)) in
+    let read : live (thread_read bytes) ≡ Some row = ap (λ (o : Read ThreadRow). live o) (each ∙ ap (λ (o : Option ThreadRow). Some o) held) in
+    let are : respells.bytes ≡ thread_bytes row' = respells.are image s.fitting (ap (λ k. block_at r k) (sym here) ∙ sym (way.same bytes row read)) in
+    ap thread_read are ∙ live-some (thread_read (thread_bytes row')) row' (way.written row' range)

@@ -1,10 +1,11 @@
 -- What a search among threads finds, by what is said of each place.
+use Rattle.std.proofs.lemmas.Bool.Decides.{nat_tests}
 use Rattle.std.specs.Prelude.{◌≡◌, ◌≢◌, ◌+◌, ◌≤◌, ◌<◌, ◌&&◌, ◌==◌, nat_lt, ℕ, zero, suc, Bool, true, false, not, List, [], ◌∷◌, drop, find, if◌then◌else◌, length, map, option_map, replicate, slice_index, slice_set, Option, Some, None}
 use Rattle.std.specs.List.{position, position_or_len}
 use Rattle.std.specs.Option.{ForSome}
 use Rattle.std.proofs.Common.{refl, sym, ap, subst, ◌∙◌, arith}
-use Rattle.std.proofs.lemmas.Bool.{cond_both, eq-eqb, false_from_ne_true, le-ltb, lt-ltb, ne_eqb}
-use Rattle.std.proofs.lemmas.List.{map-set}
+use Rattle.std.proofs.lemmas.Bool.{eq-eqb, false_from_ne_true, le-ltb, lt-ltb, ne_eqb}
+use Rattle.std.proofs.lemmas.List.{map-set, length-map}
 use Rattle.std.proofs.lemmas.List.Sums.{position_or_len_is}
 use Rattle.memchr.specs.Find.{IsFirstByte}
 use Rattle.mg_model.specs.Ranges.{IsThreadRow}
@@ -19,10 +20,7 @@ use Rattle.mg_volume.specs.RowLists.{ArePlaced}
 -- no number below the first
 free-front : (n low high : ℕ) (xs : List (ℕ × ThreadRow)) → ArePlaced low high xs → n ≤ low → free_number_from n (threads_of (numbered xs)) ≡ n
 free-front n low high [] placed below = refl
-free-front n low high ((i, r) ∷ xs) placed below =
-    let above = placed.0 in
-    let other : i + 1 ≢ n = omega arith in
-    ap (λ b. if b then free_number_from (n + 1) (threads_of (numbered xs)) else n) (ne_eqb (i + 1) n other)
+free-front n low high ((i, r) ∷ xs) placed below = let above = placed.0 in grind (arith, nat_tests)
 
 pub free-from : (i : ℕ) (rows : List (Option ThreadRow)) → free_number_from (i + 1) (threads_of (numbered (live_from i rows))) ≡ i + 1 + position_or_len (λ is. not is) (map is_taken rows)
 free-from i [] = omega arith
@@ -51,10 +49,7 @@ taken-not_all i (Some r ∷ rows) some = let more = taken-not_all (i + 1) rows (
 -- and the free number is none of theirs
 none-before : (n low high : ℕ) (xs : List (ℕ × ThreadRow)) → ArePlaced low high xs → n ≤ low → has_number n (numbered xs) ≡ false
 none-before n low high [] placed below = refl
-none-before n low high ((i, r) ∷ xs) placed below =
-    let above = placed.0 in
-    let other : i + 1 ≢ n = omega arith in
-    rw (ne_eqb (i + 1) n other) (none-before n (i + 1) high xs placed.2 (omega arith))
+none-before n low high ((i, r) ∷ xs) placed below = let above = placed.0 in grind (arith, nat_tests, none-before n (i + 1) high xs placed.2 (omega arith))
 
 pub free-none : (i : ℕ) (rows : List (Option ThreadRow)) → has_number (i + 1 + position_or_len (λ is. not is) (map is_taken rows)) (numbered (live_from i rows)) ≡ false
 free-none i [] = refl
@@ -67,27 +62,14 @@ free-none i (Some r ∷ rows) =
 
 -- the place that a search finds
 pub found_at : (test : Bool → Bool) (xs : List Bool) (i : ℕ) → position test xs ≡ Some i → (position_or_len test xs ≡ i) × (i < length xs)
-found_at test xs i is =
-    cond_both (nat_lt (position_or_len test xs) (length xs)) (Some (position_or_len test xs)) None (λ o. o ≡ Some i → (position_or_len test xs ≡ i) × (i < length xs))
-    (λ within there. let same : position_or_len test xs ≡ i = cc in (same, grind arith))
-    (λ _ none. absurd (cc))
-    is
+found_at test xs i is = (grind (arith, nat_tests), grind (arith, nat_tests))
 
 pub found_none : (test : Bool → Bool) (xs : List Bool) → position test xs ≡ None → position_or_len test xs ≡ length xs
-found_none test xs is =
-    cond_both (nat_lt (position_or_len test xs) (length xs)) (Some (position_or_len test xs)) None (λ o. o ≡ None → position_or_len test xs ≡ length xs)
-    (λ _ some. absurd (cc))
-    (λ past _. past-end xs (grind arith))
-    is
+found_none test xs is = let f = few xs in grind (arith, nat_tests, is)
   where
     few : (ys : List Bool) → position_or_len test ys ≤ length ys
     few [] = omega arith
-    few (y ∷ ys) =
-        let rest = few ys in
-        cond_both (not (test y)) (1 + position_or_len test ys) 0 (λ n. n ≤ suc (length ys)) (λ _. omega arith) (λ _. omega arith)
-
-    past-end : (ys : List Bool) → length ys ≤ position_or_len test ys → position_or_len test ys ≡ length ys
-    past-end ys past = let f = few ys in omega arith
+    few (y ∷ ys) = let rest = few ys in grind arith
 
 -- and the first byte that passes a test
 pub first_byte : (test : ℕ → Bool) (bytes : List ℕ) (found : Option ℕ) → IsFirstByte test bytes found → found ≡ position test bytes
@@ -108,20 +90,15 @@ takes_turn t thread = is_ready thread.1.state && nat_lt t thread.0
 
 number-found : (t : ℕ) (i : ℕ) (r : ThreadRow) (xs : List (ℕ × ThreadRow)) (v : Bool) → takes_turn t (i, r) ≡ v
     → option_map (λ (x : ℕ × ThreadRow). x.0) (find (takes_turn t) ((i, r) ∷ xs)) ≡ (if v then Some i else option_map (λ (x : ℕ × ThreadRow). x.0) (find (takes_turn t) xs))
-number-found t i r xs true is = ap (λ b. option_map (λ (x : ℕ × ThreadRow). x.0) (if b then Some (i, r) else find (takes_turn t) xs)) is
-number-found t i r xs false is = ap (λ b. option_map (λ (x : ℕ × ThreadRow). x.0) (if b then Some (i, r) else find (takes_turn t) xs)) is
+number-found t i r xs v is = grind arith
 
 -- from places that are all above the number
 abbrev from_place : ℕ → List ℕ → Option ℕ
 from_place i marks = option_map (λ p. i + p + 1) (position (λ mark. mark == 1) marks)
 
 position-cons : (b : Bool) (marks : List ℕ) → position (λ mark. mark == 1) ((if b then 1 else 0) ∷ marks) ≡ (if b then Some 0 else option_map (λ p. suc p) (position (λ mark. mark == 1) marks))
-position-cons true marks = ap (λ b. if b then Some 0 else None) (lt-ltb 0 (suc (length marks)) (omega arith))
-position-cons false marks =
-    cond_both (nat_lt (position_or_len (λ mark. mark == 1) marks) (length marks)) (Some (position_or_len (λ mark. mark == 1) marks)) None
-    (λ o. (if nat_lt (1 + position_or_len (λ mark. mark == 1) marks) (suc (length marks)) then Some (1 + position_or_len (λ mark. mark == 1) marks) else None) ≡ option_map (λ p. suc p) o)
-    (λ within. ap (λ b. if b then Some (1 + position_or_len (λ mark. mark == 1) marks) else None) (lt-ltb (1 + position_or_len (λ mark. mark == 1) marks) (suc (length marks)) (grind arith)) ∙ ap (λ n. Some n) (omega arith))
-    (λ past. ap (λ b. if b then Some (1 + position_or_len (λ mark. mark == 1) marks) else None) (le-ltb (1 + position_or_len (λ mark. mark == 1) marks) (suc (length marks)) (grind arith)))
+position-cons true marks = grind (arith, nat_tests)
+position-cons false marks = grind (arith, nat_tests)
 
 from-cons : (i : ℕ) (b : Bool) (marks : List ℕ) → from_place i ((if b then 1 else 0) ∷ marks) ≡ (if b then Some (i + 1) else from_place (i + 1) marks)
 from-cons i b marks = ap (option_map (λ p. i + p + 1)) (position-cons b marks) ∙ by_first b (position (λ mark. mark == 1) marks)
@@ -132,18 +109,10 @@ from-cons i b marks = ap (option_map (λ p. i + p + 1)) (position-cons b marks) 
     by_first false (Some p) = ap (λ n. Some n) (omega arith)
 
 turn-now : (t i : ℕ) (r : ThreadRow) → t ≤ i → takes_turn t (i + 1, r) ≡ is_ready r.state
-turn-now t i r above = by_state (is_ready r.state)
-  where
-    by_state : (v : Bool) → (v && nat_lt t (i + 1)) ≡ v
-    by_state false = refl
-    by_state true = lt-ltb t (i + 1) (omega arith)
+turn-now t i r above = grind (arith, nat_tests)
 
 turn-past : (t i : ℕ) (r : ThreadRow) → i < t → takes_turn t (i + 1, r) ≡ false
-turn-past t i r past = by_state (is_ready r.state)
-  where
-    by_state : (v : Bool) → (v && nat_lt t (i + 1)) ≡ false
-    by_state false = refl
-    by_state true = le-ltb t (i + 1) (omega arith)
+turn-past t i r past = grind (arith, nat_tests)
 
 above-all : (t i : ℕ) (rows : List (Option ThreadRow)) → t ≤ i → option_map (λ (x : ℕ × ThreadRow). x.0) (find (takes_turn t) (numbered (live_from i rows))) ≡ from_place i (map turn_mark rows)
 above-all t i [] above = refl
@@ -180,10 +149,6 @@ put_listed rows taken ready k new some turn good some_is turn_is held = record {
   ready_are = ap (λ xs. slice_set xs k turn) held.ready_are ∙ ap (λ mark. slice_set (map turn_mark rows) k mark) turn_is ∙ sym (map-set turn_mark rows k new);
 }
 
-length-said : {Y : Type 0} (f : Option ThreadRow → Y) (rows : List (Option ThreadRow)) → length (map f rows) ≡ length rows
-length-said f [] = refl
-length-said f (row ∷ rows) = ap suc (length-said f rows)
-
 module _ (rows : List (Option ThreadRow)) (taken : List Bool) (ready : List ℕ) (held : AreListed rows taken ready) where
   -- the lowest free number
   pub free_is : (place : ℕ) → position (λ is. not is) taken ≡ Some place → IsFreeNumber (numbered (live_from 0 rows)) (Some (place + 1))
@@ -191,7 +156,7 @@ module _ (rows : List (Option ThreadRow)) (taken : List Bool) (ready : List ℕ)
       let at = found_at (λ is. not is) (map is_taken rows) place (subst (λ xs. position (λ is. not is) xs ≡ Some place) held.taken_are found) in
       let here = at.0 in
       let within = at.1 in
-      let long = length-said is_taken rows in
+      let long = length-map rows is_taken in
       let all = held.by_number.long in
       let number : 0 + 1 + position_or_len (λ is. not is) (map is_taken rows) ≡ place + 1 = omega arith in
       let fewer = taken-not_all 0 rows (omega arith) in
@@ -200,7 +165,7 @@ module _ (rows : List (Option ThreadRow)) (taken : List Bool) (ready : List ℕ)
   pub free_gone : position (λ is. not is) taken ≡ None → IsFreeNumber (numbered (live_from 0 rows)) None
   free_gone none =
       let all = found_none (λ is. not is) (map is_taken rows) (subst (λ xs. position (λ is. not is) xs ≡ None) held.taken_are none) in
-      let long = length-said is_taken rows in
+      let long = length-map rows is_taken in
       let full = taken-all 0 rows (omega arith) in
       let places = held.by_number.long in
       omega arith

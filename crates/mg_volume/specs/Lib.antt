@@ -6,6 +6,7 @@ pub mod Staging
 pub mod Calls
 -- What the parts of this crate do.
 pub mod RowLists
+pub mod Changes
 pub mod StagesAccounts
 pub mod StagesRows
 pub mod Numbered

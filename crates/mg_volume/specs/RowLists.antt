@@ -1,4 +1,5 @@
 -- Live rows with their places, as a list: what stands at a place, and the list with another row there.
+use Rattle.std.proofs.lemmas.Bool.Decides.{nat_tests}
 use Rattle.std.specs.Prelude.{◌≡◌, ◌≢◌, ◌+◌, ◌≤◌, ◌<◌, ◌==◌, nat_lt, ℕ, zero, suc, All, List, [], ◌∷◌, if◌then◌else◌, Option, Some, None}
 use Rattle.std.proofs.Common.{refl, sym, ap, subst, ◌∙◌, ⊎_elim, arith}
 use Rattle.std.proofs.lemmas.Bool.{cases_eq, cases_lt, eq-eqb, le-ltb, lt-ltb, ne_eqb}
@@ -41,28 +42,22 @@ placed_wider low low' high high' ((i, r) ∷ rows) wide same placed =
 -- no row stands before the first
 pub row_before : {R : Type 0} (low high j : ℕ) (rows : List (ℕ × R)) → ArePlaced low high rows → j < low → row_at j rows ≡ None
 row_before low high j [] placed before = refl
-row_before low high j ((i, r) ∷ rows) placed before =
-    let above = placed.0 in
-    ap (λ b. if b then Some r else row_at j rows) (ne_eqb i j (λ is. omega arith)) ∙ row_before (i + 1) high j rows placed.2 (omega arith)
+row_before low high j ((i, r) ∷ rows) placed before = let above = placed.0 in grind (arith, nat_tests, row_before (i + 1) high j rows placed.2 (omega arith))
 
 row_here : {R : Type 0} (i : ℕ) (r : R) (rows : List (ℕ × R)) → row_at i ((i, r) ∷ rows) ≡ Some r
 row_here i r rows = ap (λ b. if b then Some r else row_at i rows) (eq-eqb i i refl)
 
 row_behind : {R : Type 0} (i j : ℕ) (r : R) (rows : List (ℕ × R)) → i ≢ j → row_at j ((i, r) ∷ rows) ≡ row_at j rows
-row_behind i j r rows other = ap (λ b. if b then Some r else row_at j rows) (ne_eqb i j other)
+row_behind i j r rows other = grind (arith, nat_tests)
 
 told-more : {R : Type 0} (f : ℕ → Read R) (i n : ℕ) (row : Option R) (rest : List (ℕ × R)) → f i ≡ Some row → AreTold f (i + 1) n rest → AreTold f i (suc n) (with_live i row rest)
 told-more f i n None rest here told = record {
   placed = placed_wider (i + 1) i (i + 1 + n) (i + suc n) rest (omega arith) (omega arith) told.placed;
-  each = λ j low high.
-      ⊎_elim (λ is. ap f is ∙ here ∙ ap (λ o. Some o) (sym (ap (λ k. row_at k rest) is ∙ row_before (i + 1) (i + 1 + n) i rest told.placed (omega arith))))
-      (λ other. told.each j (omega arith) (omega arith)) (cases_eq j i);
+  each = λ j low high. let gone = row_before (i + 1) (i + 1 + n) i rest told.placed (omega arith) in let later : j ≢ i → f j ≡ Some (row_at j rest) = λ other. told.each j (omega arith) (omega arith) in grind arith;
 }
 told-more f i n (Some r) rest here told = record {
   placed = (omega arith, omega arith, placed_wider (i + 1) (i + 1) (i + 1 + n) (i + suc n) rest (omega arith) (omega arith) told.placed);
-  each = λ j low high.
-      ⊎_elim (λ is. ap f is ∙ here ∙ ap (λ o. Some o) (sym (ap (λ k. row_at k ((i, r) ∷ rest)) is ∙ row_here i r rest)))
-      (λ other. told.each j (omega arith) (omega arith) ∙ ap (λ o. Some o) (sym (row_behind i j r rest (λ is. other (sym is))))) (cases_eq j i);
+  each = λ j low high. let later : j ≢ i → f j ≡ Some (row_at j rest) = λ other. told.each j (omega arith) (omega arith) in grind (arith, nat_tests);
 }
 
 pub told : {R : Type 0} (f : ℕ → Read R) (i n : ℕ) (rows : List (ℕ × R)) → live_rows f i n ≡ Some rows → AreTold f i n rows
@@ -88,28 +83,23 @@ tell f i zero ((j, r) ∷ rows) is_told =
     absurd (omega arith)
 tell f i (suc n) [] is_told =
     let rest = tell f (i + 1) n [] (record { placed = tt; each = λ j low high. is_told.each j (omega arith) (omega arith) }) in
-    ap (λ o. and_then o (λ row. and_then (live_rows f (i + 1) n) (λ rows. Some (with_live i row rows)))) (is_told.each i (omega arith) (omega arith))
-    ∙ ap (λ o. and_then o (λ rows. Some (with_live i None rows))) rest
-tell f i (suc n) ((j, r) ∷ rows) is_told = ⊎_elim (here (tell f (i + 1) n rows)) (there (tell f (i + 1) n ((j, r) ∷ rows))) (cases_eq j i)
-  where
-    here : (AreTold f (i + 1) n rows → live_rows f (i + 1) n ≡ Some rows) → j ≡ i → live_rows f i (suc n) ≡ Some ((j, r) ∷ rows)
-    here more is =
-        ap (λ o. and_then o (λ row. and_then (live_rows f (i + 1) n) (λ rows. Some (with_live i row rows))))
-        (is_told.each i (omega arith) (omega arith) ∙ ap (λ b. Some (if b then Some r else row_at i rows)) (eq-eqb j i is))
-        ∙ ap (λ o. and_then o (λ rows. Some (with_live i (Some r) rows)))
-        (more
-        (record {
-          placed = placed_wider (j + 1) (i + 1) (i + suc n) (i + 1 + n) rows (omega arith) (omega arith) is_told.placed.2;
-          each = λ k low high. is_told.each k (omega arith) (omega arith) ∙ ap (λ o. Some o) (row_behind j k r rows (λ same. omega arith));
-        }))
-        ∙ ap (λ k. Some ((k, r) ∷ rows)) (sym is)
-
-    there : (AreTold f (i + 1) n ((j, r) ∷ rows) → live_rows f (i + 1) n ≡ Some ((j, r) ∷ rows)) → (j ≡ i → ⊥) → live_rows f i (suc n) ≡ Some ((j, r) ∷ rows)
-    there more other =
-        let low = is_told.placed.0 in
-        ap (λ o. and_then o (λ row. and_then (live_rows f (i + 1) n) (λ rows. Some (with_live i row rows))))
-        (is_told.each i (omega arith) (omega arith) ∙ ap (λ o. Some o) (row_before (i + 1) (i + suc n) i ((j, r) ∷ rows) (omega arith, is_told.placed.1, is_told.placed.2) (omega arith)))
-        ∙ ap (λ o. and_then o (λ rows. Some (with_live i None rows))) (more (record { placed = (omega arith, omega (arith, is_told.placed.1), placed_wider (j + 1) (j + 1) (i + suc n) (i + 1 + n) rows (omega arith) (omega arith) is_told.placed.2); each = λ k above below. is_told.each k (omega arith) (omega arith) }))
+    let first = is_told.each i (omega arith) (omega arith) in
+    grind arith
+tell f i (suc n) ((j, r) ∷ rows) is_told =
+    let low = is_told.placed.0 in
+    let first = is_told.each i (omega arith) (omega arith) in
+    ⊎_elim
+    (λ (is : j ≡ i).
+    let rest = tell f (i + 1) n rows (record {
+      placed = placed_wider (j + 1) (i + 1) (i + suc n) (i + 1 + n) rows (omega arith) (omega arith) is_told.placed.2;
+      each = λ k above below. is_told.each k (omega arith) (omega arith) ∙ ap (λ o. Some o) (row_behind j k r rows (λ same. omega arith));
+    }) in
+    grind (arith, nat_tests))
+    (λ other.
+    let rest = tell f (i + 1) n ((j, r) ∷ rows) (record { placed = (omega arith, omega (arith, is_told.placed.1), placed_wider (j + 1) (j + 1) (i + suc n) (i + 1 + n) rows (omega arith) (omega arith) is_told.placed.2); each = λ k above below. is_told.each k (omega arith) (omega arith) }) in
+    let gone = row_before (i + 1) (i + suc n) i ((j, r) ∷ rows) (omega arith, is_told.placed.1, is_told.placed.2) (omega arith) in
+    grind (arith, nat_tests))
+    (cases_eq j i)
 
 -- another row at a place
 live_placed : {R : Type 0} (low high p : ℕ) (new : Option R) (rows : List (ℕ × R)) → ArePlaced (p + 1) high rows → low ≤ p → p < high → ArePlaced low high (with_live p new rows)
@@ -145,21 +135,9 @@ live_at low high p (Some r) rows placed before = row_here p r rows
 pub set_at : {R : Type 0} (low high p : ℕ) (new : Option R) (rows : List (ℕ × R)) → ArePlaced low high rows → row_at p (row_set p new rows) ≡ new
 set_at low high p new [] placed = live_at (p + 1) (p + 1) p new [] tt (omega arith)
 set_at low high p new ((i, r) ∷ rows) placed =
-    ⊎_elim
-    (λ (before : p < i).
-    ap (λ b. row_at p (if b then with_live p new ((i, r) ∷ rows) else if p == i then with_live p new rows else (i, r) ∷ row_set p new rows)) (lt-ltb p i before)
-    ∙ live_at i high p new ((i, r) ∷ rows) (omega arith, placed.1, placed.2) before)
-    (λ behind.
-    ap (λ b. row_at p (if b then with_live p new ((i, r) ∷ rows) else if p == i then with_live p new rows else (i, r) ∷ row_set p new rows)) (le-ltb p i behind)
-    ∙ ⊎_elim
-    (λ (same : p ≡ i).
-    ap (λ b. row_at p (if b then with_live p new rows else (i, r) ∷ row_set p new rows)) (eq-eqb p i same) ∙ live_at (i + 1) high p new rows placed.2 (omega arith))
-    (λ other.
-    ap (λ b. row_at p (if b then with_live p new rows else (i, r) ∷ row_set p new rows)) (ne_eqb p i other)
-    ∙ row_behind i p r (row_set p new rows) (λ is. other (sym is))
-    ∙ set_at (i + 1) high p new rows placed.2)
-    (cases_eq p i))
-    (cases_lt p i)
+    let before : p < i → row_at p (with_live p new ((i, r) ∷ rows)) ≡ new = live_at i high p new ((i, r) ∷ rows) (omega arith, placed.1, placed.2) in
+    let here : p < i + 1 → row_at p (with_live p new rows) ≡ new = live_at (i + 1) high p new rows placed.2 in
+    grind (arith, nat_tests, before, here, set_at (i + 1) high p new rows placed.2)
 
 live_other : {R : Type 0} (j p : ℕ) (new : Option R) (rows : List (ℕ × R)) → j ≢ p → row_at j (with_live p new rows) ≡ row_at j rows
 live_other j p None rows other = refl
@@ -167,23 +145,7 @@ live_other j p (Some r) rows other = row_behind p j r rows (λ is. other (sym is
 
 pub set_other : {R : Type 0} (j p : ℕ) (new : Option R) (rows : List (ℕ × R)) → j ≢ p → row_at j (row_set p new rows) ≡ row_at j rows
 set_other j p new [] other = live_other j p new [] other
-set_other j p new ((i, r) ∷ rows) other =
-    ⊎_elim
-    (λ (before : p < i).
-    ap (λ b. row_at j (if b then with_live p new ((i, r) ∷ rows) else if p == i then with_live p new rows else (i, r) ∷ row_set p new rows)) (lt-ltb p i before)
-    ∙ live_other j p new ((i, r) ∷ rows) other)
-    (λ behind.
-    ap (λ b. row_at j (if b then with_live p new ((i, r) ∷ rows) else if p == i then with_live p new rows else (i, r) ∷ row_set p new rows)) (le-ltb p i behind)
-    ∙ ⊎_elim
-    (λ (same : p ≡ i).
-    ap (λ b. row_at j (if b then with_live p new rows else (i, r) ∷ row_set p new rows)) (eq-eqb p i same)
-    ∙ live_other j p new rows other
-    ∙ sym (row_behind i j r rows (λ is. other (sym is ∙ sym same))))
-    (λ apart.
-    ap (λ b. row_at j (if b then with_live p new rows else (i, r) ∷ row_set p new rows)) (ne_eqb p i apart)
-    ∙ ap (λ o. if i == j then Some r else o) (set_other j p new rows other))
-    (cases_eq p i))
-    (cases_lt p i)
+set_other j p new ((i, r) ∷ rows) other = grind (arith, nat_tests, live_other j p new ((i, r) ∷ rows) other, live_other j p new rows other, set_other j p new rows other)
 
 -- So live rows with another one at a place are the rows with it.
 pub told_set : {R : Type 0} (f g : ℕ → Read R) (n p : ℕ) (new : Option R) (rows : List (ℕ × R)) → live_rows f 0 n ≡ Some rows → p < n → g p ≡ Some new → ((j : ℕ) → j < n → j ≢ p → g j ≡ f j) → live_rows g 0 n ≡ Some (row_set p new rows)

@@ -1,8 +1,8 @@
 -- What is coming of an image is the state, where accounts, objects and threads keep the rules between them.
-use Rattle.std.specs.Prelude.{◌≡◌, ◌+◌, ◌==◌, ◌&&◌, ◌||◌, nat_le, nat_lt, ℕ, Bool, true, false, List, [], ◌∷◌, if◌then◌else◌, drop, length, map, sum_by, Some}
+use Rattle.std.specs.Prelude.{◌≡◌, ◌+◌, ◌==◌, ◌&&◌, ◌||◌, nat_le, ℕ, Bool, true, false, List, [], ◌∷◌, if◌then◌else◌, drop, length, map, sum_by, Some}
 use Rattle.std.specs.List.{list_all, list_any}
 use Rattle.std.specs.Option.{option_map_or}
-use Rattle.std.proofs.Common.{refl, sym, ap, subst, ◌∙◌, ⊎_elim}
+use Rattle.std.proofs.Common.{refl, sym, ap, subst, ◌∙◌, ⊎_elim, arith}
 use Rattle.std.proofs.lemmas.Bool.{and_from, and_parts, cases_Bool, eq-eqb}
 use Rattle.std.proofs.lemmas.List.Sums.{sum_by-cons}
 use Rattle.mg_disk.specs.Disk.{Image}
@@ -65,18 +65,7 @@ threads-numbered (t ∷ rows) = ap (λ rest. record { number = t.0 + 1; row = t.
 module _ (r : Image) (frames : ℕ) (table : List ℕ) where
   pub object-placed : (o : ℕ × ObjectRow) (os : List (ℕ × ObjectRow)) → with_object (object_spelled r frames table o.1) (all_spelled r frames table os) ≡ all_spelled r frames table (into_place o os)
   object-placed o [] = refl
-  object-placed o (next ∷ os) = ⊎_elim before (behind (object-placed o os)) (cases_Bool (nat_lt o.1.base next.1.base))
-    where
-      before : nat_lt o.1.base next.1.base ≡ true → with_object (object_spelled r frames table o.1) (all_spelled r frames table (next ∷ os)) ≡ all_spelled r frames table (into_place o (next ∷ os))
-      before t =
-          ap (λ b. if b then object_spelled r frames table o.1 ∷ all_spelled r frames table (next ∷ os) else object_spelled r frames table next.1 ∷ with_object (object_spelled r frames table o.1) (all_spelled r frames table os)) t
-          ∙ sym (ap (λ b. all_spelled r frames table (if b then o ∷ next ∷ os else next ∷ into_place o os)) t)
-
-      behind : with_object (object_spelled r frames table o.1) (all_spelled r frames table os) ≡ all_spelled r frames table (into_place o os) → nat_lt o.1.base next.1.base ≡ false → with_object (object_spelled r frames table o.1) (all_spelled r frames table (next ∷ os)) ≡ all_spelled r frames table (into_place o (next ∷ os))
-      behind rest t =
-          ap (λ b. if b then object_spelled r frames table o.1 ∷ all_spelled r frames table (next ∷ os) else object_spelled r frames table next.1 ∷ with_object (object_spelled r frames table o.1) (all_spelled r frames table os)) t
-          ∙ ap (λ objects. object_spelled r frames table next.1 ∷ objects) rest
-          ∙ sym (ap (λ b. all_spelled r frames table (if b then o ∷ next ∷ os else next ∷ into_place o os)) t)
+  object-placed o (next ∷ os) = grind (arith, object-placed o os)
 
   pub objects-placed : (rows : List (ℕ × ObjectRow)) → objects_spelled r frames table rows ≡ all_spelled r frames table (by_base rows)
   objects-placed [] = refl
@@ -95,7 +84,7 @@ paid-rows : (accounts : ℕ) (objects : List Object) → list_all (λ (object : 
 paid-rows accounts [] = refl
 paid-rows accounts (object ∷ objects) = ap (λ t. nat_le object.row.account accounts && t) (paid-rows accounts objects)
 
-used-rows : (objects : List Object) → used objects ≡ sum_by (λ (row : ObjectRow). row.pages) (map (λ (object : Object). object.row) objects)
+pub used-rows : (objects : List Object) → used objects ≡ sum_by (λ (row : ObjectRow). row.pages) (map (λ (object : Object). object.row) objects)
 used-rows [] = refl
 used-rows (object ∷ objects) =
     sum_by-cons (λ (object : Object). object.row.pages) object objects

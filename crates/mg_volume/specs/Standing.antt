@@ -1,6 +1,6 @@
 -- A thread that stands elsewhere: another pc, another state and other registers, in its row and in its block; and its block as it
 -- is staged.
-use Rattle.std.specs.Prelude.{◌≡◌, ℕ, List, Option, Some, slice_set, true}
+use Rattle.std.specs.Prelude.{◌≡◌, ℕ, List, Option, Some}
 use Rattle.mg_disk.specs.Disk.{Image, block_at}
 use Rattle.mg_model.specs.declared.threads.ThrState.{ThrState}
 use Rattle.mg_model.specs.Layout.{globals_block}
@@ -8,6 +8,7 @@ use Rattle.mg_model.specs.Spelling.{globals_bytes, thread_bytes, thread_read}
 use Rattle.mg_model.specs.State.{Counters, ThreadRow}
 use Rattle.mg_pages.specs.declared.pages.Pages.{Pages}
 use Rattle.mg_pages.specs.Meaning as pages
+use Rattle.mg_volume.specs.Changes.{StagesBlock}
 
 -- the row of a thread that stands elsewhere
 abbrev pub stands_at : ℕ → ThrState → List ℕ → ThreadRow → ThreadRow
@@ -29,10 +30,4 @@ pub record RespellsCounters (counters : Counters) (old new : Pages) : Type 0 whe
 pub record StagesThread (block : ℕ) (row : Option ThreadRow) (old new : Pages) : Type 0 where
   pub bytes : List ℕ
   pub read : thread_read bytes ≡ Some row
-  pub coming : (image : Image) → pages.coming new image ≡ slice_set (pages.coming old image) block bytes
-  pub table : pages.table_in new ≡ pages.table_in old
-  pub shape : pages.SameShape old new
-  pub staged : pages.StagesMore 1 old new
-  pub here : pages.is_staged new block ≡ true
-  pub words : pages.words_in new ≡ pages.words_in old
-  pub spelled : (image : Image) → pages.IsSpelledBy old image → pages.IsSpelledBy new image
+  pub staged : StagesBlock block bytes old new

@@ -1,9 +1,9 @@
 // The block of four rows of objects.
-ghost use Rattle.std.specs.Prelude.{◌≡◌, ◌<◌, ◌+◌, ◌*◌, ◌/◌, ◌⊎◌, true, ℕ, List, None, Some};
+ghost use Rattle.std.specs.Prelude.{◌≡◌, ◌<◌, ◌+◌, ◌*◌, ◌/◌, ◌⊎◌, true, ℕ, None, Some};
 ghost use Rattle.std.specs.Option.{option_map_or};
 ghost use Rattle.mg_model.specs.Layout.{body_limit, first_object_block};
 ghost use Rattle.mg_model.specs.Limits.{object_limit};
-ghost use Rattle.mg_pages.specs.Meaning.{IsSpelledBy, SameShape, StagesMore, is_staged, staged_of, table_in, words_in};
+ghost use Rattle.mg_pages.specs.Meaning.{is_staged, staged_of};
 ghost use Rattle.mg_rows.specs.Blocks.{object_in};
 ghost use Rattle.mg_volume.specs.RowLists.{row_at};
 ghost use Rattle.mg_volume.specs.StagesRows.{StagesRows};
@@ -42,13 +42,7 @@ pub(crate) fn object_block(objects: &Space, quad: u64) -> Block
 pub(crate) fn stage_row(pages: &mut Pages, objects: &Space, place: u64)
     requires place { place < object_limit }
     requires staged_or_fewer_than_160 { (is_staged pages.old (first_object_block + place / 4) ≡ true) ⊎ (staged_of pages.old < body_limit) }
-    ensures rows { StagesRows objects.now place pages.old pages.new }
-    ensures table { table_in pages.new ≡ table_in pages.old }
-    ensures shape { SameShape pages.old pages.new }
-    ensures staged { StagesMore 1 pages.old pages.new }
-    ensures here { is_staged pages.new (first_object_block + place / 4) ≡ true }
-    ensures words { words_in pages.new ≡ words_in pages.old }
-    ensures spelled { (image : List (List ℕ)) → IsSpelledBy pages.old image → IsSpelledBy pages.new image }
+    ensures { StagesRows objects.now place pages.old pages.new }
 {
     let block = object_block(objects, place / 4);
     pages.stage(FIRST_OBJECT_BLOCK + place / 4, &block);

@@ -3,7 +3,7 @@ ghost use Rattle.std.specs.Prelude.{List, ◌≡◌, ◌≤◌, ◌<◌, ◌==�
 ghost use Rattle.std.specs.List.{list_any};
 ghost use Rattle.mg_model.specs.Layout.{body_limit};
 ghost use Rattle.mg_model.specs.Objects.{page_of};
-ghost use Rattle.mg_pages.specs.Meaning.{IsSpelledBy, Releases, SameShape, StagesMore, Unbinds, staged_of, table_in, words_in};
+ghost use Rattle.mg_pages.specs.Meaning.{IsSpelledBy, Releases, SameShape, StagesMore, Unbinds, staged_of, words_in};
 ghost use Rattle.mg_space.specs.Space.{ArePaid};
 ghost use Rattle.mg_volume.specs.StagesRows.{StagesRows};
 
@@ -29,11 +29,6 @@ pub(crate) fn take_object(
     ensures paid { ArePaid bank.new.pages objects.new }
     ensures accounts { bank.new.accounts ≡ bank.old.accounts }
     ensures rows { StagesRows objects.new result.0 pages.old pages.new }
-    ensures table { table_in pages.new ≡ table_in pages.old }
-    ensures shape { SameShape pages.old pages.new }
-    ensures staged { StagesMore 1 pages.old pages.new }
-    ensures words { words_in pages.new ≡ words_in pages.old }
-    ensures spelled { (image : List (List ℕ)) → IsSpelledBy pages.old image → IsSpelledBy pages.new image }
 {
     // It tells that each place is one of the table.
     objects.objects().keep_rules();

@@ -1,4 +1,4 @@
-use Rattle.std.proofs.Common.{◌≡◌, ◌∙◌, ℕ, List, ap, arith, refl, subst, sym, true}
+use Rattle.std.proofs.Common.{◌≡◌, ◌∙◌, ℕ, List, ap, arith, refl, rules, subst, sym, true}
 use Rattle.std.specs.Option.{ForSome}
 use Rattle.mg_disk.specs.Disk.{Image}
 use Rattle.mg_model.specs.State.{ObjectRow}
@@ -33,9 +33,10 @@ invariant_of-result g c =
     let P : VolumeHeld → Type 0 = λ v. IsKept v in
     record { kept = subst P (sym made) (held_is rows c.requires.kept p said.table said.frames); paid = held.paid }
 
-pub returns-in-Ok-clause-opens : goal.returns-in-Ok-clause-opens
-returns-in-Ok-clause-opens g c =
+pub returns-in-Ok : goal.returns-in-Ok
+returns-in-Ok g c =
     let rows = c.args.rows in
+    let kept = c.requires.kept in
     let p = c.in-Ok.pages in
     let l = c.in-Some.lists in
     let held = c.in-Some.ensures in
@@ -43,58 +44,22 @@ returns-in-Ok-clause-opens g c =
     let said = c.in-Ok.ensures.opened in
     let same = c.requires.total in
     let are : ArePages rows (store_of p) p = record { store_is = refl; total = said.total ∙ same; frames = said.frames; table = said.table; coming = said.coming; spelled = said.spelled } in
-    let P : VolumeHeld → Type 0 = λ v. ForSome (g.D.Disk.seen c.args.disk.now) (λ image. Opens (volume image) v (g.D.Disk.seen c.open_pages.new.disk)) in
-    subst P (sym made) (opens_now rows c.requires.kept (store_of p) p are g.D.Disk c.args.view.total same c.args.disk.now c.open_pages.new.disk c.requires.told said.stands c.in-Ok.ensures.contents)
-
-pub returns-in-Ok-clause-stands : goal.returns-in-Ok-clause-stands
-returns-in-Ok-clause-stands g c =
-    let rows = c.args.rows in
-    let p = c.in-Ok.pages in
-    let l = c.in-Some.lists in
-    let held = c.in-Some.ensures in
-    let made = made_is rows p l.objects l.bank.accounts l.threads (held.objects ∙ same_objects rows) held.accounts held.threads in
-    let said = c.in-Ok.ensures.opened in
-    let same = c.requires.total in
-    let are : ArePages rows (store_of p) p = record { store_is = refl; total = said.total ∙ same; frames = said.frames; table = said.table; coming = said.coming; spelled = said.spelled } in
-    let P : VolumeHeld → Type 0 = λ v. StandsOn g.D.Disk v c.open_pages.new.disk in
-    subst P (sym made) (stands_now rows c.requires.kept (store_of p) p are g.D.Disk c.args.view.total same c.args.disk.now c.open_pages.new.disk c.requires.told said.stands c.in-Ok.ensures.came_from)
-
-pub returns-in-Ok-clause-sound : goal.returns-in-Ok-clause-sound
-returns-in-Ok-clause-sound g c =
-    let rows = c.args.rows in
-    let p = c.in-Ok.pages in
-    let l = c.in-Some.lists in
-    let held = c.in-Some.ensures in
-    let made = made_is rows p l.objects l.bank.accounts l.threads (held.objects ∙ same_objects rows) held.accounts held.threads in
-    let said = c.in-Ok.ensures.opened in
-    let P : VolumeHeld → Type 0 = λ v. (image : Image) → is_sound (now_of v image) ≡ true in
-    subst P (sym made) (sound_is rows c.requires.kept p said.table said.frames)
-
-pub returns-in-Ok-clause-staged : goal.returns-in-Ok-clause-staged
-returns-in-Ok-clause-staged g c =
-    let rows = c.args.rows in
-    let p = c.in-Ok.pages in
-    let l = c.in-Some.lists in
-    let held = c.in-Some.ensures in
-    let made = made_is rows p l.objects l.bank.accounts l.threads (held.objects ∙ same_objects rows) held.accounts held.threads in
-    let said = c.in-Ok.ensures.opened in
-    ap staged_of made ∙ staged_none rows p said.staged
-
-pub returns-in-Ok-clause-live : goal.returns-in-Ok-clause-live
-returns-in-Ok-clause-live g c =
-    let rows = c.args.rows in
-    let p = c.in-Ok.pages in
-    let l = c.in-Some.lists in
-    let held = c.in-Some.ensures in
-    let made = made_is rows p l.objects l.bank.accounts l.threads (held.objects ∙ same_objects rows) held.accounts held.threads in
-    let said = c.in-Ok.ensures.opened in
-    ap is_live made ∙ live_is rows p said.live
-
-pub returns-in-Ok-clause-any_moment : goal.returns-in-Ok-clause-any_moment
-returns-in-Ok-clause-any_moment g c pending =
-    let rows = c.args.rows in
-    let same = c.requires.total in
-    leaves_still rows g.D.Disk c.args.view.total same c.args.disk.now c.open_pages.new.disk c.requires.told (c.open_pages.ensures.any_moment pending)
+    let new = c.open_pages.new.disk in
+    let Seen : VolumeHeld → Type 0 = λ v. ForSome (g.D.Disk.seen c.args.disk.now) (λ image. Opens (volume image) v (g.D.Disk.seen new)) in
+    let Stands : VolumeHeld → Type 0 = λ v. StandsOn g.D.Disk v new in
+    let Sound : VolumeHeld → Type 0 = λ v. (image : Image) → is_sound (now_of v image) ≡ true in
+    record {
+      opens = subst Seen (sym made) (opens_now rows kept (store_of p) p are g.D.Disk c.args.view.total same c.args.disk.now new c.requires.told said.stands c.in-Ok.ensures.contents);
+      stands = subst Stands (sym made) (stands_now rows kept (store_of p) p are g.D.Disk c.args.view.total same c.args.disk.now new c.requires.told said.stands c.in-Ok.ensures.came_from);
+      sound = subst Sound (sym made) (sound_is rows kept p said.table said.frames);
+      staged = ap staged_of made ∙ staged_none rows p said.staged;
+      live = ap is_live made ∙ live_is rows p said.live;
+      any_moment = λ pending. leaves_still rows g.D.Disk c.args.view.total same c.args.disk.now new c.requires.told (c.open_pages.ensures.any_moment pending);
+      no_not = search rules;
+      no_old = search rules;
+      no_damaged = search rules;
+      calls = search rules;
+    }
 
 pub returns-in-Err-clause-any_moment : goal.returns-in-Err-clause-any_moment
 returns-in-Err-clause-any_moment g c pending =

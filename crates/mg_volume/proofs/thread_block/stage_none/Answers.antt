@@ -4,11 +4,5 @@ pub returns : goal.returns
 returns c = record {
   bytes = c.thread_block.result;
   read = c.thread_block.ensures.read_back;
-  coming = c.stage.ensures.coming;
-  table = c.stage.ensures.table;
-  shape = c.stage.ensures.shape;
-  staged = c.stage.ensures.staged;
-  here = c.stage.ensures.here;
-  words = c.stage.ensures.words;
-  spelled = c.stage.ensures.spelled;
+  staged = record { coming = c.stage.ensures.coming; table = c.stage.ensures.table; shape = c.stage.ensures.shape; staged = c.stage.ensures.staged; here = c.stage.ensures.here; words = c.stage.ensures.words; spelled = c.stage.ensures.spelled };
 }

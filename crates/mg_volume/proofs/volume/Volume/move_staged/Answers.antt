@@ -1,41 +1,37 @@
 use Rattle.std.proofs.Common.{◌∙◌, ◌==◌, Some, find, refl, sym}
 use Rattle.mg_model.specs.State.{Thread}
 use Rattle.mg_volume.proofs.Found.{thread_found}
-use Rattle.mg_volume.proofs.StillStaged.{objects_wait}
+use Rattle.mg_volume.proofs.Stages.{restaged}
 use Rattle.mg_volume.proofs.StillWaiting.{thread_here}
 use Rattle.mg_volume.proofs.ThreadChanged.{thread_changed}
-use Rattle.mg_volume.proofs.ThreadMoved.{changes_found, moved_now, moved_stages}
-use Rattle.mg_volume.proofs.ThreadStaged.{with_threads}
+use Rattle.mg_volume.proofs.ThreadMoved.{changes_found, moved_read}
+use Rattle.mg_volume.proofs.ThreadStaged.{thread_changes, with_threads}
 use Rattle.mg_volume.specs.Meaning.{threads_in}
 use Rattle.mg_volume.specs.Standing.{stands_at}
 use Rattle.mg_volume.specs.contracts.volume.Volume.{the_view}
 use Rattle.mg_volume.proofs.volume.Volume.move_staged.Goals as goal
 
-pub returns-clause-now : goal.returns-clause-now
-returns-clause-now c = λ _ change same image.
+pub returns : goal.returns
+returns c =
     let v = the_view c.self.inside in
+    let p = c.respell.new.pages in
     let row = c.in-Some.row.now in
     let stands = stands_at c.args.pc c.args.state c.args.regs.now in
-    let put = c.stand.ensures.stands row (sym c.in-Some.ensures.found) in
+    let low = c.keep_number.ensures.at_least_1 in
+    let high = c.keep_number.ensures.at_most_256 in
+    let found = c.in-Some.ensures.found in
+    let told = c.if-not-respell.ensures.staged refl in
+    let read = moved_read v p c.args.t row (stands row) low high found told c.rows_are_spelled_in_one_way.ensures.threads (c.stand.ensures.kept row (sym found)) in
+    let all = thread_changes v p c.args.t (Some (stands row)) c.stand.new.self told.bytes low high (c.stand.ensures.stands row (sym found)) (restaged _ told.bytes c.self.inside.pages p told.restages) read in
+    let same = rw (← c.self.view_is) at c.numbers_differ.ensures in
+    let lives = rw (← c.self.view_is) at c.requires.lives in
     rw (← c.self.view_is)
-    (moved_now v c.respell.new.pages c.args.t row (stands row) c.stand.new.self c.keep_number.ensures.at_least_1 c.keep_number.ensures.at_most_256 c.in-Some.ensures.found put (c.if-not-respell.ensures.staged refl) image)
-    ∙ thread_changed c.args.self.now image c.args.t (stands row) change c.numbers_differ.ensures c.requires.lives
-    (changes_found change stands (find (λ (thread : Thread). thread.number == c.args.t) (threads_in c.args.self.now)) row (rw (← c.self.view_is) (thread_found v c.args.t (Some row) c.in-Some.ensures.found)) same)
-
-pub returns-clause-stages : goal.returns-clause-stages
-returns-clause-stages c = λ _.
-    let v = the_view c.self.inside in
-    let row = c.in-Some.row.now in
-    let found = sym c.in-Some.ensures.found in
-    let put = c.stand.ensures.stands row found in
-    rw (← c.self.view_is)
-    (moved_stages v c.respell.new.pages c.args.t row (stands_at c.args.pc c.args.state c.args.regs.now row) c.stand.new.self c.keep_number.ensures.at_least_1 c.keep_number.ensures.at_most_256 c.in-Some.ensures.found put (c.if-not-respell.ensures.staged refl)
-    c.rows_are_spelled_in_one_way.ensures.threads (c.stand.ensures.kept row found))
-
-pub returns-clause-objects : goal.returns-clause-objects
-returns-clause-objects c = λ _.
-    let v = the_view c.self.inside in
-    rw (← c.self.view_is) (objects_wait v (with_threads v c.stand.new.self c.respell.new.pages) refl (c.if-not-respell.ensures.staged refl).restages.staged.still)
-
-pub returns-clause-here : goal.returns-clause-here
-returns-clause-here c = λ _. thread_here (with_threads (the_view c.self.inside) c.stand.new.self c.respell.new.pages) c.args.t (c.if-not-respell.ensures.staged refl).restages.here
+    (record {
+      not_staged = λ e. absurd (cc);
+      now = λ _ change gives image.
+          all.now image ∙ thread_changed v image c.args.t (stands row) change same lives (changes_found change stands (find (λ (thread : Thread). thread.number == c.args.t) (threads_in v)) row (thread_found v c.args.t (Some row) found) gives);
+      rows = λ _. all.rows;
+      stages = λ _. all.stages;
+      objects = λ _. all.objects;
+      here = λ _. thread_here (with_threads v c.stand.new.self p) c.args.t told.restages.here;
+    })

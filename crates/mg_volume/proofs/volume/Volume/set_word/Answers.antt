@@ -21,7 +21,7 @@ invariant_of-self g c = record {
   kept =
       let v = the_view c.self.inside in
       let has = rw (← c.self.view_is) at c.requires.page in
-      held_again v c.set_word.new.self c.self.invariant.kept c.set_word.ensures.shape.frames
+      held_again v v.counters v.threads c.set_word.new.self c.self.invariant.kept c.self.invariant.kept.few_threads c.set_word.ensures.shape.frames
       (λ x other is. ⊎_elim (λ this. inl (ap (λ page. has_page v page) this ∙ has)) (λ before. inr before) (c.set_word.ensures.binds x is));
   paid = c.self.invariant.paid;
 }

@@ -1,39 +1,19 @@
-use Rattle.std.proofs.Common.{◌≤◌, length, refl, subst, arith}
-use Rattle.std.specs.Prelude.{List}
-use Rattle.mg_model.specs.Limits.{account_limit}
-use Rattle.mg_model.specs.declared.accounts.AccRow.{AccRow}
+use Rattle.std.proofs.Common.{◌∙◌, ap, arith}
 use Rattle.mg_volume.proofs.AccountLists.{are_both, paid_within}
-use Rattle.mg_volume.proofs.AccountsStaged.{accounts_now, accounts_stages, with_accounts}
-use Rattle.mg_volume.proofs.StillStaged.{objects_wait}
-use Rattle.mg_volume.specs.Meaning.{accounts_in}
-use Rattle.mg_volume.specs.StagesAccounts.{DifferWithin, StagesAccounts}
+use Rattle.mg_volume.proofs.AccountsStaged.{accounts_changes}
+use Rattle.mg_volume.specs.Meaning.{accounts_in, now_of}
 use Rattle.mg_volume.specs.contracts.volume.Volume.{the_view}
 use Rattle.mg_volume.proofs.volume.Volume.transfer.Goals as goal
 
-few : (c : goal.After-stage_both) → length c.transfer.new.self.accounts ≤ account_limit
-few c =
+pub returns : goal.returns
+unfolding accounts_in
+returns c =
+    let v = the_view c.self.inside in
+    let first = c.block_of-first.result in
+    let second = c.block_of-second.result in
+    let rows = c.transfer.new.self.accounts in
     let was = c.self.invariant.kept.few_accounts in
     let count = c.transfer.ensures.count in
-    omega arith
-
-stages : (c : goal.After-stage_both) → StagesAccounts 2 (are_both c.block_of-first.result c.block_of-second.result) c.transfer.new.self.accounts c.self.inside.pages c.stage_both.new.pages
-stages c = subst (λ (l : List AccRow). StagesAccounts 2 (are_both c.block_of-first.result c.block_of-second.result) l c.self.inside.pages c.stage_both.new.pages) c.rows.ensures c.stage_both.ensures
-
-within : (c : goal.After-stage_both) → DifferWithin (are_both c.block_of-first.result c.block_of-second.result) c.self.inside.bank.accounts c.transfer.new.self.accounts
-within c =
-    paid_within c.self.inside.bank.accounts c.transfer.new.self.accounts c.args.from c.args.to c.args.amount c.block_of-first.result c.block_of-second.result c.transfer.ensures.accounts c.block_of-first.ensures.block
-    c.block_of-second.ensures.block
-
-pub returns-clause-now : goal.returns-clause-now
-unfolding accounts_in
-returns-clause-now c image =
-    rw (← c.self.view_is) (accounts_now (the_view c.self.inside) c.stage_both.new.pages 2 (are_both c.block_of-first.result c.block_of-second.result) c.transfer.new.self.accounts (stages c) image _ c.transfer.ensures.accounts)
-
-pub returns-clause-stages : goal.returns-clause-stages
-returns-clause-stages c =
-    rw (← c.self.view_is) (accounts_stages (the_view c.self.inside) c.stage_both.new.pages 2 (are_both c.block_of-first.result c.block_of-second.result) c.transfer.new.self.accounts (stages c) (within c) (few c))
-
-pub returns-clause-objects : goal.returns-clause-objects
-returns-clause-objects c =
-    let v = the_view c.self.inside in
-    rw (← c.self.view_is) (objects_wait v (with_accounts v c.transfer.new.self.accounts c.stage_both.new.pages) refl c.stage_both.ensures.staged.still)
+    let within = paid_within v.accounts rows c.args.from c.args.to c.args.amount first second c.transfer.ensures.accounts c.block_of-first.ensures.block c.block_of-second.ensures.block in
+    let all = accounts_changes v c.stage_both.new.pages 2 (are_both first second) rows (rw c.rows.ensures at c.stage_both.ensures) within (omega arith) in
+    rw (← c.self.view_is) (record { now = λ image. all.now image ∙ ap (λ rows. record (now_of v image) { accounts = rows }) c.transfer.ensures.accounts; rows = all.rows; stages = all.stages; objects = all.objects })
