@@ -132,7 +132,7 @@ jump_to-back near i fits =
     ap (λ o. option_map_or (λ (name : Name). Ok (item.Jump near name)) o (from Number (distance_of (signed_text i)) (λ n. Ok (item.Word (near + n * 2 ^ 32))))) (name_of-signed i fits)
     ∙ ap (λ o. from Number o (λ n. Ok (item.Word (near + n * 2 ^ 32)))) (distance_of-back i fits)
 
--- an instruction's words are those of its line, and ask for its word
+-- an instruction's words are those of its line, and spell its word
 record IsReadBack (word : ℕ) (first : List ℕ) (more : List (List ℕ)) : Type 0 where
   pub some : is_some_word first ≡ true
   pub high : High first

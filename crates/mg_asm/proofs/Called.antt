@@ -37,7 +37,7 @@ hex_length : (w : ℕ) → length (hex_text w) ≡ 18
 unfolding hex_text
 hex_length w = let long = length-hex 16 w in omega (arith, long)
 
--- the words behind the thread's number
+-- the words after the thread's number
 abbrev parts : ℕ → ℕ → List (List ℕ)
 parts address word = codes "store" ∷ hex_text address ∷ hex_text word ∷ []
 

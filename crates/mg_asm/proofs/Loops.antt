@@ -1,4 +1,4 @@
--- How the items of lines go on by one.
+-- The items of lines with one line more.
 use Rattle.std.proofs.Common.{◌≡◌, ℕ, ◌+◌, List, [], ◌∷◌, ◌++◌, length, Ok, ap, sym, ◌∙◌}
 use Rattle.mg_asm.specs.declared.items.Item.{Item}
 use Rattle.mg_asm.specs.Assembled.{behind}

@@ -70,7 +70,7 @@ pub words_in-more : (items : List Item) (it : Item) → words_in (items ++ it �
 words_in-more [] it = let e : size it + 0 ≡ 0 + size it = omega arith in e
 words_in-more (first ∷ items) it = ap (λ n. size first + n) (words_in-more items it) ∙ sym (add_assoc (size first) (words_in items) (size it))
 
--- an item behind others is what its line reads as
+-- an item after others is what its line reads as
 unless : {X : Type 0} (b : Bool) (kind : AsmKind) (r : Result X AsmKind) (made : X) → (if b then Err kind else r) ≡ Ok made → r ≡ Ok made
 unless true kind r made is = absurd (false≢true (ap is_ok is))
 unless false kind r made is = is

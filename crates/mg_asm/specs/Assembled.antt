@@ -36,7 +36,7 @@ is_label name (item.Label known) = same_bytes known.bytes name.bytes
 is_label name (item.Word word) = false
 is_label name (item.Jump near to) = false
 
--- the place of the word behind the first label of this name, if there is one; n words stand before the items
+-- the place of the word after the first label of this name, if there is one; n words are before the items
 abbrev pub place_from : ℕ → Name → List Item → Option ℕ
 place_from n name [] = None
 place_from n name (it ∷ items) = if is_label name it then Some n else place_from (n + size it) name items
@@ -44,7 +44,7 @@ place_from n name (it ∷ items) = if is_label name it then Some n else place_fr
 abbrev pub place_of : Name → List Item → Option ℕ
 place_of name items = place_from 0 name items
 
--- a line that reads well may still be faulty behind these: its label stands there, or there is no room for its word
+-- a line that reads well may still be faulty after these items: one of them is its label, or there is no room for its word
 abbrev pub behind : List Item → Reading → Reading
 behind before (Ok item.Blank) = Ok item.Blank
 behind before (Ok (item.Label name)) = if is_some (place_of name before) then Err Twice else Ok (item.Label name)
@@ -58,7 +58,7 @@ all_given n [] = Ok []
 all_given n (Ok x ∷ results) = on_ok (λ xs. x ∷ xs) (all_given (n + 1) results)
 all_given n (Err kind ∷ results) = Err (At n kind)
 
--- The item of a line behind the first k. Behind a line that has a fault it is of no matter, since that fault is told.
+-- The item of a line after the first k. After a line that has a fault it does not matter, since that fault is the result.
 abbrev pub item_at : List (List ℕ) → ℕ × List ℕ → Reading
 item_at lines (k, line) = behind (ok_prefix (map line_reading (take k lines))) (line_reading line)
 
@@ -66,7 +66,7 @@ item_at lines (k, line) = behind (ok_prefix (map line_reading (take k lines))) (
 abbrev pub items_of : List (List ℕ) → Result (List Item) AsmFault
 items_of lines = all_given 1 (map (item_at lines) (enumerate_from 0 lines))
 
--- how many words it is from one place to another, in two's complement
+-- the number of words from one place to another, in two's complement
 abbrev pub distance : ℕ → ℕ → ℕ
 distance here to = (to + word_end - here) % 2 ^ 32
 
@@ -77,7 +77,7 @@ made_at all here (item.Label name) = Ok None
 made_at all here (item.Word word) = Ok (Some word)
 made_at all here (item.Jump near name) = option_map_or (λ to. Ok (Some (near + distance here to * 2 ^ 32))) (place_of name all) (Err NoLabel)
 
--- the word that an item makes behind the first k, if it makes one
+-- the word that an item makes after the first k, if it makes one
 abbrev pub word_at : List Item → ℕ × Item → Result (Option ℕ) AsmKind
 word_at items (k, it) = made_at items (words_in (take k items)) it
 

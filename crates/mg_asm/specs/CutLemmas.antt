@@ -1,14 +1,14 @@
--- The first piece of bytes, and what stands behind the cut.
+-- The first piece of bytes, and the bytes after the cut.
 use Rattle.std.proofs.Common.{◌≡◌, ℕ, suc, ◌+◌, ◌-◌, ◌<◌, Bool, true, false, not, List, [], ◌∷◌, length, take, drop, refl, ap, arith, length-drop}
 use Rattle.std.proofs.lemmas.List.{take_all}
 use Rattle.std.specs.List.{prefix_len}
 use Rattle.mg_model.specs.Words.{split_at}
 
--- how many bytes stand before the first cut
+-- the number of bytes before the first cut
 abbrev before : (ℕ → Bool) → List ℕ → ℕ
 before cuts bytes = prefix_len (λ b. not (cuts b)) bytes
 
--- the pieces behind the cut that these bytes begin with, if they begin with one
+-- the pieces after the cut that these bytes begin with, if they begin with one
 abbrev behind_cut : (ℕ → Bool) → List ℕ → List (List ℕ)
 behind_cut cuts [] = []
 behind_cut cuts (b ∷ bytes) = split_at cuts bytes
@@ -43,7 +43,7 @@ cut-some cuts xs piece rest more n counted front back some next =
     let found = one_cut cuts rest some in
     cc
 
--- how the code says that nothing is left, and what is left behind the cut
+-- how the code says that nothing is left, and what is left after the cut
 pub no_length : (xs : List ℕ) → length xs ≡ 0 → xs ≡ []
 no_length [] h = refl
 no_length (x ∷ xs) h = absurd (omega (arith, h))

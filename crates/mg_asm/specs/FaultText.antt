@@ -1,4 +1,4 @@
--- How a fault is told.
+-- The text of a fault.
 use Rattle.std.specs.Prelude.{ℕ, List, [], ◌∷◌, ◌++◌, codes}
 use Rattle.std.specs.Fmt.{decimal}
 use Rattle.mg_asm.specs.declared.faults.AsmFault.{AsmFault}

@@ -23,7 +23,7 @@ module _ {S : Type 0} where
   abbrev pub IsPlaced : HashMap (List ℕ) ℕ S → HashMap (List ℕ) ℕ S → List ℕ → ℕ → Type 0
   IsPlaced old new bytes place = (q : List ℕ) → place_at new q ≡ (if same_bytes bytes q then Some place else place_at old q)
 
-  -- a map that has the labels of some items has those of one more, which was read behind them and begins at this place
+  -- a map that has the labels of some items has those of one more, which was read after them and begins at this place
   abbrev pub KeepsLabel : HashMap (List ℕ) ℕ S → HashMap (List ℕ) ℕ S → Item → ℕ → Type 0
   KeepsLabel old new it place =
       (before : List Item) (read : Reading) → AreLabels old before → place ≡ words_in before → Ok it ≡ behind before read → AreLabels new (before ++ it ∷ [])

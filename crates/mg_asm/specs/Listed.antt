@@ -19,13 +19,13 @@ listed_word (word ∷ more) = from Operands (one (word ∷ more)) (λ n. from Nu
 abbrev pub listed_line : List ℕ → Result (Option ℕ) AsmKind
 listed_line line = listed_word (line_tokens line)
 
--- there may be no room for a word behind so many
+-- there may be no room for a word after `count` words
 abbrev pub with_room : ℕ → Result (Option ℕ) AsmKind → Result (Option ℕ) AsmKind
 with_room count (Ok None) = Ok None
 with_room count (Ok (Some n)) = if nat_lt count word_limit then Ok (Some n) else Err TooLong
 with_room count (Err kind) = Err kind
 
--- the word of a line behind the first k, if it has one
+-- the word of a line after the first k, if it has one
 abbrev pub listed_at : List (List ℕ) → ℕ × List ℕ → Result (Option ℕ) AsmKind
 listed_at lines (k, line) = with_room (length (flat_map option_to_list (ok_prefix (map listed_line (take k lines))))) (listed_line line)
 

@@ -31,7 +31,7 @@ instruction_words op.Ret = (codes "ret", [])
 instruction_words op.Yield = (codes "yield", [])
 instruction_words op.Sys = (codes "sys", [])
 
--- the words of a word's line: an instruction, or `.word` and 16 hexadecimal digits where it spells none
+-- the words of a word's line: an instruction, or `.word` and 16 hexadecimal digits if it spells none
 abbrev pub printed_words : ℕ → List ℕ × List (List ℕ)
 printed_words word = option_map_or instruction_words (decoded word) (codes ".word", hex_text word ∷ [])
 

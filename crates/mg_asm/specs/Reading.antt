@@ -1,4 +1,4 @@
--- What a line of a script's text asks for.
+-- The item of a line of a script's text.
 use Rattle.std.specs.Prelude.{ℕ, ◌+◌, ◌*◌, ◌^◌, List, [], ◌∷◌, if◌then◌else◌, Option, Some, None, Result, Ok, Err, codes}
 use Rattle.std.specs.Option.{option_map_or}
 use Rattle.mg_asm.specs.declared.faults.AsmKind.{AsmKind}
@@ -26,7 +26,7 @@ abbrev pub from : {X Y : Type 0} → AsmKind → Option X → (X → Result Y As
 from kind None f = Err kind
 from kind (Some x) f = f x
 
--- just so many words
+-- just this number of words
 abbrev pub one : List (List ℕ) → Option (List ℕ)
 one (a ∷ []) = Some a
 one _ = None
@@ -64,7 +64,7 @@ abbrev pub alone : Instr → List (List ℕ) → Reading
 alone instr [] = as_word (Ok instr)
 alone instr _ = Err Operands
 
--- a jump to a label or over so many words; `near` is the word of the jump with the immediate 0
+-- a jump to a label or by a number of words; `near` is the word of the jump with the immediate 0
 abbrev pub jump_to : ℕ → List ℕ → Reading
 jump_to near target =
     option_map_or (λ (name : Name). Ok (item.Jump near name))
@@ -81,7 +81,7 @@ jump_by_register made words = from Operands (two words) (λ (a, target). from Re
 abbrev pub plain_word : List (List ℕ) → Reading
 plain_word words = from Operands (one words) (λ n. from Number (number_of n) (λ n. Ok (item.Word n)))
 
--- the first word of a line, and what the others ask for
+-- the first word of a line, and the item by the others
 abbrev pub Row : Type 0
 Row = List ℕ × (List (List ℕ) → Reading)
 
@@ -106,21 +106,21 @@ rows =
     ∷ (codes ".word", plain_word)
     ∷ []
 
--- what the row of this word asks for, if one has it
+-- the item by the row of this word, if there is one
 abbrev pub row_by : List Row → List ℕ → List (List ℕ) → Reading
 row_by [] first more = Err Unknown
 row_by ((known, form) ∷ others) first more = if same_bytes first known then form more else row_by others first more
 
--- a label stands alone
+-- a label is alone on its line
 abbrev pub label_alone : List (List ℕ) → Name → Reading
 label_alone [] name = Ok (item.Label name)
 label_alone (word ∷ more) name = Err Operands
 
--- what these words ask for
+-- the item of these words
 abbrev pub reading : List (List ℕ) → Reading
 reading [] = Ok item.Blank
 reading (first ∷ more) = option_map_or (label_alone more) (label_of first) (row_by rows first more)
 
--- what a line asks for
+-- the item of a line
 abbrev pub line_reading : List ℕ → Reading
 line_reading line = reading (line_tokens line)

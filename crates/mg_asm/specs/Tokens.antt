@@ -37,7 +37,7 @@ abbrev pub is_name : List ℕ → Bool
 is_name [] = false
 is_name (b ∷ bytes) = is_letter b && (nat_le (length bytes) 15 && list_all is_name_byte bytes)
 
--- the name that a word is; it is kept with zeros behind it
+-- the name that a word spells; it is followed by zeros
 abbrev pub name_of : List ℕ → Option Name
 name_of word = if is_name word then Some (record { bytes = padded_to 16 word }) else None
 

@@ -17,7 +17,7 @@ use std::collections::HashMap;
 /// The most words that a text may have.
 pub const WORD_LIMIT: u64 = 524_288;
 
-/// The words of a text, at most 524,288, or its first fault. Memory comes only where an allocation failed.
+/// The words of a text, at most 524,288, or its first fault. Memory comes only if an allocation failed.
 pub fn assemble(alloc: Global, text: &[u8]) -> Result<Vec<u64>, AsmFault>
     ensures words { IfOk result (λ words. assembled text.now ≡ Ok words.items) }
     ensures fault { IfErr result (λ fault. fault ≢ AsmFault.Memory → assembled text.now ≡ Err fault) }
@@ -26,7 +26,7 @@ pub fn assemble(alloc: Global, text: &[u8]) -> Result<Vec<u64>, AsmFault>
     words(alloc, &items, &labels)
 }
 
-/// What the lines of a text ask for, and where its labels stand.
+/// The items of a text's lines, and the places of its labels.
 fn items(alloc: Global, text: &[u8]) -> Result<(Vec<Item>, Labels), AsmFault>
     ensures items { IfOk result (λ p. items_of (split_at is_newline text.now) ≡ Ok p.0.items) }
     ensures labels { IfOk result (λ p. AreLabels p.1 p.0.items) }
@@ -59,8 +59,8 @@ fn items(alloc: Global, text: &[u8]) -> Result<(Vec<Item>, Labels), AsmFault>
     }
 }
 
-/// An item behind those that have these labels and `count` words: a label that stands there is faulty, and so is a word past
-/// the last.
+/// The item that was read, if it may follow items that have these labels and `count` words. A label that is one of these may
+/// not, and neither may a word too many.
 fn placed(labels: &Labels, count: u64, read: Result<Item, AsmKind>) -> Result<Item, AsmKind>
     ensures { (items : List Item) → AreLabels labels.now items → count ≡ words_in items → result ≡ behind items read }
 {
@@ -81,7 +81,7 @@ fn placed(labels: &Labels, count: u64, read: Result<Item, AsmKind>) -> Result<It
     }
 }
 
-/// How many words an item is.
+/// The number of words of an item.
 fn size(item: &Item) -> u64
     ensures value { result ≡ size item.now }
     ensures one { result ≤ 1 }
@@ -130,7 +130,7 @@ fn made(labels: &Labels, here: u64, item: &Item) -> Result<Option<u64>, AsmKind>
     }
 }
 
-/// One word more, if there is one.
+/// Appends the word, if there is one.
 pub fn push(words: &mut Vec<u64>, word: Option<u64>) -> Result<(), AllocError>
     ensures { OnOk result (words.new.items ≡ words.old.items ++ option_to_list word) }
 {
@@ -140,7 +140,7 @@ pub fn push(words: &mut Vec<u64>, word: Option<u64>) -> Result<(), AllocError>
     Ok(())
 }
 
-/// How many words it is from one place to another, in two's complement.
+/// The number of words from one place to another, in two's complement.
 fn distance(here: u64, to: u64) -> u32
     ensures { result ≡ distance here to }
 {

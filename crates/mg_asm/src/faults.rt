@@ -4,8 +4,7 @@ ghost use Rattle.mg_asm.specs.FaultText.{kind_name};
 
 use thiserror::Error;
 
-/// What is wrong with a line. The kinds stand in the order in which one line is tried; `NoLabel` comes where no line has
-/// another.
+/// What is wrong with a line. A line is tested for the kinds in this order. `NoLabel` comes only if no line has another fault.
 #[derive(Clone, Copy, Debug, Drop, PartialEq, Eq, Error)]
 pub enum AsmKind {
     /// The first word is no label, no instruction and not `.word`.
@@ -20,7 +19,7 @@ pub enum AsmKind {
     /// An immediate is no number in its range nor, for a jump, a name.
     #[error("Number")]
     Number,
-    /// The label stood on an earlier line.
+    /// An earlier line has the same label.
     #[error("Twice")]
     Twice,
     /// The word would be number 524,289.
@@ -32,7 +31,7 @@ pub enum AsmKind {
 }
 
 impl AsmKind {
-    /// The word of a kind, of at most 8 letters, as it is told to users.
+    /// The word of a kind, as users see it, of at most 8 letters.
     pub fn name(self) -> &'static [u8]
         ensures text { result.now ≡ kind_name self }
         ensures short { length result.now ≤ 8 }

@@ -1,15 +1,15 @@
-// What a line asks for.
+// What a line of a text is.
 use crate::names::Name;
 
-/// What a line asks for.
+/// What a line of a text is.
 #[derive(Clone, Copy)]
 pub enum Item {
-    /// Nothing: it has no words.
+    /// A line with no word, which may have a note.
     Blank,
-    /// A label, which stands for the place of the next word.
+    /// A label: a name for the place of the next word.
     Label(Name),
     /// This word.
     Word(u64),
-    /// A jump to a label: its word with the immediate 0, which is the lower half.
+    /// A jump to a label: the lower half of its word. The upper half is the distance to the label.
     Jump(u32, Name),
 }

@@ -1,4 +1,4 @@
-// Where the labels of a text stand.
+// The places of a text's labels.
 ghost use Rattle.std.specs.Prelude.{◌≡◌, OnOk};
 ghost use Rattle.mg_asm.specs.Labels.{IsPlaced, KeepsLabel, place_in};
 
@@ -7,17 +7,17 @@ use crate::names::Name;
 use std::alloc::{AllocError, Global};
 use std::collections::HashMap;
 
-/// The place of the word behind each label, by the bytes of its name.
+/// The place of the word that follows each label, by the bytes of the label's name.
 pub type Labels = HashMap<[u8; 16], u64>;
 
-/// The place of the word behind a label; None where there is no such label.
+/// The place of the word that follows a label. None if there is no such label.
 pub fn place(labels: &Labels, name: &Name) -> Option<u64>
     ensures { result ≡ place_in labels.now name.now }
 {
     labels.get(name.bytes()).copied()
 }
 
-/// Keeps the place of a label that is new.
+/// Adds a new label with its place.
 fn add(labels: &mut Labels, name: &Name, place: u64) -> Result<(), AllocError>
     ensures { OnOk result (IsPlaced labels.old labels.new name.now.bytes place) }
 {
@@ -27,7 +27,7 @@ fn add(labels: &mut Labels, name: &Name, place: u64) -> Result<(), AllocError>
     }
 }
 
-/// Keeps the place of a label, if the item is one, so that the map has the labels of one item more.
+/// Adds the label with its place, if the item is one. The map then has the labels of one item more.
 pub fn keep(labels: &mut Labels, item: &Item, place: u64) -> Result<(), AllocError>
     ensures { OnOk result (KeepsLabel labels.old labels.new item.now place) }
 {

@@ -1,10 +1,10 @@
 //! The assembler of scripts: from text to words, and from words to text.
 //!
 //! A text is lines of instructions, labels and plain words. What the layer above learns: `assemble` gives `assembled` of the
-//! definition, which is the words of the text or its first fault; `print` gives `printed`, a text that assembles to the words that
-//! were printed. Words also come from a list of numbers (`read_list`), and become lines of calls (`store_lines`). The definitions
-//! stand in `specs/`: `Tokens` and `Reading` for a line, `Assembled` for a text, `Printed` for the way back, `Told` for faults,
-//! `Listed` for lists and `Stored` for lines of calls.
+//! definition, which is the words of the text or its first fault. `print` gives `printed`, a text that assembles to the words that
+//! were printed. `read_list` reads words from a list of numbers, and `store_lines` makes lines of calls of them. The definitions are
+//! in `specs/`: `Tokens` and `Reading` for a line, `Assembled` and `Labels` for a text, `Printed` for the way back, `FaultText` for
+//! faults, `Listed` for lists and `Stored` for lines of calls.
 #![tactic(auto)]
 
 mod assembling;

@@ -1,4 +1,4 @@
-// From a line to what it asks for.
+// From a line to its item.
 ghost use Rattle.std.specs.Prelude.{◌≡◌, ◌<◌, ◌^◌, drop};
 ghost use Rattle.mg_asm.specs.Reading.{alone, as_word, jump, jump_by_register, jump_to, label_alone, line_reading, plain_word, row_by, rows};
 ghost use Rattle.mg_asm.specs.Tokens.{tokens};
@@ -15,7 +15,7 @@ use crate::tokens::{cut, next_token};
 use mg_script::{Instr, encode};
 use mg_text::{is_word, read_number};
 
-/// What a line asks for, given without its newline.
+/// The item of a line, which is given without its newline.
 pub fn read_line(line: &[u8]) -> Result<Item, AsmKind>
     ensures { result ≡ line_reading line.now }
 {
@@ -39,7 +39,7 @@ fn label_alone(rest: &[u8], name: Name) -> Result<Item, AsmKind>
     }
 }
 
-/// An instruction or a plain word, by its first word and the bytes behind it.
+/// An instruction or a plain word, by its first word and the bytes after it.
 fn instruction(first: &[u8], rest: &[u8]) -> Result<Item, AsmKind>
     ensures { result ≡ row_by rows first.now (tokens rest.now) }
 {
@@ -64,7 +64,7 @@ fn instruction(first: &[u8], rest: &[u8]) -> Result<Item, AsmKind>
     }
 }
 
-/// The same, of the rows from `jump` on.
+/// The same, by the rows of the table of instructions from `jump` on.
 fn going(first: &[u8], rest: &[u8]) -> Result<Item, AsmKind>
     ensures { result ≡ row_by (drop 8 rows) first.now (tokens rest.now) }
 {
@@ -109,7 +109,7 @@ fn alone(instr: Instr, rest: &[u8]) -> Result<Item, AsmKind>
     }
 }
 
-/// A jump over so many words or to a label.
+/// A jump by a number of words, or to a label.
 fn jump(rest: &[u8]) -> Result<Item, AsmKind>
     ensures { result ≡ jump (tokens rest.now) }
 {
@@ -117,7 +117,7 @@ fn jump(rest: &[u8]) -> Result<Item, AsmKind>
     jump_to(encode(&Instr::Jump { i: 0 }) as u32, target)
 }
 
-/// The same, where a register is 0.
+/// A jump if a register is 0.
 fn jump_if_zero(rest: &[u8]) -> Result<Item, AsmKind>
     ensures { result ≡ jump_by_register (λ a. op.Jz a 0) (tokens rest.now) }
 {
@@ -126,7 +126,7 @@ fn jump_if_zero(rest: &[u8]) -> Result<Item, AsmKind>
     jump_to(encode(&Instr::Jz { a, i: 0 }) as u32, target)
 }
 
-/// The same, where a register is not 0.
+/// A jump if a register is not 0.
 fn jump_unless_zero(rest: &[u8]) -> Result<Item, AsmKind>
     ensures { result ≡ jump_by_register (λ a. op.Jnz a 0) (tokens rest.now) }
 {
@@ -148,7 +148,7 @@ fn jump_to(near: u32, target: &[u8]) -> Result<Item, AsmKind>
     }
 }
 
-/// A word that need be no instruction.
+/// A plain word, which need not be an instruction.
 fn plain_word(rest: &[u8]) -> Result<Item, AsmKind>
     ensures { result ≡ plain_word (tokens rest.now) }
 {

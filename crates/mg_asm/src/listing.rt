@@ -10,9 +10,9 @@ use crate::tokens::{cut, next_token};
 use mg_text::read_number;
 use std::alloc::Global;
 
-/// The words of a list, at most 524,288, or its first fault. Each line has nothing, or one number, spelled as in lines of calls;
-/// words are separated and notes are left away as in the text of a script. The faults are `Operands`, `Number` and `TooLong`,
-/// tried in this order. Memory comes only where an allocation failed.
+/// The words of a list, at most 524,288, or its first fault. Each line has nothing or one number, spelled as in lines of calls.
+/// Words are separated, and notes left out, as in the text of a script. A line is tested for the faults `Operands`, `Number` and
+/// `TooLong`, in this order. Memory comes only if an allocation failed.
 pub fn read_list(alloc: Global, text: &[u8]) -> Result<Vec<u64>, AsmFault>
     ensures words { IfOk result (λ words. listed text.now ≡ Ok words.items) }
     ensures at_most_524288_words { IfOk result (λ words. length words.items ≤ 524288) }
@@ -57,7 +57,7 @@ fn word_of(line: &[u8]) -> Result<Option<u64>, AsmKind>
     }
 }
 
-/// The word of a line behind so many words, if there is room for it.
+/// The word of a line that follows `count` words, if there is room for it.
 fn placed(count: u64, read: Result<Option<u64>, AsmKind>) -> Result<Option<u64>, AsmKind>
     ensures { result ≡ with_room count read }
 {

@@ -4,14 +4,14 @@ ghost use Rattle.std.specs.List.{list_all};
 ghost use Rattle.mg_asm.specs.Tokens.{is_letter, is_name, is_name_byte, label_of, name_of};
 ghost use Rattle.mg_model.specs.Bytes.{padded_to};
 
-/// A name: a letter and up to 15 letters, digits or `_`, with zeros behind it.
+/// A name: a letter and up to 15 letters, digits or `_`, followed by zeros.
 #[derive(Clone, Copy, Debug, PartialEq, Eq)]
 pub struct Name {
     bytes: [u8; 16],
 }
 
 impl Name {
-    /// The letters, with zeros behind them.
+    /// The bytes of the name, followed by zeros.
     pub fn bytes(&self) -> &[u8; 16]
         ensures { result.now ≡ self.now.bytes }
     {
@@ -19,7 +19,7 @@ impl Name {
     }
 }
 
-/// The name that a word is.
+/// The name that a word spells.
 pub fn read_name(word: &[u8]) -> Option<Name>
     ensures { result ≡ name_of word.now }
 {
@@ -40,7 +40,7 @@ fn spells_name(word: &[u8]) -> bool
     }
 }
 
-/// Up to 15 bytes of a name.
+/// Whether these are up to 15 bytes of a name.
 fn goes_on(bytes: &[u8]) -> bool
     ensures { result ≡ (nat_le (length bytes.now) 15 && list_all is_name_byte bytes.now) }
 {
@@ -53,19 +53,19 @@ fn all_of_name(bytes: &[u8]) -> bool
     bytes.iter().all(|b| name_byte(*b))
 }
 
-fn letter(b: u8) -> bool
-    ensures { result ≡ is_letter b }
+fn letter(byte: u8) -> bool
+    ensures { result ≡ is_letter byte }
 {
-    b'A' <= b && b <= b'Z' || b'a' <= b && b <= b'z'
+    b'A' <= byte && byte <= b'Z' || b'a' <= byte && byte <= b'z'
 }
 
-fn name_byte(b: u8) -> bool
-    ensures { result ≡ is_name_byte b }
+fn name_byte(byte: u8) -> bool
+    ensures { result ≡ is_name_byte byte }
 {
-    letter(b) || b'0' <= b && b <= b'9' || b == b'_'
+    letter(byte) || b'0' <= byte && byte <= b'9' || byte == b'_'
 }
 
-/// The name of the label that a word is: a name, and a colon.
+/// The name of the label that a word spells: a name and a colon.
 pub fn read_label(word: &[u8]) -> Option<Name>
     ensures { result ≡ label_of word.now }
 {

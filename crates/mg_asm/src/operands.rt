@@ -95,7 +95,7 @@ fn immediate(word: &[u8]) -> Option<u32>
     u32::try_from(read_number(word)?).ok()
 }
 
-/// How many words a jump goes, from `-2^31` to `2^31 - 1`, in two's complement.
+/// The distance of a jump in words, from `-2^31` to `2^31 - 1`, in two's complement.
 pub fn distance(word: &[u8]) -> Option<u32>
     ensures { result ≡ distance_of word.now }
 {
@@ -106,17 +106,21 @@ pub fn distance(word: &[u8]) -> Option<u32>
     }
 }
 
-fn forwards(n: u64) -> Option<u32>
-    ensures { result ≡ below (2 ^ 31) n }
+fn forwards(words: u64) -> Option<u32>
+    ensures { result ≡ below (2 ^ 31) words }
 {
-    if n < 1 << 31 { Some(n as u32) } else { None }
+    if words < 1 << 31 {
+        Some(words as u32)
+    } else {
+        None
+    }
 }
 
-fn turned_back(n: u64) -> Option<u32>
-    ensures { result ≡ turned_back n }
+fn turned_back(words: u64) -> Option<u32>
+    ensures { result ≡ turned_back words }
 {
-    if 1 <= n && n <= 1 << 31 {
-        Some(((1 << 32) - n) as u32)
+    if 1 <= words && words <= 1 << 31 {
+        Some(((1 << 32) - words) as u32)
     } else {
         None
     }

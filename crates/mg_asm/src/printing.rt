@@ -19,8 +19,8 @@ pub(crate) enum Operand {
     Word(u64),
 }
 
-/// The text of words, a line each: an instruction, or `.word` and a number where a word spells none. Up to 524,288 words
-/// assemble to themselves again.
+/// The text of words, a line each: the instruction that a word spells, or `.word` and a number if it spells none. The text of up
+/// to 524,288 words assembles to these words.
 pub fn print(alloc: Global, words: &[u64]) -> Result<Vec<u8>, AllocError>
     ensures text { IfOk result (λ text. text.items ≡ printed words.now) }
     ensures back { length words.now ≤ 524288 → IfOk result (λ text. assembled text.items ≡ Ok words.now) }
@@ -71,10 +71,10 @@ fn number(register: u8) -> Operand
     Operand::Plain(register as u64)
 }
 
-fn immediate(i: u32) -> Operand
-    ensures { result ≡ Operand.Plain i }
+fn immediate(value: u32) -> Operand
+    ensures { result ≡ Operand.Plain value }
 {
-    Operand::Plain(i as u64)
+    Operand::Plain(value as u64)
 }
 
 /// A line of a first word and operands, with single spaces.
@@ -87,7 +87,7 @@ fn put_line(out: &mut Vec<u8>, first: &[u8], operands: &[Operand]) -> Result<(),
     Ok(())
 }
 
-/// Operands, each behind a space.
+/// Operands, each after a space.
 #[tactic(auto, using(crate::proofs::Grown::operands_more))]
 fn put_operands(out: &mut Vec<u8>, operands: &[Operand]) -> Result<(), AllocError>
     ensures { OnOk result (out.new.items ≡ out.old.items ++ spaced (map operand_text operands.now)) }
@@ -116,12 +116,12 @@ fn put_operand(out: &mut Vec<u8>, operand: Operand) -> Result<(), AllocError>
 }
 
 /// A text and a number in decimal.
-pub fn put_number(out: &mut Vec<u8>, front: &[u8], n: u64) -> Result<(), AllocError>
-    ensures { OnOk result (out.new.items ≡ out.old.items ++ (front.now ++ decimal n)) }
+pub fn put_number(out: &mut Vec<u8>, front: &[u8], number: u64) -> Result<(), AllocError>
+    ensures { OnOk result (out.new.items ≡ out.old.items ++ (front.now ++ decimal number)) }
 {
     let mut digits = itoa::Buffer::new();
     out.extend_from_slice(front)?;
-    out.extend_from_slice(digits.format(n).as_bytes())?;
+    out.extend_from_slice(digits.format(number).as_bytes())?;
     Ok(())
 }
 
@@ -135,21 +135,25 @@ pub fn put_hex(out: &mut Vec<u8>, word: u64) -> Result<(), AllocError>
     Ok(())
 }
 
-/// The last n hexadecimal digits of a word.
+/// The last `count` hexadecimal digits of a word.
 #[tactic(auto, using(crate::proofs::Grown::hex_more))]
-fn put_digits(out: &mut Vec<u8>, n: u8, word: u64) -> Result<(), AllocError>
-    ensures { OnOk result (out.new.items ≡ out.old.items ++ hex_digits n word) }
+fn put_digits(out: &mut Vec<u8>, count: u8, word: u64) -> Result<(), AllocError>
+    ensures { OnOk result (out.new.items ≡ out.old.items ++ hex_digits count word) }
 {
-    if n > 0 {
-        put_digits(out, n - 1, word / 16)?;
+    if count > 0 {
+        put_digits(out, count - 1, word / 16)?;
         out.push(glyph((word % 16) as u8))?;
     }
     Ok(())
 }
 
-fn glyph(d: u8) -> u8
-    requires { d < 16 }
-    ensures { result ≡ hex_digit d }
+fn glyph(digit: u8) -> u8
+    requires { digit < 16 }
+    ensures { result ≡ hex_digit digit }
 {
-    if d < 10 { b'0' + d } else { b'a' + d - 10 }
+    if digit < 10 {
+        b'0' + digit
+    } else {
+        b'a' + digit - 10
+    }
 }

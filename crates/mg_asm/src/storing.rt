@@ -6,8 +6,8 @@ ghost use Rattle.mg_model.specs.Lines.{lines};
 use crate::printing::{put_hex, put_number};
 use std::alloc::{AllocError, Global};
 
-/// Lines of calls by which a thread stores these words, from an address below `2^52` on, a word each: `THREAD store ADDR WORD`, with
-/// the thread's number in decimal and the others in hexadecimal.
+/// Lines of calls by which a thread stores these words, from an address below `2^52` on. Each line stores one word. It is
+/// `THREAD store ADDR WORD`, with the thread's number in decimal and the other two in hexadecimal.
 pub fn store_lines(
     alloc: Global,
     thread: u64,

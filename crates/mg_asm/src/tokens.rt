@@ -5,7 +5,7 @@ ghost use Rattle.std.specs.Option.{option_map_or};
 ghost use Rattle.mg_asm.specs.Tokens.{is_gap, tokens};
 ghost use Rattle.mg_model.specs.Words.{split_at};
 
-/// The first word of these bytes and what stands behind it; None where they have no word.
+/// The first word of these bytes, and the bytes after it. None if they have no word.
 pub fn next_token(bytes: &[u8]) -> Option<(&[u8], &[u8])>
     ensures none { IfNone result (tokens bytes.now ≡ []) }
     ensures split { IfSome result (λ p. tokens bytes.now ≡ p.0.now ∷ tokens p.1.now) }
@@ -19,7 +19,7 @@ pub fn next_token(bytes: &[u8]) -> Option<(&[u8], &[u8])>
     }
 }
 
-/// How many spaces and tabs these bytes begin with.
+/// The number of spaces and tabs that these bytes begin with.
 fn gaps(bytes: &[u8]) -> usize
     ensures count { result ≡ prefix_len is_gap bytes.now }
     ensures within { result ≤ length bytes.now }
@@ -27,7 +27,7 @@ fn gaps(bytes: &[u8]) -> usize
     bytes.iter().take_while(|b| gap(**b)).count()
 }
 
-/// How many bytes stand before the first space or tab.
+/// The number of bytes before the first space or tab.
 fn letters(bytes: &[u8]) -> usize
     ensures count { result ≡ prefix_len (λ b. not (is_gap b)) bytes.now }
     ensures within { result ≤ length bytes.now }
@@ -35,13 +35,13 @@ fn letters(bytes: &[u8]) -> usize
     bytes.iter().take_while(|b| !gap(**b)).count()
 }
 
-fn gap(b: u8) -> bool
-    ensures { result ≡ is_gap b }
+fn gap(byte: u8) -> bool
+    ensures { result ≡ is_gap byte }
 {
-    b == b' ' || b == b'\t'
+    byte == b' ' || byte == b'\t'
 }
 
-/// The bytes before the first `end` and those behind it; None where there is no `end`.
+/// The bytes before the first `end`, and those after it, or None if there is no `end`.
 pub fn cut(bytes: &[u8], end: u8) -> (&[u8], Option<&[u8]>)
     ensures pieces { split_at (λ b. b == end) bytes.now ≡ result.0.now ∷ option_map_or (λ rest. split_at (λ b. b == end) rest.now) result.1 [] }
     ensures shorter { IfSome result.1 (λ rest. length rest.now < length bytes.now) }
@@ -54,7 +54,7 @@ pub fn cut(bytes: &[u8], end: u8) -> (&[u8], Option<&[u8]>)
     }
 }
 
-/// How many bytes stand before the first `end`.
+/// The number of bytes before the first `end`.
 fn before(bytes: &[u8], end: u8) -> usize
     ensures count { result ≡ prefix_len (λ b. not (b == end)) bytes.now }
     ensures within { result ≤ length bytes.now }

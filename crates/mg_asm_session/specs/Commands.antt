@@ -18,7 +18,7 @@ store_of thread address = and_then (number_of thread) (λ t. and_then (number_of
 abbrev pub print_of : List ℕ → Option Command
 print_of word = if same_bytes word (codes "print") then Some Print else None
 
--- the command that the words behind the program's name spell, if they spell one
+-- the command that the words after the program's name spell, if they spell one
 abbrev pub command_of : List (List ℕ) → Option Command
 command_of (word ∷ []) = print_of word
 command_of (thread ∷ address ∷ []) = store_of thread address
@@ -28,7 +28,7 @@ command_of words = None
 abbrev pub words_of : List (String Global) → List (List ℕ)
 words_of words = map (λ (word : String Global). string_bytes word) words
 
--- the words of a command are stored where objects may lie
+-- the words of a command are stored where objects may be
 abbrev pub IsStored : Command → Type 0
 IsStored (Store thread address) = address < 2 ^ 52
 IsStored Print = Unit {0}

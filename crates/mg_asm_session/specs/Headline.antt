@@ -1,4 +1,4 @@
--- What the program promises. An object that does not tell its content has None for it; a promise on content is then empty.
+-- What the program promises. An object that does not tell its content has None for it, and a promise on content is then empty.
 use Rattle.std.specs.Prelude.{ℕ, ◌^◌, ◌≡◌, ◌≢◌, ◌⊎◌, List, Option, Result, Ok, Err}
 use Rattle.std.specs.Io.KnownBytes.{Appends}
 use Rattle.mg_asm.specs.Assembled.{assembled}
@@ -44,18 +44,18 @@ PutsPart (Err fault) taken taken' aside aside' = (taken' ≡ taken) × AppendsPr
 
 -- What a command keeps: `out` takes what the text became, and `err` its fault.
 pub record Keeps {S O E : Type 0} (from : sources.Ghosts S) (to : sinks.Ghosts O) (aside : sinks.Ghosts E) (command : Command) (result : Status) (source source' : S) (out out' : O) (err err' : E) : Type 0 where
-  -- At the end `out` took what the text became, and nothing else was put.
+  -- At the end `out` took what the text became, and nothing else was written.
   pub done : result ≡ status.Done → OfWhole (from.left source) (from.left source') (λ text. PutsLines (became command text) (to.taken out) (to.taken out')) × (err' ≡ err)
-  -- At a fault `err` took its line, and nothing else was put.
+  -- At a fault `err` took its line, and nothing else was written.
   pub fault : result ≡ status.Fault → OfWhole (from.left source) (from.left source') (λ text. PutsFault (became command text) (aside.taken err) (aside.taken err')) × (out' ≡ out)
-  -- Where a sink failed it took a first part of what was to be put. That is only where its count rose.
+  -- A sink that failed took a first part of its text. It fails only if its count of faults rose.
   pub sink : result ≡ status.Sink → OfWhole (from.left source) (from.left source') (λ text. PutsPart (became command text) (to.taken out) (to.taken out') (aside.taken err) (aside.taken err'))
   pub sink_failed : result ≡ status.Sink → Rose (to.faults out) (to.faults out') (to.is_spent out') ⊎ Rose (aside.faults err) (aside.faults err') (aside.is_spent err')
-  -- Where memory was wanting, the source failed or the text is too long, nothing was put.
+  -- If there was not enough memory, the source failed or the text is too long, nothing was written.
   pub nothing : (result ≡ status.Memory) ⊎ ((result ≡ status.Source) ⊎ (result ≡ status.TooLong)) → (out' ≡ out) × (err' ≡ err)
-  -- The source failed only where its count rose.
+  -- The source failed only if its count of faults rose.
   pub source_failed : result ≡ status.Source → Rose (from.faults source) (from.faults source') (from.is_spent source')
-  -- The text is too long exactly where more was taken than it may have.
+  -- The text is too long exactly if more was taken than it may have.
   pub too_long : result ≡ status.TooLong → TakesMore text_limit (from.left source) (from.left source')
   pub within : result ≢ status.TooLong → TakesAtMost text_limit (from.left source) (from.left source')
   -- Words that spell a command are no `usage`.

@@ -19,17 +19,17 @@ use std::alloc::Global;
 /// The most bytes that a text may have.
 pub const TEXT_LIMIT: usize = 1 << 24;
 
-/// All that the program does. The words are those behind its name.
+/// All that the program does. The words are those that follow its name.
 ///
-/// - `THREAD ADDRESS` reads a script's text from the source, and puts a line `THREAD store ADDR WORD` into `out` for each of its
-///   words, from ADDRESS on.
-/// - `print` reads words, a number a line, and puts their text into `out`.
+/// - `THREAD ADDRESS` reads a script's text from the source. For each of its words, from ADDRESS on, it writes a line
+///   `THREAD store ADDR WORD` into `out`.
+/// - `print` reads words, a number a line, and writes their text into `out`.
 ///
 /// Other words get the line `usage` in `err` and [`Status::Usage`]; source and `out` are then left alone.
 ///
-/// A text is read whole, up to 2^24 bytes, before anything is put. After [`Status::Fault`] `err` took the line of its first fault,
-/// `line N: KIND`, and nothing else was put. After [`Status::Memory`], [`Status::Source`] and [`Status::TooLong`] nothing was
-/// put. [`Status::Sink`] comes where `out` or `err` failed; it took a first part of what was to be put.
+/// A text is read whole, up to 2^24 bytes, before anything is written. After [`Status::Fault`] `err` took the line of its first
+/// fault, `line N: KIND`, and nothing else was written. After [`Status::Memory`], [`Status::Source`] and [`Status::TooLong`] nothing
+/// was written. [`Status::Sink`] comes if `out` or `err` failed. That sink took a first part of its text.
 pub fn top<S: Source, O: Sink, E: Sink>(
     alloc: Global,
     words: &[String],
@@ -51,7 +51,7 @@ pub fn top<S: Source, O: Sink, E: Sink>(
     }
 }
 
-/// Reads the text, and puts what it becomes, or its fault.
+/// Reads the text, and writes what it becomes, or its fault.
 fn carry_out<S: Source, O: Sink, E: Sink>(
     alloc: Global,
     command: Command,
@@ -89,7 +89,7 @@ fn carry_out<S: Source, O: Sink, E: Sink>(
     }
 }
 
-/// What a text becomes, or its first fault. Memory comes only where an allocation failed.
+/// What a text becomes, or its first fault. Memory comes only if an allocation failed.
 fn turn(alloc: Global, command: Command, text: &[u8]) -> Result<Vec<u8>, AsmFault>
     requires { IsStored command }
     ensures lines { IfOk result (λ lines. became command text.now ≡ Ok lines.items) }
@@ -107,7 +107,7 @@ fn turn(alloc: Global, command: Command, text: &[u8]) -> Result<Vec<u8>, AsmFaul
     }
 }
 
-/// Puts `line N: KIND`.
+/// Writes `line N: KIND`.
 fn put_fault<E: Sink>(line: u64, kind: AsmKind, err: &mut E) -> Result<(), Failed>
     ensures ok { OnOk result (Appends (E.taken err.old) (E.taken err.new) (fault_line (fault.At line kind))) }
     ensures err { OnErr result (AppendsPrefix (E.taken err.old) (E.taken err.new) (fault_line (fault.At line kind))) }

@@ -8,16 +8,16 @@ use mg_text::{is_word, read_number};
 /// What the program is asked to do.
 #[derive(Clone, Copy, Debug, PartialEq, Eq)]
 pub enum Command {
-    /// Put the calls by which this thread stores the words of a script's text, from this address on.
+    /// Write the calls by which this thread stores the words of a script's text, from this address on.
     Store(u64, u64),
-    /// Put the text of words.
+    /// Write the text of words.
     Print,
 }
 
-/// The command that these words spell, which are those behind the program's name; None exactly where they spell none.
+/// The command that these words spell, which follow the program's name. None exactly if they spell none.
 ///
-/// They are `THREAD ADDRESS`, two numbers as in lines of calls, of which ADDRESS is a multiple of 8 below `2^52`, where objects
-/// end; or `print`.
+/// They are `THREAD ADDRESS` or `print`. THREAD and ADDRESS are numbers as in lines of calls. ADDRESS is a multiple of 8 below
+/// `2^52`, where objects end.
 pub fn read_words(words: &[String]) -> Option<Command>
     ensures command { result ≡ command_of (words_of words.now) }
     ensures place { IfSome result IsStored }
@@ -53,7 +53,7 @@ fn store(thread: &[u8], address: &[u8]) -> Option<Command>
     }
 }
 
-/// Whether a word may be stored here: at a multiple of 8, and where objects may lie.
+/// Whether a word may be stored at this address: it is a multiple of 8, and an object may have it.
 fn is_place(address: u64) -> bool
     ensures { result ≡ is_place address }
 {

@@ -1,9 +1,11 @@
-//! Tests of the assembler: scripts whose words were worked out by hand from the table of instructions, and each fault that a short
-//! text can have, with its line; and of its program's call, how each status comes.
+//! Tests of scripts: what instructions do to a thread's row; texts whose words were worked out by hand from the table of
+//! instructions; and each fault that a short text can have, with its line. Of the program's call they show how each status comes.
 //!
-//! They stand above `mg_asm` and `mg_asm_session`, over their calls, so that these are proved once.
+//! They are in a crate above `mg_script`, `mg_asm` and `mg_asm_session`, so that these are proved once.
 #![tactic(auto)]
 
+#[cfg(test)]
+mod execute_tests;
 #[cfg(test)]
 mod session_tests;
 
@@ -81,7 +83,7 @@ mod tests {
         assert!(rt; fault == Some(AsmFault::At { line, kind }));
     }
 
-    // The first faulty line is named, and a label that no line has only where nothing else is wrong.
+    // The first faulty line is named. A label that no line has is a fault only if nothing else is wrong.
     #[test]
     fn faults_name_their_lines(rt: HostRuntime) {
         let alloc = rt.alloc();

@@ -8,21 +8,21 @@ use mg_model::Refusal;
 use mg_model::limits::DRAW_LIMIT;
 use mg_volume::Volume;
 
-/// Why no account may be opened with so many credits of this one, or what holds where one may.
-pub(crate) fn opening(v: &Volume, account: u64, password: u64, amount: u64) -> Option<Refusal>
-    ensures word { result ≡ opening_refusal v.now account password amount }
-    ensures may { MatchOption result (MayOpen v.now account password amount) (λ _. Unit {0}) }
+/// Why no account may be opened with `amount` credits of this one, or what holds if one may.
+pub(crate) fn opening(volume: &Volume, account: u64, password: u64, amount: u64) -> Option<Refusal>
+    ensures word { result ≡ opening_refusal volume.now account password amount }
+    ensures may { MatchOption result (MayOpen volume.now account password amount) (λ _. Unit {0}) }
 {
-    match v.bank().opening(account, password, amount) {
+    match volume.bank().opening(account, password, amount) {
         Some(word) => Some(word),
-        None if is_spent(v) => Some(Refusal::Limit),
+        None if is_spent(volume) => Some(Refusal::Limit),
         None => None,
     }
 }
 
 // Whether no password is left.
-fn is_spent(v: &Volume) -> bool
-    ensures { result ≡ nat_le draw_limit (counters_in v.now).draws }
+fn is_spent(volume: &Volume) -> bool
+    ensures { result ≡ nat_le draw_limit (counters_in volume.now).draws }
 {
-    v.globals().draws() >= DRAW_LIMIT
+    volume.globals().draws() >= DRAW_LIMIT
 }

@@ -12,15 +12,15 @@ use mg_volume::Volume;
 /// The rent of a period is collected, and the next period begins: each account pays for its pages at the rate of the tariff,
 /// and the treasury, account 1, gets the sum. In the last period it is refused (Calendar). Who keeps rights that were found
 /// drops them all after it, unless it is refused, since passwords may end with the period.
-pub fn rent(v: &mut Volume) -> Reply
-    requires at_most_143_staged { staged_of v.old ≤ 143 }
-    ensures { CallStages (Answers (λ state. calls.rent state)) 17 v.old v.new result }
+pub fn rent(volume: &mut Volume) -> Reply
+    requires at_most_143_staged { staged_of volume.old ≤ 143 }
+    ensures { CallStages (Answers (λ state. calls.rent state)) 17 volume.old volume.new result }
 {
-    let next = period(v) + 1;
-    let rate = v.rate();
-    match v.collect() {
+    let next = period(volume) + 1;
+    let rate = volume.rate();
+    match volume.collect() {
         Ok(paid) => {
-            begin(v, next);
+            begin(volume, next);
             Reply::Collected(next, rate, paid)
         }
         Err(word) => Reply::No(word),
@@ -28,23 +28,23 @@ pub fn rent(v: &mut Volume) -> Reply
 }
 
 // The period, at most `2^24 - 1`.
-fn period(v: &Volume) -> u64
-    ensures period { result ≡ (counters_in v.now).period }
+fn period(volume: &Volume) -> u64
+    ensures period { result ≡ (counters_in volume.now).period }
     ensures at_most_period_limit { result ≤ period_limit }
 {
-    let globals = v.globals();
+    let globals = volume.globals();
     globals.keep_rules();
     globals.period()
 }
 
 // Another period begins, at most `2^24 - 1`.
-fn begin(v: &mut Volume, period: u64)
+fn begin(volume: &mut Volume, period: u64)
     requires period { period ≤ period_limit }
-    requires fewer_than_160_staged { staged_of v.old < body_limit }
-    ensures now { (image : List (List ℕ)) → now_of v.new image ≡ record (now_of v.old image) { counters = record (counters_in v.old) { period = period } } }
-    ensures stages { Stages 1 v.old v.new }
+    requires fewer_than_160_staged { staged_of volume.old < body_limit }
+    ensures now { (image : List (List ℕ)) → now_of volume.new image ≡ record (now_of volume.old image) { counters = record (counters_in volume.old) { period = period } } }
+    ensures stages { Stages 1 volume.old volume.new }
 {
-    let mut globals = v.globals();
+    let mut globals = volume.globals();
     globals.set_period(period);
-    v.stage_globals(globals);
+    volume.stage_globals(globals);
 }

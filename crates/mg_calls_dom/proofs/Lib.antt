@@ -3,6 +3,7 @@ mod Apart
 mod Entered
 mod Entries
 mod Fetched
+mod Found
 mod Reached
 mod Refusals
 pub mod SlotCalls

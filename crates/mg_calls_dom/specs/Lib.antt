@@ -2,6 +2,7 @@
 pub mod Entering
 pub mod Searching
 pub mod Known
+pub mod Finding
 pub mod Fetching
 pub mod Served
 pub mod Backing

@@ -29,71 +29,71 @@ pub(crate) struct Sought {
 
 // A word of the first page of an object, which is its capability list.
 fn list_word<D: Disk, L: Ledger>(
-    v: &mut Volume,
+    volume: &mut Volume,
     disk: &mut D,
     list: u64,
     index: u64,
     steps: &mut Steps<L>,
 ) -> Result<u64, Failed>
-    requires sound { IsSoundOn D.Disk v.old disk.old }
-    requires held { IsSome (find (λ row. row.base == list) (objects_in v.old)) }
-    requires page { has_page v.old (list / page_size) ≡ true }
+    requires sound { IsSoundOn D.Disk volume.old disk.old }
+    requires held { IsSome (find (λ row. row.base == list) (objects_in volume.old)) }
+    requires page { has_page volume.old (list / page_size) ≡ true }
     requires index { index < 512 }
-    ensures word { IfOk result (λ word. ForSome (D.seen disk.old) (λ image. word ≡ slice_index (searching.words_based (now_of v.old image).objects list) index)) }
+    ensures word { IfOk result (λ word. ForSome (D.seen disk.old) (λ image. word ≡ slice_index (searching.words_based (now_of volume.old image).objects list) index)) }
     ensures one { OnOk result (steps.new ≡ steps.old + 1) }
     ensures none { OnErr result (steps.new ≡ steps.old) }
-    ensures reads { Reads D.Disk v.old v.new disk.old disk.new steps.old steps.new }
+    ensures reads { Reads D.Disk volume.old volume.new disk.old disk.new steps.old steps.new }
     ensures cause { OnErr result (CountRose D.Disk disk.old disk.new) }
 {
-    v.word(disk, list / PAGE_SIZE, index, steps)
+    volume.word(disk, list / PAGE_SIZE, index, steps)
 }
 
 // Whether the entry at place j of a capability list is for the object that is sought, with a password that gives the right.
-// The password is read only where the base is the object's.
+// The password is read only if the base is the object's.
 fn entry_opens<D: Disk, L: Ledger>(
-    v: &mut Volume,
+    volume: &mut Volume,
     disk: &mut D,
     list: u64,
     j: u64,
     sought: &Sought,
     steps: &mut Steps<L>,
 ) -> Result<bool, Failed>
-    requires sound { IsSoundOn D.Disk v.old disk.old }
-    requires held { IsSome (find (λ row. row.base == list) (objects_in v.old)) }
-    requires page { has_page v.old (list / page_size) ≡ true }
+    requires sound { IsSoundOn D.Disk volume.old disk.old }
+    requires held { IsSome (find (λ row. row.base == list) (objects_in volume.old)) }
+    requires page { has_page volume.old (list / page_size) ≡ true }
     requires place { j < 255 }
-    ensures opens { IfOk result (λ found. ForSome (D.seen disk.old) (λ image. found ≡ searching.opens sought.now (searching.entry_at (searching.words_based (now_of v.old image).objects list) j))) }
+    ensures opens { IfOk result (λ found. ForSome (D.seen disk.old) (λ image. found ≡ searching.opens sought.now (searching.entry_at (searching.words_based (now_of volume.old image).objects list) j))) }
     ensures at_most_2_read { steps.new ≤ steps.old + 2 }
-    ensures reads { Reads D.Disk v.old v.new disk.old disk.new steps.old steps.new }
+    ensures reads { Reads D.Disk volume.old volume.new disk.old disk.new steps.old steps.new }
     ensures cause { OnErr result (CountRose D.Disk disk.old disk.new) }
 {
-    let base = list_word(v, disk, list, 2 + 2 * j, steps)?;
+    let base = list_word(volume, disk, list, 2 + 2 * j, steps)?;
     if base != sought.object.base() {
         return Ok(false);
     }
-    let password = list_word(v, disk, list, 3 + 2 * j, steps)?;
+    let password = list_word(volume, disk, list, 3 + 2 * j, steps)?;
     Ok(holds(&sought.object, password, sought.right, sought.period))
 }
 
 // Whether an entry of a capability list opens the object. The search stops at the first that does.
 fn list_opens<D: Disk, L: Ledger>(
-    v: &mut Volume,
+    volume: &mut Volume,
     disk: &mut D,
     list: u64,
     sought: &Sought,
     steps: &mut Steps<L>,
 ) -> Result<bool, Failed>
-    requires sound { IsSoundOn D.Disk v.old disk.old }
-    requires held { IsSome (find (λ row. row.base == list) (objects_in v.old)) }
-    requires page { has_page v.old (list / page_size) ≡ true }
-    ensures opens { IfOk result (λ found. ForSome (D.seen disk.old) (λ image. found ≡ list_any (λ entry. searching.opens sought.now entry) (entries_of (searching.words_based (now_of v.old image).objects list)))) }
+    requires sound { IsSoundOn D.Disk volume.old disk.old }
+    requires held { IsSome (find (λ row. row.base == list) (objects_in volume.old)) }
+    requires page { has_page volume.old (list / page_size) ≡ true }
+    ensures opens { IfOk result (λ found. ForSome (D.seen disk.old) (λ image. found ≡ list_any (λ entry. searching.opens sought.now entry) (entries_of (searching.words_based (now_of volume.old image).objects list)))) }
     ensures at_most_511_read { steps.new ≤ steps.old + 511 }
-    ensures reads { Reads D.Disk v.old v.new disk.old disk.new steps.old steps.new }
+    ensures reads { Reads D.Disk volume.old volume.new disk.old disk.new steps.old steps.new }
     ensures cause { OnErr result (CountRose D.Disk disk.old disk.new) }
 {
-    let count = entries(list_word(v, disk, list, 0, steps)?);
+    let count = entries(list_word(volume, disk, list, 0, steps)?);
     for j in 0..count {
-        if entry_opens(v, disk, list, j, sought, steps)? {
+        if entry_opens(volume, disk, list, j, sought, steps)? {
             return Ok(true);
         }
     }
@@ -102,44 +102,44 @@ fn list_opens<D: Disk, L: Ledger>(
 
 // Whether a slot's capability list is opened by the slot's password, and opens the object.
 fn slot_opens<D: Disk, L: Ledger>(
-    v: &mut Volume,
+    volume: &mut Volume,
     disk: &mut D,
     slot: &Slot,
     sought: &Sought,
     steps: &mut Steps<L>,
 ) -> Result<bool, Failed>
-    requires sound { IsSoundOn D.Disk v.old disk.old }
-    ensures opens { IfOk result (λ found. ForSome (D.seen disk.old) (λ image. found ≡ searching.slot_opens (now_of v.old image) sought.now slot.now)) }
+    requires sound { IsSoundOn D.Disk volume.old disk.old }
+    ensures opens { IfOk result (λ found. ForSome (D.seen disk.old) (λ image. found ≡ searching.slot_opens (now_of volume.old image) sought.now slot.now)) }
     ensures at_most_511_read { steps.new ≤ steps.old + 511 }
-    ensures reads { Reads D.Disk v.old v.new disk.old disk.new steps.old steps.new }
+    ensures reads { Reads D.Disk volume.old volume.new disk.old disk.new steps.old steps.new }
     ensures cause { OnErr result (CountRose D.Disk disk.old disk.new) }
 {
-    let Some(clist) = v.object_ref(slot.base) else {
+    let Some(clist) = volume.object_ref(slot.base) else {
         return Ok(false);
     };
     if !holds(clist, slot.password, Right::R, sought.period) {
         return Ok(false);
     }
     clist.keep_rules();
-    list_opens(v, disk, slot.base, sought, steps)
+    list_opens(volume, disk, slot.base, sought, steps)
 }
 
 // The capability list of the first of these slots that opens the object. The search stops there.
 fn list_among<D: Disk, L: Ledger>(
-    v: &mut Volume,
+    volume: &mut Volume,
     disk: &mut D,
     slots: &[Slot],
     sought: &Sought,
     steps: &mut Steps<L>,
 ) -> Result<Option<u64>, Failed>
-    requires sound { IsSoundOn D.Disk v.old disk.old }
-    ensures via { IfOk result (λ via. ForSome (D.seen disk.old) (λ image. MatchOption via (list_any (λ slot. searching.slot_opens (now_of v.old image) sought.now slot) slots.now ≡ false) (λ via. IsOpenedBy (now_of v.old image) sought.now slots.now via))) }
+    requires sound { IsSoundOn D.Disk volume.old disk.old }
+    ensures via { IfOk result (λ via. ForSome (D.seen disk.old) (λ image. MatchOption via (list_any (λ slot. searching.slot_opens (now_of volume.old image) sought.now slot) slots.now ≡ false) (λ via. IsOpenedBy (now_of volume.old image) sought.now slots.now via))) }
     ensures at_most_511_a_slot_read { steps.new ≤ steps.old + 511 * length slots.now }
-    ensures reads { Reads D.Disk v.old v.new disk.old disk.new steps.old steps.new }
+    ensures reads { Reads D.Disk volume.old volume.new disk.old disk.new steps.old steps.new }
     ensures cause { OnErr result (CountRose D.Disk disk.old disk.new) }
 {
     for slot in slots {
-        if slot_opens(v, disk, slot, sought, steps)? {
+        if slot_opens(volume, disk, slot, sought, steps)? {
             return Ok(Some(slot.base));
         }
     }
@@ -147,25 +147,25 @@ fn list_among<D: Disk, L: Ledger>(
 }
 
 /// The capability list by which a thread reaches the object: that of the first slot of its present frame that opens it. None
-/// where none does, or no such thread lives.
+/// if none does, or no such thread lives.
 pub(crate) fn list_of<D: Disk, L: Ledger>(
-    v: &mut Volume,
+    volume: &mut Volume,
     disk: &mut D,
-    t: u64,
+    thread: u64,
     sought: &Sought,
     steps: &mut Steps<L>,
 ) -> Result<Option<u64>, Failed>
-    requires sound { IsSoundOn D.Disk v.old disk.old }
-    ensures via { IfOk result (λ via. ForSome (D.seen disk.old) (λ image. MatchOption via (list_any (λ slot. searching.slot_opens (now_of v.old image) sought.now slot) (domain_of (now_of v.old image) t) ≡ false) (λ via. IsOpenedBy (now_of v.old image) sought.now (domain_of (now_of v.old image) t) via))) }
+    requires sound { IsSoundOn D.Disk volume.old disk.old }
+    ensures via { IfOk result (λ via. ForSome (D.seen disk.old) (λ image. MatchOption via (list_any (λ slot. searching.slot_opens (now_of volume.old image) sought.now slot) (domain_of (now_of volume.old image) thread) ≡ false) (λ via. IsOpenedBy (now_of volume.old image) sought.now (domain_of (now_of volume.old image) thread) via))) }
     ensures at_most_search_limit_read { steps.new ≤ steps.old + search_limit }
-    ensures nobody { find (λ thread. thread.number == t) (threads_in v.old) ≡ None → steps.new ≡ steps.old }
-    ensures reads { Reads D.Disk v.old v.new disk.old disk.new steps.old steps.new }
+    ensures nobody { find (λ other. other.number == thread) (threads_in volume.old) ≡ None → steps.new ≡ steps.old }
+    ensures reads { Reads D.Disk volume.old volume.new disk.old disk.new steps.old steps.new }
     ensures cause { OnErr result (CountRose D.Disk disk.old disk.new) }
 {
-    match v.frame(t) {
+    match volume.frame(thread) {
         Some(frame) => {
             frame.keep_rules();
-            list_among(v, disk, frame.slots(), sought, steps)
+            list_among(volume, disk, frame.slots(), sought, steps)
         }
         None => Ok(None),
     }

@@ -7,11 +7,11 @@ use mg_model::ThrRow;
 use mg_volume::Volume;
 
 /// The row of a thread that lives.
-pub fn row_of(v: &Volume, t: u64) -> ThrRow
-    requires { lives v.now t ≡ true }
-    ensures { option_map (λ thread. thread.row) (find (λ thread. thread.number == t) (threads_in v.now)) ≡ Some result }
+pub fn row_of(volume: &Volume, thread: u64) -> ThrRow
+    requires { lives volume.now thread ≡ true }
+    ensures { option_map (λ other. other.row) (find (λ other. other.number == thread) (threads_in volume.now)) ≡ Some result }
 {
-    match v.thread(t) {
+    match volume.thread(thread) {
         Some(row) => row,
         None => unreachable!(),
     }

@@ -19,22 +19,28 @@ use mg_volume::Volume;
 /// One slot more for a thread's present frame, the last: a capability list, by its base, and the password that is to open it,
 /// neither of which is tested. Gives the number of the slot, from 0 on. A frame that has 8 slots is refused (SlotFull). No
 /// right that was found ends.
-pub fn apdadd(v: &mut Volume, c: &mut VCache, t: u64, clist: u64, password: u64) -> Reply
-    requires lives { lives v.old t ≡ true }
-    requires at_most_159_staged { staged_of v.old ≤ 159 }
-    ensures does { CallStages (Answers (λ state. domains.apdadd state t clist password)) 1 v.old v.new result }
-    ensures seats { c.new ≡ c.old }
-    ensures backed { StayBacked v.old v.new c.old c.new }
+pub fn apdadd(
+    volume: &mut Volume,
+    cache: &mut VCache,
+    thread: u64,
+    clist: u64,
+    password: u64,
+) -> Reply
+    requires lives { lives volume.old thread ≡ true }
+    requires at_most_159_staged { staged_of volume.old ≤ 159 }
+    ensures does { CallStages (Answers (λ state. domains.apdadd state thread clist password)) 1 volume.old volume.new result }
+    ensures seats { cache.new ≡ cache.old }
+    ensures backed { StayBacked volume.old volume.new cache.old cache.new }
 {
     steps_keep_backing();
-    let mut row = row_of(v, t);
+    let mut row = row_of(volume, thread);
     let slot = Slot {
         base: clist,
         password,
     };
     match push_slot(&mut row, slot) {
         Ok(count) => {
-            v.change_thread(t, row);
+            volume.change_thread(thread, row);
             Reply::Count(count)
         }
         Err(word) => Reply::No(word),
@@ -43,19 +49,19 @@ pub fn apdadd(v: &mut Volume, c: &mut VCache, t: u64, clist: u64, password: u64)
 
 /// The slot with this number goes from a thread's present frame, and the later ones close up. All rights that were found for
 /// the thread end. A number that no slot has is refused (NoSlot).
-pub fn apddel(v: &mut Volume, c: &mut VCache, t: u64, index: u64) -> Reply
-    requires lives { lives v.old t ≡ true }
-    requires at_most_159_staged { staged_of v.old ≤ 159 }
-    ensures does { CallStages (Answers (λ state. domains.apddel state t index)) 1 v.old v.new result }
-    ensures seats { Drops (by_thread t) c.old c.new result }
-    ensures backed { StayBacked v.old v.new c.old c.new }
+pub fn apddel(volume: &mut Volume, cache: &mut VCache, thread: u64, index: u64) -> Reply
+    requires lives { lives volume.old thread ≡ true }
+    requires at_most_159_staged { staged_of volume.old ≤ 159 }
+    ensures does { CallStages (Answers (λ state. domains.apddel state thread index)) 1 volume.old volume.new result }
+    ensures seats { Drops (by_thread thread) cache.old cache.new result }
+    ensures backed { StayBacked volume.old volume.new cache.old cache.new }
 {
     steps_keep_backing();
-    let mut row = row_of(v, t);
+    let mut row = row_of(volume, thread);
     match drop_slot(&mut row, index) {
         Ok(()) => {
-            v.change_thread(t, row);
-            c.drop_thread(t);
+            volume.change_thread(thread, row);
+            cache.drop_thread(thread);
             Reply::Done
         }
         Err(word) => Reply::No(word),
@@ -64,11 +70,11 @@ pub fn apddel(v: &mut Volume, c: &mut VCache, t: u64, index: u64) -> Reply
 
 /// How many slots a thread's present frame has, 8 at most, and the bases of their capability lists in order, with 0 past the
 /// count. No password is shown.
-pub fn apdlist(v: &Volume, t: u64) -> Reply
-    requires lives { lives v.now t ≡ true }
-    ensures { CallStages (Answers (λ state. domains.apdlist state t)) 0 v.now v.now result }
+pub fn apdlist(volume: &Volume, thread: u64) -> Reply
+    requires lives { lives volume.now thread ≡ true }
+    ensures { CallStages (Answers (λ state. domains.apdlist state thread)) 0 volume.now volume.now result }
 {
-    match v.frame(t) {
+    match volume.frame(thread) {
         Some(frame) => {
             frame.keep_rules();
             listed(frame.slots())

@@ -10,13 +10,13 @@ use mg_model::limits::{ENTRY_POINT_LIMIT, PAGE_SIZE};
 use mg_model::{ObjRow, Refusal, Reply, Right, Slot};
 use mg_volume::Volume;
 
-/// The address so many bytes behind an object's base is an entry of it, once, however often it is given. The refusals come in
+/// The address `off` bytes after an object's base is an entry of it, once, however often it is given. The refusals come in
 /// this order: an offset that is no multiple of 8, or is at or beyond the object's end (Range); an object with 16 entries, of
 /// which this address is none (Limit). No right that was found ends.
-pub(crate) fn entry_by_row(v: &mut Volume, object: ObjRow, off: u64) -> Reply
-    requires held { find (λ row. row.base == object.base) (objects_in v.old) ≡ Some object }
-    requires at_most_159_staged { staged_of v.old ≤ 159 }
-    ensures { CallStages (Acts (λ state t a. calls.entry state t a off) Right.O object) 1 v.old v.new result }
+pub(crate) fn entry_by_row(volume: &mut Volume, object: ObjRow, off: u64) -> Reply
+    requires held { find (λ row. row.base == object.base) (objects_in volume.old) ≡ Some object }
+    requires at_most_159_staged { staged_of volume.old ≤ 159 }
+    ensures { CallStages (Acts (λ state t a. calls.entry state t a off) Right.O object) 1 volume.old volume.new result }
 {
     if is_outside(&object, off) {
         return Reply::No(Refusal::Range);
@@ -26,35 +26,40 @@ pub(crate) fn entry_by_row(v: &mut Volume, object: ObjRow, off: u64) -> Reply
         return Reply::No(Refusal::Limit);
     }
     let row = with_entry(object, address);
-    v.change(row);
+    volume.change(row);
     Reply::Value(address)
 }
 
-/// The object's extension is the slot of this list and password, or none where the list is 0. No right that was found ends.
-pub(crate) fn ext_by_row(v: &mut Volume, object: ObjRow, clist: u64, password: u64) -> Reply
-    requires held { find (λ row. row.base == object.base) (objects_in v.old) ≡ Some object }
-    requires at_most_159_staged { staged_of v.old ≤ 159 }
-    ensures { CallStages (Acts (λ state t a. calls.ext state t a clist password) Right.O object) 1 v.old v.new result }
+/// The object's extension is the slot of this list and password, or none if the list is 0. No right that was found ends.
+pub(crate) fn ext_by_row(volume: &mut Volume, object: ObjRow, clist: u64, password: u64) -> Reply
+    requires held { find (λ row. row.base == object.base) (objects_in volume.old) ≡ Some object }
+    requires at_most_159_staged { staged_of volume.old ≤ 159 }
+    ensures { CallStages (Acts (λ state t a. calls.ext state t a clist password) Right.O object) 1 volume.old volume.new result }
 {
     let mut row = object;
     row.set_ext(extension(clist, password));
-    v.change(row);
+    volume.change(row);
     Reply::Done
 }
 
 /// Another account pays for the object from now on. The refusals come in this order: no such account, or another password
 /// than its own (Account); an account that owes something (Debt). No right that was found ends.
-pub(crate) fn recharge_by_row(v: &mut Volume, object: ObjRow, account: u64, password: u64) -> Reply
-    requires held { find (λ row. row.base == object.base) (objects_in v.old) ≡ Some object }
-    requires at_most_159_staged { staged_of v.old ≤ 159 }
-    ensures { CallStages (Acts (λ state t a. calls.recharge state t a account password) Right.O object) 1 v.old v.new result }
+pub(crate) fn recharge_by_row(
+    volume: &mut Volume,
+    object: ObjRow,
+    account: u64,
+    password: u64,
+) -> Reply
+    requires held { find (λ row. row.base == object.base) (objects_in volume.old) ≡ Some object }
+    requires at_most_159_staged { staged_of volume.old ≤ 159 }
+    ensures { CallStages (Acts (λ state t a. calls.recharge state t a account password) Right.O object) 1 volume.old volume.new result }
 {
-    match paying_refusal(v, account, password) {
+    match paying_refusal(volume, account, password) {
         Some(word) => Reply::No(word),
         None => {
             let mut row = object;
             row.set_account(account);
-            v.change(row);
+            volume.change(row);
             Reply::Done
         }
     }
@@ -111,12 +116,12 @@ fn extension(clist: u64, password: u64) -> Option<Slot>
     })
 }
 
-// Why an account may not pay for an object, or that it is one of the table where it may.
-fn paying_refusal(v: &Volume, account: u64, password: u64) -> Option<Refusal>
-    ensures word { result ≡ paying_refusal v.now account password }
+// Why an account may not pay for an object, or, if it may, that it is one of the table.
+fn paying_refusal(volume: &Volume, account: u64, password: u64) -> Option<Refusal>
+    ensures word { result ≡ paying_refusal volume.now account password }
     ensures payer { MatchOption result ((1 ≤ account) × (account ≤ 1024)) (λ _. Unit {0}) }
 {
-    let bank = v.bank();
+    let bank = volume.bank();
     if !bank.opens(account, password) {
         return Some(Refusal::Account);
     }

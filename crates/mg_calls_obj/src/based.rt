@@ -18,84 +18,84 @@ use mg_volume::Volume;
 /// The object with this base goes, and its pages read as zeros, should another object have them. All rights that were found for it
 /// or in it end, and the others stay ones that the state gives. Whether a thread has the right is not asked, here as in the calls
 /// below: `on_object` asks.
-pub fn delete(v: &mut Volume, c: &mut VCache, base: u64) -> Reply
-    requires there { is_object v.old base ≡ true }
-    requires at_most_30_staged { staged_of v.old ≤ 30 }
-    ensures does { OfBase base v.old (λ object. CallStages (Acts (λ state t a. calls.delete state t a) Right.D object) 129 v.old v.new result) }
-    ensures seats { Drops (by_via base) c.old c.new result }
-    ensures backed { StayBacked v.old v.new c.old c.new }
+pub fn delete(volume: &mut Volume, cache: &mut VCache, base: u64) -> Reply
+    requires there { is_object volume.old base ≡ true }
+    requires at_most_30_staged { staged_of volume.old ≤ 30 }
+    ensures does { OfBase base volume.old (λ object. CallStages (Acts (λ state t a. calls.delete state t a) Right.D object) 129 volume.old volume.new result) }
+    ensures seats { Drops (by_via base) cache.old cache.new result }
+    ensures backed { StayBacked volume.old volume.new cache.old cache.new }
 {
-    let object = object_at(v, base);
-    delete_by_row(v, c, object)
+    let object = object_at(volume, base);
+    delete_by_row(volume, cache, object)
 }
 
 /// One password more for the object with this base, the next that is drawn, with these rights and this until, or none that it ever
 /// ends by. The refusals come in this order: an until that is not above the period, or is `2^24` or above (Past); an object with
 /// 32 password rows, or no password left to draw (Limit). No right that was found ends.
-pub fn pwadd(v: &mut Volume, base: u64, rights: Rights, until: Option<u64>) -> Reply
-    requires there { is_object v.old base ≡ true }
-    requires at_most_158_staged { staged_of v.old ≤ 158 }
-    ensures { OfBase base v.old (λ object. CallStages (Acts (λ state t a. calls.pwadd state t a rights until) Right.O object) 2 v.old v.new result) }
+pub fn pwadd(volume: &mut Volume, base: u64, rights: Rights, until: Option<u64>) -> Reply
+    requires there { is_object volume.old base ≡ true }
+    requires at_most_158_staged { staged_of volume.old ≤ 158 }
+    ensures { OfBase base volume.old (λ object. CallStages (Acts (λ state t a. calls.pwadd state t a rights until) Right.O object) 2 volume.old volume.new result) }
 {
-    let object = object_at(v, base);
-    pwadd_by_row(v, object, rights, until)
+    let object = object_at(volume, base);
+    pwadd_by_row(volume, object, rights, until)
 }
 
 /// Every password row with this password goes of the object with this base, be it current or not, and with them all rights that
 /// were found for the object or in it; the others stay ones that the state gives. An object without one is refused (NoPassword).
-pub fn pwdel(v: &mut Volume, c: &mut VCache, base: u64, password: u64) -> Reply
-    requires there { is_object v.old base ≡ true }
-    requires at_most_159_staged { staged_of v.old ≤ 159 }
-    ensures does { OfBase base v.old (λ object. CallStages (Acts (λ state t a. calls.pwdel state t a password) Right.O object) 1 v.old v.new result) }
-    ensures seats { Drops (by_via base) c.old c.new result }
-    ensures backed { StayBacked v.old v.new c.old c.new }
+pub fn pwdel(volume: &mut Volume, cache: &mut VCache, base: u64, password: u64) -> Reply
+    requires there { is_object volume.old base ≡ true }
+    requires at_most_159_staged { staged_of volume.old ≤ 159 }
+    ensures does { OfBase base volume.old (λ object. CallStages (Acts (λ state t a. calls.pwdel state t a password) Right.O object) 1 volume.old volume.new result) }
+    ensures seats { Drops (by_via base) cache.old cache.new result }
+    ensures backed { StayBacked volume.old volume.new cache.old cache.new }
 {
-    let object = object_at(v, base);
-    pwdel_by_row(v, c, object, password)
+    let object = object_at(volume, base);
+    pwdel_by_row(volume, cache, object, password)
 }
 
-/// The address so many bytes behind this base of an object is an entry of it, once, however often it is given. The refusals come in
+/// The address `off` bytes after this base of an object is an entry of it, once, however often it is given. The refusals come in
 /// this order: an offset that is no multiple of 8, or is at or beyond the object's end (Range); an object with 16 entries, of which
 /// this address is none (Limit). No right that was found ends.
-pub fn entry(v: &mut Volume, base: u64, off: u64) -> Reply
-    requires there { is_object v.old base ≡ true }
-    requires at_most_159_staged { staged_of v.old ≤ 159 }
-    ensures { OfBase base v.old (λ object. CallStages (Acts (λ state t a. calls.entry state t a off) Right.O object) 1 v.old v.new result) }
+pub fn entry(volume: &mut Volume, base: u64, off: u64) -> Reply
+    requires there { is_object volume.old base ≡ true }
+    requires at_most_159_staged { staged_of volume.old ≤ 159 }
+    ensures { OfBase base volume.old (λ object. CallStages (Acts (λ state t a. calls.entry state t a off) Right.O object) 1 volume.old volume.new result) }
 {
-    let object = object_at(v, base);
-    entry_by_row(v, object, off)
+    let object = object_at(volume, base);
+    entry_by_row(volume, object, off)
 }
 
-/// The extension of the object with this base is the slot of this list and password, or none where the list is 0. No right that
+/// The extension of the object with this base is the slot of this list and password, or none if the list is 0. No right that
 /// was found ends.
-pub fn ext(v: &mut Volume, base: u64, clist: u64, password: u64) -> Reply
-    requires there { is_object v.old base ≡ true }
-    requires at_most_159_staged { staged_of v.old ≤ 159 }
-    ensures { OfBase base v.old (λ object. CallStages (Acts (λ state t a. calls.ext state t a clist password) Right.O object) 1 v.old v.new result) }
+pub fn ext(volume: &mut Volume, base: u64, clist: u64, password: u64) -> Reply
+    requires there { is_object volume.old base ≡ true }
+    requires at_most_159_staged { staged_of volume.old ≤ 159 }
+    ensures { OfBase base volume.old (λ object. CallStages (Acts (λ state t a. calls.ext state t a clist password) Right.O object) 1 volume.old volume.new result) }
 {
-    let object = object_at(v, base);
-    ext_by_row(v, object, clist, password)
+    let object = object_at(volume, base);
+    ext_by_row(volume, object, clist, password)
 }
 
 /// Another account pays for the object with this base from now on. The refusals come in this order: no such account, or another
 /// password than its own (Account); an account that owes something (Debt). No right that was found ends.
-pub fn recharge(v: &mut Volume, base: u64, account: u64, password: u64) -> Reply
-    requires there { is_object v.old base ≡ true }
-    requires at_most_159_staged { staged_of v.old ≤ 159 }
-    ensures { OfBase base v.old (λ object. CallStages (Acts (λ state t a. calls.recharge state t a account password) Right.O object) 1 v.old v.new result) }
+pub fn recharge(volume: &mut Volume, base: u64, account: u64, password: u64) -> Reply
+    requires there { is_object volume.old base ≡ true }
+    requires at_most_159_staged { staged_of volume.old ≤ 159 }
+    ensures { OfBase base volume.old (λ object. CallStages (Acts (λ state t a. calls.recharge state t a account password) Right.O object) 1 volume.old volume.new result) }
 {
-    let object = object_at(v, base);
-    recharge_by_row(v, object, account, password)
+    let object = object_at(volume, base);
+    recharge_by_row(volume, object, account, password)
 }
 
 /// The row of the object with this base.
-pub(crate) fn object_at(v: &Volume, base: u64) -> ObjRow
-    requires there { is_object v.now base ≡ true }
-    ensures held { based v.now base ≡ Some result }
-    ensures own { find (λ row. row.base == result.base) (objects_in v.now) ≡ Some result }
+pub(crate) fn object_at(volume: &Volume, base: u64) -> ObjRow
+    requires there { is_object volume.now base ≡ true }
+    ensures held { based volume.now base ≡ Some result }
+    ensures own { find (λ row. row.base == result.base) (objects_in volume.now) ≡ Some result }
     ensures base { result.base ≡ base }
 {
-    match v.object(base) {
+    match volume.object(base) {
         Some(object) => object,
         None => unreachable!(),
     }

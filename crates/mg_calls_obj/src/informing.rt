@@ -1,4 +1,4 @@
-// What is told of an object.
+// What a reply says of an object.
 ghost use Rattle.std.specs.Prelude.{List, ◌≡◌, ℕ, true};
 ghost use Rattle.std.specs.Option.{ForSome};
 ghost use Rattle.mg_calls_dom.specs.Served.{CallReads, of_call};
@@ -21,24 +21,24 @@ use std::sync::ledger::Ledger;
 /// The rights in the order of their bits.
 const RIGHTS: [Right; 6] = [Right::R, Right::W, Right::X, Right::D, Right::P, Right::O];
 
-/// What [`info`] tells of the object that has an address, to a thread with any right to it; one with none is refused (Denied), as
-/// where no such thread lives. Rights are tried in the order of their bits, and none behind the first that is given.
-/// [`Failed`] comes only where a call of the disk failed. The state stays.
+/// What [`info`] says of the object that has an address, to a thread with any right to it; one with none is refused (Denied), also
+/// if no such thread lives. Rights are tried in the order of their bits, and none after the first that is given.
+/// [`Failed`] comes only if a call of the disk failed. The state stays.
 pub fn validated_info<D: Disk, L: Ledger>(
-    v: &mut Volume,
-    c: &mut VCache,
+    volume: &mut Volume,
+    cache: &mut VCache,
     disk: &mut D,
-    t: u64,
-    a: u64,
+    thread: u64,
+    address: u64,
     steps: &mut Steps<L>,
 ) -> Result<Reply, Failed>
-    requires sound { IsSoundOn D.Disk v.old disk.old }
-    requires backed { ForSome (D.seen disk.old) (λ image. AllBacked (now_of v.old image) c.old) }
-    ensures { CallReads D.Disk (of_call t (Call.Info a)) result v.old v.new c.old c.new disk.old disk.new steps.old steps.new }
+    requires sound { IsSoundOn D.Disk volume.old disk.old }
+    requires backed { ForSome (D.seen disk.old) (λ image. AllBacked (now_of volume.old image) cache.old) }
+    ensures { CallReads D.Disk (of_call thread (Call.Info address)) result volume.old volume.new cache.old cache.new disk.old disk.new steps.old steps.new }
 {
     accesses_keep_the_rules_of_a_line();
     for right in RIGHTS {
-        match reach(v, c, disk, t, a, right, steps)? {
+        match reach(volume, cache, disk, thread, address, right, steps)? {
             Some(object) => return Ok(about(&object)),
             None => {}
         }
@@ -46,18 +46,18 @@ pub fn validated_info<D: Disk, L: Ledger>(
     Ok(Reply::No(Refusal::Denied))
 }
 
-/// What is told of the object with this base: its base, its pages, its account, how many passwords and entries it has, and whether
+/// What a reply says of the object with this base: its base, its pages, its account, how many passwords and entries it has, and whether
 /// it has an extension. Nothing changes.
 ///
 /// Whether a thread has a right to it is not asked: [`validated_info`] asks.
-pub fn info(v: &Volume, base: u64) -> Reply
-    requires there { is_object v.now base ≡ true }
-    ensures { OfBase base v.now (λ object. result ≡ calls.about object) }
+pub fn info(volume: &Volume, base: u64) -> Reply
+    requires there { is_object volume.now base ≡ true }
+    ensures { OfBase base volume.now (λ object. result ≡ calls.about object) }
 {
-    about(&object_at(v, base))
+    about(&object_at(volume, base))
 }
 
-// What is told of an object with this row.
+// What a reply says of an object with this row.
 fn about(object: &ObjRow) -> Reply
     ensures { result ≡ calls.about object.now }
 {

@@ -14,16 +14,16 @@ use mg_volume::Volume;
 
 /// An object goes, and its pages read as zeros, should another object have them. All rights that were found for it or in it
 /// end.
-pub(crate) fn delete_by_row(v: &mut Volume, c: &mut VCache, object: ObjRow) -> Reply
-    requires held { find (λ row. row.base == object.base) (objects_in v.old) ≡ Some object }
-    requires at_most_30_staged { staged_of v.old ≤ 30 }
-    ensures does { CallStages (Acts (λ state t a. calls.delete state t a) Right.D object) 129 v.old v.new result }
-    ensures seats { Drops (by_via object.base) c.old c.new result }
-    ensures others { KeepsOthers object.base v.old v.new }
+pub(crate) fn delete_by_row(volume: &mut Volume, cache: &mut VCache, object: ObjRow) -> Reply
+    requires held { find (λ row. row.base == object.base) (objects_in volume.old) ≡ Some object }
+    requires at_most_30_staged { staged_of volume.old ≤ 30 }
+    ensures does { CallStages (Acts (λ state t a. calls.delete state t a) Right.D object) 129 volume.old volume.new result }
+    ensures seats { Drops (by_via object.base) cache.old cache.new result }
+    ensures others { KeepsOthers object.base volume.old volume.new }
 {
     objects_end_their_own_seats();
     let base = object.base();
-    v.remove(base);
-    c.drop_via(base);
+    volume.remove(base);
+    cache.drop_via(base);
     Reply::Done
 }

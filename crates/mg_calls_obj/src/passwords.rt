@@ -20,43 +20,48 @@ use mg_volume::Volume;
 /// The refusals come in this order: an until that is not above the period, or is `2^24` or above (Past); an object with 32
 /// password rows, or no password left to draw (Limit). No right that was found ends.
 pub(crate) fn pwadd_by_row(
-    v: &mut Volume,
+    volume: &mut Volume,
     object: ObjRow,
     rights: Rights,
     until: Option<u64>,
 ) -> Reply
-    requires held { find (λ row. row.base == object.base) (objects_in v.old) ≡ Some object }
-    requires at_most_158_staged { staged_of v.old ≤ 158 }
-    ensures { CallStages (Acts (λ state t a. calls.pwadd state t a rights until) Right.O object) 2 v.old v.new result }
+    requires held { find (λ row. row.base == object.base) (objects_in volume.old) ≡ Some object }
+    requires at_most_158_staged { staged_of volume.old ≤ 158 }
+    ensures { CallStages (Acts (λ state t a. calls.pwadd state t a rights until) Right.O object) 2 volume.old volume.new result }
 {
-    let globals = v.globals();
+    let globals = volume.globals();
     if is_past(globals.period(), until) {
         return Reply::No(Refusal::Past);
     }
     if is_full(&object, &globals) {
         return Reply::No(Refusal::Limit);
     }
-    let password = v.next_password();
+    let password = volume.next_password();
     let row = with_password(object, password, rights, until.unwrap_or(Pw::NEVER));
-    v.change(row);
+    volume.change(row);
     Reply::Value(password)
 }
 
 /// Every password row of an object with this password goes, be it current or not, and with them all rights that were found
 /// for the object or in it. An object without one is refused (NoPassword).
-pub(crate) fn pwdel_by_row(v: &mut Volume, c: &mut VCache, object: ObjRow, password: u64) -> Reply
-    requires held { find (λ row. row.base == object.base) (objects_in v.old) ≡ Some object }
-    requires at_most_159_staged { staged_of v.old ≤ 159 }
-    ensures does { CallStages (Acts (λ state t a. calls.pwdel state t a password) Right.O object) 1 v.old v.new result }
-    ensures seats { Drops (by_via object.base) c.old c.new result }
-    ensures others { KeepsOthers object.base v.old v.new }
+pub(crate) fn pwdel_by_row(
+    volume: &mut Volume,
+    cache: &mut VCache,
+    object: ObjRow,
+    password: u64,
+) -> Reply
+    requires held { find (λ row. row.base == object.base) (objects_in volume.old) ≡ Some object }
+    requires at_most_159_staged { staged_of volume.old ≤ 159 }
+    ensures does { CallStages (Acts (λ state t a. calls.pwdel state t a password) Right.O object) 1 volume.old volume.new result }
+    ensures seats { Drops (by_via object.base) cache.old cache.new result }
+    ensures others { KeepsOthers object.base volume.old volume.new }
 {
     objects_end_their_own_seats();
     let mut row = object;
     match remove(&mut row, password) {
         Ok(()) => {
-            v.change(row);
-            c.drop_via(object.base());
+            volume.change(row);
+            cache.drop_via(object.base());
             Reply::Done
         }
         Err(word) => Reply::No(word),

@@ -18,57 +18,58 @@ use mg_volume::Volume;
 /// The thread that never ends.
 const FIRST_THREAD: u64 = 1;
 
-/// Thread i ends: its number is free then. It may be thread t itself, or one that t created; what it created itself goes on.
-/// All rights that were found for it end.
+/// The thread with this number ends: its number is free then. It may be the calling thread itself, or one that it created; what
+/// it created itself continues. All rights that were found for it end.
 ///
-/// The refusals come in this order: no thread i (NoThread); thread 1, or one that is neither t nor created by t (NotYours).
+/// The refusals come in this order: no thread with the number (NoThread); thread 1, or one that is neither the calling thread nor
+/// created by it (NotYours).
 /// Both the state and what is kept of rights then stay.
-pub fn end(v: &mut Volume, c: &mut VCache, t: u64, i: u64) -> Reply
-    requires lives { lives v.old t ≡ true }
-    requires at_most_159_staged { staged_of v.old ≤ 159 }
-    ensures does { CallStages (Answers (λ state. threads.end_thread state t i)) 1 v.old v.new result }
-    ensures seats { Drops (by_thread i) c.old c.new result }
-    ensures backed { StayBacked v.old v.new c.old c.new }
+pub fn end(volume: &mut Volume, cache: &mut VCache, thread: u64, number: u64) -> Reply
+    requires lives { lives volume.old thread ≡ true }
+    requires at_most_159_staged { staged_of volume.old ≤ 159 }
+    ensures does { CallStages (Answers (λ state. threads.end_thread state thread number)) 1 volume.old volume.new result }
+    ensures seats { Drops (by_thread number) cache.old cache.new result }
+    ensures backed { StayBacked volume.old volume.new cache.old cache.new }
 {
     steps_keep_backing();
-    match not_own(v, t, i) {
+    match not_own(volume, thread, number) {
         Some(word) => Reply::No(word),
         None => {
-            if is_first(i) {
+            if is_first(number) {
                 return Reply::No(Refusal::NotYours);
             }
-            v.stage_thread(i, None);
-            c.drop_thread(i);
+            volume.stage_thread(number, None);
+            cache.drop_thread(number);
             Reply::Done
         }
     }
 }
 
-/// Thread i is Ready, whatever it was before; its pc, its registers and its frames stay. It may be thread t itself, or one that
-/// t created. No right that was found ends.
+/// The thread with this number is Ready, whatever it was before; its pc, its registers and its frames stay. It may be the calling
+/// thread itself, or one that it created. No right that was found ends.
 ///
-/// The refusals come in this order: no thread i (NoThread); one that is neither t nor created by t (NotYours). The state then
-/// stays.
-pub fn resume(v: &mut Volume, t: u64, i: u64) -> Reply
-    requires lives { lives v.old t ≡ true }
-    requires at_most_159_staged { staged_of v.old ≤ 159 }
-    ensures { CallStages (Answers (λ state. threads.resume state t i)) 1 v.old v.new result }
+/// The refusals come in this order: no thread with the number (NoThread); one that is neither the calling thread nor created by it
+/// (NotYours). The state then stays.
+pub fn resume(volume: &mut Volume, thread: u64, number: u64) -> Reply
+    requires lives { lives volume.old thread ≡ true }
+    requires at_most_159_staged { staged_of volume.old ≤ 159 }
+    ensures { CallStages (Answers (λ state. threads.resume state thread number)) 1 volume.old volume.new result }
 {
-    match not_own(v, t, i) {
+    match not_own(volume, thread, number) {
         Some(word) => Reply::No(word),
         None => {
-            let row = ready(row_of(v, i));
-            v.change_thread(i, row);
+            let row = ready(row_of(volume, number));
+            volume.change_thread(number, row);
             Reply::Done
         }
     }
 }
 
 // Whether a number is that of the first thread.
-fn is_first(i: u64) -> bool
-    ensures { result ≡ (i == 1) }
+fn is_first(number: u64) -> bool
+    ensures { result ≡ (number == 1) }
 {
-    i == FIRST_THREAD
+    number == FIRST_THREAD
 }
 
 // A thread's row, Ready.

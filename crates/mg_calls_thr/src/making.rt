@@ -20,81 +20,81 @@ use mg_vcache::VCache;
 use mg_volume::Volume;
 use std::sync::ledger::Ledger;
 
-/// A new thread, Ready at an address, with registers 0 and one frame: the slots of thread t's present frame, and 0 to return to.
-/// Its number is the lowest that no thread has, 1 to 256; its birth is the next one, and its creator's is that of t. Gives the
-/// number. Where there are 256 threads, or no birth is left below `2^32`, it is refused (Limit), and nothing changes.
+/// A new thread, Ready at an address, with registers 0 and one frame: the slots of the thread's present frame, and 0 to return to.
+/// Its number is the lowest that no thread has, 1 to 256; its birth is the next one, and its creator's is that of the thread. Gives the
+/// number. If there are 256 threads, or no birth is left below `2^32`, it is refused (Limit), and nothing changes.
 ///
-/// Whether t may execute at the address is not asked: [`validated_make`] asks.
-pub fn make(v: &mut Volume, t: u64, pc: u64) -> Reply
-    requires lives { lives v.old t ≡ true }
-    requires at_most_158_staged { staged_of v.old ≤ 158 }
+/// Whether the thread may execute at the address is not asked: [`validated_make`] asks.
+pub fn make(volume: &mut Volume, thread: u64, pc: u64) -> Reply
+    requires lives { lives volume.old thread ≡ true }
+    requires at_most_158_staged { staged_of volume.old ≤ 158 }
     requires aligned { pc % 8 ≡ 0 }
-    ensures { CallStages (Begins t pc) 2 v.old v.new result }
+    ensures { CallStages (Begins thread pc) 2 volume.old volume.new result }
 {
-    match next_number(v) {
+    match next_number(volume) {
         Some(number) => {
-            let counted = counted(v);
-            let row = first_row(&row_of(v, t), v.globals().births(), pc);
-            v.stage_globals(counted);
-            v.stage_thread(number, Some(row));
+            let counted = counted(volume);
+            let row = first_row(&row_of(volume, thread), volume.globals().births(), pc);
+            volume.stage_globals(counted);
+            volume.stage_thread(number, Some(row));
             Reply::Count(number)
         }
         None => Reply::No(Refusal::Limit),
     }
 }
 
-/// A new thread as by [`make`], where thread t may execute at the address. No right that was found ends.
+/// A new thread as by [`make`], if the thread may execute at the address. No right that was found ends.
 ///
 /// The refusals come in this order: an address that is no multiple of 8 (Align), before any word is read; no X (Denied); 256
-/// threads, or no birth left below `2^32` (Limit). [`Failed`] comes only where a call of the disk failed, and the state then
-/// stays, as where the call is refused.
+/// threads, or no birth left below `2^32` (Limit). [`Failed`] comes only if a call of the disk failed, and the state then
+/// stays, as after a refusal.
 pub fn validated_make<D: Disk, L: Ledger>(
-    v: &mut Volume,
-    c: &mut VCache,
+    volume: &mut Volume,
+    cache: &mut VCache,
     disk: &mut D,
-    t: u64,
+    thread: u64,
     pc: u64,
     steps: &mut Steps<L>,
 ) -> Result<Reply, Failed>
-    requires sound { IsSoundOn D.Disk v.old disk.old }
-    requires lives { lives v.old t ≡ true }
-    requires at_most_158_staged { staged_of v.old ≤ 158 }
-    requires backed { ForSome (D.seen disk.old) (λ image. AllBacked (now_of v.old image) c.old) }
-    ensures { CallServes 2 D.Disk (of_call t (Call.Thread pc)) result v.old v.new c.old c.new disk.old disk.new steps.old steps.new }
+    requires sound { IsSoundOn D.Disk volume.old disk.old }
+    requires lives { lives volume.old thread ≡ true }
+    requires at_most_158_staged { staged_of volume.old ≤ 158 }
+    requires backed { ForSome (D.seen disk.old) (λ image. AllBacked (now_of volume.old image) cache.old) }
+    ensures { CallServes 2 D.Disk (of_call thread (Call.Thread pc)) result volume.old volume.new cache.old cache.new disk.old disk.new steps.old steps.new }
 {
     steps_keep_backing();
-    match word_object(v, c, disk, t, pc, Right::X, steps)? {
-        Ok(_) => Ok(make(v, t, pc)),
+    match word_object(volume, cache, disk, thread, pc, Right::X, steps)? {
+        Ok(_) => Ok(make(volume, thread, pc)),
         Err(word) => Ok(Reply::No(word)),
     }
 }
 
-// The number that a new thread gets; none where there are 256 threads, or no birth is left.
-fn next_number(v: &Volume) -> Option<u64>
-    ensures number { MatchOption result ((nat_le thread_limit (length (threads_in v.now)) || nat_le birth_limit (counters_in v.now).births) ≡ true)
-        (λ n. ((nat_le thread_limit (length (threads_in v.now)) || nat_le birth_limit (counters_in v.now).births) ≡ false) × (n ≡ names.free_number (threads_in v.now)) × (lives v.now n ≡ false)) }
+// The number that a new thread gets; none if there are 256 threads, or no birth is left.
+fn next_number(volume: &Volume) -> Option<u64>
+    ensures number { MatchOption result ((nat_le thread_limit (length (threads_in volume.now)) || nat_le birth_limit (counters_in volume.now).births) ≡ true)
+        (λ n. ((nat_le thread_limit (length (threads_in volume.now)) || nat_le birth_limit (counters_in volume.now).births) ≡ false) × (n ≡ names.free_number (threads_in volume.now)) × (lives volume.now n ≡ false)) }
     ensures range { IfSome result (λ n. (1 ≤ n) × (n ≤ 256)) }
-    ensures births { IfSome result (λ _. (counters_in v.now).births < birth_limit) }
+    ensures births { IfSome result (λ _. (counters_in volume.now).births < birth_limit) }
 {
-    if v.globals().births() >= BIRTH_LIMIT {
+    if volume.globals().births() >= BIRTH_LIMIT {
         return None;
     }
-    v.free_number()
+    volume.free_number()
 }
 
 // The counters, with one birth more.
-fn counted(v: &Volume) -> Globals
-    requires { (counters_in v.now).births < birth_limit }
-    ensures { result ≡ record (counters_in v.now) { births = (counters_in v.now).births + 1 } }
+fn counted(volume: &Volume) -> Globals
+    requires { (counters_in volume.now).births < birth_limit }
+    ensures { result ≡ record (counters_in volume.now) { births = (counters_in volume.now).births + 1 } }
 {
-    let mut globals = v.globals();
+    let mut globals = volume.globals();
     let births = globals.births();
     globals.set_births(births + 1);
     globals
 }
 
-// The row of a new thread, made by the one with this row, behind so many births. No thread was born later than the last, so
-// its creator is the one with this row.
+// The row of a new thread, made by the thread with this row, after `births` births. No thread was born later than the last, so
+// its creator is the thread with this row.
 fn first_row(maker: &ThrRow, births: u64, pc: u64) -> ThrRow
     requires births_below_birth_limit { births < birth_limit }
     requires aligned { pc % 8 ≡ 0 }

@@ -8,35 +8,35 @@ use mg_calls_dom::row_of;
 use mg_model::{Refusal, ThrRow};
 use mg_volume::Volume;
 
-/// Why thread i is not for thread t, which lives, to end or to resume: no thread has the number (NoThread), or one that is
-/// neither t itself nor created by t (NotYours).
-pub(crate) fn not_own(v: &Volume, t: u64, i: u64) -> Option<Refusal>
-    requires { lives v.now t ≡ true }
-    ensures word { result ≡ own_refusal (threads_in v.now) t i }
-    ensures may { MatchOption result ((1 ≤ i) × (i ≤ 256) × (lives v.now i ≡ true)) (λ _. Unit {0}) }
+/// Why the thread with a number is not for a thread, which lives, to end or to resume: no thread has the number (NoThread), or one
+/// that is neither the thread itself nor created by it (NotYours).
+pub(crate) fn not_own(volume: &Volume, thread: u64, number: u64) -> Option<Refusal>
+    requires { lives volume.now thread ≡ true }
+    ensures word { result ≡ own_refusal (threads_in volume.now) thread number }
+    ensures may { MatchOption result ((1 ≤ number) × (number ≤ 256) × (lives volume.now number ≡ true)) (λ _. Unit {0}) }
 {
-    let Some(row) = v.thread(i) else {
+    let Some(row) = volume.thread(number) else {
         return Some(Refusal::NoThread);
     };
-    if !is_own(v, &row, t, i) {
+    if !is_own(volume, &row, thread, number) {
         return Some(Refusal::NotYours);
     }
     None
 }
 
-// Whether thread i, with this row, is thread t itself or created by it. Numbers are used again and births are not, so it is
-// told by the births.
-fn is_own(v: &Volume, row: &ThrRow, t: u64, i: u64) -> bool
-    requires { lives v.now t ≡ true }
-    ensures { result ≡ (i == t || row.now.creator == birth_among (threads_in v.now) t) }
+// Whether the thread with this number and this row is the given thread itself or created by it. Numbers are used again and births
+// are not, so births are compared.
+fn is_own(volume: &Volume, row: &ThrRow, thread: u64, number: u64) -> bool
+    requires { lives volume.now thread ≡ true }
+    ensures { result ≡ (number == thread || row.now.creator == birth_among (threads_in volume.now) thread) }
 {
-    i == t || row.creator() == birth_of(v, t)
+    number == thread || row.creator() == birth_of(volume, thread)
 }
 
 // The birth of a thread that lives.
-fn birth_of(v: &Volume, t: u64) -> u64
-    requires { lives v.now t ≡ true }
-    ensures { result ≡ birth_among (threads_in v.now) t }
+fn birth_of(volume: &Volume, thread: u64) -> u64
+    requires { lives volume.now thread ≡ true }
+    ensures { result ≡ birth_among (threads_in volume.now) thread }
 {
-    row_of(v, t).birth()
+    row_of(volume, thread).birth()
 }

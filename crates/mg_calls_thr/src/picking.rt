@@ -6,9 +6,9 @@ ghost use Rattle.mg_volume.specs.Meaning.{now_of};
 use mg_volume::Volume;
 
 /// The number of the thread that has the next turn: of those that are Ready the lowest above the cursor, or else the lowest;
-/// None exactly where no thread is Ready.
-pub fn pick(v: &Volume) -> Option<u64>
-    ensures { (image : List (List ℕ)) → result ≡ option_map (λ thread. thread.number) (picked (now_of v.now image)) }
+/// None exactly if no thread is Ready.
+pub fn pick(volume: &Volume) -> Option<u64>
+    ensures { (image : List (List ℕ)) → result ≡ option_map (λ thread. thread.number) (picked (now_of volume.now image)) }
 {
-    v.next_ready()
+    volume.next_ready()
 }

@@ -1,4 +1,4 @@
--- The first reply of bytes, and what stands behind its newline.
+-- The first reply of bytes, and the bytes after its newline.
 use Rattle.std.proofs.Common.{◌≡◌, ℕ, ◌<◌, Bool, not, List, [], ◌∷◌, length, take, drop, refl, ap, ◌∙◌}
 use Rattle.std.specs.List.{prefix_len}
 use Rattle.mg_asm.specs.CutLemmas.{cut-none, cut-some}

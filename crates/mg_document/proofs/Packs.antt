@@ -12,7 +12,7 @@ numbers_at-more bytes o (suc n) =
     let e : o + 8 * suc n ≡ (o + 8) + 8 * n = omega arith in
     rw (s, e) (ap (λ (v : List ℕ). number_at bytes o ∷ v) (numbers_at-more bytes (o + 8) n))
 
--- zeros behind bytes are what stands there anyway
+-- zeros after bytes change nothing that is read there
 filled-at : (z n i : ℕ) → get_or (replicate n z) i z ≡ z
 filled-at z zero i = refl
 filled-at z (suc n) zero = refl
@@ -46,7 +46,7 @@ same-bytes xs ys same =
 pub number_at-filled : (xs : List ℕ) (n o : ℕ) → number_at (padded_to n xs) o ≡ from_le_bytes w64 (drop o xs)
 number_at-filled xs n o = same-bytes (take 8 (drop o (padded_to n xs))) (drop o xs) (λ i low. byte-at xs (n - length xs) o i low)
 
--- one word more behind those so far
+-- one word more after those so far
 pub word-more : (xs words rest : List ℕ) (n k word : ℕ) → words ≡ length xs ∷ numbers_at (padded_to n xs) 0 k → rest ≡ drop (8 * k) xs → word ≡ from_le_bytes w64 rest
     → words ++ word ∷ [] ≡ length xs ∷ numbers_at (padded_to n xs) 0 (k + 1)
 word-more xs words rest n k word so_far back is =

@@ -1,4 +1,4 @@
--- How the bytes that replies tell go on.
+-- The bytes that replies give, with one reply more.
 use Rattle.std.proofs.Common.{◌≡◌, ℕ, ◌+◌, ◌-◌, ◌<◌, suc, List, [], ◌∷◌, ◌++◌, Some, None, Ok, Err, ap, sym, ◌∙◌, arith}
 use Rattle.mg_document.specs.declared.faults.ReplyFault.TheVariants.{At}
 use Rattle.mg_document.specs.declared.faults.ReplyKind.TheVariants.{Missing, NoWord}

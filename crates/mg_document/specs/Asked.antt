@@ -14,7 +14,7 @@ put_calls thread address bytes = store_calls thread address (document bytes)
 abbrev pub put_text : ℕ → ℕ → List ℕ → List ℕ
 put_text thread address bytes = store_lines thread address (document bytes)
 
--- a thread loads so many words from an address on
+-- a thread loads a number of words from an address on
 abbrev pub load_calls : ℕ → ℕ → ℕ → List Line
 load_calls thread address zero = []
 load_calls thread address (suc n) = record { thread = thread; call = call.Load address } ∷ load_calls thread (address + 8) n
@@ -27,7 +27,7 @@ abbrev pub load_lines : ℕ → ℕ → ℕ → List ℕ
 load_lines thread address zero = []
 load_lines thread address (suc n) = load_line thread address ++ load_lines thread (address + 8) n
 
--- a thread loads a document of so many bytes: the word with their number, and the words behind it
+-- a thread loads a document with this number of bytes: the word with the number, and the words after it
 abbrev pub get_calls : ℕ → ℕ → ℕ → List Line
 get_calls thread address bytes = load_calls thread address (suc (words_for bytes))
 

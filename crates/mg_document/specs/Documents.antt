@@ -3,7 +3,7 @@ use Rattle.std.specs.Prelude.{ℕ, ◌+◌, ◌-◌, ◌*◌, ◌/◌, List, ◌
 use Rattle.mg_model.specs.Bytes.{numbers_at, padded_to}
 use Rattle.mg_model.specs.Limits.{object_page_limit, page_size}
 
--- how many words so many bytes fill, the last of them maybe in part
+-- the number of words that this number of bytes fills, the last of them maybe in part
 abbrev pub words_for : ℕ → ℕ
 words_for n = (n + 7) / 8
 
@@ -15,6 +15,6 @@ packed bytes = numbers_at (padded_to (8 * words_for (length bytes)) bytes) 0 (wo
 abbrev pub document : List ℕ → List ℕ
 document bytes = length bytes ∷ packed bytes
 
--- the most bytes: as many as the largest object holds behind its first word
+-- the most bytes: what the largest object holds after its first word
 abbrev pub byte_limit : ℕ
 byte_limit = object_page_limit * page_size - 8

@@ -1,5 +1,5 @@
--- Definitions, in the order in which one reads them: a document's words, the calls that store and load them, what replies tell, and how
--- a fault is told.
+-- Definitions, in the order in which one reads them: a document's words, the calls that store and load them, the document that replies
+-- give, and the text of a fault.
 pub mod Documents
 pub mod Asked
 pub mod Replies

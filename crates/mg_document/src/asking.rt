@@ -10,8 +10,8 @@ use mg_asm::store_lines;
 use mg_text::{push_text, push_word};
 use std::alloc::{AllocError, Global};
 
-/// Lines of calls by which a thread stores a document, from an address below `2^52` on: the number of its bytes, and behind it the
-/// bytes, a line a word.
+/// Lines of calls by which a thread stores a document, from an address below `2^52` on. Each line stores one word: first the number
+/// of the document's bytes, then its bytes.
 pub fn put_lines(
     alloc: Global,
     thread: u64,
@@ -26,8 +26,9 @@ pub fn put_lines(
     store_lines(alloc, thread, address, &words)
 }
 
-/// Lines of calls by which a thread loads a document of so many bytes, at most [`BYTE_LIMIT`](crate::BYTE_LIMIT), from an address
-/// below `2^52` on: the word with their number, and the words behind it, a line each: `THREAD load ADDR`.
+/// Lines of calls by which a thread loads a document, from an address below `2^52` on. The document has `bytes` bytes, at most
+/// [`BYTE_LIMIT`](crate::BYTE_LIMIT). Each line loads one word, by `THREAD load ADDR`: first the word with the number of bytes, then
+/// the words of the bytes.
 pub fn get_lines(
     alloc: Global,
     thread: u64,

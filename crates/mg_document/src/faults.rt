@@ -1,13 +1,13 @@
-// Why replies tell no document.
+// Why replies give no document.
 ghost use Rattle.std.specs.Prelude.{◌≡◌, ◌≤◌, length};
 ghost use Rattle.mg_document.specs.FaultText.{kind_name};
 
 use thiserror::Error;
 
-/// What is wrong with a reply that is needed.
+/// What is wrong with a reply that a document needs.
 #[derive(Clone, Copy, Debug, Drop, PartialEq, Eq, Error)]
 pub enum ReplyKind {
-    /// It is no `ok` and a word, as `no Denied`.
+    /// It is not `ok` and a word, as `no Denied`.
     #[error("NoWord")]
     NoWord,
     /// It is not there, or no newline ends it.
@@ -16,7 +16,7 @@ pub enum ReplyKind {
 }
 
 impl ReplyKind {
-    /// The word of a kind, of at most 7 letters, as it is told to users.
+    /// The word of a kind, as users see it, of at most 7 letters.
     pub fn name(self) -> &'static [u8]
         ensures text { result.now ≡ kind_name self }
         ensures short { length result.now ≤ 7 }

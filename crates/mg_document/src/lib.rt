@@ -1,10 +1,10 @@
-//! Documents: bytes as words of an object, the calls that store and load them, and the bytes that replies tell.
+//! Documents: bytes as words of an object, the calls that store and load them, and the bytes that replies give.
 //!
-//! A document is a word with the number of its bytes, and behind it the bytes, eight a word. What the layer above learns: `words_of`
-//! gives `document` of the definition, `put_lines` and `get_lines` the lines of calls that store a document and load it, and
-//! `read_document` gives `bytes_told` of the definition, which is the bytes that the replies to these loads tell, or their first
-//! fault. The definitions stand in `specs/`: `Documents` for the words, `Asked` for the calls, `Replies` for what is told, and
-//! `FaultText` for faults.
+//! A document is a word with the number of its bytes, and then the bytes, eight a word. What the layer above learns: `words_of` gives
+//! `document` of the definition. `put_lines` and `get_lines` give the lines of calls that store a document and load it.
+//! `read_document` gives `bytes_told` of the definition: the bytes that the replies to these loads give, or their first fault. The
+//! definitions are in `specs/`: `Documents` for the words, `Asked` for the calls, `Replies` for the replies, and `FaultText` for
+//! faults.
 #![tactic(auto)]
 
 mod asking;

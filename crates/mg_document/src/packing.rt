@@ -6,10 +6,10 @@ ghost use Rattle.mg_document.specs.Documents.{document, words_for};
 use mg_model::limits::{OBJECT_PAGE_LIMIT, PAGE_SIZE};
 use std::alloc::{AllocError, Global};
 
-/// The most bytes of a document: as many as an object of 1,024 pages holds behind its first word, 4,194,296.
+/// The most bytes of a document, 4,194,296: what an object of 1,024 pages holds after its first word.
 pub const BYTE_LIMIT: u64 = OBJECT_PAGE_LIMIT * PAGE_SIZE - 8;
 
-/// How many words so many bytes fill, the last of them maybe in part.
+/// The number of words that `bytes` bytes fill. They may fill the last one in part.
 pub fn words_for(bytes: u64) -> u64
     ensures { result ≡ words_for bytes }
 {
@@ -17,8 +17,8 @@ pub fn words_for(bytes: u64) -> u64
     bytes / 8 + begun
 }
 
-/// The words of a document: how many bytes it has, and then the bytes, eight a word, of which the first is the lowest. The last
-/// word is filled with zeros.
+/// The words of a document: the number of its bytes, and then the bytes, eight a word. The first byte of a word is the lowest. The
+/// last word is filled with zeros.
 pub fn words_of(alloc: Global, bytes: &[u8]) -> Result<Vec<u64>, AllocError>
     ensures { IfOk result (λ words. words.items ≡ document bytes.now) }
 {
@@ -31,7 +31,7 @@ pub fn words_of(alloc: Global, bytes: &[u8]) -> Result<Vec<u64>, AllocError>
     Ok(words)
 }
 
-/// The word of the first eight of these bytes; those that are missing are zeros.
+/// The word of the first eight of these bytes. A byte that is missing is zero.
 fn word(bytes: &[u8]) -> u64
     ensures { result ≡ from_le_bytes w64 bytes.now }
 {
@@ -47,7 +47,7 @@ fn word(bytes: &[u8]) -> u64
     ])
 }
 
-/// The byte at a place; 0 where there is none.
+/// The byte at a place, or 0 if there is none.
 fn byte(bytes: &[u8], place: usize) -> u8
     ensures { result ≡ slice_index bytes.now place }
 {

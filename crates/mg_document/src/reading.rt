@@ -1,4 +1,4 @@
-// From replies to the bytes that they tell.
+// From replies to the bytes of a document.
 ghost use Rattle.std.specs.Prelude.{◌≡◌, ◌≢◌, ◌≤◌, ◌^◌, [], IfErr, IfOk, Ok, Err};
 ghost use Rattle.mg_document.specs.Replies.{bytes_behind, bytes_told, ended};
 
@@ -7,8 +7,8 @@ use crate::packing::words_for;
 use crate::replies::{next_reply, word_told};
 use std::alloc::Global;
 
-/// The bytes of the document that these replies tell, or the first fault. The first reply tells how many bytes it has, and each
-/// that follows eight of them; replies behind those are passed over. Memory comes only where an allocation failed.
+/// The bytes of the document that these replies give, or the first fault. The first reply gives the number of its bytes, and each
+/// further one eight of them. Replies after those are ignored. Memory comes only if an allocation failed.
 pub fn read_document(alloc: Global, replies: &[u8]) -> Result<Vec<u8>, ReplyFault>
     ensures bytes { IfOk result (λ bytes. bytes_told replies.now ≡ Ok bytes.items) }
     ensures fault { IfErr result (λ fault. fault ≢ ReplyFault.Memory → bytes_told replies.now ≡ Err fault) }
@@ -26,7 +26,7 @@ pub fn read_document(alloc: Global, replies: &[u8]) -> Result<Vec<u8>, ReplyFaul
     Ok(bytes)
 }
 
-/// The bytes of so many words, eight each, which these replies tell; the first of them is reply 2.
+/// The bytes of `count` words, eight each, which these replies give. The first of the replies is reply 2.
 fn read_words(alloc: Global, count: u64, replies: &[u8]) -> Result<Vec<u8>, ReplyFault>
     requires { count ≤ 2 ^ 61 }
     ensures bytes { IfOk result (λ bytes. bytes_behind [] 2 count (ended replies.now) ≡ Ok bytes.items) }

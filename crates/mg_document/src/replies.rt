@@ -1,4 +1,4 @@
-// The replies of a text, and the word that one tells.
+// The replies of a text, and the word in a reply.
 ghost use Rattle.std.specs.Prelude.{◌≡◌, ◌≤◌, ◌∷◌, [], length, not, is_some, option_map, IfNone, IfSome};
 ghost use Rattle.std.specs.List.{prefix_len};
 ghost use Rattle.mg_document.specs.Replies.{ended, ok_part, word_told};
@@ -6,7 +6,7 @@ ghost use Rattle.mg_model.specs.Words.{hex_part, is_newline};
 
 use mg_text::read_number;
 
-/// The first reply of these bytes and what stands behind its newline; None where no newline ends one.
+/// The first reply of these bytes, and the bytes after its newline. None if the bytes have no newline.
 pub fn next_reply(bytes: &[u8]) -> Option<(&[u8], &[u8])>
     ensures none { IfNone result (ended bytes.now ≡ []) }
     ensures split { IfSome result (λ p. ended bytes.now ≡ p.0.now ∷ ended p.1.now) }
@@ -19,7 +19,7 @@ pub fn next_reply(bytes: &[u8]) -> Option<(&[u8], &[u8])>
     }
 }
 
-/// How many bytes stand before the first newline.
+/// The number of bytes before the first newline.
 fn before_newline(bytes: &[u8]) -> usize
     ensures count { result ≡ prefix_len (λ b. not (is_newline b)) bytes.now }
     ensures within { result ≤ length bytes.now }
@@ -27,8 +27,8 @@ fn before_newline(bytes: &[u8]) -> usize
     bytes.iter().take_while(|b| **b != b'\n').count()
 }
 
-/// The word that a reply tells, given without its newline: `ok`, a space, `0x` and 1 to 16 hexadecimal digits. None of any other
-/// reply.
+/// The word in a reply, which is given without its newline. Such a reply is `ok`, a space, `0x` and 1 to 16 hexadecimal digits. None
+/// for any other reply.
 pub fn word_told(reply: &[u8]) -> Option<u64>
     ensures { result ≡ word_told reply.now }
 {
@@ -40,7 +40,7 @@ pub fn word_told(reply: &[u8]) -> Option<u64>
     }
 }
 
-/// What stands behind `ok` and a space, if the reply begins so.
+/// The bytes after `ok` and a space, if the reply begins with these.
 fn after_ok(reply: &[u8]) -> Option<&[u8]>
     ensures { option_map (λ s. s.now) result ≡ ok_part reply.now }
 {

@@ -1,4 +1,4 @@
--- What `bytes` puts of replies to the loads of a document.
+-- What `bytes` writes for replies to the loads of a document.
 use Rattle.std.proofs.Common.{◌≡◌, List, ℕ, Option, Some, None, Ok, ap, ◌∙◌, subst}
 use Rattle.mg_document.specs.Replies.{bytes_told}
 use Rattle.mg_document_session.specs.Headline.{BringsBack, OfInput, PutsFault, PutsText, became}

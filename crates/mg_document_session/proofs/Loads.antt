@@ -77,7 +77,7 @@ not_lone (b ∷ xs) h =
     let r : (b == 114) ≡ false = grind (arith, nat_tests) in
     rw (n, r) refl
 
--- the words behind the thread's number
+-- the words after the thread's number
 abbrev parts : ℕ → List (List ℕ)
 parts address = codes "load" ∷ hex_text address ∷ []
 

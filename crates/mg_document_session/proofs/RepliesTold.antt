@@ -1,4 +1,4 @@
--- What the replies to a document's loads tell.
+-- The document that the replies to its loads give.
 use Rattle.std.proofs.Common.{◌≡◌, ℕ, zero, suc, ◌+◌, ◌-◌, ◌*◌, ◌^◌, ◌<◌, ◌≤◌, List, [], ◌∷◌, ◌++◌, length, get_or, take, drop, replicate, All, Some, Ok, refl, ap, sym, ◌∙◌, subst, arith, append_assoc}
 use Rattle.std.specs.Int.{from_le_bytes, w64}
 use Rattle.std.proofs.lemmas.List.{append-nil, drop-drop, length-drop, length-take-le, take_all, take_at}
@@ -29,7 +29,7 @@ object-roomy object formed =
     let place = formed.row.place.aligned in
     record { aligned = omega (arith, place); long = formed.long }
 
--- a reply with a word, and the replies behind it
+-- a reply with a word, and the replies after it
 behind_ok : (w : ℕ) → word_told (111 ∷ 107 ∷ 32 ∷ hex_text w) ≡ number_of (hex_text w)
 unfolding hex_text
 behind_ok w = refl

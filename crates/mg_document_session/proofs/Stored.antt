@@ -1,4 +1,4 @@
--- What stands at an address after words were stored there and behind it, each answered ok; and what loads tell of it.
+-- What is at an address and after it when words were stored there, each answered ok; and what loads give of it.
 use Rattle.std.proofs.Common.{◌≡◌, ◌≢◌, ℕ, ◌+◌, ◌-◌, ◌*◌, ◌/◌, ◌%◌, ◌<◌, ◌≤◌, Bool, true, false, not, if◌then◌else◌, List, [], ◌∷◌, ◌++◌, length, slice_set, All, Option, Some, None, is_some, option_map, refl, ap, sym, ◌∙◌, subst, arith}
 use Rattle.std.specs.Option.{option_map_or}
 use Rattle.std.proofs.lemmas.Bool.{and_parts, eqb-true, leb-true, ltb-true}
@@ -29,7 +29,7 @@ pub record IsRoomy (object : Object) : Type 0 where
   pub aligned : object.row.base % 8 ≡ 0
   pub long : length object.words ≡ 512 * object.row.pages
 
--- an object with another word at an address, where this test says that it has the address
+-- an object with another word at an address, if this test says that it has the address
 abbrev put_in : Bool → ℕ → ℕ → Object → Object
 put_in here a value object = if here then record object { words = slice_set object.words ((a - object.row.base) / 8) value } else object
 
@@ -137,7 +137,7 @@ allowed-found state t a right may =
     by_found f None is = absurd (cc)
     by_found f (Some object) is = refl
 
--- a line of a thread that asks for one right at a word
+-- a line of a thread that requires one right at a word
 abbrev answer_by : Bool → Bool → Bool → State → Answer → Answer
 answer_by lives aligned may state done = if lives then row state ((not aligned, Align) ∷ (not may, Denied) ∷ []) done else (state, No NoThread)
 
@@ -177,7 +177,7 @@ ok-stored state t a value ok =
 ok-loaded : (state : State) (t a : ℕ) → IsOk (step state (load_line t a)).1 → step state (load_line t a) ≡ (state, Value (word_at state.objects a))
 ok-loaded state t a ok = (ok-done (is_thread state t) (is_aligned a) (allowed state t a R) state (state, Value (word_at state.objects a)) ok).is
 
--- these words stand at an address and behind it
+-- these words are at an address and after it
 abbrev pub HasWords : List Object → ℕ → List ℕ → Type 0
 HasWords objects a [] = Unit {0}
 HasWords objects a (w ∷ ws) = (word_at objects a ≡ w) × HasWords objects (a + 8) ws
@@ -217,7 +217,7 @@ stores-hold state t a (w ∷ ws) roomy ok =
       stores-hold (step state (store_line t a w)).0 t (a + 8) ws leaves.roomy ok.1,
     )
 
--- the replies that tell these words
+-- the replies with these words
 abbrev pub value_lines : List ℕ → List ℕ
 value_lines [] = []
 value_lines (w ∷ ws) = reply_line (Value w) ++ value_lines ws

@@ -31,7 +31,7 @@ get_of word thread address bytes =
     then and_then (number_of thread) (λ t. and_then (number_of address) (λ a. and_then (number_of bytes) (λ n. if is_place a && is_few n then Some (Get t a n) else None)))
     else None
 
--- the command that the words behind the program's name spell, if they spell one
+-- the command that the words after the program's name spell, if they spell one
 abbrev pub command_of : List (List ℕ) → Option Command
 command_of (word ∷ []) = bytes_of word
 command_of (word ∷ thread ∷ address ∷ []) = put_of word thread address
@@ -42,7 +42,7 @@ command_of words = None
 abbrev pub words_of : List (String Global) → List (List ℕ)
 words_of words = map (λ (word : String Global). string_bytes word) words
 
--- the words of a command are stored and loaded where objects may lie, and are no more than an object holds
+-- the words of a command are stored and loaded where objects may be, and are no more than an object holds
 abbrev pub HasPlace : Command → Type 0
 HasPlace (Put thread address) = address < 2 ^ 52
 HasPlace (Get thread address bytes) = (address < 2 ^ 52) × (bytes ≤ byte_limit)

@@ -1,4 +1,4 @@
--- What the program promises. An object that does not tell its content has None for it; a promise on content is then empty.
+-- What the program promises. An object that does not tell its content has None for it, and a promise on content is then empty.
 use Rattle.std.specs.Prelude.{ℕ, ◌^◌, ◌≡◌, ◌≢◌, ◌⊎◌, List, [], ◌++◌, Option, IfSome, Result, Ok, Err}
 use Rattle.std.specs.Io.KnownBytes.{Appends}
 use Rattle.mg_document.specs.declared.faults.ReplyFault.{ReplyFault}
@@ -24,13 +24,13 @@ limit_of (Put thread address) = byte_limit
 limit_of (Get thread address bytes) = 0
 limit_of Bytes = 2 ^ 24
 
--- What an input becomes: the lines that store it, the lines that load a document, or the bytes that it tells; or its first fault.
+-- What an input becomes: the lines that store it, the lines that load a document, or the bytes of the document that it gives; or its first fault.
 abbrev pub became : Command → List ℕ → Result (List ℕ) ReplyFault
 became (Put thread address) input = Ok (put_text thread address input)
 became (Get thread address bytes) input = Ok (get_text thread address bytes)
 became Bytes input = bytes_told input
 
--- a text is read, as the machine reads its input, as the calls that the command asks for
+-- the machine reads this text as the calls of the command
 abbrev pub IsCalls : Command → List ℕ → List ℕ → Type 0
 IsCalls (Put thread address) input text = lines text ≡ put_calls thread address input
 IsCalls (Get thread address bytes) input text = lines text ≡ get_calls thread address bytes
@@ -65,18 +65,18 @@ LeavesSource Bytes source source' = Unit {0}
 
 -- What a command keeps: `out` takes what the input became, and `err` its fault.
 pub record Keeps {S O E : Type 0} (from : sources.Ghosts S) (to : sinks.Ghosts O) (aside : sinks.Ghosts E) (command : Command) (result : Status) (source source' : S) (out out' : O) (err err' : E) : Type 0 where
-  -- At the end `out` took what the input became, and nothing else was put. Lines are read by the machine as the calls asked for.
+  -- At the end `out` took what the input became, and nothing else was written. The machine reads lines as the calls of the command.
   pub done : result ≡ status.Done → OfInput command (from.left source) (from.left source') (λ input. PutsText command input (became command input) (to.taken out) (to.taken out')) × (err' ≡ err)
-  -- At a fault `err` took its line, and nothing else was put.
+  -- At a fault `err` took its line, and nothing else was written.
   pub fault : result ≡ status.Fault → OfInput command (from.left source) (from.left source') (λ input. PutsFault (became command input) (aside.taken err) (aside.taken err')) × (out' ≡ out)
-  -- Where a sink failed it took a first part of what was to be put. That is only where its count rose.
+  -- A sink that failed took a first part of its text. It fails only if its count of faults rose.
   pub sink : result ≡ status.Sink → OfInput command (from.left source) (from.left source') (λ input. PutsPart (became command input) (to.taken out) (to.taken out') (aside.taken err) (aside.taken err'))
   pub sink_failed : result ≡ status.Sink → Rose (to.faults out) (to.faults out') (to.is_spent out') ⊎ Rose (aside.faults err) (aside.faults err') (aside.is_spent err')
-  -- Where memory was wanting, the source failed or the input is too long, nothing was put.
+  -- If there was not enough memory, the source failed or the input is too long, nothing was written.
   pub nothing : (result ≡ status.Memory) ⊎ ((result ≡ status.Source) ⊎ (result ≡ status.TooLong)) → (out' ≡ out) × (err' ≡ err)
-  -- The source failed only where its count rose.
+  -- The source failed only if its count of faults rose.
   pub source_failed : result ≡ status.Source → Rose (from.faults source) (from.faults source') (from.is_spent source')
-  -- The input is too long exactly where more was taken than it may have.
+  -- The input is too long exactly if more was taken than it may have.
   pub too_long : result ≡ status.TooLong → TakesMore (limit_of command) (from.left source) (from.left source')
   pub within : result ≢ status.TooLong → TakesAtMost (limit_of command) (from.left source) (from.left source')
   -- `get` leaves the source alone.

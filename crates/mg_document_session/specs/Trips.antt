@@ -1,4 +1,4 @@
--- A document that is stored in a state and loaded from the state behind that, by the machine's own definition of a step.
+-- A document that is stored in a state and loaded from the state after that, by the machine's own definition of a step.
 use Rattle.std.specs.Prelude.{ℕ, ◌^◌, ◌<◌, ◌≤◌, ◌≡◌, List, [], ◌∷◌, ◌++◌, length, All, Result, Ok}
 use Rattle.mg_document.specs.declared.faults.ReplyFault.{ReplyFault}
 use Rattle.mg_document.specs.Asked.{get_calls, get_text, put_calls}
@@ -44,7 +44,7 @@ pub record Trip : Type 0 where
 abbrev pub replies : Trip → List ℕ
 replies trip = text (after trip.state (put_calls trip.thread trip.address trip.bytes)) (get_calls trip.reader trip.address (length trip.bytes))
 
--- what replies tell is what was stored, whatever stands behind them
+-- the replies give what was stored, whatever follows them
 abbrev pub ComesBack : (List ℕ → Result (List ℕ) ReplyFault) → Type 0
 ComesBack told = (trip : Trip) (more : List ℕ) → told (replies trip ++ more) ≡ Ok trip.bytes
 

@@ -18,18 +18,18 @@ use mg_filter::{Status, Unread, put_numbered};
 use mg_io::{Failed, Sink, Source, put_all};
 use std::alloc::Global;
 
-/// All that the program does. The words are those behind its name.
+/// All that the program does. The words are those that follow its name. Each command writes into `out`.
 ///
-/// - `put THREAD ADDRESS` reads bytes from the source, at most [`BYTE_LIMIT`](mg_document::BYTE_LIMIT), and puts the lines
-///   `THREAD store ADDR WORD` that store them as a document from ADDRESS on into `out`.
-/// - `get THREAD ADDRESS BYTES` puts the lines `THREAD load ADDR` that load a document of so many bytes. The source is left alone.
-/// - `bytes` reads replies, at most 2^24 bytes, and puts the bytes of the document that they tell.
+/// - `put THREAD ADDRESS` reads bytes from the source, at most [`BYTE_LIMIT`](mg_document::BYTE_LIMIT). It writes the lines
+///   `THREAD store ADDR WORD` that store them as a document, from ADDRESS on.
+/// - `get THREAD ADDRESS BYTES` writes the lines `THREAD load ADDR` that load a document of BYTES bytes. The source is left alone.
+/// - `bytes` reads replies, at most 2^24 bytes, and writes the bytes of the document that they give.
 ///
 /// Other words get the line `usage` in `err` and [`Status::Usage`]; source and `out` are then left alone.
 ///
-/// An input is read whole before anything is put. After [`Status::Fault`] `err` took the line of the first reply that is needed and
-/// tells no word, `reply N: KIND`, and nothing else was put. After [`Status::Memory`], [`Status::Source`] and [`Status::TooLong`]
-/// nothing was put. [`Status::Sink`] comes where `out` or `err` failed; it took a first part of what was to be put.
+/// An input is read whole before anything is written. After [`Status::Fault`] `err` took the line of the first reply that the document
+/// needs and that has no word, `reply N: KIND`, and nothing else was written. After [`Status::Memory`], [`Status::Source`] and
+/// [`Status::TooLong`] nothing was written. [`Status::Sink`] comes if `out` or `err` failed. That sink took a first part of its text.
 pub fn top<S: Source, O: Sink, E: Sink>(
     alloc: Global,
     words: &[String],
@@ -52,7 +52,7 @@ pub fn top<S: Source, O: Sink, E: Sink>(
     }
 }
 
-/// Takes the input, and puts what it becomes, or its fault.
+/// Takes the input, and writes what it becomes, or its fault.
 fn carry_out<S: Source, O: Sink, E: Sink>(
     alloc: Global,
     command: Command,
@@ -91,7 +91,7 @@ fn carry_out<S: Source, O: Sink, E: Sink>(
     }
 }
 
-/// Puts `reply N: KIND`.
+/// Writes `reply N: KIND`.
 fn put_fault<E: Sink>(reply: u64, kind: ReplyKind, err: &mut E) -> Result<(), Failed>
     ensures ok { OnOk result (Appends (E.taken err.old) (E.taken err.new) (fault_line (fault.At reply kind))) }
     ensures err { OnErr result (AppendsPrefix (E.taken err.old) (E.taken err.new) (fault_line (fault.At reply kind))) }

@@ -13,10 +13,10 @@ use mg_filter::{Unread, read_whole};
 use mg_io::Source;
 use std::alloc::Global;
 
-/// The most bytes that the replies may have which `bytes` reads, with those that it passes over.
+/// The most bytes that the replies may have which `bytes` reads, with those that it ignores.
 pub const TEXT_LIMIT: usize = 1 << 24;
 
-/// The input of a command: all that the source has left, or nothing where the command takes no input. Memory comes only where an
+/// The input of a command: all that the source has left, or nothing if the command takes no input. Memory comes only if an
 /// allocation failed.
 pub(crate) fn take_input<S: Source>(
     alloc: Global,
@@ -36,7 +36,7 @@ pub(crate) fn take_input<S: Source>(
     }
 }
 
-/// What an input becomes, or its first fault. Memory comes only where an allocation failed.
+/// What an input becomes, or its first fault. Memory comes only if an allocation failed.
 pub(crate) fn turn(alloc: Global, command: Command, input: &[u8]) -> Result<Vec<u8>, ReplyFault>
     requires { HasPlace command }
     ensures text { IfOk result (λ text. became command input.now ≡ Ok text.items) }

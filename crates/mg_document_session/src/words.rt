@@ -9,15 +9,15 @@ use mg_text::{is_word, read_number};
 /// What the program is asked to do.
 #[derive(Clone, Copy, Debug, PartialEq, Eq)]
 pub enum Command {
-    /// Put the calls by which this thread stores the input as a document, from this address on.
+    /// Write the calls by which this thread stores the input as a document, from this address on.
     Put(u64, u64),
-    /// Put the calls by which this thread loads a document from this address on, which has so many bytes.
+    /// Write the calls by which this thread loads a document, from this address on. The last number is that of its bytes.
     Get(u64, u64, u64),
-    /// Put the bytes that the replies of the input tell.
+    /// Write the bytes of the document that the replies of the input give.
     Bytes,
 }
 
-/// The command that these words spell, which are those behind the program's name; None exactly where they spell none.
+/// The command that these words spell, which follow the program's name. None exactly if they spell none.
 ///
 /// They are `put THREAD ADDRESS`, `get THREAD ADDRESS BYTES` or `bytes`. The numbers are as in lines of calls; ADDRESS is a multiple
 /// of 8 below `2^52`, where objects end, and BYTES at most [`BYTE_LIMIT`].
@@ -82,14 +82,14 @@ fn get(word: &[u8], thread: &[u8], address: &[u8], bytes: &[u8]) -> Option<Comma
     }
 }
 
-/// Whether a word may be stored here: at a multiple of 8, and where objects may lie.
+/// Whether a word may be stored at this address: it is a multiple of 8, and an object may have it.
 fn is_place(address: u64) -> bool
     ensures { result ≡ is_place address }
 {
     address % 8 == 0 && address < PAGE_END * PAGE_SIZE
 }
 
-/// Whether a document may have so many bytes.
+/// Whether a document may have this number of bytes.
 fn is_few(bytes: u64) -> bool
     ensures { result ≡ is_few bytes }
 {

@@ -53,7 +53,7 @@ fn reads(alloc: Global, replies: &[u8], known: &[u8]) -> bool {
     }
 }
 
-// A word of which three bytes count, capital digits, and replies that are passed over.
+// A word of which three bytes count, capital digits, and replies that are ignored.
 #[test]
 fn replies_are_read(rt: HostRuntime) {
     let alloc = rt.alloc();
@@ -65,7 +65,7 @@ fn faults(alloc: Global, replies: &[u8], reply: u64, kind: ReplyKind) -> bool {
     read_document(alloc, replies).err() == Some(ReplyFault::At { reply, kind })
 }
 
-// A reply without a newline is none, and one with a number in decimal tells no word.
+// A reply without a newline is missing, and one with a number in decimal has no word.
 #[test]
 fn first_faults_are_told(rt: HostRuntime) {
     let alloc = rt.alloc();

@@ -1,7 +1,7 @@
-//! Tests of documents: words and lines that were worked out by hand, replies with each fault; and of the program's call, how each
-//! status comes.
+//! Tests of documents: words and lines that were worked out by hand, and replies with each fault. Of the program's call they show how
+//! each status comes.
 //!
-//! They stand above `mg_document` and `mg_document_session`, over their calls, so that these are proved once.
+//! They are in a crate above `mg_document` and `mg_document_session`, so that these two are proved once.
 #![tactic(auto)]
 
 #[cfg(test)]

@@ -13,13 +13,13 @@ fn words_of(rt: &impl Abort, alloc: Global, words: &[&str]) -> Vec<String> {
     owned
 }
 
-/// An input that comes in pieces of 3 bytes, where these takes fail.
+/// An input that comes in pieces of 3 bytes. Takes with these numbers fail.
 fn source(rt: &impl Abort, alloc: Global, input: &[u8], takes: &[u64]) -> MemSource {
     let input = input.to_vec(alloc).expect(rt, "memory");
     MemSource::new(input, 3, takes.to_vec(alloc).expect(rt, "memory"))
 }
 
-/// A sink of which these puts fail.
+/// A sink whose puts with these numbers fail.
 fn sink(rt: &impl Abort, alloc: Global, puts: &[u64]) -> MemSink {
     let puts = puts.to_vec(alloc).expect(rt, "memory");
     MemSink::new(alloc, 256, puts).expect(rt, "memory")
@@ -42,7 +42,7 @@ fn is_end(
         && err.bytes() == ending.2.as_bytes()
 }
 
-/// A run of these words on this input ends so; the takes of the source and the puts of both sinks of these numbers fail.
+/// A run of these words on this input ends so, if takes of the source and puts of both sinks with these numbers fail.
 fn ends(
     rt: &impl Abort,
     alloc: Global,

@@ -1,4 +1,4 @@
--- What is taken of a source, the statuses, the line of a fault, and what is kept where the words spell no command.
+-- What is taken of a source, the statuses, the line of a fault, and what is kept if the words spell no command.
 pub mod Whole
 pub mod Statuses
 pub mod FaultLines

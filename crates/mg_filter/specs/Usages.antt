@@ -1,4 +1,4 @@
--- What both filters do where the words spell no command.
+-- What both filters do if the words spell no command.
 use Rattle.std.specs.Prelude.{ℕ, ◌≡◌, ◌⊎◌, List, [], ◌∷◌, ◌++◌, codes}
 use Rattle.std.specs.Io.KnownBytes.{Appends}
 use Rattle.mg_faults.specs.Faults.{Rose}
@@ -11,7 +11,7 @@ use Rattle.mg_io.specs.declared.traits.Sink as sinks
 abbrev pub usage_line : List ℕ
 usage_line = codes "usage" ++ 10 ∷ []
 
--- What is kept where the words spell no command: `err` takes the line, and the others are left alone.
+-- What is kept if the words spell no command: `err` takes the line, and source and `out` are left alone.
 pub record UsageKeeps {S O E : Type 0} (aside : sinks.Ghosts E) (result : Status) (source source' : S) (out out' : O) (err err' : E) : Type 0 where
   pub which : (result ≡ status.Usage) ⊎ (result ≡ status.Sink)
   pub line : result ≡ status.Usage → Appends (aside.taken err) (aside.taken err') usage_line

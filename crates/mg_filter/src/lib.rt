@@ -1,7 +1,8 @@
-//! What the filters share: programs that read an input whole, turn it into a text, and put that text or the line of its first fault.
+//! What the filters share. A filter is a program that reads an input whole, turns it into a text, and writes that text or the line of
+//! the input's first fault.
 //!
-//! [`read_whole`] reads a source to its end up to a limit, [`Status`] says how such a program ends, and [`put_numbered`] puts the line of
-//! a fault. What an input becomes is told by the crates above.
+//! [`read_whole`] reads a source to its end, up to a limit. [`Status`] says how a filter ends. [`put_numbered`] writes the line of a
+//! fault. The crates above define what an input becomes.
 #![tactic(auto)]
 
 mod fault_line;

@@ -5,13 +5,13 @@ ghost use Rattle.mg_filter.specs.Statuses.{code_of};
 /// How a filter ends.
 #[derive(Clone, Copy, Debug, PartialEq, Eq)]
 pub enum Status {
-    /// What the input became was put.
+    /// What the input became was written.
     Done,
-    /// The input has a fault, which was told.
+    /// The input has a fault, whose line was written.
     Fault,
     /// The words spell no command.
     Usage,
-    /// Memory was wanting.
+    /// There was not enough memory.
     Memory,
     /// A call of the source failed.
     Source,

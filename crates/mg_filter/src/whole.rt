@@ -1,4 +1,4 @@
-// A source is read whole.
+// Reading a source whole.
 ghost use Rattle.std.specs.Prelude.{◌≡◌, ◌≢◌, Err, IfOk};
 ghost use Rattle.mg_filter.specs.Whole.{OfWhole, TakesAtMost, TakesMore};
 ghost use Rattle.mg_faults.specs.Faults.{Rose};
@@ -9,16 +9,16 @@ use std::alloc::Global;
 /// Why a source was not read to its end.
 #[derive(Clone, Copy, Debug, PartialEq, Eq)]
 pub enum Unread {
-    /// Memory was wanting.
+    /// There was not enough memory.
     Memory,
     /// A take failed.
     Source,
-    /// More bytes came than the limit.
+    /// The source has more bytes than the limit.
     TooLong,
 }
 
-/// All that a source has left, at most `limit` bytes. Memory comes only where an allocation failed. After `TooLong` no more than the
-/// limit and a piece of 4096 bytes was taken.
+/// All that a source has left, at most `limit` bytes. Memory comes only if an allocation failed. Before `TooLong` at most `limit` bytes
+/// and a piece of 4,096 were taken.
 pub fn read_whole<S: Source>(alloc: Global, limit: usize, source: &mut S) -> Result<Vec<u8>, Unread>
     ensures whole { IfOk result (λ text. OfWhole (S.left source.old) (S.left source.new) (λ input. text.items ≡ input)) }
     ensures within { result ≢ Err Unread.TooLong → TakesAtMost limit (S.left source.old) (S.left source.new) }

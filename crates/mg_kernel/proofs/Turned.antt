@@ -28,8 +28,8 @@ use Rattle.mg_model.specs.Step.{of_thread}
 use Rattle.mg_model.specs.Threads.{is_thread}
 use Rattle.mg_model.specs.Turn.{after_of, as_after, is_ready, thread_call, thread_is_ready, turn, turn_state}
 use Rattle.mg_model.specs.WellFormed.{IsWellFormed}
-use Rattle.mg_script.specs.declared.actions.Action.{Action}
-use Rattle.mg_script.specs.Actions.{HasFrames, IsSpelledBy, begun, finished, made_by, resumed, turned_on}
+use Rattle.mg_script.specs.declared.effects.Effect.{Effect}
+use Rattle.mg_script.specs.Effects.{HasFrames, IsSpelledBy, begun, finished, made_by, resumed, turned_on}
 use Rattle.mg_script.specs.Turns.{IsAsked, TurnsAreCalls, TurnsRowsKeepBacked, fetched_word, turn_call}
 use Rattle.mg_vcache.specs.Seats.{AllBacked}
 use Rattle.mg_vcache.specs.SeatLemmas.{backed_still}
@@ -109,8 +109,8 @@ ready-row state t row there ready = is-ready row.state (sym (ap (λ (o : Option 
 pub row-ready : (state : State) (t : ℕ) (row : ThreadRow) (v : ThrState) → row_of state t ≡ Some row → row.state ≡ v → thread_is_ready state t ≡ is_ready v
 row-ready state t row v there is = ap (λ (o : Option ThreadRow). option_map_or (λ (r : ThreadRow). is_ready r.state) o false) there ∙ ap is_ready is
 
--- the action that a turn begins with is the one that it asks for
-pub asked-by : (state : State) (t : ℕ) (row : ThreadRow) (fetched : Option ℕ) (asked : Action) (made : Call) → fetched ≡ fetched_word state t row → ((state : State) (t : ℕ) → turned_on state t row fetched ≡ finished state t (advanced row) asked)
+-- the effect that a turn begins with is the one that it asks for
+pub asked-by : (state : State) (t : ℕ) (row : ThreadRow) (fetched : Option ℕ) (asked : Effect) (made : Call) → fetched ≡ fetched_word state t row → ((state : State) (t : ℕ) → turned_on state t row fetched ≡ finished state t (advanced row) asked)
     → made_by row asked ≡ begun row fetched → HasFrames row asked → made ≡ made_by row asked → IsSpelledBy asked made → IsAsked state t row asked
 asked-by state t row fetched asked made is turns begins frames makes spelled = record {
   turn = subst (λ word. turned_on state t row word ≡ finished state t (advanced row) asked) is (turns state t);
@@ -120,7 +120,7 @@ asked-by state t row fetched asked made is turns begins frames makes spelled = r
 }
 
 -- The turn of a thread, from the state before it, that behind its call, and that behind its row.
-module _ (state middle next : State) (t : ℕ) (row : ThreadRow) (asked : Action) (made : Call) (reply : Reply) (formed : IsWellFormed state) (there : row_of state t ≡ Some row) (ready : row.state ≡ Ready) (asks : IsAsked state t row asked)
+module _ (state middle next : State) (t : ℕ) (row : ThreadRow) (asked : Effect) (made : Call) (reply : Reply) (formed : IsWellFormed state) (there : row_of state t ≡ Some row) (ready : row.state ≡ Ready) (asks : IsAsked state t row asked)
     (makes : made ≡ made_by row asked) (answer : thread_call state t made ≡ (middle, reply)) (goes : next ≡ with_thread middle t (λ r. resumed asked reply r)) where
   called : thread_call state t (turn_call state t row) ≡ (middle, reply)
   called = ap (λ call. thread_call state t call) (sym (makes ∙ asks.call)) ∙ answer

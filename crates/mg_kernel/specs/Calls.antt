@@ -1,19 +1,26 @@
 -- What a call of a thread keeps and costs, be it made by a line or by a script, and what a turn does.
-use Rattle.std.specs.Prelude.{ℕ, ◌≡◌, ◌≤◌, ◌+◌, ◌==◌, ◌&&◌, find, option_map, Bool, true, false, Option, Some}
+use Rattle.std.specs.Prelude.{ℕ, ◌≡◌, ◌≤◌, ◌+◌, ◌==◌, ◌&&◌, find, option_map, Bool, true, false, List, Option, Some, Result, IfOk, OnErr, OnOk}
+use Rattle.std.specs.Option.{ForSome}
 use Rattle.mg_calls_dom.specs.Served.{CallRow}
+use Rattle.mg_disk.specs.Stops.{CountRose}
+use Rattle.mg_disk.specs.declared.disk.Disk.{Ghosts}
 use Rattle.mg_model.specs.Abbreviations.{advanced}
 use Rattle.mg_model.specs.declared.calls.Call.{Call}
+use Rattle.mg_model.specs.declared.replies.After.{After}
+use Rattle.mg_model.specs.declared.seats.Seat.{Seat}
 use Rattle.mg_model.specs.Accesses.{call_accesses, call_words, turn_accesses, turn_words}
 use Rattle.mg_model.specs.Kept.{KeepsKeys, searches_limit}
 use Rattle.mg_model.specs.Keys.{Key}
 use Rattle.mg_model.specs.State.{State, Thread, ThreadRow}
 use Rattle.mg_model.specs.Threads.{is_thread}
-use Rattle.mg_model.specs.Turn.{thread_call}
+use Rattle.mg_model.specs.Turn.{after_of, thread_call, turn_state}
 use Rattle.mg_model.specs.Warmth.{disturbs, is_calm_turn, is_ok}
-use Rattle.mg_script.specs.declared.actions.Action.{Action}
-use Rattle.mg_script.specs.Actions.{HasFrames, begun, finished, made_by, turned_on}
+use Rattle.mg_script.specs.declared.effects.Effect.{Effect}
+use Rattle.mg_script.specs.Effects.{HasFrames, begun, finished, made_by, turned_on}
+use Rattle.mg_vcache.specs.Seats.{AllBacked, is_kept}
+use Rattle.mg_volume.specs.Calls.{Serves}
 use Rattle.mg_volume.specs.Held.{VolumeHeld}
-use Rattle.mg_volume.specs.Meaning.{threads_in}
+use Rattle.mg_volume.specs.Meaning.{Keeps, now_of, threads_in}
 
 -- the most that it adds to the counter of words
 abbrev pub call_limit : (Key → Bool) → State → ℕ → Call → ℕ
@@ -48,8 +55,19 @@ abbrev pub IsRowOf : VolumeHeld → ℕ → ThreadRow → Type 0
 IsRowOf v t row = option_map (λ (thread : Thread). thread.row) (find (λ (thread : Thread). thread.number == t) (threads_in v)) ≡ Some row
 
 -- what the turn of a thread with this row asks for, by the word that was fetched, and the call that it makes
-pub record Asks (row : ThreadRow) (fetched : Option ℕ) (action : Action) (made : Call) : Type 0 where
-  pub turn : (state : State) (t : ℕ) → turned_on state t row fetched ≡ finished state t (advanced row) action
-  pub frames : HasFrames row action
-  pub call : made_by row action ≡ begun row fetched
-  pub value : made ≡ made_by row action
+pub record Asks (row : ThreadRow) (fetched : Option ℕ) (effect : Effect) (made : Call) : Type 0 where
+  pub turn : (state : State) (t : ℕ) → turned_on state t row fetched ≡ finished state t (advanced row) effect
+  pub frames : HasFrames row effect
+  pub call : made_by row effect ≡ begun row fetched
+  pub value : made ≡ made_by row effect
+
+-- What the turn of a Ready thread keeps, one fact a field. Nothing is staged where a call of the disk failed.
+pub record TurnServes {D E : Type 0} (facts : Ghosts D) (t : ℕ) (result : Result After E) (old new : VolumeHeld) (seats seats' : List (Option Seat)) (before after : D) (steps steps' : ℕ) : Type 0 where
+  pub state : OnOk result (ForSome (facts.seen before) (λ image. turn_state (now_of old image) t ≡ now_of new image))
+  pub left : IfOk result (λ left. ForSome (facts.seen before) (λ image. left ≡ after_of (now_of new image) t))
+  pub failed : OnErr result (Keeps old new)
+  pub backed : ForSome (facts.seen before) (λ image. AllBacked (now_of new image) seats')
+  pub keeps : OnOk result ((row : ThreadRow) → IsRowOf old t row → ForSome (facts.seen before) (λ image. KeepsTurn (now_of old image) (record { number = t; row = row }) (λ key. is_kept seats key) (λ key. is_kept seats' key) steps steps'))
+  pub limit : (row : ThreadRow) → IsRowOf old t row → ForSome (facts.seen before) (λ image. steps' ≤ steps + turn_limit (λ key. is_kept seats key) (now_of old image) (record { number = t; row = row }))
+  pub serves : Serves 131 facts old new before after steps steps'
+  pub cause : OnErr result (CountRose facts before after)

@@ -1,4 +1,4 @@
-// What a line is answered: the order of the first refusals, and the call that answers else.
+// What a line is answered: the first refusals in their order, or the answer of the call.
 ghost use Rattle.std.specs.Prelude.{List, ◌≡◌, ◌≤◌, ℕ, true, false};
 ghost use Rattle.std.specs.Option.{ForSome};
 ghost use Rattle.mg_calls_dom.specs.Served.{CallServes, of_line};
@@ -22,61 +22,61 @@ use mg_vcache::VCache;
 use mg_volume::Volume;
 use std::sync::ledger::Ledger;
 
-/// What a line is answered. [`Failed`] comes only where a call of the disk failed, and the state then stays.
+/// What a line is answered. [`Failed`] comes only if a call of the disk failed, and the state then stays.
 pub(crate) fn answer<D: Disk, L: Ledger>(
-    v: &mut Volume,
-    c: &mut VCache,
+    volume: &mut Volume,
+    cache: &mut VCache,
     disk: &mut D,
     line: &Line,
     steps: &mut Steps<L>,
 ) -> Result<Reply, Failed>
-    requires sound { IsSoundOn D.Disk v.old disk.old }
-    requires at_most_28_staged { staged_of v.old ≤ 28 }
-    requires backed { ForSome (D.seen disk.old) (λ image. AllBacked (now_of v.old image) c.old) }
-    ensures { CallServes 132 D.Disk (of_line line.now) result v.old v.new c.old c.new disk.old disk.new steps.old steps.new }
+    requires sound { IsSoundOn D.Disk volume.old disk.old }
+    requires at_most_28_staged { staged_of volume.old ≤ 28 }
+    requires backed { ForSome (D.seen disk.old) (λ image. AllBacked (now_of volume.old image) cache.old) }
+    ensures { CallServes 132 D.Disk (of_line line.now) result volume.old volume.new cache.old cache.new disk.old disk.new steps.old steps.new }
 {
     steps_keep_backing();
     match line.call {
         Call::Bad => Ok(Reply::No(Refusal::Syntax)),
-        Call::Turn => turn(v, c, disk, line.thread, steps),
-        Call::Next => next(v, c, disk, steps),
-        Call::Rent => Ok(collect(v, c)),
-        _ => match v.frame(line.thread) {
-            Some(_) => dispatch(v, c, disk, line.thread, &line.call, steps),
+        Call::Turn => turn(volume, cache, disk, line.thread, steps),
+        Call::Next => next(volume, cache, disk, steps),
+        Call::Rent => Ok(collect(volume, cache)),
+        _ => match volume.frame(line.thread) {
+            Some(_) => dispatch(volume, cache, disk, line.thread, &line.call, steps),
             None => Ok(Reply::No(Refusal::NoThread)),
         },
     }
 }
 
-/// The call, of a thread that lives. One that is no call of a thread, as Bad, is refused (Syntax). [`Failed`] comes only where a
+/// The call, of a thread that lives. One that is no call of a thread, as Bad, is refused (Syntax). [`Failed`] comes only if a
 /// call of the disk failed, and the state then stays.
 pub(crate) fn dispatch<D: Disk, L: Ledger>(
-    v: &mut Volume,
-    c: &mut VCache,
+    volume: &mut Volume,
+    cache: &mut VCache,
     disk: &mut D,
-    t: u64,
+    thread: u64,
     call: &Call,
     steps: &mut Steps<L>,
 ) -> Result<Reply, Failed>
-    requires sound { IsSoundOn D.Disk v.old disk.old }
-    requires at_most_28_staged { staged_of v.old ≤ 28 }
-    requires backed { ForSome (D.seen disk.old) (λ image. AllBacked (now_of v.old image) c.old) }
-    requires lives { lives v.old t ≡ true }
-    ensures { CallServes 130 D.Disk (of_living t call.now) result v.old v.new c.old c.new disk.old disk.new steps.old steps.new }
+    requires sound { IsSoundOn D.Disk volume.old disk.old }
+    requires at_most_28_staged { staged_of volume.old ≤ 28 }
+    requires backed { ForSome (D.seen disk.old) (λ image. AllBacked (now_of volume.old image) cache.old) }
+    requires lives { lives volume.old thread ≡ true }
+    ensures { CallServes 130 D.Disk (of_living thread call.now) result volume.old volume.new cache.old cache.new disk.old disk.new steps.old steps.new }
 {
     steps_keep_backing();
     match *call {
-        Call::Load { a } => load(v, c, disk, t, a, steps),
-        Call::Store { a, value } => store(v, c, disk, t, a, value, steps),
-        Call::Info { base } => validated_info(v, c, disk, t, base, steps),
-        Call::Pdx { a, mask } => pdx(v, c, disk, t, a, mask, steps),
-        Call::Thread { pc } => validated_make(v, c, disk, t, pc, steps),
+        Call::Load { a } => load(volume, cache, disk, thread, a, steps),
+        Call::Store { a, value } => store(volume, cache, disk, thread, a, value, steps),
+        Call::Info { base } => validated_info(volume, cache, disk, thread, base, steps),
+        Call::Pdx { a, mask } => pdx(volume, cache, disk, thread, a, mask, steps),
+        Call::Thread { pc } => validated_make(volume, cache, disk, thread, pc, steps),
         Call::Delete { .. }
         | Call::Pwadd { .. }
         | Call::Pwdel { .. }
         | Call::Entry { .. }
         | Call::Ext { .. }
-        | Call::Recharge { .. } => on_object(v, c, disk, t, call, steps),
+        | Call::Recharge { .. } => on_object(volume, cache, disk, thread, call, steps),
         Call::Create { .. }
         | Call::Apdadd { .. }
         | Call::Apddel { .. }
@@ -86,7 +86,7 @@ pub(crate) fn dispatch<D: Disk, L: Ledger>(
         | Call::Resume { .. }
         | Call::Account { .. }
         | Call::Pay { .. }
-        | Call::Balance { .. } => Ok(unasked(v, c, t, call)),
+        | Call::Balance { .. } => Ok(unasked(volume, cache, thread, call)),
         Call::Turn | Call::Next | Call::Rent | Call::Bad => { Ok(Reply::No(Refusal::Syntax)) }
     }
 }

@@ -39,9 +39,9 @@ pub struct Kernel {
 impl Kernel {
     /// Opens the volume of a disk, whatever a stop left of a commit. All memory that the machine will need is taken here.
     ///
-    /// [`OpenFault::Not`], [`OpenFault::Old`] and [`OpenFault::Damaged`] come exactly where the image that reads give is no
-    /// volume, an older one, or a damaged one, and then nothing is written, on every disk; [`OpenFault::Disk`] comes only where
-    /// a call of the disk failed. Where that image is no sound volume nothing is written, whatever the answer.
+    /// [`OpenFault::Not`], [`OpenFault::Old`] and [`OpenFault::Damaged`] come exactly if the image that reads give is no
+    /// volume, an older one, or a damaged one, and then nothing is written, on every disk; [`OpenFault::Disk`] comes only if
+    /// a call of the disk failed. If that image is no sound volume, nothing is written, whatever the answer.
     pub fn open<D: Disk>(alloc: Global, disk: &mut D) -> Result<Kernel, OpenFault>
         ensures opens { IfOk result (λ k. ForSome (D.seen disk.old) (λ image. Opens (volume image) k (D.seen disk.new))) }
         ensures stands { IfOk result (λ k. StandsOn D.Disk k disk.new) }
@@ -67,11 +67,11 @@ impl Kernel {
         }
     }
 
-    /// One line: its reply, and the state after it. It writes nothing. [`Failed`] comes only where a call of the disk
+    /// One line: its reply, and the state after it. It writes nothing. [`Failed`] comes only if a call of the disk
     /// failed; the state and what is staged are then as before, and the kernel still serves.
     ///
     /// Whatever comes of it, `steps` rises by no more than the line's own words and, for each access of the line, 4,088, or 0
-    /// where its key was kept and no other key took its seat in the line. Where it is answered its own words are counted, one
+    /// if its key was kept and no other key took its seat in the line. If it is answered, its own words are counted, one
     /// each; and unless it disturbs, keys stay kept but for those whose seat another took, and the last key that took a seat
     /// is kept.
     pub fn step<D: Disk, L: Ledger>(
@@ -103,10 +103,10 @@ impl Kernel {
         answer(&mut self.volume, &mut self.cache, disk, line, steps)
     }
 
-    /// The base of the object that has an address, where a thread may reach it with the right; None where it may not, or no
-    /// such thread lives. The state and what is staged stay. [`Failed`] comes only where a call of the disk failed.
+    /// The base of the object that has an address, if a thread may reach it with the right; None if it may not, or no
+    /// such thread lives. The state and what is staged stay. [`Failed`] comes only if a call of the disk failed.
     ///
-    /// Where the key is kept no word is read and no call is made on the disk; else at most 4,088 words are read, and the key
+    /// If the key is kept, no word is read and no call is made on the disk; else at most 4,088 words are read, and the key
     /// of a base that is given is kept then. Each other seat stays.
     pub fn probe<D: Disk, L: Ledger>(
         &mut self,
@@ -137,7 +137,7 @@ impl Kernel {
     }
 
     /// Makes the state durable. What is kept of rights stays. With nothing staged no call of the disk is made. After
-    /// [`Failed`], which comes only where a call of the disk failed, the kernel is not live, and a stop leaves the state of
+    /// [`Failed`], which comes only if a call of the disk failed, the kernel is not live, and a stop leaves the state of
     /// before or the new one.
     pub fn commit<D: Disk>(&mut self, disk: &mut D) -> Result<(), Failed>
         requires live { IsTrue (is_live self.old) }
@@ -169,7 +169,7 @@ impl Kernel {
         self.volume.object(base).is_some()
     }
 
-    /// Whether thread t lives. It reads no disk, and nothing changes.
+    /// Whether a thread lives. It reads no disk, and nothing changes.
     pub fn lives(&self, t: u64) -> bool
         ensures { (image : Image) → result ≡ is_thread (now_of self.now image) t }
     {

@@ -2,12 +2,12 @@
 //!
 //! A layer above learns that a step gives the machine's reply and leaves its state as `now`, that it writes nothing, and
 //! that a commit makes the state durable: at each moment of it a stop leaves the state of before or the new one. The state is
-//! well formed wherever a kernel stands, and each right that its validation cache keeps is one that the state gives.
+//! well formed in every kernel, and each right that its validation cache keeps is one that the state gives.
 //!
 //! It is a machine whose lines a session serves (`mg_serve::Machine`): it says `text` and keeps `after` of its state.
 //!
 //! `specs/Meaning.antt` has the words of the contracts, `specs/Opening.antt` what an opening and a commit give, `specs/Calls.antt`
-//! what a call of a thread keeps and counts, be it made by a line or by a script, `specs/Stepping.antt` what is told of lines.
+//! what a call of a thread keeps and counts, be it made by a line or by a script, `specs/Stepping.antt` what is said of lines.
 #![tactic(auto)]
 
 mod answering;

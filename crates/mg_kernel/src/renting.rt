@@ -11,17 +11,17 @@ use mg_model::Reply;
 use mg_vcache::VCache;
 use mg_volume::Volume;
 
-/// What `rent` is answered. Passwords may end with the period, so all seats of the validation cache are dropped, and none where
+/// What `rent` is answered. Passwords may end with the period, so all seats of the validation cache are dropped, and none if
 /// it is refused.
-pub(crate) fn collect(v: &mut Volume, c: &mut VCache) -> Reply
-    requires at_most_143_staged { staged_of v.old ≤ 143 }
-    ensures does { CallStages (Answers (λ state. calls.rent state)) 17 v.old v.new result }
-    ensures seats { Drops by_each c.old c.new result }
+pub(crate) fn collect(volume: &mut Volume, cache: &mut VCache) -> Reply
+    requires at_most_143_staged { staged_of volume.old ≤ 143 }
+    ensures does { CallStages (Answers (λ state. calls.rent state)) 17 volume.old volume.new result }
+    ensures seats { Drops by_each cache.old cache.new result }
 {
-    let reply = rent(v);
+    let reply = rent(volume);
     if let Reply::No(_) = reply {
         return reply;
     }
-    c.drop_all();
+    cache.drop_all();
     reply
 }

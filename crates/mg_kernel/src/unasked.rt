@@ -1,4 +1,4 @@
-// Calls of a thread that ask for no right.
+// Calls of a thread that need no right.
 ghost use Rattle.std.specs.Prelude.{◌≡◌, ◌≤◌, true};
 ghost use Rattle.mg_kernel.specs.Unasked.{EndsUnasked, asks_nothing};
 ghost use Rattle.mg_model.specs.Turn.{thread_call};
@@ -15,40 +15,40 @@ use mg_vcache::VCache;
 use mg_volume::Volume;
 
 /// What such a call is answered, of a thread that lives.
-pub(crate) fn unasked(v: &mut Volume, c: &mut VCache, t: u64, call: &Call) -> Reply
+pub(crate) fn unasked(volume: &mut Volume, cache: &mut VCache, thread: u64, call: &Call) -> Reply
     requires asks { asks_nothing call.now ≡ true }
-    requires lives { lives v.old t ≡ true }
-    requires at_most_28_staged { staged_of v.old ≤ 28 }
-    ensures does { CallStages (Answers (λ state. thread_call state t call.now)) 3 v.old v.new result }
-    ensures seats { EndsUnasked t call.now c.old c.new result }
+    requires lives { lives volume.old thread ≡ true }
+    requires at_most_28_staged { staged_of volume.old ≤ 28 }
+    ensures does { CallStages (Answers (λ state. thread_call state thread call.now)) 3 volume.old volume.new result }
+    ensures seats { EndsUnasked thread call.now cache.old cache.new result }
 {
     match *call {
         Call::Create {
             pages,
             account,
             password,
-        } => create(v, pages, account, password),
-        Call::Apdadd { clist, password } => apdadd(v, c, t, clist, password),
-        Call::Apddel { index } => apddel(v, c, t, index),
-        Call::Apdlist => apdlist(v, t),
-        Call::Ret => ret(v, c, t),
-        Call::End { thread } => end(v, c, t, thread),
-        Call::Resume { thread } => resume(v, t, thread),
+        } => create(volume, pages, account, password),
+        Call::Apdadd { clist, password } => apdadd(volume, cache, thread, clist, password),
+        Call::Apddel { index } => apddel(volume, cache, thread, index),
+        Call::Apdlist => apdlist(volume, thread),
+        Call::Ret => ret(volume, cache, thread),
+        Call::End { thread: ended } => end(volume, cache, thread, ended),
+        Call::Resume { thread: resumed } => resume(volume, thread, resumed),
         Call::Account {
             account: payer,
             password,
             amount,
-        } => account(v, payer, password, amount),
+        } => account(volume, payer, password, amount),
         Call::Pay {
             account: payer,
             password,
             to,
             amount,
-        } => pay(v, payer, password, to, amount),
+        } => pay(volume, payer, password, to, amount),
         Call::Balance {
             account: payer,
             password,
-        } => balance(v, payer, password),
+        } => balance(volume, payer, password),
         _ => unreachable!(),
     }
 }

@@ -11,7 +11,7 @@ use Rattle.mg_model.specs.Access.{last_slots}
 use Rattle.mg_model.specs.Domains.{last_back}
 use Rattle.mg_model.specs.Script.{word_end}
 use Rattle.mg_model.specs.State.{CallFrame}
-use Rattle.mg_script.specs.Actions.{returning_on}
+use Rattle.mg_script.specs.Effects.{returning_on}
 
 below_last : (frames : List CallFrame) (frame : CallFrame) → length (frames ++ frame ∷ []) - 1 ≡ length frames
 below_last frames frame = let long : length (frames ++ frame ∷ []) ≡ length frames + 1 = length-append frames (frame ∷ []) in omega arith

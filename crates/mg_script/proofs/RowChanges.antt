@@ -1,4 +1,4 @@
--- Changes of one thread's row, one behind another, and what is read of the threads behind them.
+-- Changes of one thread's row, one after another, and what is read of the threads after them.
 use Rattle.std.proofs.Common.{ℕ, suc, ◌<◌, ◌≡◌, ◌≢◌, Bool, true, false, cond, eqb, List, [], ◌∷◌, length, get_or, map, Some, None, refl, sym, ap, ◌∙◌, subst, arith}
 use Rattle.std.proofs.lemmas.Bool.{cond_both, cond-false, eqb-true, ne_eqb}
 use Rattle.std.proofs.lemmas.Option.{same_Some}
@@ -73,11 +73,11 @@ threads-like t f g row (x ∷ xs) apart there same = by_number (λ was. threads-
         ∙ ap (λ ys. x ∷ ys) (rest was)
         ∙ ap (λ y. y ∷ map (changed t g) xs) (sym (either t g x false other))
 
--- where numbers differ, two changes are equal that agree at the row that the thread has
+-- if numbers differ, two changes are equal that agree at the row that the thread has
 pub with_thread-like : (state : State) (t : ℕ) (f g : ThreadRow → ThreadRow) (row : ThreadRow) → AllPairs IsBelow state.threads → row_of state t ≡ Some row → f row ≡ g row → with_thread state t f ≡ with_thread state t g
 with_thread-like state t f g row apart there same = ap (λ threads. record state { threads = threads }) (threads-like t f g row state.threads apart there same)
 
--- what is read of the frames of a thread, where the change leaves it
+-- what is read of the frames of a thread, if the change leaves it
 read-changed : {Y : Type 0} (part : List CallFrame → Y) (d : Y) (t u : ℕ) (f : ThreadRow → ThreadRow) → ((row : ThreadRow) → part (f row).frames ≡ part row.frames) → (threads : List Thread)
     → option_map_or (λ (x : Thread). part x.row.frames) (find (λ (x : Thread). eqb x.number u) (map (changed t f) threads)) d ≡ option_map_or (λ (x : Thread). part x.row.frames) (find (λ (x : Thread). eqb x.number u) threads) d
 read-changed part d t u f same [] = refl

@@ -1,4 +1,4 @@
--- What a turn asks for and costs, by the instruction that its word spells.
+-- What a turn reads and costs, by the instruction that its word spells.
 use Rattle.std.specs.Prelude.{ℕ, ◌≡◌, ◌+◌, ◌&&◌, Bool, true, false, not, nat_lt, [], ◌∷◌, if◌then◌else◌, Option, Some, None}
 use Rattle.std.specs.Option.{option_map_or}
 use Rattle.std.proofs.Common.{arith, refl, sym, ap, ◌∙◌}
@@ -19,7 +19,8 @@ use Rattle.mg_model.specs.Script.{decoded, operand, register}
 use Rattle.mg_model.specs.State.{State, ThreadRow}
 use Rattle.mg_model.specs.Turn.{thread_call}
 use Rattle.mg_model.specs.Warmth.{disturbs, in_first_page, is_calm, is_ok}
-use Rattle.mg_script.specs.Actions.{begun, call_of}
+use Rattle.mg_script.specs.Actions.{call_of}
+use Rattle.mg_script.specs.Effects.{begun}
 use Rattle.mg_script.specs.TurnCosts.{TurnsSearchAsCalls}
 use Rattle.mg_script.specs.Turns.{turn_call}
 
@@ -44,7 +45,7 @@ stored-calm state done true false first calm = refl
 stored-calm state done true true false calm = refl
 stored-calm state done true true true calm = absurd (false≢true calm)
 
--- the word that is fetched, and those of what it spells, which is nothing where no word is fetched
+-- the word that is fetched, and those of what it spells, which is nothing if no word is fetched
 fetch-words : (may : Bool) (own : ℕ) → (may ≡ false → own ≡ 0) → (if may then 1 + own else 0) ≡ (if may then 1 else 0) + own
 fetch-words true own none = refl
 fetch-words false own none = let zero : own ≡ 0 = none refl in omega arith

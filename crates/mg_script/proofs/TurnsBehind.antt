@@ -1,4 +1,4 @@
--- A turn is a call, and behind it another row for the thread.
+-- A turn is a call, and then another row for the thread.
 use Rattle.std.proofs.Common.{ℕ, ◌+◌, ◌-◌, ◌≤◌, ◌≡◌, ◌++◌, Bool, true, false, cond, eqb, ltb, not, List, [], ◌∷◌, length, take, Option, Some, None, refl, sym, ap, ◌∙◌, subst, All}
 use Rattle.std.proofs.lemmas.Bool.{cond_both}
 use Rattle.std.proofs.lemmas.List.Elements.{All-head, All-tail}
@@ -30,15 +30,16 @@ use Rattle.mg_model.specs.Script.{decoded, with_register}
 use Rattle.mg_model.specs.State.{State, Thread, ThreadRow}
 use Rattle.mg_model.specs.Turn.{faulted, put_row, refusal_number, run, run_word, seen, spelled, thread_call, turned, values_of, with_registers}
 use Rattle.mg_model.specs.WellFormed.{IsThread, IsWellFormed}
-use Rattle.mg_script.specs.declared.actions.Action.{Action}
-use Rattle.mg_script.specs.declared.actions.Action.TheVariants as action
-use Rattle.mg_script.specs.Actions.{HasFrames, IsSpelledBy, entered, entering_call, faulted_row, finished, is_spelled, loaded, made_by, resumed, returned, settled, stood, stored, turned_on}
+use Rattle.mg_script.specs.declared.effects.Effect.{Effect}
+use Rattle.mg_script.specs.declared.effects.Effect.TheVariants as effect
+use Rattle.mg_script.specs.Actions.{entering_call, settled}
+use Rattle.mg_script.specs.Effects.{HasFrames, IsSpelledBy, entered, faulted_row, finished, is_spelled, loaded, made_by, resumed, returned, stood, stored, turned_on}
 use Rattle.mg_script.specs.Turns.{TurnsAreCalls, TurnsRowsKeepBacked, fetched_word}
 use Rattle.mg_script.proofs.FramesBehind.{returning_on-put, returning_on-slots}
 use Rattle.mg_script.proofs.RowChanges.{domain-changed, frames-changed, with_thread-like, with_thread-same, with_thread-then}
 
--- the state with the row behind a call
-abbrev behind : ℕ → Action → Answer → State
+-- the state with the row after a call
+abbrev behind : ℕ → Effect → Answer → State
 behind t asked called = with_thread called.0 t (λ row. resumed asked called.1 row)
 
 -- how a thread enters and leaves an object
@@ -108,14 +109,14 @@ module _ (state : State) (t : ℕ) (thread : ThreadRow) (formed : IsWellFormed s
 
   behind-load : (a to word : ℕ) (aligned may : Bool)
       → cond (not aligned) (faulted state t fault.Align) (cond (not may) (faulted state t fault.Denied) (put_row state t (with_register (advanced thread) to word)))
-      ≡ behind t (action.Load a to) (row state ((not aligned, refusal.Align) ∷ (not may, refusal.Denied) ∷ []) (state, reply.Value word))
+      ≡ behind t (effect.Load a to) (row state ((not aligned, refusal.Align) ∷ (not may, refusal.Denied) ∷ []) (state, reply.Value word))
   behind-load a to word true true = like (λ _. with_register (advanced thread) to word) (λ r. with_register (advanced r) to word) refl
   behind-load a to word true false = refl
   behind-load a to word false may = refl
 
   behind-store : (a value : ℕ) (aligned may : Bool)
       → cond (not aligned) (faulted state t fault.Align) (cond (not may) (faulted state t fault.Denied) (put_row (record state { objects = with_word state.objects a value }) t (advanced thread)))
-      ≡ behind t (action.Store a value) (row state ((not aligned, refusal.Align) ∷ (not may, refusal.Denied) ∷ []) (record state { objects = with_word state.objects a value }, reply.Done))
+      ≡ behind t (effect.Store a value) (row state ((not aligned, refusal.Align) ∷ (not may, refusal.Denied) ∷ []) (record state { objects = with_word state.objects a value }, reply.Done))
   behind-store a value true true = ap (λ (s : State). record s { objects = with_word state.objects a value }) put-is
   behind-store a value true false = refl
   behind-store a value false may = refl
@@ -134,7 +135,7 @@ module _ (state : State) (t : ℕ) (thread : ThreadRow) (formed : IsWellFormed s
   entered-like a slots = ap (λ frames. in_frame (record thread { pc = a; frames = frames })) (sym (returning_on-put thread.frames (record { back = thread.pc; slots = slots }) some_frame))
 
   behind-pdx : (a mask n : ℕ) (slots : List Slot) (refused : Option Refusal)
-      → seen t (λ _ in_it. in_frame in_it) (unless_refused refused before (with_thread before t (entering a slots), reply.Count n)) ≡ behind t (action.Pdx a mask) (unless_refused refused state (with_thread state t (entering a slots), reply.Count n))
+      → seen t (λ _ in_it. in_frame in_it) (unless_refused refused before (with_thread before t (entering a slots), reply.Count n)) ≡ behind t (effect.Pdx a mask) (unless_refused refused state (with_thread state t (entering a slots), reply.Count n))
   behind-pdx a mask n slots (Some word) = with_thread-then state t advanced (λ r. with_register r 0 (refusal_number word))
   behind-pdx a mask n slots None =
       with_thread-then before t (entering a slots) in_frame
@@ -142,22 +143,22 @@ module _ (state : State) (t : ℕ) (thread : ThreadRow) (formed : IsWellFormed s
       ∙ like (λ r. in_frame (entering a slots (advanced r))) (λ r. entered (reply.Count n) (entering a slots r)) (entered-like a slots)
       ∙ sym (with_thread-then state t (entering a slots) (entered (reply.Count n)))
 
-  pdx-over : (a mask : ℕ) → seen t (λ _ in_it. in_frame in_it) (pdx before t a mask) ≡ behind t (action.Pdx a mask) (pdx state t a mask)
+  pdx-over : (a mask : ℕ) → seen t (λ _ in_it. in_frame in_it) (pdx before t a mask) ≡ behind t (effect.Pdx a mask) (pdx state t a mask)
   pdx-over a mask = rw (same_domain t, same_frames t) (behind-pdx a mask (length (frames_of state t) + 1) (entered_slots state t a mask) _)
 
-  by_mask : (a mask : ℕ) (v : Bool) → seen t (λ _ in_it. in_frame in_it) (cond v (before, reply.No refusal.Syntax) (pdx before t a mask)) ≡ behind t (action.Pdx a mask) (thread_call state t (cond v call.Bad (call.Pdx a mask)))
+  by_mask : (a mask : ℕ) (v : Bool) → seen t (λ _ in_it. in_frame in_it) (cond v (before, reply.No refusal.Syntax) (pdx before t a mask)) ≡ behind t (effect.Pdx a mask) (thread_call state t (cond v call.Bad (call.Pdx a mask)))
   by_mask a mask true = with_thread-then state t advanced (λ r. with_register r 0 (refusal_number refusal.Syntax))
   by_mask a mask false = pdx-over a mask
 
-  behind-ret : (n : ℕ) (refused : Option Refusal) → seen t (λ _ out. out) (unless_refused refused before (with_thread before t leaving, reply.Count n)) ≡ behind t action.Ret (unless_refused refused state (with_thread state t leaving, reply.Count n))
+  behind-ret : (n : ℕ) (refused : Option Refusal) → seen t (λ _ out. out) (unless_refused refused before (with_thread before t leaving, reply.Count n)) ≡ behind t effect.Ret (unless_refused refused state (with_thread state t leaving, reply.Count n))
   behind-ret n (Some word) = with_thread-then state t advanced (λ r. with_register r 0 (refusal_number word))
   behind-ret n None = ap (λ (s : State). with_thread s t (λ r. r)) (with_thread-then state t advanced leaving)
 
-  ret-over : seen t (λ _ out. out) (ret before t) ≡ behind t action.Ret (ret state t)
+  ret-over : seen t (λ _ out. out) (ret before t) ≡ behind t effect.Ret (ret state t)
   ret-over = rw (same_frames t) (behind-ret (length (frames_of state t) - 1) _)
 
   module _ (calls : RestsOnNoRegister thread_call) (ready : thread.state ≡ Ready) where
-    sys-over : (made : Call) → is_by_script made ≡ true → seen t (λ said caller. settled said caller) (thread_call (put_row state t (advanced thread)) t made) ≡ behind t action.Sys (thread_call state t made)
+    sys-over : (made : Call) → is_by_script made ≡ true → seen t (λ said caller. settled said caller) (thread_call (put_row state t (advanced thread)) t made) ≡ behind t effect.Sys (thread_call state t made)
     sys-over made by =
         let called = thread_call state t made in
         let said = called.1 in
@@ -171,15 +172,15 @@ module _ (state : State) (t : ℕ) (thread : ThreadRow) (formed : IsWellFormed s
         ∙ sym (with_thread-then called.0 t (with_frames_of thread) (λ r. settled said (advanced r)))
         ∙ ap (λ (s : State). with_thread s t (λ r. settled said (advanced r))) (sym own)
 
-    finished-behind : (asked : Action) → IsSpelledBy asked (made_by thread asked) → finished state t (advanced thread) asked ≡ behind t asked (thread_call state t (made_by thread asked))
-    finished-behind (action.Next stands) by = like (λ _. stood stands (advanced thread)) (λ r. stood stands r) refl
-    finished-behind (action.Load a to) by = behind-load a to (word_at state.objects a) (is_aligned a) (allowed state t a R)
-    finished-behind (action.Store a value) by = behind-store a value (is_aligned a) (allowed state t a W)
-    finished-behind (action.Pdx a mask) by =
+    finished-behind : (asked : Effect) → IsSpelledBy asked (made_by thread asked) → finished state t (advanced thread) asked ≡ behind t asked (thread_call state t (made_by thread asked))
+    finished-behind (effect.Next stands) by = like (λ _. stood stands (advanced thread)) (λ r. stood stands r) refl
+    finished-behind (effect.Load a to) by = behind-load a to (word_at state.objects a) (is_aligned a) (allowed state t a R)
+    finished-behind (effect.Store a value) by = behind-store a value (is_aligned a) (allowed state t a W)
+    finished-behind (effect.Pdx a mask) by =
         ap (λ (s : State). seen t (λ _ in_it. in_frame in_it) (cond (ltb 255 mask) (s, reply.No refusal.Syntax) (pdx s t a mask))) put-is
         ∙ by_mask a mask (ltb 255 mask)
-    finished-behind action.Ret by = ap (λ (s : State). seen t (λ _ out. out) (ret s t)) put-is ∙ ret-over
-    finished-behind action.Sys by = sys-over (spelled thread) (spelled-by_script (spelled thread) by)
+    finished-behind effect.Ret by = ap (λ (s : State). seen t (λ _ out. out) (ret s t)) put-is ∙ ret-over
+    finished-behind effect.Sys by = sys-over (spelled thread) (spelled-by_script (spelled thread) by)
 
 pub turns_behind : RestsOnNoRegister thread_call → TurnsAreCalls
 turns_behind calls state t thread asked formed there ready is =
@@ -189,7 +190,7 @@ turns_behind calls state t thread asked formed there ready is =
     ∙ finished-behind state t thread formed there calls ready asked (subst (IsSpelledBy asked) (sym is.call) is.spelled)
     ∙ ap (λ made. behind t asked (thread_call state t made)) is.call
 
--- Rows behind a call that leave the frames that the call left.
+-- Rows after a call that leave the frames that the call left.
 loaded-frames : (to : ℕ) (said : Reply) (thread : ThreadRow) → (loaded to said thread).frames ≡ thread.frames
 loaded-frames to (reply.Value word) thread = refl
 loaded-frames to (reply.No word) thread = refl
@@ -216,23 +217,23 @@ entered-slots : (said : Reply) (thread : ThreadRow) → last_slots (entered said
 entered-slots (reply.No word) thread = refl
 entered-slots other thread = returning_on-slots thread.frames
 
-behind-backed : BackingRestsOnDomain → FramesKeepBacked → (state : State) (t : ℕ) (thread : ThreadRow) (asked : Action) → row_of state t ≡ Some thread → HasFrames thread asked
+behind-backed : BackingRestsOnDomain → FramesKeepBacked → (state : State) (t : ℕ) (thread : ThreadRow) (asked : Effect) → row_of state t ≡ Some thread → HasFrames thread asked
     → let called = thread_call state t (made_by thread asked) in KeepsBacked by_none called.0 (behind t asked called)
-behind-backed rests frames state t thread (action.Next stands) there has = frames state t (λ r. stood stands r) (λ r is. refl)
-behind-backed rests frames state t thread (action.Load a to) there has =
+behind-backed rests frames state t thread (effect.Next stands) there has = frames state t (λ r. stood stands r) (λ r is. refl)
+behind-backed rests frames state t thread (effect.Load a to) there has =
     let called = thread_call state t (call.Load a) in
     frames called.0 t (loaded to called.1) (λ r _. loaded-frames to called.1 r)
-behind-backed rests frames state t thread (action.Store a value) there has =
+behind-backed rests frames state t thread (effect.Store a value) there has =
     let called = thread_call state t (call.Store a value) in
     frames called.0 t (stored called.1) (λ r _. stored-frames called.1 r)
-behind-backed rests frames state t thread (action.Pdx a mask) there has =
+behind-backed rests frames state t thread (effect.Pdx a mask) there has =
     let called = thread_call state t (entering_call a mask) in
     λ seat _. rests called.0 (with_thread called.0 t (entered called.1)) seat refl refl
     (λ slot among. subst (λ (slots : List Slot). Contains slots slot) (sym (domain-changed called.0 t seat.thread (entered called.1) (entered-slots called.1))) among)
-behind-backed rests frames state t thread action.Ret there has =
+behind-backed rests frames state t thread effect.Ret there has =
     let called = thread_call state t call.Ret in
     frames called.0 t (returned called.1) (λ r _. returned-frames called.1 r)
-behind-backed rests frames state t thread action.Sys there has =
+behind-backed rests frames state t thread effect.Sys there has =
     let called = thread_call state t (spelled thread) in
     frames called.0 t (λ r. settled called.1 (advanced r)) (λ r _. settled-frames called.1 (advanced r))
 

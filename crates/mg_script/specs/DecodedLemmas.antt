@@ -1,4 +1,4 @@
--- What an instruction's fields are where its row of the table gives it.
+-- The fields of an instruction that a row of the table gives.
 use Rattle.std.proofs.Common.{◌≡◌, ℕ, ◌/◌, ◌%◌, ◌^◌, ◌==◌, ◌&&◌, Bool, true, false, Option, Some, None, IfSome, if◌then◌else◌, refl, ◌∙◌, arith}
 use Rattle.std.proofs.lemmas.Bool.Decides.{nat_tests}
 use Rattle.mg_model.specs.declared.instructions.Instr.{Instr}
@@ -11,7 +11,7 @@ record IsSpelling (number a b c i : ℕ) (instr : Instr) : Type 0 where
   pub registers : HasRegisters instr
   pub word : encoded instr ≡ word_of number a b c i
 
--- a row of the table, and those behind it
+-- a row of the table, and those after it
 given : (P : Instr → Type 0) (fits : Bool) (instr : Instr) → (fits ≡ true → P instr) → IfSome (where_so fits instr) P
 given P true instr h = h refl
 given P false instr h = tt

@@ -8,7 +8,7 @@ use Rattle.mg_model.specs.declared.instructions.Instr.TheVariants as op
 abbrev pub word_of : ℕ → ℕ → ℕ → ℕ → ℕ → ℕ
 word_of number a b c i = number + a * 2 ^ 8 + b * 2 ^ 16 + c * 2 ^ 24 + i * 2 ^ 32
 
--- the word that spells an instruction: fields that it does not have are 0
+-- the word that spells an instruction; fields that it does not have are 0
 abbrev pub encoded : Instr → ℕ
 encoded op.Halt = word_of 0 0 0 0 0
 encoded (op.Set a i) = word_of 1 a 0 0 i

@@ -1,4 +1,4 @@
--- A thread's turn as a call of the machine, and behind it another row for the thread.
+-- A thread's turn as a call of the machine, and then another row for the thread.
 use Rattle.std.specs.Prelude.{ℕ, ◌≡◌, if◌then◌else◌, Option, Some, None}
 use Rattle.mg_model.specs.declared.calls.Call.{Call}
 use Rattle.mg_model.specs.declared.rights.Right.TheVariants.{X}
@@ -11,8 +11,8 @@ use Rattle.mg_model.specs.Objects.{word_at}
 use Rattle.mg_model.specs.State.{State, ThreadRow}
 use Rattle.mg_model.specs.Turn.{thread_call, turn_state}
 use Rattle.mg_model.specs.WellFormed.{IsWellFormed}
-use Rattle.mg_script.specs.declared.actions.Action.{Action}
-use Rattle.mg_script.specs.Actions.{HasFrames, IsSpelledBy, begun, finished, made_by, resumed, turned_on}
+use Rattle.mg_script.specs.declared.effects.Effect.{Effect}
+use Rattle.mg_script.specs.Effects.{HasFrames, IsSpelledBy, begun, finished, made_by, resumed, turned_on}
 
 -- the word that a thread may fetch at its pc
 abbrev pub fetched_word : State → ℕ → ThreadRow → Option ℕ
@@ -22,24 +22,24 @@ fetched_word state t thread = if allowed state t thread.pc X then Some (word_at 
 abbrev pub turn_call : State → ℕ → ThreadRow → Call
 turn_call state t thread = begun thread (fetched_word state t thread)
 
--- An action is what this thread's turn asks for: how the turn goes on with it, and that it makes the call of the turn.
-pub record IsAsked (state : State) (t : ℕ) (thread : ThreadRow) (asked : Action) : Type 0 where
+-- This is the effect of the thread's turn: how the turn continues with it, and that it makes the call of the turn.
+pub record IsAsked (state : State) (t : ℕ) (thread : ThreadRow) (asked : Effect) : Type 0 where
   pub turn : turned_on state t thread (fetched_word state t thread) ≡ finished state t (advanced thread) asked
   pub call : made_by thread asked ≡ turn_call state t thread
   pub spelled : IsSpelledBy asked (turn_call state t thread)
   pub frames : HasFrames thread asked
 
--- A turn is a call, and behind it another row for the thread, made from the one that the call left.
+-- A turn is a call, and then another row for the thread, made from the row after the call.
 abbrev pub TurnsAreCalls : Type 0
 TurnsAreCalls =
-    (state : State) (t : ℕ) (thread : ThreadRow) (asked : Action) → IsWellFormed state → row_of state t ≡ Some thread → thread.state ≡ Ready → IsAsked state t thread asked →
+    (state : State) (t : ℕ) (thread : ThreadRow) (asked : Effect) → IsWellFormed state → row_of state t ≡ Some thread → thread.state ≡ Ready → IsAsked state t thread asked →
     let called = thread_call state t (turn_call state t thread) in
     turn_state state t ≡ with_thread called.0 t (λ row. resumed asked called.1 row)
 
--- The row that a thread gets behind the call of its turn has the slots of the one that the call left in its present frame: each
--- seat that is backed behind the call stays backed.
+-- The row that a thread gets after the call of its turn has the slots of the row after the call in its present frame: each
+-- seat that is backed after the call stays backed.
 abbrev pub TurnsRowsKeepBacked : Type 0
 TurnsRowsKeepBacked =
-    (state : State) (t : ℕ) (thread : ThreadRow) (asked : Action) → IsWellFormed state → row_of state t ≡ Some thread → thread.state ≡ Ready → IsAsked state t thread asked →
+    (state : State) (t : ℕ) (thread : ThreadRow) (asked : Effect) → IsWellFormed state → row_of state t ≡ Some thread → thread.state ≡ Ready → IsAsked state t thread asked →
     let called = thread_call state t (turn_call state t thread) in
     KeepsBacked by_none called.0 (with_thread called.0 t (λ row. resumed asked called.1 row))

@@ -1,17 +1,17 @@
 // The call that a thread's registers spell.
 ghost use Rattle.std.specs.Prelude.{◌≡◌, true};
 ghost use Rattle.mg_model.specs.Turn.{spelled, spelled_pwadd};
-ghost use Rattle.mg_script.specs.Actions.{is_spelled};
+ghost use Rattle.mg_script.specs.Effects.{is_spelled};
 
 use mg_model::{Call, Rights, ThrRow};
 
-/// The call of a script: register 0 has its number and the others its arguments, in the order of its line. Bad where the
-/// number is none of 1 to 19, or the rights of a `pwadd` are 0 or above 63.
-pub fn spell(r: &ThrRow) -> Call
-    ensures value { result ≡ spelled r.now }
+/// The call of a script: register 0 has its number and the others its arguments, in the order of its line. Bad if the number
+/// is not one of 1 to 19, or the rights of a `pwadd` are 0 or above 63.
+pub fn spell(row: &ThrRow) -> Call
+    ensures value { result ≡ spelled row.now }
     ensures calls { is_spelled result ≡ true }
 {
-    let [number, first, second, third, fourth, ..] = r.regs();
+    let [number, first, second, third, fourth, ..] = row.regs();
     match number {
         1 => Call::Load { a: first },
         2 => Call::Store {

@@ -1,49 +1,50 @@
-// A turn as a call: which action a thread's word asks for, which call the action makes, and the thread's row behind it.
+// A turn as a call: the effect of a thread's word, the call that the effect makes, and the thread's row after it.
 ghost use Rattle.std.specs.Prelude.{◌≡◌, ◌<◌, ◌%◌, IfSome, ℕ};
 ghost use Rattle.mg_model.specs.Abbreviations.{advanced};
 ghost use Rattle.mg_model.specs.Script.{with_register};
 ghost use Rattle.mg_model.specs.State.{State};
-ghost use Rattle.mg_script.specs.Actions.{HasFrames, HasPlace, IsSpelledBy, begun, entered, entering_call, fault_of, faulted_row, finished, loaded, made_by, refused_row, resumed, returned, returning_on, standing, stood, stored, turned_on};
+ghost use Rattle.mg_script.specs.Actions.{entering_call};
+ghost use Rattle.mg_script.specs.Effects.{HasFrames, HasPlace, IsSpelledBy, begun, entered, fault_of, faulted_row, finished, loaded, made_by, refused_row, resumed, returned, returning_on, standing, stood, stored, turned_on};
 
-use crate::actions::{Action, Standing, advance, execute, here, onward};
 use crate::calls::spell;
+use crate::effects::{Effect, Standing, advance, effect_of, here, onward};
 use crate::settling::{refuse, settle};
 use crate::words::decode;
 use mg_model::{Call, Fault, Refusal, Reply, ThrRow, ThrState};
 
-/// What a thread's turn asks for, by the word that it fetched, or None where it may not fetch it. It faults where there is no
-/// word (Denied), or the word spells no instruction (Opcode). The row is the thread's, its pc not advanced.
-pub fn begin(r: &ThrRow, fetched: Option<u64>) -> Action
-    ensures turn { (state : State) (t : ℕ) → turned_on state t r.now fetched ≡ finished state t (advanced r.now) result }
+/// The effect of a thread's turn, by the word that it fetched, or None if it may not fetch it. The thread faults if there is no
+/// word (Denied), or the word spells no instruction (Opcode). The row is the thread's, and its pc is not yet advanced.
+pub fn begin(row: &ThrRow, fetched: Option<u64>) -> Effect
+    ensures turn { (state : State) (t : ℕ) → turned_on state t row.now fetched ≡ finished state t (advanced row.now) result }
     ensures place { HasPlace result }
-    ensures frames { HasFrames r.now result }
-    ensures call { made_by r.now result ≡ begun r.now fetched }
+    ensures frames { HasFrames row.now result }
+    ensures call { made_by row.now result ≡ begun row.now fetched }
 {
     match fetched {
         Some(word) => match decode(word) {
-            Some(instr) => execute(&instr, r),
-            None => Action::Next(faulting(r, Fault::Opcode)),
+            Some(instr) => effect_of(&instr, row),
+            None => Effect::Next(faulting(row, Fault::Opcode)),
         },
-        None => Action::Next(faulting(r, Fault::Denied)),
+        None => Effect::Next(faulting(row, Fault::Denied)),
     }
 }
 
-/// The call that an action makes. The row is the thread's. It is Bad where the action makes none, as `Next`, or the mask of a
-/// `Pdx` is above 255.
-pub fn call(r: &ThrRow, action: &Action) -> Call
-    ensures value { result ≡ made_by r.now action.now }
-    ensures spelled { IsSpelledBy action.now result }
+/// The call that an effect makes. The row is the thread's. The call is Bad if the effect is a `Next`, which makes none, or a `Pdx`
+/// with a mask above 255.
+pub fn call(row: &ThrRow, effect: &Effect) -> Call
+    ensures value { result ≡ made_by row.now effect.now }
+    ensures spelled { IsSpelledBy effect.now result }
 {
-    match action {
-        Action::Next(_) => Call::Bad,
-        Action::Load { a, .. } => Call::Load { a: *a },
-        Action::Store { a, value } => Call::Store {
+    match effect {
+        Effect::Next(_) => Call::Bad,
+        Effect::Load { a, .. } => Call::Load { a: *a },
+        Effect::Store { a, value } => Call::Store {
             a: *a,
             value: *value,
         },
-        Action::Pdx { a, mask } => enter(*a, *mask),
-        Action::Ret => Call::Ret,
-        Action::Sys => spell(r),
+        Effect::Pdx { a, mask } => enter(*a, *mask),
+        Effect::Ret => Call::Ret,
+        Effect::Sys => spell(row),
     }
 }
 
@@ -60,36 +61,36 @@ fn enter(a: u64, mask: u64) -> Call
     }
 }
 
-/// The row of a thread after its turn, from the one that the call of its action left and the call's reply. A load or a store
-/// that is refused faults, and the pc stays; behind each other call the pc is advanced, or is where the call went. A frame
-/// that a `Pdx` entered returns to the word behind it.
-pub fn resume(row: ThrRow, action: &Action, reply: &Reply) -> ThrRow
-    requires { HasPlace action.now }
-    ensures { result ≡ resumed action.now reply.now row }
+/// The row of a thread after its turn. `row` is the row after the call of the turn's effect, and `reply` that call's reply. A load or
+/// a store that is refused faults, and the pc stays. After every other call the pc is advanced, or is where the call went. A
+/// frame that a `Pdx` entered returns to the word after the `pdx`.
+pub fn resume(row: ThrRow, effect: &Effect, reply: &Reply) -> ThrRow
+    requires { HasPlace effect.now }
+    ensures { result ≡ resumed effect.now reply.now row }
 {
-    match action {
-        Action::Next(next) => standing_so(row, next),
-        Action::Load { to, .. } => behind_load(row, *to, reply),
-        Action::Store { .. } => behind_store(row, reply),
-        Action::Pdx { .. } => behind_pdx(row, reply),
-        Action::Ret => behind_ret(row, reply),
-        Action::Sys => behind_sys(row, reply),
+    match effect {
+        Effect::Next(next) => moved(row, next),
+        Effect::Load { to, .. } => behind_load(row, *to, reply),
+        Effect::Store { .. } => behind_store(row, reply),
+        Effect::Pdx { .. } => behind_pdx(row, reply),
+        Effect::Ret => behind_ret(row, reply),
+        Effect::Sys => behind_sys(row, reply),
     }
 }
 
-/// Where a thread stands after its turn, from the row that the call of its action left and the call's reply. None where the
-/// turn may change more of the row: behind a call that the registers spelled, and behind `pdx` and `ret`. [`resume`] has the
-/// row then.
-pub fn stand(row: &ThrRow, action: &Action, reply: &Reply) -> Option<Standing>
-    requires { HasPlace action.now }
-    ensures value { IfSome result (λ stands. resumed action.now reply.now row.now ≡ stood stands row.now) }
+/// The pc, the state and the registers of a thread after its turn. `row` is the row after the call of the turn's effect, and `reply`
+/// that call's reply. None if the turn may change more of the row: after a call that the registers spelled, and after `pdx` and
+/// `ret`. [`resume`] has the row then.
+pub fn stand(row: &ThrRow, effect: &Effect, reply: &Reply) -> Option<Standing>
+    requires { HasPlace effect.now }
+    ensures value { IfSome result (λ stands. resumed effect.now reply.now row.now ≡ stood stands row.now) }
     ensures aligned { IfSome result (λ stands. stands.pc % 8 ≡ 0) }
 {
-    match action {
-        Action::Next(next) => Some(*next),
-        Action::Load { to, .. } => Some(stand_behind_load(row, *to, reply)),
-        Action::Store { .. } => Some(stand_behind_store(row, reply)),
-        Action::Pdx { .. } | Action::Ret | Action::Sys => None,
+    match effect {
+        Effect::Next(next) => Some(*next),
+        Effect::Load { to, .. } => Some(stand_behind_load(row, *to, reply)),
+        Effect::Store { .. } => Some(stand_behind_store(row, reply)),
+        Effect::Pdx { .. } | Effect::Ret | Effect::Sys => None,
     }
 }
 
@@ -120,7 +121,7 @@ fn stand_behind_store(row: &ThrRow, reply: &Reply) -> Standing
     }
 }
 
-// Where a thread stands that goes nowhere.
+// The thread stays as it is.
 fn still(row: &ThrRow) -> Standing
     ensures value { result ≡ standing row.now }
     ensures aligned { result.pc % 8 ≡ 0 }
@@ -129,7 +130,7 @@ fn still(row: &ThrRow) -> Standing
     here(row)
 }
 
-// Where a thread stands that faults.
+// The thread faults, and its pc stays.
 fn faulting(row: &ThrRow, kind: Fault) -> Standing
     ensures value { result ≡ standing (faulted_row kind row.now) }
     ensures aligned { result.pc % 8 ≡ 0 }
@@ -142,8 +143,8 @@ fn faulting(row: &ThrRow, kind: Fault) -> Standing
     }
 }
 
-// The row of a thread that stands elsewhere.
-fn standing_so(mut row: ThrRow, stands: &Standing) -> ThrRow
+// The row with another pc, another state and other registers.
+pub(crate) fn moved(mut row: ThrRow, stands: &Standing) -> ThrRow
     requires { stands.now.pc % 8 ≡ 0 }
     ensures { result ≡ stood stands.now row }
 {
@@ -153,7 +154,7 @@ fn standing_so(mut row: ThrRow, stands: &Standing) -> ThrRow
     row
 }
 
-// Other registers.
+// Stores all eight registers.
 fn set_registers(row: &mut ThrRow, regs: &[u64; 8])
     ensures { row.new ≡ record row.old { regs = regs.now } }
 {
@@ -210,7 +211,7 @@ fn behind_ret(row: ThrRow, reply: &Reply) -> ThrRow
 }
 
 fn behind_sys(mut row: ThrRow, reply: &Reply) -> ThrRow
-    ensures { result ≡ resumed Action.Sys reply.now row }
+    ensures { result ≡ resumed Effect.Sys reply.now row }
 {
     advance(&mut row);
     settle(&mut row, reply);
@@ -226,7 +227,7 @@ fn in_frame(row: ThrRow) -> ThrRow
     row
 }
 
-// The row with its last frame returning a word further on.
+// The row with its last frame returning to the next word.
 fn returning(mut row: ThrRow) -> ThrRow
     ensures { result ≡ record row { frames = returning_on row.frames } }
 {
@@ -249,7 +250,7 @@ fn refused(mut row: ThrRow, word: Refusal) -> ThrRow
     row
 }
 
-// The row of a thread that faults: nothing else of it changes.
+// The row of a thread that faults. Nothing else of it changes.
 fn faulted(mut row: ThrRow, kind: Fault) -> ThrRow
     ensures { result ≡ faulted_row kind row }
 {
@@ -257,7 +258,7 @@ fn faulted(mut row: ThrRow, kind: Fault) -> ThrRow
     row
 }
 
-// How a load or a store that is refused faults.
+// The fault of a load or a store that is refused.
 fn fault(word: Refusal) -> Fault
     ensures { result ≡ fault_of word }
 {

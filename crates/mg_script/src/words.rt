@@ -5,28 +5,28 @@ ghost use Rattle.mg_script.specs.Encoded.{HasRegisters, encoded, word_of};
 
 use mg_model::Instr;
 
-/// The instruction that a word spells; None where its op is none, a register is not below 8, or a field that the op does not
-/// use is not 0.
-pub fn decode(w: u64) -> Option<Instr>
-    ensures value { result ≡ decoded w }
+/// The instruction that a word spells. None if its op is above 14, a register is not below 8, or a field that the op does not use
+/// is not 0.
+pub fn decode(word: u64) -> Option<Instr>
+    ensures value { result ≡ decoded word }
     ensures registers { IfSome result HasRegisters }
-    ensures back { IfSome result (λ instr. encoded instr ≡ w) }
+    ensures back { IfSome result (λ instr. encoded instr ≡ word) }
 {
     instruction(
-        (w % 256) as u8,
-        ((w >> 8) % 256) as u8,
-        ((w >> 16) % 256) as u8,
-        ((w >> 24) % 256) as u8,
-        (w >> 32) as u32,
+        (word % 256) as u8,
+        ((word >> 8) % 256) as u8,
+        ((word >> 16) % 256) as u8,
+        ((word >> 24) % 256) as u8,
+        (word >> 32) as u32,
     )
 }
 
-/// The word that spells an instruction. Where its registers are below 8, the word is decoded to it again.
-pub fn encode(i: &Instr) -> u64
-    ensures value { result ≡ encoded i.now }
-    ensures back { HasRegisters i.now → decoded result ≡ Some i.now }
+/// The word that spells an instruction. If its registers are below 8, the word is decoded to it again.
+pub fn encode(instr: &Instr) -> u64
+    ensures value { result ≡ encoded instr.now }
+    ensures back { HasRegisters instr.now → decoded result ≡ Some instr.now }
 {
-    match *i {
+    match *instr {
         Instr::Halt => word(0, 0, 0, 0, 0),
         Instr::Set { a, i } => word(1, a, 0, 0, i),
         Instr::High { a, i } => word(2, a, 0, 0, i),
@@ -80,7 +80,7 @@ fn instruction(op: u8, a: u8, b: u8, c: u8, i: u32) -> Option<Instr>
     }
 }
 
-/// An instruction, where its fields are as it wants them.
+/// The instruction, if its fields fit.
 fn when(fits: bool, instr: Instr) -> Option<Instr>
     ensures { result ≡ where_so fits instr }
 {

@@ -12,7 +12,7 @@ use mg_io::{Sink, Source};
 use std::alloc::Global;
 use std::io::Eprint;
 
-/// Carries out what the words ask for, tells on standard error why it ended so, and gives the exit status.
+/// Carries out the command that the words spell, prints on standard error why it failed, and returns the exit status.
 pub(crate) fn carry_out<R: AllocGlobal + Eprint, S: Source + Stream, O: Sink + Stream, E: Sink>(
     rt: &R,
     words: &[String],

@@ -1,12 +1,12 @@
-// Which word is at fault where the words spell no command.
+// Which word is at fault if the words spell no command.
 use crate::NAME;
 use mg_console::{is_address_told, is_told, tell, tell_lines};
 use std::io::Eprint;
 
-/// What the program can be asked, after the line `usage`.
+/// The commands, as they are printed after the line `usage`.
 const SYNOPSIS: [&str; 2] = ["       mungi_asm THREAD ADDRESS", "       mungi_asm print"];
 
-/// Tells what the program can be asked, and which word is at fault.
+/// Prints the commands, and which word is at fault.
 pub(crate) fn tell_usage<R: Eprint>(rt: &R, words: &[String]) {
     tell_lines(rt, &SYNOPSIS);
     match words {
@@ -21,7 +21,7 @@ pub(crate) fn tell_usage<R: Eprint>(rt: &R, words: &[String]) {
     }
 }
 
-/// Tells which of these two is at fault.
+/// Prints which of these two words is at fault.
 fn tell_store<R: Eprint>(rt: &R, thread: &str, address: &str) {
     if thread == "print" {
         tell(rt, NAME, "print takes no word");

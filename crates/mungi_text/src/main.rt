@@ -1,9 +1,9 @@
-//! The program: the words of its command line, its standard input, its standard output and its standard error, handed to
-//! [`program::carry_out`], whose result it exits with.
+//! The program: it hands the words of its command line, its standard input, its standard output and its standard error to
+//! [`program::carry_out`], and exits with the result.
 //!
-//! That function is the program over any source and sinks. It calls [`mg_document_session::top`] and ensures of the words what that
-//! ensures, that the exit status is the number of its status, and that nothing is taken or put after it. Why it failed is told on
-//! standard error after that, and so is that a document lies where thread 1's capability list does.
+//! That function is the program over any source and sinks. It calls [`mg_document_session::top`] and ensures what that ensures, that the
+//! exit status is the number of its status, and that source and sinks are left alone after it. The messages on standard error come
+//! last: why the program failed, and that a document is where thread 1's capability list is.
 #![tactic(auto)]
 
 mod program;
@@ -24,7 +24,7 @@ fn main(rt: HostRuntime) -> ExitCode {
     }
 }
 
-/// Carries out what the words ask for, on the standard streams.
+/// Carries out the command that the words spell, on the standard streams.
 fn on_streams(rt: &HostRuntime, words: &[String]) -> u8 {
     let mut source = ReaderSource::new(rt.stdin());
     let mut out = WriterSink::new(rt.stdout());

@@ -13,7 +13,7 @@ use mg_model::limits::{PAGE_SIZE, ROOT_BASE};
 use std::alloc::Global;
 use std::io::Eprint;
 
-/// Carries out what the words ask for, tells on standard error why it ended so, and gives the exit status.
+/// Carries out the command that the words spell, prints on standard error why it failed, and returns the exit status.
 pub(crate) fn carry_out<R: AllocGlobal + Eprint, S: Source + Stream, O: Sink + Stream, E: Sink>(
     rt: &R,
     words: &[String],
@@ -57,7 +57,7 @@ fn limit_of(command: Option<Command>) -> u64 {
     }
 }
 
-/// Tells that a document is put where thread 1's capability list lies, if it is.
+/// Prints that a document's address is in thread 1's capability list, if it is.
 fn tell_place<R: Eprint>(rt: &R, command: Option<Command>) {
     match command {
         Some(Command::Put(_, address)) if address / PAGE_SIZE == ROOT_BASE / PAGE_SIZE => tell(

@@ -1,17 +1,17 @@
-// Which word is at fault where the words spell no command.
+// Which word is at fault if the words spell no command.
 use crate::NAME;
 use mg_console::{is_address_told, is_told, tell, tell_lines};
 use mg_document::BYTE_LIMIT;
 use std::io::Eprint;
 
-/// What the program can be asked, after the line `usage`.
+/// The commands, as they are printed after the line `usage`.
 const SYNOPSIS: [&str; 3] = [
     "       mungi_text put THREAD ADDRESS",
     "       mungi_text get THREAD ADDRESS BYTES",
     "       mungi_text bytes",
 ];
 
-/// Tells what the program can be asked, and which word is at fault.
+/// Prints the commands, and which word is at fault.
 pub(crate) fn tell_usage<R: Eprint>(rt: &R, words: &[String]) {
     tell_lines(rt, &SYNOPSIS);
     match words.split_first() {
@@ -20,7 +20,7 @@ pub(crate) fn tell_usage<R: Eprint>(rt: &R, words: &[String]) {
     }
 }
 
-/// Tells what is at fault of a command and the words after it.
+/// Prints what is wrong with a command and the words after it.
 fn tell_command<R: Eprint>(rt: &R, command: &str, rest: &[String]) {
     if command == "put" {
         tell_put(rt, rest);
@@ -33,7 +33,7 @@ fn tell_command<R: Eprint>(rt: &R, command: &str, rest: &[String]) {
     }
 }
 
-/// Tells what is at fault of the words after `put`.
+/// Prints what is wrong with the words after `put`.
 fn tell_put<R: Eprint>(rt: &R, rest: &[String]) {
     match rest {
         [thread, address] => {
@@ -43,7 +43,7 @@ fn tell_put<R: Eprint>(rt: &R, rest: &[String]) {
     }
 }
 
-/// Tells what is at fault of the words after `get`.
+/// Prints what is wrong with the words after `get`.
 fn tell_get<R: Eprint>(rt: &R, rest: &[String]) {
     match rest {
         [thread, address, bytes] => {
@@ -55,7 +55,7 @@ fn tell_get<R: Eprint>(rt: &R, rest: &[String]) {
     }
 }
 
-/// Whether one of these is at fault, which is then told.
+/// Whether one of these words is at fault, which is then printed.
 fn is_place_told<R: Eprint>(rt: &R, thread: &str, address: &str) -> bool {
     is_told(rt, NAME, "THREAD", thread, 0, u64::MAX) || is_address_told(rt, NAME, address)
 }

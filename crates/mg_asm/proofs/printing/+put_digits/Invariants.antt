@@ -1,4 +1,4 @@
 use Rattle.mg_asm.proofs.printing.+put_digits.Given as goal
 
 abbrev pub decreases-put_digits : goal.decreases-put_digits
-decreases-put_digits l = l.n
+decreases-put_digits l = l.count

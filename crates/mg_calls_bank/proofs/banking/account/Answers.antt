@@ -11,12 +11,12 @@ use Rattle.mg_calls_bank.proofs.banking.account.Goals as goal
 pub returns-in-Some : goal.returns-in-Some
 returns-in-Some c =
     call_refused _ _ _ _ (λ image spelled formed.
-    account-is c.args.v.now image c.args.account c.args.password c.args.amount (Some c.in-Some.word) c.in-Some.ensures.word)
+    account-is c.args.volume.now image c.args.account c.args.password c.args.amount (Some c.in-Some.word) c.in-Some.ensures.word)
 
 -- a draw leaves the accounts, and so what they refuse
 pub unreachable-requires : goal.unreachable-requires
 unreachable-requires c =
-    let kept = drawn-accounts c.args.v.now c.next_password-fresh.new.self c.next_password-fresh.ensures.now in
+    let kept = drawn-accounts c.args.volume.now c.next_password-fresh.new.self c.next_password-fresh.ensures.now in
     let accepted = c.in-None.ensures.may.accepted in
     let again = ap (λ (accounts : List AccRow). bank.opening_refusal accounts c.args.account c.args.password c.args.amount) kept in
     let refused = c.in-Err.ensures.refusal in
@@ -25,7 +25,7 @@ unreachable-requires c =
 pub returns-in-Ok : goal.returns-in-Ok
 returns-in-Ok c =
     call_made _ _ _ _ _ (λ no. no) tt (λ image spelled formed.
-    let v = c.args.v.now in
+    let v = c.args.volume.now in
     let mid = c.next_password-fresh.new.self in
     let told = now_accounts v image in
     let kept = drawn-accounts v mid c.next_password-fresh.ensures.now in

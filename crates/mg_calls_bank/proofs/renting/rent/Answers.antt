@@ -26,18 +26,18 @@ begin-requires-clause-fewer_than_160_staged c = let few = c.requires.at_most_143
 pub returns-in-Ok : goal.returns-in-Ok
 returns-in-Ok c =
     call_made _ _ _ _ _ (λ no. no) tt (λ image spelled formed.
-    let v = c.args.v.now in
+    let v = c.args.volume.now in
     let mid = c.collect.new.self in
     let few = few-owed v image formed in
     let early = ap (λ p. p == period_limit) c.period-next.ensures.period ∙ c.in-Ok.ensures.refusal in
-    let now = rented-now (now_of v image) (now_of mid image) (now_of c.begin.new.v image) (counters_in v) (counters_in mid) (accounts_in mid) (c.period-next.result + 1) (c.in-Ok.ensures.now image) (c.in-Ok.ensures.accounts few image)
+    let now = rented-now (now_of v image) (now_of mid image) (now_of c.begin.new.volume image) (counters_in v) (counters_in mid) (accounts_in mid) (c.period-next.result + 1) (c.in-Ok.ensures.now image) (c.in-Ok.ensures.accounts few image)
     (same-counters v mid c.in-Ok.ensures.now) (ap (λ p. p + 1) c.period-next.ensures.period) (c.begin.ensures.now image) in
-    rent-done (now_of v image) (now_of c.begin.new.v image) (counters_in v) c.period-next.result c.rate-rate.result c.in-Ok.paid (sym (now_counters v image)) c.period-next.ensures.period early
+    rent-done (now_of v image) (now_of c.begin.new.volume image) (counters_in v) c.period-next.result c.rate-rate.result c.in-Ok.paid (sym (now_counters v image)) c.period-next.ensures.period early
     (c.rate-rate.ensures.rate image) (c.in-Ok.ensures.paid few image) now) (stages_then 16 1 _ _ _ c.in-Ok.ensures.stages c.begin.ensures.stages)
 
 pub returns-in-Err : goal.returns-in-Err
 returns-in-Err c =
-    let v = c.args.v.now in
+    let v = c.args.volume.now in
     let refusal = c.in-Err.ensures.refusal in
     let last = ap (λ p. p == period_limit) c.period-next.ensures.period ∙ refusal.1 in
     let P : VolumeHeld → Type 0 = λ w. CallStages (Answers (λ state. rent state)) 17 v w (No c.in-Err.word) in

@@ -15,13 +15,13 @@ returns-in-Some-clause-via g c =
     let (thread, lives, is) = c.in-Some.ensures.found in
     IfOk-weaker c.list_among.result _ _
     (λ via under image told.
-    let state = now_of c.args.v.now image in
-    let slots : c.slots.result.now ≡ domain_of state c.args.t =
-    c.slots.ensures ∙ sym (ap (λ (o : Option CallFrame). option_map_or (λ (frame : CallFrame). frame.slots) o []) is) ∙ ap (λ (o : Option Thread). option_map_or (λ (x : Thread). last_slots x.row.frames) o []) (sym (told_thread c.args.v.now image c.args.t (Some thread) lives)) in
+    let state = now_of c.args.volume.now image in
+    let slots : c.slots.result.now ≡ domain_of state c.args.thread =
+    c.slots.ensures ∙ sym (ap (λ (o : Option CallFrame). option_map_or (λ (frame : CallFrame). frame.slots) o []) is) ∙ ap (λ (o : Option Thread). option_map_or (λ (x : Thread). last_slots x.row.frames) o []) (sym (told_thread c.args.volume.now image c.args.thread (Some thread) lives)) in
     subst (λ slots. MatchOption via (list_any (λ slot. slot_opens state c.args.sought.now slot) slots ≡ false) (λ via. IsOpenedBy state c.args.sought.now slots via)) slots (under image told))
     c.list_among.ensures.via
 
 pub returns-in-None-clause-via : goal.returns-in-None-clause-via
 returns-in-None-clause-via g c image told =
-    let state = now_of c.args.v.now image in
-    ap (λ (o : Option Thread). list_any (λ slot. slot_opens state c.args.sought.now slot) (option_map_or (λ (x : Thread). last_slots x.row.frames) o [])) (told_thread c.args.v.now image c.args.t None c.in-None.ensures.found)
+    let state = now_of c.args.volume.now image in
+    ap (λ (o : Option Thread). list_any (λ slot. slot_opens state c.args.sought.now slot) (option_map_or (λ (x : Thread). last_slots x.row.frames) o [])) (told_thread c.args.volume.now image c.args.thread None c.in-None.ensures.found)

@@ -10,9 +10,9 @@ use Rattle.mg_calls_dom.proofs.lists.list_opens.Given as goal
 -- no entry before this one opens the object
 abbrev pub invariant-loop-j : goal.invariant-loop-j
 invariant-loop-j g l = record {
-  reads : Reads g.D.Disk l.fn.v l.v l.fn.disk l.disk l.fn.steps l.steps;
+  reads : Reads g.D.Disk l.fn.volume l.volume l.fn.disk l.disk l.fn.steps l.steps;
   few : l.steps ≤ l.fn.steps + 1 + 2 * l.j;
   rest : ForSome (g.D.Disk.seen l.fn.disk) (λ image.
-      list_any (λ entry. opens l.sought entry) (entries_of (words_based (now_of l.fn.v image).objects l.list))
-      ≡ list_any (λ entry. opens l.sought entry) (entries_from (words_based (now_of l.fn.v image).objects l.list) l.j (l.count - l.j)));
+      list_any (λ entry. opens l.sought entry) (entries_of (words_based (now_of l.fn.volume image).objects l.list))
+      ≡ list_any (λ entry. opens l.sought entry) (entries_from (words_based (now_of l.fn.volume image).objects l.list) l.j (l.count - l.j)));
 }

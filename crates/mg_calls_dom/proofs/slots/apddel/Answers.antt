@@ -15,8 +15,8 @@ use Rattle.mg_calls_dom.proofs.slots.apddel.Goals as goal
 pub returns-in-Ok-clause-does : goal.returns-in-Ok-clause-does
 returns-in-Ok-clause-does c =
     call_made _ _ _ _ _ (λ no. no) tt (λ image spelled formed.
-    let v = c.args.v.now in
-    let t = c.args.t in
+    let v = c.args.volume.now in
+    let t = c.args.thread in
     let row = c.row_of-row.result in
     let slots = take c.args.index (last_slots row.frames) ++ drop (suc c.args.index) (last_slots row.frames) in
     let now = c.change_thread.ensures.now (slotted slots) (change-gives (find (λ (thread : Thread). thread.number == t) (threads_in v)) row c.drop_slot.new.r (slotted slots) c.row_of-row.ensures (sym c.in-Ok.ensures.row)) image in
@@ -26,16 +26,16 @@ returns-in-Ok-clause-does c =
 pub returns-in-Err-clause-does : goal.returns-in-Err-clause-does
 returns-in-Err-clause-does c =
     call_refused _ _ _ _ (λ image spelled formed.
-    let v = c.args.v.now in
+    let v = c.args.volume.now in
     let row = c.row_of-row.result in
-    apddel-is (now_of v image) c.args.t row (told-row v image c.args.t row c.row_of-row.ensures) c.args.index (Some c.in-Err.word) c.in-Err.ensures.refusal)
+    apddel-is (now_of v image) c.args.thread row (told-row v image c.args.thread row c.row_of-row.ensures) c.args.index (Some c.in-Err.word) c.in-Err.ensures.refusal)
 
 pub returns-in-Ok-clause-backed : goal.returns-in-Ok-clause-backed
 returns-in-Ok-clause-backed c =
     let made = call.Apddel c.args.index in
-    drops_stay (λ state. apddel state c.args.t c.args.index) _ _ _ _ _ _ _ (λ state formed. c.steps_keep_backing.ensures.calls state c.args.t made formed) (returns-in-Ok-clause-does c) (search rules)
+    drops_stay (λ state. apddel state c.args.thread c.args.index) _ _ _ _ _ _ _ (λ state formed. c.steps_keep_backing.ensures.calls state c.args.thread made formed) (returns-in-Ok-clause-does c) (search rules)
 
 pub returns-in-Err-clause-backed : goal.returns-in-Err-clause-backed
 returns-in-Err-clause-backed c =
     let made = call.Apddel c.args.index in
-    drops_stay (λ state. apddel state c.args.t c.args.index) _ _ _ _ _ _ _ (λ state formed. c.steps_keep_backing.ensures.calls state c.args.t made formed) (returns-in-Err-clause-does c) (search rules)
+    drops_stay (λ state. apddel state c.args.thread c.args.index) _ _ _ _ _ _ _ (λ state formed. c.steps_keep_backing.ensures.calls state c.args.thread made formed) (returns-in-Err-clause-does c) (search rules)

@@ -11,19 +11,19 @@ use Rattle.mg_volume.specs.RunLemmas.{stages_none, told_thread}
 use Rattle.mg_calls_dom.proofs.slots.apdlist.Goals as goal
 
 pub unreachable-requires : goal.unreachable-requires
-unreachable-requires c = lives-row c.args.t (threads_in c.args.v.now) c.requires.lives (ap (option_map (λ (thread : Thread). thread.row)) c.in-None.ensures.found)
+unreachable-requires c = lives-row c.args.thread (threads_in c.args.volume.now) c.requires.lives (ap (option_map (λ (thread : Thread). thread.row)) c.in-None.ensures.found)
 
 pub returns : goal.returns
 returns c = record {
   answers = λ image spelled formed.
-      let state = now_of c.args.v.now image in
+      let state = now_of c.args.volume.now image in
       let (thread, lives, is) = c.in-Some.ensures.found in
-      let slots : domain_of state c.args.t ≡ c.slots.result.now =
-      ap (λ (o : Option Thread). option_map_or (λ (x : Thread). last_slots x.row.frames) o []) (told_thread c.args.v.now image c.args.t (Some thread) lives)
+      let slots : domain_of state c.args.thread ≡ c.slots.result.now =
+      ap (λ (o : Option Thread). option_map_or (λ (x : Thread). last_slots x.row.frames) o []) (told_thread c.args.volume.now image c.args.thread (Some thread) lives)
       ∙ ap (λ (o : Option CallFrame). option_map_or (λ (frame : CallFrame). frame.slots) o []) is
       ∙ sym c.slots.ensures in
       ap (λ (slots : List Slot). (state, Slots (length slots) (map (λ (slot : Slot). slot.base) slots ++ replicate (8 - length slots) 0))) slots ∙ ap (λ reply. (state, reply)) (sym c.listed.ensures);
-  stages = stages_none 0 c.args.v.now;
+  stages = stages_none 0 c.args.volume.now;
   refused = search rules;
   slots = search rules;
 }

@@ -11,13 +11,13 @@ use Rattle.mg_calls_obj.proofs.altering.recharge_by_row.Goals as goal
 pub returns-in-Some : goal.returns-in-Some
 returns-in-Some c =
     call_refused _ _ _ _ (λ image t a spelled formed named may.
-    let v = c.args.v.now in
+    let v = c.args.volume.now in
     recharge-is (now_of v image) t a c.args.object named may v c.args.account c.args.password (Some c.in-Some.word) (now_accounts v image) (sym c.in-Some.is ∙ c.paying_refusal.ensures.word))
 
 pub returns-in-None : goal.returns-in-None
 returns-in-None c =
     call_made _ _ _ _ _ (λ no. no) tt (λ image t a spelled formed named may.
-    let v = c.args.v.now in
+    let v = c.args.volume.now in
     let state = now_of v image in
     let object : ObjectRow = c.args.object in
     let account = c.args.account in

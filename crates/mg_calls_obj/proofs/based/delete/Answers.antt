@@ -5,4 +5,4 @@ use Rattle.mg_calls_obj.proofs.based.delete.Goals as goal
 pub returns-clause-backed : goal.returns-clause-backed
 returns-clause-backed c =
     let object : ObjectRow = c.object_at-object.result in
-    others_stay object.base c.args.v.now c.delete_by_row.new.v c.args.c.now c.delete_by_row.new.c c.delete_by_row.result c.delete_by_row.ensures.others c.delete_by_row.ensures.does.refused c.delete_by_row.ensures.seats
+    others_stay object.base c.args.volume.now c.delete_by_row.new.volume c.args.cache.now c.delete_by_row.new.cache c.delete_by_row.result c.delete_by_row.ensures.others c.delete_by_row.ensures.does.refused c.delete_by_row.ensures.seats

@@ -19,12 +19,12 @@ rights = R ∷ W ∷ X ∷ D ∷ P ∷ O ∷ []
 -- no right before this one is given, and their searches kept nothing
 abbrev pub invariant-loop-right : goal.invariant-loop-right
 invariant-loop-right g l = record {
-  reads : Reads g.D.Disk l.fn.v l.v l.fn.disk l.disk l.fn.steps l.steps;
-  same : l.c ≡ l.fn.c;
-  nobody : find (λ (thread : Thread). thread.number == l.fn.t) (threads_in l.fn.v) ≡ None → l.steps ≡ l.fn.steps;
+  reads : Reads g.D.Disk l.fn.volume l.volume l.fn.disk l.disk l.fn.steps l.steps;
+  same : l.cache ≡ l.fn.cache;
+  nobody : find (λ (thread : Thread). thread.number == l.fn.thread) (threads_in l.fn.volume) ≡ None → l.steps ≡ l.fn.steps;
   rest : ForSome (g.D.Disk.seen l.fn.disk) (λ image.
-      list_any (λ right. allowed (now_of l.fn.v image) l.fn.t l.fn.a right) rights ≡ list_any (λ right. allowed (now_of l.fn.v image) l.fn.t l.fn.a right) (drop l.right-index rights));
-  tries : ForSome (g.D.Disk.seen l.fn.disk) (λ image. Tries (now_of l.fn.v image) l.fn.t l.fn.a rights l.right-index);
+      list_any (λ right. allowed (now_of l.fn.volume image) l.fn.thread l.fn.address right) rights ≡ list_any (λ right. allowed (now_of l.fn.volume image) l.fn.thread l.fn.address right) (drop l.right-index rights));
+  tries : ForSome (g.D.Disk.seen l.fn.disk) (λ image. Tries (now_of l.fn.volume image) l.fn.thread l.fn.address rights l.right-index);
   searches : ForSome (g.D.Disk.seen l.fn.disk) (λ image.
-      Searches (now_of l.fn.v image) (λ key. is_kept l.fn.c key) (map (of (now_of l.fn.v image) l.fn.t l.fn.a) (take l.right-index rights)) (λ key. is_kept l.fn.c key) (l.steps - l.fn.steps));
+      Searches (now_of l.fn.volume image) (λ key. is_kept l.fn.cache key) (map (of (now_of l.fn.volume image) l.fn.thread l.fn.address) (take l.right-index rights)) (λ key. is_kept l.fn.cache key) (l.steps - l.fn.steps));
 }

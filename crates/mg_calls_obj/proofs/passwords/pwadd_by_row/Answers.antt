@@ -13,20 +13,20 @@ use Rattle.mg_calls_obj.proofs.passwords.pwadd_by_row.Goals as goal
 pub returns-then-is_past : goal.returns-then-is_past
 returns-then-is_past c =
     call_refused _ _ _ _ (λ image t a spelled formed named may.
-    let state = now_of c.args.v.now image in
+    let state = now_of c.args.volume.now image in
     let object : ObjectRow = c.args.object in
     let until = c.args.until in
-    let counters = now_counters c.args.v.now image ∙ sym c.globals-globals.ensures in
+    let counters = now_counters c.args.volume.now image ∙ sym c.globals-globals.ensures in
     let past : is_past state.counters.period until ≡ true = ap (λ (k : Counters). is_past k.period until) counters ∙ ap (λ p. is_past p until) (sym c.period.ensures) ∙ sym c.is_past.ensures ∙ c.if-is_past.true in
     pwadd-is state t a object named may c.args.rights until true (nat_le password_limit (length object.passwords) || all_drawn state) past refl)
 
 pub returns-then-is_full : goal.returns-then-is_full
 returns-then-is_full c =
     call_refused _ _ _ _ (λ image t a spelled formed named may.
-    let state = now_of c.args.v.now image in
+    let state = now_of c.args.volume.now image in
     let object : ObjectRow = c.args.object in
     let until = c.args.until in
-    let counters = now_counters c.args.v.now image ∙ sym c.globals-globals.ensures in
+    let counters = now_counters c.args.volume.now image ∙ sym c.globals-globals.ensures in
     let past : is_past state.counters.period until ≡ false = ap (λ (k : Counters). is_past k.period until) counters ∙ ap (λ p. is_past p until) (sym c.period.ensures) ∙ sym c.is_past.ensures ∙ c.if-is_past.false in
     let full : (nat_le password_limit (length object.passwords) || all_drawn state) ≡ true =
     ap (λ (k : Counters). nat_le password_limit (length object.passwords) || nat_le draw_limit k.draws) counters ∙ sym c.is_full.ensures ∙ c.if-is_full.true in
@@ -35,7 +35,7 @@ returns-then-is_full c =
 pub returns : goal.returns
 returns c =
     call_made _ _ _ _ _ (λ no. no) tt (λ image t a spelled formed named may.
-    let v = c.args.v.now in
+    let v = c.args.volume.now in
     let mid = c.next_password-password.new.self in
     let state = now_of v image in
     let object : ObjectRow = c.args.object in

@@ -20,13 +20,13 @@ was_there false x is = cc
 pub returns-in-Ok-clause-does : goal.returns-in-Ok-clause-does
 returns-in-Ok-clause-does c =
     call_made _ _ _ _ _ (λ no. no) tt (λ image t a spelled formed named may.
-    let state = now_of c.args.v.now image in
+    let state = now_of c.args.volume.now image in
     let object : ObjectRow = c.args.object in
     let new : ObjectRow = c.remove.new.r in
     let password = c.args.password in
     let has : list_any (λ pw. has_password password pw) object.passwords ≡ true = was_there (list_any (λ pw. has_password password pw) object.passwords) c.in-Ok.field-0 c.in-Ok.ensures.refused in
     let base : new.base ≡ object.base = ap (λ (r : ObjectRow). r.base) c.remove.ensures.list in
-    let rows = objects_in c.args.v.now in
+    let rows = objects_in c.args.volume.now in
     let now = c.change.ensures.now (without_password password) (change_gives rows rows object new refl c.requires.held base (without_password password) (sym c.remove.ensures.list)) image in
     pwdel-is state t a object named may password true has ∙ staged-is state (now_of c.change.new.self image) object new (without_password password) Done base now) (search rules)
 
@@ -36,9 +36,9 @@ returns-in-Ok-clause-others c = λ image.
     let new : ObjectRow = c.remove.new.r in
     let password = c.args.password in
     let base : new.base ≡ object.base = ap (λ (r : ObjectRow). r.base) c.remove.ensures.list in
-    let rows = objects_in c.args.v.now in
+    let rows = objects_in c.args.volume.now in
     let now = c.change.ensures.now (without_password password) (change_gives rows rows object new refl c.requires.held base (without_password password) (sym c.remove.ensures.list)) image in
-    change_keeps c.objects_end_their_own_seats.ensures.changed (now_of c.args.v.now image) (now_of c.change.new.self image) new.base object.base (without_password password) (λ row. refl) base now
+    change_keeps c.objects_end_their_own_seats.ensures.changed (now_of c.args.volume.now image) (now_of c.change.new.self image) new.base object.base (without_password password) (λ row. refl) base now
 
 pub returns-in-Err-clause-others : goal.returns-in-Err-clause-others
 returns-in-Err-clause-others c = λ image seat stays backed. backed
@@ -54,5 +54,5 @@ returns-in-Err-clause-does c =
     let password = c.args.password in
     let object : ObjectRow = c.args.object in
     let missing = was_missing (list_any (λ pw. has_password password pw) object.passwords) c.in-Err.word c.in-Err.ensures.refused in
-    let state = now_of c.args.v.now image in
+    let state = now_of c.args.volume.now image in
     pwdel-is state t a object named may password false missing.0 ∙ ap (λ word. (state, No word)) (sym missing.1))

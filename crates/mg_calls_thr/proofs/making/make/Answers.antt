@@ -12,9 +12,9 @@ use Rattle.mg_calls_thr.proofs.making.make.Goals as goal
 pub returns-in-Some : goal.returns-in-Some
 returns-in-Some c =
     call_made _ _ _ _ _ (λ no. no) tt (λ image spelled formed may.
-    let v = c.args.v.now in
+    let v = c.args.volume.now in
     let state = now_of v image in
-    let t = c.args.t in
+    let t = c.args.thread in
     let pc = c.args.pc in
     let counters = counters_in v in
     let maker = c.row_of.result in
@@ -33,5 +33,5 @@ returns-in-Some c =
 pub returns-in-None : goal.returns-in-None
 returns-in-None c =
     call_refused _ _ _ _ (λ image spelled formed may.
-    let v = c.args.v.now in
-    make-full (now_of v image) c.args.t c.args.pc (threads_in v) (counters_in v) (now_threads v image) (now_counters v image) may c.in-None.ensures.number)
+    let v = c.args.volume.now in
+    make-full (now_of v image) c.args.thread c.args.pc (threads_in v) (counters_in v) (now_threads v image) (now_counters v image) may c.in-None.ensures.number)

@@ -22,40 +22,40 @@ use Rattle.mg_calls_thr.proofs.making.validated_make.Goals as goal
 
 pub make-requires-clause-lives : goal.make-requires-clause-lives
 make-requires-clause-lives g c =
-    ap (λ threads. list_any (λ (thread : Thread). thread.number == c.args.t) threads) (same_threads c.args.v.now c.word_object.new.v c.word_object.ensures.reads.keeps) ∙ c.requires.lives
+    ap (λ threads. list_any (λ (thread : Thread). thread.number == c.args.thread) threads) (same_threads c.args.volume.now c.word_object.new.volume c.word_object.ensures.finds.reads.keeps) ∙ c.requires.lives
 
 pub returns-in-Ok : goal.returns-in-Ok
 returns-in-Ok g c =
-    let answers : ForSome (g.D.Disk.seen c.args.disk.now) (λ image. make_thread (now_of c.args.v.now image) c.args.t c.args.pc ≡ (now_of c.make.new.v image, c.make.result)) = λ image told.
-    let same = c.word_object.ensures.reads.keeps.now image in
-    let sound = c.word_object.ensures.reads.sound c.requires.sound in
+    let answers : ForSome (g.D.Disk.seen c.args.disk.now) (λ image. make_thread (now_of c.args.volume.now image) c.args.thread c.args.pc ≡ (now_of c.make.new.volume image, c.make.result)) = λ image told.
+    let same = c.word_object.ensures.finds.reads.keeps.now image in
+    let sound = c.word_object.ensures.finds.reads.sound c.requires.sound in
     let refusal = rw c.in-Ok.is at (c.in_ok-word_object.ensures.refusal image told) in
-    ap (λ s. make_thread s c.args.t c.args.pc) (sym same)
-    ∙ c.make.ensures.answers image (sound.stands.fits image (c.word_object.ensures.reads.writes.same ∙ told)) (subst IsWellFormed (sym same) (c.requires.sound.formed image told)) (ap (λ s. access_refusal s c.args.t c.args.pc X) same ∙ refusal) in
+    ap (λ s. make_thread s c.args.thread c.args.pc) (sym same)
+    ∙ c.make.ensures.answers image (sound.stands.fits image (c.word_object.ensures.finds.reads.writes.same ∙ told)) (subst IsWellFormed (sym same) (c.requires.sound.formed image told)) (ap (λ s. access_refusal s c.args.thread c.args.pc X) same ∙ refusal) in
     record {
       answers = answers;
-      refused = λ refused. ap staged_of (c.make.ensures.refused refused) ∙ c.word_object.ensures.reads.keeps.staged;
+      refused = λ refused. ap staged_of (c.make.ensures.refused refused) ∙ c.word_object.ensures.finds.reads.keeps.staged;
       failed = search rules;
       slots = c.make.ensures.slots;
       backed = λ image told.
-          making-backed (now_of c.args.v.now image) c.args.t c.args.pc (now_of c.make.new.v image) c.make.result c.word_object.new.c (answers image told) (c.requires.sound.formed image told) c.steps_keep_backing.ensures.calls
-          (subst (λ s. AllBacked s c.word_object.new.c) (c.word_object.ensures.reads.keeps.now image) (c.word_object.ensures.backed image told));
+          making-backed (now_of c.args.volume.now image) c.args.thread c.args.pc (now_of c.make.new.volume image) c.make.result c.word_object.new.cache (answers image told) (c.requires.sound.formed image told) c.steps_keep_backing.ensures.calls
+          (subst (λ s. AllBacked s c.word_object.new.cache) (c.word_object.ensures.finds.reads.keeps.now image) (c.word_object.ensures.finds.backed image told));
       keeps = λ image told.
-          let state = now_of c.args.v.now image in
-          let line : Line = record { thread = c.args.t; call = call.Thread c.args.pc } in
-          let own = no-words state c.args.t c.args.pc in
-          let (n, rose, words) = c.word_object.ensures.reads.counted in
-          keeps_line state line (λ key. is_kept c.args.c.now key) (λ key. is_kept c.word_object.new.c key) c.args.steps.now c.word_object.new.steps (c.word_object.new.steps - c.args.steps.now) (c.in_ok-word_object.ensures.rules image told) (omega arith);
+          let state = now_of c.args.volume.now image in
+          let line : Line = record { thread = c.args.thread; call = call.Thread c.args.pc } in
+          let own = no-words state c.args.thread c.args.pc in
+          let (n, rose, words) = c.word_object.ensures.finds.reads.counted in
+          keeps_line state line (λ key. is_kept c.args.cache.now key) (λ key. is_kept c.word_object.new.cache key) c.args.steps.now c.word_object.new.steps (c.word_object.new.steps - c.args.steps.now) (c.in_ok-word_object.ensures.finds.rules image told) (omega arith);
       limit = λ image told.
-          limit_line (now_of c.args.v.now image) (record { thread = c.args.t; call = call.Thread c.args.pc }) (λ key. is_kept c.args.c.now key) c.args.steps.now c.word_object.new.steps (c.word_object.ensures.limit image told);
-      serves = then_stages g.D.Disk 2 c.args.v.now c.word_object.new.v c.make.new.v c.args.disk.now c.word_object.new.disk c.args.steps.now c.word_object.new.steps c.word_object.ensures.reads c.make.ensures.stages;
+          limit_line (now_of c.args.volume.now image) (record { thread = c.args.thread; call = call.Thread c.args.pc }) (λ key. is_kept c.args.cache.now key) c.args.steps.now c.word_object.new.steps (c.word_object.ensures.finds.limit image told);
+      serves = then_stages g.D.Disk 2 c.args.volume.now c.word_object.new.volume c.make.new.volume c.args.disk.now c.word_object.new.disk c.args.steps.now c.word_object.new.steps c.word_object.ensures.finds.reads c.make.ensures.stages;
       cause = search rules;
     }
 
 pub returns-in-Err : goal.returns-in-Err
 returns-in-Err g c =
     let made = call.Thread c.args.pc in
-    reads_serves g.D.Disk c.args.v.now c.word_object.new.v c.args.c.now c.word_object.new.c c.args.disk.now c.word_object.new.disk c.args.steps.now c.word_object.new.steps 2 (of_call c.args.t made) _
-    (read_call g.D.Disk c.args.v.now c.word_object.new.v c.args.c.now c.word_object.new.c c.args.disk.now c.word_object.new.disk c.args.steps.now c.word_object.new.steps c.args.t made (No c.in-Err.word) tt
-    (λ image told. make-denied (now_of c.args.v.now image) c.args.t c.args.pc c.in-Err.word (rw c.in-Err.is at (c.in_ok-word_object.ensures.refusal image told)))
-    c.word_object.ensures.backed c.in_ok-word_object.ensures.rules (λ image told. no-words (now_of c.args.v.now image) c.args.t c.args.pc) c.word_object.ensures.reads)
+    reads_serves g.D.Disk c.args.volume.now c.word_object.new.volume c.args.cache.now c.word_object.new.cache c.args.disk.now c.word_object.new.disk c.args.steps.now c.word_object.new.steps 2 (of_call c.args.thread made) _
+    (read_call g.D.Disk c.args.volume.now c.word_object.new.volume c.args.cache.now c.word_object.new.cache c.args.disk.now c.word_object.new.disk c.args.steps.now c.word_object.new.steps c.args.thread made (No c.in-Err.word) tt
+    (λ image told. make-denied (now_of c.args.volume.now image) c.args.thread c.args.pc c.in-Err.word (rw c.in-Err.is at (c.in_ok-word_object.ensures.refusal image told)))
+    c.word_object.ensures.finds.backed c.in_ok-word_object.ensures.finds.rules (λ image told. no-words (now_of c.args.volume.now image) c.args.thread c.args.pc) c.word_object.ensures.finds.reads)

@@ -12,23 +12,23 @@ use Rattle.mg_kernel.proofs.turning.turn.Goals as goal
 
 pub run-requires-clause-ready : goal.run-requires-clause-ready
 run-requires-clause-ready g c image told =
-    row-ready (now_of c.args.v.now image) c.args.t c.in-Some.row.now c.in-Some.row.now.state (row-told c.args.v.now c.args.t c.in-Some.row.now c.in-Some.ensures.found image) refl ∙ sym c.takes_turns.ensures ∙ c.if-not-takes_turns.false
+    row-ready (now_of c.args.volume.now image) c.args.thread c.in-Some.row.now c.in-Some.row.now.state (row-told c.args.volume.now c.args.thread c.in-Some.row.now c.in-Some.ensures.found image) refl ∙ sym c.takes_turns.ensures ∙ c.if-not-takes_turns.false
 
 pub returns-then-not-takes_turns : goal.returns-then-not-takes_turns
 returns-then-not-takes_turns g c = record {
   answers = λ image told.
-      let state = now_of c.args.v.now image in
-      let there = row-told c.args.v.now c.args.t c.in-Some.row.now c.in-Some.ensures.found image in
-      turn-refused state c.args.t (row-thread c.args.v.now c.args.t c.in-Some.row.now c.in-Some.ensures.found image)
-      (row-ready state c.args.t c.in-Some.row.now c.in-Some.row.now.state there refl ∙ sym c.takes_turns.ensures ∙ c.if-not-takes_turns.true);
+      let state = now_of c.args.volume.now image in
+      let there = row-told c.args.volume.now c.args.thread c.in-Some.row.now c.in-Some.ensures.found image in
+      turn-refused state c.args.thread (row-thread c.args.volume.now c.args.thread c.in-Some.row.now c.in-Some.ensures.found image)
+      (row-ready state c.args.thread c.in-Some.row.now c.in-Some.row.now.state there refl ∙ sym c.takes_turns.ensures ∙ c.if-not-takes_turns.true);
   refused = search rules;
   failed = search rules;
   slots = search rules;
   backed = search rules;
   keeps = λ image told.
-      let state = now_of c.args.v.now image in
-      let there = row-told c.args.v.now c.args.t c.in-Some.row.now c.in-Some.ensures.found image in
-      unready-turn state c.args.t (λ key. is_kept c.args.c.now key) c.args.steps.now (row-ready state c.args.t c.in-Some.row.now c.in-Some.row.now.state there refl ∙ sym c.takes_turns.ensures ∙ c.if-not-takes_turns.true);
+      let state = now_of c.args.volume.now image in
+      let there = row-told c.args.volume.now c.args.thread c.in-Some.row.now c.in-Some.ensures.found image in
+      unready-turn state c.args.thread (λ key. is_kept c.args.cache.now key) c.args.steps.now (row-ready state c.args.thread c.in-Some.row.now c.in-Some.row.now.state there refl ∙ sym c.takes_turns.ensures ∙ c.if-not-takes_turns.true);
   limit = search rules;
   serves = search rules;
   cause = search rules;
@@ -37,23 +37,23 @@ returns-then-not-takes_turns g c = record {
 pub returns-in-Ok : goal.returns-in-Ok
 returns-in-Ok g c = record {
   answers = λ image told.
-      let state = now_of c.args.v.now image in
-      let there = row-told c.args.v.now c.args.t c.in-Some.row.now c.in-Some.ensures.found image in
-      turn-ready state c.args.t (row-thread c.args.v.now c.args.t c.in-Some.row.now c.in-Some.ensures.found image) (now_of c.run.new.v image) c.in-Ok.left (row-ready state c.args.t c.in-Some.row.now c.in-Some.row.now.state there refl ∙ sym c.takes_turns.ensures ∙ c.if-not-takes_turns.false)
+      let state = now_of c.args.volume.now image in
+      let there = row-told c.args.volume.now c.args.thread c.in-Some.row.now c.in-Some.ensures.found image in
+      turn-ready state c.args.thread (row-thread c.args.volume.now c.args.thread c.in-Some.row.now c.in-Some.ensures.found image) (now_of c.run.new.volume image) c.in-Ok.left (row-ready state c.args.thread c.in-Some.row.now c.in-Some.row.now.state there refl ∙ sym c.takes_turns.ensures ∙ c.if-not-takes_turns.false)
       (c.in-Ok.ensures.state image told) (c.in-Ok.ensures.left image told);
   refused = search rules;
   failed = search rules;
   slots = search rules;
   backed = search rules;
   keeps = λ image told.
-      let state = now_of c.args.v.now image in
-      let there = row-told c.args.v.now c.args.t c.in-Some.row.now c.in-Some.ensures.found image in
-      turn-line state c.args.t (record { number = c.args.t; row = c.in-Some.row.now }) (row-found state c.args.t c.in-Some.row.now there) (row-ready state c.args.t c.in-Some.row.now c.in-Some.row.now.state there refl ∙ sym c.takes_turns.ensures ∙ c.if-not-takes_turns.false) (λ key. is_kept c.args.c.now key) (λ key. is_kept c.run.new.c key) c.args.steps.now c.run.new.steps
+      let state = now_of c.args.volume.now image in
+      let there = row-told c.args.volume.now c.args.thread c.in-Some.row.now c.in-Some.ensures.found image in
+      turn-line state c.args.thread (record { number = c.args.thread; row = c.in-Some.row.now }) (row-found state c.args.thread c.in-Some.row.now there) (row-ready state c.args.thread c.in-Some.row.now c.in-Some.row.now.state there refl ∙ sym c.takes_turns.ensures ∙ c.if-not-takes_turns.false) (λ key. is_kept c.args.cache.now key) (λ key. is_kept c.run.new.cache key) c.args.steps.now c.run.new.steps
       (c.in-Ok.ensures.keeps c.in-Some.row.now c.in-Some.ensures.found image told);
   limit = λ image told.
-      let state = now_of c.args.v.now image in
-      let there = row-told c.args.v.now c.args.t c.in-Some.row.now c.in-Some.ensures.found image in
-      turn-within state c.args.t (record { number = c.args.t; row = c.in-Some.row.now }) (row-found state c.args.t c.in-Some.row.now there) (row-ready state c.args.t c.in-Some.row.now c.in-Some.row.now.state there refl ∙ sym c.takes_turns.ensures ∙ c.if-not-takes_turns.false) (λ key. is_kept c.args.c.now key) c.args.steps.now c.run.new.steps
+      let state = now_of c.args.volume.now image in
+      let there = row-told c.args.volume.now c.args.thread c.in-Some.row.now c.in-Some.ensures.found image in
+      turn-within state c.args.thread (record { number = c.args.thread; row = c.in-Some.row.now }) (row-found state c.args.thread c.in-Some.row.now there) (row-ready state c.args.thread c.in-Some.row.now c.in-Some.row.now.state there refl ∙ sym c.takes_turns.ensures ∙ c.if-not-takes_turns.false) (λ key. is_kept c.args.cache.now key) c.args.steps.now c.run.new.steps
       (c.run.ensures.limit c.in-Some.row.now c.in-Some.ensures.found image told);
   serves = search rules;
   cause = search rules;
@@ -68,9 +68,9 @@ returns-in-Err g c = record {
   backed = search rules;
   keeps = search rules;
   limit = λ image told.
-      let state = now_of c.args.v.now image in
-      let there = row-told c.args.v.now c.args.t c.in-Some.row.now c.in-Some.ensures.found image in
-      turn-within state c.args.t (record { number = c.args.t; row = c.in-Some.row.now }) (row-found state c.args.t c.in-Some.row.now there) (row-ready state c.args.t c.in-Some.row.now c.in-Some.row.now.state there refl ∙ sym c.takes_turns.ensures ∙ c.if-not-takes_turns.false) (λ key. is_kept c.args.c.now key) c.args.steps.now c.run.new.steps
+      let state = now_of c.args.volume.now image in
+      let there = row-told c.args.volume.now c.args.thread c.in-Some.row.now c.in-Some.ensures.found image in
+      turn-within state c.args.thread (record { number = c.args.thread; row = c.in-Some.row.now }) (row-found state c.args.thread c.in-Some.row.now there) (row-ready state c.args.thread c.in-Some.row.now c.in-Some.row.now.state there refl ∙ sym c.takes_turns.ensures ∙ c.if-not-takes_turns.false) (λ key. is_kept c.args.cache.now key) c.args.steps.now c.run.new.steps
       (c.run.ensures.limit c.in-Some.row.now c.in-Some.ensures.found image told);
   serves = search rules;
   cause = search rules;
@@ -79,18 +79,18 @@ returns-in-Err g c = record {
 pub returns-in-None : goal.returns-in-None
 returns-in-None g c = record {
   answers = λ image told.
-      gone c.args.v.now image c.args.t (turn (now_of c.args.v.now image) c.args.t) (unmapped (find (λ (thread : Thread). thread.number == c.args.t) (threads_in c.args.v.now)) c.in-None.ensures.found);
+      gone c.args.volume.now image c.args.thread (turn (now_of c.args.volume.now image) c.args.thread) (unmapped (find (λ (thread : Thread). thread.number == c.args.thread) (threads_in c.args.volume.now)) c.in-None.ensures.found);
   refused = search rules;
   failed = search rules;
   slots = search rules;
   backed = search rules;
   keeps = λ image told.
-      gone-turn (now_of c.args.v.now image) c.args.t (λ key. is_kept c.args.c.now key) c.args.steps.now
-      (told_thread c.args.v.now image c.args.t _ (unmapped (find (λ (thread : Thread). thread.number == c.args.t) (threads_in c.args.v.now)) c.in-None.ensures.found));
+      gone-turn (now_of c.args.volume.now image) c.args.thread (λ key. is_kept c.args.cache.now key) c.args.steps.now
+      (told_thread c.args.volume.now image c.args.thread _ (unmapped (find (λ (thread : Thread). thread.number == c.args.thread) (threads_in c.args.volume.now)) c.in-None.ensures.found));
   limit = search rules;
   serves = search rules;
   cause = search rules;
 }
 
 pub run-requires-clause-lives : goal.run-requires-clause-lives
-run-requires-clause-lives g c = row-lives c.args.v.now c.args.t c.in-Some.row.now c.in-Some.ensures.found
+run-requires-clause-lives g c = row-lives c.args.volume.now c.args.thread c.in-Some.row.now c.in-Some.ensures.found

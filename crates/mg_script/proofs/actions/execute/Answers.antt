@@ -1,36 +1,17 @@
-use Rattle.std.proofs.Common.{ℕ, ◌≡◌, ◌+◌, ◌%◌, ◌==◌, Bool, true, false, if◌then◌else◌, refl, ap, sym, ◌∙◌}
-use Rattle.mg_model.specs.declared.instructions.Instr.{Instr}
+use Rattle.std.proofs.Common.{ap, sym, subst, ◌∙◌}
 use Rattle.mg_model.specs.Abbreviations.{advanced}
-use Rattle.mg_model.specs.Script.{jump_by, jumped, register, word_end}
-use Rattle.mg_model.specs.State.{State, ThreadRow}
-use Rattle.mg_model.specs.Turn.{put_row, run}
 use Rattle.mg_script.specs.declared.actions.Action.{Action}
-use Rattle.mg_script.specs.declared.actions.Action.TheVariants.{Next}
-use Rattle.mg_script.specs.Actions.{finished, standing}
+use Rattle.mg_script.specs.Actions.{HasRegister, OnlyMoves, carried_out}
+use Rattle.mg_script.proofs.Whole.{whole-moves, whole-register, whole-turn}
 use Rattle.mg_script.proofs.actions.execute.Goals as goal
 
--- where a thread stands after a jump, and where it goes on
-abbrev there : ThreadRow → ℕ → ℕ → Action
-there row here i = Next (record (standing row) { pc = (here + jump_by i) % word_end })
+pub returns-clause-turn : goal.returns-clause-turn
+returns-clause-turn c state t =
+    let row = c.args.row.now in
+    c.effect_of.ensures.turn state t ∙ sym (whole-turn state t row c.effect_of.result) ∙ sym (ap (λ (action : Action). carried_out state t (advanced row) action) c.whole.ensures)
 
-jumps_if : (state : State) (t : ℕ) (row : ThreadRow) (here i : ℕ) (v : Bool) → put_row state t (if v then jumped row here i else row) ≡ finished state t row (if v then there row here i else Next (standing row))
-jumps_if state t row here i true = refl
-jumps_if state t row here i false = refl
+pub returns-clause-register : goal.returns-clause-register
+returns-clause-register c = subst HasRegister (sym c.whole.ensures) (whole-register c.args.row.now c.effect_of.result c.effect_of.ensures.place)
 
-jumps_unless : (state : State) (t : ℕ) (row : ThreadRow) (here i : ℕ) (v : Bool) → put_row state t (if v then row else jumped row here i) ≡ finished state t row (if v then Next (standing row) else there row here i)
-jumps_unless state t row here i true = refl
-jumps_unless state t row here i false = refl
-
-pub returns-in-Jz-clause-turn : goal.returns-in-Jz-clause-turn
-returns-in-Jz-clause-turn c state t =
-    let row = advanced c.args.r.now in
-    let here = c.args.r.now.pc in
-    let asked : c.jump_if_zero.result ≡ (if register row c.in-Jz.a == 0 then there row here c.in-Jz.i else Next (standing row)) = cc in
-    ap (λ (i : Instr). run state t here row i) c.in-Jz.is ∙ jumps_if state t row here c.in-Jz.i (register row c.in-Jz.a == 0) ∙ sym (ap (λ (asks : Action). finished state t row asks) asked)
-
-pub returns-in-Jnz-clause-turn : goal.returns-in-Jnz-clause-turn
-returns-in-Jnz-clause-turn c state t =
-    let row = advanced c.args.r.now in
-    let here = c.args.r.now.pc in
-    let asked : c.jump_unless_zero.result ≡ (if register row c.in-Jnz.a == 0 then Next (standing row) else there row here c.in-Jnz.i) = cc in
-    ap (λ (i : Instr). run state t here row i) c.in-Jnz.is ∙ jumps_unless state t row here c.in-Jnz.i (register row c.in-Jnz.a == 0) ∙ sym (ap (λ (asks : Action). finished state t row asks) asked)
+pub returns-clause-moves : goal.returns-clause-moves
+returns-clause-moves c = subst (λ (action : Action). OnlyMoves c.args.row.now action) (sym c.whole.ensures) (whole-moves c.args.row.now c.effect_of.result)

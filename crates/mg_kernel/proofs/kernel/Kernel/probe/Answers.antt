@@ -10,5 +10,5 @@ validate-requires-clause-backed g c = backed-of g.D.Disk c.args.self.now c.args.
 
 pub returns-clause-stands : goal.returns-clause-stands
 returns-clause-stands g c =
-    let after = c.validate.ensures.reads.sound (sound-of g.D.Disk c.args.self.now c.args.disk.now c.requires.stands) in
-    stands-formed g.D.Disk (record { volume = c.validate.new.v; cache = c.validate.new.c }) c.validate.new.disk after.stands after.formed (λ image told. c.validate.ensures.backed image (sym c.validate.ensures.reads.writes.same ∙ told))
+    let after = c.validate.ensures.finds.reads.sound (sound-of g.D.Disk c.args.self.now c.args.disk.now c.requires.stands) in
+    stands-formed g.D.Disk (record { volume = c.validate.new.volume; cache = c.validate.new.cache }) c.validate.new.disk after.stands after.formed (λ image told. c.validate.ensures.finds.backed image (sym c.validate.ensures.finds.reads.writes.same ∙ told))

@@ -11,7 +11,7 @@ answer-requires-clause-backed g c = backed-of g.D.Disk c.args.self.now c.args.di
 pub returns-clause-stands : goal.returns-clause-stands
 returns-clause-stands g c =
     let was = sound-of g.D.Disk c.args.self.now c.args.disk.now c.requires.stands in
-    stands-formed g.D.Disk (record { volume = c.answer.new.v; cache = c.answer.new.c }) c.answer.new.disk c.answer.ensures.serves.stands
-    (step-formed g.D.Disk c.args.self.now.volume c.answer.new.v c.args.disk.now c.answer.new.disk c.args.line.now c.answer.result c.steps_keep_states_well_formed.ensures.kept c.keeps_ranges.ensures c.answer.ensures.serves.writes
+    stands-formed g.D.Disk (record { volume = c.answer.new.volume; cache = c.answer.new.cache }) c.answer.new.disk c.answer.ensures.serves.stands
+    (step-formed g.D.Disk c.args.self.now.volume c.answer.new.volume c.args.disk.now c.answer.new.disk c.args.line.now c.answer.result c.steps_keep_states_well_formed.ensures.kept c.keeps_ranges.ensures c.answer.ensures.serves.writes
     was.formed c.answer.ensures.answers c.answer.ensures.failed)
     (λ image told. c.answer.ensures.backed image (sym c.answer.ensures.serves.writes.same ∙ told))
