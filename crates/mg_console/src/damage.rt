@@ -1,4 +1,4 @@
-// Where a volume is damaged.
+// Says what is damaged in a volume.
 ghost use Rattle.std.specs.Prelude.{◌≡◌, ◌≤◌};
 ghost use Rattle.std.specs.Option.{ForSome};
 ghost use Rattle.mg_disk.specs.Stops.{WritesNothing};
@@ -15,8 +15,8 @@ use mg_model::Params;
 use mg_rows::{account_in, object_in, read_globals, read_thread};
 use std::io::Eprint;
 
-/// Tells what is damaged of a volume with these settings that was refused: its journal, or the first block with a row that is not
-/// well formed, or else a rule between rows. Nothing is told where a read fails, or memory is wanting. It writes nothing.
+/// Says what is damaged in a refused volume with these settings: its journal, or the first block with a row that is not well formed, or
+/// else a rule between rows. It says nothing if a read fails or memory runs out. It writes nothing on the disk.
 pub(crate) fn tell_damage<R: AllocGlobal + Eprint, D: Disk>(
     rt: &R,
     program: &str,
@@ -45,7 +45,7 @@ pub(crate) fn tell_damage<R: AllocGlobal + Eprint, D: Disk>(
     }
 }
 
-/// Tells the first block with a row that is not well formed, or that each one is.
+/// Names the first block with a row that is not well formed, or says that every row is.
 fn tell_rows<R: Eprint, D: Disk>(
     rt: &R,
     program: &str,
@@ -80,7 +80,7 @@ fn tell_rows<R: Eprint, D: Disk>(
     );
 }
 
-/// What lies in a block behind the journal.
+/// What is in a block after the journal.
 fn part_of(i: u64) -> &'static str {
     if i < FIRST_ACCOUNT_BLOCK {
         "the counters"
@@ -95,7 +95,7 @@ fn part_of(i: u64) -> &'static str {
     }
 }
 
-/// Whether each row is well formed that lies in this block behind the journal, of a volume of so many frames.
+/// Whether each row in this block after the journal is well formed, in a volume of `frames` frames.
 fn is_spelled(i: u64, block: &Block, frames: u64) -> bool {
     if i < FIRST_ACCOUNT_BLOCK {
         read_globals(block).is_some()
@@ -128,7 +128,7 @@ fn are_objects(block: &Block) -> bool {
     true
 }
 
-/// Whether a block of the frame table has no entry behind that of the last frame.
+/// Whether a block of the frame table has no entry after that of the last frame.
 fn is_table(i: u64, block: &Block, frames: u64) -> bool {
     let first = i.saturating_mul(BLOCK_WORDS);
     let entries = frames.saturating_sub(first).min(BLOCK_WORDS);

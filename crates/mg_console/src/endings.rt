@@ -1,26 +1,26 @@
-// A line on standard error, and why a file or a stream failed.
+// Lines on standard error: why a file or a stream failed.
 use mg_disk::FileFault;
 use std::fmt;
 use std::fmt::Formatter;
 use std::io::{self, Eprint, ErrorKind};
 
-/// The number that the system gives the error of a stream that is not open.
+/// The system's number for the error of a stream that is not open.
 const NOT_OPEN: i32 = 9;
 
-/// What is told of a write that took less than it was given.
+/// The text for a write that took only a part of its bytes.
 const ONLY_A_PART: &str = "took only a part: the disk may be full";
 
-/// Tells this text.
+/// Prints this text.
 pub fn tell<R: Eprint>(rt: &R, program: &str, text: &str) {
     let _ = eprintln!(rt; "{program}: {text}");
 }
 
-/// Tells this text of a file or a stream.
+/// Prints this text about a file or a stream.
 pub fn tell_of<R: Eprint>(rt: &R, program: &str, what: &str, text: &str) {
     let _ = eprintln!(rt; "{program}: {what}: {text}");
 }
 
-/// Why a call of a file failed, in words that say what to do about it where the system's don't.
+/// Why a call of a file failed. If the system's words don't say what to do about it, these do.
 #[derive(Clone, Copy)]
 pub(crate) struct Cause<'a> {
     fault: &'a FileFault,
@@ -44,7 +44,7 @@ impl<'a> fmt::Display for Cause<'a> {
     }
 }
 
-/// Tells why a call of a file failed, where one did.
+/// Says why a call of a file failed, if one did.
 pub fn tell_fault<R: Eprint>(rt: &R, program: &str, path: &str, fault: Option<&FileFault>) {
     if let Some(fault) = fault {
         let cause = cause_of(fault);
@@ -52,17 +52,17 @@ pub fn tell_fault<R: Eprint>(rt: &R, program: &str, path: &str, fault: Option<&F
     }
 }
 
-/// Tells an error of the system, where there is one, and what met it.
+/// Prints an error of the system and what it happened to, if there is one.
 pub fn tell_error<R: Eprint>(rt: &R, program: &str, what: &str, error: Option<&io::Error>) {
     if let Some(error) = error {
         let _ = eprintln!(rt; "{program}: {what}: {error}");
     }
 }
 
-/// Tells why standard input failed, where it did.
+/// Says why standard input failed, if it did.
 ///
-/// A program that keeps the numbers of the standard streams ([`begin`](crate::begin)) has a folder in place of an input that is
-/// closed, so it can't tell these two apart.
+/// A program that reserves the numbers of the standard streams ([`begin`](crate::begin)) has a folder in place of a closed input. So it
+/// can't distinguish the two.
 pub(crate) fn tell_input<R: Eprint>(rt: &R, program: &str, error: Option<&io::Error>) {
     let what = "standard input";
     match error {
@@ -76,7 +76,7 @@ pub(crate) fn tell_input<R: Eprint>(rt: &R, program: &str, error: Option<&io::Er
     }
 }
 
-/// Tells why standard output failed, where it did.
+/// Says why standard output failed, if it did.
 pub(crate) fn tell_output<R: Eprint>(rt: &R, program: &str, error: Option<&io::Error>) {
     let what = "standard output";
     match error {

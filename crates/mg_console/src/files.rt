@@ -1,13 +1,13 @@
-// What the system tells of files.
+// What the system says about files.
 use std::fs::{self, Metadata};
 use std::io::{self};
 use std::os::unix::fs::{MetadataExt, PermissionsExt};
 use std::rt::Files;
 
-/// Which bits of a file's mode are its permissions.
+/// The bits of a file's mode that are its permissions.
 const PERMISSIONS: u32 = 0o777;
 
-/// The permissions of the regular file at `path`; none where there is none.
+/// The permissions of the regular file at `path`. None if there is no such file.
 pub fn mode_of<R: Files>(rt: &R, path: &str) -> Option<u32> {
     match fs::metadata(rt, path) {
         Ok(metadata) if metadata.is_file() => Some(metadata.permissions().mode() & PERMISSIONS),

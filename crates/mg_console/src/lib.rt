@@ -1,11 +1,11 @@
-//! What the programs share: the words behind their names, and what they tell on standard error.
+//! What the programs share: the words of their command lines, and the lines that they print on standard error.
 //!
-//! Nothing here changes an answer: what looks at a disk is generic over it and writes nothing, and nothing here is handed a source or a
-//! sink. The words for what a program did, which the contracts of the programs use, stand in `specs/Programs.antt`.
+//! Nothing here changes an answer. A function that looks at a disk is generic over it and writes nothing, and none is handed a source
+//! or a sink. The words for what a program did, which the programs' contracts use, are in `specs/Programs.antt`.
 //!
-//! [`Notes`] is told by a disk in a file of what fails while a command runs, and of how far a copy
-//! is; the other functions tell which word is at fault, and at the end why a command ended so and what the file of its volume shows.
-//! What can't be written on standard error is lost.
+//! [`Notes`] gets reports from a disk in a file: what fails while a command runs, and how far a copy is. The other functions say which
+//! word is wrong, and after a command why it failed and what the file of its volume shows. A line that can't be written on standard
+//! error is lost.
 #![tactic(auto)]
 
 mod damage;

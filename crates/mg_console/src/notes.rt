@@ -1,27 +1,27 @@
-// What is told while a command runs.
+// Lines on standard error while a command runs.
 use crate::endings::cause_of;
 use mg_disk::{FileFault, Watch};
 use std::io::Eprint;
 
-/// How many blocks are written between two lines that say how far a copy is: 8 MiB.
+/// The number of blocks between two lines that say how far a copy is: 8 MiB.
 const STEP: u64 = 2048;
 
-/// What a file is for, which says what is told of it while a command runs.
+/// The use of a file, which decides what is reported while a command runs.
 #[derive(Clone, Copy, Debug, PartialEq, Eq)]
 pub enum Task {
-    /// A volume of its own. Its first fault ends the command, and is told then.
+    /// A volume of its own. Its first fault ends the command, and is reported then.
     Volume,
     /// A volume that is made by copying another one.
     Copy,
-    /// A side of a mirror. The command goes on where it fails.
+    /// A side of a mirror. If it fails, the command continues.
     Side,
 }
 
-/// Notes on one file, on standard error.
+/// Lines about one file, on standard error.
 ///
-/// Of a side of a mirror the first read and the first write that fail are told at once; after that write the side is dropped. Of a
-/// copy and of a side a line says how many bytes were copied, where standard error is a terminal; it is written over, and goes
-/// with the first sync.
+/// For a side of a mirror the first read and the first write that fail are reported at once. After that write the side is dropped. If
+/// standard error is a terminal, a line says how many bytes of a copy or a side were copied. It is overwritten as the copy continues,
+/// and erased at the first sync.
 #[derive(Drop)]
 pub struct Notes<'a, R: Eprint> {
     rt: &'a R,
@@ -29,10 +29,10 @@ pub struct Notes<'a, R: Eprint> {
     path: &'a str,
     task: Task,
     is_terminal: bool,
-    // Whether a read, and a write, was told to have failed.
+    // Whether a failed read, and a failed write, was reported.
     read_told: bool,
     write_told: bool,
-    // The blocks that were copied, how many of them the line on the terminal counts, and whether there is one.
+    // The number of blocks that were copied, the number that the line on the terminal shows, and whether there is such a line.
     copied: u64,
     shown: u64,
     is_shown: bool,
@@ -61,7 +61,7 @@ impl<'a, R: Eprint> Notes<'a, R> {
         }
     }
 
-    /// Takes the line on the terminal away.
+    /// Erases the line on the terminal.
     fn clear(&mut self) {
         if self.is_shown {
             let _ = eprint!(self.rt; "\r\x1b[K");
@@ -99,7 +99,7 @@ impl<'a, R: Eprint> Watch for Notes<'a, R> {
     }
 
     fn wrote(&mut self, _: u64, count: usize) {
-        // Only a copy writes blocks together.
+        // Only a copy writes several blocks in one call.
         if !self.is_terminal || self.task == Task::Volume || count < 2 {
             return;
         }

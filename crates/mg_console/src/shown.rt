@@ -1,16 +1,16 @@
-// What a program asks a disk, a source or a sink once a command has ended, to tell about it. None of this changes them.
+// What a program reads from a disk, a source or a sink after a command, to report it. None of this changes them.
 use mg_disk::{FileDisk, FileFault, Found, OneHolder, Watch};
 use mg_io::{ReaderSource, WriterSink};
 use std::io::{self, Read, Write};
 use std::os::unix::fs::FileExt;
 use std::rt::{Clock, Files};
 
-/// A disk that may lie in a file.
+/// A disk that may be in a file.
 pub trait InFile {
-    /// What the file was when it was opened; none where it was not opened, or is only read and there is none.
+    /// What the file was when it was opened. None if it was not opened, or if it is only read and is missing.
     fn found(&self) -> Option<Found>;
 
-    /// Why the first call failed of those that did; none while none did.
+    /// Why a call failed, for the first call that did. None if none did.
     fn fault(&self) -> Option<&FileFault>;
 }
 
@@ -29,7 +29,7 @@ where
 
 /// A source or a sink that may be a stream of the system.
 pub trait Stream {
-    /// The first error that it met; none while there was none.
+    /// The first error of the stream. None if there was none.
     fn error(&self) -> Option<&io::Error>;
 }
 

@@ -1,10 +1,10 @@
-// What is told of a status.
+// Says what a status means.
 use crate::endings::{tell, tell_input, tell_output};
 use mg_serve::Status;
 use std::io::{self, Eprint};
 
-/// Tells why a command on a volume ended with this status, where neither its words nor one of its disks is at fault. The errors are
-/// those that standard input and standard output met.
+/// Says why a command on a volume ended with this status, unless its words or one of its disks is the cause. The errors are those of
+/// standard input and of standard output.
 pub fn tell_status<R: Eprint>(
     rt: &R,
     program: &str,
@@ -25,8 +25,8 @@ pub fn tell_status<R: Eprint>(
     }
 }
 
-/// Tells why a program that turns an input into a text ended with this status, where its words are not at fault and the input is
-/// none that it told a fault of. The input may have `limit` bytes at most.
+/// Says why a program that turns an input into a text ended with this status, unless its words or a fault in the input, which it has
+/// reported, is the cause. The input can have at most `limit` bytes.
 pub fn tell_filter_status<R: Eprint>(
     rt: &R,
     program: &str,

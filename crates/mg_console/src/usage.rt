@@ -1,19 +1,19 @@
-// Which word is at fault where the words spell no command.
+// Says which word is wrong if the words spell no command.
 use mg_model::limits::{PAGE_END, PAGE_SIZE};
 use mg_text::read_number;
 use std::io::Eprint;
 
-/// The address where objects end, in bytes.
+/// The address at which objects end, in bytes.
 const ADDRESS_END: u64 = PAGE_END * PAGE_SIZE;
 
-/// Tells these lines, as what a program can be asked.
+/// Prints these lines, which show the commands of a program.
 pub fn tell_lines<R: Eprint>(rt: &R, lines: &[&str]) {
     for line in lines {
         let _ = eprintln!(rt; "{line}");
     }
 }
 
-/// Whether a number is at fault, which is then told: no number, or outside these two. `name` is what the word is called.
+/// Says if a word is no number, or a number below `least` or above `most`. False if nothing is wrong. `name` is the word's name.
 pub fn is_told<R: Eprint>(
     rt: &R,
     program: &str,
@@ -37,7 +37,7 @@ pub fn is_told<R: Eprint>(
     }
 }
 
-/// Whether the word ADDRESS is at fault, which is then told: no number, or no place of a word of an object.
+/// Says if the word ADDRESS is no number, or not the address of a word of an object. False if nothing is wrong.
 pub fn is_address_told<R: Eprint>(rt: &R, program: &str, word: &str) -> bool {
     match read_number(word.as_bytes()) {
         None => {

@@ -1,4 +1,4 @@
-// What is told of the file of a volume.
+// Lines about the file of a volume.
 ghost use Rattle.std.specs.Prelude.{◌≡◌, ◌<◌};
 ghost use Rattle.mg_disk.specs.Stops.{WritesNothing};
 
@@ -9,9 +9,9 @@ use mg_layout::{GATE_BLOCK, GATE_OPEN, Geometry, SUPER_BLOCK, Super, read_super}
 use mg_model::Params;
 use std::io::Eprint;
 
-/// Tells what only the file of a volume shows, a line each: that there was none; that it is shorter than its volume was when it was
-/// opened; and where `is_refused` says that the command took no volume there, that it is of an older version, which `migrate`
-/// takes, or what of it is damaged. `found` is what the file was when it was opened, if it was. The disk is only read.
+/// Says what only the file of a volume shows, one fact a line: that it was missing, or that it was shorter than its volume when it was
+/// opened. If the command refused the volume (`is_refused`), also that it is of an older version, which `migrate` takes, or what is
+/// damaged. `found` is what the file was when it was opened, if it was. The disk is only read.
 pub fn tell_volume<R: AllocGlobal + Eprint, D: Disk>(
     rt: &R,
     program: &str,
@@ -52,7 +52,7 @@ pub fn tell_volume<R: AllocGlobal + Eprint, D: Disk>(
     }
 }
 
-/// Tells that a file was made, if it was.
+/// Says that a file was made, if it was.
 fn tell_made<R: Eprint>(rt: &R, program: &str, path: &str, found: Found) {
     if found.is_new {
         tell_of(
@@ -64,14 +64,14 @@ fn tell_made<R: Eprint>(rt: &R, program: &str, path: &str, found: Found) {
     }
 }
 
-/// Tells that a volume is of the older version.
+/// Says that a volume is of the older version.
 fn tell_old<R: Eprint>(rt: &R, program: &str, path: &str) {
     let _ = eprintln!(rt;
         "{program}: {path}: a volume of version 1; mungi NEW migrate {path} copies it into one of today's"
     );
 }
 
-/// Tells that the file of a volume was shorter than the volume, if it was.
+/// Says that the file of a volume was shorter than the volume, if it was.
 fn tell_cut<R: Eprint>(rt: &R, program: &str, path: &str, found: Found, params: &Params) {
     let whole = Geometry::of(params.frames())
         .total
@@ -86,7 +86,7 @@ fn tell_cut<R: Eprint>(rt: &R, program: &str, path: &str, found: Found, params: 
     }
 }
 
-/// What the superblock of a disk spells whose gate is open; of any other that it is no volume.
+/// What the superblock of a disk spells. Without an open gate, or if a read fails, the disk has no volume.
 fn super_of<D: Disk>(disk: &mut D) -> Super
     ensures writes { WritesNothing D.Disk disk.old disk.new }
     ensures blocks { D.block_count disk.new ≡ D.block_count disk.old }
@@ -101,7 +101,7 @@ fn super_of<D: Disk>(disk: &mut D) -> Super
     read_super(&block)
 }
 
-/// Reads a block, and says whether that did not fail.
+/// Reads a block. False if the read fails.
 fn has_read<D: Disk>(disk: &mut D, i: u64, block: &mut Block) -> bool
     requires { i < D.block_count disk.old }
     ensures writes { WritesNothing D.Disk disk.old disk.new }

@@ -8,12 +8,12 @@ use std::{env, io};
 /// The exit status of a program that can't have its words.
 pub const NO_WORDS: u8 = 9;
 
-/// The words behind the program's name. An error comes where one is no text, or memory is wanting.
+/// The program's words after its name. The error is that a word is no text, or that memory runs out.
 fn words_of<R: Env + AllocGlobal>(rt: &R) -> io::Result<Vec<String>> {
     Ok(env::args(rt)?.skip(1).collect(rt.alloc())?)
 }
 
-/// The words behind the program's name, or None where one is no text or memory is wanting, which is told on standard error then.
+/// The program's words after its name. If a word is no text or memory runs out, it says so on standard error and returns None.
 pub fn words_or_tell<R: Env + AllocGlobal + Eprint>(rt: &R, program: &str) -> Option<Vec<String>> {
     match words_of(rt) {
         Ok(words) => Some(words),
@@ -24,8 +24,8 @@ pub fn words_or_tell<R: Env + AllocGlobal + Eprint>(rt: &R, program: &str) -> Op
     }
 }
 
-/// Those words, and files that keep the numbers of the standard streams from any other file for as long as they are kept. Where one
-/// of these can't be had that is told on standard error, and there is None.
+/// The program's words, and files that reserve the numbers of the standard streams. While these files are held, no other file gets such
+/// a number. If one of these can't be had, it says so on standard error and returns None.
 pub fn begin<R: Env + AllocGlobal + Files + Eprint>(
     rt: &R,
     program: &str,
@@ -40,7 +40,7 @@ pub fn begin<R: Env + AllocGlobal + Files + Eprint>(
     Some((words_or_tell(rt, program)?, numbers))
 }
 
-/// The word at that place, or the empty one where there is none.
+/// The word at this place. Empty if there is none.
 pub fn word(words: &[String], place: usize) -> &str {
     match words.get(place) {
         Some(word) => word.as_str(),

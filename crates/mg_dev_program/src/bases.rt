@@ -1,4 +1,4 @@
-// What is told of the bases that devices are asked for at.
+// Says what is wrong with the bases of devices.
 ghost use Rattle.mg_disk.specs.Stops.{WritesNothing};
 
 use crate::NAME;
@@ -7,8 +7,8 @@ use mg_disk::Disk;
 use mg_model::limits::{FIRST_PAGE, PAGE_END, PAGE_SIZE};
 use std::io::Eprint;
 
-/// Tells of each base that a device is asked for at whether no object can begin there, or none does yet. The disk is only read,
-/// and only where devices are asked for; where it holds no volume, that is told later.
+/// Says of each device's base if no object can begin there, or if none does yet. The disk is only read, and only if there are devices.
+/// A disk with no volume is reported later.
 pub(crate) fn tell_bases<R: AllocGlobal + Eprint, D: Disk>(
     rt: &R,
     path: &str,
@@ -44,7 +44,7 @@ fn tell_base<R: Eprint>(rt: &R, path: &str, base: u64, rows: Option<&VolumeRows>
     }
 }
 
-/// Whether an object may have this base: it is where a page begins that an object may have.
+/// Whether an object can have this base: a page that an object can have begins there.
 fn may_begin(base: u64) -> bool {
     let page = base / PAGE_SIZE;
     base % PAGE_SIZE == 0 && FIRST_PAGE <= page && page < PAGE_END

@@ -1,11 +1,11 @@
 //! The program `mungi_dev`, over any two disks, devices, source and sink: from the words to the exit status.
 //!
-//! [`carry_out`] calls [`mg_mirror_session::top_mirror`] where the second word is `mirror`, and else [`mg_window_session::top_dev_of`]. It
-//! ensures of the words what these two ensure, that the exit status is the number of their status, and that beside them the disks are
-//! only read. The program makes the real objects and exits with the number. The devices are of any one type: the program makes boxed
-//! ones, and a contract that spoke of boxes would prove nothing there.
+//! [`carry_out`] calls [`mg_mirror_session::top_mirror`] if the second word is `mirror`, and otherwise
+//! [`mg_window_session::top_dev_of`]. It ensures what these two ensure for the words. It also ensures that the exit status is the
+//! number of their status, and that outside of these calls the disks are only read. The program makes the real objects and exits with
+//! the number. The devices are of any one type. The program makes boxed ones, and a contract about boxes would prove nothing there.
 //!
-//! The definitions stand in `specs/Program.antt`.
+//! The definitions are in `specs/Program.antt`.
 #![tactic(auto)]
 
 mod bases;

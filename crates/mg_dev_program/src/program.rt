@@ -3,8 +3,9 @@ ghost use Rattle.std.specs.Prelude.{◌≡◌, codes};
 ghost use Rattle.mg_console.specs.Programs.{AfterReads, EndsAs, ThenReads};
 ghost use Rattle.mg_disk.specs.Stops.{WritesNothing};
 ghost use Rattle.mg_model.specs.Words.{same_bytes};
-ghost use Rattle.mg_serve.specs.Sessions.{code_of};
-ghost use Rattle.mg_session.specs.ByCommand.{words_of};
+ghost use Rattle.mg_serve.specs.Sessions.{code_of, disk_use, sink_use, source_use};
+ghost use Rattle.mg_volume_session.specs.ByCommand.{words_of};
+ghost use Rattle.mg_volume_session.specs.Headline.{session_of};
 ghost use Rattle.mg_window.specs.Attached.{seen};
 ghost use Rattle.mg_dev_program.specs.Program.{Did, OverMirror, RanDevices, is_mirror};
 
@@ -23,7 +24,7 @@ use std::alloc::Global;
 use std::io::Eprint;
 use std::sync::ledger::Ledger;
 
-/// The exit status, and the two disks as they are at the end.
+/// The exit status, and the two disks at the end.
 #[derive(Drop)]
 pub struct Ended<D: Disk, E: Disk> {
     pub code: u8,
@@ -31,10 +32,11 @@ pub struct Ended<D: Disk, E: Disk> {
     pub right: E,
 }
 
-/// Carries out what the words ask for, tells on standard error why it ended so, and gives the exit status. `left` is the disk in the
-/// file of the first word, and `right` the one in the file of the third; `windows` has the devices, and `steps` counts as in [`top_mirror`] and [`top_dev_of`].
+/// Carries out the command that the words spell, says on standard error why it failed, and returns the exit status. `left` is in the
+/// file of the first word, and `right` in the file of the third. `windows` has the devices, and `steps` counts as in [`top_mirror`] and
+/// [`top_dev_of`].
 ///
-/// Beside the command a disk is only read: the volume of `dev` before it, and after it the disk of which it is told what its file shows.
+/// Outside of the command a disk is only read: the volume of `dev` before it, and after it the disk whose file is reported.
 pub fn carry_out<
     R: AllocGlobal + Eprint,
     T: Device,
@@ -53,9 +55,10 @@ pub fn carry_out<
     windows: &mut Windows<T>,
     steps: &mut Steps<L>,
 ) -> Ended<D, E>
-    ensures { EndsAs code_of (λ status. ThenReads D.Disk (λ left'. ThenReads E.Disk (λ right'. Did D.Disk E.Disk S.Source K.Sink words.now status
-        left left' right right' source.old source.new sink.old sink.new (seen T.held windows.old)
-        (seen T.held windows.new) steps.old steps.new) result.right) result.left) result.code }
+    ensures { EndsAs code_of (λ status. ThenReads D.Disk (λ left'. ThenReads E.Disk (λ right'. Did words.now status
+        (disk_use D.Disk left left') (disk_use E.Disk right right') (source_use S.Source source.old source.new)
+        (sink_use K.Sink sink.old sink.new)
+        (seen T.held windows.old) (seen T.held windows.new) steps.old steps.new) result.right) result.left) result.code }
 {
     let ran = command(rt, words, left, right, source, sink, windows, steps);
     let status = ran.status;
@@ -83,7 +86,7 @@ pub fn is_mirror(words: &[String]) -> bool
     }
 }
 
-/// The one of the two top calls that the words ask for. No side is told where it is not that over a mirror.
+/// Makes the top call that the words spell. Without a mirror no side is left alone.
 fn command<R: AllocGlobal + Eprint, T: Device, D: Disk, E: Disk, S: Source, K: Sink, L: Ledger>(
     rt: &R,
     words: &[String],
@@ -94,7 +97,8 @@ fn command<R: AllocGlobal + Eprint, T: Device, D: Disk, E: Disk, S: Source, K: S
     windows: &mut Windows<T>,
     steps: &mut Steps<L>,
 ) -> Mirrored<D, E>
-    ensures { Did D.Disk E.Disk S.Source K.Sink words.now result.status left result.left right result.right source.old source.new sink.old sink.new
+    ensures { Did words.now result.status (disk_use D.Disk left result.left) (disk_use E.Disk right result.right)
+        (source_use S.Source source.old source.new) (sink_use K.Sink sink.old sink.new)
         (seen T.held windows.old) (seen T.held windows.new) steps.old steps.new }
 {
     if is_mirror(words) {
@@ -121,12 +125,13 @@ fn over_mirror<D: Disk, E: Disk, S: Source, K: Sink, L: Ledger>(
     sink: &mut K,
     steps: &mut Steps<L>,
 ) -> Mirrored<D, E>
-    ensures { OverMirror D.Disk E.Disk S.Source K.Sink words.now result.status result.alone left result.left right result.right source.old source.new sink.old sink.new steps.old steps.new }
+    ensures { OverMirror words.now result.status result.alone (disk_use D.Disk left result.left) (disk_use E.Disk right result.right)
+        (source_use S.Source source.old source.new) (sink_use K.Sink sink.old sink.new) steps.old steps.new }
 {
     top_mirror(alloc, words, left, right, source, sink, steps)
 }
 
-/// The top call with devices. What is told of the bases of those that the words ask for is told first.
+/// The top call with devices. What is wrong with their bases is reported first.
 fn on_devices<R: AllocGlobal + Eprint, T: Device, D: Disk, S: Source, K: Sink, L: Ledger>(
     rt: &R,
     words: &[String],
@@ -136,8 +141,9 @@ fn on_devices<R: AllocGlobal + Eprint, T: Device, D: Disk, S: Source, K: Sink, L
     windows: &mut Windows<T>,
     steps: &mut Steps<L>,
 ) -> Status
-    ensures { AfterReads D.Disk disk.old (λ found. RanDevices D.Disk S.Source K.Sink words.now result (seen T.held windows.old)
-        (seen T.held windows.new) found disk.new source.old source.new sink.old sink.new) }
+    ensures { AfterReads D.Disk disk.old (λ found. RanDevices words.now (seen T.held windows.old) (seen T.held windows.new)
+        (session_of 1 result (disk_use D.Disk found disk.new)
+        (source_use S.Source source.old source.new) (sink_use K.Sink sink.old sink.new) steps.old steps.new)) }
 {
     let asked = read_words(words).unwrap_or_default();
     tell_bases(rt, word(words, 0), asked.as_slice(), disk);
@@ -153,14 +159,15 @@ fn with_devices<T: Device, D: Disk, S: Source, K: Sink, L: Ledger>(
     windows: &mut Windows<T>,
     steps: &mut Steps<L>,
 ) -> Status
-    ensures { RanDevices D.Disk S.Source K.Sink words.now result (seen T.held windows.old)
-        (seen T.held windows.new) disk.old disk.new source.old source.new sink.old sink.new }
+    ensures { RanDevices words.now (seen T.held windows.old) (seen T.held windows.new)
+        (session_of 1 result (disk_use D.Disk disk.old disk.new)
+        (source_use S.Source source.old source.new) (sink_use K.Sink sink.old sink.new) steps.old steps.new) }
 {
     top_dev_of(alloc, words, disk, source, sink, windows, steps)
 }
 
-/// Tells why a disk failed, and what only the file of the volume shows: of a mirror that of SIDE. Which side of a mirror failed is told
-/// while the lines run.
+/// Says why a disk failed, and what only the file of the volume shows; of a mirror it is the file of SIDE. The failure of a side of a
+/// mirror is reported while the lines run.
 fn tell_files<R: AllocGlobal + Eprint, D: Disk + InFile, E: Disk + InFile>(
     rt: &R,
     words: &[String],

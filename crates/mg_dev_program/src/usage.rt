@@ -1,10 +1,10 @@
-// Which word is at fault where the words spell no command.
+// Says which word is wrong if the words spell no command.
 use crate::NAME;
 use mg_console::{tell, tell_lines};
 use mg_window_session::read_device;
 use std::io::Eprint;
 
-/// What the program can be asked.
+/// The commands of the program.
 const SYNOPSIS: [&str; 4] = [
     "usage: mungi_dev LEFT mirror RIGHT SIDE",
     "       mungi_dev VOLUME dev [KIND:BASE ..]",
@@ -12,10 +12,10 @@ const SYNOPSIS: [&str; 4] = [
     "KIND is latch, console or counter, BASE the address of an object; up to 16, no address twice",
 ];
 
-/// How many devices a volume can have.
+/// The most devices of a volume.
 const DEVICE_LIMIT: usize = 16;
 
-/// Tells what the program can be asked, and which word is at fault.
+/// Prints the commands of the program, and says which word is wrong.
 pub(crate) fn tell_usage<R: Eprint>(rt: &R, words: &[String]) {
     tell_lines(rt, &SYNOPSIS);
     match words {
@@ -25,7 +25,7 @@ pub(crate) fn tell_usage<R: Eprint>(rt: &R, words: &[String]) {
     }
 }
 
-/// Tells what is at fault of a command, the word before it and the words after it.
+/// Says what is wrong with a command, the word before it and the words after it.
 fn tell_command<R: Eprint>(rt: &R, left: &str, command: &str, rest: &[String]) {
     if command == "mirror" {
         tell_mirror(rt, left, rest);
@@ -36,7 +36,7 @@ fn tell_command<R: Eprint>(rt: &R, left: &str, command: &str, rest: &[String]) {
     }
 }
 
-/// Tells what is at fault of the words before and after `mirror`.
+/// Says what is wrong with the words before and after `mirror`.
 fn tell_mirror<R: Eprint>(rt: &R, left: &str, rest: &[String]) {
     match rest {
         [right, side] => {
@@ -51,7 +51,7 @@ fn tell_mirror<R: Eprint>(rt: &R, left: &str, rest: &[String]) {
     }
 }
 
-/// Tells which of the words after `dev` is at fault.
+/// Says which of the words after `dev` is wrong.
 fn tell_devices<R: Eprint>(rt: &R, devices: &[String]) {
     let count = devices.len();
     if count > DEVICE_LIMIT {
@@ -67,7 +67,7 @@ fn tell_devices<R: Eprint>(rt: &R, devices: &[String]) {
     }
 }
 
-/// Whether this word for a device is at fault, which is then told. Others are before it.
+/// Says what is wrong with this word for a device, which comes after the others. False if nothing is.
 fn is_device_told<R: Eprint>(rt: &R, word: &String, others: &[String]) -> bool {
     let text = word.as_str();
     match read_device(word) {
@@ -87,7 +87,7 @@ fn is_device_told<R: Eprint>(rt: &R, word: &String, others: &[String]) -> bool {
     }
 }
 
-/// Whether one of these words asks for a device at this base.
+/// Whether one of these words names a device at this base.
 fn is_base_of(base: u64, words: &[String]) -> bool {
     for word in words {
         match read_device(word) {

@@ -4,7 +4,7 @@ use Rattle.std.specs.Io.KnownBytes.{Appends}
 use Rattle.std.specs.Option.{ForSome}
 use Rattle.mg_check.specs.declared.examining.Summary.{Summary}
 use Rattle.mg_disk.specs.Disk.{Image}
-use Rattle.mg_disk.specs.Stops.{CountRose, Leaves, NothingPending, WritesNothing}
+use Rattle.mg_disk.specs.Stops.{NothingPending, WritesNothing}
 use Rattle.mg_disk.specs.declared.disk.Disk as disks
 use Rattle.mg_faults.specs.Faults.{Rose}
 use Rattle.mg_io.specs.Known.{AppendsPrefix}
@@ -14,9 +14,9 @@ use Rattle.mg_migrate.specs.Migrated.{Fits1, HasLifted, IsLiftOf, MayMigrate, St
 use Rattle.mg_migrate.specs.Version1.{Damaged1, Is1, NewVolume1, NotVolume1, OldVolume1, Volume1Read, lift, volume1}
 use Rattle.mg_model.specs.State.{State}
 use Rattle.mg_model.specs.Volume.{Damaged, Is, NotVolume, OldVolume}
-use Rattle.mg_serve.specs.Sessions.{IsDoneOrMemory}
-use Rattle.mg_session.specs.Headline.{check_line, small_line, usage_line}
-use Rattle.mg_session.specs.Unopened.{summary_line}
+use Rattle.mg_serve.specs.Sessions.{AlwaysLeft, DiskRose, DiskUse, IsDoneOrMemory, Puts, PutsPrefix, SinkRose, SinkUse}
+use Rattle.mg_volume_session.specs.Headline.{blocks_of, check_line, small_line, usage_line}
+use Rattle.mg_volume_session.specs.Unopened.{summary_line}
 use Rattle.mg_serve.specs.declared.status.Status.{Status}
 use Rattle.mg_serve.specs.declared.status.Status.TheVariants as status
 
@@ -78,40 +78,49 @@ abbrev pub IfState1 : Volume1Read → (State → Type 0) → Type 0
 IfState1 (Is1 state) P = P state
 IfState1 _ P = Unit {0}
 
--- What `migrate` keeps.
-pub record MigrateKeeps {D E K : Type 0} (d : disks.Ghosts D) (e : disks.Ghosts E) (to : sinks.Ghosts K) (result : Status) (new new' : D) (old old' : E) (sink sink' : K) : Type 0 where
+-- what holds of what reads of the old disk gave, where it is told
+abbrev pub OfBefore : {E : Type 0} → DiskUse E → (Image → Type 0) → Type 0
+OfBefore from P = ForSome (from.facts.seen from.old) P
+
+-- What `migrate` keeps, from the old disk to the new one.
+pub record MigrateKeeps {D E K : Type 0} (result : Status) (to : DiskUse D) (from : DiskUse E) (o : SinkUse K) : Type 0 where
   -- It ends as the old image says, or memory was wanting, or a call failed; and that on every disk.
-  pub ends : ForSome (e.seen old) (λ before. (result ≡ migrate_status (d.block_count new) (volume1 before)) ⊎ HasFailed result)
+  pub ends : OfBefore from (λ before. (result ≡ migrate_status (blocks_of to) (volume1 before)) ⊎ HasFailed result)
   pub which : HasPut result ⊎ HasFailed result
   -- At 0, 2 and 8 the line of the old image was put, and at each status a prefix of it.
-  pub line : HasPut result → ForSome (e.seen old) (λ before. Appends (to.taken sink) (to.taken sink') (migrate_line (d.block_count new) (volume1 before)))
-  pub prefix : ForSome (e.seen old) (λ before. AppendsPrefix (to.taken sink) (to.taken sink') (migrate_line (d.block_count new) (volume1 before)))
+  pub line : HasPut result → OfBefore from (λ before. Puts o (migrate_line (blocks_of to) (volume1 before)))
+  pub prefix : OfBefore from (λ before. PutsPrefix o (migrate_line (blocks_of to) (volume1 before)))
   -- Of an old disk that does not tell its reads too, what was put at 0, 2 and 8 is a line of that status.
-  pub some_line : HasPut result → (line : List ℕ) × GoesWith result line × Appends (to.taken sink) (to.taken sink') line
+  pub some_line : HasPut result → (line : List ℕ) × GoesWith result line × Puts o line
   -- At each moment a stop leaves on the new disk no state, what the blocks behind its gate spelled, or the migrated one.
-  pub moments : NothingPending d new → ForSome (d.seen new) (λ image. ForSome (e.seen old) (λ before. Leaves d new new' (MayMigrate image (volume1 before))))
+  pub moments : NothingPending to.facts to.old → ForSome (to.facts.seen to.old) (λ image.
+      OfBefore from (λ before. AlwaysLeft to (MayMigrate image (volume1 before))))
   -- At the end the migrated state stands, also where its line could not be put; no call was made on the new disk where none was told.
-  pub stands : HasPut result ⊎ (result ≡ status.Sink) → ForSome (e.seen old) (λ before. StandsAfter d (volume1 before) new new')
+  pub stands : HasPut result ⊎ (result ≡ status.Sink) →
+      OfBefore from (λ before. StandsAfter to.facts (volume1 before) to.old to.new)
   -- There rows and frames keep their numbers.
-  pub places : HasPut result ⊎ (result ≡ status.Sink) → ForSome (e.seen old) (λ before. IfState1 (volume1 before) (λ state. needed state ≤ d.block_count new → HasPlaces d before new new'))
-  pub untouched : (result ≡ status.NoVolume) ⊎ ((result ≡ status.TooSmall) ⊎ (result ≡ status.Memory)) → new' ≡ new
+  pub places : HasPut result ⊎ (result ≡ status.Sink) → OfBefore from (λ before. IfState1 (volume1 before) (λ state.
+      needed state ≤ blocks_of to → HasPlaces to.facts before to.old to.new))
+  pub untouched : (result ≡ status.NoVolume) ⊎ ((result ≡ status.TooSmall) ⊎ (result ≡ status.Memory)) → to.new ≡ to.old
   -- Nothing is ever written on the old disk.
-  pub old_kept : WritesNothing e old old'
+  pub old_kept : WritesNothing from.facts from.old from.new
   -- Where memory was wanting, or a disk failed, nothing was put; a disk and the sink failed only where their counts rose.
-  pub memory : result ≡ status.Memory → sink' ≡ sink
-  pub disk_failed : result ≡ status.Disk → (CountRose d new new' ⊎ CountRose e old old') × (sink' ≡ sink)
+  pub memory : result ≡ status.Memory → o.new ≡ o.old
+  pub disk_failed : result ≡ status.Disk → (DiskRose to ⊎ DiskRose from) × (o.new ≡ o.old)
   -- No call was made on the new disk, at any status, where the old image is no volume of version 1 that fits there.
-  pub stands_back : ForSome (e.seen old) (λ before. StandsBack (d.block_count new) (volume1 before) new new')
+  pub stands_back : OfBefore from (λ before. StandsBack (blocks_of to) (volume1 before) to.old to.new)
   -- Where the old disk failed alone, no call was made on the new one, or the copying of a volume that fits had begun, and the gate of the
   -- new one is closed.
-  pub closed : result ≡ status.Disk → (CountRose d new new' → ⊥) → (new' ≡ new) ⊎ (StandsClosed d new' × ForSome (e.seen old) (λ before. Fits1 (d.block_count new) (volume1 before)))
-  pub sink_failed : result ≡ status.Sink → Rose (to.faults sink) (to.faults sink') (to.is_spent sink')
+  pub closed : result ≡ status.Disk → (DiskRose to → ⊥) →
+      (to.new ≡ to.old) ⊎ (StandsClosed to.facts to.new × OfBefore from (λ before. Fits1 (blocks_of to) (volume1 before)))
+  pub sink_failed : result ≡ status.Sink → SinkRose o
   -- Of a volume that the new disk is large enough for, where no call failed, all is done, or memory was wanting.
-  pub complete : ForSome (e.seen old) (λ before. IfState1 (volume1 before) (λ state. needed state ≤ d.block_count new → (CountRose d new new' → ⊥) → (CountRose e old old' → ⊥)
-      → (Rose (to.faults sink) (to.faults sink') (to.is_spent sink') → ⊥) → IsDoneOrMemory result))
+  pub complete : OfBefore from (λ before. IfState1 (volume1 before) (λ state. needed state ≤ blocks_of to → (DiskRose to → ⊥)
+      → (DiskRose from → ⊥) → (SinkRose o → ⊥) → IsDoneOrMemory result))
 
 -- What is kept where the words spell no migration.
-pub record NoMigrateKeeps {D E K : Type 0} (to : sinks.Ghosts K) (result : Status) (new new' : D) (old old' : E) (sink sink' : K) : Type 0 where
+pub record NoMigrateKeeps {D E K : Type 0} (to : sinks.Ghosts K) (result : Status) (new new' : D) (old old' : E)
+    (sink sink' : K) : Type 0 where
   pub which : (result ≡ status.Usage) ⊎ (result ≡ status.Sink)
   -- The line `usage` was put, or a prefix of it where the sink failed, which is only where its count rose.
   pub usage_text : result ≡ status.Usage → Appends (to.taken sink) (to.taken sink') usage_line

@@ -2,14 +2,15 @@
 ghost use Rattle.std.specs.Prelude.{◌≡◌, false, true};
 ghost use Rattle.mg_migrate_session.specs.Commands.{is_migrate};
 ghost use Rattle.mg_migrate_session.specs.Headline.{MigrateKeeps, NoMigrateKeeps};
-ghost use Rattle.mg_session.specs.ByCommand.{words_of};
+ghost use Rattle.mg_serve.specs.Sessions.{disk_use, sink_use};
+ghost use Rattle.mg_volume_session.specs.ByCommand.{words_of};
 
 use crate::fault_line::put_fault;
 use crate::words::is_migrate;
 use mg_disk::Disk;
 use mg_io::Sink;
 use mg_migrate::migrate;
-use mg_session::{Status, put_summary, put_usage};
+use mg_volume_session::{Status, put_summary, put_usage};
 use std::alloc::Global;
 
 /// All that the program does to migrate a volume. The words, which are those behind its name, are `VOLUME migrate OLD`.
@@ -33,8 +34,10 @@ pub fn top_migrate<D: Disk, E: Disk, K: Sink>(
     old: &mut E,
     sink: &mut K,
 ) -> Status
-    ensures migrate { is_migrate (words_of words.now) ≡ true → MigrateKeeps D.Disk E.Disk K.Sink result new.old new.new old.old old.new sink.old sink.new }
-    ensures usage { is_migrate (words_of words.now) ≡ false → NoMigrateKeeps K.Sink result new.old new.new old.old old.new sink.old sink.new }
+    ensures migrate { is_migrate (words_of words.now) ≡ true →
+        MigrateKeeps result (disk_use D.Disk new.old new.new) (disk_use E.Disk old.old old.new) (sink_use K.Sink sink.old sink.new) }
+    ensures usage { is_migrate (words_of words.now) ≡ false →
+        NoMigrateKeeps K.Sink result new.old new.new old.old old.new sink.old sink.new }
 {
     if is_migrate(words) {
         migrate_and_tell(alloc, new, old, sink)
@@ -50,7 +53,7 @@ fn migrate_and_tell<D: Disk, E: Disk, K: Sink>(
     old: &mut E,
     sink: &mut K,
 ) -> Status
-    ensures { MigrateKeeps D.Disk E.Disk K.Sink result new.old new.new old.old old.new sink.old sink.new }
+    ensures { MigrateKeeps result (disk_use D.Disk new.old new.new) (disk_use E.Disk old.old old.new) (sink_use K.Sink sink.old sink.new) }
 {
     match migrate(alloc, new, old) {
         Ok(summary) => put_summary(&summary, sink),

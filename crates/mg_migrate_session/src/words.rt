@@ -1,7 +1,7 @@
 // The words of the command line.
 ghost use Rattle.std.specs.Prelude.{◌≡◌};
 ghost use Rattle.mg_migrate_session.specs.Commands.{is_migrate, migrate_words};
-ghost use Rattle.mg_session.specs.ByCommand.{words_of};
+ghost use Rattle.mg_volume_session.specs.ByCommand.{words_of};
 
 /// Whether the words, which are those behind the program's name, are `VOLUME migrate OLD`, and VOLUME and OLD differ.
 pub fn is_migrate(words: &[String]) -> bool

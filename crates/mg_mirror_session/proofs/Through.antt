@@ -1,14 +1,13 @@
 -- What is kept of a disk is kept of each view of it that shows the same.
-use Rattle.std.specs.Prelude.{ℕ, List, Option, Some, None, IfSome}
+use Rattle.std.specs.Prelude.{ℕ, Option, Some, None, IfSome}
 use Rattle.mg_disk.specs.Disk.{Image}
 use Rattle.mg_disk.specs.Stops.{Leaves, WritesNothing}
 use Rattle.mg_disk.specs.declared.disk.Disk as disks
 use Rattle.mg_io.specs.declared.traits.Sink as sinks
-use Rattle.mg_io.specs.declared.traits.Source as sources
 use Rattle.mg_model.specs.State.{State}
 use Rattle.mg_model.specs.Step.{after}
-use Rattle.mg_serve.specs.Sessions.{Holds, HoldsExactly}
-use Rattle.mg_session.specs.Headline.{OnVolume, RunKeeps, TellsOfNone}
+use Rattle.mg_serve.specs.Sessions.{Holds, HoldsExactly, SinkUse, SourceUse, disk_use}
+use Rattle.mg_volume_session.specs.Headline.{OnVolume, RunKeeps, TellsOfNone, session_of}
 use Rattle.mg_serve.specs.declared.status.Status.{Status}
 
 pub if_some_then : {T : Type 0} (o : Option T) (P Q : T → Type 0) → ((x : T) → P x → Q x) → IfSome o P → IfSome o Q
@@ -39,14 +38,14 @@ module _ {M N : Type 0} (facts : disks.Ghosts N) (view : M → N) where
   pub writes_nothing : (m m' : M) → WritesNothing seen_through m m' → WritesNothing facts (view m) (view m')
   writes_nothing m m' h = record { same = h.same; stops = h.stops }
 
-  holds : (s : State) (m m' : M) (left left' taken taken' : Option (List ℕ)) → Holds seen_through (after s) m m' left left' taken taken' → Holds facts (after s) (view m) (view m') left left' taken taken'
-  holds s m m' left left' taken taken' h = record {
-    moments = if_some_then left _ _ (λ input l. leaves m m' _ l) h.moments;
+  holds : {S K : Type 0} (s : State) (m m' : M) (i : SourceUse S) (o : SinkUse K) → Holds (after s) (disk_use seen_through m m') i o → Holds (after s) (disk_use facts (view m) (view m')) i o
+  holds s m m' i o h = record {
+    moments = if_some_then (i.facts.left i.old) _ _ (λ input l. leaves m m' _ l) h.moments;
     held = h.held;
   }
 
-  exactly : (s : State) (result : Status) (m' : M) (left left' taken taken' : Option (List ℕ)) → HoldsExactly seen_through (after s) result m' left left' taken taken' → HoldsExactly facts (after s) result (view m') left left' taken taken'
-  exactly s result m' left left' taken taken' h = record { held_taking = h.held_taking; held_sink = h.held_sink }
+  exactly : {S K : Type 0} (s : State) (result : Status) (m m' : M) (i : SourceUse S) (o : SinkUse K) → HoldsExactly (after s) result (disk_use seen_through m m') i o → HoldsExactly (after s) result (disk_use facts (view m) (view m')) i o
+  exactly s result m m' i o h = record { held_taking = h.held_taking; held_sink = h.held_sink }
 
   none : {K : Type 0} (to : sinks.Ghosts K) (result : Status) (m m' : M) (k k' : K) → TellsOfNone seen_through to result m m' k k' → TellsOfNone facts to result (view m) (view m') k k'
   none to result m m' k k' h = record {
@@ -54,23 +53,23 @@ module _ {M N : Type 0} (facts : disks.Ghosts N) (view : M → N) where
     not_opened = h.not_opened;
   }
 
-  pub through : {S K : Type 0} (from : sources.Ghosts S) (to : sinks.Ghosts K) (batch : ℕ) (result : Status) (m m' : M) (source source' : S) (sink sink' : K) (steps steps' : ℕ)
-      → RunKeeps seen_through from to batch result m m' source source' sink sink' steps steps' → RunKeeps facts from to batch result (view m) (view m') source source' sink sink' steps steps'
-  through from to batch result m m' source source' sink sink' steps steps' h = record {
+  pub through : {S K : Type 0} (batch : ℕ) (result : Status) (m m' : M) (i : SourceUse S) (o : SinkUse K) (steps steps' : ℕ)
+      → RunKeeps (session_of batch result (disk_use seen_through m m') i o steps steps') → RunKeeps (session_of batch result (disk_use facts (view m) (view m')) i o steps steps')
+  through batch result m m' i o steps steps' h = record {
     lines = record {
       answers = h.lines.answers;
       kept = h.lines.kept;
-      holds = λ settled. on_volume_then (facts.seen (view m)) _ _ (λ s k. holds s m m' _ _ _ _ k) (h.lines.holds settled);
-      holds_exactly = on_volume_then (facts.seen (view m)) _ _ (λ s k. exactly s result m' _ _ _ _ k) h.lines.holds_exactly;
+      holds = λ settled. on_volume_then (facts.seen (view m)) _ _ (λ s k. holds s m m' i o k) (h.lines.holds settled);
+      holds_exactly = on_volume_then (facts.seen (view m)) _ _ (λ s k. exactly s result m m' i o k) h.lines.holds_exactly;
       ends = h.lines.ends;
       which = h.lines.which;
       disk_failed = h.lines.disk_failed;
-      without = none to result m m' sink sink' h.lines.without;
+      without = none o.facts result m m' o.old o.new h.lines.without;
       none_source = h.lines.none_source;
-      not_opened = λ image seen no_state. let (alone, kept, quiet) = h.lines.not_opened image seen no_state in (alone, writes_nothing m m' kept, quiet);
+      untouched = λ image seen no_state. let (alone, kept, quiet) = h.lines.untouched image seen no_state in (alone, writes_nothing m m' kept, quiet);
       complete = h.lines.complete;
     };
     cost = h.cost;
     none_steps = h.none_steps;
-    not_opened_steps = h.not_opened_steps;
+    untouched_steps = h.untouched_steps;
   }

@@ -1,14 +1,10 @@
 -- What a run over a mirror promises. An object that does not tell its content has None for it; a promise on content is then empty.
-use Rattle.std.specs.Prelude.{ℕ, ◌≡◌, ◌≢◌, ◌⊎◌, IsTrue, List, [], ◌∷◌, ◌++◌, codes, min, take, option_map, Option, Some, None, IfSome}
-use Rattle.std.specs.Io.KnownBytes.{Appends}
+use Rattle.std.specs.Prelude.{ℕ, ◌≡◌, ◌≢◌, ◌⊎◌, IsTrue, List, [], ◌∷◌, ◌++◌, codes, min, take, option_map, Option, Some, None}
 use Rattle.std.specs.Option.{ForSome}
 use Rattle.mg_disk.specs.Disk.{Image}
-use Rattle.mg_disk.specs.Stops.{CountRose, Leaves, NothingPending, WritesNothing}
+use Rattle.mg_disk.specs.Stops.{Leaves, NothingPending, WritesNothing}
 use Rattle.mg_disk.specs.declared.disk.Disk as disks
-use Rattle.mg_faults.specs.Faults.{Rose}
-use Rattle.mg_io.specs.Known.{AppendsPrefix}
 use Rattle.mg_io.specs.declared.traits.Sink as sinks
-use Rattle.mg_io.specs.declared.traits.Source as sources
 use Rattle.mg_layout.specs.MayFormat.{IsNoState, opened}
 use Rattle.mg_mirror.specs.Mirror.{CutOf, told_cut}
 use Rattle.mg_mirror.specs.declared.mirror.Side.{Side}
@@ -18,9 +14,8 @@ use Rattle.mg_mirror_session.specs.Mirrored.{Two, mirror}
 use Rattle.mg_model.specs.Lines.{lines}
 use Rattle.mg_model.specs.Print.{text}
 use Rattle.mg_model.specs.Volume.{NotVolume, VolumeRead, volume}
-use Rattle.mg_serve.specs.Sessions.{IsDoneOrMemory, IsWithin, input_limit}
-use Rattle.mg_session.specs.Headline.{OnVolume, PutsLast, RunKeeps, UsageKeeps, check_line}
-use Rattle.mg_session.specs.Unopened.{EndsRun}
+use Rattle.mg_serve.specs.Sessions.{DiskRose, DiskUse, IfShort, IsDoneOrMemory, MayLeave, OfInput, Puts, PutsPrefix, SinkRose, SinkUse, SourceRose, SourceUse, disk_use, left_now, sink_use}
+use Rattle.mg_volume_session.specs.Headline.{EndsRun, OnVolume, PutsLast, RunKeeps, UsageKeeps, check_line, session_of}
 use Rattle.mg_serve.specs.declared.status.Status.{Status}
 use Rattle.mg_serve.specs.declared.status.Status.TheVariants as status
 
@@ -45,7 +40,9 @@ seen_behind d e from left right = option_map (take (min (d.block_count left) (e.
 -- What a stop within the copy may leave of the other disk, in its first n blocks, where it held an image and SIDE's disk x: no volume,
 -- what its blocks after the gate spelled before, or what those of x spell.
 abbrev pub MayHold : ℕ → Image → Image → Image → Type 0
-MayHold n image x c = (volume (take n c) ≡ NotVolume) ⊎ ((volume (take n c) ≡ volume (opened (take n image))) ⊎ (volume (take n c) ≡ volume (take n x)))
+MayHold n image x c =
+    (volume (take n c) ≡ NotVolume)
+    ⊎ ((volume (take n c) ≡ volume (opened (take n image))) ⊎ (volume (take n c) ≡ volume (take n x)))
 
 -- At each moment in which what a disk tells is copied to this one, which nothing was pending on, a stop leaves that.
 abbrev pub CopyHolds : {E : Type 0} → disks.Ghosts E → ℕ → Option Image → E → E → Type 0
@@ -54,18 +51,22 @@ CopyHolds e n from to to' = NothingPending e to → ForSome (e.seen to) (λ imag
 -- The mirror
 
 -- A mirror as it was opened from the disk on that side.
-pub record IsOpenedFrom {D E : Type 0} (d : disks.Ghosts D) (e : disks.Ghosts E) (from : Side) (left : D) (right : E) (opened : Two D E) : Type 0 where
+pub record IsOpenedFrom {D E : Type 0} (d : disks.Ghosts D) (e : disks.Ghosts E) (from : Side) (left : D) (right : E)
+    (opened : Two D E) : Type 0 where
   -- It has as many blocks as the smaller disk.
   pub blocks : opened.blocks ≡ min (d.block_count left) (e.block_count right)
   -- Its reads are told exactly where those of both disks are, whether or not stops are: they give the first blocks of that disk.
-  pub told : OfSide from ((mirror d e).seen opened ≡ told_cut opened.blocks (d.seen left) (e.seen right)) ((mirror d e).seen opened ≡ told_cut opened.blocks (e.seen right) (d.seen left))
+  pub told : OfSide from ((mirror d e).seen opened ≡ told_cut opened.blocks (d.seen left) (e.seen right))
+      ((mirror d e).seen opened ≡ told_cut opened.blocks (e.seen right) (d.seen left))
   -- So they do where both disks tell of stops.
-  pub reads : IsTrue (d.tells_stops left) → IsTrue (e.tells_stops right) → (mirror d e).seen opened ≡ option_map (take opened.blocks) (seen_on d e from left right)
+  pub reads : IsTrue (d.tells_stops left) → IsTrue (e.tells_stops right) →
+      (mirror d e).seen opened ≡ option_map (take opened.blocks) (seen_on d e from left right)
   -- That disk is in use, and nothing was written on it.
   pub serves : OfSide from (opened.alone ≢ Some Right) (opened.alone ≢ Some Left)
   pub kept : OfSide from (WritesNothing d left opened.left) (WritesNothing e right opened.right)
   -- To the other one it was copied.
-  pub copied : OfSide from (CopyHolds e opened.blocks (d.seen left) right opened.right) (CopyHolds d opened.blocks (e.seen right) left opened.left)
+  pub copied : OfSide from (CopyHolds e opened.blocks (d.seen left) right opened.right)
+      (CopyHolds d opened.blocks (e.seen right) left opened.left)
   -- Where nothing was pending on it, nothing is on the mirror: a stop leaves what reads give.
   pub settled : OfSide from (NothingPending d left) (NothingPending e right) → NothingPending (mirror d e) opened
 
@@ -78,92 +79,152 @@ last_line (Some Left) = codes "alone left" ++ 10 ∷ []
 last_line (Some Right) = codes "alone right" ++ 10 ∷ []
 
 -- What is put once a run has ended so, and how the whole ends.
-pub record PutsSide {K : Type 0} (to : sinks.Ghosts K) (ran : Status) (alone : Option Side) (result : Status) (replied sink' : K) : Type 0 where
+pub record PutsSide {K : Type 0} (to : sinks.Ghosts K) (ran : Status) (alone : Option Side) (result : Status)
+    (replied sink' : K) : Type 0 where
   -- After a run that is done the line of the side is put, or the sink fails in it; after one that ended early nothing more is put.
   pub last : PutsLast to ran (last_line alone) result replied sink'
   -- Nor while both sides are in use.
   pub both : alone ≡ None → (result ≡ ran) × (sink' ≡ replied)
 
+-- A session over a mirror
+
+-- A session over a mirror: the side that the mirror is opened from, how it ended, the one side that is still in use then, its disks, its
+-- source and its sink, and the counter of words as it began and as it ended.
+pub record MirrorSession (D E S K : Type 0) : Type 1 where
+  pub from : Side
+  pub result : Status
+  pub alone : Option Side
+  pub left : DiskUse D
+  pub right : DiskUse E
+  pub source : SourceUse S
+  pub sink : SinkUse K
+  pub steps : ℕ
+  pub steps' : ℕ
+
+abbrev pub session_over : {D E S K : Type 0} → Side → Status → Option Side → DiskUse D → DiskUse E → SourceUse S → SinkUse K → ℕ → ℕ
+    → MirrorSession D E S K
+session_over from result alone left right source sink steps steps' = record {
+  from = from;
+  result = result;
+  alone = alone;
+  left = left;
+  right = right;
+  source = source;
+  sink = sink;
+  steps = steps;
+  steps' = steps';
+}
+
+-- what a mirror of its disks tells
+abbrev pub both : {D E S K : Type 0} → MirrorSession D E S K → disks.Ghosts (Two D E)
+both m = mirror m.left.facts m.right.facts
+
+-- what holds of what reads of the disk on its side give, and of what they would give of the mirror
+abbrev pub OfSideRead : {D E S K : Type 0} → MirrorSession D E S K → (Image → Type 0) → Type 0
+OfSideRead m P = ForSome (seen_on m.left.facts m.right.facts m.from m.left.old m.right.old) P
+
+abbrev pub OfMirrorRead : {D E S K : Type 0} → MirrorSession D E S K → (Image → Type 0) → Type 0
+OfMirrorRead m P = ForSome (seen_behind m.left.facts m.right.facts m.from m.left.old m.right.old) P
+
+-- nothing is written on a disk
+abbrev pub IsUnwritten : {D : Type 0} → DiskUse D → Type 0
+IsUnwritten d = WritesNothing d.facts d.old d.new
+
+-- the blocks that a mirror of its disks has
+abbrev pub blocks_of_both : {D E S K : Type 0} → MirrorSession D E S K → ℕ
+blocks_of_both m = min (m.left.facts.block_count m.left.old) (m.right.facts.block_count m.right.old)
+
 -- What a command keeps that runs over a mirror
 
 -- The disk on the side that the mirror was to be opened from failed meanwhile: no mirror, no write on it, some of it copied to the other
 -- one, and nothing else was done.
-pub record IsNotOpened {D E S K : Type 0} (d : disks.Ghosts D) (e : disks.Ghosts E) (from : Side) (result : Status) (alone : Option Side) (left left' : D) (right right' : E) (source source' : S) (sink sink' : K) (steps steps' : ℕ) : Type 0 where
-  pub status : result ≡ status.Disk
-  pub none : alone ≡ None
-  pub failed : OfSide from (CountRose d left left') (CountRose e right right')
-  pub kept : OfSide from (WritesNothing d left left') (WritesNothing e right right')
-  pub copied : OfSide from (CopyHolds e (min (d.block_count left) (e.block_count right)) (d.seen left) right right') (CopyHolds d (min (d.block_count left) (e.block_count right)) (e.seen right) left left')
-  pub nothing : (source' ≡ source) × (sink' ≡ sink) × (steps' ≡ steps)
+pub record IsNotOpened {D E S K : Type 0} (m : MirrorSession D E S K) : Type 0 where
+  pub status : m.result ≡ status.Disk
+  pub none : m.alone ≡ None
+  pub failed : OfSide m.from (DiskRose m.left) (DiskRose m.right)
+  pub kept : OfSide m.from (IsUnwritten m.left) (IsUnwritten m.right)
+  pub copied : OfSide m.from
+      (CopyHolds m.right.facts (blocks_of_both m) (m.left.facts.seen m.left.old) m.right.old m.right.new)
+      (CopyHolds m.left.facts (blocks_of_both m) (m.right.facts.seen m.right.old) m.left.old m.left.new)
+  pub nothing : (m.source.new ≡ m.source.old) × (m.sink.new ≡ m.sink.old) × (m.steps' ≡ m.steps)
 
 -- The first two blocks that the mirror was to have tell of no volume: no mirror, no write on either disk, nothing was taken, and the
 -- line of it was put.
-pub record IsRefused {D E S K : Type 0} (d : disks.Ghosts D) (e : disks.Ghosts E) (to : sinks.Ghosts K) (from : Side) (result : Status) (alone : Option Side) (left left' : D) (right right' : E) (source source' : S) (sink sink' : K) (steps steps' : ℕ) : Type 0 where
+pub record IsRefused {D E S K : Type 0} (m : MirrorSession D E S K) : Type 0 where
   -- They tell of this kind of none, and the mirror would have held none of this kind.
   pub kind : VolumeRead
-  pub fault : ForSome (seen_behind d e from left right) (λ image. first_fault image ≡ Some kind)
-  pub is : ForSome (seen_behind d e from left right) (λ image. volume image ≡ kind)
+  pub fault : OfMirrorRead m (λ image. first_fault image ≡ Some kind)
+  pub is : OfMirrorRead m (λ image. volume image ≡ kind)
   pub no_state : IsNoState kind
   -- Its line was put, or the sink failed in it.
-  pub line : ((result ≡ status.NoVolume) × Appends (to.taken sink) (to.taken sink') (check_line kind))
-      ⊎ ((result ≡ status.Sink) × AppendsPrefix (to.taken sink) (to.taken sink') (check_line kind) × Rose (to.faults sink) (to.faults sink') (to.is_spent sink'))
-  pub none : alone ≡ None
+  pub line : ((m.result ≡ status.NoVolume) × Puts m.sink (check_line kind))
+      ⊎ ((m.result ≡ status.Sink) × PutsPrefix m.sink (check_line kind) × SinkRose m.sink)
+  pub none : m.alone ≡ None
   -- SIDE's disk was read alone, and the other one was left alone.
-  pub kept : OfSide from (WritesNothing d left left' × (right' ≡ right)) (WritesNothing e right right' × (left' ≡ left))
-  pub nothing : (source' ≡ source) × (steps' ≡ steps)
+  pub kept : OfSide m.from
+      (IsUnwritten m.left × (m.right.new ≡ m.right.old)) (IsUnwritten m.right × (m.left.new ≡ m.left.old))
+  pub nothing : (m.source.new ≡ m.source.old) × (m.steps' ≡ m.steps)
 
 -- The lines ran on a mirror.
-pub record RanOnMirror {D E S K : Type 0} (d : disks.Ghosts D) (e : disks.Ghosts E) (input : sources.Ghosts S) (to : sinks.Ghosts K) (from : Side) (result : Status) (alone : Option Side) (left left' : D) (right right' : E) (source source' : S) (sink sink' : K) (steps steps' : ℕ) : Type 0 where
-  -- The mirror as it was opened, and as it was at the end: its disks are those that are given back, and its side in use is the one that is told.
+pub record RanOnMirror {D E S K : Type 0} (m : MirrorSession D E S K) : Type 0 where
+  -- The mirror as it was opened, and as it was at the end: its disks are those that are given back, and its side in use is the one
+  -- that is told.
   pub opened : Two D E
-  pub opens : IsOpenedFrom d e from left right opened
+  pub opens : IsOpenedFrom m.left.facts m.right.facts m.from m.left.old m.right.old opened
   -- Its first two blocks told of no fault.
-  pub no_fault : ForSome (seen_behind d e from left right) (λ image. first_fault image ≡ None)
+  pub no_fault : OfMirrorRead m (λ image. first_fault image ≡ None)
   pub failed : ℕ
   pub closed : Two D E
-  pub closes : closed ≡ record { left = left'; right = right'; blocks = opened.blocks; alone = alone; failed = failed }
+  pub closes : closed ≡ record { left = m.left.new; right = m.right.new; blocks = opened.blocks; alone = m.alone; failed = failed }
   -- A disk that was dropped within the copy is left as the copy left it.
-  pub dropped_right : opened.alone ≡ Some Left → right' ≡ opened.right
-  pub dropped_left : opened.alone ≡ Some Right → left' ≡ opened.left
+  pub dropped_right : opened.alone ≡ Some Left → m.right.new ≡ opened.right
+  pub dropped_left : opened.alone ≡ Some Right → m.left.new ≡ opened.left
   -- How the run ended, and the sink once all replies were put.
   pub ran : Status
   pub replied : K
   -- Of the mirror the run keeps what `run` keeps of a disk, in batches of one reply.
-  pub keeps : RunKeeps (mirror d e) input to 1 ran opened closed source source' sink replied steps steps'
+  pub keeps : RunKeeps (session_of 1 ran (disk_use (both m) opened closed) m.source
+      (sink_use m.sink.facts m.sink.old replied) m.steps m.steps')
   -- Then the line of the side is put.
-  pub ends : PutsSide to ran alone result replied sink'
+  pub ends : PutsSide m.sink.facts ran m.alone m.result replied m.sink.new
   -- What was put is a prefix of the replies to the whole input and that line; at the end it is all of them.
-  pub prefix : OnVolume ((mirror d e).seen opened) (λ s. IfSome (input.left source) (λ bytes. AppendsPrefix (to.taken sink) (to.taken sink') (text s (lines bytes) ++ last_line alone)))
-  pub done : result ≡ status.Done → OnVolume ((mirror d e).seen opened) (λ s. IfSome (input.left source) (λ bytes. (input.left source' ≡ Some []) × Appends (to.taken sink) (to.taken sink') (text s (lines bytes) ++ last_line alone)))
-  -- What a stop may leave now of a disk that is in use, cut to the mirror's blocks, it may leave of the mirror: what is kept of the mirror is kept of that disk.
-  pub left_held : alone ≢ Some Right → IsTrue (e.tells_stops right') → (c : Image) → CutOf opened.blocks (d.left_since left' (d.moment left')) c → (mirror d e).left_since closed ((mirror d e).moment closed) c
-  pub right_held : alone ≢ Some Left → IsTrue (d.tells_stops left') → (c : Image) → CutOf opened.blocks (e.left_since right' (e.moment right')) c → (mirror d e).left_since closed ((mirror d e).moment closed) c
+  pub prefix : OnVolume ((both m).seen opened) (λ state. OfInput m.source (λ input.
+      PutsPrefix m.sink (text state (lines input) ++ last_line m.alone)))
+  pub done : m.result ≡ status.Done → OnVolume ((both m).seen opened) (λ state. OfInput m.source (λ input.
+      (left_now m.source ≡ Some []) × Puts m.sink (text state (lines input) ++ last_line m.alone)))
+  -- What a stop may leave now of a disk that is in use, cut to the mirror's blocks, it may leave of the mirror: what is kept of the
+  -- mirror is kept of that disk.
+  pub left_held : m.alone ≢ Some Right → IsTrue (m.right.facts.tells_stops m.right.new) →
+      (c : Image) → CutOf opened.blocks (MayLeave m.left) c → MayLeave (disk_use (both m) opened closed) c
+  pub right_held : m.alone ≢ Some Left → IsTrue (m.left.facts.tells_stops m.left.new) →
+      (c : Image) → CutOf opened.blocks (MayLeave m.right) c → MayLeave (disk_use (both m) opened closed) c
   -- The run failed at the disk only where the counts of both disks rose since the call began.
-  pub both_failed : result ≡ status.Disk → CountRose d left left' × CountRose e right right'
-  -- Where they did not, no call of the source or the sink failed, reads give a volume and the input is not too long, all is done, or memory was wanting.
-  pub complete : OnVolume ((mirror d e).seen opened) (λ _. (CountRose d left left' × CountRose e right right' → ⊥) → (Rose (input.faults source) (input.faults source') (input.is_spent source') → ⊥)
-      → (Rose (to.faults sink) (to.faults sink') (to.is_spent sink') → ⊥) → IsWithin input_limit (input.left source) (IsDoneOrMemory result))
+  pub both_failed : m.result ≡ status.Disk → DiskRose m.left × DiskRose m.right
+  -- Where they did not, no call of the source or the sink failed, reads give a volume and the input is not too long, all is done, or
+  -- memory was wanting.
+  pub complete : OnVolume ((both m).seen opened) (λ _. (DiskRose m.left × DiskRose m.right → ⊥) → (SourceRose m.source → ⊥)
+      → (SinkRose m.sink → ⊥) → IfShort m.source (IsDoneOrMemory m.result))
 
 -- What `LEFT mirror RIGHT SIDE` keeps.
-pub record MirrorKeeps {D E S K : Type 0} (d : disks.Ghosts D) (e : disks.Ghosts E) (input : sources.Ghosts S) (to : sinks.Ghosts K) (from : Side) (result : Status) (alone : Option Side) (left left' : D) (right right' : E) (source source' : S) (sink sink' : K) (steps steps' : ℕ) : Type 0 where
+pub record MirrorKeeps {D E S K : Type 0} (m : MirrorSession D E S K) : Type 0 where
   -- The lines ran on a mirror, unless the disk on SIDE failed while it was opened, or its first two blocks tell of no volume.
-  pub how : IsNotOpened d e from result alone left left' right right' source source' sink sink' steps steps' ⊎ (IsRefused d e to from result alone left left' right right' source source' sink sink' steps steps'
-      ⊎ RanOnMirror d e input to from result alone left left' right right' source source' sink sink' steps steps')
+  pub how : IsNotOpened m ⊎ (IsRefused m ⊎ RanOnMirror m)
   -- Where SIDE's first two blocks tell of no volume, or those that the mirror was to have do, nothing is written on either disk, at
   -- each status.
-  pub side_judged : ForSome (seen_on d e from left right) (λ image. first_fault image ≢ None → WritesNothing d left left' × WritesNothing e right right')
-  pub judged : ForSome (seen_behind d e from left right) (λ image. first_fault image ≢ None → WritesNothing d left left' × WritesNothing e right right')
+  pub side_judged : OfSideRead m (λ image. first_fault image ≢ None → IsUnwritten m.left × IsUnwritten m.right)
+  pub judged : OfMirrorRead m (λ image. first_fault image ≢ None → IsUnwritten m.left × IsUnwritten m.right)
   -- It ends in one of the ways of `run`.
-  pub which : EndsRun result
+  pub which : EndsRun m.result
   -- The disk is told to have failed only where the count of SIDE's disk rose.
-  pub disk_failed : result ≡ status.Disk → OfSide from (CountRose d left left') (CountRose e right right')
+  pub disk_failed : m.result ≡ status.Disk → OfSide m.from (DiskRose m.left) (DiskRose m.right)
   -- One side is told to stand alone only where the count of the other one's disk rose.
-  pub right_failed : alone ≡ Some Left → CountRose e right right'
-  pub left_failed : alone ≡ Some Right → CountRose d left left'
+  pub right_failed : m.alone ≡ Some Left → DiskRose m.right
+  pub left_failed : m.alone ≡ Some Right → DiskRose m.left
   -- The sink failed only where its count rose.
-  pub sink_failed : result ≡ status.Sink → Rose (to.faults sink) (to.faults sink') (to.is_spent sink')
+  pub sink_failed : m.result ≡ status.Sink → SinkRose m.sink
 
 -- What is kept where the words are no such: both disks and the source are left alone, and no side is told.
-pub record NoMirrorKeeps {D E S K : Type 0} (to : sinks.Ghosts K) (result : Status) (alone : Option Side) (left left' : D) (right right' : E) (source source' : S) (sink sink' : K) : Type 0 where
+pub record NoMirrorKeeps {D E S K : Type 0} (to : sinks.Ghosts K) (result : Status) (alone : Option Side)
+    (left left' : D) (right right' : E) (source source' : S) (sink sink' : K) : Type 0 where
   pub usage : UsageKeeps {D = D × E} to result (left, right) (left', right') source source' sink sink'
   pub none : alone ≡ None

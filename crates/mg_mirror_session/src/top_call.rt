@@ -1,9 +1,10 @@
 // All that is done over a mirror.
 ghost use Rattle.std.specs.Prelude.{◌≡◌, IfSome, None};
 ghost use Rattle.mg_mirror_session.specs.Commands.{mirror_of};
-ghost use Rattle.mg_mirror_session.specs.Headline.{MirrorKeeps, NoMirrorKeeps};
+ghost use Rattle.mg_mirror_session.specs.Headline.{MirrorKeeps, NoMirrorKeeps, session_over};
 ghost use Rattle.mg_mirror_session.specs.Ran.{RanOpened, as_two, out_left, out_right};
-ghost use Rattle.mg_session.specs.ByCommand.{words_of};
+ghost use Rattle.mg_serve.specs.Sessions.{disk_use, sink_use, source_use};
+ghost use Rattle.mg_volume_session.specs.ByCommand.{words_of};
 
 use crate::judging::read_first;
 use crate::putting::put_side;
@@ -12,7 +13,7 @@ use mg_disk::{BLOCK_SIZE, COPY_BLOCKS, Disk, Failed};
 use mg_io::{Sink, Source};
 use mg_mirror::{Mirror, MirrorFailed, Opened, Side};
 use mg_model::Steps;
-use mg_session::{Status, put_fault, put_usage, run};
+use mg_volume_session::{Status, put_fault, put_usage, run};
 use std::alloc::Global;
 use std::marker::Brand;
 use std::sync::ledger::Ledger;
@@ -57,8 +58,9 @@ pub fn top_mirror<D: Disk, E: Disk, S: Source, K: Sink, L: Ledger>(
     sink: &mut K,
     steps: &mut Steps<L>,
 ) -> Mirrored<D, E>
-    ensures mirror { IfSome (mirror_of (words_of words.now)) (λ from. MirrorKeeps D.Disk E.Disk S.Source K.Sink from result.status result.alone
-        left result.left right result.right source.old source.new sink.old sink.new steps.old steps.new) }
+    ensures mirror { IfSome (mirror_of (words_of words.now)) (λ from. MirrorKeeps (session_over from result.status result.alone
+        (disk_use D.Disk left result.left) (disk_use E.Disk right result.right) (source_use S.Source source.old source.new)
+        (sink_use K.Sink sink.old sink.new) steps.old steps.new)) }
     ensures usage { mirror_of (words_of words.now) ≡ None → NoMirrorKeeps K.Sink result.status result.alone
         left result.left right result.right source.old source.new sink.old sink.new }
 {
@@ -90,8 +92,9 @@ fn run_on_mirror<D: Disk, E: Disk, S: Source, K: Sink, L: Ledger, O: Opened<D, E
     requires right_faults { E.faults right ≡ O.right_faults }
     requires left_unknown { O.left_out ≡ None }
     requires right_unknown { O.right_out ≡ None }
-    ensures { MirrorKeeps D.Disk E.Disk S.Source K.Sink from result.status result.alone
-        left result.left right result.right source.old source.new sink.old sink.new steps.old steps.new }
+    ensures { MirrorKeeps (session_over from result.status result.alone
+        (disk_use D.Disk left result.left) (disk_use E.Disk right result.right) (source_use S.Source source.old source.new)
+        (sink_use K.Sink sink.old sink.new) steps.old steps.new) }
 {
     let (mut left, mut right) = (left, right);
     let mut buffer = [[0; BLOCK_SIZE]; COPY_BLOCKS];

@@ -1,7 +1,7 @@
 // The words of the command line.
 ghost use Rattle.std.specs.Prelude.{◌≡◌};
 ghost use Rattle.mg_mirror_session.specs.Commands.{mirror_of, mirror_words, side_named};
-ghost use Rattle.mg_session.specs.ByCommand.{words_of};
+ghost use Rattle.mg_volume_session.specs.ByCommand.{words_of};
 
 use mg_mirror::Side;
 

@@ -2,15 +2,12 @@
 use Rattle.std.specs.Prelude.{ℕ, ◌+◌, ◌≡◌, ◌≢◌, ◌⊎◌, true, List, Option, Some, None, Result, Ok, Err, IfErr, IfSome, IsOk, OnOk}
 use Rattle.std.specs.Option.{ForSome}
 use Rattle.std.proofs.Common.{arith, inl, inr, refl, ⊎_elim}
-use Rattle.mg_disk.specs.Stops.{CountRose, NothingPending}
+use Rattle.mg_disk.specs.Stops.{NothingPending}
 use Rattle.mg_disk.specs.declared.disk.Disk.{Ghosts}
-use Rattle.mg_faults.specs.Faults.{Rose}
-use Rattle.mg_io.specs.declared.traits.Sink as sinks
-use Rattle.mg_io.specs.declared.traits.Source as sources
 use Rattle.mg_serve.specs.declared.ended.Ended.{Ended}
 use Rattle.mg_serve.specs.declared.ended.Ended.TheVariants as ended
 use Rattle.mg_serve.specs.Parts.{KeepsExactly, SpellsAfter, TakesMore}
-use Rattle.mg_serve.specs.Sessions.{Answers, Ends, EndsSession, EndsTaking, Holds, HoldsExactly, IsDoneOrMemory, IsWithin, status_at, status_of}
+use Rattle.mg_serve.specs.Sessions.{Answers, DiskRose, DiskUse, Ends, EndsSession, EndsTaking, Holds, HoldsExactly, IsDoneOrMemory, IsWithin, SinkRose, SinkUse, SourceRose, SourceUse, status_at, status_of}
 use Rattle.mg_serve.specs.declared.machine.Machine as machines
 use Rattle.mg_serve.specs.declared.status.Status.{Status}
 use Rattle.mg_serve.specs.declared.status.Status.TheVariants as status
@@ -29,96 +26,6 @@ no_lines r disk source too_long h = ⊎_elim disk (λ taking. not_taking r sourc
 
 not_within : (r : Status) → r ≢ status.Done → r ≢ status.Source → (r ≡ status.Done) ⊎ (r ≡ status.Source) → ⊥
 not_within r done source h = ⊎_elim done source h
-
-module _ {M D : Type 0} (is : machines.Ghosts M) (facts : Ghosts D) (entry : Entry M D) (limit batch : ℕ) (left left' : Option (List ℕ)) (p : Point M D) where
-  -- it ended early
-  abbrev Early : Ended → Type 0
-  Early e = Stops (Broken is facts batch) e entry left limit batch (limit + 4096) p left'
-
-  -- at a good end nothing more was to be put
-  like_early : Finishes (Session is facts) entry left limit p left' → NothingPending facts p.disk → Early ended.Sink
-  like_early f stands = finishes_stops is facts entry limit batch (limit + 4096) left left' p f (omega arith) stands
-
-  answers_early : (e : Ended) → Early e → ForSome (facts.seen entry.disk) (λ image. Answers (is.said entry.machine image) (status_at e) left left' entry.taken p.taken)
-  answers_early ended.Disk w = λ image seen. record {
-    prefix = stops_prefix is facts entry limit batch (limit + 4096) ended.Disk left left' p w image seen;
-    done = λ h. absurd (cc);
-    first_lines = λ h. disk_lines is facts entry limit batch (limit + 4096) left left' p w image seen;
-  }
-  answers_early ended.Source w = λ image seen. record {
-    prefix = stops_prefix is facts entry limit batch (limit + 4096) ended.Source left left' p w image seen;
-    done = λ h. absurd (cc);
-    first_lines = λ h. source_lines is facts entry limit batch (limit + 4096) left left' p w image seen;
-  }
-  answers_early ended.Sink w = λ image seen. record {
-    prefix = stops_prefix is facts entry limit batch (limit + 4096) ended.Sink left left' p w image seen;
-    done = λ h. absurd (cc);
-    first_lines = λ h. absurd (no_lines status.Sink (λ e. cc) (λ e. cc) (λ e. cc) h);
-  }
-  answers_early ended.TooLong w = λ image seen. record {
-    prefix = stops_prefix is facts entry limit batch (limit + 4096) ended.TooLong left left' p w image seen;
-    done = λ h. absurd (cc);
-    first_lines = λ h. too_long_lines is facts entry limit batch (limit + 4096) left left' p w image seen;
-  }
-
-  exactly_early : (e : Ended) → Early e → ForSome (facts.seen entry.disk) (λ image. HoldsExactly facts (is.kept entry.machine image) (status_at e) p.disk left left' entry.taken p.taken)
-  exactly_early ended.Disk w = λ image seen. record { held_taking = λ h. absurd (not_taking status.Disk (λ e. cc) (λ e. cc) h); held_sink = λ h. absurd (cc) }
-  exactly_early ended.Source w = λ image seen. record {
-    held_taking = λ h. source_exactly is facts entry limit batch (limit + 4096) left left' p w image seen;
-    held_sink = λ h. absurd (cc);
-  }
-  exactly_early ended.Sink w = λ image seen. record {
-    held_taking = λ h. absurd (not_taking status.Sink (λ e. cc) (λ e. cc) h);
-    held_sink = λ h. sink_one is facts entry limit batch (limit + 4096) left left' p w image seen;
-  }
-  exactly_early ended.TooLong w = λ image seen. record {
-    held_taking = λ h. too_long_exactly is facts entry limit batch (limit + 4096) left left' p w image seen;
-    held_sink = λ h. absurd (cc);
-  }
-
-  holds_early : (e : Ended) → Early e → ForSome (facts.seen entry.disk) (λ image. Holds facts (is.kept entry.machine image) entry.disk p.disk left left' entry.taken p.taken)
-  holds_early e w = λ image seen. record {
-    moments = stops_moments is facts entry limit batch (limit + 4096) e left left' p w image seen;
-    held = stops_held is facts entry limit batch (limit + 4096) e left left' p w image seen;
-  }
-
-  pub session_answers : {T : Type 0} (r : Result T Ended) → OnOk r (Finishes (Session is facts) entry left limit p left') → OnOk r (NothingPending facts p.disk) → IfErr r Early
-      → ForSome (facts.seen entry.disk) (λ image. Answers (is.said entry.machine image) (status_of r) left left' entry.taken p.taken)
-  session_answers (Ok x) f stands w = λ image seen. record {
-    prefix = stops_prefix is facts entry limit batch (limit + 4096) ended.Sink left left' p (like_early f stands) image seen;
-    done = λ h. finishes_all is facts entry limit batch (limit + 4096) left left' p f image seen;
-    first_lines = λ h. absurd (no_lines status.Done (λ e. cc) (λ e. cc) (λ e. cc) h);
-  }
-  session_answers (Err e) f stands w = answers_early e w
-
-  pub session_kept : {T : Type 0} (r : Result T Ended) → OnOk r (Finishes (Session is facts) entry left limit p left')
-      → OnOk r (ForSome (facts.seen entry.disk) (λ image. IfSome left (λ input. SpellsAfter (is.kept entry.machine image) input (facts.seen p.disk))))
-  session_kept (Ok x) f = finishes_kept is facts entry limit batch (limit + 4096) left left' p f
-  session_kept (Err e) f = tt
-
-  pub session_holds : {T : Type 0} (r : Result T Ended) → OnOk r (Finishes (Session is facts) entry left limit p left') → OnOk r (NothingPending facts p.disk) → IfErr r Early
-      → ForSome (facts.seen entry.disk) (λ image. Holds facts (is.kept entry.machine image) entry.disk p.disk left left' entry.taken p.taken)
-  session_holds (Ok x) f stands w = holds_early ended.Sink (like_early f stands)
-  session_holds (Err e) f stands w = holds_early e w
-
-  pub session_exactly : {T : Type 0} (r : Result T Ended) → IfErr r Early
-      → ForSome (facts.seen entry.disk) (λ image. HoldsExactly facts (is.kept entry.machine image) (status_of r) p.disk left left' entry.taken p.taken)
-  session_exactly (Ok x) w = λ image seen. record { held_taking = λ h. absurd (not_taking status.Done (λ e. cc) (λ e. cc) h); held_sink = λ h. absurd (cc) }
-  session_exactly (Err e) w = exactly_early e w
-
-  pub session_at_disk : {T : Type 0} (r : Result T Ended) → IfErr r Early → r ≡ Err ended.Disk → is.is_live p.machine ≡ true
-      → ForSome (facts.seen entry.disk) (λ image. KeepsExactly (facts.left_since p.disk (facts.moment p.disk)) (is.kept entry.machine image) left entry.taken p.taken)
-  session_at_disk (Ok x) w at live = absurd (cc)
-  session_at_disk (Err ended.Disk) w at live = disk_exactly is facts entry limit batch (limit + 4096) left left' p live w
-  session_at_disk (Err ended.Source) w at live = absurd (cc)
-  session_at_disk (Err ended.Sink) w at live = absurd (cc)
-  session_at_disk (Err ended.TooLong) w at live = absurd (cc)
-
-  -- what is traced of the lines
-  session_traces : {T : Type 0} (r : Result T Ended) → OnOk r (Finishes (Session is facts) entry left limit p left') → IfErr r Early
-      → ForSome (facts.seen entry.disk) (λ image. Traces is batch (status_of r) entry.machine image left left' entry.taken p.taken entry.steps p.steps p.machine)
-  session_traces (Ok x) f w = finishes_traces is facts entry limit batch (limit + 4096) left left' p f
-  session_traces (Err e) f w = stops_traces is facts entry limit batch (limit + 4096) e left left' p w
 
 within_any : (limit : ℕ) (left : Option (List ℕ)) (P : Type 0) → P → IsWithin limit left P
 within_any limit None P holds = tt
@@ -164,19 +71,114 @@ is_done (Err ended.Source) p h = absurd (cc)
 is_done (Err ended.Sink) p h = absurd (cc)
 is_done (Err ended.TooLong) p h = absurd (cc)
 
-module _ {M D S K : Type 0} (is : machines.Ghosts M) (facts : Ghosts D) (from : sources.Ghosts S) (to : sinks.Ghosts K) (m m' : M) (d d' : D) (owed : Waiting) (n n' limit batch : ℕ) (source source' : S) (sink sink' : K) where
-  abbrev old : Entry M D
-  old = record { machine = m; disk = d; taken = to.taken sink; steps = n }
+module _ {M D S K : Type 0} (is : machines.Ghosts M) (d : DiskUse D) (i : SourceUse S) (o : SinkUse K) (m m' : M) (owed : Waiting) (n n' limit batch : ℕ) where
+  abbrev facts : Ghosts D
+  facts = d.facts
 
-  abbrev new : Point M D
-  new = record { machine = m'; disk = d'; owed = owed; taken = to.taken sink'; steps = n' }
+  abbrev left : Option (List ℕ)
+  left = i.facts.left i.old
 
-  abbrev EndsEarly : Ended → Type 0
-  EndsEarly e = Early is facts old limit batch (from.left source) (from.left source') new e
+  abbrev left' : Option (List ℕ)
+  left' = i.facts.left i.new
 
-  ends_early : (e : Ended) → EndsEarly e
-      → (e ≡ ended.Source → Rose (from.faults source) (from.faults source') (from.is_spent source')) → (e ≡ ended.Sink → Rose (to.faults sink) (to.faults sink') (to.is_spent sink'))
-      → Ends from to batch limit (status_at e) source source' sink sink'
+  abbrev entry : Entry M D
+  entry = record { machine = m; disk = d.old; taken = o.facts.taken o.old; steps = n }
+
+  abbrev p : Point M D
+  p = record { machine = m'; disk = d.new; owed = owed; taken = o.facts.taken o.new; steps = n' }
+
+  -- it ended early
+  abbrev Early : Ended → Type 0
+  Early e = Stops (Broken is facts batch) e entry left limit batch (limit + 4096) p left'
+
+  -- at a good end nothing more was to be put
+  like_early : Finishes (Session is facts) entry left limit p left' → NothingPending facts p.disk → Early ended.Sink
+  like_early f stands = finishes_stops is facts entry limit batch (limit + 4096) left left' p f (omega arith) stands
+
+  answers_early : (e : Ended) → Early e → ForSome (facts.seen entry.disk) (λ image. Answers (is.said entry.machine image) (status_at e) i o)
+  answers_early ended.Disk w = λ image seen. record {
+    prefix = stops_prefix is facts entry limit batch (limit + 4096) ended.Disk left left' p w image seen;
+    done = λ h. absurd (cc);
+    first_lines = λ h. disk_lines is facts entry limit batch (limit + 4096) left left' p w image seen;
+  }
+  answers_early ended.Source w = λ image seen. record {
+    prefix = stops_prefix is facts entry limit batch (limit + 4096) ended.Source left left' p w image seen;
+    done = λ h. absurd (cc);
+    first_lines = λ h. source_lines is facts entry limit batch (limit + 4096) left left' p w image seen;
+  }
+  answers_early ended.Sink w = λ image seen. record {
+    prefix = stops_prefix is facts entry limit batch (limit + 4096) ended.Sink left left' p w image seen;
+    done = λ h. absurd (cc);
+    first_lines = λ h. absurd (no_lines status.Sink (λ e. cc) (λ e. cc) (λ e. cc) h);
+  }
+  answers_early ended.TooLong w = λ image seen. record {
+    prefix = stops_prefix is facts entry limit batch (limit + 4096) ended.TooLong left left' p w image seen;
+    done = λ h. absurd (cc);
+    first_lines = λ h. too_long_lines is facts entry limit batch (limit + 4096) left left' p w image seen;
+  }
+
+  exactly_early : (e : Ended) → Early e → ForSome (facts.seen entry.disk) (λ image. HoldsExactly (is.kept entry.machine image) (status_at e) d i o)
+  exactly_early ended.Disk w = λ image seen. record { held_taking = λ h. absurd (not_taking status.Disk (λ e. cc) (λ e. cc) h); held_sink = λ h. absurd (cc) }
+  exactly_early ended.Source w = λ image seen. record {
+    held_taking = λ h. source_exactly is facts entry limit batch (limit + 4096) left left' p w image seen;
+    held_sink = λ h. absurd (cc);
+  }
+  exactly_early ended.Sink w = λ image seen. record {
+    held_taking = λ h. absurd (not_taking status.Sink (λ e. cc) (λ e. cc) h);
+    held_sink = λ h. sink_one is facts entry limit batch (limit + 4096) left left' p w image seen;
+  }
+  exactly_early ended.TooLong w = λ image seen. record {
+    held_taking = λ h. too_long_exactly is facts entry limit batch (limit + 4096) left left' p w image seen;
+    held_sink = λ h. absurd (cc);
+  }
+
+  holds_early : (e : Ended) → Early e → ForSome (facts.seen entry.disk) (λ image. Holds (is.kept entry.machine image) d i o)
+  holds_early e w = λ image seen. record {
+    moments = stops_moments is facts entry limit batch (limit + 4096) e left left' p w image seen;
+    held = stops_held is facts entry limit batch (limit + 4096) e left left' p w image seen;
+  }
+
+  pub session_answers : {T : Type 0} (r : Result T Ended) → OnOk r (Finishes (Session is facts) entry left limit p left') → OnOk r (NothingPending facts p.disk) → IfErr r Early
+      → ForSome (facts.seen entry.disk) (λ image. Answers (is.said entry.machine image) (status_of r) i o)
+  session_answers (Ok x) f stands w = λ image seen. record {
+    prefix = stops_prefix is facts entry limit batch (limit + 4096) ended.Sink left left' p (like_early f stands) image seen;
+    done = λ h. finishes_all is facts entry limit batch (limit + 4096) left left' p f image seen;
+    first_lines = λ h. absurd (no_lines status.Done (λ e. cc) (λ e. cc) (λ e. cc) h);
+  }
+  session_answers (Err e) f stands w = answers_early e w
+
+  pub session_kept : {T : Type 0} (r : Result T Ended) → OnOk r (Finishes (Session is facts) entry left limit p left')
+      → OnOk r (ForSome (facts.seen entry.disk) (λ image. IfSome left (λ input. SpellsAfter (is.kept entry.machine image) input (facts.seen p.disk))))
+  session_kept (Ok x) f = finishes_kept is facts entry limit batch (limit + 4096) left left' p f
+  session_kept (Err e) f = tt
+
+  pub session_holds : {T : Type 0} (r : Result T Ended) → OnOk r (Finishes (Session is facts) entry left limit p left') → OnOk r (NothingPending facts p.disk) → IfErr r Early
+      → ForSome (facts.seen entry.disk) (λ image. Holds (is.kept entry.machine image) d i o)
+  session_holds (Ok x) f stands w = holds_early ended.Sink (like_early f stands)
+  session_holds (Err e) f stands w = holds_early e w
+
+  pub session_exactly : {T : Type 0} (r : Result T Ended) → IfErr r Early
+      → ForSome (facts.seen entry.disk) (λ image. HoldsExactly (is.kept entry.machine image) (status_of r) d i o)
+  session_exactly (Ok x) w = λ image seen. record { held_taking = λ h. absurd (not_taking status.Done (λ e. cc) (λ e. cc) h); held_sink = λ h. absurd (cc) }
+  session_exactly (Err e) w = exactly_early e w
+
+  pub session_at_disk : {T : Type 0} (r : Result T Ended) → IfErr r Early → r ≡ Err ended.Disk → is.is_live p.machine ≡ true
+      → ForSome (facts.seen entry.disk) (λ image. KeepsExactly (facts.left_since p.disk (facts.moment p.disk)) (is.kept entry.machine image) left entry.taken p.taken)
+  session_at_disk (Ok x) w at live = absurd (cc)
+  session_at_disk (Err ended.Disk) w at live = disk_exactly is facts entry limit batch (limit + 4096) left left' p live w
+  session_at_disk (Err ended.Source) w at live = absurd (cc)
+  session_at_disk (Err ended.Sink) w at live = absurd (cc)
+  session_at_disk (Err ended.TooLong) w at live = absurd (cc)
+
+  -- what is traced of the lines
+  session_traces : {T : Type 0} (r : Result T Ended) → OnOk r (Finishes (Session is facts) entry left limit p left') → IfErr r Early
+      → ForSome (facts.seen entry.disk) (λ image. Traces is batch (status_of r) entry.machine image left left' entry.taken p.taken entry.steps p.steps p.machine)
+  session_traces (Ok x) f w = finishes_traces is facts entry limit batch (limit + 4096) left left' p f
+  session_traces (Err e) f w = stops_traces is facts entry limit batch (limit + 4096) e left left' p w
+
+  ends_early : (e : Ended) → Early e
+      → (e ≡ ended.Source → SourceRose i) → (e ≡ ended.Sink → SinkRose o)
+      → Ends batch limit (status_at e) i o
   ends_early ended.Disk w source_rose sink_rose = record {
     few = λ h. absurd (not_taking status.Disk (λ e. cc) (λ e. cc) h);
     memory = λ h. absurd (cc);
@@ -184,16 +186,16 @@ module _ {M D S K : Type 0} (is : machines.Ghosts M) (facts : Ghosts D) (from : 
     sink_failed = λ h. absurd (cc);
     too_long = λ h. absurd (cc);
     within = λ h. absurd (not_within status.Disk (λ e. cc) (λ e. cc) h);
-    bounded = stops_bound is facts old limit batch (limit + 4096) ended.Disk (from.left source) (from.left source') new w;
+    bounded = stops_bound is facts entry limit batch (limit + 4096) ended.Disk left left' p w;
   }
   ends_early ended.Source w source_rose sink_rose = record {
-    few = λ h. source_few is facts old limit batch (limit + 4096) (from.left source) (from.left source') new w;
+    few = λ h. source_few is facts entry limit batch (limit + 4096) left left' p w;
     memory = λ h. absurd (cc);
     source_failed = λ h. source_rose refl;
     sink_failed = λ h. absurd (cc);
     too_long = λ h. absurd (cc);
-    within = λ h. source_within is facts old limit batch (limit + 4096) (from.left source) (from.left source') new w;
-    bounded = stops_bound is facts old limit batch (limit + 4096) ended.Source (from.left source) (from.left source') new w;
+    within = λ h. source_within is facts entry limit batch (limit + 4096) left left' p w;
+    bounded = stops_bound is facts entry limit batch (limit + 4096) ended.Source left left' p w;
   }
   ends_early ended.Sink w source_rose sink_rose = record {
     few = λ h. absurd (not_taking status.Sink (λ e. cc) (λ e. cc) h);
@@ -202,53 +204,53 @@ module _ {M D S K : Type 0} (is : machines.Ghosts M) (facts : Ghosts D) (from : 
     sink_failed = λ h. sink_rose refl;
     too_long = λ h. absurd (cc);
     within = λ h. absurd (not_within status.Sink (λ e. cc) (λ e. cc) h);
-    bounded = stops_bound is facts old limit batch (limit + 4096) ended.Sink (from.left source) (from.left source') new w;
+    bounded = stops_bound is facts entry limit batch (limit + 4096) ended.Sink left left' p w;
   }
   ends_early ended.TooLong w source_rose sink_rose = record {
-    few = λ h. too_long_few is facts old limit batch (limit + 4096) (from.left source) (from.left source') new w;
+    few = λ h. too_long_few is facts entry limit batch (limit + 4096) left left' p w;
     memory = λ h. absurd (cc);
     source_failed = λ h. absurd (cc);
     sink_failed = λ h. absurd (cc);
-    too_long = λ h. too_long_more is facts old limit batch (limit + 4096) (from.left source) (from.left source') new w;
+    too_long = λ h. too_long_more is facts entry limit batch (limit + 4096) left left' p w;
     within = λ h. absurd (not_within status.TooLong (λ e. cc) (λ e. cc) h);
-    bounded = stops_bound is facts old limit batch (limit + 4096) ended.TooLong (from.left source) (from.left source') new w;
+    bounded = stops_bound is facts entry limit batch (limit + 4096) ended.TooLong left left' p w;
   }
 
-  session_ends : {T : Type 0} (r : Result T Ended) → OnOk r (Finishes (Session is facts) old (from.left source) limit new (from.left source')) → IfErr r EndsEarly
-      → (r ≡ Err ended.Source → Rose (from.faults source) (from.faults source') (from.is_spent source')) → (r ≡ Err ended.Sink → Rose (to.faults sink) (to.faults sink') (to.is_spent sink'))
-      → Ends from to batch limit (status_of r) source source' sink sink'
+  session_ends : {T : Type 0} (r : Result T Ended) → OnOk r (Finishes (Session is facts) entry left limit p left') → IfErr r Early
+      → (r ≡ Err ended.Source → SourceRose i) → (r ≡ Err ended.Sink → SinkRose o)
+      → Ends batch limit (status_of r) i o
   session_ends (Ok x) f w source_rose sink_rose = record {
     few = λ h. absurd (not_taking status.Done (λ e. cc) (λ e. cc) h);
     memory = λ h. absurd (cc);
     source_failed = λ h. absurd (cc);
     sink_failed = λ h. absurd (cc);
     too_long = λ h. absurd (cc);
-    within = λ h. finishes_within is facts old limit batch (limit + 4096) (from.left source) (from.left source') new f;
-    bounded = within_more (from.left source) (from.left source') limit 4096 (finishes_within is facts old limit batch (limit + 4096) (from.left source) (from.left source') new f);
+    within = λ h. finishes_within is facts entry limit batch (limit + 4096) left left' p f;
+    bounded = within_more left left' limit 4096 (finishes_within is facts entry limit batch (limit + 4096) left left' p f);
   }
   session_ends (Err e) f w source_rose sink_rose = ends_early e w (λ h. source_rose (let s : e ≡ ended.Source = h in cc)) (λ h. sink_rose (let s : e ≡ ended.Sink = h in cc))
 
   -- all done, where no call failed and the input is not too long
-  pub session_done : {T : Type 0} (r : Result T Ended) → OnOk r (Finishes (Session is facts) old (from.left source) limit new (from.left source')) → IfErr r EndsEarly
-      → (r ≡ Err ended.Disk → CountRose facts d d') → (r ≡ Err ended.Source → Rose (from.faults source) (from.faults source') (from.is_spent source')) → (r ≡ Err ended.Sink → Rose (to.faults sink) (to.faults sink') (to.is_spent sink'))
-      → (CountRose facts d d' → ⊥) → (Rose (from.faults source) (from.faults source') (from.is_spent source') → ⊥) → (Rose (to.faults sink) (to.faults sink') (to.is_spent sink') → ⊥)
-      → IsWithin limit (from.left source) (IsOk r)
+  pub session_done : {T : Type 0} (r : Result T Ended) → OnOk r (Finishes (Session is facts) entry left limit p left') → IfErr r Early
+      → (r ≡ Err ended.Disk → DiskRose d) → (r ≡ Err ended.Source → SourceRose i) → (r ≡ Err ended.Sink → SinkRose o)
+      → (DiskRose d → ⊥) → (SourceRose i → ⊥) → (SinkRose o → ⊥)
+      → IsWithin limit left (IsOk r)
   session_done r f w disk_rose source_rose sink_rose =
-      session_complete r limit (from.left source) (from.left source') (CountRose facts d d') (Rose (from.faults source) (from.faults source') (from.is_spent source')) (Rose (to.faults sink) (to.faults sink') (to.is_spent sink'))
+      session_complete r limit left left' (DiskRose d) (SourceRose i) (SinkRose o)
       disk_rose source_rose sink_rose (session_ends r f w source_rose sink_rose).too_long
 
   -- the record of a session that ended so
-  pub session_serves : {T : Type 0} (r : Result T Ended) → OnOk r (Finishes (Session is facts) old (from.left source) limit new (from.left source')) → OnOk r (NothingPending facts d') → IfErr r EndsEarly
-      → (r ≡ Err ended.Disk → CountRose facts d d') → (r ≡ Err ended.Source → Rose (from.faults source) (from.faults source') (from.is_spent source')) → (r ≡ Err ended.Sink → Rose (to.faults sink) (to.faults sink') (to.is_spent sink'))
-      → Serves is facts from to batch limit (status_of r) m m' d d' source source' sink sink' n n'
+  pub session_serves : {T : Type 0} (r : Result T Ended) → OnOk r (Finishes (Session is facts) entry left limit p left') → OnOk r (NothingPending facts p.disk) → IfErr r Early
+      → (r ≡ Err ended.Disk → DiskRose d) → (r ≡ Err ended.Source → SourceRose i) → (r ≡ Err ended.Sink → SinkRose o)
+      → Serves is batch limit (status_of r) m m' d i o n n'
   session_serves r f settled w disk_rose source_rose sink_rose = record {
     which = ends_session r;
-    answers = session_answers is facts old limit batch (from.left source) (from.left source') new r f settled w;
-    kept = is_done r (session_kept is facts old limit batch (from.left source) (from.left source') new r f);
-    holds = session_holds is facts old limit batch (from.left source) (from.left source') new r f settled w;
-    holds_exactly = session_exactly is facts old limit batch (from.left source) (from.left source') new r w;
-    traces = session_traces is facts old limit batch (from.left source) (from.left source') new r f w;
+    answers = session_answers r f settled w;
+    kept = is_done r (session_kept r f);
+    holds = session_holds r f settled w;
+    holds_exactly = session_exactly r w;
+    traces = session_traces r f w;
     ends = session_ends r f w source_rose sink_rose;
     disk_failed = λ h. disk_rose (at_disk r h);
-    complete = λ no_disk no_source no_sink. within_more_of limit (from.left source) (IsOk r) (IsDoneOrMemory (status_of r)) (done_or_memory r) (session_done r f w disk_rose source_rose sink_rose no_disk no_source no_sink);
+    complete = λ no_disk no_source no_sink. within_more_of limit left (IsOk r) (IsDoneOrMemory (status_of r)) (done_or_memory r) (session_done r f w disk_rose source_rose sink_rose no_disk no_source no_sink);
   }

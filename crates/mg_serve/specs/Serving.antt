@@ -22,7 +22,7 @@ use Rattle.mg_serve.specs.declared.status.Status.{Status}
 use Rattle.mg_serve.specs.declared.status.Status.TheVariants as status
 use Rattle.mg_serve.specs.Machines.{Entry, Point}
 use Rattle.mg_serve.specs.Parts.{IsPrefix, SpellsAfter}
-use Rattle.mg_serve.specs.Sessions.{Answers, Ends, EndsSession, Holds, HoldsExactly, IsCut, IsDoneOrMemory, IsWithin, UnlessDisk, taken_of}
+use Rattle.mg_serve.specs.Sessions.{Answers, DiskRose, DiskUse, Ends, EndsSession, Holds, HoldsExactly, IsCut, IsDoneOrMemory, IsWithin, OfInput, SinkRose, SinkUse, SourceRose, SourceUse, UnlessDisk, taken_of}
 
 -- What each call within a session keeps, whatever comes of it: unless the disk failed the machine is live and stands on the disk;
 -- the two counts of words rise by as much; and the disk and the sink failed only where their counts rose.
@@ -127,16 +127,15 @@ Traces is batch result old image left left' taken taken' steps steps' new =
     IfSome left (λ input. IsSomeAnd left' (λ rest. IsTraced is batch result old image input rest taken taken' steps steps' new))
 
 -- What is kept as lines run on a machine that stands on a disk, in batches of so many replies.
-pub record Serves {M D S K : Type 0} (is : machines.Ghosts M) (facts : disks.Ghosts D) (from : sources.Ghosts S) (to : sinks.Ghosts K) (batch limit : ℕ) (result : Status) (m m' : M) (disk disk' : D) (source source' : S) (sink sink' : K) (steps steps' : ℕ) : Type 0 where
+pub record Serves {M D S K : Type 0} (is : machines.Ghosts M) (batch limit : ℕ) (result : Status) (m m' : M) (d : DiskUse D) (i : SourceUse S) (o : SinkUse K) (steps steps' : ℕ) : Type 0 where
   pub which : EndsSession result
-  pub answers : ForSome (facts.seen disk) (λ image. Answers (is.said m image) result (from.left source) (from.left source') (to.taken sink) (to.taken sink'))
-  pub kept : result ≡ status.Done → ForSome (facts.seen disk) (λ image. IfSome (from.left source) (λ input. SpellsAfter (is.kept m image) input (facts.seen disk')))
-  pub holds : ForSome (facts.seen disk) (λ image. Holds facts (is.kept m image) disk disk' (from.left source) (from.left source') (to.taken sink) (to.taken sink'))
-  pub holds_exactly : ForSome (facts.seen disk) (λ image. HoldsExactly facts (is.kept m image) result disk' (from.left source) (from.left source') (to.taken sink) (to.taken sink'))
-  pub traces : ForSome (facts.seen disk) (λ image. Traces is batch result m image (from.left source) (from.left source') (to.taken sink) (to.taken sink') steps steps' m')
-  pub ends : Ends from to batch limit result source source' sink sink'
+  pub answers : ForSome (d.facts.seen d.old) (λ image. Answers (is.said m image) result i o)
+  pub kept : result ≡ status.Done → ForSome (d.facts.seen d.old) (λ image. OfInput i (λ input. SpellsAfter (is.kept m image) input (d.facts.seen d.new)))
+  pub holds : ForSome (d.facts.seen d.old) (λ image. Holds (is.kept m image) d i o)
+  pub holds_exactly : ForSome (d.facts.seen d.old) (λ image. HoldsExactly (is.kept m image) result d i o)
+  pub traces : ForSome (d.facts.seen d.old) (λ image. Traces is batch result m image (i.facts.left i.old) (i.facts.left i.new) (o.facts.taken o.old) (o.facts.taken o.new) steps steps' m')
+  pub ends : Ends batch limit result i o
   -- The disk failed only where its count rose.
-  pub disk_failed : result ≡ status.Disk → CountRose facts disk disk'
+  pub disk_failed : result ≡ status.Disk → DiskRose d
   -- Where no call failed and the input is not too long, all is done, or memory was wanting.
-  pub complete : (CountRose facts disk disk' → ⊥) → (Rose (from.faults source) (from.faults source') (from.is_spent source') → ⊥)
-      → (Rose (to.faults sink) (to.faults sink') (to.is_spent sink') → ⊥) → IsWithin limit (from.left source) (IsDoneOrMemory result)
+  pub complete : (DiskRose d → ⊥) → (SourceRose i → ⊥) → (SinkRose o → ⊥) → IsWithin limit (i.facts.left i.old) (IsDoneOrMemory result)

@@ -3,7 +3,7 @@
 use Rattle.std.specs.Prelude.{ℕ, ◌+◌, ◌-◌, ◌^◌, ◌<◌, ◌≤◌, ◌≡◌, ◌≢◌, ◌⊎◌, List, [], length, take, drop, Option, Some, IfSome, IsSomeAnd, Result, Ok, Err}
 use Rattle.std.specs.Io.KnownBytes.{Appends}
 use Rattle.mg_disk.specs.Disk.{Image}
-use Rattle.mg_disk.specs.Stops.{Leaves}
+use Rattle.mg_disk.specs.Stops.{CountRose, Leaves}
 use Rattle.mg_disk.specs.declared.disk.Disk as disks
 use Rattle.mg_faults.specs.Faults.{Rose}
 use Rattle.mg_io.specs.Known.{AppendsPrefix}
@@ -40,7 +40,9 @@ IsDoneOrMemory result = (result ≡ status.Done) ⊎ (result ≡ status.Memory)
 
 -- how a session may end
 abbrev pub EndsSession : Status → Type 0
-EndsSession result = (result ≡ status.Done) ⊎ ((result ≡ status.Memory) ⊎ ((result ≡ status.Disk) ⊎ ((result ≡ status.Source) ⊎ ((result ≡ status.Sink) ⊎ (result ≡ status.TooLong)))))
+EndsSession result =
+    (result ≡ status.Done) ⊎ ((result ≡ status.Memory) ⊎ ((result ≡ status.Disk)
+    ⊎ ((result ≡ status.Source) ⊎ ((result ≡ status.Sink) ⊎ (result ≡ status.TooLong)))))
 
 -- the status of a session that ended early
 abbrev pub status_at : Ended → Status
@@ -59,6 +61,85 @@ abbrev pub UnlessDisk : {T : Type 0} → Result T Ended → Type 0 → Type 0
 UnlessDisk (Err ended.Disk) P = Unit {0}
 UnlessDisk _ P = P
 
+-- The objects of a session
+
+-- A disk: what it tells, and the disk as a call found it and as it left it.
+pub record DiskUse (D : Type 0) : Type 1 where
+  pub facts : disks.Ghosts D
+  pub old : D
+  pub new : D
+
+abbrev pub disk_use : {D : Type 0} → disks.Ghosts D → D → D → DiskUse D
+disk_use facts old new = record { facts = facts; old = old; new = new }
+
+-- A source, likewise.
+pub record SourceUse (S : Type 0) : Type 1 where
+  pub facts : sources.Ghosts S
+  pub old : S
+  pub new : S
+
+abbrev pub source_use : {S : Type 0} → sources.Ghosts S → S → S → SourceUse S
+source_use facts old new = record { facts = facts; old = old; new = new }
+
+-- A sink, likewise.
+pub record SinkUse (K : Type 0) : Type 1 where
+  pub facts : sinks.Ghosts K
+  pub old : K
+  pub new : K
+
+abbrev pub sink_use : {K : Type 0} → sinks.Ghosts K → K → K → SinkUse K
+sink_use facts old new = record { facts = facts; old = old; new = new }
+
+-- the count of faults rose, or stands at its last value
+abbrev pub DiskRose : {D : Type 0} → DiskUse D → Type 0
+DiskRose d = CountRose d.facts d.old d.new
+
+abbrev pub SourceRose : {S : Type 0} → SourceUse S → Type 0
+SourceRose i = Rose (i.facts.faults i.old) (i.facts.faults i.new) (i.facts.is_spent i.new)
+
+abbrev pub SinkRose : {K : Type 0} → SinkUse K → Type 0
+SinkRose o = Rose (o.facts.faults o.old) (o.facts.faults o.new) (o.facts.is_spent o.new)
+
+-- a stop at the end may leave this image
+abbrev pub MayLeave : {D : Type 0} → DiskUse D → Image → Type 0
+MayLeave d c = d.facts.left_since d.new (d.facts.moment d.new) c
+
+-- at each moment a stop left such an image
+abbrev pub AlwaysLeft : {D : Type 0} → DiskUse D → (Image → Type 0) → Type 0
+AlwaysLeft d P = Leaves d.facts d.old d.new P
+
+-- reads give an image that spells this state
+abbrev pub SpellsNow : {D : Type 0} → DiskUse D → State → Type 0
+SpellsNow d state = IsSomeAnd (d.facts.seen d.new) (λ image. volume image ≡ Is state)
+
+-- the bytes that a source had left, and those that it has left now
+abbrev pub left_at : {S : Type 0} → SourceUse S → Option (List ℕ)
+left_at i = i.facts.left i.old
+
+abbrev pub left_now : {S : Type 0} → SourceUse S → Option (List ℕ)
+left_now i = i.facts.left i.new
+
+-- what holds of the input, where it is told: the bytes that the source had left
+abbrev pub OfInput : {S : Type 0} → SourceUse S → (List ℕ → Type 0) → Type 0
+OfInput i P = IfSome (left_at i) P
+
+-- what holds of the input and of the rest of it that was not taken
+abbrev pub OfRest : {S : Type 0} → SourceUse S → (List ℕ → List ℕ → Type 0) → Type 0
+OfRest i P = OfInput i (λ input. IsSomeAnd (left_now i) (λ rest. P input rest))
+
+-- the sink took this text
+abbrev pub Puts : {K : Type 0} → SinkUse K → List ℕ → Type 0
+Puts o said = Appends (o.facts.taken o.old) (o.facts.taken o.new) said
+
+-- the sink took a prefix of it
+abbrev pub PutsPrefix : {K : Type 0} → SinkUse K → List ℕ → Type 0
+PutsPrefix o said = AppendsPrefix (o.facts.taken o.old) (o.facts.taken o.new) said
+
+-- what holds of the number of answered lines, where it is told what the sink took: it is that of the newlines
+abbrev pub OfAnswered : {K : Type 0} → SinkUse K → (ℕ → Type 0) → Type 0
+OfAnswered o P = IfSome (o.facts.taken o.old) (λ before. IsSomeAnd (o.facts.taken o.new) (λ now.
+    P (answered (drop (length before) now))))
+
 -- A session: how much of the input is taken
 
 -- the bytes that a session may take
@@ -72,6 +153,10 @@ TakesAtMost limit left left' = IfSome left (λ input. IsSomeAnd left' (λ rest. 
 -- the input has no more than so many bytes, where it is told
 abbrev pub IsWithin : ℕ → Option (List ℕ) → Type 0 → Type 0
 IsWithin limit left promise = IfSome left (λ input. length input ≤ limit → promise)
+
+-- where the input is no longer than a session may take
+abbrev pub IfShort : {S : Type 0} → SourceUse S → Type 0 → Type 0
+IfShort i promise = IsWithin input_limit (left_at i) promise
 
 -- the bytes that were taken from an input
 abbrev pub taken_of : List ℕ → List ℕ → List ℕ
@@ -90,13 +175,14 @@ IsCut result rest = (rest ≢ []) ⊎ EndsTaking result
 -- state of its volume after them. For a kernel in the state `s` they are `text s` and `after s`.
 
 -- What the sink took of a session that ended with this status.
-pub record Answers (said : List Line → List ℕ) (result : Status) (left left' taken taken' : Option (List ℕ)) : Type 0 where
+pub record Answers {S K : Type 0} (said : List Line → List ℕ) (result : Status) (i : SourceUse S) (o : SinkUse K) : Type 0 where
   -- At each status it is a prefix of the replies to the whole input.
-  pub prefix : IfSome left (λ input. AppendsPrefix taken taken' (said (lines input)))
+  pub prefix : OfInput i (λ input. PutsPrefix o (said (lines input)))
   -- At the end the source was read whole, and the sink took the replies to all of it.
-  pub done : result ≡ status.Done → IfSome left (λ input. (left' ≡ Some []) × Appends taken taken' (said (lines input)))
+  pub done : result ≡ status.Done → OfInput i (λ input. (left_now i ≡ Some []) × Puts o (said (lines input)))
   -- Where the disk or the source failed, or too much came, it is the replies to some first lines, each of them whole.
-  pub first_lines : (result ≡ status.Disk) ⊎ EndsTaking result → IfSome left (λ input. (k : ℕ) × (k ≤ length (lines input)) × Appends taken taken' (said (take k (lines input))))
+  pub first_lines : (result ≡ status.Disk) ⊎ EndsTaking result →
+      OfInput i (λ input. (k : ℕ) × (k ≤ length (lines input)) × Puts o (said (take k (lines input))))
 
 -- A session: what a stop leaves
 
@@ -105,38 +191,46 @@ pub record IsAnswered (input rest : List ℕ) (taken taken' : Option (List ℕ))
   pub all_answered : IfSome taken (λ before. IsSomeAnd taken' (λ now. answered (drop (length before) now) ≤ k))
   pub came : k ≤ length (lines (taken_of input rest))
 
--- What a stop leaves of a session.
-pub record Holds {D : Type 0} (facts : disks.Ghosts D) (kept : List Line → State) (disk disk' : D) (left left' taken taken' : Option (List ℕ)) : Type 0 where
-  -- At each moment it leaves the state after some first lines.
-  pub moments : IfSome left (λ input. Leaves facts disk disk' (λ c. (k : ℕ) × (k ≤ length (lines input)) × (volume c ≡ Is (kept (take k (lines input))))))
-  -- At the end, whatever the status, these are at least the answered lines, and all of them came.
-  pub held : IfSome left (λ input. IsSomeAnd left' (λ rest. (c : Image) → facts.left_since disk' (facts.moment disk') c →
-      (k : ℕ) × IsAnswered input rest taken taken' k × (volume c ≡ Is (kept (take k (lines input))))))
+-- the same, of what a sink took
+abbrev pub AreHeld : {K : Type 0} → SinkUse K → List ℕ → List ℕ → ℕ → Type 0
+AreHeld o input rest k = IsAnswered input rest (o.facts.taken o.old) (o.facts.taken o.new) k
 
--- What a stop leaves once a session ended, and not by the disk.
-pub record HoldsExactly {D : Type 0} (facts : disks.Ghosts D) (kept : List Line → State) (result : Status) (disk' : D) (left left' taken taken' : Option (List ℕ)) : Type 0 where
+-- an image spells the state after so many first lines
+abbrev pub SpellsFirst : (List Line → State) → List ℕ → ℕ → Image → Type 0
+SpellsFirst kept input k c = volume c ≡ Is (kept (take k (lines input)))
+
+-- What a stop leaves of a session.
+pub record Holds {D S K : Type 0} (kept : List Line → State) (d : DiskUse D) (i : SourceUse S) (o : SinkUse K) : Type 0 where
+  -- At each moment it leaves the state after some first lines.
+  pub moments : OfInput i (λ input. AlwaysLeft d (λ c. (k : ℕ) × (k ≤ length (lines input)) × SpellsFirst kept input k c))
+  -- At the end, whatever the status, these are at least the answered lines, and all of them came.
+  pub held : OfRest i (λ input rest. (c : Image) → MayLeave d c → (k : ℕ) × AreHeld o input rest k × SpellsFirst kept input k c)
+
+-- What a stop leaves once a session ended with this status, and not by the disk.
+pub record HoldsExactly {D S K : Type 0} (kept : List Line → State) (result : Status)
+    (d : DiskUse D) (i : SourceUse S) (o : SinkUse K) : Type 0 where
   -- Where the source failed, or gave too much, the answered lines are held and no others.
-  pub held_taking : EndsTaking result → IfSome left (λ input. IfSome taken (λ before. IsSomeAnd taken' (λ now. (c : Image) → facts.left_since disk' (facts.moment disk') c →
-      volume c ≡ Is (kept (take (answered (drop (length before) now)) (lines input))))))
+  pub held_taking : EndsTaking result →
+      OfInput i (λ input. OfAnswered o (λ count. (c : Image) → MayLeave d c → SpellsFirst kept input count c))
   -- Where the sink failed it is one and the same state, after some first lines as at the end of every session.
-  pub held_sink : result ≡ status.Sink → IfSome left (λ input. IsSomeAnd left' (λ rest. (k : ℕ) × IsAnswered input rest taken taken' k
-      × ((c : Image) → facts.left_since disk' (facts.moment disk') c → volume c ≡ Is (kept (take k (lines input))))))
+  pub held_sink : result ≡ status.Sink →
+      OfRest i (λ input rest. (k : ℕ) × AreHeld o input rest k × ((c : Image) → MayLeave d c → SpellsFirst kept input k c))
 
 -- A session: when each status comes
 
 -- How a session in batches of so many replies ends, and how much of the input it takes, whatever reads tell.
-pub record Ends {S K : Type 0} (from : sources.Ghosts S) (to : sinks.Ghosts K) (batch limit : ℕ) (result : Status) (source source' : S) (sink sink' : K) : Type 0 where
+pub record Ends {S K : Type 0} (batch limit : ℕ) (result : Status) (i : SourceUse S) (o : SinkUse K) : Type 0 where
   -- Where the source failed, or gave too much, fewer calls than a batch are unanswered of the lines that are ended among the first
   -- `limit` bytes taken.
-  pub few : EndsTaking result → IfSome (from.left source) (λ input. IsSomeAnd (from.left source') (λ rest. IfSome (to.taken sink) (λ before. IsSomeAnd (to.taken sink') (λ now.
-      length (ended_lines (take limit (taken_of input rest))) < answered (drop (length before) now) + batch))))
+  pub few : EndsTaking result →
+      OfRest i (λ input rest. OfAnswered o (λ count. length (ended_lines (take limit (taken_of input rest))) < count + batch))
   -- Memory is wanting only before anything was taken or put.
-  pub memory : result ≡ status.Memory → (source' ≡ source) × (sink' ≡ sink)
+  pub memory : result ≡ status.Memory → (i.new ≡ i.old) × (o.new ≡ o.old)
   -- The source and the sink failed only where their counts rose.
-  pub source_failed : result ≡ status.Source → Rose (from.faults source) (from.faults source') (from.is_spent source')
-  pub sink_failed : result ≡ status.Sink → Rose (to.faults sink) (to.faults sink') (to.is_spent sink')
+  pub source_failed : result ≡ status.Source → SourceRose i
+  pub sink_failed : result ≡ status.Sink → SinkRose o
   -- The input is too long exactly where more was taken than a session may, unless a call failed.
-  pub too_long : result ≡ status.TooLong → IfSome (from.left source) (λ input. IsSomeAnd (from.left source') (λ rest. limit + length rest < length input))
-  pub within : (result ≡ status.Done) ⊎ (result ≡ status.Source) → TakesAtMost limit (from.left source) (from.left source')
+  pub too_long : result ≡ status.TooLong → OfRest i (λ input rest. limit + length rest < length input)
+  pub within : (result ≡ status.Done) ⊎ (result ≡ status.Source) → TakesAtMost limit (left_at i) (left_now i)
   -- At each status no more is taken than that, and a piece.
-  pub bounded : TakesAtMost (limit + 4096) (from.left source) (from.left source')
+  pub bounded : TakesAtMost (limit + 4096) (left_at i) (left_now i)

@@ -6,7 +6,7 @@ ghost use Rattle.mg_faults.specs.Faults.{CountGoesOn, Rose};
 ghost use Rattle.mg_model.specs.Counts.{CountsAlike};
 ghost use Rattle.mg_serve.specs.Serving.{Serves};
 ghost use Rattle.mg_serve.specs.Parts.{KeepsExactly};
-ghost use Rattle.mg_serve.specs.Sessions.{IsWithin, UnlessDisk, input_limit, status_of};
+ghost use Rattle.mg_serve.specs.Sessions.{IsWithin, UnlessDisk, disk_use, input_limit, sink_use, source_use, status_of};
 
 use crate::buffers::Buffers;
 use crate::ended::Ended;
@@ -52,7 +52,8 @@ pub fn serve<M: Machine, D: Disk, S: Source, K: Sink, L: Ledger>(
     requires small { batch ≤ 64 }
 
     // What the sink took, what a stop leaves, and how the session ends.
-    ensures serves { Serves M.Machine D.Disk S.Source K.Sink batch limit (status_of result) machine.old machine.new disk.old disk.new source.old source.new sink.old sink.new steps.old steps.new }
+    ensures serves { Serves M.Machine batch limit (status_of result) machine.old machine.new (disk_use D.Disk disk.old disk.new)
+        (source_use S.Source source.old source.new) (sink_use K.Sink sink.old sink.new) steps.old steps.new }
     ensures disk { DiskCallsBy D.Disk disk.old disk.new (result ≡ Err Ended.Disk) }
 
     // Where no call failed and the input is not too long, all is done.
@@ -93,7 +94,8 @@ pub fn run<M: Machine, D: Disk, S: Source, K: Sink, L: Ledger>(
     requires staged { M.staged_of machine.old ≡ 0 }
     requires batch_at_least_1 { 1 ≤ batch }
     requires small { batch ≤ 64 }
-    ensures serves { Serves M.Machine D.Disk S.Source K.Sink batch input_limit result machine.old machine.new disk.old disk.new source.old source.new sink.old sink.new steps.old steps.new }
+    ensures serves { Serves M.Machine batch input_limit result machine.old machine.new (disk_use D.Disk disk.old disk.new)
+        (source_use S.Source source.old source.new) (sink_use K.Sink sink.old sink.new) steps.old steps.new }
     ensures memory { result ≡ Status.Memory → machine.new ≡ machine.old }
     ensures disk_count { CountGoes D.Disk disk.old disk.new }
     ensures disk_blocks { D.block_count disk.new ≡ D.block_count disk.old }

@@ -2,7 +2,7 @@
 use Rattle.std.specs.Prelude.{◌≡◌, ◌&&◌, suc, Bool, false, true, List, [], ◌∷◌, length, String}
 use Rattle.std.specs.declared.alloc.Global.{Global}
 use Rattle.std.proofs.Common.{refl, ap, ◌∙◌}
-use Rattle.mg_session.specs.ByCommand.{words_of}
+use Rattle.mg_volume_session.specs.ByCommand.{words_of}
 use Rattle.mg_window.specs.Attached.{Attached}
 use Rattle.mg_window_session.specs.Commands.{Asked, are_those, is_that}
 

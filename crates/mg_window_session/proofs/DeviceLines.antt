@@ -12,13 +12,13 @@ use Rattle.mg_io.specs.declared.traits.Source as sources
 use Rattle.mg_model.specs.Lines.{lines}
 use Rattle.mg_model.specs.State.{State}
 use Rattle.mg_model.specs.Volume.{volume}
-use Rattle.mg_serve.specs.Sessions.{IsDoneOrMemory, IsWithin, input_limit}
-use Rattle.mg_session.specs.Headline.{OnVolume, PutsLast}
+use Rattle.mg_serve.specs.Sessions.{IsDoneOrMemory, IsWithin, disk_use, input_limit, sink_use, source_use}
+use Rattle.mg_volume_session.specs.Headline.{OnVolume, PutsLast, session_of}
 use Rattle.mg_serve.specs.declared.status.Status.{Status}
 use Rattle.mg_serve.specs.declared.status.Status.TheVariants as status
 use Rattle.mg_window.specs.Attached.{Attached}
-use Rattle.mg_session.specs.LastLemmas.{disk_ran, done_or_memory, ends_run, put_all, put_prefix, sink_failed}
-use Rattle.mg_session.specs.OpeningLemmas.{lines_unopened, unopened}
+use Rattle.mg_volume_session.specs.LastLemmas.{disk_ran, done_or_memory, ends_run, put_all, put_prefix, sink_failed}
+use Rattle.mg_volume_session.specs.OpeningLemmas.{lines_unopened, unopened}
 use Rattle.mg_window_session.specs.Headline.{DevKeeps, DevicesKeep, LeavesDevices, device_lines, equipped}
 use Rattle.mg_window_session.specs.Machine.{device_after, device_state, device_text}
 use Rattle.mg_window_session.proofs.DeviceSteps.{fault_devices}
@@ -36,20 +36,20 @@ on_volume_both : (told : Option Image) (P Q R : State → Type 0) → ((s : Stat
 on_volume_both told P Q R then p q = λ image is s spelled. then s (p image is s spelled) (q image is s spelled)
 
 -- what is kept once the lines of the devices are put
-pub dev_keeps : {D S K : Type 0} (facts : disks.Ghosts D) (from : sources.Ghosts S) (to : sinks.Ghosts K) (ran result : Status) (windows windows' : Attached) (d d' : D) (source source' : S) (sink replied sink' : K)
-    → DevicesKeep facts from to ran windows windows' d d' source source' sink replied → PutsLast to ran (device_lines windows') result replied sink'
+pub dev_keeps : {D S K : Type 0} (facts : disks.Ghosts D) (from : sources.Ghosts S) (to : sinks.Ghosts K) (ran result : Status) (windows windows' : Attached) (d d' : D) (source source' : S) (sink replied sink' : K) (steps steps' : ℕ)
+    → DevicesKeep windows windows' (session_of 1 ran (disk_use facts d d') (source_use from source source') (sink_use to sink replied) steps steps') → PutsLast to ran (device_lines windows') result replied sink'
     → CountGoesOn (to.faults sink) (to.faults replied) (to.is_spent sink) (to.is_spent replied) → CountGoesOn (to.faults replied) (to.faults sink') (to.is_spent replied) (to.is_spent sink')
-    → DevKeeps facts from to result windows windows' d d' source source' sink sink'
-dev_keeps facts from to ran result windows windows' d d' source source' sink replied sink' keeps ends before after = record {
+    → DevKeeps windows windows' (session_of 1 result (disk_use facts d d') (source_use from source source') (sink_use to sink sink') steps steps')
+dev_keeps facts from to ran result windows windows' d d' source source' sink replied sink' steps steps' keeps ends before after = record {
   ran = ran;
   replied = replied;
   keeps = keeps;
   ends = ends;
   prefix = on_volume_both (facts.seen d) _ _ _
-      (λ s answers devices. put_prefix to ran (device_lines windows') result replied sink' ends (device_text (equipped windows s)) (from.left source) (from.left source') (to.taken sink) answers
+      (λ s answers devices. put_prefix to ran (device_lines windows') result replied sink' ends (device_text (equipped windows s)) (source_use from source source') sink answers
       (λ bytes. device_lines (device_after (equipped windows s) (lines bytes)).windows) (λ done. if_some_then (from.left source) _ _ (λ bytes are. ap device_lines are) (devices.all done))) keeps.lines.answers keeps.devices;
   done = λ is. on_volume_both (facts.seen d) _ _ _
-      (λ s answers devices. put_all to ran (device_lines windows') result replied sink' ends (device_text (equipped windows s)) (from.left source) (from.left source') (to.taken sink) answers
+      (λ s answers devices. put_all to ran (device_lines windows') result replied sink' ends (device_text (equipped windows s)) (source_use from source source') sink answers
       (λ bytes. device_lines (device_after (equipped windows s) (lines bytes)).windows) (λ done. if_some_then (from.left source) _ _ (λ bytes are. ap device_lines are) (devices.all done)) is) keeps.lines.answers keeps.devices;
   which = ends_run to ran (device_lines windows') result replied sink' ends keeps.lines.which;
   disk_failed = λ is. keeps.lines.disk_failed (disk_ran to ran (device_lines windows') result replied sink' ends is);
@@ -61,17 +61,17 @@ dev_keeps facts from to ran result windows windows' d d' source source' sink rep
 }
 
 -- where memory is wanting before anything was begun
-pub not_begun : {D S K : Type 0} (facts : disks.Ghosts D) (from : sources.Ghosts S) (to : sinks.Ghosts K) (windows : Attached) (d : D) (source : S) (sink : K) → facts.has_been d (facts.moment d)
-    → DevKeeps facts from to status.Memory windows windows d d source source sink sink
-not_begun facts from to windows d source sink been = dev_keeps facts from to status.Memory status.Memory windows windows d d source source sink sink sink
+pub not_begun : {D S K : Type 0} (facts : disks.Ghosts D) (from : sources.Ghosts S) (to : sinks.Ghosts K) (windows : Attached) (d : D) (source : S) (sink : K) (steps : ℕ) → facts.has_been d (facts.moment d)
+    → DevKeeps windows windows (session_of 1 status.Memory (disk_use facts d d) (source_use from source source) (sink_use to sink sink) steps steps)
+not_begun facts from to windows d source sink steps been = dev_keeps facts from to status.Memory status.Memory windows windows d d source source sink sink sink steps steps
     record {
-      lines = lines_unopened facts from to (λ s. device_text (equipped windows s)) (λ s. device_state (equipped windows s)) 1 fault.Memory status.Memory d d source sink sink tt refl
+      lines = lines_unopened facts from to (λ s. device_text (equipped windows s)) (λ s. device_state (equipped windows s)) 1 fault.Memory status.Memory d d source sink sink steps tt refl
           (λ loud. absurd (loud tt)) (λ image told no_state. nothing_none facts d been) (λ q. refl) (λ h. absurd (cc)) (AppendsPrefix-none (to.taken sink) []) (λ h. absurd (cc)) (λ h. absurd (cc))
           (λ only image told. leaves_yet facts d (λ c. volume c ≡ volume image) been (λ c left. ap volume (only_image facts d image c (record { told = told; settled = only }) left))) (λ s. refl) (λ s. refl);
       devices = unopened fault.Memory (facts.seen d) (λ s. LeavesDevices (equipped windows s) status.Memory windows (from.left source) (to.taken sink) (to.taken sink)) tt
           (λ quiet image seen s spelled. fault_devices (equipped windows s) fault.Memory status.Memory (from.left source) (to.taken sink) (to.taken sink) quiet refl refl);
       none_devices = λ h. refl;
-      not_opened_devices = λ image seen no_state. refl;
+      untouched_devices = λ image seen no_state. refl;
       memory_devices = λ h. refl;
     }
     record { done = λ h. absurd (cc); early = λ h. (refl, refl) } (count_none (to.faults sink) (to.is_spent sink)) (count_none (to.faults sink) (to.is_spent sink))

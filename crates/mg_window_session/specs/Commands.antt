@@ -4,7 +4,7 @@ use Rattle.std.specs.List.{list_any}
 use Rattle.std.specs.Option.{option_map_or}
 use Rattle.mg_model.specs.Words.{and_then, same_bytes}
 use Rattle.mg_model.specs.Words as numbers
-use Rattle.mg_session.specs.Commands.{before_colon}
+use Rattle.mg_volume_session.specs.Commands.{before_colon}
 use Rattle.mg_window.specs.Attached.{Attached}
 use Rattle.mg_window.specs.Devices.{Held}
 
@@ -39,7 +39,8 @@ device_more devices device = if is_taken device.1 devices then None else Some (d
 -- these devices, and those that the words name, all at bases that differ
 abbrev pub devices_from : List Asked → List (List ℕ) → Option (List Asked)
 devices_from devices [] = Some devices
-devices_from devices (word ∷ more) = and_then (device_named word) (λ device. and_then (device_more devices device) (λ those. devices_from those more))
+devices_from devices (word ∷ more) =
+    and_then (device_named word) (λ device. and_then (device_more devices device) (λ those. devices_from those more))
 
 -- up to 16 devices
 abbrev pub devices_named : List (List ℕ) → Option (List Asked)

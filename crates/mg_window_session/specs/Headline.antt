@@ -1,24 +1,14 @@
 -- What a run with device windows promises. An object that does not tell its content has None for it; a promise on content is then empty.
 use Rattle.std.specs.Prelude.{ℕ, ◌+◌, ◌≤◌, ◌≡◌, List, [], ◌∷◌, ◌++◌, codes, drop, length, take, Option, Some, IfSome, IsSomeAnd}
 use Rattle.std.specs.Fmt.{decimal}
-use Rattle.std.specs.Io.KnownBytes.{Appends}
-use Rattle.std.specs.Option.{ForSome}
-use Rattle.mg_disk.specs.Stops.{CountRose}
-use Rattle.mg_disk.specs.declared.disk.Disk as disks
-use Rattle.mg_faults.specs.Faults.{Rose}
-use Rattle.mg_io.specs.Known.{AppendsPrefix}
 use Rattle.mg_io.specs.declared.traits.Sink as sinks
-use Rattle.mg_io.specs.declared.traits.Source as sources
-use Rattle.mg_layout.specs.MayFormat.{IsNoState}
 use Rattle.mg_model.specs.Lines.{lines}
 use Rattle.mg_model.specs.Print.{answered, hex_text, spaced}
 use Rattle.mg_model.specs.State.{State}
-use Rattle.mg_model.specs.Volume.{volume}
-use Rattle.mg_serve.specs.Sessions.{IsDoneOrMemory, IsWithin, input_limit}
+use Rattle.mg_serve.specs.Sessions.{DiskRose, IfShort, IsDoneOrMemory, OfInput, Puts, PutsPrefix, SinkRose, SourceRose, left_at, left_now, sink_use}
 use Rattle.mg_serve.specs.declared.status.Status.{Status}
 use Rattle.mg_serve.specs.declared.status.Status.TheVariants as status
-use Rattle.mg_session.specs.Headline.{LinesKeep, OnVolume, PutsLast, UsageKeeps}
-use Rattle.mg_session.specs.Unopened.{EndsRun}
+use Rattle.mg_volume_session.specs.Headline.{EndsRun, LinesKeep, OfNoState, OfState, PutsLast, Session, UsageKeeps, session_of}
 use Rattle.mg_window.specs.Attached.{Attached}
 use Rattle.mg_window.specs.Devices.{Held}
 use Rattle.mg_window_session.specs.Machine.{Equipped, device_after, device_state, device_text}
@@ -46,7 +36,8 @@ pub record IsOneMore (n k : ℕ) : Type 0 where
 -- the devices after the answered lines, or after one line more
 abbrev pub AreAfterOneMore : Equipped → Option (List ℕ) → Option (List ℕ) → Option (List ℕ) → Attached → Type 0
 AreAfterOneMore m left taken taken' windows = IfSome left (λ input. IfSome taken (λ before. IsSomeAnd taken' (λ now.
-    (k : ℕ) × IsOneMore (answered (drop (length before) now)) k × (k ≤ length (lines input)) × (windows ≡ (device_after m (take k (lines input))).windows))))
+    (k : ℕ) × IsOneMore (answered (drop (length before) now)) k × (k ≤ length (lines input))
+    × (windows ≡ (device_after m (take k (lines input))).windows))))
 
 -- The devices as they are where the lines ran and ended with this status.
 pub record LeavesDevices (m : Equipped) (result : Status) (windows : Attached) (left taken taken' : Option (List ℕ)) : Type 0 where
@@ -77,36 +68,40 @@ whole_text m input = device_text m (lines input) ++ device_lines (device_after m
 
 -- What a command keeps that runs lines with device windows
 
--- What is kept as the lines run, a reply a batch: what `run` keeps, of the machine with devices, and the devices. `s` is the
--- state of the volume that reads give at entry.
-pub record DevicesKeep {D S K : Type 0} (facts : disks.Ghosts D) (from : sources.Ghosts S) (to : sinks.Ghosts K) (result : Status) (windows windows' : Attached) (disk disk' : D) (source source' : S) (sink sink' : K) : Type 0 where
-  pub lines : LinesKeep facts from to (λ s. device_text (equipped windows s)) (λ s. device_state (equipped windows s)) 1 result disk disk' source source' sink sink'
-  pub devices : OnVolume (facts.seen disk) (λ s. LeavesDevices (equipped windows s) result windows' (from.left source) (to.taken sink) (to.taken sink'))
+-- What is kept as the lines run: what `run` keeps, of the machine with devices, and the devices. The state is that of the volume that
+-- reads give at entry.
+pub record DevicesKeep {D S K : Type 0} (windows windows' : Attached) (s : Session D S K) : Type 0 where
+  pub lines : LinesKeep (λ state. device_text (equipped windows state)) (λ state. device_state (equipped windows state)) s
+  pub devices : OfState s.disk (λ state. LeavesDevices (equipped windows state) s.result windows' (left_at s.source)
+      (s.sink.facts.taken s.sink.old) (s.sink.facts.taken s.sink.new))
   -- Where there is no volume, whatever the status, or memory was wanting, the devices are as they were.
-  pub none_devices : result ≡ status.NoVolume → windows' ≡ windows
-  pub not_opened_devices : ForSome (facts.seen disk) (λ image. IsNoState (volume image) → windows' ≡ windows)
-  pub memory_devices : result ≡ status.Memory → windows' ≡ windows
+  pub none_devices : s.result ≡ status.NoVolume → windows' ≡ windows
+  pub untouched_devices : OfNoState s.disk (windows' ≡ windows)
+  pub memory_devices : s.result ≡ status.Memory → windows' ≡ windows
 
 -- What `VOLUME dev KIND:BASE ..` keeps, where the devices that were handed in are those that the words ask for.
-pub record DevKeeps {D S K : Type 0} (facts : disks.Ghosts D) (from : sources.Ghosts S) (to : sinks.Ghosts K) (result : Status) (windows windows' : Attached) (disk disk' : D) (source source' : S) (sink sink' : K) : Type 0 where
+pub record DevKeeps {D S K : Type 0} (windows windows' : Attached) (s : Session D S K) : Type 0 where
   -- How the lines ended, and the sink once all replies were put: what is answered are the replies alone.
   pub ran : Status
   pub replied : K
-  pub keeps : DevicesKeep facts from to ran windows windows' disk disk' source source' sink replied
+  pub keeps : DevicesKeep windows windows' (session_of s.batch ran s.disk s.source (sink_use s.sink.facts s.sink.old replied)
+      s.steps s.steps')
   -- Then the lines of the devices are put that are left.
-  pub ends : PutsLast to ran (device_lines windows') result replied sink'
+  pub ends : PutsLast s.sink.facts ran (device_lines windows') s.result replied s.sink.new
   -- What was put is a prefix of the replies to the whole input and those lines; at the end it is all of them.
-  pub prefix : OnVolume (facts.seen disk) (λ s. IfSome (from.left source) (λ input. AppendsPrefix (to.taken sink) (to.taken sink') (whole_text (equipped windows s) input)))
-  pub done : result ≡ status.Done → OnVolume (facts.seen disk) (λ s. IfSome (from.left source) (λ input. (from.left source' ≡ Some []) × Appends (to.taken sink) (to.taken sink') (whole_text (equipped windows s) input)))
+  pub prefix : OfState s.disk (λ state. OfInput s.source (λ input. PutsPrefix s.sink (whole_text (equipped windows state) input)))
+  pub done : s.result ≡ status.Done → OfState s.disk (λ state. OfInput s.source (λ input.
+      (left_now s.source ≡ Some []) × Puts s.sink (whole_text (equipped windows state) input)))
   -- It ends in one of the ways of `run`, and the disk and the sink failed only where their counts rose.
-  pub which : EndsRun result
-  pub disk_failed : result ≡ status.Disk → CountRose facts disk disk'
-  pub sink_failed : result ≡ status.Sink → Rose (to.faults sink) (to.faults sink') (to.is_spent sink')
+  pub which : EndsRun s.result
+  pub disk_failed : s.result ≡ status.Disk → DiskRose s.disk
+  pub sink_failed : s.result ≡ status.Sink → SinkRose s.sink
   -- Where reads give a volume, no call failed and the input is not too long, all is done, or memory was wanting.
-  pub complete : OnVolume (facts.seen disk) (λ _. (CountRose facts disk disk' → ⊥) → (Rose (from.faults source) (from.faults source') (from.is_spent source') → ⊥)
-      → (Rose (to.faults sink) (to.faults sink') (to.is_spent sink') → ⊥) → IsWithin input_limit (from.left source) (IsDoneOrMemory result))
+  pub complete : OfState s.disk (λ _. (DiskRose s.disk → ⊥) → (SourceRose s.source → ⊥) → (SinkRose s.sink → ⊥)
+      → IfShort s.source (IsDoneOrMemory s.result))
 
 -- What is kept where the words are no such, or ask for other devices: the disk, the source and the devices are left alone.
-pub record NoDevKeeps {D S K : Type 0} (to : sinks.Ghosts K) (result : Status) (windows windows' : Attached) (disk disk' : D) (source source' : S) (sink sink' : K) : Type 0 where
+pub record NoDevKeeps {D S K : Type 0} (to : sinks.Ghosts K) (result : Status) (windows windows' : Attached)
+    (disk disk' : D) (source source' : S) (sink sink' : K) : Type 0 where
   pub usage : UsageKeeps to result disk disk' source source' sink sink'
   pub devices : windows' ≡ windows

@@ -49,7 +49,8 @@ staying old new windows = filter (λ (window : ℕ × Held). not (has_gone old n
 
 -- a line that reaches no device is a step of the machine
 abbrev pub plain_step : Equipped → Line → Outcome
-plain_step m line = (record { state = (step m.state line).0; windows = staying m.state (step m.state line).0 m.windows }, (step m.state line).1)
+plain_step m line =
+    (record { state = (step m.state line).0; windows = staying m.state (step m.state line).0 m.windows }, (step m.state line).1)
 
 -- a load of a device
 abbrev pub load_step : Equipped → Line → Option (ℕ × ℕ) → Outcome
@@ -63,7 +64,8 @@ has_room device = nat_lt (length device.tape) device.room
 -- a store to a device: the devices behind it, and the reply
 abbrev pub stored_at : Attached → ℕ → ℕ → ℕ → Attached × Reply
 stored_at windows i off value =
-    if has_room (device_at windows i) then (with_device windows i (stored (device_at windows i) off value), reply.Done) else (windows, reply.No refusal.Limit)
+    if has_room (device_at windows i) then (with_device windows i (stored (device_at windows i) off value), reply.Done)
+    else (windows, reply.No refusal.Limit)
 
 abbrev pub store_step : Equipped → Line → ℕ → Option (ℕ × ℕ) → Outcome
 store_step m line value None = plain_step m line

@@ -1,6 +1,8 @@
 // All that is done with device windows.
 ghost use Rattle.std.specs.Prelude.{◌≡◌, IsTrue, false};
-ghost use Rattle.mg_session.specs.ByCommand.{words_of};
+ghost use Rattle.mg_serve.specs.Sessions.{disk_use, sink_use, source_use};
+ghost use Rattle.mg_volume_session.specs.ByCommand.{words_of};
+ghost use Rattle.mg_volume_session.specs.Headline.{session_of};
 ghost use Rattle.mg_window.specs.Attached.{seen};
 ghost use Rattle.mg_window_session.specs.Commands.{asks_for};
 ghost use Rattle.mg_window_session.specs.Headline.{DevKeeps, NoDevKeeps};
@@ -11,7 +13,7 @@ use mg_disk::Disk;
 use mg_io::{Sink, Source};
 use mg_model::Steps;
 use mg_serve::Status;
-use mg_session::put_usage;
+use mg_volume_session::put_usage;
 use mg_window::{Device, Windows};
 use std::alloc::Global;
 use std::sync::ledger::Ledger;
@@ -37,14 +39,14 @@ use std::sync::ledger::Ledger;
 ///
 /// Neither the devices nor their tapes are kept on the volume.
 ///
-/// [`Status::Done`]: mg_session::Status::Done
-/// [`Status::Usage`]: mg_session::Status::Usage
-/// [`Status::NoVolume`]: mg_session::Status::NoVolume
-/// [`Status::Memory`]: mg_session::Status::Memory
-/// [`Status::Disk`]: mg_session::Status::Disk
-/// [`Status::Source`]: mg_session::Status::Source
-/// [`Status::Sink`]: mg_session::Status::Sink
-/// [`Status::TooLong`]: mg_session::Status::TooLong
+/// [`Status::Done`]: mg_volume_session::Status::Done
+/// [`Status::Usage`]: mg_volume_session::Status::Usage
+/// [`Status::NoVolume`]: mg_volume_session::Status::NoVolume
+/// [`Status::Memory`]: mg_volume_session::Status::Memory
+/// [`Status::Disk`]: mg_volume_session::Status::Disk
+/// [`Status::Source`]: mg_volume_session::Status::Source
+/// [`Status::Sink`]: mg_volume_session::Status::Sink
+/// [`Status::TooLong`]: mg_volume_session::Status::TooLong
 pub fn top_dev<D: Disk, S: Source, K: Sink, L: Ledger>(
     alloc: Global,
     words: &[String],
@@ -54,10 +56,13 @@ pub fn top_dev<D: Disk, S: Source, K: Sink, L: Ledger>(
     windows: &mut Windows,
     steps: &mut Steps<L>,
 ) -> Status
-    ensures dev { IsTrue (asks_for (words_of words.now) (seen ⟦<Box<dyn Device> as Device>⟧.held windows.old)) → DevKeeps D.Disk S.Source K.Sink result
-        (seen ⟦<Box<dyn Device> as Device>⟧.held windows.old) (seen ⟦<Box<dyn Device> as Device>⟧.held windows.new) disk.old disk.new source.old source.new sink.old sink.new }
+    ensures dev { IsTrue (asks_for (words_of words.now) (seen ⟦<Box<dyn Device> as Device>⟧.held windows.old)) → DevKeeps
+        (seen ⟦<Box<dyn Device> as Device>⟧.held windows.old) (seen ⟦<Box<dyn Device> as Device>⟧.held windows.new)
+        (session_of 1 result (disk_use D.Disk disk.old disk.new)
+        (source_use S.Source source.old source.new) (sink_use K.Sink sink.old sink.new) steps.old steps.new) }
     ensures usage { asks_for (words_of words.now) (seen ⟦<Box<dyn Device> as Device>⟧.held windows.old) ≡ false → NoDevKeeps K.Sink result
-        (seen ⟦<Box<dyn Device> as Device>⟧.held windows.old) (seen ⟦<Box<dyn Device> as Device>⟧.held windows.new) disk.old disk.new source.old source.new sink.old sink.new }
+        (seen ⟦<Box<dyn Device> as Device>⟧.held windows.old) (seen ⟦<Box<dyn Device> as Device>⟧.held windows.new)
+        disk.old disk.new source.old source.new sink.old sink.new }
 {
     top_dev_of(alloc, words, disk, source, sink, windows, steps)
 }
@@ -72,8 +77,9 @@ pub fn top_dev_of<T: Device, D: Disk, S: Source, K: Sink, L: Ledger>(
     windows: &mut Windows<T>,
     steps: &mut Steps<L>,
 ) -> Status
-    ensures dev { IsTrue (asks_for (words_of words.now) (seen T.held windows.old)) → DevKeeps D.Disk S.Source K.Sink result
-        (seen T.held windows.old) (seen T.held windows.new) disk.old disk.new source.old source.new sink.old sink.new }
+    ensures dev { IsTrue (asks_for (words_of words.now) (seen T.held windows.old)) → DevKeeps
+        (seen T.held windows.old) (seen T.held windows.new) (session_of 1 result (disk_use D.Disk disk.old disk.new)
+        (source_use S.Source source.old source.new) (sink_use K.Sink sink.old sink.new) steps.old steps.new) }
     ensures usage { asks_for (words_of words.now) (seen T.held windows.old) ≡ false → NoDevKeeps K.Sink result
         (seen T.held windows.old) (seen T.held windows.new) disk.old disk.new source.old source.new sink.old sink.new }
 {

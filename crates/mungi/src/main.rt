@@ -1,14 +1,14 @@
-//! The program: the words of its command line, the files that they name, its standard input and its standard output, handed to
-//! [`program::carry_out`], whose result it exits with.
+//! The program: it hands the words of its command line, the files that they name, standard input and standard output to
+//! [`program::carry_out`], and exits with its result.
 //!
-//! That function is the program over any disks, source and sink. It calls [`mg_migrate_session::top_migrate`] where the words are
-//! `VOLUME migrate OLD`, and else [`mg_session::top`], and ensures of the words what these two ensure, that the exit status is the
-//! number of their status, and that after them nothing is written on a disk, taken or put. Here the real objects are made: the
-//! file of `check`, and OLD, are only read, and are not made where there are none. Why a command failed is told on standard error.
+//! That function is the program over any disks, source and sink. It calls [`mg_migrate_session::top_migrate`] if the words are `VOLUME
+//! migrate OLD`, and otherwise [`mg_session::top`]. It ensures what these two ensure for the words. It also ensures that the exit
+//! status is the number of their status, and that nothing is written on a disk, taken or put after them. Here the real objects are
+//! made. The file of `check` and the file OLD are only read, and are not made if they are missing. Standard error says why a command
+//! failed.
 //!
-//! Nothing is held back between them: a reply is written when its batch closes. That is at once under `run` with no BATCH or
-//! with BATCH 1, so that each reply is written before more input is waited for; otherwise up to 63 replies may wait for more
-//! input, or for its end.
+//! A reply is written as soon as its batch closes. Under `run` with no BATCH or with BATCH 1 each reply is written before more input is
+//! read. With a larger BATCH up to 63 replies may wait for more input, or for its end.
 #![tactic(auto)]
 
 ghost use Rattle.std.specs.Prelude.{◌≡◌, ◌<◌};
@@ -37,8 +37,8 @@ fn main(rt: HostRuntime) -> ExitCode {
     }
 }
 
-/// Carries out what the words ask for, on the files of the first word and the third one and the standard streams, with a count of steps
-/// of its own.
+/// Carries out the command on the files of the first and the third word and on the standard streams, with a counter of steps of its
+/// own.
 fn on_files<L: Ledger>(rt: &HostRuntime, words: &[String], blank: Blank) -> u8
     requires name { blank.name ≡ L.name }
     requires parts { blank.parts ≡ L.parts }
@@ -60,8 +60,8 @@ fn on_files<L: Ledger>(rt: &HostRuntime, words: &[String], blank: Blank) -> u8
     )
 }
 
-/// The disk in the file of the first word. `check` only reads it, `format` gives it the length of its volume, and where `migrate` makes
-/// it, it has the permissions of the file of the third word.
+/// The disk in the file of the first word. `check` only reads it. `format` gives it the length of its volume. If `migrate` makes it, it
+/// gets the permissions of the file of the third word.
 fn volume_of<'a>(
     rt: &'a HostRuntime,
     words: &'a [String],

@@ -1,7 +1,7 @@
 // The program, over any disks, source and sink.
 ghost use Rattle.mg_console.specs.Programs.{EndsAs, ThenReads};
 ghost use Rattle.mg_disk.specs.Stops.{WritesNothing};
-ghost use Rattle.mg_serve.specs.Sessions.{code_of};
+ghost use Rattle.mg_serve.specs.Sessions.{code_of, disk_use, sink_use, source_use};
 ghost use Rattle.mungi.specs.Program.{Did, Ran};
 
 use crate::NAME;
@@ -10,19 +10,18 @@ use mg_console::{InFile, Stream, tell_fault, tell_status, tell_volume, word};
 use mg_disk::{Disk, Found};
 use mg_io::{Sink, Source};
 use mg_layout::Geometry;
-use mg_migrate_session::{is_migrate, top_migrate};
 use mg_model::Steps;
-use mg_session::{Status, top};
+use mg_session::{Status, is_migrate, top, top_migrate};
 use mg_text::read_number;
 use std::alloc::Global;
 use std::io::{self, Eprint};
 use std::sync::ledger::Ledger;
 
-/// Carries out what the words ask for, tells on standard error why it ended so, and gives the exit status. `disk` is the one in the
-/// file of the first word, and `old` the one in the file of the third; `steps` counts as in [`top`].
+/// Carries out the command that the words spell, says on standard error why it failed, and returns the exit status. `disk` is in the
+/// file of the first word, and `old` in the file of the third. `steps` counts as in [`top`].
 ///
-/// What is told comes after the command: until then nothing but the command makes a call on a disk, the source and the sink, and after
-/// it the first disk alone is read.
+/// Standard error is written after the command. Until then only the command calls the disks, the source and the sink. After it only
+/// `disk` is called, and only read.
 pub(crate) fn carry_out<
     R: AllocGlobal + Eprint,
     D: Disk + InFile,
@@ -39,15 +38,16 @@ pub(crate) fn carry_out<
     sink: &mut K,
     steps: &mut Steps<L>,
 ) -> u8
-    ensures { EndsAs code_of (λ status. ThenReads D.Disk (λ left. Did D.Disk E.Disk S.Source K.Sink words.now status
-        disk.old left old.old old.new source.old source.new sink.old sink.new steps.old steps.new) disk.new) result }
+    ensures { EndsAs code_of (λ status. ThenReads D.Disk (λ left. Did words.now status
+        (disk_use D.Disk disk.old left) (disk_use E.Disk old.old old.new)
+        (source_use S.Source source.old source.new) (sink_use K.Sink sink.old sink.new) steps.old steps.new) disk.new) result }
 {
     let status = command(rt.alloc(), words, disk, old, source, sink, steps);
     tell_end(rt, words, status, disk, old, source.error(), sink.error());
     status.code()
 }
 
-/// The one of the two top calls that the words ask for.
+/// Makes the top call that the words spell.
 fn command<D: Disk, E: Disk, S: Source, K: Sink, L: Ledger>(
     alloc: Global,
     words: &[String],
@@ -57,7 +57,8 @@ fn command<D: Disk, E: Disk, S: Source, K: Sink, L: Ledger>(
     sink: &mut K,
     steps: &mut Steps<L>,
 ) -> Status
-    ensures { Did D.Disk E.Disk S.Source K.Sink words.now result disk.old disk.new old.old old.new source.old source.new sink.old sink.new steps.old steps.new }
+    ensures { Did words.now result (disk_use D.Disk disk.old disk.new) (disk_use E.Disk old.old old.new)
+        (source_use S.Source source.old source.new) (sink_use K.Sink sink.old sink.new) steps.old steps.new }
 {
     if is_migrate(words) {
         top_migrate(alloc, words, disk, old, sink)
@@ -75,13 +76,14 @@ fn ran<D: Disk, S: Source, K: Sink, L: Ledger>(
     sink: &mut K,
     steps: &mut Steps<L>,
 ) -> Status
-    ensures { Ran D.Disk S.Source K.Sink words.now result disk.old disk.new source.old source.new sink.old sink.new steps.old steps.new }
+    ensures { Ran words.now result (disk_use D.Disk disk.old disk.new)
+        (source_use S.Source source.old source.new) (sink_use K.Sink sink.old sink.new) steps.old steps.new }
 {
     top(alloc, words, disk, source, sink, steps)
 }
 
-/// Tells why a command ended with this status, and what only the file of its volume shows. The errors are those that standard input and
-/// standard output met.
+/// Says why a command ended with this status, and what only the file of its volume shows. The errors are those of standard input and of
+/// standard output.
 fn tell_end<R: AllocGlobal + Eprint, D: Disk + InFile, E: InFile>(
     rt: &R,
     words: &[String],
@@ -106,7 +108,7 @@ fn tell_end<R: AllocGlobal + Eprint, D: Disk + InFile, E: InFile>(
     tell_status(rt, NAME, status, read, written);
 }
 
-/// Tells what only the file of a volume shows. Nothing is told of `format`, which makes one, and of `migrate`.
+/// Says what only the file of a volume shows. It says nothing for `format`, which makes the volume, and for `migrate`.
 fn tell_file<R: AllocGlobal + Eprint, D: Disk>(
     rt: &R,
     words: &[String],
@@ -122,7 +124,7 @@ fn tell_file<R: AllocGlobal + Eprint, D: Disk>(
     tell_volume(rt, NAME, word(words, 0), disk, found, is_refused);
 }
 
-/// How many blocks the volume has that the words ask to make; none where they ask for none.
+/// The number of blocks of the volume that the words make. None if they make none.
 pub(crate) fn blocks_made(words: &[String]) -> Option<u64> {
     if word(words, 1) != "format" {
         return None;

@@ -1,9 +1,9 @@
-// Which word is at fault where the words spell no command.
+// Says which word is wrong if the words spell no command.
 use crate::NAME;
 use mg_console::{is_told, tell, tell_lines};
 use std::io::Eprint;
 
-/// What the program can be asked.
+/// The commands of the program.
 const SYNOPSIS: [&str; 6] = [
     "usage: mungi VOLUME dry FRAMES SEED CREDITS",
     "       mungi VOLUME format FRAMES SEED CREDITS [F:R F:R F:R F:R]",
@@ -13,10 +13,10 @@ const SYNOPSIS: [&str; 6] = [
     "       mungi VOLUME gen NUMBER LINES",
 ];
 
-/// How many digits a seed has.
+/// The number of digits of a seed.
 const DIGITS: usize = 64;
 
-/// Tells what the program can be asked, and which word is at fault where one can be named.
+/// Prints the commands of the program, and says which word is wrong if there is such a word.
 pub(crate) fn tell_usage<R: Eprint>(rt: &R, words: &[String]) {
     tell_lines(rt, &SYNOPSIS);
     match words.split_first() {
@@ -28,7 +28,7 @@ pub(crate) fn tell_usage<R: Eprint>(rt: &R, words: &[String]) {
     }
 }
 
-/// Tells what is at fault of a command and the words after it.
+/// Says what is wrong with a command and the words after it.
 fn tell_command<R: Eprint>(rt: &R, command: &str, rest: &[String]) {
     if command == "dry" {
         tell_settings(rt, rest, false);
@@ -51,7 +51,7 @@ fn tell_command<R: Eprint>(rt: &R, command: &str, rest: &[String]) {
     }
 }
 
-/// Tells what is at fault of the words after `run`.
+/// Says what is wrong with the words after `run`.
 fn tell_batch<R: Eprint>(rt: &R, rest: &[String]) {
     match rest {
         [batch] => {
@@ -61,7 +61,7 @@ fn tell_batch<R: Eprint>(rt: &R, rest: &[String]) {
     }
 }
 
-/// Tells what is at fault of the words after `gen`.
+/// Says what is wrong with the words after `gen`.
 fn tell_run<R: Eprint>(rt: &R, rest: &[String]) {
     match rest {
         [number, lines] => {
@@ -73,7 +73,7 @@ fn tell_run<R: Eprint>(rt: &R, rest: &[String]) {
     }
 }
 
-/// Tells what is at fault of the words after `dry` or `format`.
+/// Says what is wrong with the words after `dry` or `format`.
 fn tell_settings<R: Eprint>(rt: &R, rest: &[String], has_tariff: bool) {
     match rest {
         [frames, seed, credits] => {
@@ -97,14 +97,14 @@ fn tell_settings<R: Eprint>(rt: &R, rest: &[String], has_tariff: bool) {
     }
 }
 
-/// Whether one of these is at fault, which is then told.
+/// Says which of these is wrong. False if none is.
 fn is_setting_told<R: Eprint>(rt: &R, frames: &str, seed: &str, credits: &str) -> bool {
     is_told(rt, NAME, "FRAMES", frames, 16, 65_536)
         || is_seed_told(rt, seed)
         || is_told(rt, NAME, "CREDITS", credits, 0, 1 << 62)
 }
 
-/// Whether a seed is at fault, which is then told.
+/// Says what is wrong with a seed. False if nothing is.
 fn is_seed_told<R: Eprint>(rt: &R, seed: &str) -> bool {
     let digits = seed.len();
     if digits != DIGITS {

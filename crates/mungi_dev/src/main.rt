@@ -1,11 +1,11 @@
-//! The program: the words of its command line, the files that they name, its standard input and its standard output, handed to
-//! [`mg_dev_program::carry_out`], whose result it exits with.
+//! The program: it hands the words of its command line, the files that they name, standard input and standard output to
+//! [`mg_dev_program::carry_out`], and exits with its result.
 //!
-//! That function is the program over any two disks, devices, source and sink. It calls [`mg_mirror_session::top_mirror`] where the second
-//! word is `mirror`, and else [`mg_window_session::top_dev`]. It ensures of the words what these two ensure, that the exit status is the
-//! number of their status, and that beside them the disks are only read. Here the real objects are made, with a new device for each
-//! word `KIND:BASE`; `top_dev` refuses others. Why a command failed is told on standard error, and of a mirror also
-//! at once where a side is dropped. So is a base at which no object begins.
+//! That function is the program over any two disks, devices, source and sink. It calls [`mg_mirror_session::top_mirror`] if the second
+//! word is `mirror`, and otherwise [`mg_window_session::top_dev`]. It ensures what these two ensure for the words. It also ensures that
+//! the exit status is the number of their status, and that outside of these calls the disks are only read. Here the real objects are
+//! made, with a new device for each word `KIND:BASE`; `top_dev` refuses others. Standard error says why a command failed. It says at
+//! once that a side of a mirror was dropped, and that no object begins at a base.
 #![tactic(auto)]
 
 ghost use Rattle.std.specs.Prelude.{◌≡◌, ◌<◌};
@@ -27,7 +27,7 @@ use std::sync::ledger::{Blank, Ledger};
 /// The program's name.
 const NAME: &str = "mungi_dev";
 
-/// How many stores the tape of a device has room for.
+/// The number of stores for which the tape of a device has room.
 const ROOM: usize = 1024;
 
 fn main(rt: HostRuntime) -> ExitCode {
@@ -37,8 +37,8 @@ fn main(rt: HostRuntime) -> ExitCode {
     }
 }
 
-/// Carries out what the words ask for, on the files of the first word and the third one and the standard streams, with a new device for
-/// each word that asks for one, in their order, and a count of steps of its own.
+/// Carries out the command on the files of the first and the third word and on the standard streams, with a new device for each word
+/// that names one, in their order, and with a counter of steps of its own.
 fn on_files<L: Ledger>(rt: &HostRuntime, words: &[String], blank: Blank) -> u8
     requires name { blank.name ≡ L.name }
     requires parts { blank.parts ≡ L.parts }
@@ -94,14 +94,14 @@ fn boxed<D: Drop>(alloc: Global, made: Result<D, AllocError>) -> Result<Box<D>, 
     Ok(Box::new(alloc, made?)?)
 }
 
-/// Memory for the devices is wanting: nothing was done.
+/// The outcome if there is not enough memory for the devices. Nothing was done.
 fn without_memory(rt: &HostRuntime) -> u8 {
     tell_status(rt, NAME, Status::Memory, None, None);
     Status::Memory.code()
 }
 
-/// The disk in the file at `path`. Of a mirror it is told at once where it fails; and where it is made, it has the permissions of the
-/// other one.
+/// The disk in the file at `path`. The fault of a side of a mirror is reported at once. If a side is made, it gets the permissions of
+/// the other file.
 fn file_of<'a>(
     rt: &'a HostRuntime,
     path: &'a str,

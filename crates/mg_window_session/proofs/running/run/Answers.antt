@@ -2,7 +2,7 @@ use Rattle.std.proofs.Common.{refl, sym, ap, ◌∙◌, subst}
 use Rattle.mg_disk.specs.Stops.{WritesNothing}
 use Rattle.mg_kernel.specs.Meaning.{now_of}
 use Rattle.mg_layout.specs.MayFormat.{IsNoState}
-use Rattle.mg_session.specs.OpeningLemmas.{fault_tells, lines_opened, lines_unopened, no_volume, opened_then, unopened, untouched}
+use Rattle.mg_volume_session.specs.OpeningLemmas.{fault_tells, lines_opened, lines_unopened, no_volume, opened_then, unopened, untouched}
 use Rattle.mg_window_session.specs.declared.device_kernel.DeviceKernel.{DeviceKernel}
 use Rattle.mg_window.specs.Attached.{Attached, seen}
 use Rattle.mg_window_session.specs.DeviceKernels.{machine_of, windows_in}
@@ -21,13 +21,13 @@ returns-in-Ok-clause-keeps g c = record {
       (leaves_devices g.T.Device.held _ c.run-status.result c.new-machine.result c.run-status.new.machine image c.args.steps.now c.run-status.new.steps (λ ls a. a) (λ ls b. b) (g.S.Source.left c.args.source.now) (g.S.Source.left c.run-status.new.source) (g.K.Sink.taken c.args.sink.now) (g.K.Sink.taken c.run-status.new.sink)
       (c.run-status.ensures.serves.traces image told))));
   none_devices = λ h. absurd (no_volume c.run-status.result c.run-status.ensures.serves.which h);
-  not_opened_devices = λ image told no_state. absurd (subst IsNoState (c.in-Ok.ensures.opens image told).is no_state);
+  untouched_devices = λ image told no_state. absurd (subst IsNoState (c.in-Ok.ensures.opens image told).is no_state);
   memory_devices = λ h. c.into_windows.ensures ∙ ap (λ (k : DeviceKernel _). windows_in g.T.Device.held k) (c.run-status.ensures.memory h ∙ c.new-machine.ensures);
 }
 
 pub returns-in-Err-clause-keeps : goal.returns-in-Err-clause-keeps
 returns-in-Err-clause-keeps g c = record {
-  lines = lines_unopened g.D.Disk g.S.Source g.K.Sink (λ s. device_text (equipped (seen g.T.Device.held c.args.windows) s)) (λ s. device_state (equipped (seen g.T.Device.held c.args.windows) s)) 1 c.in-Err.fault c.put_fault.result c.args.disk.now c.open.new.disk c.args.source.now c.args.sink.now c.put_fault.new.sink
+  lines = lines_unopened g.D.Disk g.S.Source g.K.Sink (λ s. device_text (equipped (seen g.T.Device.held c.args.windows) s)) (λ s. device_state (equipped (seen g.T.Device.held c.args.windows) s)) 1 c.in-Err.fault c.put_fault.result c.args.disk.now c.open.new.disk c.args.source.now c.args.sink.now c.put_fault.new.sink c.args.steps.now
       (fault_tells c.in-Err.fault (g.D.Disk.seen c.args.disk.now) c.in-Err.ensures.not c.in-Err.ensures.old c.in-Err.ensures.damaged) c.put_fault.ensures.ends
       (untouched c.in-Err.fault (WritesNothing g.D.Disk c.args.disk.now c.open.new.disk) c.in-Err.ensures.untouched_not c.in-Err.ensures.untouched_old c.in-Err.ensures.untouched_damaged)
       c.in-Err.ensures.untouched c.put_fault.ensures.quiet c.put_fault.ensures.put c.put_fault.ensures.prefix c.put_fault.ensures.sink c.in-Err.ensures.calls.cause c.in-Err.ensures.any_moment (λ s. refl) (λ s. refl);
@@ -35,6 +35,6 @@ returns-in-Err-clause-keeps g c = record {
       (fault_tells c.in-Err.fault (g.D.Disk.seen c.args.disk.now) c.in-Err.ensures.not c.in-Err.ensures.old c.in-Err.ensures.damaged)
       (λ quiet image told s spelled. fault_devices (equipped (seen g.T.Device.held c.args.windows) s) c.in-Err.fault c.put_fault.result (g.S.Source.left c.args.source.now) (g.K.Sink.taken c.args.sink.now) (g.K.Sink.taken c.put_fault.new.sink) quiet c.put_fault.ensures.ends (ap (λ v. g.K.Sink.taken v) (c.put_fault.ensures.quiet quiet)));
   none_devices = λ h. refl;
-  not_opened_devices = λ image told no_state. refl;
+  untouched_devices = λ image told no_state. refl;
   memory_devices = λ h. refl;
 }

@@ -1,4 +1,6 @@
 use Rattle.std.proofs.Common.{ap, subst}
+use Rattle.mg_serve.specs.Sessions.{disk_use, sink_use, source_use}
+use Rattle.mg_volume_session.specs.Headline.{session_of}
 use Rattle.mg_window.specs.Attached.{Attached, seen}
 use Rattle.mg_window_session.specs.Headline.{DevKeeps}
 use Rattle.mg_window_session.proofs.DeviceLines.{dev_keeps, not_begun}
@@ -7,11 +9,11 @@ use Rattle.mg_window_session.proofs.running.run_and_tell.Goals as goal
 pub returns-in-Ok : goal.returns-in-Ok
 returns-in-Ok g c =
     let left = seen g.T.Device.held c.run-ran.result.windows in
-    subst (λ (given : Attached). DevKeeps g.D.Disk g.S.Source g.K.Sink c.put_devices.result given left c.args.disk.now c.run-ran.new.disk c.args.source.now c.run-ran.new.source c.args.sink.now c.put_devices.new.sink)
+    subst (λ (given : Attached). DevKeeps given left (session_of 1 c.put_devices.result (disk_use g.D.Disk c.args.disk.now c.run-ran.new.disk) (source_use g.S.Source c.args.source.now c.run-ran.new.source) (sink_use g.K.Sink c.args.sink.now c.put_devices.new.sink) c.args.steps.now c.run-ran.new.steps))
     (ap (λ windows. seen g.T.Device.held windows) c.replace-given.ensures.value)
-    (dev_keeps g.D.Disk g.S.Source g.K.Sink c.run-ran.result.status c.put_devices.result (seen g.T.Device.held c.replace-given.result) left c.args.disk.now c.run-ran.new.disk c.args.source.now c.run-ran.new.source c.args.sink.now c.run-ran.new.sink c.put_devices.new.sink
+    (dev_keeps g.D.Disk g.S.Source g.K.Sink c.run-ran.result.status c.put_devices.result (seen g.T.Device.held c.replace-given.result) left c.args.disk.now c.run-ran.new.disk c.args.source.now c.run-ran.new.source c.args.sink.now c.run-ran.new.sink c.put_devices.new.sink c.args.steps.now c.run-ran.new.steps
     c.run-ran.ensures.keeps c.put_devices.ensures.ends c.run-ran.ensures.sink_count c.put_devices.ensures.sink_count)
 
 pub returns-in-Err : goal.returns-in-Err
 returns-in-Err g c =
-    not_begun g.D.Disk g.S.Source g.K.Sink (seen g.T.Device.held c.args.windows.now) c.args.disk.now c.args.source.now c.args.sink.now (g.met.D.Disk.now_has_been c.args.disk.now)
+    not_begun g.D.Disk g.S.Source g.K.Sink (seen g.T.Device.held c.args.windows.now) c.args.disk.now c.args.source.now c.args.sink.now c.args.steps.now (g.met.D.Disk.now_has_been c.args.disk.now)

@@ -1,5 +1,5 @@
 use Rattle.std.proofs.Common.{drop, ◌≡◌, ◌≤◌, [], length}
-use Rattle.mg_session.specs.ByCommand.{words_of}
+use Rattle.mg_volume_session.specs.ByCommand.{words_of}
 use Rattle.mg_window_session.specs.Commands.{devices_from}
 use Rattle.mg_window_session.proofs.words.devices_named.Given as goal
 

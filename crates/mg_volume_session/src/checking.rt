@@ -1,0 +1,87 @@
+// The command `check`: whether the disk holds a volume, and what of it.
+ghost use Rattle.std.specs.Prelude.{◌≡◌, ◌⊎◌, Err, IfOk};
+ghost use Rattle.std.specs.Io.KnownBytes.{Appends};
+ghost use Rattle.std.specs.Option.{ForSome};
+ghost use Rattle.mg_disk.specs.Stops.{CountRose, DiskCallsBy, WritesNothing};
+ghost use Rattle.mg_faults.specs.Faults.{Rose};
+ghost use Rattle.mg_io.specs.Known.{AppendsPrefix};
+ghost use Rattle.mg_model.specs.State.{State};
+ghost use Rattle.mg_model.specs.Volume.{Damaged, Is, NotVolume, OldVolume, VolumeRead, volume};
+ghost use Rattle.mg_serve.specs.Sessions.{IsDoneOrMemory, disk_use, sink_use};
+ghost use Rattle.mg_volume_session.specs.Headline.{CheckKeeps, EndsUnopened, OnVolume, TellsLine, TellsOfNone, check_line};
+ghost use Rattle.mg_volume_session.specs.Unopened.{TellsState, summary_line};
+
+use crate::fault_line::put_fault;
+use arrayvec::ArrayVec;
+use mg_check::{OpenFault, Summary, read_volume, summary_of};
+use mg_disk::Disk;
+use mg_io::{Sink, put_all};
+use mg_serve::Status;
+use mg_text::print_numbers;
+use std::alloc::Global;
+
+/// Tells whether the disk holds a volume, and puts the line of it. It writes nothing.
+pub fn check<D: Disk, K: Sink>(alloc: Global, disk: &mut D, sink: &mut K) -> Status
+    ensures { CheckKeeps result (disk_use D.Disk disk.old disk.new) (sink_use K.Sink sink.old sink.new) }
+{
+    tell(alloc, disk, sink)
+}
+
+/// Puts the line of what the disk holds.
+fn tell<D: Disk, K: Sink>(alloc: Global, disk: &mut D, sink: &mut K) -> Status
+    ensures which { (result ≡ Status.Done) ⊎ EndsUnopened result }
+    ensures done { result ≡ Status.Done → TellsLine (λ read. (s : State) × (read ≡ Is s)) (D.seen disk.old) (K.taken sink.old) (K.taken sink.new) }
+    ensures prefix { (read : VolumeRead) × ForSome (D.seen disk.old) (λ image. volume image ≡ read) × AppendsPrefix (K.taken sink.old) (K.taken sink.new) (check_line read) }
+    ensures writes { WritesNothing D.Disk disk.old disk.new }
+    ensures without { TellsOfNone D.Disk K.Sink result disk.old disk.new sink.old sink.new }
+    ensures memory { result ≡ Status.Memory → sink.new ≡ sink.old }
+    ensures disk { result ≡ Status.Disk → CountRose D.Disk disk.old disk.new }
+    ensures disk_text { result ≡ Status.Disk → sink.new ≡ sink.old }
+    ensures sink { result ≡ Status.Sink → Rose (K.faults sink.old) (K.faults sink.new) (K.is_spent sink.new) }
+    ensures complete { OnVolume (D.seen disk.old) (λ _. (CountRose D.Disk disk.old disk.new → ⊥)
+        → (Rose (K.faults sink.old) (K.faults sink.new) (K.is_spent sink.new) → ⊥) → IsDoneOrMemory result) }
+{
+    match examined(alloc, disk) {
+        Ok(summary) => put_summary(&summary, sink),
+        Err(fault) => put_fault(fault, sink),
+    }
+}
+
+/// What is told of the volume that the disk holds. What is counted is that of a state, also where reads are not told.
+fn examined<D: Disk>(alloc: Global, disk: &mut D) -> Result<Summary, OpenFault>
+    ensures tells { IfOk result (λ summary. TellsState summary (D.seen disk.old)) }
+    ensures not { result ≡ Err OpenFault.Not → ForSome (D.seen disk.old) (λ image. volume image ≡ NotVolume) }
+    ensures old { result ≡ Err OpenFault.Old → ForSome (D.seen disk.old) (λ image. volume image ≡ OldVolume) }
+    ensures damaged { result ≡ Err OpenFault.Damaged → ForSome (D.seen disk.old) (λ image. volume image ≡ Damaged) }
+    ensures writes { WritesNothing D.Disk disk.old disk.new }
+    ensures calls { DiskCallsBy D.Disk disk.old disk.new (result ≡ Err OpenFault.Disk) }
+{
+    match read_volume(alloc, disk) {
+        Ok((_, rows)) => Ok(summary_of(&rows)),
+        Err(fault) => Err(fault),
+    }
+}
+
+/// Puts the line of a volume.
+pub fn put_summary<K: Sink>(summary: &Summary, sink: &mut K) -> Status
+    ensures ends { (result ≡ Status.Done) ⊎ (result ≡ Status.Sink) }
+    ensures put { result ≡ Status.Done → Appends (K.taken sink.old) (K.taken sink.new) (summary_line summary.now) }
+    ensures prefix { AppendsPrefix (K.taken sink.old) (K.taken sink.new) (summary_line summary.now) }
+    ensures sink { result ≡ Status.Sink → Rose (K.faults sink.old) (K.faults sink.new) (K.is_spent sink.new) }
+{
+    let mut line = ArrayVec::new();
+    print_numbers(
+        summary.frames,
+        summary.objects,
+        summary.pages,
+        summary.accounts,
+        summary.threads,
+        summary.period,
+        summary.credits,
+        &mut line,
+    );
+    match put_all(sink, line.as_slice()) {
+        Ok(()) => Status::Done,
+        Err(_) => Status::Sink,
+    }
+}

@@ -1,0 +1,89 @@
+// A whole session of a kernel.
+ghost use Rattle.std.specs.Prelude.{◌≡◌, ◌≤◌, Err, IfSome, IsOk, IsTrue, OnOk};
+ghost use Rattle.std.specs.Option.{ForSome};
+ghost use Rattle.mg_disk.specs.Stops.{CountRose, DiskCallsBy};
+ghost use Rattle.mg_faults.specs.Faults.{CountGoesOn, Rose};
+ghost use Rattle.mg_kernel.specs.Meaning.{StandsOn, is_live, now_of, staged_of, words_in};
+ghost use Rattle.mg_model.specs.Counts.{CountsAlike};
+ghost use Rattle.mg_model.specs.Print.{text};
+ghost use Rattle.mg_model.specs.Step.{after};
+ghost use Rattle.mg_serve.specs.Parts.{KeepsExactly, SpellsAfter};
+ghost use Rattle.mg_serve.specs.Sessions.{Answers, Ends, Holds, HoldsExactly, IsWithin, UnlessDisk, disk_use, sink_use, source_use, status_of};
+ghost use Rattle.mg_volume_session.specs.Headline.{IsWithinCost};
+
+use mg_disk::Disk;
+use mg_io::{Sink, Source};
+use mg_kernel::Kernel;
+use mg_laws::costs_add_up;
+use mg_model::Steps;
+use mg_serve::{Buffers, Ended};
+use std::sync::ledger::Ledger;
+
+/// Reads lines to the end of the source, steps them and puts their replies in batches of at most 64, up to a limit on the
+/// bytes. What waits in `owed` at first is dropped.
+///
+/// A batch closes with `batch` replies, where more than 28 blocks are staged, or at the end of the input: it is committed,
+/// and then its replies are put in one call of `put_all`.
+///
+/// # Errors
+///
+/// [`Ended::Disk`], [`Ended::Source`] and [`Ended::Sink`] come only where a call of that object failed, and
+/// [`Ended::TooLong`] where more than `limit` bytes were taken. After a failed step, a fault of the source and too long an
+/// input the open batch is neither committed nor answered; after a failed commit its lines may have been kept or not; after
+/// a fault of the sink they were kept. The kernel is then live, except after a failed commit, and stands on the disk, except
+/// after [`Ended::Disk`].
+pub fn serve<D: Disk, S: Source, K: Sink, L: Ledger>(
+    kernel: &mut Kernel,
+    disk: &mut D,
+    source: &mut S,
+    sink: &mut K,
+    owed: &mut Buffers,
+    batch: u64,
+    limit: u64,
+    steps: &mut Steps<L>,
+) -> Result<(), Ended>
+    requires live { IsTrue (is_live kernel.old) }
+    requires stands { StandsOn D.Disk kernel.old disk.old }
+    requires staged { staged_of kernel.old ≡ 0 }
+    requires batch_at_least_1 { 1 ≤ batch }
+    requires small { batch ≤ 64 }
+
+    // What the sink took, what a stop leaves, and how the session ends.
+    ensures answers { ForSome (D.seen disk.old) (λ image. Answers (text (now_of kernel.old image)) (status_of result)
+        (source_use S.Source source.old source.new) (sink_use K.Sink sink.old sink.new)) }
+    ensures kept { OnOk result (ForSome (D.seen disk.old) (λ image. IfSome (S.left source.old) (λ input.
+        SpellsAfter (after (now_of kernel.old image)) input (D.seen disk.new)))) }
+    ensures holds { ForSome (D.seen disk.old) (λ image. Holds (after (now_of kernel.old image)) (disk_use D.Disk disk.old disk.new)
+        (source_use S.Source source.old source.new) (sink_use K.Sink sink.old sink.new)) }
+    ensures holds_exactly { ForSome (D.seen disk.old) (λ image. HoldsExactly (after (now_of kernel.old image)) (status_of result)
+        (disk_use D.Disk disk.old disk.new) (source_use S.Source source.old source.new) (sink_use K.Sink sink.old sink.new)) }
+    ensures ends { Ends batch limit (status_of result) (source_use S.Source source.old source.new) (sink_use K.Sink sink.old sink.new) }
+    ensures disk { DiskCallsBy D.Disk disk.old disk.new (result ≡ Err Ended.Disk) }
+
+    // Where no call failed and the input is not too long, all is done.
+    ensures complete { (CountRose D.Disk disk.old disk.new → ⊥)
+        → (Rose (S.faults source.old) (S.faults source.new) (S.is_spent source.new) → ⊥)
+        → (Rose (K.faults sink.old) (K.faults sink.new) (K.is_spent sink.new) → ⊥)
+        → IsWithin limit (S.left source.old) (IsOk result) }
+
+    // Unless the disk failed the kernel is live and stands on the disk, and after a good end it may serve again. Where the
+    // disk failed and the kernel is live, no commit failed, and the answered lines are held and no others.
+    ensures live { UnlessDisk result (IsTrue (is_live kernel.new)) }
+    ensures stands { UnlessDisk result (StandsOn D.Disk kernel.new disk.new) }
+    ensures staged { OnOk result (staged_of kernel.new ≡ 0) }
+    ensures held_disk { result ≡ Err Ended.Disk → IsTrue (is_live kernel.new) → ForSome (D.seen disk.old) (λ image.
+        KeepsExactly (D.left_since disk.new (D.moment disk.new)) (after (now_of kernel.old image))
+        (S.left source.old) (K.taken sink.old) (K.taken sink.new)) }
+
+    // Whatever ends it, the counter rises by no more than the lines that were read may cost, and one that was cut is not among them.
+    ensures cost { ForSome (D.seen disk.old) (λ image. IsWithinCost (now_of kernel.old image) (status_of result)
+        (S.left source.old) (S.left source.new) steps.old steps.new) }
+
+    // The two counts of words rise by as much, and no count falls.
+    ensures counted { CountsAlike (words_in kernel.old) (words_in kernel.new) steps.old steps.new }
+    ensures source_count { CountGoesOn (S.faults source.old) (S.faults source.new) (S.is_spent source.old) (S.is_spent source.new) }
+    ensures sink_count { CountGoesOn (K.faults sink.old) (K.faults sink.new) (K.is_spent sink.old) (K.is_spent sink.new) }
+{
+    costs_add_up();
+    mg_serve::serve(kernel, disk, source, sink, owed, batch, limit, steps)
+}
