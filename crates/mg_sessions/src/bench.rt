@@ -1,36 +1,36 @@
-// Where images that a stop left are opened again.
-use crate::kept::Kept;
+// Opens the images that a stop left.
+use crate::expected::KnownState;
 use mg_disk::{BLOCK_SIZE, Counts, Disk, GATE_OPEN, MemDisk, ScratchDisk};
 use mg_layout::{FIRST_SEGMENT, SEGMENT_COUNT, SEGMENT_SIZE};
-use mg_session::Status;
 use mg_testing::{Streams, command};
+use mg_volume_session::Status;
 use std::alloc::{AllocError, Global};
 
-/// Of the images with an open segment, those of these numbers, from 0, have their opening stopped.
+/// Of the images with an open segment, those with these numbers, from 0, are also stopped while they open.
 const CHOSEN: [u64; 3] = [4, 20, 60];
 
 /// A disk on which images are opened, and what was seen so far.
 #[derive(Drop)]
 pub struct Bench {
     scratch: ScratchDisk,
-    /// The calls and the answers of the last stop; None where another run begins.
+    /// The disk's counts and the number of answers at the last stop. None at the beginning of a run.
     last: Option<(Counts, usize)>,
-    /// How many writes were made at the last sync.
-    settled: u64,
-    /// How many images were opened.
+    /// The number of writes at the last sync.
+    synced_writes: u64,
+    /// The number of images that were opened.
     stops: u64,
-    /// How many of them had an open segment.
+    /// The number of these that had an open segment.
     open: u64,
 }
 
 impl Bench {
-    /// A bench for images of as many blocks as this disk has.
+    /// A bench for images with as many blocks as this disk has.
     pub fn new(alloc: Global, disk: &MemDisk) -> Result<Bench, AllocError> {
         match ScratchDisk::new(alloc, disk.blocks()) {
             Ok(scratch) => Ok(Bench {
                 scratch,
                 last: None,
-                settled: 0,
+                synced_writes: 0,
                 stops: 0,
                 open: 0,
             }),
@@ -38,32 +38,32 @@ impl Bench {
         }
     }
 
-    /// How many images were opened.
+    /// The number of images that were opened.
     pub fn stops(&self) -> u64 {
         self.stops
     }
 
-    /// The stops that follow are those of another run.
-    pub fn begin(&mut self) {
+    /// Begins another run: later stops are not compared with those before.
+    pub fn begin_run(&mut self) {
         self.last = None;
     }
 
-    /// In how many ways a stop now may leave this disk: in none that was not seen where nothing changed since the last stop,
-    /// in one where nothing was written since a sync, and else in three.
+    /// The number of ways in which a stop now may leave this disk. It is 0 if nothing changed since the last stop, 1 if nothing was
+    /// written since the last sync, and else 3.
     pub fn ways(&mut self, disk: &MemDisk, answered: usize) -> usize {
         let counts = disk.counts();
         let ways = match self.last {
             None => 3,
             Some((last, before)) => {
                 if counts.syncs != last.syncs {
-                    self.settled = counts.writes;
+                    self.synced_writes = counts.writes;
                 }
                 if counts.writes == last.writes
                     && counts.syncs == last.syncs
                     && answered == before
                 {
                     0
-                } else if counts.writes == self.settled {
+                } else if counts.writes == self.synced_writes {
                     1
                 } else {
                     3
@@ -71,18 +71,18 @@ impl Bench {
             }
         };
         if self.last.is_none() {
-            self.settled = u64::MAX;
+            self.synced_writes = u64::MAX;
         }
         self.last = Some((counts, answered));
         ways
     }
 
-    /// Whether a volume is the state behind the answered lines, or the one behind the next batch; None where memory is wanting.
-    pub fn goes_on(
+    /// Whether a volume is in the state after the answered lines, or in the one after the next batch. None if out of memory.
+    pub fn matches(
         &mut self,
         alloc: Global,
         image: &mut MemDisk,
-        states: &[Kept],
+        states: &[KnownState],
         answered: usize,
     ) -> Option<bool> {
         self.stops = self.stops.saturating_add(1);
@@ -99,7 +99,7 @@ impl Bench {
         Some(false)
     }
 
-    /// Whether the opening of this image is to be stopped.
+    /// Whether this image is also stopped while it opens.
     pub fn is_chosen(&mut self, image: &mut MemDisk) -> bool {
         if !has_open_segment(image) {
             return false;
@@ -110,17 +110,18 @@ impl Bench {
     }
 }
 
-/// Whether the volume of a disk is this state; None where memory is wanting.
-fn is_state(alloc: Global, disk: &mut ScratchDisk, state: &Kept) -> Option<bool> {
+/// Whether the volume on a disk is in this state. None if out of memory.
+fn is_state(alloc: Global, disk: &mut ScratchDisk, state: &KnownState) -> Option<bool> {
     match command(alloc, "vol run", disk, &Streams::of(&state.input)) {
         Ok(outcome) => Some(
-            outcome.status == Status::Done && outcome.put.as_slice() == state.answers.as_slice(),
+            outcome.status == Status::Done
+                && outcome.printed.as_slice() == state.answers.as_slice(),
         ),
         Err(_) => None,
     }
 }
 
-/// Makes one disk hold what another does.
+/// Copies all blocks of one disk to the other.
 pub fn copy(from: &mut MemDisk, to: &mut ScratchDisk) {
     let mut block = [0; BLOCK_SIZE];
     for i in 0..from.blocks() {
@@ -130,7 +131,7 @@ pub fn copy(from: &mut MemDisk, to: &mut ScratchDisk) {
     }
 }
 
-/// Whether a gate of the journal is open.
+/// Whether a segment of the journal is open.
 fn has_open_segment(image: &mut MemDisk) -> bool {
     let mut block = [0; BLOCK_SIZE];
     for i in 0..SEGMENT_COUNT {

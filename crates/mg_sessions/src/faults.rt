@@ -1,22 +1,22 @@
-// A run in which each call of the disk, the source and the sink fails once.
+// Runs in which each call of the disk, the source and the sink fails once.
 use crate::bench::{Bench, copy};
+use crate::expected::{Expected, KnownState, Stage};
 use crate::images::image_of;
-use crate::kept::{Kept, Stage, Wanted};
 use crate::lines::count_lines;
 use crate::report::Report;
-use crate::stops::{count_disk_calls, goes_on};
+use crate::stops::{count_disk_calls, image_matches};
 use mg_disk::{BLOCK_SIZE, Disk, Left, MemDisk, ScratchDisk};
-use mg_session::Status;
 use mg_testing::{Outcome, ROOM, Streams, command};
+use mg_volume_session::Status;
 use std::alloc::{AllocError, Global};
 
-/// How many bytes a take gives, so that a session has many.
+/// The most bytes that a take gives. It is small, so that a session has many takes.
 const PIECE: usize = 64;
 
 /// The most takes or puts that a run is tried with.
 const MOST_CALLS: u64 = 100_000;
 
-/// What fails once.
+/// The kind of call that fails.
 #[derive(Clone, Copy)]
 enum Failing {
     /// A call of the disk.
@@ -27,68 +27,69 @@ enum Failing {
     Put,
 }
 
-/// A run of a session, with what it may tell and leave.
+/// A run of a session, with what it may print and the states that it may leave.
 #[derive(Clone, Copy)]
 struct Trial<'a> {
     line: &'a str,
     input: &'a [u8],
-    wanted: &'a Wanted,
+    expected: &'a Expected,
 }
 
-/// A call that fails, by its number.
+/// A call that fails, by its kind and number.
 #[derive(Clone, Copy)]
 struct Fault {
     failing: Failing,
     number: u64,
 }
 
-/// Fails each call of a run behind the opening, each take and each put, one a run, and gives how many failed.
+/// Fails each call of the disk after the opening, each take and each put, one in each run. Returns how many failed. None if a run
+/// differs or memory runs out.
 pub fn fail_run(
     report: &mut Report,
     stage: &Stage<'_>,
     disk: &MemDisk,
-    wanted: &Wanted,
+    expected: &Expected,
     bench: &mut Bench,
 ) -> Option<u64> {
     let first = count_disk_calls(report.alloc(), stage.line, disk, b"")?;
     let last = count_disk_calls(report.alloc(), stage.line, disk, stage.part.run)?;
-    let trial = trial_of(stage, wanted);
-    match held(report.alloc(), disk) {
+    let trial = trial_of(stage, expected);
+    match scratch_copy(report.alloc(), disk) {
         Some(mut volume) => fail_kinds(report, &trial, &mut volume, bench, first, last),
         None => None,
     }
 }
 
-/// Fails each take and each put of a run, one a run, and gives how many failed.
+/// Fails each take and each put of a run, one in each run. Returns how many failed. None if a run differs or memory runs out.
 pub fn fail_streams(
     report: &mut Report,
     stage: &Stage<'_>,
     disk: &MemDisk,
-    wanted: &Wanted,
+    expected: &Expected,
     bench: &mut Bench,
 ) -> Option<u64> {
-    let trial = trial_of(stage, wanted);
-    match held(report.alloc(), disk) {
+    let trial = trial_of(stage, expected);
+    match scratch_copy(report.alloc(), disk) {
         Some(mut volume) => fail_takes_and_puts(report, &trial, &mut volume, bench),
         None => None,
     }
 }
 
-fn trial_of<'a>(stage: &Stage<'a>, wanted: &'a Wanted) -> Trial<'a> {
+fn trial_of<'a>(stage: &Stage<'a>, expected: &'a Expected) -> Trial<'a> {
     Trial {
         line: stage.line,
         input: stage.part.run,
-        wanted,
+        expected,
     }
 }
 
-/// A disk that counts no calls, and holds what this one does.
-fn held(alloc: Global, disk: &MemDisk) -> Option<ScratchDisk> {
+/// A copy of a disk that counts no calls. None if out of memory.
+fn scratch_copy(alloc: Global, disk: &MemDisk) -> Option<ScratchDisk> {
     match image_of(alloc, disk, Left::New) {
         Some(mut from) => match ScratchDisk::new(alloc, from.blocks()) {
-            Ok(mut held) => {
-                copy(&mut from, &mut held);
-                Some(held)
+            Ok(mut scratch) => {
+                copy(&mut from, &mut scratch);
+                Some(scratch)
             }
             Err(_) => None,
         },
@@ -120,8 +121,8 @@ fn fail_takes_and_puts(
     Some(takes.saturating_add(puts))
 }
 
-/// Fails the calls of one kind, one a run, from the first of these numbers to the one before the last, or to the first that the
-/// run does not reach. Gives how many failed.
+/// Fails the calls of one kind, one in each run, with numbers from `first` up to `last` or up to the first that the run does not reach.
+/// Returns how many failed.
 fn fail_calls(
     report: &mut Report,
     trial: &Trial<'_>,
@@ -142,8 +143,8 @@ fn fail_calls(
     Some(faults)
 }
 
-/// Whether the run reaches the call that fails. Where it does it has to end with the status of that call, what it put has to be the
-/// first answers, and the volume the state behind them or behind the next batch.
+/// Whether the run reaches the call that fails. If it does, it must end with the status of that call, print the first answers, and
+/// leave the state after these or after the next batch.
 fn fails_well(
     report: &mut Report,
     trial: &Trial<'_>,
@@ -166,7 +167,7 @@ fn fails_well(
     fail_on(report, trial, volume, bench, fault, fails, &streams)
 }
 
-/// Makes the run on a copy of the volume of which the calls of these numbers fail.
+/// Makes the run on a copy of the volume. The disk calls with the numbers `fails` fail.
 fn fail_on(
     report: &mut Report,
     trial: &Trial<'_>,
@@ -196,36 +197,36 @@ fn compare(
     if outcome.status == Status::Done {
         return Some(false);
     }
-    let answered = count_lines(&outcome.put);
-    let is_first = trial.wanted.answers.starts_with(&outcome.put)
+    let answered = count_lines(&outcome.printed);
+    let is_first = trial.expected.answers.starts_with(&outcome.printed)
         && outcome.status == status_of(fault.failing);
-    let states = &trial.wanted.states;
-    if is_first && both_go_on(report.alloc(), disk, states, answered, bench)? {
+    let states = &trial.expected.states;
+    if is_first && both_match(report.alloc(), disk, states, answered, bench)? {
         return Some(true);
     }
     let line = trial.line;
     let number = fault.number;
     let code = outcome.status.code();
-    report.put(format!(in report.alloc();
+    report.set(format!(in report.alloc();
         "{line}: call {number} failed, status {code}, {answered} answers"
     ));
     None
 }
 
-/// Whether what is written, and what was as of the last sync, are both one of the states.
-fn both_go_on(
+/// Whether two images of the disk are each in one of the states: the blocks as written, and the blocks as of the last sync.
+fn both_match(
     alloc: Global,
     disk: &MemDisk,
-    states: &[Kept],
+    states: &[KnownState],
     answered: usize,
     bench: &mut Bench,
 ) -> Option<bool> {
-    let is_new = goes_on(alloc, disk, Left::New, states, answered, bench)?;
-    let is_old = goes_on(alloc, disk, Left::Old, states, answered, bench)?;
+    let is_new = image_matches(alloc, disk, Left::New, states, answered, bench)?;
+    let is_old = image_matches(alloc, disk, Left::Old, states, answered, bench)?;
     Some(is_new && is_old)
 }
 
-/// The status with which a run ends where such a call fails.
+/// The status of a run in which such a call fails.
 fn status_of(failing: Failing) -> Status {
     match failing {
         Failing::Disk => Status::Disk,
@@ -234,7 +235,7 @@ fn status_of(failing: Failing) -> Status {
     }
 }
 
-/// A disk that holds what this one does, and of which the calls of these numbers fail, counted from here on.
+/// A copy of a disk. Its calls with these numbers fail, counted from after the copying.
 fn copy_with_faults(
     alloc: Global,
     from: &mut ScratchDisk,
@@ -248,7 +249,7 @@ fn copy_with_faults(
             }
             match MemDisk::new(alloc, blocks, ROOM, numbers) {
                 Ok(mut disk) => {
-                    fill(from, &mut disk);
+                    fill_from(from, &mut disk);
                     Ok(disk)
                 }
                 Err(e) => Err(e),
@@ -258,8 +259,8 @@ fn copy_with_faults(
     }
 }
 
-/// Writes what one disk holds to the other, and makes a sync.
-fn fill(from: &mut ScratchDisk, to: &mut MemDisk) {
+/// Copies all blocks of one disk to the other, and syncs.
+fn fill_from(from: &mut ScratchDisk, to: &mut MemDisk) {
     let mut block = [0; BLOCK_SIZE];
     for i in 0..from.blocks() {
         if i < from.blocks() && i < to.blocks() && from.read(i, &mut block).is_ok() {

@@ -1,11 +1,11 @@
-// Files of sessions, one after the other.
+// Runs files of sessions one after the other.
 use crate::lines::Kind;
 use crate::parts::count;
 use crate::reading::read_session;
 use crate::report::Report;
 use crate::running::run_all;
 use crate::session::Session;
-use crate::showing::TEXTS;
+use crate::showing::{Shows, TEXTS};
 use crate::sweeps::{Sweep, sweep_all};
 use std::alloc::{AllocError, Global};
 use std::rt::{Env, Files};
@@ -16,42 +16,46 @@ use std::{env, fs, io};
 struct Compared {
     answers: usize,
     stops: u64,
-    /// None where the file does not ask for faults.
+    /// None if the file has no `#: faults` and no `#: streams`.
     faults: Option<u64>,
 }
 
-/// Puts a line for each file that the words behind the program's name are, or with no words for each `.calls` of the folder that
-/// it is run in, in the order of their names: how much was compared, or where it differs. Tells whether all are as they should
-/// be. An error comes where the folder can't be listed, a line can't be put, or memory is wanting.
-pub fn check_files<R: Files + Env + Print + AllocGlobal + Clone + Drop>(
+/// Prints a line for each file: how much was compared, or how it differs. Returns whether all files agree.
+///
+/// The files are those that the program's words name. With no words they are the `.calls` files of the current folder, in the order of
+/// their names. The error is that the folder can't be listed, that a line can't be printed, or that memory runs out.
+pub fn check_files<R: Files + Env + Print + AllocGlobal + Clone + Drop, S: Shows>(
     rt: &R,
+    shows: &S,
 ) -> io::Result<bool> {
     match paths(rt) {
-        Ok(paths) => check_each(rt, &paths),
+        Ok(paths) => check_each(rt, shows, &paths),
         Err(e) => Err(e),
     }
 }
 
-fn check_each<R: Files + Print + AllocGlobal + Clone + Drop>(
+fn check_each<R: Files + Print + AllocGlobal + Clone + Drop, S: Shows>(
     rt: &R,
+    shows: &S,
     paths: &[String],
 ) -> io::Result<bool> {
     let mut is_good = true;
     for path in paths {
-        if !check_file(rt, path.as_str())? {
+        if !check_file(rt, shows, path.as_str())? {
             is_good = false;
         }
     }
     Ok(is_good)
 }
 
-/// Puts the line of a file, and tells whether it is as it should be.
-fn check_file<R: Files + Print + AllocGlobal + Clone + Drop>(
+/// Prints the line of a file, and returns whether the file agrees.
+fn check_file<R: Files + Print + AllocGlobal + Clone + Drop, S: Shows>(
     rt: &R,
+    shows: &S,
     path: &str,
 ) -> io::Result<bool> {
     match fs::read(rt, path) {
-        Ok(bytes) => check_bytes(rt, path, &bytes),
+        Ok(bytes) => check_bytes(rt, shows, path, &bytes),
         Err(_) => {
             let name = name_of(path);
             println!(rt; "{name}: can't be read")?;
@@ -60,18 +64,19 @@ fn check_file<R: Files + Print + AllocGlobal + Clone + Drop>(
     }
 }
 
-fn check_bytes<R: Files + Print + AllocGlobal + Clone + Drop>(
+fn check_bytes<R: Files + Print + AllocGlobal + Clone + Drop, S: Shows>(
     rt: &R,
+    shows: &S,
     path: &str,
     bytes: &[u8],
 ) -> io::Result<bool> {
     let mut report = Report::new(rt.alloc());
-    let compared = compare(rt, &mut report, path, bytes);
-    put_told(rt, name_of(path), compared, report.text())
+    let compared = compare(rt, shows, &mut report, path, bytes);
+    print_result(rt, name_of(path), compared, report.text())
 }
 
-/// Puts the line of a file, and tells whether it is as it should be.
-fn put_told<R: Print>(
+/// Prints the line of a file, and returns whether the file agrees. No result and no text mean that memory ran out.
+fn print_result<R: Print>(
     rt: &R,
     name: &str,
     compared: Option<Compared>,
@@ -79,7 +84,7 @@ fn put_told<R: Print>(
 ) -> io::Result<bool> {
     match compared {
         Some(compared) => {
-            put_compared(rt, name, &compared)?;
+            print_compared(rt, name, &compared)?;
             Ok(true)
         }
         None => {
@@ -92,7 +97,7 @@ fn put_told<R: Print>(
     }
 }
 
-fn put_compared<R: Print>(rt: &R, name: &str, compared: &Compared) -> io::Result<()> {
+fn print_compared<R: Print>(rt: &R, name: &str, compared: &Compared) -> io::Result<()> {
     let answers = compared.answers;
     let stops = compared.stops;
     match compared.faults {
@@ -101,10 +106,10 @@ fn put_compared<R: Print>(rt: &R, name: &str, compared: &Compared) -> io::Result
     }
 }
 
-/// The paths of these files.
+/// The paths of the files to run.
 fn paths<R: Files + Env + AllocGlobal + Clone + Drop>(rt: &R) -> io::Result<Vec<String>> {
     match words(rt) {
-        Ok(mut paths) => match put_paths(rt, &mut paths) {
+        Ok(mut paths) => match add_folder(rt, &mut paths) {
             Ok(()) => Ok(paths),
             Err(e) => Err(e),
         },
@@ -112,44 +117,44 @@ fn paths<R: Files + Env + AllocGlobal + Clone + Drop>(rt: &R) -> io::Result<Vec<
     }
 }
 
-/// The words behind the program's name.
+/// The program's words after its name.
 fn words<R: Env + AllocGlobal + Clone + Drop>(rt: &R) -> io::Result<Vec<String>> {
     Ok(env::args(rt)?.skip(1).collect(rt.alloc())?)
 }
 
-/// Puts the files of the folder into paths that are none.
-fn put_paths<R: Files + AllocGlobal + Clone + Drop>(
+/// Adds the files of the current folder if there are no paths yet.
+fn add_folder<R: Files + AllocGlobal + Clone + Drop>(
     rt: &R,
     paths: &mut Vec<String>,
 ) -> io::Result<()> {
     if paths.is_empty() {
-        put_files(rt, paths)?;
+        add_files(rt, paths)?;
         paths.sort()?;
     }
     Ok(())
 }
 
-fn put_files<R: Files + AllocGlobal + Clone + Drop>(
+fn add_files<R: Files + AllocGlobal + Clone + Drop>(
     rt: &R,
     paths: &mut Vec<String>,
 ) -> io::Result<()> {
     for entry in fs::read_dir(rt, ".")? {
         match entry {
-            Ok(entry) => put_path(rt.alloc(), entry.file_name(), paths)?,
+            Ok(entry) => add_path(rt.alloc(), entry.file_name(), paths)?,
             Err(e) => return Err(e),
         }
     }
     Ok(())
 }
 
-fn put_path(alloc: Global, name: &str, paths: &mut Vec<String>) -> Result<(), AllocError> {
+fn add_path(alloc: Global, name: &str, paths: &mut Vec<String>) -> Result<(), AllocError> {
     if name.ends_with(".calls") {
         paths.push(String::from_str(alloc, name)?)?;
     }
     Ok(())
 }
 
-/// What stands behind the last slash of a path.
+/// The part of a path after its last slash.
 fn name_of(path: &str) -> &str {
     match path.rsplit_once('/') {
         Some((_, name)) => name,
@@ -157,37 +162,40 @@ fn name_of(path: &str) -> &str {
     }
 }
 
-/// How much of a file that is as it should be was compared.
-fn compare<R: Files + AllocGlobal + Clone + Drop>(
+/// How much of a file was compared. None if it differs, or if memory runs out.
+fn compare<R: Files + AllocGlobal + Clone + Drop, S: Shows>(
     rt: &R,
+    shows: &S,
     report: &mut Report,
     path: &str,
     bytes: &[u8],
 ) -> Option<Compared> {
     match read_session(bytes) {
-        Ok(session) => compare_beside(rt, report, path, &session),
+        Ok(session) => compare_beside(rt, shows, report, path, &session),
         Err(misread) => {
             let number = misread.number;
             let text = misread.text;
-            report.put(format!(in report.alloc(); "line {number}: {text}"));
+            report.set(format!(in report.alloc(); "line {number}: {text}"));
             None
         }
     }
 }
 
-/// The same with the files beside that of the session, where it asks for them.
-fn compare_beside<R: Files + AllocGlobal + Clone + Drop>(
+/// The same, with the files beside the session's if it has `#: shows`.
+fn compare_beside<R: Files + AllocGlobal + Clone + Drop, S: Shows>(
     rt: &R,
+    shows: &S,
     report: &mut Report,
     path: &str,
     session: &Session<'_>,
 ) -> Option<Compared> {
     let mut texts = Vec::new(rt.alloc());
-    if session.settings.shows && !put_texts(rt, report, path, &mut texts) {
+    if session.settings.shows && !read_texts(rt, report, path, &mut texts) {
         return None;
     }
     compare_session(
         report,
+        shows,
         &Session {
             texts: &texts,
             ..*session
@@ -195,8 +203,8 @@ fn compare_beside<R: Files + AllocGlobal + Clone + Drop>(
     )
 }
 
-/// Puts what the files of the texts hold into `texts`; false where one can't be read, or memory is wanting.
-fn put_texts<R: Files + AllocGlobal + Clone + Drop>(
+/// Reads the files of the texts into `texts`. False if one can't be read, or if memory runs out.
+fn read_texts<R: Files + AllocGlobal + Clone + Drop>(
     rt: &R,
     report: &mut Report,
     path: &str,
@@ -204,14 +212,14 @@ fn put_texts<R: Files + AllocGlobal + Clone + Drop>(
 ) -> bool {
     let session = path.strip_suffix(".calls").unwrap_or(path);
     for name in TEXTS {
-        if !put_text(rt, report, session, name, texts) {
+        if !read_text(rt, report, session, name, texts) {
             return false;
         }
     }
     true
 }
 
-fn put_text<R: Files + AllocGlobal + Clone + Drop>(
+fn read_text<R: Files + AllocGlobal + Clone + Drop>(
     rt: &R,
     report: &mut Report,
     session: &str,
@@ -222,7 +230,7 @@ fn put_text<R: Files + AllocGlobal + Clone + Drop>(
         Ok(path) => match fs::read(rt, path.as_str()) {
             Ok(bytes) => texts.push(bytes).is_ok(),
             Err(_) => {
-                report.put(format!(in rt.alloc(); "the file of {name} can't be read"));
+                report.set(format!(in rt.alloc(); "the file of {name} can't be read"));
                 false
             }
         },
@@ -230,8 +238,12 @@ fn put_text<R: Files + AllocGlobal + Clone + Drop>(
     }
 }
 
-fn compare_session(report: &mut Report, session: &Session<'_>) -> Option<Compared> {
-    if !run_all(report, session) {
+fn compare_session<S: Shows>(
+    report: &mut Report,
+    shows: &S,
+    session: &Session<'_>,
+) -> Option<Compared> {
+    if !run_all(report, session, shows) {
         return None;
     }
     let stops = match session.settings.stops {

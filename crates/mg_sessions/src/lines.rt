@@ -1,38 +1,38 @@
-// The lines of a file, and what they are.
+// The lines of a file, and their kinds.
 
-/// The most bytes that a line without words, or a note, may have: a longer line is answered whatever it holds.
+/// The most bytes of a blank line or a note. A longer line is a call, whatever it holds.
 const LINE_LIMIT: usize = 256;
 
 /// The calls that only read.
 const READS: [&[u8]; 4] = [b"load", b"info", b"balance", b"apdlist"];
 
-/// What a line is. The bytes are without a newline.
+/// What a line is. The bytes are without the newline.
 #[derive(Clone, Copy)]
 pub enum Line<'a> {
-    /// It is answered.
+    /// A call, which is answered.
     Call(&'a [u8]),
-    /// It is the answer of a call.
+    /// The answer of a call.
     Answer(&'a [u8]),
-    /// Another run begins behind it.
+    /// The end of a run. The next one begins after it.
     Reopen,
-    /// It sets what the session runs under.
+    /// A setting of the session.
     Setting(&'a [u8]),
     Note,
 }
 
-/// Lines of one kind.
+/// The lines that are meant.
 #[derive(Clone, Copy)]
 pub enum Kind {
-    /// Those that are answered.
+    /// The calls.
     Calls,
-    /// Those of them that only read.
+    /// The calls that only read.
     Reads,
     Answers,
-    /// Those that end a run.
+    /// The ends of runs.
     Reopens,
 }
 
-/// What this line is, which may end with a newline.
+/// What a line is. It may end with a newline.
 pub fn line_of(line: &[u8]) -> Line<'_> {
     let text = line.strip_suffix(b"\n").unwrap_or(line);
     if is_call(text) {
@@ -48,7 +48,7 @@ pub fn line_of(line: &[u8]) -> Line<'_> {
     }
 }
 
-/// What a line of this kind holds; None where it is of another kind.
+/// The text of a line of this kind. None for a line of another kind.
 pub fn text_of(line: &[u8], kind: Kind) -> Option<&[u8]> {
     match (kind, line_of(line)) {
         (Kind::Calls, Line::Call(text)) => Some(text),
@@ -61,15 +61,15 @@ pub fn text_of(line: &[u8], kind: Kind) -> Option<&[u8]> {
 
 /// Whether a line is answered: it has words and is no note, or it is too long.
 fn is_call(text: &[u8]) -> bool {
-    for b in text {
-        if !is_blank(b) {
-            return *b != b'#' || text.len() > LINE_LIMIT;
+    for byte in text {
+        if !is_blank(byte) {
+            return *byte != b'#' || text.len() > LINE_LIMIT;
         }
     }
     text.len() > LINE_LIMIT
 }
 
-/// Whether the second word of a line is that of a call that reads.
+/// Whether the second word of a line names a call that reads.
 fn is_read(line: &[u8]) -> bool {
     let mut is_second = false;
     for word in line.split(is_blank) {
@@ -83,28 +83,28 @@ fn is_read(line: &[u8]) -> bool {
     false
 }
 
-/// Whether a byte parts words.
-fn is_blank(b: &u8) -> bool {
-    *b == b' ' || *b == b'\t' || *b == b'\r'
+/// Whether a byte separates words.
+fn is_blank(byte: &u8) -> bool {
+    *byte == b' ' || *byte == b'\t' || *byte == b'\r'
 }
 
 /// Whether a byte ends a line.
-pub fn is_newline(b: &u8) -> bool {
-    *b == b'\n'
+pub fn is_newline(byte: &u8) -> bool {
+    *byte == b'\n'
 }
 
-/// How many lines these bytes end.
+/// The number of newlines in these bytes.
 pub fn count_lines(bytes: &[u8]) -> usize {
     let mut lines: usize = 0;
-    for b in bytes {
-        if is_newline(b) {
+    for byte in bytes {
+        if is_newline(byte) {
             lines = lines.saturating_add(1);
         }
     }
     lines
 }
 
-/// The bytes up to the first newline, that with them.
+/// The bytes up to the first newline, including it.
 pub fn first_line(bytes: &[u8]) -> &[u8] {
     match bytes.split_inclusive(is_newline).next() {
         Some(line) => line,

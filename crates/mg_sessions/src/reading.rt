@@ -1,4 +1,4 @@
-// From the bytes of a file to its session.
+// Reads a session from the bytes of its file.
 use crate::lines::{Line, is_newline, line_of};
 use crate::session::{Session, Settings};
 use std::str;
@@ -6,26 +6,26 @@ use std::str;
 /// The batch of a sweep that names none.
 const BATCH: &str = "8";
 
-/// Why a file is no session: a line, from 1, and what is wrong there.
+/// Why a file is no session: the number of a line, from 1, and what is wrong there.
 #[derive(Clone, Copy)]
 pub struct Misread {
     pub number: usize,
     pub text: &'static str,
 }
 
-/// What the lines so far tell.
+/// What the lines so far say.
 #[derive(Clone, Copy)]
-struct Told<'a> {
+struct Progress<'a> {
     settings: Settings<'a>,
-    /// The calls of this run.
+    /// The number of calls in this run.
     calls: usize,
-    /// The answers of this run.
+    /// The number of answers in this run.
     answers: usize,
 }
 
-/// The session that these bytes tell.
+/// The session that these bytes spell.
 pub fn read_session(file: &[u8]) -> Result<Session<'_>, Misread> {
-    let mut told = Told {
+    let mut progress = Progress {
         settings: Settings::usual(),
         calls: 0,
         answers: 0,
@@ -33,13 +33,13 @@ pub fn read_session(file: &[u8]) -> Result<Session<'_>, Misread> {
     let mut last: usize = 0;
     for line in file.split_inclusive(is_newline) {
         last = last.saturating_add(1);
-        if let Some(text) = take_line(&mut told, line) {
+        if let Some(text) = take_line(&mut progress, line) {
             return Err(Misread { number: last, text });
         }
     }
-    match end_run(&mut told) {
+    match end_run(&mut progress) {
         None => Ok(Session {
-            settings: told.settings,
+            settings: progress.settings,
             file,
             texts: &[],
         }),
@@ -47,41 +47,41 @@ pub fn read_session(file: &[u8]) -> Result<Session<'_>, Misread> {
     }
 }
 
-/// Takes a line, and tells what is wrong with it.
-fn take_line<'a>(told: &mut Told<'a>, line: &'a [u8]) -> Option<&'static str> {
+/// Takes a line. Returns what is wrong with it.
+fn take_line<'a>(progress: &mut Progress<'a>, line: &'a [u8]) -> Option<&'static str> {
     match line_of(line) {
-        Line::Call(_) => add_call(told, line.ends_with(b"\n")),
+        Line::Call(_) => add_call(progress, line.ends_with(b"\n")),
         Line::Answer(_) => {
-            told.answers = told.answers.saturating_add(1);
+            progress.answers = progress.answers.saturating_add(1);
             None
         }
-        Line::Reopen => end_run(told),
-        Line::Setting(text) => set(&mut told.settings, text),
+        Line::Reopen => end_run(progress),
+        Line::Setting(text) => set(&mut progress.settings, text),
         Line::Note => None,
     }
 }
 
-/// A call more. The one before has to have its answer; that of a last line without a newline stands before the line.
-fn add_call(told: &mut Told<'_>, is_ended: bool) -> Option<&'static str> {
+/// Counts a call. The call before it must have its answer. A last line without a newline has its own answer before it.
+fn add_call(progress: &mut Progress<'_>, is_ended: bool) -> Option<&'static str> {
     let early = if is_ended { 0 } else { 1 };
-    if told.answers != told.calls.saturating_add(early) {
-        return Some("the calls before it have not one answer each");
+    if progress.answers != progress.calls.saturating_add(early) {
+        return Some("a call before this line does not have exactly one answer");
     }
-    told.calls = told.calls.saturating_add(1);
+    progress.calls = progress.calls.saturating_add(1);
     None
 }
 
-/// The run ends with this line.
-fn end_run(told: &mut Told<'_>) -> Option<&'static str> {
-    if told.answers != told.calls {
-        return Some("the calls up to it have not one answer each");
+/// Ends the run at this line. Each of its calls must have its answer.
+fn end_run(progress: &mut Progress<'_>) -> Option<&'static str> {
+    if progress.answers != progress.calls {
+        return Some("a call up to this line does not have exactly one answer");
     }
-    told.calls = 0;
-    told.answers = 0;
+    progress.calls = 0;
+    progress.answers = 0;
     None
 }
 
-/// Takes the setting that a line names, as `frames 64`.
+/// Takes a setting, such as `frames 64`.
 fn set<'a>(settings: &mut Settings<'a>, text: &'a [u8]) -> Option<&'static str> {
     let Ok(text) = str::from_utf8(text) else {
         return Some("a setting that is no text");

@@ -1,7 +1,7 @@
-// Where it is told how a file is not as it should be.
+// The text that says how a file differs.
 use std::alloc::{AllocError, Global};
 
-/// What differs, or why a file is no session. Where work ends and nothing is told, memory was wanting.
+/// How a file differs, or why it is no session. A failure without a text means that memory ran out.
 #[derive(Drop)]
 pub struct Report {
     alloc: Global,
@@ -9,7 +9,7 @@ pub struct Report {
 }
 
 impl Report {
-    /// Nothing is told so far.
+    /// A report with no text.
     pub fn new(alloc: Global) -> Report {
         Report {
             alloc,
@@ -25,23 +25,23 @@ impl Report {
         self.text.as_str()
     }
 
-    /// Tells this, if there was memory for it.
-    pub fn put(&mut self, text: Result<String, AllocError>) {
+    /// Sets the text. Without memory for it the report stays as it is.
+    pub fn set(&mut self, text: Result<String, AllocError>) {
         if let Ok(text) = text {
             self.text = text;
         }
     }
 
-    /// Tells what a way to run the session does otherwise.
-    pub fn tell(&mut self, how: &str, what: &str) {
-        self.put(format!(in self.alloc; "{how}: {what}"));
+    /// Says how a way to run the session differs.
+    pub fn describe(&mut self, how: &str, what: &str) {
+        self.set(format!(in self.alloc; "{how}: {what}"));
     }
 
-    /// Tells that other bytes were put than were wanted.
-    pub fn tell_bytes(&mut self, how: &str, what: &str, wanted: &[u8], found: &[u8]) {
+    /// Says that the bytes found are not those wanted.
+    pub fn describe_bytes(&mut self, how: &str, what: &str, wanted: &[u8], found: &[u8]) {
         match String::from_utf8_lossy(self.alloc, wanted) {
             Ok(wanted) => match String::from_utf8_lossy(self.alloc, found) {
-                Ok(found) => self.put(format!(in self.alloc;
+                Ok(found) => self.set(format!(in self.alloc;
                     "{how}: {what}: wanted {wanted:?}, found {found:?}"
                 )),
                 Err(_) => {}

@@ -1,24 +1,24 @@
-// A session under `dry`, and under `run` with three batches.
+// Runs a session under `dry`, and under `run` with three batches.
 use crate::images::image_of;
 use crate::lines::{Kind, Line, first_line, is_newline, line_of};
-use crate::parts::{Part, count_runs, part_of, place_behind, put, put_line};
+use crate::parts::{Part, append, append_line, count_runs, part_of, place_after};
 use crate::report::Report;
 use crate::session::{Session, Settings};
-use crate::showing::show_all;
+use crate::showing::{Shows, show_all};
 use mg_disk::{Left, MemDisk, ScratchDisk};
-use mg_session::Status;
 use mg_testing::{Outcome, Streams, command, volume};
+use mg_volume_session::Status;
 use std::alloc::{AllocError, Global};
 
 /// A way to run a session on a volume.
 #[derive(Clone, Copy)]
 struct Way {
     batch: &'static str,
-    /// What it is called where it differs.
+    /// Its name in reports.
     how: &'static str,
     /// The words of the command.
     line: &'static str,
-    /// The size of the pieces in which the source gives the lines.
+    /// The most bytes that a take of the source gives.
     piece: usize,
 }
 
@@ -43,45 +43,50 @@ const BY_64: Way = Way {
     piece: 257,
 };
 
-/// What one way to run the session told, which the others have to tell too.
+/// What the first way to run the session printed. The other ways must print the same.
 #[derive(Drop)]
-struct Told {
-    /// What `check` puts behind the last run.
+struct Baseline {
+    /// What `check` prints after the last run.
     check: Option<Vec<u8>>,
-    /// What the same lines are answered once more.
+    /// The answers to the same lines once more.
     again: Option<Vec<u8>>,
 }
 
-/// Runs the session in each way, and tells whether it is the same each time.
-pub fn run_all(report: &mut Report, session: &Session<'_>) -> bool {
-    let mut told = Told {
+/// Runs the session in each way, and returns whether all agree.
+pub fn run_all<S: Shows>(report: &mut Report, session: &Session<'_>, shows: &S) -> bool {
+    let mut baseline = Baseline {
         check: None,
         again: None,
     };
-    run_ways(report, session, &mut told)
+    run_ways(report, session, shows, &mut baseline)
 }
 
-fn run_ways(report: &mut Report, session: &Session<'_>, told: &mut Told) -> bool {
+fn run_ways<S: Shows>(
+    report: &mut Report,
+    session: &Session<'_>,
+    shows: &S,
+    baseline: &mut Baseline,
+) -> bool {
     if let Some(line) = session.settings.check {
-        if !keep(report.alloc(), line.as_bytes(), true, &mut told.check) {
+        if !store_copy(report.alloc(), line.as_bytes(), true, &mut baseline.check) {
             return false;
         }
     }
-    if session.settings.tariff.is_none() && !run_dry(report, session, &mut told.again) {
+    if session.settings.tariff.is_none() && !run_dry(report, session, &mut baseline.again) {
         return false;
     }
     match fresh(report.alloc(), &session.settings) {
-        Ok(fresh) => run_batches(report, session, &fresh, told),
+        Ok(fresh) => run_batches(report, session, shows, &fresh, baseline),
         Err(_) => false,
     }
 }
 
-/// Keeps these bytes as what was told, with a newline where one is to be behind them; false where memory is wanting.
-fn keep(alloc: Global, bytes: &[u8], is_ended: bool, told: &mut Option<Vec<u8>>) -> bool {
-    let mut kept = Vec::new(alloc);
-    let is_kept = put(&mut kept, bytes) && (!is_ended || put(&mut kept, b"\n"));
-    *told = Some(kept);
-    is_kept
+/// Stores a copy of these bytes in `place`, with a newline after them if `is_ended`. False if out of memory.
+fn store_copy(alloc: Global, bytes: &[u8], is_ended: bool, place: &mut Option<Vec<u8>>) -> bool {
+    let mut copy = Vec::new(alloc);
+    let is_stored = append(&mut copy, bytes) && (!is_ended || append(&mut copy, b"\n"));
+    *place = Some(copy);
+    is_stored
 }
 
 /// A fresh volume with these settings.
@@ -92,12 +97,12 @@ pub fn fresh(alloc: Global, settings: &Settings<'_>) -> Result<MemDisk, AllocErr
     }
 }
 
-/// The lines of the file under `dry`, twice in one run: they are answered as the file tells, and what they are answered the second
-/// time is kept. A fresh volume with the usual tariff is what `dry` runs on.
+/// Runs the lines of the file twice in one run of `dry`, which has a fresh volume with the usual tariff. The first answers must be
+/// those in the file. The second answers are stored in `again`.
 fn run_dry(report: &mut Report, session: &Session<'_>, again: &mut Option<Vec<u8>>) -> bool {
     let mut twice = Vec::new(report.alloc());
-    put_line(&mut twice, session.file)
-        && put(&mut twice, session.file)
+    append_line(&mut twice, session.file)
+        && append(&mut twice, session.file)
         && run_twice(report, session, &twice, again)
 }
 
@@ -113,14 +118,14 @@ fn run_twice(
     };
     match session.settings.dry_line(report.alloc()) {
         Ok(line) => match dry(report.alloc(), line.as_str(), &streams) {
-            Ok(outcome) => keep_behind(report, session.file, &outcome, again),
+            Ok(outcome) => store_rest(report, session.file, &outcome, again),
             Err(_) => false,
         },
         Err(_) => false,
     }
 }
 
-/// How a command ends that needs no disk.
+/// The outcome of a command that needs no disk.
 pub fn dry(alloc: Global, line: &str, streams: &Streams<'_>) -> Result<Outcome, AllocError> {
     match ScratchDisk::new(alloc, 0) {
         Ok(mut disk) => command(alloc, line, &mut disk, streams),
@@ -128,49 +133,51 @@ pub fn dry(alloc: Global, line: &str, streams: &Streams<'_>) -> Result<Outcome, 
     }
 }
 
-/// Keeps what `dry` put behind the answers of the file.
-fn keep_behind(
+/// Stores what `dry` printed after the answers of the file.
+fn store_rest(
     report: &mut Report,
     file: &[u8],
     outcome: &Outcome,
     again: &mut Option<Vec<u8>>,
 ) -> bool {
-    match behind(report, "dry", file, 0, &outcome.put) {
-        Some(behind) => {
-            keep(report.alloc(), behind, false, again) && is_done(report, "dry", outcome.status)
+    match rest_after_answers(report, "dry", file, 0, &outcome.printed) {
+        Some(rest) => {
+            store_copy(report.alloc(), rest, false, again) && is_done(report, "dry", outcome.status)
         }
         None => false,
     }
 }
 
-/// The runs of the session in each of the ways, each on a volume as this one. Larger batches make no more syncs.
-fn run_batches(
+/// Runs the session with each batch, on a copy of this volume each. A larger batch must make no more syncs.
+fn run_batches<S: Shows>(
     report: &mut Report,
     session: &Session<'_>,
+    shows: &S,
     fresh: &MemDisk,
-    told: &mut Told,
+    baseline: &mut Baseline,
 ) -> bool {
-    match run_on_copy(report, session, &ALONE, fresh, told) {
+    match run_on_copy(report, session, shows, &ALONE, fresh, baseline) {
         Some(most) => {
-            saves(report, session, &BY_8, fresh, told, most)
-                && saves(report, session, &BY_64, fresh, told, most)
+            saves_syncs(report, session, shows, &BY_8, fresh, baseline, most)
+                && saves_syncs(report, session, shows, &BY_64, fresh, baseline, most)
         }
         None => false,
     }
 }
 
-fn saves(
+fn saves_syncs<S: Shows>(
     report: &mut Report,
     session: &Session<'_>,
+    shows: &S,
     way: &Way,
     fresh: &MemDisk,
-    told: &mut Told,
+    baseline: &mut Baseline,
     most: u64,
 ) -> bool {
-    match run_on_copy(report, session, way, fresh, told) {
+    match run_on_copy(report, session, shows, way, fresh, baseline) {
         Some(syncs) => {
             if syncs > most || session.settings.saves && syncs == most {
-                report.tell(way.batch, "no syncs are saved");
+                report.describe(way.batch, "no syncs are saved");
                 return false;
             }
             true
@@ -179,36 +186,38 @@ fn saves(
     }
 }
 
-fn run_on_copy(
+fn run_on_copy<S: Shows>(
     report: &mut Report,
     session: &Session<'_>,
+    shows: &S,
     way: &Way,
     fresh: &MemDisk,
-    told: &mut Told,
+    baseline: &mut Baseline,
 ) -> Option<u64> {
     match image_of(report.alloc(), fresh, Left::New) {
-        Some(mut disk) => run_batch(report, session, way, &mut disk, told),
+        Some(mut disk) => run_batch(report, session, shows, way, &mut disk, baseline),
         None => None,
     }
 }
 
-/// The runs one after the other on a volume, a stop between two of them; then `check`, the texts, and the same lines once more. Gives
-/// how many syncs the runs made.
-fn run_batch(
+/// Makes the runs on a volume, with a stop after each. Then come `check`, the texts, and the same lines once more. Returns how many
+/// syncs the runs made.
+fn run_batch<S: Shows>(
     report: &mut Report,
     session: &Session<'_>,
+    shows: &S,
     way: &Way,
     disk: &mut MemDisk,
-    told: &mut Told,
+    baseline: &mut Baseline,
 ) -> Option<u64> {
     let mut syncs: u64 = 0;
     for i in 0..count_runs(session.file) {
         let more = run_part(report, way, &part_of(session.file, i), disk)?;
         syncs = syncs.saturating_add(more);
     }
-    if check(report, way, disk, &mut told.check)
-        && shows(report, way, session, disk)
-        && run_again(report, way, session.file, disk, &mut told.again)
+    if check(report, way, disk, &mut baseline.check)
+        && are_shown(report, way, session, shows, disk)
+        && run_again(report, way, session.file, disk, &mut baseline.again)
     {
         Some(syncs)
     } else {
@@ -216,7 +225,8 @@ fn run_batch(
     }
 }
 
-/// A run on the volume, which answers its lines and nothing else, and ends well; then a stop. Gives how many syncs it made.
+/// Makes a run on the volume, and then a stop. The run must print its answers and nothing else, with status 0. Returns how many syncs
+/// it made.
 fn run_part(report: &mut Report, way: &Way, part: &Part<'_>, disk: &mut MemDisk) -> Option<u64> {
     if !is_answered(report, way, part, disk) {
         return None;
@@ -240,7 +250,7 @@ fn is_answered(report: &mut Report, way: &Way, part: &Part<'_>, disk: &mut MemDi
     }
 }
 
-/// Makes a disk one that a stop now leaves, with no call made yet; false where memory is wanting.
+/// Makes a disk what a stop now leaves of it, with no call made yet. False if out of memory.
 pub fn reopen(alloc: Global, disk: &mut MemDisk) -> bool {
     match image_of(alloc, disk, Left::Old) {
         Some(left) => {
@@ -251,140 +261,146 @@ pub fn reopen(alloc: Global, disk: &mut MemDisk) -> bool {
     }
 }
 
-/// Whether `check` puts what was told first, and makes no write and no sync.
-fn check(report: &mut Report, way: &Way, disk: &mut MemDisk, told: &mut Option<Vec<u8>>) -> bool {
+/// Whether `check` prints the same line as before, and makes no write and no sync.
+fn check(report: &mut Report, way: &Way, disk: &mut MemDisk, known: &mut Option<Vec<u8>>) -> bool {
     match command(report.alloc(), "vol check", disk, &Streams::of(b"")) {
         Ok(outcome) => {
             only_reads(report, way, "then check makes a write or a sync", disk)
-                && same(report, way.how, "then check", told, &outcome.put)
+                && is_same(report, way.how, "then check", known, &outcome.printed)
         }
         Err(_) => false,
     }
 }
 
-/// Whether the texts that the session asks for are shown, with no write and no sync.
-fn shows(report: &mut Report, way: &Way, session: &Session<'_>, disk: &mut MemDisk) -> bool {
-    show_all(report, way.how, disk, session.texts)
+/// Whether the texts of the session are shown, with no write and no sync.
+fn are_shown<S: Shows>(
+    report: &mut Report,
+    way: &Way,
+    session: &Session<'_>,
+    shows: &S,
+    disk: &mut MemDisk,
+) -> bool {
+    show_all(report, way.how, shows, disk, session.texts)
         && only_reads(report, way, "then a text makes a write or a sync", disk)
 }
 
 fn only_reads(report: &mut Report, way: &Way, what: &str, disk: &MemDisk) -> bool {
     let counts = disk.counts();
     if counts.writes != 0 || counts.syncs != 0 {
-        report.tell(way.how, what);
+        report.describe(way.how, what);
         return false;
     }
     true
 }
 
-/// Whether the lines of the file are answered once more as they were first.
+/// Whether the lines of the file are answered once more as before.
 fn run_again(
     report: &mut Report,
     way: &Way,
     file: &[u8],
     disk: &mut MemDisk,
-    told: &mut Option<Vec<u8>>,
+    known: &mut Option<Vec<u8>>,
 ) -> bool {
     match command(report.alloc(), way.line, disk, &Streams::of(file)) {
-        Ok(outcome) => same(
+        Ok(outcome) => is_same(
             report,
             way.how,
             "then the lines once more",
-            told,
-            &outcome.put,
+            known,
+            &outcome.printed,
         ),
         Err(_) => false,
     }
 }
 
-/// Whether these bytes are those that were told first, if any were.
-fn same(
+/// Whether these bytes are the known ones. If none are known yet, these are stored.
+fn is_same(
     report: &mut Report,
     how: &str,
     what: &str,
-    told: &mut Option<Vec<u8>>,
-    put: &[u8],
+    known: &mut Option<Vec<u8>>,
+    printed: &[u8],
 ) -> bool {
-    match told {
-        None => keep(report.alloc(), put, false, told),
+    match known {
+        None => store_copy(report.alloc(), printed, false, known),
         Some(first) => {
-            if first.as_slice() == put {
+            if first.as_slice() == printed {
                 return true;
             }
-            report.tell_bytes(how, what, first, put);
+            report.describe_bytes(how, what, first, printed);
             false
         }
     }
 }
 
-/// Whether a command answered this run and nothing else, and ended well.
+/// Whether a command printed the answers of this run and nothing else, with status 0.
 fn compare(report: &mut Report, how: &str, part: &Part<'_>, outcome: &Outcome) -> bool {
-    match behind(report, how, part.run, part.lines, &outcome.put) {
+    match rest_after_answers(report, how, part.run, part.lines, &outcome.printed) {
         Some([]) => is_done(report, how, outcome.status),
         Some(_) => {
-            report.tell(how, "more answers than lines");
+            report.describe(how, "more answers than lines");
             false
         }
         None => false,
     }
 }
 
-/// What was put behind the answers of these lines, where these are what was put first. So many lines stand before them in the
-/// file.
-fn behind<'a>(
+/// What was printed after the answers of these lines. None if these answers were not printed first. `before` is the number of lines
+/// before them in the file.
+fn rest_after_answers<'a>(
     report: &mut Report,
     how: &str,
     lines: &[u8],
     before: usize,
-    put: &'a [u8],
+    printed: &'a [u8],
 ) -> Option<&'a [u8]> {
-    let mut put = put;
+    let mut printed = printed;
     let mut calls: usize = 0;
     for line in lines.split_inclusive(is_newline) {
         if let Line::Answer(answer) = line_of(line) {
             calls = calls.saturating_add(1);
-            match behind_answer(put, answer) {
-                Some(rest) => put = rest,
+            match after_answer(printed, answer) {
+                Some(rest) => printed = rest,
                 None => {
-                    let (_, number) = place_behind(lines, Kind::Calls, calls);
-                    tell_answer(report, how, before.saturating_add(number), answer, put);
+                    let (_, number) = place_after(lines, Kind::Calls, calls);
+                    describe_answer(report, how, before.saturating_add(number), answer, printed);
                     return None;
                 }
             }
         }
     }
-    Some(put)
+    Some(printed)
 }
 
-/// What stands behind an answer and its newline.
-fn behind_answer<'a>(put: &'a [u8], answer: &[u8]) -> Option<&'a [u8]> {
-    match put.strip_prefix(answer) {
+/// The bytes after an answer and its newline.
+fn after_answer<'a>(printed: &'a [u8], answer: &[u8]) -> Option<&'a [u8]> {
+    match printed.strip_prefix(answer) {
         Some(rest) => rest.strip_prefix(b"\n"),
         None => None,
     }
 }
 
-/// Tells that the line of this number was answered otherwise.
-fn tell_answer(report: &mut Report, how: &str, number: usize, answer: &[u8], put: &[u8]) {
+/// Says that the line with this number had another answer.
+fn describe_answer(report: &mut Report, how: &str, number: usize, answer: &[u8], printed: &[u8]) {
     let mut wanted = Vec::new(report.alloc());
-    if put_line(&mut wanted, answer) {
-        tell_line(report, how, number, &wanted, first_line(put));
+    if append_line(&mut wanted, answer) {
+        describe_line(report, how, number, &wanted, first_line(printed));
     }
 }
 
-fn tell_line(report: &mut Report, how: &str, number: usize, wanted: &[u8], found: &[u8]) {
+fn describe_line(report: &mut Report, how: &str, number: usize, wanted: &[u8], found: &[u8]) {
     match format!(in report.alloc(); "line {number}") {
-        Ok(what) => report.tell_bytes(how, what.as_str(), wanted, found),
+        Ok(what) => report.describe_bytes(how, what.as_str(), wanted, found),
         Err(_) => {}
     }
 }
 
-/// Whether a command ended well.
+/// Whether the status is 0. If not, the report says so.
 fn is_done(report: &mut Report, how: &str, status: Status) -> bool {
     if status == Status::Done {
         return true;
     }
     let code = status.code();
-    report.put(format!(in report.alloc(); "{how}: status {code}"));
+    report.set(format!(in report.alloc(); "{how}: status {code}"));
     false
 }

@@ -1,31 +1,31 @@
-// A session as its file tells it.
+// A session as its file spells it.
 use mg_testing::SEED;
 use std::alloc::{AllocError, Global};
 
-/// What a session runs under, and what it asks for.
+/// The parameters of a session, and what is to be compared.
 #[derive(Clone, Copy)]
 pub struct Settings<'a> {
     pub frames: &'a str,
     pub seed: &'a str,
     pub credits: &'a str,
-    /// The four steps; None is the usual tariff.
+    /// The four steps. None for the usual tariff.
     pub tariff: Option<&'a str>,
-    /// What `check` is to tell behind the last run, without the newline; None where that is not said.
+    /// What `check` must print after the last run, without the newline. None if the file does not say.
     pub check: Option<&'a str>,
-    /// The batch under which the disk is stopped after each call; None asks for no stops.
+    /// The batch of the runs in which the disk stops after each call. None for no stops.
     pub stops: Option<&'a str>,
-    /// The batch under which each call fails once; None asks for no faults.
+    /// The batch of the runs in which each call fails once. None for no faults.
     pub faults: Option<&'a str>,
-    /// The batch under which each take and each put fails once, and no call of the disk; None asks for none of these.
+    /// The batch of the runs in which each take and each put fails once, and no call of the disk. None for no such runs.
     pub streams: Option<&'a str>,
-    /// Whether the runs are to make fewer syncs with batches of 64 lines than with one line each.
+    /// Whether batches of 64 lines must make fewer syncs than single lines.
     pub saves: bool,
-    /// Whether files beside that of the session hold what is shown behind the last run.
+    /// Whether files beside the session hold what is shown after the last run.
     pub shows: bool,
 }
 
-/// A session: its settings, its file, which is its runs one after the other, and the texts that are to be shown behind the last run:
-/// none where the settings ask for none.
+/// A session: its settings, its file, which is its runs one after the other, and the texts that must be shown after the last run. There
+/// are no texts without `#: shows`.
 #[derive(Clone, Copy)]
 pub struct Session<'a> {
     pub settings: Settings<'a>,
@@ -50,7 +50,7 @@ impl<'a> Settings<'a> {
         }
     }
 
-    /// The words of `dry`, which knows the usual tariff alone.
+    /// The words of `dry`, which has the usual tariff only.
     pub fn dry_line(&self, alloc: Global) -> Result<String, AllocError> {
         let frames = self.frames;
         let seed = self.seed;

@@ -1,41 +1,67 @@
-// What `mungi_show` puts of the volume behind the last run.
+// Compares what is shown of the volume after the last run.
 use crate::lines::{first_line, is_newline};
 use crate::report::Report;
 use mg_disk::MemDisk;
 use mg_io::MemSink;
-use mg_session::Status;
-use mg_show::top_show;
 use mg_testing::words_of;
+use mg_volume_session::Status;
+use std::alloc::Global;
 
-/// The texts that are shown: the second word of the program, and how the name of the file ends that holds what it is to put.
+/// What prints the texts of a volume, as `mungi_show` does.
+pub trait Shows {
+    /// Prints the text that these words ask for. They are the words after the program's name.
+    fn show(
+        &self,
+        alloc: Global,
+        words: &[String],
+        disk: &mut MemDisk,
+        sink: &mut MemSink,
+    ) -> Status;
+}
+
+/// The texts that are shown. Each is the second word of the program, and the ending of the name of the file that holds the text.
 pub const TEXTS: [&str; 3] = ["state", "reach", "dot"];
 
-/// How many bytes a text may have.
+/// The most bytes of a text.
 const ROOM: usize = 65536;
 
-/// Whether each text is put as its file has it. The files are in the order of [`TEXTS`], or none.
-pub fn show_all(report: &mut Report, how: &str, disk: &mut MemDisk, files: &[Vec<u8>]) -> bool {
+/// Whether each text is as its file has it. The files are in the order of [`TEXTS`], or there are none.
+pub fn show_all<S: Shows>(
+    report: &mut Report,
+    how: &str,
+    shows: &S,
+    disk: &mut MemDisk,
+    files: &[Vec<u8>],
+) -> bool {
     for (name, wanted) in TEXTS.into_iter().zip(files) {
-        if !show(report, how, disk, name, wanted) {
+        if !show(report, how, shows, disk, name, wanted) {
             return false;
         }
     }
     true
 }
 
-fn show(report: &mut Report, how: &str, disk: &mut MemDisk, name: &str, wanted: &[u8]) -> bool {
+fn show<S: Shows>(
+    report: &mut Report,
+    how: &str,
+    shows: &S,
+    disk: &mut MemDisk,
+    name: &str,
+    wanted: &[u8],
+) -> bool {
     match format!(in report.alloc(); "vol {name}") {
         Ok(line) => match words_of(report.alloc(), line.as_str()) {
-            Ok(words) => show_words(report, how, disk, &words, name, wanted),
+            Ok(words) => show_words(report, how, shows, disk, &words, name, wanted),
             Err(_) => false,
         },
         Err(_) => false,
     }
 }
 
-fn show_words(
+fn show_words<S: Shows>(
     report: &mut Report,
     how: &str,
+    shows: &S,
     disk: &mut MemDisk,
     words: &[String],
     name: &str,
@@ -43,14 +69,14 @@ fn show_words(
 ) -> bool {
     match MemSink::new(report.alloc(), ROOM, Vec::new(report.alloc())) {
         Ok(mut sink) => {
-            let status = top_show(report.alloc(), words, disk, &mut sink);
+            let status = shows.show(report.alloc(), words, disk, &mut sink);
             is_shown(report, how, name, status, sink.bytes(), wanted)
         }
         Err(_) => false,
     }
 }
 
-/// Whether a text was put as its file has it.
+/// Whether a text was printed as its file has it.
 fn is_shown(
     report: &mut Report,
     how: &str,
@@ -61,26 +87,26 @@ fn is_shown(
 ) -> bool {
     if status != Status::Done {
         let code = status.code();
-        report.put(format!(in report.alloc(); "{how}: then {name}: status {code}"));
+        report.set(format!(in report.alloc(); "{how}: then {name}: status {code}"));
         return false;
     }
     if found != wanted {
-        tell_text(report, how, name, wanted, found);
+        describe_text(report, how, name, wanted, found);
         return false;
     }
     true
 }
 
-/// Tells the first line at which what was put is not what was wanted.
-fn tell_text(report: &mut Report, how: &str, name: &str, wanted: &[u8], found: &[u8]) {
+/// Says at which line the text first differs from its file.
+fn describe_text(report: &mut Report, how: &str, name: &str, wanted: &[u8], found: &[u8]) {
     let (number, wanted, found) = first_difference(wanted, found);
     match format!(in report.alloc(); "then {name}: line {number}") {
-        Ok(what) => report.tell_bytes(how, what.as_str(), wanted, found),
+        Ok(what) => report.describe_bytes(how, what.as_str(), wanted, found),
         Err(_) => {}
     }
 }
 
-/// The number, from 1, of the first line at which two texts differ, and what each has there.
+/// The number, from 1, of the first line at which two texts differ, and that line of each.
 fn first_difference<'a>(wanted: &'a [u8], found: &'a [u8]) -> (usize, &'a [u8], &'a [u8]) {
     let mut found = found;
     let mut number: usize = 1;

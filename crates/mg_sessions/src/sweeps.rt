@@ -1,7 +1,7 @@
-// A session each of whose runs is made with a stop, or with a fault, at each call.
+// Runs a session with a stop, or with a fault, at each call.
 use crate::bench::Bench;
+use crate::expected::{Expected, Stage, fill_expected};
 use crate::faults::{fail_run, fail_streams};
-use crate::kept::{Stage, Wanted, put_wanted};
 use crate::parts::{count_runs, part_of};
 use crate::report::Report;
 use crate::running::{fresh, reopen};
@@ -10,26 +10,26 @@ use crate::stops::stop_run;
 use mg_disk::MemDisk;
 use mg_testing::{Streams, command};
 
-/// What is done to each call.
+/// What happens at each call.
 #[derive(Clone, Copy)]
 pub enum Sweep {
-    /// The disk stops behind it.
+    /// The disk stops after it.
     Stops,
     /// It fails.
     Faults,
-    /// It fails, if it is a take or a put.
+    /// It fails if it is a take or a put.
     Streams,
 }
 
-/// The words of the commands of a sweep.
+/// The words of the two commands of a sweep.
 #[derive(Clone, Copy)]
 struct Lines<'a> {
     dry: &'a str,
     run: &'a str,
 }
 
-/// Sweeps each run of a session with this batch, and gives how many images were opened again behind stops, or how many calls
-/// failed. None where it differs, or memory is wanting.
+/// Sweeps each run of a session with this batch. Returns how many images were opened again after stops, or how many calls failed. None
+/// if a run differs, or if memory runs out.
 pub fn sweep_all(
     report: &mut Report,
     session: &Session<'_>,
@@ -66,7 +66,7 @@ fn sweep_volume(
     }
 }
 
-/// Sweeps each run, and makes it then.
+/// Sweeps each run, and then makes it on the volume.
 fn sweep_runs(
     report: &mut Report,
     session: &Session<'_>,
@@ -85,7 +85,7 @@ fn sweep_runs(
         };
         let more = sweep_run(report, sweep, &stage, disk, bench)?;
         count = count.saturating_add(more);
-        if !run_on(report, &stage, disk) {
+        if !make_run(report, &stage, disk) {
             return None;
         }
     }
@@ -99,11 +99,11 @@ fn sweep_run(
     disk: &MemDisk,
     bench: &mut Bench,
 ) -> Option<u64> {
-    let mut wanted = Wanted {
+    let mut expected = Expected {
         answers: Vec::new(report.alloc()),
         states: Vec::new(report.alloc()),
     };
-    sweep_calls(report, sweep, stage, disk, bench, &mut wanted)
+    sweep_calls(report, sweep, stage, disk, bench, &mut expected)
 }
 
 fn sweep_calls(
@@ -112,20 +112,20 @@ fn sweep_calls(
     stage: &Stage<'_>,
     disk: &MemDisk,
     bench: &mut Bench,
-    wanted: &mut Wanted,
+    expected: &mut Expected,
 ) -> Option<u64> {
-    if !put_wanted(report.alloc(), stage, disk, wanted) {
+    if !fill_expected(report.alloc(), stage, disk, expected) {
         return None;
     }
     match sweep {
-        Sweep::Stops => stop_run(report, stage, disk, wanted, bench),
-        Sweep::Faults => fail_run(report, stage, disk, wanted, bench),
-        Sweep::Streams => fail_streams(report, stage, disk, wanted, bench),
+        Sweep::Stops => stop_run(report, stage, disk, expected, bench),
+        Sweep::Faults => fail_run(report, stage, disk, expected, bench),
+        Sweep::Streams => fail_streams(report, stage, disk, expected, bench),
     }
 }
 
-/// Makes the run on the volume, and a stop behind it; false where memory is wanting.
-fn run_on(report: &Report, stage: &Stage<'_>, disk: &mut MemDisk) -> bool {
+/// Makes the run on the volume, and then a stop. False if out of memory.
+fn make_run(report: &Report, stage: &Stage<'_>, disk: &mut MemDisk) -> bool {
     let streams = Streams::of(stage.part.run);
     command(report.alloc(), stage.line, disk, &streams).is_ok() && reopen(report.alloc(), disk)
 }

@@ -1,62 +1,65 @@
 -- Text that was put, and what waited of it.
-use Rattle.std.specs.Prelude.{ℕ, ◌≡◌, List, [], ◌++◌, Err, Ok, Option, Result}
-use Rattle.std.proofs.Common.{refl, sym, inl, inr, subst, append-nil}
+use Rattle.std.specs.Prelude.{ℕ, ◌≡◌, List, [], ◌++◌, None, Option, Some}
+use Rattle.std.proofs.Common.{refl, sym, ap, inl, inr, subst, append-nil, ⊎_elim, ◌∙◌}
+use Rattle.std.specs.Io.KnownBytes.{Appends}
+use Rattle.std.specs.Option.{ForSome}
+use Rattle.mg_check.specs.Reads.{contents}
 use Rattle.mg_disk.specs.declared.disk.Disk as disks
 use Rattle.mg_disk.specs.Disk.{Image}
-use Rattle.mg_faults.specs.Faults.{then_rose}
 use Rattle.mg_io.specs.Known.{AppendsPrefix}
 use Rattle.mg_io.specs.declared.traits.Sink as sinks
 use Rattle.mg_serve.specs.declared.status.Status.TheVariants as status
 use Rattle.mg_show.specs.declared.faults.ShowFault.{ShowFault}
 use Rattle.mg_show.specs.declared.faults.ShowFault.TheVariants as fault
-use Rattle.mg_show.specs.Putting.{PutsAll}
-use Rattle.mg_show.specs.Shown.{Shows}
-use Rattle.mg_show.specs.Told.{Adds, HasFailed, HasPut}
-use Rattle.mg_show.specs.ToldLemmas.{Adds-fails, Adds-then, taken_whole}
+use Rattle.mg_show.specs.Putting.{PutsAll, status_of}
+use Rattle.mg_show.specs.Writing.{Adds, Held, Puts, PutsOf, Writes}
+use Rattle.mg_show.specs.WritingLemmas.{writes_then}
 
-module _ {D K : Type 0} (facts : disks.Ghosts D) (to : sinks.Ghosts K) (of : Image → Option Image) (text : Image → List ℕ) (d d' : D) (s s' : K) (w w' : List ℕ) (none : w ≡ []) where
-  -- what waited was put too
-  pub finished : (s'' : K) (w'' : List ℕ) → Shows facts to of text (Ok tt) d d' s s' w w' → w'' ≡ [] → HasPut to s' s'' w' w'' [] → PutsAll facts to of text status.Done d d' s s''
-  finished s'' w'' shown empty put = record {
-    done = λ is r told. taken_whole (to.taken s) (to.taken s'') w w'' (text r) none empty (subst (λ t. Adds (to.taken s) (to.taken s'') w w'' t) (append-nil (text r)) (Adds-then (to.taken s) (to.taken s') (to.taken s'') w w' w'' (text r) [] (shown.adds r told) put.adds));
-    prefix = λ r told. (text r, [], append-nil (text r), taken_whole (to.taken s) (to.taken s'') w w'' (text r) none empty (subst (λ t. Adds (to.taken s) (to.taken s'') w w'' t) (append-nil (text r)) (Adds-then (to.taken s) (to.taken s') (to.taken s'') w w' w'' (text r) [] (shown.adds r told) put.adds)));
-    reads = shown.reads;
-    which = inl refl;
-    disk_failed = λ is. absurd (cc);
-    sink_failed = λ is. absurd (cc);
-  }
+-- what was taken, where nothing waited and nothing waits
+taken_whole : (a b : Option (List ℕ)) (v text : List ℕ) → v ≡ [] → Adds a b [] v text → Appends a b text
+taken_whole a b v text none adds = subst (λ t. Appends a b t) (sym (append-nil adds.put) ∙ ap (λ x. adds.put ++ x) (sym none) ∙ adds.all) adds.took
 
-  -- the sink failed there
-  pub unfinished : (s'' : K) → Shows facts to of text (Ok tt) d d' s s' w w' → HasFailed to s' s'' w' → PutsAll facts to of text status.Sink d d' s s''
-  unfinished s'' shown failed = record {
-    done = λ is. absurd (cc);
-    prefix = λ r told.
-        subst (λ t. AppendsPrefix (to.taken s) (to.taken s'') t) (append-nil (text r))
-        (subst (λ v. AppendsPrefix (to.taken s) (to.taken s'') (v ++ (text r ++ []))) none
-        (Adds-fails (to.taken s) (to.taken s') (to.taken s'') w w' (text r) [] (shown.adds r told) (subst (λ t. AppendsPrefix (to.taken s') (to.taken s'') t) (sym (append-nil w')) failed.prefix)));
-    reads = shown.reads;
-    which = inr (inr refl);
-    disk_failed = λ is. absurd (cc);
-    sink_failed = λ is. then_rose (to.faults s) (to.faults s') (to.faults s'') (to.is_spent s) (to.is_spent s') (to.is_spent s'') shown.goes_on failed.rose;
-  }
+-- how all of it ended, where nothing waited and nothing had failed
+module _ {D K : Type 0} (facts : disks.Ghosts D) (to : sinks.Ghosts K) (of : Image → Option Image) (text : Image → List ℕ) (d d' : D) (s s' s'' : K) (o o' o'' : Held) (begins : o ≡ record { waiting = []; fault = None }) where
+  pub finished : PutsOf facts to of text d d' s s' o o' → Puts to [] s' s'' o' o'' → (o''.fault ≡ None → o''.waiting ≡ []) → PutsAll facts to of text (status_of o''.fault) d d' s s''
+  finished puts rest empty = by_end o''.fault refl
+    where
+      whole : Writes to puts.told s s'' o o''
+      whole = subst (λ t. Writes to t s s'' o o'') (append-nil puts.told) (writes_then to puts.writes rest.writes)
 
-  -- the disk, or the sink, failed before
-  pub not_read : (result : Result (Unit {0}) ShowFault) → result ≡ Err fault.Disk → Shows facts to of text result d d' s s' w w' → PutsAll facts to of text status.Disk d d' s s'
-  not_read result is so = let shown : Shows facts to of text (Err fault.Disk) d d' s s' w w' = subst (λ r. Shows facts to of text r d d' s s' w w') is so in record {
-    done = λ is. absurd (cc);
-    prefix = λ r told. subst (λ v. AppendsPrefix (to.taken s) (to.taken s') (v ++ text r)) none (shown.prefix r told);
-    reads = shown.reads;
-    which = inr (inl refl);
-    disk_failed = λ is. shown.disk_failed refl;
-    sink_failed = λ is. absurd (cc);
-  }
+      waits : o.waiting ≡ []
+      waits = ap (λ (h : Held). h.waiting) begins
 
-  pub not_put : (result : Result (Unit {0}) ShowFault) → result ≡ Err fault.Sink → Shows facts to of text result d d' s s' w w' → PutsAll facts to of text status.Sink d d' s s'
-  not_put result is so = let shown : Shows facts to of text (Err fault.Sink) d d' s s' w w' = subst (λ r. Shows facts to of text r d d' s s' w w') is so in record {
-    done = λ is. absurd (cc);
-    prefix = λ r told. subst (λ v. AppendsPrefix (to.taken s) (to.taken s') (v ++ text r)) none (shown.prefix r told);
-    reads = shown.reads;
-    which = inr (inr refl);
-    disk_failed = λ is. absurd (cc);
-    sink_failed = λ is. shown.sink_failed refl;
-  }
+      none : o.fault ≡ None
+      none = ap (λ (h : Held). h.fault) begins
+
+      prefix : ForSome (contents facts of d) (λ r. AppendsPrefix (to.taken s) (to.taken s'') (text r))
+      prefix r told = subst (λ t. AppendsPrefix (to.taken s) (to.taken s'') t) (ap (λ w. w ++ puts.told) waits ∙ puts.is r told) (whole.prefix none)
+
+      by_end : (f : Option ShowFault) → o''.fault ≡ f → PutsAll facts to of text (status_of f) d d' s s''
+      by_end None e = record {
+        done = λ is r told.
+            subst (λ t. Appends (to.taken s) (to.taken s'') t) (puts.is r told)
+            (taken_whole (to.taken s) (to.taken s'') o''.waiting puts.told (empty e) (subst (λ w. Adds (to.taken s) (to.taken s'') w o''.waiting puts.told) waits (whole.adds e)));
+        prefix = prefix;
+        reads = puts.reads;
+        which = inl refl;
+        disk_failed = λ is. absurd (cc);
+        sink_failed = λ is. absurd (cc);
+      }
+      by_end (Some fault.Disk) e = record {
+        done = λ is. absurd (cc);
+        prefix = prefix;
+        reads = puts.reads;
+        which = inr (inl refl);
+        disk_failed = λ is. ⊎_elim (λ (was : o.fault ≡ Some fault.Disk). absurd (cc)) (λ rose. rose) (puts.disk_rose (rest.not_read e));
+        sink_failed = λ is. absurd (cc);
+      }
+      by_end (Some fault.Sink) e = record {
+        done = λ is. absurd (cc);
+        prefix = prefix;
+        reads = puts.reads;
+        which = inr (inr refl);
+        disk_failed = λ is. absurd (cc);
+        sink_failed = λ is. ⊎_elim (λ (was : o.fault ≡ Some fault.Sink). absurd (cc)) (λ rose. rose) (whole.rose e);
+      }

@@ -1,8 +1,6 @@
 pub mod Paying
 pub mod Texts
 mod WordTexts
-mod BlockSteps
-mod ShownSteps
 mod ObjectsInOrder
 mod RowsKept
 mod StateParts
@@ -18,3 +16,4 @@ mod Drawing
 mod ReachTexts
 mod Reaching
 mod DrawnState
+mod TextTold

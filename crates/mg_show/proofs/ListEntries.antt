@@ -70,20 +70,16 @@ module _ (block : List ℕ) (count n : ℕ) (first : count ≡ number_at block 0
       ∙ ap (λ v. (v, slice_index (block_words block) (3 + 2 * k))) (word-of block (2 + 2 * k) (at + 16) (omega arith) (omega arith) ∙ sym b)
       ∙ ap (λ v. (base, v)) (word-of block (3 + 2 * k) (at + 24) (omega arith) (omega arith) ∙ sym p)
 
--- the list in a page that a frame holds, and in one that none holds
-pub page-list-held : (image : List (List ℕ)) (frames : ℕ) (table : List ℕ) (page frame : ℕ) → position (λ entry. entry == page) table ≡ Some frame
-    → entries_of (block_words (block_of image (first_frame frames + frame))) ≡ entries_of (page_words image frames table page)
-page-list-held image frames table page frame is =
-    sym (ap (λ found. entries_of (option_map_or (λ frame. block_words (block_of image (first_frame frames + frame))) found (replicate 512 0))) is)
-
-pub page-list-free : (image : List (List ℕ)) (frames : ℕ) (table : List ℕ) (page : ℕ) → position (λ entry. entry == page) table ≡ None → entries_of (page_words image frames table page) ≡ []
-page-list-free image frames table page is = ap (λ found. entries_of (option_map_or (λ frame. block_words (block_of image (first_frame frames + frame))) found (replicate 512 0))) is
-
 -- what a slot gives, where the object with its base was found
 pub slot-listed : (image : List (List ℕ)) (frames : ℕ) (table : List ℕ) (period password : ℕ) (row : ObjectRow) (found : Option (ℕ × ObjectRow)) → Some row ≡ option_map (λ (o : ℕ × ObjectRow). o.1) found
     → row_listed image frames table period row password ≡ option_map_or (λ (o : ℕ × ObjectRow). row_listed image frames table period o.1 password) found []
 slot-listed image frames table period password row None is = absurd (cc)
 slot-listed image frames table period password row (Some o) is = let same : row ≡ o.1 = cc in ap (λ (r : ObjectRow). row_listed image frames table period r password) same
+
+pub slot-unlisted : (image : List (List ℕ)) (frames : ℕ) (table : List ℕ) (period password : ℕ) (found : Option (ℕ × ObjectRow)) → None ≡ option_map (λ (o : ℕ × ObjectRow). o.1) found
+    → [] ≡ option_map_or (λ (o : ℕ × ObjectRow). row_listed image frames table period o.1 password) found []
+slot-unlisted image frames table period password None is = refl
+slot-unlisted image frames table period password (Some o) is = absurd (cc)
 
 -- one element more
 pub flat_map_more : {X Y : Type 0} (f : X → List Y) (xs : List X) (i : ℕ) (d : X) → i < length xs → flat_map f (take i xs) ++ f (get_or xs i d) ≡ flat_map f (take (i + 1) xs)

@@ -1,18 +1,15 @@
 -- The text of accounts, one account more, and the pages for which each pays.
 use Rattle.std.specs.Prelude.{◌==◌, true, false, filter, map, sum_by}
-use Rattle.std.proofs.Common.{◌≡◌, ℕ, suc, ◌+◌, ◌<◌, List, [], ◌∷◌, ◌++◌, length, get_or, take, drop, ap, arith, refl, sym, subst, ◌∙◌, append_assoc, append-nil, take-append-drop, ⊎_elim}
+use Rattle.std.proofs.Common.{◌≡◌, ℕ, suc, ◌+◌, ◌<◌, List, [], ◌∷◌, ◌++◌, length, get_or, take, ap, arith, refl, sym, ◌∙◌, append_assoc, append-nil, ⊎_elim}
 use Rattle.std.proofs.lemmas.Bool.{cases_Bool, cond-false, cond-true}
 use Rattle.std.proofs.lemmas.List.{length-take-le}
 use Rattle.std.proofs.lemmas.List.Sums.{sum_by-cons}
 use Rattle.std.proofs.Math.Seq.{take-suc}
 use Rattle.mg_bank.specs.Bank.{pages_at}
-use Rattle.mg_io.specs.declared.traits.Sink as sinks
 use Rattle.mg_model.specs.declared.accounts.AccRow.{AccRow}
 use Rattle.mg_model.specs.State.{ObjectRow}
 use Rattle.mg_space.specs.Space.{ArePaid, paid_by}
 use Rattle.mg_show.specs.StateText.{account_text, accounts_text, pages_paid}
-use Rattle.mg_show.specs.Told.{HasFailed, HasPut}
-use Rattle.mg_show.specs.ToldLemmas.{fails_within, put_then}
 
 accounts-append : (paid : ℕ → ℕ) (n m : ℕ) (xs ys : List AccRow) → m ≡ n + length xs → accounts_text paid n (xs ++ ys) ≡ accounts_text paid n xs ++ accounts_text paid m ys
 accounts-append paid n m [] ys e = ap (λ k. accounts_text paid k ys) (omega arith)
@@ -36,26 +33,9 @@ account-is : (paid : ℕ → ℕ) (m : ℕ) (xs : List AccRow) (i : ℕ) (d : Ac
 account-is paid m xs i d rows pages same paying =
     ap (λ (list : List AccRow). account_text m (get_or list i d) pages) same ∙ ap (account_text m (get_or xs i d)) paying
 
-pub accounts_next : {K : Type 0} (to : sinks.Ghosts K) (paid : ℕ → ℕ) (m : ℕ) (xs : List AccRow) (i : ℕ) (d : AccRow) (rows : List AccRow) (pages : ℕ) (a b c : K) (w v u : List ℕ)
-    → m ≡ i + 1 → i < length xs → rows ≡ xs → pages ≡ paid m
-    → HasPut to a b w v (accounts_text paid 1 (take i xs)) → HasPut to b c v u (account_text m (get_or rows i d) pages)
-    → HasPut to a c w u (accounts_text paid 1 (take (i + 1) xs))
-accounts_next to paid m xs i d rows pages a b c w v u e h same paying first second =
-    subst (λ text. HasPut to a c w u text) (sym (accounts-more paid m xs i d e h))
-    (put_then to a b c w v u (accounts_text paid 1 (take i xs)) (account_text m (get_or xs i d) (paid m)) first
-    (subst (λ text. HasPut to b c v u text) (account-is paid m xs i d rows pages same paying) second))
-
-pub accounts_fail : {K : Type 0} (to : sinks.Ghosts K) (paid : ℕ → ℕ) (m : ℕ) (xs : List AccRow) (i : ℕ) (d : AccRow) (rows : List AccRow) (pages : ℕ) (a b c : K) (w v : List ℕ)
-    → m ≡ i + 1 → i < length xs → rows ≡ xs → pages ≡ paid m
-    → HasPut to a b w v (accounts_text paid 1 (take i xs)) → HasFailed to b c (v ++ account_text m (get_or rows i d) pages)
-    → HasFailed to a c (w ++ accounts_text paid 1 xs)
-accounts_fail to paid m xs i d rows pages a b c w v e h same paying first failed =
-    let long = length-take-le (i + 1) xs (omega arith) in
-    fails_within to a b c w v (accounts_text paid 1 (take i xs)) (account_text m (get_or rows i d) pages) (accounts_text paid (m + 1) (drop (i + 1) xs)) (accounts_text paid 1 xs) first failed
-    (ap (λ y. (accounts_text paid 1 (take i xs) ++ y) ++ accounts_text paid (m + 1) (drop (i + 1) xs)) (account-is paid m xs i d rows pages same paying)
-    ∙ ap (λ text. text ++ accounts_text paid (m + 1) (drop (i + 1) xs)) (sym (accounts-more paid m xs i d e h))
-    ∙ sym (accounts-append paid 1 (m + 1) (take (i + 1) xs) (drop (i + 1) xs) (omega arith))
-    ∙ ap (accounts_text paid 1) (take-append-drop (i + 1) xs))
+pub accounts-next : (paid : ℕ → ℕ) (m : ℕ) (xs : List AccRow) (i : ℕ) (d : AccRow) (rows : List AccRow) (pages : ℕ) → m ≡ i + 1 → i < length xs → rows ≡ xs → pages ≡ paid m
+    → accounts_text paid 1 (take i xs) ++ account_text m (get_or rows i d) pages ≡ accounts_text paid 1 (take (i + 1) xs)
+accounts-next paid m xs i d rows pages e h same paying = ap (λ y. accounts_text paid 1 (take i xs) ++ y) (account-is paid m xs i d rows pages same paying) ∙ sym (accounts-more paid m xs i d e h)
 
 abbrev rows_of : List (ℕ × ObjectRow) → List ObjectRow
 rows_of objects = map (λ (o : ℕ × ObjectRow). o.1) objects

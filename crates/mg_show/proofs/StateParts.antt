@@ -6,11 +6,16 @@ use Rattle.mg_check.specs.RowsRead.{state_in}
 use Rattle.mg_check.specs.declared.volume_rows.VolumeRows.{VolumeRows}
 use Rattle.mg_disk.specs.Disk.{Image}
 use Rattle.mg_model.specs.declared.accounts.AccRow.{AccRow}
-use Rattle.mg_model.specs.State.{Object, ObjectRow, ThreadRow}
+use Rattle.mg_model.specs.Settings.{Settings}
+use Rattle.mg_model.specs.State.{Counters, Object, ObjectRow, ThreadRow}
+use Rattle.mg_space.specs.Space.{ArePaid}
 use Rattle.mg_objects.specs.Held.{objects_in}
 use Rattle.mg_show.proofs.ObjectsInOrder.{rows-in-order, texts-in-order, words-in-order}
 use Rattle.mg_show.proofs.RowsKept.{accounts-placed}
-use Rattle.mg_show.specs.RowsText.{tables_text}
+use Rattle.mg_show.proofs.Paying.{accounts-paid}
+use Rattle.mg_show.specs.Shown.{text_shown}
+use Rattle.mg_show.specs.declared.command.Text.TheVariants as texts
+use Rattle.mg_show.specs.declared.held.Shown.{Shown}
 use Rattle.mg_show.specs.StateText as state
 use Rattle.mg_show.specs.StateText.{object_text, thread_text, words_text}
 use Rattle.mg_show.specs.WordText.{rows_text}
@@ -47,14 +52,21 @@ module _ (rows : VolumeRows) (r : Image) where
       ∙ ap (λ (text : List ℕ). head ++ accounts bare rows.accounts.items ++ told ++ text ++ words) threads-in-order
       ∙ ap (λ (text : List ℕ). head ++ accounts bare rows.accounts.items ++ told ++ numbered ++ text) (words-in-order r frames table items)
 
--- all of it, from the lists that are held
-pub state-told : (rows : VolumeRows) (r : Image) (objects : List (ℕ × ObjectRow)) (accounts : List AccRow) (frames : List ℕ)
-    → objects ≡ objects_in rows.objects.items → accounts ≡ rows.accounts.items → frames ≡ rows.table.items → length rows.table.items ≡ rows.params.frames
-    → tables_text rows.params rows.globals objects accounts rows.threads.items ++ rows_text r (length frames) frames objects ≡ state.state_text (state_in rows r)
-state-told rows r objects accounts frames o a f entries =
+-- all of it, from what is held
+pub state-told : (rows : VolumeRows) (r : Image) (shown : Shown) → shown.params ≡ rows.params → shown.counters ≡ rows.globals → shown.threads.items ≡ rows.threads.items → shown.objects ≡ objects_in rows.objects.items → shown.bank.accounts ≡ rows.accounts.items
+    → ArePaid shown.bank.pages shown.objects → shown.frames ≡ rows.table.items → length rows.table.items ≡ rows.params.frames → text_shown texts.State shown r ≡ state.state_text (state_in rows r)
+state-told rows r shown p g t o a paid f entries =
     let os = objects_in rows.objects.items in
-    ap (λ objects. tables_text rows.params rows.globals objects accounts rows.threads.items ++ rows_text r (length frames) frames objects) o
-    ∙ ap (λ accounts. tables_text rows.params rows.globals os accounts rows.threads.items ++ rows_text r (length frames) frames os) a
-    ∙ ap (λ (frames : List ℕ). tables_text rows.params rows.globals os rows.accounts.items rows.threads.items ++ rows_text r (length frames) frames os) f
-    ∙ ap (λ n. tables_text rows.params rows.globals os rows.accounts.items rows.threads.items ++ rows_text r n rows.table.items os) entries
+    let told = λ (params : Settings) (counters : Counters) (accounts : List ℕ) (objects : List (ℕ × ObjectRow)) (threads : List (ℕ × ThreadRow)) (words : List ℕ).
+    state.settings_text params ++ state.counters_text counters ++ accounts ++ flat_map (λ (o : ℕ × ObjectRow). object_text o.1) objects ++ flat_map (λ (t : ℕ × ThreadRow). thread_text (record { number = t.0 + 1; row = t.1 })) threads ++ words in
+    let accounts = state.accounts_text (state.pages_paid (map (λ (o : ℕ × ObjectRow). o.1) os)) 1 rows.accounts.items in
+    let words = rows_text r (length shown.frames) shown.frames shown.objects in
+    ap (λ (accounts : List ℕ). told shown.params shown.counters accounts shown.objects shown.threads.items words)
+    (accounts-paid shown.bank.pages shown.objects paid shown.bank.accounts rows.accounts.items a ∙ ap (λ (os : List (ℕ × ObjectRow)). state.accounts_text (state.pages_paid (map (λ (o : ℕ × ObjectRow). o.1) os)) 1 rows.accounts.items) o)
+    ∙ ap (λ (params : Settings). told params shown.counters accounts shown.objects shown.threads.items words) p
+    ∙ ap (λ (counters : Counters). told rows.params counters accounts shown.objects shown.threads.items words) g
+    ∙ ap (λ (threads : List (ℕ × ThreadRow)). told rows.params rows.globals accounts shown.objects threads words) t
+    ∙ ap (λ (objects : List (ℕ × ObjectRow)). told rows.params rows.globals accounts objects rows.threads.items (rows_text r (length shown.frames) shown.frames objects)) o
+    ∙ ap (λ (frames : List ℕ). told rows.params rows.globals accounts os rows.threads.items (rows_text r (length frames) frames os)) f
+    ∙ ap (λ n. told rows.params rows.globals accounts os rows.threads.items (rows_text r n rows.table.items os)) entries
     ∙ sym (tables-in-order rows r (state.settings_text rows.params ++ state.counters_text rows.globals) (λ bare. state.accounts_text (state.pages_paid bare) 1))

@@ -23,7 +23,7 @@ words_text-append address (x ∷ xs) ys =
     ∙ sym (append_assoc (word_text address x) (words_text (address + 8) xs) (words_text (address + 8 * length (x ∷ xs)) ys))
 
 -- words that are 0
-words_text-zeros : (address n : ℕ) → words_text address (replicate n 0) ≡ []
+pub words_text-zeros : (address n : ℕ) → words_text address (replicate n 0) ≡ []
 words_text-zeros address zero = refl
 words_text-zeros address (suc n) = words_text-zeros (address + 8) n
 
@@ -59,24 +59,14 @@ pub block_text-all : (address : ℕ) (block : List ℕ) (n : ℕ) → n ≡ 512 
 unfolding block_text
 block_text-all address block n all = ap (λ k. words_text address (numbers_at block 0 k)) all
 
-pub block_text-first : (address : ℕ) (block : List ℕ) (n : ℕ) → n ≤ 512
-    → block_text address block ≡ words_text address (numbers_at block 0 n) ++ words_text (address + 8 * n) (numbers_at block (0 + 8 * n) (512 - n))
-block_text-first address block n few =
-    let e : n + (512 - n) ≡ 512 = omega arith in
-    sym (block_text-all address block (n + (512 - n)) e) ∙ numbers_text-split address block n (512 - n)
+-- the words of a page that a frame holds, and of one that none holds
+pub page-held : (image : List (List ℕ)) (frames : ℕ) (table : List ℕ) (page frame first : ℕ) → first ≡ first_frame frames → position (λ entry. entry == page) table ≡ Some frame
+    → block_words (block_of image (first + frame)) ≡ page_words image frames table page
+page-held image frames table page frame first at is =
+    ap (λ n. block_words (block_of image (n + frame))) at ∙ sym (ap (λ found. option_map_or (λ frame. block_words (block_of image (first_frame frames + frame))) found (replicate 512 0)) is)
 
--- a page that a frame holds, and one that none holds
-pub page_text-held : (image : List (List ℕ)) (frames : ℕ) (table : List ℕ) (page frame : ℕ) → position (λ entry. entry == page) table ≡ Some frame
-    → page_text image frames table page ≡ block_text (4096 * page) (block_of image (first_frame frames + frame))
-unfolding page_text block_text
-page_text-held image frames table page frame is =
-    ap (λ found. words_text (4096 * page) (option_map_or (λ frame. block_words (block_of image (first_frame frames + frame))) found (replicate 512 0))) is
-
-pub page_text-free : (image : List (List ℕ)) (frames : ℕ) (table : List ℕ) (page : ℕ) → position (λ entry. entry == page) table ≡ None → page_text image frames table page ≡ []
-unfolding page_text
-page_text-free image frames table page is =
-    ap (λ found. words_text (4096 * page) (option_map_or (λ frame. block_words (block_of image (first_frame frames + frame))) found (replicate 512 0))) is
-    ∙ words_text-zeros (4096 * page) 512
+pub page-free : (image : List (List ℕ)) (frames : ℕ) (table : List ℕ) (page : ℕ) → position (λ entry. entry == page) table ≡ None → page_words image frames table page ≡ replicate 512 0
+page-free image frames table page is = ap (λ found. option_map_or (λ frame. block_words (block_of image (first_frame frames + frame))) found (replicate 512 0)) is
 
 -- pages behind others
 module _ (image : List (List ℕ)) (frames : ℕ) (table : List ℕ) where
@@ -130,31 +120,3 @@ module _ (image : List (List ℕ)) (frames : ℕ) (table : List ℕ) where
   row_text-pages row aligned =
       let e : row.base ≡ 4096 * (row.base / 4096) = omega arith in
       ap (λ a. words_text a (pages_words image frames table (page_of row) row.pages)) e
-
-  -- the first pages, with what stands behind them
-  pub pages_text-around : (page n i : ℕ) → i < n
-      → (pages_text image frames table page i ++ page_text image frames table (page + i)) ++ pages_text image frames table (page + (i + 1)) (n - (i + 1)) ≡ pages_text image frames table page n
-  pages_text-around page n i below =
-      let e : i + 1 + (n - (i + 1)) ≡ n = omega arith in
-      ap (λ t. t ++ pages_text image frames table (page + (i + 1)) (n - (i + 1))) (sym (pages_text-more page i)) ∙ sym (pages_text-split page (i + 1) (n - (i + 1))) ∙ ap (pages_text image frames table page) e
-
-  -- one object more, and the first objects with what stands behind them
-  module _ (objects : List (ℕ × ObjectRow)) (i : ℕ) where
-    pub rows_text-more : (row : ObjectRow) → i < length objects → HoldsAt (λ (o : ℕ × ObjectRow). row ≡ o.1) objects i
-        → rows_text image frames table (take i objects) ++ row_text image frames table row ≡ rows_text image frames table (take (i + 1) objects)
-    rows_text-more row below is =
-        let text : ℕ × ObjectRow → List ℕ = λ o. row_text image frames table o.1 in
-        let last = slice_index_or objects i (0, row) in
-        ap (λ r. rows_text image frames table (take i objects) ++ row_text image frames table r) (is (0, row))
-        ∙ ap (λ t. rows_text image frames table (take i objects) ++ t) (sym (append-nil (text last)))
-        ∙ sym (flat_map-append text (take i objects) (last ∷ [])) ∙ ap (flat_map text) (sym (take_more objects i (0, row) below))
-
-    pub rows_text-around : (row : ObjectRow) → i < length objects → HoldsAt (λ (o : ℕ × ObjectRow). row ≡ o.1) objects i
-        → (rows_text image frames table (take i objects) ++ row_text image frames table row) ++ rows_text image frames table (drop (i + 1) objects) ≡ rows_text image frames table objects
-    rows_text-around row below is =
-        let text : ℕ × ObjectRow → List ℕ = λ o. row_text image frames table o.1 in
-        ap (λ t. t ++ rows_text image frames table (drop (i + 1) objects)) (rows_text-more row below is)
-        ∙ sym (flat_map-append text (take (i + 1) objects) (drop (i + 1) objects)) ∙ ap (flat_map text) (take-append-drop (i + 1) objects)
-
-    pub rows_text-all : length objects ≤ i → rows_text image frames table (take i objects) ≡ rows_text image frames table objects
-    rows_text-all end = ap (rows_text image frames table) (take_all i objects end)

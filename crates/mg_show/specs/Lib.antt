@@ -2,13 +2,13 @@
 pub mod StateText
 pub mod ReachText
 pub mod DotText
-pub mod Told
 pub mod Commands
-pub mod Putting
 pub mod Headline
-pub mod ToldLemmas
+pub mod Writing
+pub mod Putting
 pub mod WordText
 pub mod RowsText
-pub mod Shown
 pub mod Reached
 pub mod Drawn
+pub mod Shown
+pub mod WritingLemmas

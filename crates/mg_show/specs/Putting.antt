@@ -1,5 +1,5 @@
 -- What is kept as the text of a volume is put, once it was found to be one.
-use Rattle.std.specs.Prelude.{ℕ, ◌≡◌, ◌⊎◌, List, Option}
+use Rattle.std.specs.Prelude.{ℕ, ◌≡◌, ◌⊎◌, List, None, Option, Some}
 use Rattle.std.specs.Io.KnownBytes.{Appends}
 use Rattle.std.specs.Option.{ForSome}
 use Rattle.mg_check.specs.Reads.{OnlyRead, contents}
@@ -15,6 +15,14 @@ use Rattle.mg_serve.specs.declared.status.Status.{Status}
 use Rattle.mg_serve.specs.declared.status.Status.TheVariants as status
 use Rattle.mg_show.specs.Commands.{text_of}
 use Rattle.mg_show.specs.declared.command.Text.{Text}
+use Rattle.mg_show.specs.declared.faults.ShowFault.{ShowFault}
+use Rattle.mg_show.specs.declared.faults.ShowFault.TheVariants as fault
+
+-- how it ends, by the first fault
+abbrev pub status_of : Option ShowFault → Status
+status_of None = status.Done
+status_of (Some fault.Disk) = status.Disk
+status_of (Some fault.Sink) = status.Sink
 
 -- What is kept as the text of a volume is put, once its rows were read.
 pub record ShowsRows {D K : Type 0} (facts : disks.Ghosts D) (to : sinks.Ghosts K) (text : Text) (result : Status) (disk disk' : D) (sink sink' : K) : Type 0 where

@@ -1,12 +1,11 @@
 -- The rights that a walk over capability lists finds, object by object, and their text.
-use Rattle.std.specs.Prelude.{◌≡◌, ℕ, ◌+◌, ◌<◌, ◌≤◌, ◌%◌, ◌==◌, ◌&&◌, ◌||◌, Bool, List, [], ◌∷◌, ◌++◌, codes, find, flat_map, if◌then◌else◌, length, OnErr, OnOk, Option, Result, slice_index, slice_index_or}
+use Rattle.std.specs.Prelude.{◌≡◌, ℕ, ◌+◌, ◌<◌, ◌≤◌, ◌%◌, ◌==◌, ◌&&◌, ◌||◌, Bool, List, [], ◌∷◌, ◌++◌, codes, find, flat_map, if◌then◌else◌, length, None, Option, slice_index, slice_index_or}
 use Rattle.std.specs.Fmt.{decimal}
 use Rattle.std.specs.List.{AllWithin, list_any}
 use Rattle.std.specs.Option.{ForSome, option_map_or}
-use Rattle.mg_check.specs.Reads.{OnlyRead, contents}
+use Rattle.mg_check.specs.Reads.{contents}
 use Rattle.mg_disk.specs.declared.disk.Disk as disks
 use Rattle.mg_disk.specs.Disk.{Image}
-use Rattle.mg_disk.specs.Stops.{CountRose}
 use Rattle.mg_model.specs.declared.rights.Right.{Right}
 use Rattle.mg_model.specs.declared.rights.Right.TheVariants.{R, P}
 use Rattle.mg_model.specs.declared.slots.Slot.{Slot}
@@ -18,6 +17,7 @@ use Rattle.mg_model.specs.State.{ObjectRow, ThreadRow}
 use Rattle.mg_model.specs.Volume.{page_words}
 use Rattle.mg_show.specs.ReachText.{letters_by, reach_line}
 use Rattle.mg_show.specs.StateText.{line, rights_text}
+use Rattle.mg_show.specs.Writing.{Held, Reads}
 
 -- whether capabilities give the right on the object of this row
 abbrev pub given : ℕ → List (ℕ × ℕ) → ObjectRow → Right → Bool
@@ -85,13 +85,11 @@ abbrev pub slots_listed : List (List ℕ) → ℕ → List ℕ → List (ℕ × 
 slots_listed image frames table objects period slots = flat_map (slot_listed image frames table objects period) slots
 
 -- What a call that reads lists does to the bytes.
-pub record Finds {D E : Type 0} (facts : disks.Ghosts D) (of : Image → Option Image) (objects : List (ℕ × ObjectRow)) (period : ℕ) (capabilities : Image → List (ℕ × ℕ)) (result : Result (Unit {0}) E) (disk disk' : D) (bytes bytes' : List ℕ) : Type 0 where
-  -- After Ok they have the rights that the capabilities of the contents give.
-  pub marks : OnOk result (ForSome (contents facts of disk) (λ r. Marks objects period (capabilities r) bytes bytes'))
+pub record Finds {D : Type 0} (facts : disks.Ghosts D) (of : Image → Option Image) (objects : List (ℕ × ObjectRow)) (period : ℕ) (capabilities : Image → List (ℕ × ℕ)) (disk disk' : D) (bytes bytes' : List ℕ) (out out' : Held) : Type 0 where
+  -- Without a fault they have the rights that the capabilities of the contents give.
+  pub marks : out'.fault ≡ None → ForSome (contents facts of disk) (λ r. Marks objects period (capabilities r) bytes bytes')
   pub long : length bytes' ≡ length bytes
-  -- The disk is only read, and each fault is one of it.
-  pub cause : OnErr result (CountRose facts disk disk')
-  pub reads : OnlyRead facts disk disk'
+  pub reads : Reads facts disk disk' out out'
 
 -- what threads reach that are held with their places
 abbrev pub thread_reached : List (List ℕ) → ℕ → List ℕ → List (ℕ × ObjectRow) → ℕ → ℕ × ThreadRow → List ℕ

@@ -1,24 +1,17 @@
--- Text of what a disk holds, which is put while the disk is read.
-use Rattle.std.specs.Prelude.{ℕ, ◌≡◌, List, ◌++◌, Err, OnErr, OnOk, Option, Result}
-use Rattle.std.specs.Option.{ForSome}
-use Rattle.mg_check.specs.Reads.{OnlyRead, contents}
-use Rattle.mg_disk.specs.declared.disk.Disk as disks
+-- The texts of a volume that is held.
+use Rattle.std.specs.Prelude.{ℕ, List, ◌++◌, length}
+use Rattle.mg_bank.specs.Bank.{pages_at}
 use Rattle.mg_disk.specs.Disk.{Image}
-use Rattle.mg_disk.specs.Stops.{CountRose}
-use Rattle.mg_faults.specs.Faults.{CountGoesOn, Rose}
-use Rattle.mg_io.specs.Known.{AppendsPrefix}
-use Rattle.mg_io.specs.declared.traits.Sink as sinks
-use Rattle.mg_show.specs.declared.faults.ShowFault.{ShowFault}
-use Rattle.mg_show.specs.declared.faults.ShowFault.TheVariants as fault
-use Rattle.mg_show.specs.Told.{Adds}
+use Rattle.mg_show.specs.declared.command.Text.{Text}
+use Rattle.mg_show.specs.declared.command.Text.TheVariants as texts
+use Rattle.mg_show.specs.declared.held.Shown.{Shown}
+use Rattle.mg_show.specs.Drawn.{graph_drawn}
+use Rattle.mg_show.specs.Reached.{threads_reached}
+use Rattle.mg_show.specs.RowsText.{tables_text}
+use Rattle.mg_show.specs.WordText.{rows_text}
 
--- What a call that puts this text of the contents does.
-pub record Shows {D K : Type 0} (facts : disks.Ghosts D) (to : sinks.Ghosts K) (of : Image → Option Image) (text : Image → List ℕ) (result : Result (Unit {0}) ShowFault) (disk disk' : D) (sink sink' : K) (waiting waiting' : List ℕ) : Type 0 where
-  -- After Ok the text was put, all of it, or waits to be. After a fault a first part of it was.
-  pub adds : OnOk result (ForSome (contents facts of disk) (λ r. Adds (to.taken sink) (to.taken sink') waiting waiting' (text r)))
-  pub goes_on : OnOk result (CountGoesOn (to.faults sink) (to.faults sink') (to.is_spent sink) (to.is_spent sink'))
-  pub prefix : OnErr result (ForSome (contents facts of disk) (λ r. AppendsPrefix (to.taken sink) (to.taken sink') (waiting ++ text r)))
-  -- The disk is only read, and each fault is one of the disk or of the sink.
-  pub reads : OnlyRead facts disk disk'
-  pub disk_failed : result ≡ Err fault.Disk → CountRose facts disk disk'
-  pub sink_failed : result ≡ Err fault.Sink → Rose (to.faults sink) (to.faults sink') (to.is_spent sink')
+abbrev pub text_shown : Text → Shown → Image → List ℕ
+text_shown texts.State shown r =
+    tables_text shown.params shown.counters (pages_at shown.bank.pages) shown.objects shown.bank.accounts shown.threads.items ++ rows_text r (length shown.frames) shown.frames shown.objects
+text_shown texts.Reach shown r = threads_reached r (length shown.frames) shown.frames shown.objects shown.counters.period shown.threads.items
+text_shown texts.Dot shown r = graph_drawn r (length shown.frames) shown.frames shown.objects shown.counters.period shown.threads.items

@@ -1,5 +1,5 @@
 -- The words of blocks, pages and objects as text.
-use Rattle.std.specs.Prelude.{ℕ, ◌*◌, ◌==◌, List, [], ◌∷◌, codes, flat_map, if◌then◌else◌}
+use Rattle.std.specs.Prelude.{ℕ, ◌*◌, ◌==◌, Bool, List, [], ◌∷◌, codes, flat_map, if◌then◌else◌, replicate}
 use Rattle.mg_model.specs.Bytes.{block_words}
 use Rattle.mg_model.specs.Objects.{page_of}
 use Rattle.mg_model.specs.Print.{hex_text}
@@ -28,3 +28,7 @@ row_text image frames table row = words_text row.base (pages_words image frames 
 -- the words of objects that are held with their places
 abbrev pub rows_text : List (List ℕ) → ℕ → List ℕ → List (ℕ × ObjectRow) → List ℕ
 rows_text image frames table objects = flat_map (λ (o : ℕ × ObjectRow). row_text image frames table o.1) objects
+
+-- the words of a page that was read: those of its block where a frame holds it, else 0
+abbrev pub words_read : Bool → List ℕ → List ℕ
+words_read is_held block = if is_held then block_words block else replicate 512 0

@@ -1,6 +1,6 @@
 // The words of the command line.
 ghost use Rattle.std.specs.Prelude.{◌≡◌};
-ghost use Rattle.mg_session.specs.ByCommand.{words_of};
+ghost use Rattle.mg_volume_session.specs.ByCommand.{words_of};
 ghost use Rattle.mg_show.specs.Commands.{named, spelled};
 
 use mg_text::is_word;

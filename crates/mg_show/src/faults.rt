@@ -1,7 +1,7 @@
 // What fails outside while text is put.
 
 /// Which of the two failed, where what a disk holds was put as text.
-#[derive(Debug, Drop)]
+#[derive(Clone, Copy)]
 pub(crate) enum ShowFault {
     /// A call of the disk.
     Disk,

@@ -6,35 +6,35 @@ ghost use Rattle.mg_show.specs.DotText.{object_label, object_name, object_node, 
 ghost use Rattle.mg_show.specs.Drawn.{arrow_end, dash, entry_bits, shape, slot_bits};
 ghost use Rattle.mg_show.specs.StateText.{rights_text};
 
-use crate::lines::{push_decimal, push_letters};
+use crate::lines::{Line, push_decimal, push_letters};
 use arrayvec::ArrayVec;
 use mg_model::ObjRow;
 use mg_text::{push_text, push_word};
 
-type Buffer = ArrayVec<u8, 256>;
-
 /// The node of a thread. It has at most 60 bytes.
-pub(crate) fn print_thread_node(number: u64, out: &mut Buffer)
-    requires empty { out.old.items ≡ [] }
-    ensures { out.new.items ≡ thread_node number }
+pub(crate) fn print_thread_node(number: u64) -> Line
+    ensures { result.items ≡ thread_node number }
 {
-    push_text(out, b"  ");
-    push_thread_name(out, number);
-    push_text(out, b" [shape=ellipse style=solid]\n");
+    let mut out = Line::new();
+    push_text(&mut out, b"  ");
+    push_thread_name(&mut out, number);
+    push_text(&mut out, b" [shape=ellipse style=solid]\n");
+    out
 }
 
 /// The node of an object. It has at most 135 bytes.
-pub(crate) fn print_object_node(row: &ObjRow, is_list: bool, out: &mut Buffer)
-    requires empty { out.old.items ≡ [] }
-    ensures { out.new.items ≡ object_node (shape is_list) row.now }
+pub(crate) fn print_object_node(row: &ObjRow, is_list: bool) -> Line
+    ensures { result.items ≡ object_node (shape is_list) row.now }
 {
-    push_text(out, b"  ");
-    push_object_name(out, row.base());
-    push_text(out, b" [shape=");
-    push_text(out, shape_of(is_list));
-    push_text(out, b" style=solid label=\"");
-    push_label(out, row);
-    push_text(out, b"\"]\n");
+    let mut out = Line::new();
+    push_text(&mut out, b"  ");
+    push_object_name(&mut out, row.base());
+    push_text(&mut out, b" [shape=");
+    push_text(&mut out, shape_of(is_list));
+    push_text(&mut out, b" style=solid label=\"");
+    push_label(&mut out, row);
+    push_text(&mut out, b"\"]\n");
+    out
 }
 
 /// The shape of an object's node, at most 6 bytes.
@@ -46,7 +46,7 @@ fn shape_of(is_list: bool) -> &'static [u8]
 }
 
 /// The label of an object: its base, its pages and the account that pays for them.
-fn push_label(out: &mut Buffer, row: &ObjRow)
+fn push_label(out: &mut Line, row: &ObjRow)
     requires { array_vec_len out.old ≤ 100 }
     ensures text { out.new.items ≡ out.old.items ++ object_label row.now }
     ensures short { array_vec_len out.new ≤ array_vec_len out.old + 76 }
@@ -59,27 +59,29 @@ fn push_label(out: &mut Buffer, row: &ObjRow)
 }
 
 /// The arrow of a slot of a thread, with the rights whose bits these are. It has at most 86 bytes.
-pub(crate) fn print_slot_arrow(number: u64, base: u64, bits: u8, out: &mut Buffer)
-    requires empty { out.old.items ≡ [] }
-    ensures { out.new.items ≡ slot_bits number base bits }
+pub(crate) fn print_slot_arrow(number: u64, base: u64, bits: u8) -> Line
+    ensures { result.items ≡ slot_bits number base bits }
 {
-    push_text(out, b"  ");
-    push_thread_name(out, number);
-    push_arrow_end(out, base, bits, bits % 2 == 1);
+    let mut out = Line::new();
+    push_text(&mut out, b"  ");
+    push_thread_name(&mut out, number);
+    push_arrow_end(&mut out, base, bits, bits % 2 == 1);
+    out
 }
 
 /// The arrow of an entry of a list, with the rights whose bits these are. It has at most 77 bytes.
-pub(crate) fn print_entry_arrow(list: u64, base: u64, bits: u8, out: &mut Buffer)
-    requires empty { out.old.items ≡ [] }
-    ensures { out.new.items ≡ entry_bits list base bits }
+pub(crate) fn print_entry_arrow(list: u64, base: u64, bits: u8) -> Line
+    ensures { result.items ≡ entry_bits list base bits }
 {
-    push_text(out, b"  ");
-    push_object_name(out, list);
-    push_arrow_end(out, base, bits, bits % 64 != 0);
+    let mut out = Line::new();
+    push_text(&mut out, b"  ");
+    push_object_name(&mut out, list);
+    push_arrow_end(&mut out, base, bits, bits % 64 != 0);
+    out
 }
 
 /// An arrow behind the node that it leaves, dashed where it counts for nothing.
-fn push_arrow_end(out: &mut Buffer, base: u64, bits: u8, counts: bool)
+fn push_arrow_end(out: &mut Line, base: u64, bits: u8, counts: bool)
     requires { array_vec_len out.old ≤ 100 }
     ensures text { out.new.items ≡ out.old.items ++ arrow_end (object_name base) (rights_text bits) counts }
     ensures short { array_vec_len out.new ≤ array_vec_len out.old + 55 }
@@ -102,7 +104,7 @@ fn dash_of(counts: bool) -> &'static [u8]
 }
 
 /// The name of a thread's node.
-fn push_thread_name(out: &mut Buffer, number: u64)
+fn push_thread_name(out: &mut Line, number: u64)
     requires { array_vec_len out.old ≤ 100 }
     ensures text { out.new.items ≡ out.old.items ++ thread_name number }
     ensures short { array_vec_len out.new ≤ array_vec_len out.old + 29 }
@@ -113,7 +115,7 @@ fn push_thread_name(out: &mut Buffer, number: u64)
 }
 
 /// The name of an object's node.
-fn push_object_name(out: &mut Buffer, base: u64)
+fn push_object_name(out: &mut Line, base: u64)
     requires { array_vec_len out.old ≤ 200 }
     ensures text { out.new.items ≡ out.old.items ++ object_name base }
     ensures short { array_vec_len out.new ≤ array_vec_len out.old + 20 }
@@ -124,7 +126,7 @@ fn push_object_name(out: &mut Buffer, base: u64)
 }
 
 /// A word in hexadecimal, without the space that stands before it in a line.
-fn push_hex(out: &mut Buffer, word: u64)
+fn push_hex(out: &mut Line, word: u64)
     requires { array_vec_len out.old ≤ 201 }
     ensures text { out.new.items ≡ out.old.items ++ hex_text word }
     ensures short { array_vec_len out.new ≤ array_vec_len out.old + 18 }

@@ -9,10 +9,11 @@ use arrayvec::ArrayVec;
 use mg_model::{AccRow, Fault, Globals, ObjRow, Params, Pw, Rights, Tariff, ThrRow, ThrState};
 use mg_text::{push_number, push_text, push_word};
 
-type Buffer = ArrayVec<u8, 256>;
+/// A line as it is printed.
+pub(crate) type Line = ArrayVec<u8, 256>;
 
 /// The line of one number: its first word, of at most 16 bytes, and the number in decimal. There is room for it.
-fn push_counted(out: &mut Buffer, head: &[u8], n: u64)
+fn push_counted(out: &mut Line, head: &[u8], n: u64)
     requires short_head { length head.now ≤ 16 }
     requires has_room { array_vec_len out.old ≤ 184 }
     ensures text { out.new.items ≡ out.old.items ++ line head.now (decimal n ∷ []) }
@@ -24,79 +25,85 @@ fn push_counted(out: &mut Buffer, head: &[u8], n: u64)
 }
 
 /// The lines of the counters. They have at most 113 bytes.
-pub(crate) fn print_counters(counters: &Globals, out: &mut Buffer)
-    requires empty { out.old.items ≡ [] }
-    ensures { out.new.items ≡ counters_text counters.now }
+pub(crate) fn print_counters(counters: &Globals) -> Line
+    ensures { result.items ≡ counters_text counters.now }
 {
-    push_counted(out, b"draws", counters.draws());
-    push_counted(out, b"period", counters.period());
-    push_counted(out, b"cursor", counters.cursor());
-    push_counted(out, b"births", counters.births());
+    let mut out = Line::new();
+    push_counted(&mut out, b"draws", counters.draws());
+    push_counted(&mut out, b"period", counters.period());
+    push_counted(&mut out, b"cursor", counters.cursor());
+    push_counted(&mut out, b"births", counters.births());
+    out
 }
 
 /// A line with one address: its first word, of at most 16 bytes, and the address.
-pub(crate) fn print_word(head: &[u8], word: u64, out: &mut Buffer)
-    requires empty { out.old.items ≡ [] }
+pub(crate) fn print_word(head: &[u8], word: u64) -> Line
     requires short_head { length head.now ≤ 16 }
-    ensures { out.new.items ≡ line head.now (hex_text word ∷ []) }
+    ensures { result.items ≡ line head.now (hex_text word ∷ []) }
 {
-    push_text(out, head);
-    push_word(out, word);
-    push_text(out, b"\n");
+    let mut out = Line::new();
+    push_text(&mut out, head);
+    push_word(&mut out, word);
+    push_text(&mut out, b"\n");
+    out
 }
 
 /// A line with two words: its first word, of at most 16 bytes, and the two in hexadecimal.
-pub(crate) fn print_pair(head: &[u8], first: u64, second: u64, out: &mut Buffer)
-    requires empty { out.old.items ≡ [] }
+pub(crate) fn print_pair(head: &[u8], first: u64, second: u64) -> Line
     requires short_head { length head.now ≤ 16 }
-    ensures { out.new.items ≡ line head.now (hex_text first ∷ hex_text second ∷ []) }
+    ensures { result.items ≡ line head.now (hex_text first ∷ hex_text second ∷ []) }
 {
-    push_text(out, head);
-    push_word(out, first);
-    push_word(out, second);
-    push_text(out, b"\n");
+    let mut out = Line::new();
+    push_text(&mut out, head);
+    push_word(&mut out, first);
+    push_word(&mut out, second);
+    push_text(&mut out, b"\n");
+    out
 }
 
 /// The line of an account, which pays for so many pages.
-pub(crate) fn print_account(n: u64, row: &AccRow, pages: u64, out: &mut Buffer)
-    requires empty { out.old.items ≡ [] }
-    ensures { out.new.items ≡ account_text n row.now pages }
+pub(crate) fn print_account(n: u64, row: &AccRow, pages: u64) -> Line
+    ensures { result.items ≡ account_text n row.now pages }
 {
-    push_text(out, b"account");
-    push_number(out, n);
-    push_word(out, row.password);
-    push_number(out, row.balance);
-    push_number(out, row.owed);
-    push_number(out, pages);
-    push_text(out, b"\n");
+    let mut out = Line::new();
+    push_text(&mut out, b"account");
+    push_number(&mut out, n);
+    push_word(&mut out, row.password);
+    push_number(&mut out, row.balance);
+    push_number(&mut out, row.owed);
+    push_number(&mut out, pages);
+    push_text(&mut out, b"\n");
+    out
 }
 
 /// The line of an object.
-pub(crate) fn print_object(row: &ObjRow, out: &mut Buffer)
-    requires empty { out.old.items ≡ [] }
-    ensures { out.new.items ≡ object_line row.now }
+pub(crate) fn print_object(row: &ObjRow) -> Line
+    ensures { result.items ≡ object_line row.now }
 {
-    push_text(out, b"object");
-    push_word(out, row.base());
-    push_number(out, row.pages());
-    push_number(out, row.account());
-    push_text(out, b"\n");
+    let mut out = Line::new();
+    push_text(&mut out, b"object");
+    push_word(&mut out, row.base());
+    push_number(&mut out, row.pages());
+    push_number(&mut out, row.account());
+    push_text(&mut out, b"\n");
+    out
 }
 
 /// The line of a password row.
-pub(crate) fn print_password(pw: &Pw, out: &mut Buffer)
-    requires empty { out.old.items ≡ [] }
-    ensures { out.new.items ≡ password_text pw.now }
+pub(crate) fn print_password(pw: &Pw) -> Line
+    ensures { result.items ≡ password_text pw.now }
 {
-    push_text(out, b"password");
-    push_word(out, pw.password());
-    push_rights(out, pw.rights());
-    push_until(out, pw.until());
-    push_text(out, b"\n");
+    let mut out = Line::new();
+    push_text(&mut out, b"password");
+    push_word(&mut out, pw.password());
+    push_rights(&mut out, pw.rights());
+    push_until(&mut out, pw.until());
+    push_text(&mut out, b"\n");
+    out
 }
 
 /// A space and the letters of a set of rights.
-fn push_rights(out: &mut Buffer, rights: Rights)
+fn push_rights(out: &mut Line, rights: Rights)
     requires { array_vec_len out.old ≤ 200 }
     ensures text { out.new.items ≡ out.old.items ++ spaced (rights_text rights ∷ []) }
     ensures short { array_vec_len out.new ≤ array_vec_len out.old + 7 }
@@ -106,7 +113,7 @@ fn push_rights(out: &mut Buffer, rights: Rights)
 }
 
 /// The letters of the rights whose bits these are.
-pub(crate) fn push_letters(out: &mut Buffer, bits: u8)
+pub(crate) fn push_letters(out: &mut Line, bits: u8)
     requires { array_vec_len out.old ≤ 201 }
     ensures text { out.new.items ≡ out.old.items ++ rights_text bits }
     ensures short { array_vec_len out.new ≤ array_vec_len out.old + 6 }
@@ -120,7 +127,7 @@ pub(crate) fn push_letters(out: &mut Buffer, bits: u8)
 }
 
 /// The letter of a right, where the set has its bit.
-fn push_letter(out: &mut Buffer, rights: u8, letter: u8, bit: u8)
+fn push_letter(out: &mut Line, rights: u8, letter: u8, bit: u8)
     requires has_room { array_vec_len out.old ≤ 207 }
     requires bit { 1 ≤ bit }
     ensures text { out.new.items ≡ out.old.items ++ map (λ (l : ℕ × ℕ). l.0) (filter (λ (l : ℕ × ℕ). rights / l.1 % 2 == 1) ((letter, bit) ∷ [])) }
@@ -132,7 +139,7 @@ fn push_letter(out: &mut Buffer, rights: u8, letter: u8, bit: u8)
 }
 
 /// A space and the first period at which a password is current no more.
-fn push_until(out: &mut Buffer, until: u64)
+fn push_until(out: &mut Line, until: u64)
     requires { array_vec_len out.old ≤ 200 }
     ensures text { out.new.items ≡ out.old.items ++ spaced (until_text until ∷ []) }
     ensures short { array_vec_len out.new ≤ array_vec_len out.old + 21 }
@@ -145,19 +152,20 @@ fn push_until(out: &mut Buffer, until: u64)
 }
 
 /// The lines of the settings before the tariff. They have at most 127 bytes.
-pub(crate) fn print_settings(params: &Params, out: &mut Buffer)
-    requires empty { out.old.items ≡ [] }
-    ensures { out.new.items ≡ made_text params.now }
+pub(crate) fn print_settings(params: &Params) -> Line
+    ensures { result.items ≡ made_text params.now }
 {
-    push_counted(out, b"frames", params.frames());
-    push_text(out, b"seed ");
-    push_seed(out, &params.seed());
-    push_text(out, b"\n");
-    push_counted(out, b"credits", params.credits());
+    let mut out = Line::new();
+    push_counted(&mut out, b"frames", params.frames());
+    push_text(&mut out, b"seed ");
+    push_seed(&mut out, &params.seed());
+    push_text(&mut out, b"\n");
+    push_counted(&mut out, b"credits", params.credits());
+    out
 }
 
 /// The 64 hexadecimal digits of a seed.
-fn push_seed(out: &mut Buffer, seed: &[u8; 32])
+fn push_seed(out: &mut Line, seed: &[u8; 32])
     requires { array_vec_len out.old ≤ 100 }
     ensures text { out.new.items ≡ out.old.items ++ seed_text seed.now }
     ensures short { array_vec_len out.new ≤ array_vec_len out.old + 64 }
@@ -168,7 +176,7 @@ fn push_seed(out: &mut Buffer, seed: &[u8; 32])
 }
 
 /// The two hexadecimal digits of a byte.
-fn push_byte(out: &mut Buffer, byte: u8)
+fn push_byte(out: &mut Line, byte: u8)
     requires { array_vec_len out.old ≤ 200 }
     ensures text { out.new.items ≡ out.old.items ++ hex_digits 2 byte }
     ensures short { array_vec_len out.new ≤ array_vec_len out.old + 2 }
@@ -185,17 +193,18 @@ fn hex_glyph(d: u8) -> u8
 }
 
 /// The line of the tariff. It has at most 175 bytes.
-pub(crate) fn print_tariff(tariff: Tariff, out: &mut Buffer)
-    requires empty { out.old.items ≡ [] }
-    ensures { out.new.items ≡ line (codes "tariff") (map step_text tariff) }
+pub(crate) fn print_tariff(tariff: Tariff) -> Line
+    ensures { result.items ≡ line (codes "tariff") (map step_text tariff) }
 {
-    push_text(out, b"tariff");
-    push_steps(out, &tariff.steps());
-    push_text(out, b"\n");
+    let mut out = Line::new();
+    push_text(&mut out, b"tariff");
+    push_steps(&mut out, &tariff.steps());
+    push_text(&mut out, b"\n");
+    out
 }
 
 /// The four steps of a tariff, each behind a space.
-fn push_steps(out: &mut Buffer, steps: &[(u64, u64); 4])
+fn push_steps(out: &mut Line, steps: &[(u64, u64); 4])
     requires { array_vec_len out.old ≤ 8 }
     ensures text { out.new.items ≡ out.old.items ++ spaced (map step_text steps.now) }
     ensures short { array_vec_len out.new ≤ array_vec_len out.old + 168 }
@@ -206,7 +215,7 @@ fn push_steps(out: &mut Buffer, steps: &[(u64, u64); 4])
 }
 
 /// A space and a step of a tariff.
-fn push_step(out: &mut Buffer, step: (u64, u64))
+fn push_step(out: &mut Line, step: (u64, u64))
     requires { array_vec_len out.old ≤ 200 }
     ensures text { out.new.items ≡ out.old.items ++ spaced (step_text step ∷ []) }
     ensures short { array_vec_len out.new ≤ array_vec_len out.old + 42 }
@@ -218,7 +227,7 @@ fn push_step(out: &mut Buffer, step: (u64, u64))
 }
 
 /// A number in decimal.
-pub(crate) fn push_decimal(out: &mut Buffer, n: u64)
+pub(crate) fn push_decimal(out: &mut Line, n: u64)
     requires { array_vec_len out.old ≤ 230 }
     ensures text { out.new.items ≡ out.old.items ++ decimal n }
     ensures short { array_vec_len out.new ≤ array_vec_len out.old + 20 }
@@ -228,17 +237,18 @@ pub(crate) fn push_decimal(out: &mut Buffer, n: u64)
 }
 
 /// The line of a thread up to its registers. It has at most 103 bytes.
-pub(crate) fn print_thread(number: u64, row: &ThrRow, out: &mut Buffer)
-    requires empty { out.old.items ≡ [] }
-    ensures { out.new.items ≡ thread_head number row.now }
+pub(crate) fn print_thread(number: u64, row: &ThrRow) -> Line
+    ensures { result.items ≡ thread_head number row.now }
 {
-    push_text(out, b"thread");
-    push_number(out, number);
-    push_number(out, row.birth());
-    push_number(out, row.creator());
-    push_word(out, row.pc());
-    push_text(out, b" ");
-    push_text(out, state_words(row.state()));
+    let mut out = Line::new();
+    push_text(&mut out, b"thread");
+    push_number(&mut out, number);
+    push_number(&mut out, row.birth());
+    push_number(&mut out, row.creator());
+    push_word(&mut out, row.pc());
+    push_text(&mut out, b" ");
+    push_text(&mut out, state_words(row.state()));
+    out
 }
 
 /// The words for the state of a thread, at most 14 bytes.
@@ -256,36 +266,39 @@ fn state_words(state: ThrState) -> &'static [u8]
 }
 
 /// The end of the line of a thread: its registers. It has 153 bytes.
-pub(crate) fn print_registers(regs: &[u64; 8], out: &mut Buffer)
-    requires empty { out.old.items ≡ [] }
-    ensures { out.new.items ≡ registers_text regs.now }
+pub(crate) fn print_registers(regs: &[u64; 8]) -> Line
+    ensures { result.items ≡ registers_text regs.now }
 {
+    let mut out = Line::new();
     for word in regs {
-        push_word(out, *word);
+        push_word(&mut out, *word);
     }
-    push_text(out, b"\n");
+    push_text(&mut out, b"\n");
+    out
 }
 
 /// The line of an object that a thread reaches, with the rights whose bits these are.
-pub(crate) fn print_reach(t: u64, base: u64, bits: u8, out: &mut Buffer)
-    requires empty { out.old.items ≡ [] }
-    ensures { out.new.items ≡ line (codes "reach") (decimal t ∷ hex_text base ∷ rights_text bits ∷ []) }
+pub(crate) fn print_reach(t: u64, base: u64, bits: u8) -> Line
+    ensures { result.items ≡ line (codes "reach") (decimal t ∷ hex_text base ∷ rights_text bits ∷ []) }
 {
-    push_text(out, b"reach");
-    push_number(out, t);
-    push_word(out, base);
-    push_text(out, b" ");
-    push_letters(out, bits);
-    push_text(out, b"\n");
+    let mut out = Line::new();
+    push_text(&mut out, b"reach");
+    push_number(&mut out, t);
+    push_word(&mut out, base);
+    push_text(&mut out, b" ");
+    push_letters(&mut out, bits);
+    push_text(&mut out, b"\n");
+    out
 }
 
 /// The line of an entry at which a thread may enter.
-pub(crate) fn print_enter(t: u64, address: u64, out: &mut Buffer)
-    requires empty { out.old.items ≡ [] }
-    ensures { out.new.items ≡ line (codes "enter") (decimal t ∷ hex_text address ∷ []) }
+pub(crate) fn print_enter(t: u64, address: u64) -> Line
+    ensures { result.items ≡ line (codes "enter") (decimal t ∷ hex_text address ∷ []) }
 {
-    push_text(out, b"enter");
-    push_number(out, t);
-    push_word(out, address);
-    push_text(out, b"\n");
+    let mut out = Line::new();
+    push_text(&mut out, b"enter");
+    push_number(&mut out, t);
+    push_word(&mut out, address);
+    push_text(&mut out, b"\n");
+    out
 }

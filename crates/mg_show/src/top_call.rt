@@ -8,8 +8,8 @@ ghost use Rattle.mg_io.specs.Known.{AppendsPrefix};
 ghost use Rattle.mg_model.specs.State.{State};
 ghost use Rattle.mg_model.specs.Volume.{Is, volume};
 ghost use Rattle.mg_serve.specs.Sessions.{IsDoneOrMemory};
-ghost use Rattle.mg_session.specs.ByCommand.{words_of};
-ghost use Rattle.mg_session.specs.Headline.{EndsUnopened, OnVolume, TellsOfNone};
+ghost use Rattle.mg_volume_session.specs.ByCommand.{words_of};
+ghost use Rattle.mg_volume_session.specs.Headline.{EndsUnopened, OnVolume, TellsOfNone};
 ghost use Rattle.mg_show.specs.Commands.{spelled, text_of};
 ghost use Rattle.mg_show.specs.Headline.{ShowKeeps, UsageKeeps};
 
@@ -18,7 +18,7 @@ use crate::putting::show_rows;
 use mg_check::read_volume;
 use mg_disk::Disk;
 use mg_io::Sink;
-use mg_session::{Status, put_fault, put_usage};
+use mg_volume_session::{Status, put_fault, put_usage};
 use std::alloc::Global;
 
 /// Puts what a volume holds as text. The words are those behind the program's name.
@@ -73,7 +73,7 @@ fn tell<D: Disk, K: Sink>(alloc: Global, text: Text, disk: &mut D, sink: &mut K)
         → (Rose (K.faults sink.old) (K.faults sink.new) (K.is_spent sink.new) → ⊥) → IsDoneOrMemory result) }
 {
     match read_volume(alloc, disk) {
-        Ok((view, rows)) => show_rows(alloc, text, &view, rows, disk, sink),
+        Ok((view, rows)) => show_rows(alloc, text, view, rows, disk, sink),
         Err(fault) => put_fault(fault, sink),
     }
 }

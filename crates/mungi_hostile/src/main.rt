@@ -2,7 +2,7 @@
 //! take long. They are a program of their own because a program has two minutes in the gate.
 #![tactic(auto)]
 
-use mg_sessions::check_files;
+use mg_shown_sessions::check_files;
 use std::process::ExitCode;
 
 fn main(rt: HostRuntime) -> ExitCode {

@@ -4,7 +4,7 @@
 //! listed, the lines can't be put, or memory is wanting.
 #![tactic(auto)]
 
-use mg_sessions::check_files;
+use mg_shown_sessions::check_files;
 use std::process::ExitCode;
 
 fn main(rt: HostRuntime) -> ExitCode {

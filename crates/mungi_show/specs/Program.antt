@@ -4,7 +4,7 @@ use Rattle.std.specs.declared.alloc.Global.{Global}
 use Rattle.mg_disk.specs.declared.disk.Disk as disks
 use Rattle.mg_io.specs.declared.traits.Sink as sinks
 use Rattle.mg_serve.specs.declared.status.Status.{Status}
-use Rattle.mg_session.specs.ByCommand.{words_of}
+use Rattle.mg_volume_session.specs.ByCommand.{words_of}
 use Rattle.mg_show.specs.Commands.{spelled}
 use Rattle.mg_show.specs.Headline.{ShowKeeps, UsageKeeps}
 use Rattle.mg_show.specs.declared.command.Text.{Text}

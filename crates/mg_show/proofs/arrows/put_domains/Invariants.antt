@@ -1,7 +1,7 @@
 use Rattle.std.proofs.Common.{take}
 use Rattle.mg_show.specs.Drawn.{domains_drawn}
-use Rattle.mg_show.specs.Told.{HasPut}
+use Rattle.mg_show.specs.Writing.{Puts}
 use Rattle.mg_show.proofs.arrows.put_domains.Given as goal
 
 abbrev pub invariant-loop-t : goal.invariant-loop-t
-invariant-loop-t g l = HasPut g.K.Sink l.initial.sink l.sink l.initial.piece l.piece (domains_drawn l.objects l.period (take l.t-index l.threads))
+invariant-loop-t g l = Puts g.K.Sink (domains_drawn l.objects l.period (take l.t-index l.threads)) l.initial.sink l.sink l.initial.out l.out

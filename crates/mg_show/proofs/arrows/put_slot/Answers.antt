@@ -1,20 +1,10 @@
-use Rattle.std.specs.Prelude.{OnErr, OnOk}
-use Rattle.std.proofs.Common.{◌++◌, subst}
 use Rattle.mg_show.specs.Drawn.{held}
-use Rattle.mg_show.specs.Told.{HasFailed, HasPut}
+use Rattle.mg_show.specs.WritingLemmas.{puts_same}
+use Rattle.std.proofs.Common.{◌∙◌}
 use Rattle.mg_show.proofs.Drawing.{slot-drawn}
 use Rattle.mg_show.proofs.arrows.put_slot.Goals as goal
 
-pub returns-clause-ok : goal.returns-clause-ok
-returns-clause-ok g c =
+pub returns : goal.returns
+returns g c =
     let slot = c.args.slot in
-    subst (λ text. OnOk c.put_arrow.result (HasPut g.K.Sink c.args.sink.now c.put_arrow.new.sink c.args.piece.now c.put_arrow.new.piece text))
-    (slot-drawn c.rights_on-bits.result (held c.args.objects.now c.args.period slot.base slot.password) c.rights_on-bits.ensures c.args.number slot.base)
-    c.put_arrow.ensures.ok
-
-pub returns-clause-err : goal.returns-clause-err
-returns-clause-err g c =
-    let slot = c.args.slot in
-    subst (λ text. OnErr c.put_arrow.result (HasFailed g.K.Sink c.args.sink.now c.put_arrow.new.sink (c.args.piece.now ++ text)))
-    (slot-drawn c.rights_on-bits.result (held c.args.objects.now c.args.period slot.base slot.password) c.rights_on-bits.ensures c.args.number slot.base)
-    c.put_arrow.ensures.err
+    puts_same g.K.Sink (c.print_slot_arrow.ensures ∙ slot-drawn c.rights_on-bits.result (held c.args.objects.now c.args.period slot.base slot.password) c.rights_on-bits.ensures c.args.number slot.base) c.line.ensures

@@ -1,18 +1,18 @@
 use Rattle.std.proofs.Common.{length}
 use Rattle.mg_model.specs.Replay.{replay}
-use Rattle.mg_show.specs.Drawn.{graph_drawn, marked_drawn}
+use Rattle.mg_show.specs.Drawn.{all_named}
+use Rattle.mg_show.specs.WritingLemmas.{of_same}
 use Rattle.mg_show.proofs.Drawing.{marked-drawn}
-use Rattle.mg_show.proofs.ShownSteps.{shown_same}
+use Rattle.mg_show.proofs.FoundSteps.{marks-same}
+use Rattle.std.proofs.Common.{ap}
 use Rattle.mg_show.proofs.graph.put_graph.Goals as goal
 
 pub returns : goal.returns
 returns g c =
-    let table = c.args.frames.now in
-    let objects = c.args.objects.now in
-    let threads = c.args.threads.now in
-    let period = c.args.period in
+    let shown = c.args.shown.now in
     let bytes = c.mark_opened.new.bytes in
-    shown_same g.D.Disk g.K.Sink (λ image. replay image c.args.view.now.total) (λ r. marked_drawn r (length table) table bytes objects period threads) (λ r. graph_drawn r (length table) table objects period threads) c.put_marked.result
-    c.args.disk.now c.put_marked.new.disk c.args.sink.now c.put_marked.new.sink c.args.piece.now c.put_marked.new.piece
-    (λ r. marked-drawn r (length table) table objects period threads c.clear.new.bytes bytes c.clear.ensures.zeros c.mark_opened.ensures)
+    of_same g.D.Disk g.K.Sink (λ image. replay image c.args.shown.now.view.total)
+    (λ r.
+    marked-drawn r (length shown.frames) shown.frames shown.objects shown.counters.period shown.threads.items c.clear.new.bytes bytes c.clear.ensures.zeros
+    (marks-same c.objects.result.now shown.objects c.period.result shown.counters.period (all_named c.deref.result.now) (all_named shown.threads.items) c.clear.new.bytes bytes c.objects.ensures c.period.ensures (ap all_named c.deref.ensures.value) c.mark_opened.ensures))
     c.put_marked.ensures

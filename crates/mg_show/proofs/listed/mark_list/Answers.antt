@@ -1,23 +1,21 @@
-use Rattle.std.proofs.Common.{◌+◌, ◌/◌, ap, length, sym, ◌∙◌}
+use Rattle.std.proofs.Common.{List, ℕ, ◌/◌, ap, length, ◌∙◌}
 use Rattle.mg_model.specs.Access.{entries_of}
-use Rattle.mg_model.specs.Bytes.{block_words}
-use Rattle.mg_model.specs.Layout.{first_frame}
-use Rattle.mg_model.specs.Replay.{block_of, replay}
+use Rattle.mg_model.specs.Replay.{replay}
 use Rattle.mg_model.specs.Volume.{page_words}
 use Rattle.mg_show.specs.Reached.{listed}
-use Rattle.mg_show.proofs.FoundSteps.{found_same}
-use Rattle.mg_show.proofs.ListEntries.{page-list-held}
+use Rattle.mg_show.specs.WordText.{words_read}
+use Rattle.mg_show.proofs.FoundSteps.{marks-same}
 use Rattle.mg_show.proofs.listed.mark_list.Goals as goal
 
-pub returns-in-Some : goal.returns-in-Some
-returns-in-Some g c =
-    let table = c.args.frames.now in
-    let frame = c.in-Some.frame in
-    let row = c.args.row.now in
-    found_same g.D.Disk (λ image. replay image c.args.view.now.total) c.args.objects.now c.args.period (λ r. entries_of (block_words (block_of r (c.of-first.result.first_frame + frame))))
-    (λ r. listed r (length table) table row) c.args.disk.now c.mark_block.new.disk c.args.bytes.now c.mark_block.new.bytes
-    (λ r.
-    ap (λ first. entries_of (block_words (block_of r (first + frame)))) (c.of-first.ensures.first ∙ ap first_frame c.len.ensures.count)
-    ∙ page-list-held r (length table) table (c.base.result / 4096) frame (sym c.in-Some.ensures)
-    ∙ ap (λ base. entries_of (page_words r (length table) table (base / 4096))) c.base.ensures.value)
-    c.mark_block.result c.mark_block.ensures
+pub returns : goal.returns
+returns g c =
+    let shown = c.args.shown.now in
+    record {
+      marks = λ none r told.
+          marks-same c.objects.result.now shown.objects c.period.result shown.counters.period (entries_of (words_read c.read_page-is_held.result c.read_page-is_held.new.block)) (listed r (length shown.frames) shown.frames c.args.row.now) c.args.bytes.now c.mark_read.new.bytes
+          c.objects.ensures c.period.ensures
+          (ap entries_of (c.read_page-is_held.ensures.page none r told) ∙ ap (λ base. entries_of (page_words r (length shown.frames) shown.frames (base / 4096))) c.base.ensures.value)
+          c.mark_read.ensures;
+      long = c.mark_read.ensures.long;
+      reads = c.read_page-is_held.ensures.reads;
+    }

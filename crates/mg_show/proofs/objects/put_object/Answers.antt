@@ -1,17 +1,12 @@
-use Rattle.std.proofs.Common.{◌++◌, refl}
+use Rattle.std.proofs.Common.{ap}
 use Rattle.std.specs.List.{flat_map}
-use Rattle.mg_show.specs.StateText.{entry_text, extension_text, object_line, password_text}
-use Rattle.mg_show.specs.ToldLemmas.{fails_both, fails_first, puts_both}
+use Rattle.mg_show.specs.StateText.{entry_text, password_text}
+use Rattle.mg_show.specs.WritingLemmas.{puts_same, puts_then}
 use Rattle.mg_show.proofs.objects.put_object.Goals as goal
 
-pub returns-in-Ok-clause-ok : goal.returns-in-Ok-clause-ok
-returns-in-Ok-clause-ok g c =
-    puts_both g.K.Sink _ _ _ _ _ _ (object_line c.args.row.now ++ flat_map password_text c.args.row.now.passwords ++ flat_map entry_text c.args.row.now.entries) (extension_text c.args.row.now.extension) _ c.put_extension.result c.in-Ok.ensures.ok c.put_extension.ensures.ok refl
-
-pub returns-in-Ok-clause-err : goal.returns-in-Ok-clause-err
-returns-in-Ok-clause-err g c =
-    fails_both g.K.Sink _ _ _ _ _ (object_line c.args.row.now ++ flat_map password_text c.args.row.now.passwords ++ flat_map entry_text c.args.row.now.entries) (extension_text c.args.row.now.extension) _ c.put_extension.result c.in-Ok.ensures.ok c.put_extension.ensures.err refl
-
-pub returns-in-Err-clause-err : goal.returns-in-Err-clause-err
-returns-in-Err-clause-err g c =
-    fails_first g.K.Sink _ _ _ (object_line c.args.row.now ++ flat_map password_text c.args.row.now.passwords ++ flat_map entry_text c.args.row.now.entries) (extension_text c.args.row.now.extension) _ c.in-Err.ensures.err refl
+pub returns : goal.returns
+returns g c =
+    puts_then g.K.Sink
+    (puts_then g.K.Sink (puts_then g.K.Sink (puts_same g.K.Sink c.print_object.ensures c.line.ensures) (puts_same g.K.Sink (ap (flat_map password_text) c.passwords.ensures) c.put_passwords.ensures))
+    (puts_same g.K.Sink (ap (flat_map entry_text) c.entries.ensures) c.put_entries.ensures))
+    c.put_extension.ensures

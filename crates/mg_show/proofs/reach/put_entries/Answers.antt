@@ -1,10 +1,7 @@
-use Rattle.std.proofs.Common.{refl}
+use Rattle.std.proofs.Common.{arith}
 use Rattle.mg_show.specs.Reached.{enter_line}
-use Rattle.mg_show.specs.ToldLemmas.{fails_next, puts_next}
+use Rattle.mg_show.specs.WritingLemmas.{flat_more, puts_same, puts_then}
 use Rattle.mg_show.proofs.reach.put_entries.Goals as goal
 
-pub returns-in-Err-clause-err : goal.returns-in-Err-clause-err
-returns-in-Err-clause-err g c = fails_next g.K.Sink (enter_line c.args.t) c.args.entries.now c.loop-i.i 0 _ _ _ _ _ _ c.loop-i-test.true refl c.loop-i.invariant c.in-Err.ensures.err
-
-pub loop-i-preserved : goal.loop-i-preserved
-loop-i-preserved g c = puts_next g.K.Sink (enter_line c.args.t) c.args.entries.now c.loop-i.i 0 _ _ _ _ _ _ _ c.loop-i-test.true refl c.loop-i.invariant c.in-Ok.ensures.ok
+pub loop-entry-preserved : goal.loop-entry-preserved
+loop-entry-preserved g c = puts_same g.K.Sink (flat_more (enter_line c.args.t) c.args.entries.now c.loop-entry.entry-index 0 (omega arith)) (puts_then g.K.Sink c.loop-entry.invariant (puts_same g.K.Sink c.print_enter.ensures c.line.ensures))

@@ -1,8 +1,8 @@
-use Rattle.std.proofs.Common.{flat_map, take}
+use Rattle.std.proofs.Common.{take}
+use Rattle.std.specs.List.{flat_map}
 use Rattle.mg_show.specs.Reached.{enter_line}
-use Rattle.mg_show.specs.Told.{HasPut}
+use Rattle.mg_show.specs.Writing.{Puts}
 use Rattle.mg_show.proofs.reach.put_entries.Given as goal
 
--- the entries before this one are put
-abbrev pub invariant-loop-i : goal.invariant-loop-i
-invariant-loop-i g l = HasPut g.K.Sink l.initial.sink l.sink l.initial.piece l.piece (flat_map (enter_line l.t) (take l.i l.entries))
+abbrev pub invariant-loop-entry : goal.invariant-loop-entry
+invariant-loop-entry g l = Puts g.K.Sink (flat_map (enter_line l.t) (take l.entry-index l.entries)) l.initial.sink l.sink l.initial.out l.out

@@ -1,12 +1,8 @@
-use Rattle.std.proofs.Common.{arith, codes, refl}
+use Rattle.std.proofs.Common.{arith}
+use Rattle.std.specs.Prelude.{codes}
 use Rattle.mg_show.specs.StateText.{slot_text}
-use Rattle.mg_show.specs.ToldLemmas.{fails_next, puts_next}
+use Rattle.mg_show.specs.WritingLemmas.{flat_more, puts_same, puts_then}
 use Rattle.mg_show.proofs.threads.put_slots.Goals as goal
 
-pub returns-in-Err-clause-err : goal.returns-in-Err-clause-err
-returns-in-Err-clause-err g c =
-    fails_next g.K.Sink (slot_text (codes "slot")) c.args.slots.now c.loop-slot.slot-index (record { base = 0; password = 0 }) _ _ _ _ _ _ (omega arith) refl c.loop-slot.invariant c.in-Err.ensures.err
-
 pub loop-slot-preserved : goal.loop-slot-preserved
-loop-slot-preserved g c =
-    puts_next g.K.Sink (slot_text (codes "slot")) c.args.slots.now c.loop-slot.slot-index (record { base = 0; password = 0 }) _ _ _ _ _ _ _ (omega arith) refl c.loop-slot.invariant c.in-Ok.ensures.ok
+loop-slot-preserved g c = puts_same g.K.Sink (flat_more (slot_text (codes "slot")) c.args.slots.now c.loop-slot.slot-index (record { base = 0; password = 0 }) (omega arith)) (puts_then g.K.Sink c.loop-slot.invariant (puts_same g.K.Sink c.print_pair.ensures c.line.ensures))

@@ -1,8 +1,8 @@
 use Rattle.mg_model.specs.Bytes.{numbers_at}
 use Rattle.mg_show.specs.StateText.{words_text}
-use Rattle.mg_show.specs.Told.{HasPut}
+use Rattle.mg_show.specs.Writing.{Puts}
 use Rattle.mg_show.proofs.words.put_block.Given as goal
 
 -- the words before this one are put
 abbrev pub invariant-loop-k : goal.invariant-loop-k
-invariant-loop-k g l = HasPut g.K.Sink l.initial.sink l.sink l.initial.piece l.piece (words_text l.address (numbers_at l.block 0 l.k))
+invariant-loop-k g l = Puts g.K.Sink (words_text l.address (numbers_at l.block 0 l.k)) l.initial.sink l.sink l.initial.out l.out

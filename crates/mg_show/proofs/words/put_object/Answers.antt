@@ -1,17 +1,16 @@
 use Rattle.std.proofs.Common.{◌/◌, ap, length, sym, ◌∙◌}
 use Rattle.mg_model.specs.Objects.{page_of}
 use Rattle.mg_model.specs.Replay.{replay}
-use Rattle.mg_show.specs.WordText.{pages_text, row_text}
-use Rattle.mg_show.proofs.ShownSteps.{shown_same}
+use Rattle.mg_show.specs.WordText.{pages_text}
+use Rattle.mg_show.specs.WritingLemmas.{of_same}
 use Rattle.mg_show.proofs.WordTexts.{row_text-pages}
 use Rattle.mg_show.proofs.words.put_object.Goals as goal
 
 pub returns : goal.returns
 returns g c =
-    let table = c.args.frames.now in
+    let table = c.args.shown.now.frames in
     let row = c.args.row.now in
-    shown_same g.D.Disk g.K.Sink (λ image. replay image c.args.view.now.total) (λ r. pages_text r (length table) table (c.base.result / 4096) c.pages.result) (λ r. row_text r (length table) table row) c.put_pages.result
-    c.args.disk.now c.put_pages.new.disk c.args.sink.now c.put_pages.new.sink c.args.piece.now c.put_pages.new.piece
+    of_same g.D.Disk g.K.Sink (λ image. replay image c.args.shown.now.view.total)
     (λ r.
     ap (λ base. pages_text r (length table) table (base / 4096) c.pages.result) c.base.ensures.value ∙ ap (pages_text r (length table) table (page_of row)) c.pages.ensures
     ∙ sym (row_text-pages r (length table) table row c.keep_rules.ensures.place.aligned))

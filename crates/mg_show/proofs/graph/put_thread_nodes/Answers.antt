@@ -1,0 +1,8 @@
+use Rattle.std.proofs.Common.{ℕ, ◌+◌, arith}
+use Rattle.mg_model.specs.State.{ThreadRow}
+use Rattle.mg_show.specs.DotText.{thread_node}
+use Rattle.mg_show.specs.WritingLemmas.{puts_more, puts_same}
+use Rattle.mg_show.proofs.graph.put_thread_nodes.Goals as goal
+
+pub loop-t-preserved : goal.loop-t-preserved
+loop-t-preserved g c = puts_more g.K.Sink (λ (t : ℕ × ThreadRow). thread_node (t.0 + 1)) c.args.threads.now c.loop-t.t-index c.t-item.result (omega arith) c.t-item.is c.loop-t.invariant (puts_same g.K.Sink c.print_thread_node.ensures c.line.ensures)

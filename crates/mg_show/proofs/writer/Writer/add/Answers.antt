@@ -1,0 +1,9 @@
+use Rattle.std.proofs.Common.{rules, subst, sym}
+use Rattle.mg_show.specs.Writing.{Held, Puts}
+use Rattle.mg_show.specs.WritingLemmas.{puts_kept}
+use Rattle.mg_show.proofs.writer.Writer.add.Goals as goal
+
+pub returns : goal.returns
+returns g c =
+    subst (λ (h : Held). Puts g.K.Sink c.args.text.now c.args.sink.now c.make_room.new.sink c.args.self.now h) (sym c.keep.ensures)
+    (puts_kept g.K.Sink c.args.text.now c.args.sink.now c.make_room.new.sink c.args.self.now c.make_room.new.self (search rules) c.make_room.ensures.puts)
