@@ -1,14 +1,14 @@
-// How the command ends.
+// The statuses of the command `gen`.
 use mg_disk::{Counts, Disk, MemDisk};
-use mg_session::Status;
 use mg_testing::{Outcome, Streams, command};
+use mg_volume_session::Status;
 use std::alloc::Global;
 use std::test::Fail;
 
-/// A line, the puts that fail, the room of the sink, the status, and what is put.
+/// A command line, the puts that fail, the room of the sink, the status, and what is printed.
 type Row = (&'static str, &'static [u64], usize, Status, &'static [u8]);
 
-/// What is put of a run of one line, which is `ok`.
+/// What is printed of a run of one line, which is `ok`.
 const ONE_OK: &[u8] =
     b"ok 1\nSyntax 0\nNoThread 0\nAlign 0\nDenied 0\nSize 0\nAccount 0\nDebt 0\nLimit 0\nFull 0\nNoPassword 0\nRange 0\nSlotFull 0\nNoSlot 0\nNoEntry 0\nDepth 0\nNoFrame 0\nNotYours 0\nNotReady 0\nIdle 0\nCredit 0\nCalendar 0\nPast 0\n";
 
@@ -40,7 +40,7 @@ const ROWS: [Row; 13] = [
     ("gen 7 1", &[], 65536, Status::Usage, b"usage\n"),
 ];
 
-/// How this line ends over a disk, with a source whose first take fails.
+/// The outcome of this command line on a disk, with a source whose first take fails.
 fn outcome<D: Disk>(
     alloc: Global,
     disk: &mut D,
@@ -58,11 +58,11 @@ fn outcome<D: Disk>(
     command(alloc, line, disk, &streams).ok()
 }
 
-/// Whether it ends so.
+/// Whether a row has its outcome.
 fn ends_on<D: Disk>(alloc: Global, disk: &mut D, row: &Row) -> bool {
-    let (line, puts, room, status, put) = row;
+    let (line, puts, room, status, printed) = row;
     match outcome(alloc, disk, line, puts, *room) {
-        Some(outcome) => outcome.status == *status && outcome.put.as_slice() == *put,
+        Some(outcome) => outcome.status == *status && outcome.printed.as_slice() == *printed,
         None => false,
     }
 }
@@ -75,7 +75,7 @@ fn ends(alloc: Global, row: &Row) -> bool {
     }
 }
 
-/// The first of these that ends otherwise.
+/// The first of these rows with another outcome.
 fn wrong(alloc: Global, rows: &[Row]) -> Option<Row> {
     for row in rows {
         if !ends(alloc, row) {
@@ -85,7 +85,7 @@ fn wrong(alloc: Global, rows: &[Row]) -> Option<Row> {
     None
 }
 
-// A source that would fail is not called, and neither is the disk.
+// The source would fail, and is not called. Neither is the disk.
 #[test]
 fn each_status_comes(rt: HostRuntime) -> Result<(), Fail> {
     assert_eq!(rt; wrong(rt.alloc(), &ROWS), None);

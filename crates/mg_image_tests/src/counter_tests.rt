@@ -1,9 +1,9 @@
-// Counters of a volume at their ends, where no session comes: the passwords drawn, the period, and the births.
-use mg_testing::{answers, fresh, put_bytes};
+// Counters of a volume at their ends, which no session reaches: the passwords drawn, the period, and the births.
+use mg_testing::{answers, fresh, write_bytes};
 use std::alloc::Global;
 use std::test::Fail;
 
-/// The last password but one is drawn.
+/// One password is left to draw.
 const DRAWS: [&str; 2] = [
     "1298 0 0xff, 1298 1 0xff, 1298 2 0xff, 1298 3 0xff",
     "1 pwadd 0x100000000 R 0
@@ -81,15 +81,17 @@ const BIRTHS: [&str; 2] = [
 ",
 ];
 
-/// Whether a run with this line answers so on a fresh volume with these bytes.
+/// Whether a run with this command line gives the answers of the session, on a fresh volume with these bytes.
 fn is_answered(alloc: Global, line: &str, bytes: &str, session: &str) -> bool {
     match fresh(alloc) {
-        Ok(mut disk) => { put_bytes(&mut disk, bytes) && answers(alloc, line, &mut disk, session) }
+        Ok(mut disk) => {
+            write_bytes(&mut disk, bytes) && answers(alloc, line, &mut disk, session)
+        }
         Err(_) => false,
     }
 }
 
-/// Whether runs with batches of one line and of 64 do, on a volume with the first text's bytes and with the session of the second.
+/// Whether runs with batches of 1 and of 64 lines do, with the bytes of the first text and the session of the second.
 fn are_answered(alloc: Global, texts: [&str; 2]) -> bool {
     let [bytes, session] = texts;
     is_answered(alloc, "vol run", bytes, session)

@@ -1,40 +1,40 @@
-// The largest object, each page of which was stored to, is deleted by one line: of a batch none is larger.
+// One line deletes the largest object after a store to each of its pages. No batch is larger.
 use crate::tape::Tape;
 use mg_disk::{BLOCK_SIZE, Block, Disk, Left};
 use mg_layout::{FIRST_OBJECT_BLOCK, TABLE_BLOCK};
 use mg_model::{ObjRow, Pw, Rights};
 use mg_rows::put_object;
-use mg_testing::{is_told_of, told_of};
+use mg_testing::{output_for, outputs_for};
 use std::alloc::Global;
 use std::test::Fail;
 
-/// A volume of the most frames that there may be, 65,536. Their table has 128 blocks.
+/// The words for a volume of 65,536 frames, the most there can be. Their table has 128 blocks.
 const FORMAT: &str =
     "vol format 65536 0000000000000000000000000000000000000000000000000000000000000000 1000";
 
-/// The base of the object, right behind the root, and its first page.
+/// The base of the object, right after the root, and its first page.
 const BASE: u64 = 0x1_0000_1000;
 
 const PAGE: u64 = 0x10_0001;
 
-/// How many pages it has. Page j is in frame 64 j + 1, so 8 of them stand in each block of the table.
+/// The number of its pages. Page j is in frame 64 j + 1, so each block of the table has 8 of them.
 const PAGES: u64 = 1024;
 
-/// The object's base and its password, 7, as the root's second entry.
+/// Stores the object's base and its password, 7, as the root's second entry.
 const LISTED: &str =
     "1 store 0x100000020 0x100001000\n1 store 0x100000028 7\n1 store 0x100000000 2\n";
 
 const DELETED: &str = "1 delete 0x100001000\n";
 
-/// What is asked where a stop came: for the object, its first and its last page, and then for as many pages again.
-const ASKED: &str =
+/// The lines after a stop: on the object, its first and its last page, and then on as many pages of a new object.
+const LINES: &str =
     "1 info 0x100001000\n1 load 0x100001000\n1 load 0x100400000\n1 create 1024 1 0x28bd8653e56a5d40\n1 store 0x100000028 0x1aed8da0b819d2bd\n1 load 0x100001000\n1 load 0x100400000\n";
 
-/// What is answered where it is whole.
+/// The output if the object is whole.
 const WHOLE: &str =
     "0 ok 0x0000000100001000 1024 1 1 0 0\nok 0x0000000000000001\nok 0x0000000000000400\nok 0x0000000100401000 0x1aed8da0b819d2bd\nok\nno Denied\nno Denied\n";
 
-/// What is answered where it is gone: its pages are given out again, and read as zeros.
+/// The output if the object is gone: its pages are free again, and read as zeros.
 const GONE: &str =
     "0 no Denied\nno Denied\nno Denied\nok 0x0000000100001000 0x1aed8da0b819d2bd\nok\nok 0x0000000000000000\nok 0x0000000000000000\n";
 
@@ -46,14 +46,14 @@ fn block<D: Disk>(disk: &mut D, i: u64) -> Block {
     block
 }
 
-fn put<D: Disk>(disk: &mut D, i: u64, block: &Block) {
+fn write_block<D: Disk>(disk: &mut D, i: u64, block: &Block) {
     if i < disk.blocks() {
         let _ = disk.write(i, block);
     }
 }
 
-/// Puts a number into a block, as its word of this place.
-fn put_word<D: Disk>(disk: &mut D, i: u64, word: u64, number: u64) {
+/// Stores a number as the word with this place in a block.
+fn write_word<D: Disk>(disk: &mut D, i: u64, word: u64, number: u64) {
     let mut bytes = block(disk, i);
     for (k, byte) in number.to_le_bytes().into_iter().enumerate() {
         let at = (word as usize % 512 * 8).saturating_add(k);
@@ -61,55 +61,55 @@ fn put_word<D: Disk>(disk: &mut D, i: u64, word: u64, number: u64) {
             *place = byte;
         }
     }
-    put(disk, i, &bytes);
+    write_block(disk, i, &bytes);
 }
 
-/// Puts the object's row behind the root's.
-fn put_row<D: Disk>(disk: &mut D) {
+/// Writes the object's row after the root's.
+fn write_row<D: Disk>(disk: &mut D) {
     let mut row = ObjRow::new(BASE, PAGES, 1);
     row.add_password(Pw::new(7, Rights::all(), Pw::NEVER));
     let mut bytes = block(disk, FIRST_OBJECT_BLOCK);
     put_object(Some(&row), 1, &mut bytes);
-    put(disk, FIRST_OBJECT_BLOCK, &bytes);
+    write_block(disk, FIRST_OBJECT_BLOCK, &bytes);
 }
 
-/// Puts each page into its frame, with its number from 1 on as its first word.
-fn put_pages<D: Disk>(disk: &mut D) {
+/// Writes each page into its frame. Its first word is its number, from 1.
+fn write_pages<D: Disk>(disk: &mut D) {
     for j in 0..PAGES {
         let frame = 64 * j + 1;
-        put_word(disk, TABLE_BLOCK + frame / 512, frame, PAGE + j);
-        put_word(disk, TABLE_BLOCK + 128 + frame, 0, j + 1);
+        write_word(disk, TABLE_BLOCK + frame / 512, frame, PAGE + j);
+        write_word(disk, TABLE_BLOCK + 128 + frame, 0, j + 1);
     }
 }
 
-/// Makes a volume with the object, which the root reaches, and tells whether its lines were answered.
+/// Makes a volume with the object, which the root reaches. False if a line has another answer.
 fn make(alloc: Global, disk: &mut Tape) -> bool {
-    let is_made = told_of(alloc, FORMAT, disk, "").is_ok();
-    put_row(disk);
-    put_pages(disk);
+    let is_made = output_for(alloc, FORMAT, disk, "").is_ok();
+    write_row(disk);
+    write_pages(disk);
     // The second opening writes home what these lines left in the journal.
     is_made
-        && is_told_of(alloc, "vol run", disk, LISTED, "0 ok\nok\nok\n")
-        && is_told_of(alloc, "vol run", disk, "", "0 ")
+        && outputs_for(alloc, "vol run", disk, LISTED, "0 ok\nok\nok\n")
+        && outputs_for(alloc, "vol run", disk, "", "0 ")
         && disk.mark()
 }
 
-/// What a stop behind so many steps may leave: 0 where the object is whole, 1 where it is gone, and 2 where it is neither.
-fn place(alloc: Global, disk: &mut Tape, steps: usize, left: Left) -> usize {
+/// What a stop after `steps` steps leaves: 0 if the object is whole, 1 if it is gone, and else 2.
+fn kind_left(alloc: Global, disk: &mut Tape, steps: usize, left: Left) -> usize {
     disk.stop(steps, left);
-    match told_of(alloc, "vol run", disk, ASKED) {
+    match output_for(alloc, "vol run", disk, LINES) {
         Ok(found) if found.as_str() == WHOLE => 0,
         Ok(found) if found.as_str() == GONE => 1,
         _ => 2,
     }
 }
 
-/// How many images of each kind the stops behind these steps may leave.
-fn left_behind(alloc: Global, disk: &mut Tape, from: usize, to: usize) -> [u64; 3] {
+/// The number of images of each kind that the stops after these numbers of steps leave.
+fn count_images(alloc: Global, disk: &mut Tape, from: usize, to: usize) -> [u64; 3] {
     let mut counts = [0_u64; 3];
     for steps in from..to {
         for left in [Left::Old, Left::New, Left::Gates] {
-            if let Some(count) = counts.get_mut(place(alloc, disk, steps, left)) {
+            if let Some(count) = counts.get_mut(kind_left(alloc, disk, steps, left)) {
                 *count = count.wrapping_add(1);
             }
         }
@@ -117,25 +117,25 @@ fn left_behind(alloc: Global, disk: &mut Tape, from: usize, to: usize) -> [u64; 
     counts
 }
 
-/// What a stop before a deletion leaves, whether the deletion is answered, its writes and syncs, and what stops behind its first and
-/// its last steps may leave.
-type Watched = ([u64; 3], bool, (usize, usize), [[u64; 3]; 2]);
+/// What a stop before the deletion leaves, whether the deletion is answered, its writes and syncs, and what stops after its first and
+/// its last steps leave.
+type Observed = ([u64; 3], bool, (usize, usize), [[u64; 3]; 2]);
 
-fn watched(alloc: Global, disk: &mut Tape) -> Watched {
-    let before = left_behind(alloc, disk, 0, 1);
+fn observe(alloc: Global, disk: &mut Tape) -> Observed {
+    let before = count_images(alloc, disk, 0, 1);
     disk.stop(0, Left::Old);
-    let is_answered = disk.mark() && is_told_of(alloc, "vol run", disk, DELETED, "0 ok\n");
+    let is_answered = disk.mark() && outputs_for(alloc, "vol run", disk, DELETED, "0 ok\n");
     let counts = disk.counts();
-    let first = left_behind(alloc, disk, 1, 22);
-    let last = left_behind(alloc, disk, 114, 135);
+    let first = count_images(alloc, disk, 1, 22);
+    let last = count_images(alloc, disk, 114, 135);
     (before, is_answered, counts, [first, last])
 }
 
-fn watched_from(alloc: Global) -> Option<Watched> {
+fn observe_deletion(alloc: Global) -> Option<Observed> {
     match Tape::new(alloc) {
         Ok(mut disk) => {
             if make(alloc, &mut disk) {
-                Some(watched(alloc, &mut disk))
+                Some(observe(alloc, &mut disk))
             } else {
                 None
             }
@@ -144,12 +144,11 @@ fn watched_from(alloc: Global) -> Option<Watched> {
     }
 }
 
-// An opening syncs once. The commit of 129 blocks writes an index and 129 bodies and syncs, and opens a gate and syncs: 133 calls
-// behind the first one. Until the gate is open the object is whole, and then it is gone: a gate that is not synced yet may be closed
-// still.
+// An opening syncs once. The commit of 129 blocks writes an index and 129 bodies, syncs, opens a gate, and syncs again: 133 calls after
+// the first one. The object is whole until the gate is open, and then it is gone. Until the sync a stop may leave the gate closed.
 #[test]
 fn the_largest_object_is_deleted(rt: HostRuntime) -> Result<(), Fail> {
     let wanted = ([3, 0, 0], true, (131, 3), [[63, 0, 0], [58, 5, 0]]);
-    assert_eq!(rt; watched_from(rt.alloc()), Some(wanted));
+    assert_eq!(rt; observe_deletion(rt.alloc()), Some(wanted));
     Ok(())
 }

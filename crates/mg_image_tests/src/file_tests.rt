@@ -1,6 +1,6 @@
 // A volume in a real file.
 use mg_disk::{FileDisk, OneHolder};
-use mg_testing::{MAKING, is_told_of};
+use mg_testing::{MAKING, outputs_for};
 use std::fs;
 use std::os::unix::fs::FileExt;
 use std::rt::{Clock, Files};
@@ -8,8 +8,8 @@ use std::test::Fail;
 
 const MADE: &str = "0 ok 0x0000000100000000 0x903df1a0ade0b876 0x28bd8653e56a5d40\n";
 
-// Bytes of the file, each with the place of the first: the gate, the superblock's first fields, the root's page in the frame table,
-// and the page itself.
+// Parts of the file, each with its place: the gate, the first fields of the superblock, the root's page in the frame table, and the
+// page itself.
 const PARTS: [(usize, &[u8]); 5] = [
     (0, b"\xa5\0\0\0\0\0\0\0"),
     (4096, b"MUNGIVOL\x02\0\0\0\0\0\0\0\x40\0\0\0\0\0\0\0"),
@@ -27,10 +27,10 @@ where
     R::File: FileExt + OneHolder,
 {
     let mut disk = FileDisk::new(rt, path);
-    is_told_of(rt.alloc(), MAKING, &mut disk, "", MADE)
+    outputs_for(rt.alloc(), MAKING, &mut disk, "", MADE)
 }
 
-// The first of these places behind which other bytes stand.
+// The place of the first of these parts that the bytes do not have.
 fn wrong(bytes: &[u8], parts: &[(usize, &[u8])]) -> Option<usize> {
     for (place, part) in parts {
         match bytes.get(*place..) {
@@ -41,7 +41,7 @@ fn wrong(bytes: &[u8], parts: &[(usize, &[u8])]) -> Option<usize> {
     None
 }
 
-// How long the file is, and the first place where it has other bytes.
+// The length of the file, and the place of the first part that differs.
 fn found<R: Files + Clock + AllocGlobal>(rt: &R, path: &str) -> Option<(usize, Option<usize>)> {
     match fs::read(rt, path) {
         Ok(bytes) => Some((bytes.len(), wrong(&bytes, &PARTS))),

@@ -1,5 +1,5 @@
-//! Tests of whole commands on images that no line makes: counters at their ends, single bytes that differ, rows and pages at any
-//! place, a volume in a real file, and a deletion that stops in the middle.
+//! Tests of whole commands on images that no line makes: counters at their ends, single bytes that differ, rows and pages at any place,
+//! a volume in a real file, and a deletion that stops in the middle.
 #![tactic(auto)]
 
 #[cfg(test)]

@@ -1,4 +1,4 @@
-// A large disk of which few blocks were written, and what a stop leaves of it.
+// A large disk of which few blocks are written, and what a stop leaves of it.
 ghost use Rattle.std.specs.Prelude.{false, None};
 ghost use Rattle.std.proofs.Common.{rules};
 ghost use Rattle.mg_disk.specs.Disk.{At};
@@ -7,10 +7,10 @@ use mg_disk::{BLOCK_SIZE, Block, Disk, Left};
 use mg_faults::Failed;
 use std::alloc::{AllocError, Global};
 
-/// How many blocks it has.
+/// The number of blocks of the disk.
 const BLOCKS: u64 = 70_000;
 
-/// A block that was not written.
+/// The place of a block that was not written.
 const NOWHERE: usize = usize::MAX;
 
 /// A write of a block, or a sync.
@@ -20,38 +20,38 @@ enum Step {
     Synced,
 }
 
-/// A disk of 70,000 blocks in memory that holds those that were written. It tells nothing of what reads give, and no call of it
-/// fails; a write for which memory is wanting is lost.
+/// A disk of 70,000 blocks in memory that holds those that were written. It does not say what reads give, and none of its calls fails.
+/// A write is lost if memory runs out.
 #[derive(Drop)]
 pub struct Tape {
-    /// Where each block stands among those that were written.
+    /// The place of each block in `written`.
     places: Vec<usize>,
-    /// A gate that is neither open nor closed, and then what was written, in this order.
-    held: Vec<Block>,
+    /// A block of 0xA5 bytes, and then the blocks that were written, in their order.
+    written: Vec<Block>,
     /// The places of the blocks at the mark.
     marked: Vec<usize>,
-    /// The writes and the syncs since the mark, or to the first stop behind it.
+    /// The writes and the syncs from the mark to the first stop after it.
     steps: Vec<Step>,
     is_stopped: bool,
 }
 
-/// The place of the gate.
+/// The place of the block of 0xA5 bytes.
 const GATE: usize = 0;
 
 impl Tape {
     /// A disk of zeros.
     pub fn new(alloc: Global) -> Result<Tape, AllocError> {
         match vec![in alloc; [0xA5; BLOCK_SIZE]; 1] {
-            Ok(held) => Tape::holding(alloc, held),
+            Ok(written) => Tape::with_blocks(alloc, written),
             Err(e) => Err(e),
         }
     }
 
-    fn holding(alloc: Global, held: Vec<Block>) -> Result<Tape, AllocError> {
+    fn with_blocks(alloc: Global, written: Vec<Block>) -> Result<Tape, AllocError> {
         match vec![in alloc; NOWHERE; BLOCKS as usize] {
             Ok(places) => Ok(Tape {
                 places,
-                held,
+                written,
                 marked: Vec::new(alloc),
                 steps: Vec::new(alloc),
                 is_stopped: false,
@@ -60,7 +60,7 @@ impl Tape {
         }
     }
 
-    /// The steps that follow are those behind a mark. It tells whether there was memory for it.
+    /// Sets the mark: the steps after it are recorded. False if out of memory.
     pub fn mark(&mut self) -> bool {
         self.steps.clear();
         self.is_stopped = false;
@@ -73,7 +73,7 @@ impl Tape {
         }
     }
 
-    /// How many writes and syncs were made from the mark to the first stop behind it.
+    /// The numbers of writes and of syncs from the mark to the first stop after it.
     pub fn counts(&self) -> (usize, usize) {
         let all = self.steps.len();
         let syncs = self
@@ -84,47 +84,47 @@ impl Tape {
         (all.saturating_sub(syncs), syncs)
     }
 
-    /// Makes the disk what a stop leaves behind so many steps since the mark. What follows is no step.
+    /// Makes the disk what a stop after `steps` steps since the mark leaves. Later calls are no steps.
     pub fn stop(&mut self, steps: usize, left: Left) {
         self.is_stopped = true;
         self.rewind();
-        let synced = self.synced(steps);
+        let last_sync = self.last_sync(steps);
         for i in 0..steps {
             if let Some(Step::Wrote(block, place)) = self.steps.get(i).copied() {
                 match left {
-                    Left::Gates if i >= synced => self.put(block, GATE),
-                    Left::Old if i >= synced => (),
-                    _ => self.put(block, place),
+                    Left::Gates if i >= last_sync => self.set_place(block, GATE),
+                    Left::Old if i >= last_sync => (),
+                    _ => self.set_place(block, place),
                 }
             }
         }
     }
 
-    /// Each block stands where it stood at the mark.
+    /// Restores the places of the mark.
     fn rewind(&mut self) {
         for (place, marked) in self.places.iter_mut().zip(&self.marked) {
             *place = *marked;
         }
     }
 
-    /// How many of so many steps the last sync among them ends.
-    fn synced(&self, steps: usize) -> usize {
-        let mut synced = 0;
+    /// The number of the last sync among the first `steps` steps. 0 if there is none.
+    fn last_sync(&self, steps: usize) -> usize {
+        let mut last_sync = 0;
         for (i, step) in self.steps.iter().enumerate().take(steps) {
             if matches!(step, Step::Synced) {
-                synced = i;
+                last_sync = i;
             }
         }
-        synced
+        last_sync
     }
 
-    fn put(&mut self, block: usize, place: usize) {
+    fn set_place(&mut self, block: usize, place: usize) {
         if let Some(old) = self.places.get_mut(block) {
             *old = place;
         }
     }
 
-    fn step(&mut self, step: Step) {
+    fn record_step(&mut self, step: Step) {
         if !self.is_stopped {
             let _ = self.steps.push(step);
         }
@@ -166,21 +166,21 @@ impl Disk for Tape {
 
     fn read(&mut self, i: u64, out: &mut Block) -> Result<(), Failed> {
         let place = self.places.get(i as usize).copied().unwrap_or(NOWHERE);
-        *out = self.held.get(place).copied().unwrap_or([0; BLOCK_SIZE]);
+        *out = self.written.get(place).copied().unwrap_or([0; BLOCK_SIZE]);
         Ok(())
     }
 
     fn write(&mut self, i: u64, from: &Block) -> Result<(), Failed> {
-        let place = self.held.len();
-        if self.held.push(*from).is_ok() {
-            self.step(Step::Wrote(i as usize, place));
-            self.put(i as usize, place);
+        let place = self.written.len();
+        if self.written.push(*from).is_ok() {
+            self.record_step(Step::Wrote(i as usize, place));
+            self.set_place(i as usize, place);
         }
         Ok(())
     }
 
     fn sync(&mut self) -> Result<(), Failed> {
-        self.step(Step::Synced);
+        self.record_step(Step::Synced);
         Ok(())
     }
 }

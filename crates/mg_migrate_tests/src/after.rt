@@ -1,55 +1,55 @@
-// A volume of this version as the new disk may have it before, and what the disk holds after a stop.
+// The contents of the new disk: a volume of this version before the migration, and what a stop leaves.
 use crate::images::{BLOCKS, MOVED, stopped, zeros};
-use crate::outcomes::{is_told, outcome};
-use Held::{Before, Moved, Nothing, Other};
+use crate::outcomes::{is_outcome, outcome};
+use Content::{Before, Moved, Nothing, Other};
 use mg_disk::{Left, MemDisk};
 use mg_testing::{Outcome, SEED};
 use std::alloc::Global;
 use std::process::Abort;
 
-/// How many calls it takes to make a volume of this version: 1,310 writes and three syncs.
+/// The number of calls that make a volume of this version: 1,310 writes and three syncs.
 const CALLS_TO_FORMAT: u64 = 1313;
 
 /// What a disk holds.
 #[derive(Clone, Copy, Debug, PartialEq, Eq)]
-pub enum Held {
+pub enum Content {
     Nothing,
-    /// The volume that was there.
+    /// The volume that was there before.
     Before,
-    /// The one that was migrated.
+    /// The volume that was migrated.
     Moved,
     Other,
 }
 
-/// What a disk holds of which a check tells this.
-fn held_by(outcome: &Outcome) -> Held {
-    if is_told(outcome, 2, "open not\n") {
+/// The content of a disk whose check has this outcome.
+fn content_by(outcome: &Outcome) -> Content {
+    if is_outcome(outcome, 2, "open not\n") {
         Nothing
-    } else if is_told(outcome, 0, "ok 64 1 1 1 1 0 500\n") {
+    } else if is_outcome(outcome, 0, "ok 64 1 1 1 1 0 500\n") {
         Before
-    } else if is_told(outcome, MOVED.0, MOVED.1) {
+    } else if is_outcome(outcome, MOVED.0, MOVED.1) {
         Moved
     } else {
         Other
     }
 }
 
-fn look(rt: &impl Abort, alloc: Global, disk: &mut MemDisk) -> Held {
-    held_by(&outcome(rt, alloc, "new check", disk, ""))
+fn content_of(rt: &impl Abort, alloc: Global, disk: &mut MemDisk) -> Content {
+    content_by(&outcome(rt, alloc, "new check", disk, ""))
 }
 
-fn after(rt: &impl Abort, alloc: Global, disk: &MemDisk, left: Left) -> Held {
-    look(rt, alloc, &mut stopped(rt, alloc, disk, left))
+fn content_after(rt: &impl Abort, alloc: Global, disk: &MemDisk, left: Left) -> Content {
+    content_of(rt, alloc, &mut stopped(rt, alloc, disk, left))
 }
 
-/// Whether this is held after a stop of each kind.
-pub fn leaves(rt: &impl Abort, alloc: Global, disk: &MemDisk, stops: [Held; 3]) -> bool {
-    after(rt, alloc, disk, Left::Old) == stops[0]
-        && after(rt, alloc, disk, Left::New) == stops[1]
-        && after(rt, alloc, disk, Left::Gates) == stops[2]
+/// Whether stops of each kind leave these contents.
+pub fn leaves(rt: &impl Abort, alloc: Global, disk: &MemDisk, stops: [Content; 3]) -> bool {
+    content_after(rt, alloc, disk, Left::Old) == stops[0]
+        && content_after(rt, alloc, disk, Left::New) == stops[1]
+        && content_after(rt, alloc, disk, Left::Gates) == stops[2]
 }
 
-/// A disk that was made a volume with 500 credits, whose call of this number after that fails.
+/// A disk with a volume of 500 credits. Its call with the number `failing`, counted from then on, fails.
 pub fn formatted(rt: &impl Abort, alloc: Global, failing: u64) -> MemDisk {
     let mut disk = zeros(
         rt,

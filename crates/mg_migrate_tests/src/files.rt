@@ -1,6 +1,6 @@
-// Real files, of which no contract can say what they give.
+// Real files. No contract says what these give.
 use crate::images::{IN_JOURNAL, MOVED, begins_with, copy, old_volume};
-use crate::outcomes::{checks, line_tells};
+use crate::outcomes::{checks, line_ends};
 use mg_disk::{Disk, FileDisk, MemDisk, OneHolder};
 use std::alloc::{Alloc, Global};
 use std::fs;
@@ -32,23 +32,30 @@ where
     begins_with(&mut FileDisk::reader(rt, path), &mut made)
 }
 
-/// Whether the migration of this line from one file to another tells this.
-fn tells<R: Files + Clock + Abort>(
+/// Whether the migration of this line, from one file to another, has this outcome.
+fn migrates_file<R: Files + Clock + Abort>(
     rt: &R,
     alloc: Global,
     line: &str,
     new: &str,
     old: &str,
-    told: (u8, &str),
+    expected: (u8, &str),
 ) -> bool
 where
     R::File: FileExt + OneHolder,
 {
     let mut old = FileDisk::reader(rt, old);
-    line_tells(rt, alloc, line, &mut FileDisk::new(rt, new), &mut old, told)
+    line_ends(
+        rt,
+        alloc,
+        line,
+        &mut FileDisk::new(rt, new),
+        &mut old,
+        expected,
+    )
 }
 
-/// Whether a check of a file tells the volume that was migrated.
+/// Whether a check of a file shows the volume that was migrated.
 fn is_moved<R: Files + Clock + Abort>(rt: &R, alloc: Global, path: &str) -> bool
 where
     R::File: FileExt + OneHolder,
@@ -56,7 +63,7 @@ where
     checks(rt, alloc, &mut FileDisk::new(rt, path), MOVED)
 }
 
-/// Whether a file has so many bytes.
+/// Whether a file has this length.
 fn is_long<R: Files + Alloc>(rt: &R, path: &str, bytes: usize) -> bool {
     match fs::read(rt, path) {
         Ok(read) => read.len() == bytes,
@@ -64,7 +71,7 @@ fn is_long<R: Files + Alloc>(rt: &R, path: &str, bytes: usize) -> bool {
     }
 }
 
-/// Whether a file was there, and is no more.
+/// Removes a file. False if there is none.
 fn removed(rt: &impl Files, path: &str) -> bool {
     fs::remove_file(rt, path).is_ok()
 }
@@ -74,7 +81,7 @@ fn is_missing(rt: &impl Files, path: &str) -> bool {
     fs::open(rt, path).is_err()
 }
 
-/// How long the file of an old volume is, and of a new one.
+/// The lengths of the files of an old volume and of a new one.
 const OLD: usize = 2148 * 4096;
 
 const NEW: usize = 2660 * 4096;
@@ -85,7 +92,7 @@ fn a_file_is_migrated(rt: HostRuntime) {
     let _ = removed(&rt, "old");
     let _ = removed(&rt, "new");
     assert!(rt; fills(&rt, alloc, "old") && is_long(&rt, "old", OLD));
-    assert!(rt; tells(&rt, alloc, "new migrate old", "new", "old", MOVED));
+    assert!(rt; migrates_file(&rt, alloc, "new migrate old", "new", "old", MOVED));
     assert!(rt; is_filled(&rt, alloc, "old") && is_long(&rt, "old", OLD));
     assert!(rt; is_moved(&rt, alloc, "new") && is_long(&rt, "new", NEW));
     assert!(rt; removed(&rt, "old") && removed(&rt, "new"));
@@ -97,7 +104,7 @@ fn a_file_that_is_not_there_is_not_made(rt: HostRuntime) {
     let _ = removed(&rt, "unmade");
     let line = "unmade migrate missing";
     assert!(rt;
-        tells(
+        migrates_file(
             &rt,
             rt.alloc(),
             line,
@@ -115,7 +122,7 @@ fn a_file_of_two_names_is_left_alone(rt: HostRuntime) {
     let alloc = rt.alloc();
     let _ = removed(&rt, "both");
     assert!(rt; fills(&rt, alloc, "both") && is_long(&rt, "both", OLD));
-    assert!(rt; tells(&rt, alloc, "./both migrate both", "./both", "both", (4, "")));
+    assert!(rt; migrates_file(&rt, alloc, "./both migrate both", "./both", "both", (4, "")));
     assert!(rt; is_filled(&rt, alloc, "both") && is_long(&rt, "both", OLD));
     assert!(rt; removed(&rt, "both"));
 }

@@ -1,18 +1,18 @@
 // Disks in memory with volumes of 64 frames, made with the seed of zeros.
-use crate::outcomes::Told;
+use crate::outcomes::Expected;
 use mg_disk::{BLOCK_SIZE, Block, Counts, Disk, Left, MemDisk};
 use mg_migrate::fresh_block1;
 use mg_model::{Params, Tariff};
 use std::alloc::Global;
 use std::process::Abort;
 
-/// How many blocks a volume of version 1 has.
+/// The number of blocks of a volume of version 1.
 pub const BLOCKS1: u64 = 2148;
 
-/// How many a volume of this version has.
+/// The number of blocks of a volume of this version.
 pub const BLOCKS: u64 = 2660;
 
-/// How many calls a disk counts: those of making a volume, of copying it and of a session on it.
+/// The number of calls for which a disk has room: making a volume, copying it, and a session on it.
 pub const ROOM: u64 = 12_000;
 
 /// The byte of an open gate, as a word.
@@ -21,38 +21,38 @@ pub const OPEN: u64 = 0xa5;
 /// A block, and the places of its words that are not 0.
 pub type Words = (u64, &'static [(usize, u64)]);
 
-/// A fresh volume whose counters stand in segment 0 of the journal alone: three passwords drawn, period 2 and one birth.
+/// A fresh volume whose counters are in segment 0 of the journal alone: three passwords drawn, period 2 and one birth.
 pub const IN_JOURNAL: &[Words] = &[
     (2, &[(0, OPEN)]),
     (3, &[(0, 1), (1, 1298)]),
     (4, &[(0, 3), (1, 2), (3, 1)]),
 ];
 
-/// What is told of it where it is migrated, and then checked.
-pub const MOVED: Told = (0, "ok 64 1 1 1 1 2 1000\n");
+/// The outcome of its migration, and of a check after it.
+pub const MOVED: Expected = (0, "ok 64 1 1 1 1 2 1000\n");
 
-/// How many calls it takes to make that volume: a write for each block and for each change, and a sync.
+/// The number of calls that make that volume: a write for each block and for each change, and a sync.
 pub const CALLS_TO_MAKE: u64 = BLOCKS1 + 4;
 
-/// A disk that was made a fresh volume of version 1 with 1000 credits, with these blocks changed, and synced. Its calls of these
-/// numbers fail, from 0 on as it is made.
+/// A disk with a fresh volume of version 1 of 1000 credits, with these blocks changed, and synced. Its calls with the numbers `fails`
+/// fail, counted from 0 as the volume is made.
 pub fn old_volume(rt: &impl Abort, alloc: Global, changes: &[Words], fails: &[u64]) -> MemDisk {
     let mut disk = zeros(rt, alloc, BLOCKS1, fails);
     make_fresh(&mut disk);
-    put_words(&mut disk, changes);
+    write_words(&mut disk, changes);
     let _ = disk.sync();
     disk
 }
 
-/// A new disk as a stop now may leave this one.
+/// A new disk that holds what a stop now leaves of this one.
 pub fn stopped(rt: &impl Abort, alloc: Global, disk: &MemDisk, left: Left) -> MemDisk {
     disk.stopped(alloc, left).expect(rt, "memory")
 }
 
 /// Writes these blocks.
-pub fn put_words(disk: &mut MemDisk, changes: &[Words]) {
+pub fn write_words(disk: &mut MemDisk, changes: &[Words]) {
     for (i, words) in changes {
-        put_block(disk, *i, &block_of(words));
+        write_block(disk, *i, &block_of(words));
     }
 }
 
@@ -63,7 +63,7 @@ fn make_fresh(disk: &mut MemDisk) {
     let mut block = [0; BLOCK_SIZE];
     for i in 0..BLOCKS1 {
         fresh_block1(&params, i, &mut block);
-        put_block(disk, i, &block);
+        write_block(disk, i, &block);
     }
 }
 
@@ -79,14 +79,14 @@ fn block_of(words: &[(usize, u64)]) -> Block {
     block
 }
 
-/// Writes a block, where the disk has it.
-pub fn put_block<D: Disk>(disk: &mut D, i: u64, block: &Block) {
+/// Writes a block if the disk has it.
+pub fn write_block<D: Disk>(disk: &mut D, i: u64, block: &Block) {
     if i < disk.blocks() {
         let _ = disk.write(i, block);
     }
 }
 
-/// A disk of zeros whose calls of these numbers fail.
+/// A disk of zeros. Its calls with the numbers `fails` fail.
 pub fn zeros(rt: &impl Abort, alloc: Global, blocks: u64, fails: &[u64]) -> MemDisk {
     let fails = fails.to_vec(alloc).expect(rt, "memory");
     MemDisk::new(alloc, blocks, ROOM, fails).expect(rt, "memory")
@@ -97,7 +97,7 @@ pub fn is_only_read(before: Counts, after: Counts) -> bool {
     after.writes == before.writes && after.syncs == before.syncs
 }
 
-/// Whether the first disk begins with the blocks of the second, up to those of a volume of version 1.
+/// Whether the first disk begins with the blocks of the second. As many are compared as a volume of version 1 has.
 pub fn begins_with<D: Disk>(disk: &mut D, with: &mut MemDisk) -> bool {
     for i in 0..BLOCKS1 {
         if block_at(disk, i) != block_at(with, i) {
@@ -107,14 +107,14 @@ pub fn begins_with<D: Disk>(disk: &mut D, with: &mut MemDisk) -> bool {
     true
 }
 
-/// Makes the first blocks of a disk those of another one, up to those of a volume of version 1. Zeros come where it has none.
+/// Copies as many blocks to a disk as a volume of version 1 has. A block that can't be read is copied as zeros.
 pub fn copy<D: Disk>(from: &mut MemDisk, to: &mut D) {
     for i in 0..BLOCKS1 {
-        put_block(to, i, &block_at(from, i).unwrap_or([0; BLOCK_SIZE]));
+        write_block(to, i, &block_at(from, i).unwrap_or([0; BLOCK_SIZE]));
     }
 }
 
-/// A block, where the disk has it and gives it.
+/// A block, if the disk has it and can read it.
 fn block_at<D: Disk>(disk: &mut D, i: u64) -> Option<Block> {
     let mut block = [0; BLOCK_SIZE];
     if i < disk.blocks() && disk.read(i, &mut block).is_ok() {

@@ -1,7 +1,7 @@
-//! Tests of the migration of a volume of version 1, on disks in memory and in files: what the new volume holds, what a stop or a
-//! call that fails leaves, and which old disks are refused.
+//! Tests of the migration of a volume of version 1, on disks in memory and in files: what the new volume holds, what a stop or a call
+//! that fails leaves, and which old disks are refused.
 //!
-//! They stand above `mg_migrate_session`, over its public call, so that it is proved once.
+//! They are in a crate of their own above `mg_migrate_session`, so that it is proved only once.
 #![tactic(auto)]
 
 #[cfg(test)]

@@ -1,7 +1,7 @@
-// Reads of the old disk that fail, each once.
+// Reads of the old disk that fail, one in each migration.
 ghost use Rattle.std.specs.Prelude.{◌<◌};
 
-use crate::after::Held::{self, Before, Nothing};
+use crate::after::Content::{self, Before, Nothing};
 use crate::after::{formatted, leaves};
 use crate::images::{BLOCKS, CALLS_TO_MAKE, IN_JOURNAL, MOVED, old_volume, stopped};
 use crate::outcomes::migrates;
@@ -10,47 +10,53 @@ use std::alloc::Global;
 use std::ops::Range;
 use std::process::Abort;
 
-/// How many reads come before the copy: the gate, the superblock, the gates of the segments, an index, and one for each block of
-/// this version from the counters to the end of the frame table.
+/// The number of reads before the copy: the gate, the superblock, the gates of the segments, an index, and one for each block of this
+/// version from the counters to the end of the frame table.
 const BEFORE: u64 = 11 + 1298;
 
-/// How many come with it: one for each block from the counters on.
+/// The number of reads of the copy: one for each block from the counters on.
 const COPIED: u64 = BLOCKS - 1298;
 
-/// A volume of version 1 on a disk of which that read fails.
+/// A disk with a volume of version 1. Its read with this number, from then on, fails.
 fn faulty(rt: &impl Abort, alloc: Global, read: u64) -> MemDisk {
     old_volume(rt, alloc, IN_JOURNAL, &[CALLS_TO_MAKE.saturating_add(read)])
 }
 
-/// Whether the migration tells a fault of a disk, and the new one saw so many writes and syncs and holds this.
+/// Whether the migration ends with a fault of a disk, makes these numbers of writes and syncs on the new disk, and leaves this content.
 fn fails(
     rt: &impl Abort,
     alloc: Global,
     new: &mut MemDisk,
     old: &mut MemDisk,
     (writes, syncs): (u64, u64),
-    held: Held,
+    content: Content,
 ) -> bool {
-    let is_told = migrates(rt, alloc, new, old, (4, ""));
+    let is_expected = migrates(rt, alloc, new, old, (4, ""));
     let counts = new.counts();
-    is_told && counts.writes == writes && counts.syncs == syncs && leaves(rt, alloc, new, [held; 3])
+    is_expected
+        && counts.writes == writes
+        && counts.syncs == syncs
+        && leaves(rt, alloc, new, [content; 3])
 }
 
-/// The migration onto a copy of this disk, where that read fails.
+/// The migration onto a copy of the disk `new`, with the failing read.
 fn fails_at(
     rt: &impl Abort,
     alloc: Global,
     new: &MemDisk,
     read: u64,
     calls: (u64, u64),
-    held: Held,
+    content: Content,
 ) {
     let mut old = faulty(rt, alloc, read);
     let mut new = stopped(rt, alloc, new, Left::Old);
-    assert!(rt; fails(rt, alloc, &mut new, &mut old, calls, held), "{read}");
+    assert!(rt;
+        fails(rt, alloc, &mut new, &mut old, calls, content),
+        "{read}"
+    );
 }
 
-/// No call of the new disk is made.
+/// Whether no call of the new disk is made.
 fn fails_before(rt: &impl Abort, alloc: Global, new: &MemDisk, reads: Range<u64>) {
     for read in reads {
         fails_at(rt, alloc, new, read, (0, 0), Before);
@@ -66,10 +72,9 @@ fn a_read_before_the_copy_fails(rt: HostRuntime) {
     fails_before(&rt, alloc, &new, BEFORE - 1..BEFORE);
 }
 
-/// So many blocks are read, and the next one is not.
+/// The read after `done` blocks of the copy fails.
 ///
-/// The gate was closed, with a sync. The blocks in front of the counters come of no read, and 32 are read before the first
-/// of them is written.
+/// The gate was closed and synced. The blocks before the counters need no read. 32 blocks are read before the first of them is written.
 fn fails_within(rt: &impl Abort, alloc: Global, new: &MemDisk, done: u64)
     requires { done < 2000 }
 {
@@ -77,8 +82,8 @@ fn fails_within(rt: &impl Abort, alloc: Global, new: &MemDisk, done: u64)
     fails_at(rt, alloc, new, BEFORE + done, (writes, 1), Nothing);
 }
 
-/// A read that would come after the copy.
-fn goes_on(rt: &impl Abort, alloc: Global, new: &MemDisk) -> bool {
+/// Whether the migration succeeds if only a read after the copy would fail.
+fn is_unharmed(rt: &impl Abort, alloc: Global, new: &MemDisk) -> bool {
     let mut old = faulty(rt, alloc, BEFORE + COPIED);
     migrates(
         rt,
@@ -101,5 +106,5 @@ fn a_read_of_the_copy_fails(rt: HostRuntime) {
     fails_within(&rt, alloc, &new, 274);
     fails_within(&rt, alloc, &new, 1000);
     fails_within(&rt, alloc, &new, COPIED - 1);
-    assert!(rt; goes_on(&rt, alloc, &new));
+    assert!(rt; is_unharmed(&rt, alloc, &new));
 }

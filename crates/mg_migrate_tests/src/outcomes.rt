@@ -1,4 +1,4 @@
-// What commands tell.
+// The outcomes of commands.
 use mg_disk::Disk;
 use mg_io::MemSink;
 use mg_migrate_session::top_migrate;
@@ -6,8 +6,8 @@ use mg_testing::{Outcome, Streams, command, words_of};
 use std::alloc::Global;
 use std::process::Abort;
 
-/// The status of a command, and what it put.
-pub type Told = (u8, &'static str);
+/// The status of a command, and what it prints.
+pub type Expected = (u8, &'static str);
 
 fn words(rt: &impl Abort, alloc: Global, line: &str) -> Vec<String> {
     words_of(alloc, line).expect(rt, "memory")
@@ -17,49 +17,49 @@ fn sink(rt: &impl Abort, alloc: Global) -> MemSink {
     MemSink::new(alloc, 256, Vec::new(alloc)).expect(rt, "memory")
 }
 
-fn puts<D: Disk, E: Disk>(
+fn ends_with<D: Disk, E: Disk>(
     alloc: Global,
     words: &[String],
     new: &mut D,
     old: &mut E,
     sink: &mut MemSink,
-    told: (u8, &str),
+    expected: (u8, &str),
 ) -> bool {
     let status = top_migrate(alloc, words, new, old, sink);
-    status.code() == told.0 && sink.bytes() == told.1.as_bytes()
+    status.code() == expected.0 && sink.bytes() == expected.1.as_bytes()
 }
 
-/// Whether the migration that this line spells tells this.
-pub fn line_tells<D: Disk, E: Disk>(
+/// Whether the migration that this line spells has this outcome.
+pub fn line_ends<D: Disk, E: Disk>(
     rt: &impl Abort,
     alloc: Global,
     line: &str,
     new: &mut D,
     old: &mut E,
-    told: (u8, &str),
+    expected: (u8, &str),
 ) -> bool {
-    puts(
+    ends_with(
         alloc,
         &words(rt, alloc, line),
         new,
         old,
         &mut sink(rt, alloc),
-        told,
+        expected,
     )
 }
 
-/// Whether a migration tells this.
+/// Whether a migration has this outcome.
 pub fn migrates<D: Disk, E: Disk>(
     rt: &impl Abort,
     alloc: Global,
     new: &mut D,
     old: &mut E,
-    told: (u8, &str),
+    expected: (u8, &str),
 ) -> bool {
-    line_tells(rt, alloc, "new migrate old", new, old, told)
+    line_ends(rt, alloc, "new migrate old", new, old, expected)
 }
 
-/// How another command ends.
+/// The outcome of another command.
 pub fn outcome<D: Disk>(
     rt: &impl Abort,
     alloc: Global,
@@ -70,12 +70,16 @@ pub fn outcome<D: Disk>(
     command(alloc, line, disk, &Streams::of(input.as_bytes())).expect(rt, "memory")
 }
 
-/// Whether an outcome is this one.
-pub fn is_told(outcome: &Outcome, code: u8, put: &str) -> bool {
-    outcome.status.code() == code && outcome.put.as_slice() == put.as_bytes()
+/// Whether an outcome has this status and this text.
+pub fn is_outcome(outcome: &Outcome, code: u8, text: &str) -> bool {
+    outcome.status.code() == code && outcome.printed.as_slice() == text.as_bytes()
 }
 
-/// Whether a check of a disk tells this.
-pub fn checks<D: Disk>(rt: &impl Abort, alloc: Global, disk: &mut D, told: (u8, &str)) -> bool {
-    is_told(&outcome(rt, alloc, "new check", disk, ""), told.0, told.1)
+/// Whether a check of a disk has this outcome.
+pub fn checks<D: Disk>(rt: &impl Abort, alloc: Global, disk: &mut D, expected: (u8, &str)) -> bool {
+    is_outcome(
+        &outcome(rt, alloc, "new check", disk, ""),
+        expected.0,
+        expected.1,
+    )
 }

@@ -1,29 +1,29 @@
-// Old disks that hold no volume of version 1, new disks that are too small, and words that spell no migration.
+// Old disks with no volume of version 1, new disks that are too small, and words that spell no migration.
 use crate::images::{
-    BLOCKS, BLOCKS1, Words, copy, is_only_read, old_volume, put_words, stopped, zeros,
+    BLOCKS, BLOCKS1, Words, copy, is_only_read, old_volume, stopped, write_words, zeros,
 };
-use crate::outcomes::{Told, is_told, line_tells, migrates, outcome};
+use crate::outcomes::{Expected, is_outcome, line_ends, migrates, outcome};
 use mg_disk::{Counts, Fuse, Left, MemDisk};
 use mg_model::limits::ROOT_BASE as ROOT;
 use mg_testing::{SEED, volume};
 use std::alloc::Global;
 use std::process::Abort;
 
-const NOT: Told = (2, "open not\n");
+const NOT: Expected = (2, "open not\n");
 
-const OLD: Told = (2, "open old\n");
+const OLD: Expected = (2, "open old\n");
 
-const NEW: Told = (2, "open new\n");
+const NEW: Expected = (2, "open new\n");
 
-const DAMAGED: Told = (2, "open damaged\n");
+const DAMAGED: Expected = (2, "open damaged\n");
 
-// The word that a superblock begins with, the bytes MUNGIVOL.
+// The first word of a superblock, the bytes MUNGIVOL.
 const MAGIC: u64 = 0x4c4f_5649_474e_554d;
 
 const ROOT_PAGE: u64 = 0x10_0000;
 
-// What is told of a fresh volume of version 1 with these blocks in place of its own.
-const CHANGES: &[(&str, Told, &[Words])] = &[
+// Changed blocks of a fresh volume of version 1, and the outcome of its migration.
+const CHANGES: &[(&str, Expected, &[Words])] = &[
     ("the gate is closed", NOT, &[(0, &[])]),
     ("another first word", NOT, &[(1, &[(0, 7), (1, 1)])]),
     ("version 0", OLD, &[(1, &[(0, MAGIC)])]),
@@ -84,9 +84,9 @@ const CHANGES: &[(&str, Told, &[Words])] = &[
             ],
         )],
     ),
-    // In this version an until stands here.
+    // In this version this word has an until.
     (
-        "a word behind the entries",
+        "a word after the entries",
         DAMAGED,
         &[(
             1571,
@@ -119,44 +119,55 @@ const CHANGES: &[(&str, Told, &[Words])] = &[
     ),
 ];
 
-// Whether this is told of a migration to a new disk with so many blocks, where no call is made on it, and none but reads of the old
-// one.
-fn refuses(rt: &impl Abort, alloc: Global, old: &mut MemDisk, blocks: u64, told: Told) -> bool {
+// Whether a migration to a new disk of `blocks` blocks has this outcome, makes no call of it, and only reads the old disk.
+fn refuses(
+    rt: &impl Abort,
+    alloc: Global,
+    old: &mut MemDisk,
+    blocks: u64,
+    expected: Expected,
+) -> bool {
     let mut new = zeros(rt, alloc, blocks, &[]);
     let before = old.counts();
-    let is_told = migrates(rt, alloc, &mut new, old, told);
-    is_told && is_only_read(before, old.counts()) && new.counts() == Counts::default()
+    let is_expected = migrates(rt, alloc, &mut new, old, expected);
+    is_expected && is_only_read(before, old.counts()) && new.counts() == Counts::default()
 }
 
-// A copy of this disk with these changes is refused.
+// Whether a copy of this disk with these changes is refused.
 fn refuses_change(
     rt: &impl Abort,
     alloc: Global,
     fresh: &MemDisk,
     changes: &[Words],
-    told: Told,
+    expected: Expected,
 ) -> bool {
     let mut old = stopped(rt, alloc, fresh, Left::Old);
-    put_words(&mut old, changes);
-    refuses(rt, alloc, &mut old, BLOCKS, told)
+    write_words(&mut old, changes);
+    refuses(rt, alloc, &mut old, BLOCKS, expected)
 }
 
 #[test]
 fn old_disks_with_one_change(rt: HostRuntime) {
     let fresh = old_volume(&rt, rt.alloc(), &[], &[]);
-    for (change, told, changes) in CHANGES {
+    for (change, expected, changes) in CHANGES {
         assert!(rt;
-            refuses_change(&rt, rt.alloc(), &fresh, changes, *told),
+            refuses_change(&rt, rt.alloc(), &fresh, changes, *expected),
             "{change}"
         );
     }
 }
 
-// A disk with so many blocks, which begin as those of this one do, is refused.
-fn refuses_size(rt: &impl Abort, alloc: Global, from: &mut MemDisk, blocks: u64, told: Told) {
+// Refuses a disk of `blocks` blocks that begins with the blocks of this one.
+fn refuses_size(
+    rt: &impl Abort,
+    alloc: Global,
+    from: &mut MemDisk,
+    blocks: u64,
+    expected: Expected,
+) {
     let mut old = zeros(rt, alloc, blocks, &[]);
     copy(from, &mut old);
-    assert!(rt; refuses(rt, alloc, &mut old, BLOCKS, told));
+    assert!(rt; refuses(rt, alloc, &mut old, BLOCKS, expected));
 }
 
 fn refuses_zeros(rt: &impl Abort, alloc: Global) -> bool {
@@ -184,11 +195,11 @@ fn old_disks_without_such_a_volume(rt: HostRuntime) {
     assert!(rt; refuses_zeros(&rt, alloc) && refuses_new(&rt, alloc));
 }
 
-// Whether there is a volume is told first.
+// A damaged old volume is reported before a small new disk.
 fn are_too_small(rt: &impl Abort, alloc: Global, old: &mut MemDisk) -> bool {
     let by_one = refuses(rt, alloc, old, BLOCKS - 1, (8, "small 2660 2659\n"));
     let by_all = refuses(rt, alloc, old, 0, (8, "small 2660 0\n"));
-    put_words(old, &[(1298, &[])]);
+    write_words(old, &[(1298, &[])]);
     by_one && by_all && refuses(rt, alloc, old, 0, DAMAGED)
 }
 
@@ -198,14 +209,14 @@ fn new_disks_that_are_too_small(rt: HostRuntime) {
     assert!(rt; are_too_small(&rt, rt.alloc(), &mut old));
 }
 
-fn tells_old(rt: &impl Abort, alloc: Global, line: &str, disk: &mut MemDisk) -> bool {
+fn reports_old(rt: &impl Abort, alloc: Global, line: &str, disk: &mut MemDisk) -> bool {
     let outcome = outcome(rt, alloc, line, disk, "1 store 0x100000020 5\n");
-    is_told(&outcome, OLD.0, OLD.1)
+    is_outcome(&outcome, OLD.0, OLD.1)
 }
 
 fn is_not_run(rt: &impl Abort, alloc: Global, disk: &mut MemDisk) -> bool {
-    tells_old(rt, alloc, "old run", disk)
-        && tells_old(rt, alloc, "old check", disk)
+    reports_old(rt, alloc, "old run", disk)
+        && reports_old(rt, alloc, "old check", disk)
         && is_only_read(Counts::default(), disk.counts())
 }
 
@@ -224,7 +235,7 @@ fn dead(rt: &impl Abort, alloc: Global, blocks: u64) -> Fuse<MemDisk> {
 fn is_usage(rt: &impl Abort, alloc: Global, line: &str) {
     let (mut new, mut old) = (dead(rt, alloc, BLOCKS), dead(rt, alloc, BLOCKS1));
     assert!(rt;
-        line_tells(rt, alloc, line, &mut new, &mut old, (1, "usage\n")),
+        line_ends(rt, alloc, line, &mut new, &mut old, (1, "usage\n")),
         "{line}"
     );
 }

@@ -1,15 +1,15 @@
-// A volume of version 1 as another program may have left it: rows and pages at any places, and open segments in the journal.
+// A volume of version 1 that another program may have left: rows and pages at any places, and open segments in the journal.
 ghost use Rattle.std.specs.Prelude.{◌≡◌, ◌%◌, length};
 
 use crate::images::{BLOCKS, OPEN, Words, old_volume, stopped, zeros};
-use crate::outcomes::{is_told, migrates, outcome};
+use crate::outcomes::{is_outcome, migrates, outcome};
 use mg_check::{VolumeRows, read_volume};
 use mg_disk::{Left, MemDisk};
 use mg_model::{AccRow, Fault, Frame, Globals, ObjRow, Pw, Rights, Slot, ThrRow, ThrState};
 use std::alloc::Global;
 use std::process::Abort;
 
-// Three objects, of 1, 3 and 60 pages. The last page of the third is the last that an object may have.
+// Three objects, of 1, 3 and 60 pages. The last page of the third is the last that an object can have.
 const LOW: u64 = 0x1_0000_0000;
 
 const MIDDLE: u64 = 0x2_0000_0000;
@@ -26,7 +26,7 @@ const HIGH_PAGE: u64 = 0xff_ffff_ffc4;
 // The last period.
 const LAST: u64 = 0xff_ffff;
 
-// All that an account may owe then.
+// The largest debt of an account in that period.
 const DEBT: u64 = 0xfff_fff0_0000_0000;
 
 const IMAGE: &[Words] = &[
@@ -69,7 +69,7 @@ const IMAGE: &[Words] = &[
             (37, 0x31),
         ],
     ),
-    // Rows 2 and 5 of the objects. The first has 16 passwords, from 0x21 with all rights down.
+    // Rows 2 and 5 of the objects. The first has 16 passwords, from 0x21, with rights from 63 down.
     (
         1571,
         &[
@@ -112,11 +112,11 @@ const IMAGE: &[Words] = &[
             (346, 0x3f01),
         ],
     ),
-    // The block of row 4095 as it stands, which spells nothing.
+    // The home of row 4095, which spells nothing.
     (2082, &[(0, 7)]),
-    // An old frame table, where frame 5 holds another page.
+    // An old frame table, in which frame 5 has another page.
     (2083, &[(0, HIGH_PAGE), (5, MIDDLE_PAGE), (63, LOW_PAGE)]),
-    // Frame 0; frame 1, which is free; frame 5 as it was; and frames 40 and 63.
+    // Frame 0, the free frame 1, an old frame 5, and the frames 40 and 63.
     (2084, &[(0, 1), (1, 9), (2, MIDDLE), (3, 0x22), (511, 0x77)]),
     (2085, &[(0, 0xdead), (4, 0xdead), (511, 0xdead)]),
     (2089, &[(3, 0x50), (4, 0x51)]),
@@ -167,7 +167,7 @@ const IMAGE: &[Words] = &[
     (977, &[(3, 0x61), (5, 0x62)]),
     (978, &[(3, 0x66)]),
     (979, &[(0, 9), (1, LAST), (2, 256), (3, 12)]),
-    // A body behind the last of segment 6.
+    // A body after the last of segment 6.
     (980, &[(3, 0x67)]),
     // The end of a gate, which is ignored.
     (0, &[(0, OPEN), (511, 7)]),
@@ -178,8 +178,8 @@ const IMAGE: &[Words] = &[
 // Migrates this volume.
 fn move_to(rt: &impl Abort, alloc: Global, new: &mut MemDisk) {
     let mut old = old_volume(rt, alloc, IMAGE, &[]);
-    let told = (0, "ok 64 3 64 2 2 16777215 1000\n");
-    assert!(rt; migrates(rt, alloc, new, &mut old, told));
+    let expected = (0, "ok 64 3 64 2 2 16777215 1000\n");
+    assert!(rt; migrates(rt, alloc, new, &mut old, expected));
 }
 
 // The disk that it was migrated to, as a stop leaves it.
@@ -190,7 +190,7 @@ fn moved(rt: &impl Abort, alloc: Global) -> MemDisk {
 }
 
 // Adds a password that never ends.
-fn add(row: &mut ObjRow, password: u64, bits: u8) {
+fn add_password(row: &mut ObjRow, password: u64, bits: u8) {
     if let Some(rights) = Rights::new(bits)
         && row.passwords().len() < 32
     {
@@ -200,8 +200,8 @@ fn add(row: &mut ObjRow, password: u64, bits: u8) {
 
 fn low() -> ObjRow {
     let mut row = ObjRow::new(LOW, 1, 2);
-    add(&mut row, 0x11, 1);
-    add(&mut row, 0x12, 63);
+    add_password(&mut row, 0x11, 1);
+    add_password(&mut row, 0x12, 63);
     row
 }
 
@@ -214,18 +214,18 @@ fn middle() -> ObjRow {
         password: 0x11,
     }));
     for k in 0..16 {
-        add(&mut row, 0x21 + k as u64, 63 - k);
+        add_password(&mut row, 0x21 + k as u64, 63 - k);
     }
     row
 }
 
 fn high() -> ObjRow {
     let mut row = ObjRow::new(HIGH, 60, 1);
-    add(&mut row, 0x31, 3);
+    add_password(&mut row, 0x31, 3);
     row
 }
 
-// A frame that returns to 0, with one slot.
+// A frame that returns to `back`, with one slot.
 fn frame(back: u64, base: u64, password: u64) -> Frame
     requires { back % 8 ≡ 0 }
     ensures back { result.back ≡ back }
@@ -252,7 +252,7 @@ fn account(password: u64, balance: u64, owed: u64) -> AccRow {
     }
 }
 
-fn table_stands(table: &[u64]) -> bool {
+fn table_is_right(table: &[u64]) -> bool {
     let mut wanted = [0; 64];
     wanted[0] = HIGH_PAGE;
     wanted[5] = MIDDLE_PAGE + 1;
@@ -261,7 +261,7 @@ fn table_stands(table: &[u64]) -> bool {
     table == wanted.as_slice()
 }
 
-fn objects_stand(objects: &[Option<ObjRow>]) -> bool {
+fn objects_are_right(objects: &[Option<ObjRow>]) -> bool {
     objects.len() == 4096
         && objects[2] == Some(middle())
         && objects[5] == Some(low())
@@ -279,37 +279,37 @@ fn count(objects: &[Option<ObjRow>]) -> u64 {
     count
 }
 
-fn accounts_stand(accounts: &[AccRow]) -> bool {
+fn accounts_are_right(accounts: &[AccRow]) -> bool {
     accounts == [account(0xa1, 600, 0), account(0xa2, 400, DEBT)].as_slice()
 }
 
-fn threads_stand(threads: &[(u64, ThrRow)]) -> bool {
+fn threads_are_right(threads: &[(u64, ThrRow)]) -> bool {
     let first = ThrRow::new(1, 0, 0, frame(0, LOW, 0x11));
     threads == [(0, first), (255, last_thread())].as_slice()
 }
 
-fn rows_stand(rows: &VolumeRows) -> bool {
-    objects_stand(&rows.objects)
-        && accounts_stand(&rows.accounts)
-        && threads_stand(&rows.threads)
+fn rows_are_right(rows: &VolumeRows) -> bool {
+    objects_are_right(&rows.objects)
+        && accounts_are_right(&rows.accounts)
+        && threads_are_right(&rows.threads)
         && rows.globals == Globals::new(9, LAST, 256, 12)
-        && table_stands(&rows.table)
+        && table_is_right(&rows.table)
 }
 
 fn reads(alloc: Global, disk: &mut MemDisk) -> bool {
     match read_volume(alloc, disk) {
-        Ok((_, rows)) => rows_stand(&rows),
+        Ok((_, rows)) => rows_are_right(&rows),
         Err(_) => false,
     }
 }
 
-// Each row stands at the place that it had. Of the objects that is so in the eyes of a reader, and in blocks twice as many.
+// Each row has the place that it had. The rows of objects take twice as many blocks, and a reader finds them at their old places.
 #[test]
 fn rows_keep_their_places(rt: HostRuntime) {
     assert!(rt; reads(rt.alloc(), &mut moved(&rt, rt.alloc())));
 }
 
-// Lines and their replies, in the last period: a password that is allowed then never ends.
+// Lines and their replies in the last period. A password that is valid then never ends.
 const LINES: &[(&str, &str)] = &[
     ("1 info 0x200000000", "ok 0x0000000200000000 3 2 16 2 1"),
     ("256 info 0x200002fff", "ok 0x0000000200000000 3 2 16 2 1"),
@@ -328,7 +328,7 @@ const LINES: &[(&str, &str)] = &[
     ("256 load 0x200001018", "no Denied"),
     ("256 store 0x200001018 0x68", "ok"),
     ("1 load 0x200001018", "ok 0x0000000000000068"),
-    // A page that no frame holds, and then the one of frame 1.
+    // A page that no frame holds, and then the page in frame 1.
     ("1 load 0x200000000", "ok 0x0000000000000000"),
     ("1 store 0x200000ff8 5", "ok"),
     ("1 load 0x200000ff8", "ok 0x0000000000000005"),
@@ -349,23 +349,23 @@ const LINES: &[(&str, &str)] = &[
     ("rent", "no Calendar"),
 ];
 
-// Puts the lines into one text, and the replies into another.
-fn put_lines(rt: &impl Abort, input: &mut String, replies: &mut String) {
+// Appends the lines to one text, and the replies to another.
+fn append_lines(rt: &impl Abort, input: &mut String, replies: &mut String) {
     for (line, reply) in LINES {
-        put_line(rt, input, line);
-        put_line(rt, replies, reply);
+        append_line(rt, input, line);
+        append_line(rt, replies, reply);
     }
 }
 
-fn put_line(rt: &impl Abort, text: &mut String, line: &str) {
+fn append_line(rt: &impl Abort, text: &mut String, line: &str) {
     text.push_str(line).expect(rt, "memory");
     text.push_str("\n").expect(rt, "memory");
 }
 
 fn lines_run(rt: &impl Abort, alloc: Global, disk: &mut MemDisk) -> bool {
     let (mut input, mut replies) = (String::new(alloc), String::new(alloc));
-    put_lines(rt, &mut input, &mut replies);
-    is_told(
+    append_lines(rt, &mut input, &mut replies);
+    is_outcome(
         &outcome(rt, alloc, "new run", disk, input.as_str()),
         0,
         replies.as_str(),

@@ -1,24 +1,24 @@
-// Stops of the new disk and calls of it that fail, and what it then holds.
-use crate::after::Held::{self, Before, Moved, Nothing};
+// Stops of the new disk, and calls of it that fail, with what it then holds.
+use crate::after::Content::{self, Before, Moved, Nothing};
 use crate::after::{formatted, leaves};
 use crate::images::{BLOCKS, IN_JOURNAL, MOVED, old_volume, stopped, zeros};
-use crate::outcomes::{Told, migrates};
+use crate::outcomes::{Expected, migrates};
 use mg_disk::{Fuse, Left, MemDisk};
 use std::alloc::Global;
 use std::process::Abort;
 
-/// How many calls a migration makes of the new disk: a write of each block, one more of the gate, and three syncs.
+/// The number of calls that a migration makes on the new disk: a write of each block, one more of the gate, and three syncs.
 const CALLS: u64 = BLOCKS + 4;
 
-/// What is to be told where this call is the first that is not made.
-fn told_at(call: u64) -> Told {
+/// The outcome if this call is the first that is not made.
+fn expected_at(call: u64) -> Expected {
     if call < CALLS { (4, "") } else { MOVED }
 }
 
-/// What is to be held where the disk held this before and dies before this call, and where the call fails.
+/// The contents that stops leave if the new disk held `before` and dies before this call, and those if the call fails.
 ///
-/// A write of the gate that was not synced may leave it open or closed, and one that failed has left it open.
-fn held_at(call: u64, before: Held) -> ([Held; 3], [Held; 3]) {
+/// A write of the gate that was not synced may leave it open or closed. A write of the gate that failed leaves it open.
+fn contents_at(call: u64, before: Content) -> ([Content; 3], [Content; 3]) {
     match call {
         0 => ([before; 3], [before; 3]),
         1 => ([before, Nothing, before], [before, Nothing, before]),
@@ -29,27 +29,27 @@ fn held_at(call: u64, before: Held) -> ([Held; 3], [Held; 3]) {
     }
 }
 
-/// A disk as the migration finds it, of which a call fails.
-fn found(rt: &impl Abort, alloc: Global, before: Held, failing: u64) -> MemDisk {
+/// A new disk with this content, of which a call fails.
+fn new_disk(rt: &impl Abort, alloc: Global, before: Content, failing: u64) -> MemDisk {
     match before {
         Before => formatted(rt, alloc, failing),
         _ => zeros(rt, alloc, BLOCKS, &[failing]),
     }
 }
 
-/// A migration to this disk that dies before a call.
+/// A migration to this disk, which dies before a call.
 fn dies(
     rt: &impl Abort,
     alloc: Global,
     new: MemDisk,
     old: &mut MemDisk,
     call: u64,
-    stops: [Held; 3],
+    stops: [Content; 3],
 ) {
     let mut fuse = Fuse::new(new, call);
-    let is_told = migrates(rt, alloc, &mut fuse, old, told_at(call));
+    let is_expected = migrates(rt, alloc, &mut fuse, old, expected_at(call));
     let new = fuse.into_inner();
-    assert!(rt; is_told && leaves(rt, alloc, &new, stops), "{call}");
+    assert!(rt; is_expected && leaves(rt, alloc, &new, stops), "{call}");
 }
 
 /// A migration to this disk, of which a call fails.
@@ -59,19 +59,19 @@ fn fails(
     new: &mut MemDisk,
     old: &mut MemDisk,
     call: u64,
-    stops: [Held; 3],
+    stops: [Content; 3],
 ) {
-    let is_told = migrates(rt, alloc, new, old, told_at(call));
-    assert!(rt; is_told && leaves(rt, alloc, new, stops), "{call}");
+    let is_expected = migrates(rt, alloc, new, old, expected_at(call));
+    assert!(rt; is_expected && leaves(rt, alloc, new, stops), "{call}");
 }
 
-/// Both, one after the other, onto disks that held this before.
-fn stops(rt: &impl Abort, alloc: Global, old: &mut MemDisk, before: Held, call: u64) {
-    let (after_death, after_failure) = held_at(call, before);
+/// Both, one after the other, on disks with this content.
+fn stops(rt: &impl Abort, alloc: Global, old: &mut MemDisk, before: Content, call: u64) {
+    let (after_death, after_failure) = contents_at(call, before);
     dies(
         rt,
         alloc,
-        found(rt, alloc, before, u64::MAX),
+        new_disk(rt, alloc, before, u64::MAX),
         old,
         call,
         after_death,
@@ -79,15 +79,15 @@ fn stops(rt: &impl Abort, alloc: Global, old: &mut MemDisk, before: Held, call: 
     fails(
         rt,
         alloc,
-        &mut found(rt, alloc, before, call),
+        &mut new_disk(rt, alloc, before, call),
         old,
         call,
         after_failure,
     );
 }
 
-/// The same of each of these calls, from a disk as a stop leaves this one.
-fn stops_at(rt: &impl Abort, alloc: Global, made: &MemDisk, before: Held, from: u64, to: u64) {
+/// Both for each of these calls, from a disk that holds what a stop leaves of this one.
+fn stops_at(rt: &impl Abort, alloc: Global, made: &MemDisk, before: Content, from: u64, to: u64) {
     for call in from..to {
         stops(
             rt,
@@ -99,7 +99,7 @@ fn stops_at(rt: &impl Abort, alloc: Global, made: &MemDisk, before: Held, from: 
     }
 }
 
-fn stop(rt: &impl Abort, alloc: Global, before: Held, from: u64, to: u64) {
+fn stop(rt: &impl Abort, alloc: Global, before: Content, from: u64, to: u64) {
     stops_at(
         rt,
         alloc,

@@ -4,32 +4,32 @@ use mg_layout::format as make_volume;
 use mg_model::{Params, Tariff};
 use std::alloc::Global;
 
-/// How many blocks the disks have: those of a volume of 64 frames.
+/// The number of blocks of the disks: those of a volume of 64 frames.
 pub const BLOCKS: u64 = 2660;
 
-/// How many calls a disk counts: those of making a volume, of copying it and of a session on it.
+/// The number of calls for which a disk has room: making a volume, copying it, and a session on it.
 const ROOM: u64 = 12_000;
 
-/// How a disk is made.
+/// What a disk holds at first, and when it fails.
 #[derive(Clone, Copy)]
-pub struct Made {
-    /// Whether it is made a fresh volume of 64 frames; else it has zeros.
+pub struct Setup {
+    /// Whether it has a fresh volume of 64 frames. Otherwise it has zeros.
     pub is_volume: bool,
-    /// The number of the call that fails, from 0 on as it is made; None where none does.
+    /// The number of the call that fails, from 0, counted from the making of the disk. None if no call fails.
     pub fails: Option<u64>,
-    /// How many calls pass, from 0 on behind those that make it, before the disk dies.
+    /// The number of calls after the making of the disk that pass before it dies.
     pub calls: u64,
 }
 
 /// A fresh volume.
-pub const VOLUME: Made = Made {
+pub const VOLUME: Setup = Setup {
     is_volume: true,
     fails: None,
     calls: u64::MAX,
 };
 
 /// A disk of zeros.
-pub const ZEROS: Made = Made {
+pub const ZEROS: Setup = Setup {
     is_volume: false,
     fails: None,
     calls: u64::MAX,
@@ -42,8 +42,8 @@ pub struct Disks {
     pub right: Fuse<MemDisk>,
 }
 
-/// A disk that is made so; None where memory is wanting.
-pub fn make_disk(alloc: Global, how: &Made) -> Option<Fuse<MemDisk>> {
+/// A disk made in this way. None if out of memory.
+pub fn make_disk(alloc: Global, how: &Setup) -> Option<Fuse<MemDisk>> {
     match filled(alloc, how) {
         Some(disk) => Some(Fuse::new(disk, how.calls)),
         None => None,
@@ -51,7 +51,7 @@ pub fn make_disk(alloc: Global, how: &Made) -> Option<Fuse<MemDisk>> {
 }
 
 /// The same disk, which does not die.
-fn filled(alloc: Global, how: &Made) -> Option<MemDisk> {
+fn filled(alloc: Global, how: &Setup) -> Option<MemDisk> {
     match zeros(alloc, how.fails) {
         Some(mut disk) => {
             if how.is_volume {
@@ -63,7 +63,7 @@ fn filled(alloc: Global, how: &Made) -> Option<MemDisk> {
     }
 }
 
-/// A disk of zeros of which the call of this number fails.
+/// A disk of zeros. The call with the number `fails` fails.
 fn zeros(alloc: Global, fails: Option<u64>) -> Option<MemDisk> {
     match numbers(alloc, fails) {
         Some(numbers) => match MemDisk::new(alloc, BLOCKS, ROOM, numbers) {
@@ -84,14 +84,14 @@ fn numbers(alloc: Global, fails: Option<u64>) -> Option<Vec<u64>> {
     }
 }
 
-/// Makes a disk a fresh volume, with the seed of zeros and 1000 credits.
+/// Makes a fresh volume on a disk, with the seed of zeros and 1000 credits.
 fn make(disk: &mut MemDisk) {
     if let Some(params) = Params::new(64, [0; 32], 1000, Tariff::usual(64)) {
         let _ = make_volume(disk, &params);
     }
 }
 
-/// How many calls it takes to make that volume.
+/// The number of calls that make that volume.
 pub fn calls_to_make(alloc: Global) -> Option<u64> {
     match filled(alloc, &VOLUME) {
         Some(disk) => Some(count(&disk.counts())),
@@ -99,8 +99,8 @@ pub fn calls_to_make(alloc: Global) -> Option<u64> {
     }
 }
 
-/// How many writes it takes to make a disk so.
-pub fn writes_to_make(alloc: Global, how: &Made) -> u64 {
+/// The number of writes that make a disk in this way.
+pub fn writes_to_make(alloc: Global, how: &Setup) -> u64 {
     match filled(alloc, how) {
         Some(disk) => disk.counts().writes,
         None => u64::MAX,
@@ -129,7 +129,7 @@ pub fn are_same(disks: &mut Disks) -> bool {
     true
 }
 
-/// Whether there is a block of this number, and it can be read.
+/// Whether there is a block with this number, and it can be read.
 fn read_at(disk: &mut Fuse<MemDisk>, i: u64, block: &mut Block) -> bool {
     i < disk.blocks() && disk.read(i, block).is_ok()
 }

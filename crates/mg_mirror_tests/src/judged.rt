@@ -1,83 +1,83 @@
-// The named disk is judged by its first two blocks, before anything is written.
-use crate::disks::{Disks, Made, VOLUME, ZEROS, make_disk, writes_to_make};
-use crate::runs::{Outcome, Run, Told, run_over};
+// The named disk is judged by its first two blocks before anything is written.
+use crate::disks::{Disks, Setup, VOLUME, ZEROS, make_disk, writes_to_make};
+use crate::runs::{Expected, Outcome, Run, run_over};
 use mg_disk::{BLOCK_SIZE, Disk, Fuse, MemDisk};
-use mg_session::Status;
+use mg_volume_session::Status;
 use std::alloc::Global;
 use std::test::Fail;
 
-/// A block, a place in it, and the byte that is put there.
-type Harm = (u64, usize, u8);
+/// A block, a place in it, and the new byte there.
+type Damage = (u64, usize, u8);
 
-/// A run on no lines over a mirror, of which the left disk is named.
+/// A run with no lines over a mirror, in which the left disk is named.
 #[derive(Clone, Copy)]
 struct Row {
-    left: Made,
-    /// What is done to the left disk before.
-    harm: Harm,
-    right: Made,
-    put: &'static str,
-    /// How many blocks of the right disk are written. None of the left one is.
+    left: Setup,
+    /// The change of the left disk before the run.
+    damage: Damage,
+    right: Setup,
+    printed: &'static str,
+    /// The number of blocks written on the right disk. None is written on the left disk.
     writes: u64,
 }
 
-/// A fresh volume whose gate is closed, beside a disk of zeros.
+/// A fresh volume with a closed gate, beside a disk of zeros.
 const CLOSED: Row = Row {
     left: VOLUME,
-    harm: (0, 0, 0),
+    damage: (0, 0, 0),
     right: ZEROS,
-    put: "open not\n",
+    printed: "open not\n",
     writes: 0,
 };
 
 const ROWS: [Row; 8] = [
     // The gate, and the eight bytes.
     Row {
-        harm: (0, 0, 0),
-        put: "open not\n",
+        damage: (0, 0, 0),
+        printed: "open not\n",
         writes: 0,
         ..CLOSED
     },
     Row {
-        harm: (1, 0, b'm'),
-        put: "open not\n",
+        damage: (1, 0, b'm'),
+        printed: "open not\n",
         writes: 0,
         ..CLOSED
     },
     // The version.
     Row {
-        harm: (1, 8, 1),
-        put: "open old\n",
+        damage: (1, 8, 1),
+        printed: "open old\n",
         writes: 0,
         ..CLOSED
     },
     Row {
-        harm: (1, 8, 3),
-        put: "open damaged\n",
+        damage: (1, 8, 3),
+        printed: "open damaged\n",
         writes: 0,
         ..CLOSED
     },
-    // Fifteen frames, and a byte behind the fields.
+    // Fifteen frames, and a byte after the fields.
     Row {
-        harm: (1, 16, 15),
-        put: "open damaged\n",
+        damage: (1, 16, 15),
+        printed: "open damaged\n",
         writes: 0,
         ..CLOSED
     },
     Row {
-        harm: (1, 4095, 1),
-        put: "open damaged\n",
+        damage: (1, 4095, 1),
+        printed: "open damaged\n",
         writes: 0,
         ..CLOSED
     },
-    // A byte after the counters, which only the whole examination finds: block 0 is closed and the 2,660 blocks are copied first.
+    // A byte after the counters, which only the whole examination finds. Block 0 is closed and the 2,660 blocks are copied first.
     Row {
-        harm: (1298, 4095, 1),
-        put: "open damaged\n",
+        damage: (1298, 4095, 1),
+        printed: "open damaged\n",
         writes: 2661,
         ..CLOSED
     },
-    // The wrong disk is named: the volume stays.
+    // The wrong disk is named. The volume stays.
     Row {
         left: ZEROS,
         right: VOLUME,
@@ -85,7 +85,7 @@ const ROWS: [Row; 8] = [
     },
 ];
 
-fn harm(disk: &mut Fuse<MemDisk>, at: Harm) {
+fn damage(disk: &mut Fuse<MemDisk>, at: Damage) {
     let (i, place, byte) = at;
     let mut block = [0; BLOCK_SIZE];
     if i < disk.blocks() && place < BLOCK_SIZE && disk.read(i, &mut block).is_ok() {
@@ -94,10 +94,10 @@ fn harm(disk: &mut Fuse<MemDisk>, at: Harm) {
     }
 }
 
-fn is_judged_so(alloc: Global, row: &Row) -> bool {
+fn is_judged(alloc: Global, row: &Row) -> bool {
     match make_disk(alloc, &row.left) {
         Some(mut left) => {
-            harm(&mut left, row.harm);
+            damage(&mut left, row.damage);
             is_judged_with(alloc, row, left)
         }
         None => false,
@@ -115,26 +115,27 @@ fn is_judged_over(alloc: Global, row: &Row, disks: Disks) -> bool {
     let run = Run {
         line: &["l", "mirror", "r", "left"],
         input: "",
-        told: Told {
+        expected: Expected {
             status: Status::NoVolume,
             alone: None,
-            put: row.put,
+            printed: row.printed,
         },
     };
     match run_over(alloc, &run, disks) {
-        Some(outcome) => is_as_wanted(alloc, row, outcome),
+        Some(outcome) => is_as_expected(alloc, row, outcome),
         None => false,
     }
 }
 
-/// Whether a run told what it had to, and made just the writes of the row on disks that were made so. The harm is a write too.
-fn is_as_wanted(alloc: Global, row: &Row, outcome: Outcome) -> bool {
+/// Whether a run had the outcome of its row, and made just the writes of the row after those that made the disks. The damage is one
+/// write.
+fn is_as_expected(alloc: Global, row: &Row, outcome: Outcome) -> bool {
     let on_left = writes_to_make(alloc, &row.left).saturating_add(1);
     let on_right = writes_to_make(alloc, &row.right).saturating_add(row.writes);
-    let is_told = outcome.is_told;
+    let is_expected = outcome.is_expected;
     let disks = outcome.disks;
     let found = writes(disks.left, disks.right);
-    is_told && found == (on_left, on_right)
+    is_expected && found == (on_left, on_right)
 }
 
 fn writes(left: Fuse<MemDisk>, right: Fuse<MemDisk>) -> (u64, u64) {
@@ -144,11 +145,11 @@ fn writes(left: Fuse<MemDisk>, right: Fuse<MemDisk>) -> (u64, u64) {
     )
 }
 
-/// How many rows, from the first on, are as they have to be.
+/// The number of rows, from the first on, that have their outcome.
 fn count_judged(alloc: Global) -> usize {
     let mut judged: usize = 0;
     for row in ROWS {
-        if !is_judged_so(alloc, &row) {
+        if !is_judged(alloc, &row) {
             break;
         }
         judged = judged.saturating_add(1);
@@ -157,7 +158,7 @@ fn count_judged(alloc: Global) -> usize {
 }
 
 #[test]
-fn tells_of_no_volume_before_it_writes(rt: HostRuntime) -> Result<(), Fail> {
+fn reports_no_volume_before_it_writes(rt: HostRuntime) -> Result<(), Fail> {
     assert_eq!(rt; count_judged(rt.alloc()), 8);
     Ok(())
 }

@@ -1,6 +1,6 @@
 //! Tests of runs over a mirror of two disks in memory: both are used, one of them dies or fails once, or both do.
 //!
-//! They stand above `mg_mirror_session`, over its public call, so that it is proved once.
+//! They are in a crate of their own above `mg_mirror_session`, so that it is proved only once.
 #![tactic(auto)]
 
 #[cfg(test)]

@@ -1,53 +1,53 @@
-// A run over a mirror, from its words to what it told and its two disks.
+// A run over a mirror, from its words to its outcome and its two disks.
 ghost use Rattle.std.specs.Prelude.{◌≡◌, ◌<◌};
 
-use crate::disks::{Disks, Made, make_disk};
+use crate::disks::{Disks, Setup, make_disk};
 use mg_disk::{Disk, Fuse, MemDisk};
 use mg_io::{MemSink, MemSource, Sink, Source};
 use mg_mirror::Side;
 use mg_mirror_session::{Mirrored, top_mirror};
 use mg_model::Steps;
-use mg_session::Status;
+use mg_volume_session::Status;
 use std::alloc::Global;
 use std::marker::Brand;
 use std::sync::ledger::{Blank, Ledger};
 
-/// What a run has to tell: how it ends, the side that stands alone, if one does, and what it puts.
+/// The outcome that a run must have: its status, the side that is left alone, if one is, and what it prints.
 #[derive(Clone, Copy)]
-pub struct Told {
+pub struct Expected {
     pub status: Status,
     pub alone: Option<Side>,
-    pub put: &'static str,
+    pub printed: &'static str,
 }
 
-/// A run: its words, its lines, and what it has to tell.
+/// A run: its words, its lines, and the outcome that it must have.
 #[derive(Clone, Copy)]
 pub struct Run {
     pub line: &'static [&'static str],
     pub input: &'static str,
-    pub told: Told,
+    pub expected: Expected,
 }
 
 /// A run over disks that are made for it.
 #[derive(Clone, Copy)]
 pub struct Case {
-    pub left: Made,
-    pub right: Made,
+    pub left: Setup,
+    pub right: Setup,
     pub run: Run,
 }
 
 /// A run that ended.
 #[derive(Drop)]
 pub struct Outcome {
-    /// Whether it told what it had to.
-    pub is_told: bool,
+    /// Whether it had the outcome that it must have.
+    pub is_expected: bool,
     pub disks: Disks,
 }
 
-/// Whether a run over new disks told what it had to.
-pub fn is_told(alloc: Global, case: &Case) -> bool {
+/// Whether a run over new disks has the outcome that it must have.
+pub fn is_expected(alloc: Global, case: &Case) -> bool {
     match ran(alloc, case) {
-        Some(outcome) => outcome.is_told,
+        Some(outcome) => outcome.is_expected,
         None => false,
     }
 }
@@ -117,7 +117,7 @@ fn with_streams(
         blank,
     );
     Outcome {
-        is_told: is_as(&run.told, ended.status, ended.alone, sink.bytes()),
+        is_expected: is_outcome(&run.expected, ended.status, ended.alone, sink.bytes()),
         disks: Disks {
             left: ended.left,
             right: ended.right,
@@ -125,11 +125,11 @@ fn with_streams(
     }
 }
 
-fn is_as(told: &Told, status: Status, alone: Option<Side>, put: &[u8]) -> bool {
-    status == told.status && alone == told.alone && put == told.put.as_bytes()
+fn is_outcome(expected: &Expected, status: Status, alone: Option<Side>, printed: &[u8]) -> bool {
+    status == expected.status && alone == expected.alone && printed == expected.printed.as_bytes()
 }
 
-/// The top call, with a count of steps of its own.
+/// The top call, with a counter of steps of its own.
 fn with_steps<D: Disk, E: Disk, S: Source, K: Sink, L: Ledger>(
     alloc: Global,
     words: &[String],
@@ -147,26 +147,26 @@ fn with_steps<D: Disk, E: Disk, S: Source, K: Sink, L: Ledger>(
     top_mirror(alloc, words, left, right, source, sink, &mut steps)
 }
 
-/// Words as a command takes them; None where memory is wanting.
+/// The words of a command line. None if out of memory.
 fn words_of(alloc: Global, line: &[&str]) -> Option<Vec<String>> {
     let mut words = Vec::new(alloc);
-    if put_words(alloc, line, &mut words) {
+    if push_words(alloc, line, &mut words) {
         Some(words)
     } else {
         None
     }
 }
 
-fn put_words(alloc: Global, line: &[&str], words: &mut Vec<String>) -> bool {
+fn push_words(alloc: Global, line: &[&str], words: &mut Vec<String>) -> bool {
     for word in line {
-        if !put_word(alloc, word, words) {
+        if !push_word(alloc, word, words) {
             return false;
         }
     }
     true
 }
 
-fn put_word(alloc: Global, word: &str, words: &mut Vec<String>) -> bool {
+fn push_word(alloc: Global, word: &str, words: &mut Vec<String>) -> bool {
     match String::from_str(alloc, word) {
         Ok(word) => words.push(word).is_ok(),
         Err(_) => false,

@@ -1,9 +1,9 @@
-// Runs over two disks of which one is a fresh volume and the other has zeros.
-use crate::disks::{BLOCKS, Made, VOLUME, ZEROS, are_same, calls_to_make};
-use crate::runs::{Case, Outcome, Run, Told, is_told, ran, run_over};
+// Runs over two disks. One is a fresh volume, and the other has zeros.
+use crate::disks::{BLOCKS, Setup, VOLUME, ZEROS, are_same, calls_to_make};
+use crate::runs::{Case, Expected, Outcome, Run, is_expected, ran, run_over};
 use mg_disk::{COPY_BLOCKS, Fuse, MemDisk};
 use mg_mirror::Side;
-use mg_session::Status;
+use mg_volume_session::Status;
 use std::alloc::Global;
 use std::test::Fail;
 
@@ -11,14 +11,14 @@ const TWO_PAGES: &str = "1 create 2 1 0x28bd8653e56a5d40\n";
 
 const MADE: &str = "ok 0x0000000100001000 0x1aed8da0b819d2bd\n";
 
-/// A run of a good session over a mirror that is copied from the left disk.
+/// A session without a fault over a mirror that is copied from the left disk.
 const FROM_LEFT: Run = Run {
     line: &["l", "mirror", "r", "left"],
     input: TWO_PAGES,
-    told: Told {
+    expected: Expected {
         status: Status::Done,
         alone: None,
-        put: MADE,
+        printed: MADE,
     },
 };
 
@@ -29,23 +29,23 @@ const GOOD: Case = Case {
     run: FROM_LEFT,
 };
 
-/// What the right disk alone is asked behind that run.
+/// A session on the right disk after that run.
 const FROM_RIGHT: Run = Run {
     line: &["l", "mirror", "r", "right"],
     input: "1 create 1 1 0x28bd8653e56a5d40\n",
-    told: Told {
+    expected: Expected {
         status: Status::Done,
         alone: None,
-        put: "ok 0x0000000100003000 0xc70d778bccef36a8\n",
+        printed: "ok 0x0000000100003000 0xc70d778bccef36a8\n",
     },
 };
 
-/// What a run over both disks and one that goes on from the right one tell.
+/// The outcomes of a run over both disks and of one that continues from the right one.
 #[derive(Clone, Copy, Debug, PartialEq)]
 struct Both {
-    is_first_told: bool,
+    is_first_expected: bool,
     are_same: bool,
-    is_second_told: bool,
+    is_second_expected: bool,
 }
 
 fn both_runs(alloc: Global) -> Option<Both> {
@@ -60,9 +60,9 @@ fn run_second(alloc: Global, first: Outcome) -> Option<Both> {
     let are_same = are_same(&mut disks);
     match run_over(alloc, &FROM_RIGHT, disks) {
         Some(second) => Some(Both {
-            is_first_told: first.is_told,
+            is_first_expected: first.is_expected,
             are_same,
-            is_second_told: second.is_told,
+            is_second_expected: second.is_expected,
         }),
         None => None,
     }
@@ -71,128 +71,128 @@ fn run_second(alloc: Global, first: Outcome) -> Option<Both> {
 #[test]
 fn both_disks_hold_the_volume(rt: HostRuntime) -> Result<(), Fail> {
     let all = Both {
-        is_first_told: true,
+        is_first_expected: true,
         are_same: true,
-        is_second_told: true,
+        is_second_expected: true,
     };
     assert_eq!(rt; both_runs(rt.alloc()), Some(all));
     Ok(())
 }
 
 /// A disk of zeros that dies at its first call.
-const DEAD: Made = Made { calls: 0, ..ZEROS };
+const DEAD: Setup = Setup { calls: 0, ..ZEROS };
 
-/// A run from the left disk of which one disk dies or both do.
+/// A run from the left disk in which one or both disks die.
 #[derive(Clone, Copy)]
 struct Death {
-    /// How many calls of the left disk pass before it dies.
+    /// The number of calls of the left disk that pass before it dies.
     left: u64,
-    /// The same of the right disk.
+    /// The number of calls of the right disk that pass before it dies.
     right: u64,
-    told: Told,
+    expected: Expected,
 }
 
-/// How many of these runs, from the first on, tell what they have to.
+/// The number of these runs, from the first on, that have their outcome.
 fn count_deaths(alloc: Global, deaths: &[Death]) -> usize {
-    let mut told: usize = 0;
+    let mut passed: usize = 0;
     for death in deaths {
-        if !dies_so(alloc, death) {
+        if !has_outcome(alloc, death) {
             break;
         }
-        told = told.saturating_add(1);
+        passed = passed.saturating_add(1);
     }
-    told
+    passed
 }
 
-fn dies_so(alloc: Global, death: &Death) -> bool {
+fn has_outcome(alloc: Global, death: &Death) -> bool {
     let case = Case {
-        left: Made {
+        left: Setup {
             calls: death.left,
             ..VOLUME
         },
-        right: Made {
+        right: Setup {
             calls: death.right,
             ..ZEROS
         },
         run: Run {
-            told: death.told,
+            expected: death.expected,
             ..FROM_LEFT
         },
     };
-    is_told(alloc, &case)
+    is_expected(alloc, &case)
 }
 
 const ONE_DIES: [Death; 2] = [
-    // The left one dies once it is copied.
+    // The left disk dies once it is copied.
     Death {
         left: BLOCKS,
         right: u64::MAX,
-        told: Told {
+        expected: Expected {
             status: Status::Done,
             alone: Some(Side::Right),
-            put: "ok 0x0000000100001000 0x1aed8da0b819d2bd\nalone right\n",
+            printed: "ok 0x0000000100001000 0x1aed8da0b819d2bd\nalone right\n",
         },
     },
-    // The right one dies as it is copied.
+    // The right disk dies while it is copied to.
     Death {
         left: u64::MAX,
         right: 7,
-        told: Told {
+        expected: Expected {
             status: Status::Done,
             alone: Some(Side::Left),
-            put: "ok 0x0000000100001000 0x1aed8da0b819d2bd\nalone left\n",
+            printed: "ok 0x0000000100001000 0x1aed8da0b819d2bd\nalone left\n",
         },
     },
 ];
 
 #[test]
-fn goes_on_where_one_dies(rt: HostRuntime) -> Result<(), Fail> {
+fn continues_if_one_dies(rt: HostRuntime) -> Result<(), Fail> {
     assert_eq!(rt; count_deaths(rt.alloc(), &ONE_DIES), 2);
     Ok(())
 }
 
 const BOTH_DIE: [Death; 3] = [
-    // The right one dies before a block is written, and the left one once the first of them were read.
+    // The right disk dies before a block is written, and the left one after the first blocks were read.
     Death {
         left: COPY_BLOCKS as u64,
         right: 0,
-        told: Told {
+        expected: Expected {
             status: Status::Disk,
             alone: Some(Side::Left),
-            put: "",
+            printed: "",
         },
     },
-    // The left one dies behind its first block, and no call of the right one passes.
+    // The left disk dies after its first block, and no call of the right one passes.
     Death {
         left: 1,
         right: 0,
-        told: Told {
+        expected: Expected {
             status: Status::Disk,
             alone: None,
-            put: "",
+            printed: "",
         },
     },
-    // Where the first read fails there is no mirror.
+    // If the first read fails, there is no mirror.
     Death {
         left: 0,
         right: u64::MAX,
-        told: Told {
+        expected: Expected {
             status: Status::Disk,
             alone: None,
-            put: "",
+            printed: "",
         },
     },
 ];
 
 #[test]
-fn fails_where_both_die(rt: HostRuntime) -> Result<(), Fail> {
+fn fails_if_both_die(rt: HostRuntime) -> Result<(), Fail> {
     assert_eq!(rt; count_deaths(rt.alloc(), &BOTH_DIE), 3);
     Ok(())
 }
 
-/// In how many of ten runs the same bytes are put as in one without a fault, where in each another read of the left disk fails
-/// once it is copied, the first of them after so many others, and the right disk gives what that read asked for and nothing else. A write
-/// that failed would drop that disk, and be told.
+/// The number of runs, of ten, that print the same as a run without a fault. In each of them another read of the left disk fails after
+/// the copy, from read number `reads` on. The right disk then reads the blocks of that read and nothing else. A failed write would drop
+/// the left disk, and the run would say so.
 fn count_same(alloc: Global, reads: u64) -> usize {
     match calls_to_make(alloc) {
         Some(calls) => count_same_from(alloc, calls.saturating_add(BLOCKS), reads),
@@ -204,7 +204,7 @@ fn count_same_from(alloc: Global, copied: u64, first: u64) -> usize {
     let mut same: usize = 0;
     for k in 0..10 {
         let read = first.saturating_add(k);
-        let left = Made {
+        let left = Setup {
             fails: Some(copied.saturating_add(read)),
             ..VOLUME
         };
@@ -215,8 +215,8 @@ fn count_same_from(alloc: Global, copied: u64, first: u64) -> usize {
     same
 }
 
-/// How many blocks are asked for with the block of this read, in the first 30 reads of an opening. The gate, the superblock, the gates of
-/// eight segments and the counters are read one by one, then the 16 blocks of accounts together, and then 32 rows of threads.
+/// The number of blocks that are read together with this one, of the first 30 that an opening reads. The gate, the superblock, the gates
+/// of eight segments and the counters are read one by one, then the 16 blocks of accounts together, and then 32 rows of threads.
 fn blocks_with(read: u64) -> u64 {
     match read {
         0..=10 => 1,
@@ -225,7 +225,7 @@ fn blocks_with(read: u64) -> u64 {
     }
 }
 
-/// Whether a run told what it had to, and read so many blocks of the right disk.
+/// Whether a run had its outcome, and read this number of blocks of the right disk.
 fn is_same(alloc: Global, case: &Case, blocks: u64) -> bool {
     match ran(alloc, case) {
         Some(outcome) => is_same_with(outcome, blocks),
@@ -234,10 +234,10 @@ fn is_same(alloc: Global, case: &Case, blocks: u64) -> bool {
 }
 
 fn is_same_with(outcome: Outcome, blocks: u64) -> bool {
-    let is_told = outcome.is_told;
+    let is_expected = outcome.is_expected;
     let disks = outcome.disks;
     let found = reads(disks.left, disks.right);
-    is_told && found.1 == blocks
+    is_expected && found.1 == blocks
 }
 
 fn reads(left: Fuse<MemDisk>, right: Fuse<MemDisk>) -> (u64, u64) {
@@ -276,7 +276,7 @@ const NO_MIRRORS: [&[&str]; 7] = [
     &[],
 ];
 
-/// Whether these words spell no mirror, where each call of the disks would fail.
+/// Whether these words spell no mirror, on disks of which each call would fail.
 fn spells_none(alloc: Global, line: &'static [&'static str]) -> bool {
     let case = Case {
         left: DEAD,
@@ -284,17 +284,17 @@ fn spells_none(alloc: Global, line: &'static [&'static str]) -> bool {
         run: Run {
             line,
             input: TWO_PAGES,
-            told: Told {
+            expected: Expected {
                 status: Status::Usage,
                 alone: None,
-                put: "usage\n",
+                printed: "usage\n",
             },
         },
     };
-    is_told(alloc, &case)
+    is_expected(alloc, &case)
 }
 
-/// How many of these, from the first on, spell no mirror.
+/// The number of these, from the first on, that spell no mirror.
 fn count_none(alloc: Global) -> usize {
     let mut none: usize = 0;
     for line in NO_MIRRORS {

@@ -1,6 +1,6 @@
-// Commands whose source, sink or disk fails, with how they end and what they leave.
+// Commands whose source, sink or disk fails: their status, what they print, and what they leave.
 use mg_disk::{Disk, Fuse, MemDisk, ScratchDisk};
-use mg_testing::{BLOCKS, MAKING, Streams, ends, fresh, is_told, is_told_of, told_of};
+use mg_testing::{BLOCKS, MAKING, Streams, ends, fresh, output_for, outputs, outputs_for};
 use std::alloc::Global;
 use std::test::Fail;
 
@@ -8,12 +8,12 @@ const STORE: &str = "1 store 0x100000020 5\n";
 
 const LOADS: &str = "1 load 0x100000020\n1 load 0x100000028\n";
 
-// What two loads put: the words that the two stores wrote, or zeros.
+// What two loads print: the words of the two stores, or zeros.
 const NONE: &str = "0 ok 0x0000000000000000\nok 0x0000000000000000\n";
 
 const FIRST: &str = "0 ok 0x0000000000000005\nok 0x0000000000000000\n";
 
-// The words that spell no command, a line each: batches of 0 and of 65 lines, 15 frames, a volume alone, and none.
+// Lines that spell no command: batches of 0 and of 65 lines, 15 frames, a missing number, a volume alone, and no words.
 const NO_COMMANDS: &str = "vol run 0
 vol run 65
 vol format 15 0000000000000000000000000000000000000000000000000000000000000000 1
@@ -21,10 +21,10 @@ vol dry 64 0000000000000000000000000000000000000000000000000000000000000000
 vol
 ";
 
-// Whether a command of these words ends so, on a disk that no call may be made of.
-fn ends_idle(alloc: Global, line: &str, streams: &Streams<'_>, code: u8, put: &[u8]) -> bool {
+// Whether a command ends with this status and output, on a disk of which no call may be made.
+fn ends_idle(alloc: Global, line: &str, streams: &Streams<'_>, code: u8, printed: &[u8]) -> bool {
     match MemDisk::new(alloc, 1, 0, Vec::new(alloc)) {
-        Ok(mut disk) => ends(alloc, line, &mut disk, streams, code, put),
+        Ok(mut disk) => ends(alloc, line, &mut disk, streams, code, printed),
         Err(_) => false,
     }
 }
@@ -49,11 +49,11 @@ fn words_that_spell_nothing(rt: HostRuntime) -> Result<(), Fail> {
 const DRY: &str =
     "vol dry 64 0000000000000000000000000000000000000000000000000000000000000000 1000";
 
-// The take and the put that fail, the status, and how many bytes are put.
+// The take and the put that fail, the status, and the number of bytes that are printed.
 type Cut = (u64, u64, u8, usize);
 
-// 70 lines come in 18 pieces of 80 bytes, and the source is asked once more. With 64 replies the first batch is put, and at
-// the end the second.
+// 70 lines come in 18 pieces of 80 bytes, and the source is read once more. The first batch of 64 replies is printed before the 18th
+// take, and the second at the end.
 const CUTS: [Cut; 7] = [
     (0, 9, 5, 0),
     (16, 9, 5, 0),
@@ -64,7 +64,7 @@ const CUTS: [Cut; 7] = [
     (99, 2, 0, 875),
 ];
 
-// Whether a session of these lines is cut so.
+// Whether a session of these lines ends as the cut says.
 fn is_cut(alloc: Global, lines: &[u8], replies: &[u8], cut: Cut) -> bool {
     let (take, put, code, count) = cut;
     let streams = Streams {
@@ -74,12 +74,12 @@ fn is_cut(alloc: Global, lines: &[u8], replies: &[u8], cut: Cut) -> bool {
         ..Streams::of(lines)
     };
     match replies.get(..count) {
-        Some(put) => ends_idle(alloc, DRY, &streams, code, put),
+        Some(printed) => ends_idle(alloc, DRY, &streams, code, printed),
         None => false,
     }
 }
 
-// The first of these that is not so.
+// The first cut after which the session ends otherwise.
 fn wrong_cut(alloc: Global, lines: &[u8], replies: &[u8], cuts: &[Cut]) -> Option<Cut> {
     for cut in cuts {
         if !is_cut(alloc, lines, replies, *cut) {
@@ -89,7 +89,7 @@ fn wrong_cut(alloc: Global, lines: &[u8], replies: &[u8], cuts: &[Cut]) -> Optio
     None
 }
 
-// A text so many times; shorter where memory is wanting.
+// A text repeated `times` times. It is shorter if memory runs out.
 fn repeated(alloc: Global, part: &str, times: u64) -> String {
     let mut text = String::new(alloc);
     for _ in 0..times {
@@ -98,7 +98,7 @@ fn repeated(alloc: Global, part: &str, times: u64) -> String {
     text
 }
 
-// The same of 35 stores, each with a load behind it.
+// The first wrong cut of 35 stores, each followed by a load.
 fn wrong_cut_of_70(alloc: Global, cuts: &[Cut]) -> Option<Cut> {
     let lines = repeated(alloc, "1 store 0x100000020 7\n1 load 0x100000020\n", 35);
     let replies = repeated(alloc, "ok\nok 0x0000000000000007\n", 35);
@@ -111,7 +111,7 @@ fn seventy_lines_in_two_batches(rt: HostRuntime) -> Result<(), Fail> {
     Ok(())
 }
 
-// How long so many first lines of a text are.
+// The length of the first `lines` lines of a text.
 fn len_of(text: &[u8], lines: usize) -> usize {
     let mut len: usize = 0;
     let mut left = lines;
@@ -127,7 +127,7 @@ fn len_of(text: &[u8], lines: usize) -> usize {
     len
 }
 
-// How many lines end in a text.
+// The number of newlines in a text.
 fn lines_in(text: &[u8]) -> usize {
     let mut lines: usize = 0;
     for byte in text {
@@ -138,7 +138,7 @@ fn lines_in(text: &[u8]) -> usize {
     lines
 }
 
-// Whether a run ends so whose take or put of this number fails.
+// Whether a run with batches of 1 ends as the cut says.
 fn is_cut_alone<D: Disk>(
     alloc: Global,
     disk: &mut D,
@@ -154,13 +154,13 @@ fn is_cut_alone<D: Disk>(
         ..Streams::of(lines)
     };
     match replies.get(..len_of(replies, answered)) {
-        Some(put) => ends(alloc, "vol run 1", disk, &streams, code, put),
+        Some(printed) => ends(alloc, "vol run 1", disk, &streams, code, printed),
         None => false,
     }
 }
 
-// The first of the 19 takes and then of the 70 puts where a run does not end so: each reply is put before the next line is served, and
-// each line counts that ends in the pieces before a take.
+// The first of the 19 takes and then of the 70 puts whose failure ends the run otherwise. Each reply is printed before the next line is
+// served, and each line that ends in a piece before the failed take is answered.
 fn wrong_alone<D: Disk>(alloc: Global, disk: &mut D, lines: &[u8], replies: &[u8]) -> Option<Cut> {
     for take in 0..19 {
         let taken = lines.get(..80 * take as usize).unwrap_or(lines);
@@ -178,11 +178,11 @@ fn wrong_alone<D: Disk>(alloc: Global, disk: &mut D, lines: &[u8], replies: &[u8
     None
 }
 
-// The same of the 70 lines, on a volume of 64 frames.
+// The first wrong one with 70 lines, on a volume of 64 frames.
 fn wrong_alone_of_70<D: Disk>(alloc: Global, disk: &mut D) -> Option<Cut> {
     let lines = repeated(alloc, "1 store 0x100000020 7\n1 load 0x100000020\n", 35);
     let replies = repeated(alloc, "ok\nok 0x0000000000000007\n", 35);
-    if told_of(alloc, MAKING, disk, "").is_err() {
+    if output_for(alloc, MAKING, disk, "").is_err() {
         return Some((0, 0, 0, 0));
     }
     wrong_alone(alloc, disk, lines.as_bytes(), replies.as_bytes())
@@ -200,23 +200,23 @@ fn seventy_lines_one_by_one(rt: HostRuntime) {
     assert!(rt; wrong_alone_on_zeros(rt.alloc()).is_none());
 }
 
-// A command on a fresh volume with what it reads and tells, and what a second one reads and tells then.
+// A command on a fresh volume with its streams and output, and a second one with its input and output.
 type Pair<'a> = (&'a str, Streams<'a>, &'a str, &'a str, &'a str, &'a str);
 
-// Whether both tell so.
-fn tell(alloc: Global, disk: &mut MemDisk, pair: &Pair<'_>) -> bool {
-    let (line, streams, wanted, second, input, kept) = pair;
-    is_told(alloc, line, disk, streams, wanted) && is_told_of(alloc, second, disk, input, kept)
+// Whether both commands have their outputs.
+fn both_agree(alloc: Global, disk: &mut MemDisk, pair: &Pair<'_>) -> bool {
+    let (line, streams, wanted, second, input, later) = pair;
+    outputs(alloc, line, disk, streams, wanted) && outputs_for(alloc, second, disk, input, later)
 }
 
 fn is_pair(alloc: Global, pair: &Pair<'_>) -> bool {
     match fresh(alloc) {
-        Ok(mut disk) => tell(alloc, &mut disk, pair),
+        Ok(mut disk) => both_agree(alloc, &mut disk, pair),
         Err(_) => false,
     }
 }
 
-// The first of these that does not tell so.
+// The output of the second command of the first pair that differs.
 fn wrong_pair<'a>(alloc: Global, rows: &[Pair<'a>]) -> Option<&'a str> {
     for row in rows {
         if !is_pair(alloc, row) {
@@ -263,8 +263,8 @@ const UNTOUCHED: &str = "0 ok 64 1 1 1 1 0 1000\n";
 
 const RENTED: &str = "0 ok 64 1 1 1 1 1 1000\n";
 
-// Where the source fails, what an open batch has is neither kept nor answered. Where the sink fails, a line was kept before, and of a
-// rent the period has passed. No bytes leave all as it was.
+// If the source fails, the lines of the open batch are neither stored nor answered. If the sink fails, the batch is stored all the same,
+// and `rent` has counted its period. An empty input changes nothing.
 const PAIRS: [Pair<'static>; 6] = [
     ("vol run 2", LOAD, "5 ", "vol run", LOADS, NONE),
     ("vol run", SOURCE_FAILS, "5 ok\n", "vol run", LOADS, FIRST),
@@ -280,12 +280,12 @@ fn a_source_or_a_sink_that_fails(rt: HostRuntime) -> Result<(), Fail> {
     Ok(())
 }
 
-// Whether a command ends with a fault of the disk, where none of its calls passes.
+// Whether a command ends with a fault of the disk if the first call fails.
 fn fails_at_once(alloc: Global, line: &str) -> bool {
     match fresh(alloc) {
         Ok(disk) => {
             let mut disk = Fuse::new(disk, 0);
-            is_told_of(alloc, line, &mut disk, STORE, "4 ")
+            outputs_for(alloc, line, &mut disk, STORE, "4 ")
         }
         Err(_) => false,
     }
@@ -298,9 +298,9 @@ fn a_disk_that_fails_at_once(rt: HostRuntime) -> Result<(), Fail> {
     Ok(())
 }
 
-// How many writes and syncs a run makes on this disk.
+// The number of writes and of syncs that a run makes on this disk.
 fn calls_on(alloc: Global, disk: &mut MemDisk, line: &str, input: &str) -> Option<(u64, u64)> {
-    match told_of(alloc, line, disk, input) {
+    match output_for(alloc, line, disk, input) {
         Ok(_) => {
             let counts = disk.counts();
             Some((counts.writes, counts.syncs))
@@ -317,12 +317,12 @@ fn calls(alloc: Global, line: &str, input: &str) -> Option<(u64, u64)> {
     }
 }
 
-// Whether a run of this input makes so many.
+// Whether a run with this input makes these numbers of writes and syncs.
 fn makes(alloc: Global, input: &str, wanted: (u64, u64)) -> bool {
     calls(alloc, "vol run", input) == Some(wanted)
 }
 
-// An opening makes one sync, also where no segment is open.
+// An opening makes one sync, even if no segment is open.
 #[test]
 fn calls_of_a_line(rt: HostRuntime) -> Result<(), Fail> {
     let alloc = rt.alloc();
@@ -333,7 +333,7 @@ fn calls_of_a_line(rt: HostRuntime) -> Result<(), Fail> {
     Ok(())
 }
 
-// Whether 40 stores make fewer syncs together than alone.
+// Whether 40 stores in one batch make fewer syncs than alone.
 fn saves_syncs(alloc: Global) -> bool {
     let lines = repeated(alloc, STORE, 40);
     let alone = calls(alloc, "vol run", lines.as_str());

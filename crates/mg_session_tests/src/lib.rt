@@ -1,4 +1,4 @@
-//! Tests of whole commands that no file of lines can say: calls that fail, limits, words, and volumes as they are made.
+//! Tests of whole commands that no file of lines can say: calls that fail, limits, words, and the making of volumes.
 #![tactic(auto)]
 
 #[cfg(test)]

@@ -1,38 +1,42 @@
-// A session with a limit on its bytes that is reached.
+// Sessions that reach the limit on their bytes.
 ghost use Rattle.std.specs.Prelude.{◌≡◌, ◌<◌};
 
 use mg_disk::Disk;
 use mg_io::{MemSink, MemSource};
 use mg_kernel::Kernel;
 use mg_model::Steps;
-use mg_session::{Buffers, Ended, serve};
 use mg_testing::fresh;
+use mg_volume_session::{Buffers, Ended, serve};
 use std::alloc::{AllocError, Global};
 use std::marker::Brand;
 use std::sync::ledger::{Blank, Ledger};
 
-// What a session reads from, puts into, and keeps its replies in.
+// The source, the sink and the buffers of the replies.
 #[derive(Drop)]
-struct Ends {
+struct Channels {
     source: MemSource,
     sink: MemSink,
-    owed: Buffers,
+    replies: Buffers,
 }
 
-// The ends of a session that reads this.
-fn ends_of(alloc: Global, input: &[u8]) -> Result<Ends, AllocError> {
+// Those of a session that reads this input.
+fn channels_of(alloc: Global, input: &[u8]) -> Result<Channels, AllocError> {
     let source = MemSource::new(input.to_vec(alloc)?, 4, Vec::new(alloc));
     let sink = MemSink::new(alloc, 256, Vec::new(alloc))?;
     match Buffers::new(alloc) {
-        Ok(owed) => Ok(Ends { source, sink, owed }),
+        Ok(replies) => Ok(Channels {
+            source,
+            sink,
+            replies,
+        }),
         Err(e) => Err(e),
     }
 }
 
-// What a session reads with a limit of 16 bytes, the status that its end stands for, and what is put.
+// What a session reads with a limit of 16 bytes, its status, and its output.
 type Row = (&'static [u8], u8, &'static [u8]);
 
-// Of a byte past the limit no line is made, and a line that ended before it is answered.
+// A byte past the limit is in no line. A line that ended before it is answered.
 const ROWS: &[Row] = &[
     (b"                ", 0, b""),
     (b"                 ", 7, b""),
@@ -46,7 +50,7 @@ const ROWS: &[Row] = &[
     (b"1 ret\n1 ret\n1 ret", 7, b"no NoFrame\nno NoFrame\n"),
 ];
 
-// How many sessions, from the first on, end and put as their rows say.
+// The number of rows, from the first on, whose session ends as the row says.
 fn served<L: Ledger>(alloc: Global, blank: Blank) -> usize
     requires name { blank.name ≡ L.name }
     requires parts { blank.parts ≡ L.parts }
@@ -67,27 +71,36 @@ fn count_served<L: Ledger>(alloc: Global, steps: &mut Steps<L>) -> usize {
     served
 }
 
-// Whether a session ends and puts as its row says.
+// Whether a session has the status and the output of its row.
 fn is_served<L: Ledger>(alloc: Global, row: &Row, steps: &mut Steps<L>) -> bool {
-    match ends_of(alloc, row.0) {
-        Ok(mut ends) => puts(alloc, row, &mut ends, steps),
+    match channels_of(alloc, row.0) {
+        Ok(mut channels) => is_served_with(alloc, row, &mut channels, steps),
         Err(_) => false,
     }
 }
 
-// The same with these ends.
-fn puts<L: Ledger>(alloc: Global, row: &Row, ends: &mut Ends, steps: &mut Steps<L>) -> bool {
-    serve_ends(alloc, ends, steps) == Some(row.1) && are_same(ends.sink.bytes(), row.2)
+// The same with these streams.
+fn is_served_with<L: Ledger>(
+    alloc: Global,
+    row: &Row,
+    channels: &mut Channels,
+    steps: &mut Steps<L>,
+) -> bool {
+    serve_channels(alloc, channels, steps) == Some(row.1) && are_same(channels.sink.bytes(), row.2)
 }
 
-fn are_same(put: &[u8], wanted: &[u8]) -> bool {
-    put == wanted
+fn are_same(printed: &[u8], wanted: &[u8]) -> bool {
+    printed == wanted
 }
 
-// The status that a session of these ends stands for; none where memory is wanting or a call fails.
-fn serve_ends<L: Ledger>(alloc: Global, ends: &mut Ends, steps: &mut Steps<L>) -> Option<u8> {
+// The status of a session with these streams. None if out of memory or if a call fails.
+fn serve_channels<L: Ledger>(
+    alloc: Global,
+    channels: &mut Channels,
+    steps: &mut Steps<L>,
+) -> Option<u8> {
     match fresh(alloc) {
-        Ok(mut disk) => serve_disk(alloc, &mut disk, ends, steps),
+        Ok(mut disk) => serve_disk(alloc, &mut disk, channels, steps),
         Err(_) => None,
     }
 }
@@ -96,16 +109,16 @@ fn serve_ends<L: Ledger>(alloc: Global, ends: &mut Ends, steps: &mut Steps<L>) -
 fn serve_disk<D: Disk, L: Ledger>(
     alloc: Global,
     disk: &mut D,
-    ends: &mut Ends,
+    channels: &mut Channels,
     steps: &mut Steps<L>,
 ) -> Option<u8> {
     match Kernel::open(alloc, disk) {
         Ok(mut kernel) => code(serve(
             &mut kernel,
             disk,
-            &mut ends.source,
-            &mut ends.sink,
-            &mut ends.owed,
+            &mut channels.source,
+            &mut channels.sink,
+            &mut channels.replies,
             1,
             16,
             steps,

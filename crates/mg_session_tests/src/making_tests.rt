@@ -1,12 +1,12 @@
-// Volumes that are made, where the disk is too small, where it stops, and where the line is not taken.
+// The making of volumes: on a disk that is too small, on one that stops, and with a reply that can't be printed.
 use mg_disk::{BLOCK_SIZE, Disk, Fuse, Left, MemDisk};
 use mg_layout::{Geometry, fresh_block};
 use mg_model::{Params, Tariff};
-use mg_testing::{BLOCKS, MAKING, ROOM, Streams, answers, is_told, is_told_of, volume};
+use mg_testing::{BLOCKS, MAKING, ROOM, Streams, answers, outputs, outputs_for, volume};
 use std::alloc::Global;
 use std::test::Fail;
 
-// The calls of the disk that make a volume of 64 frames.
+// The disk calls that make a volume of 64 frames.
 const CALLS: u64 = 1313;
 
 // The words that make the older volume.
@@ -15,16 +15,16 @@ const OLDER: &str =
 
 const MADE: &str = "0 ok 0x0000000100000000 0x903df1a0ade0b876 0x28bd8653e56a5d40\n";
 
-// Whether this is told of a volume that is made on a disk of so many blocks, with a source of one byte, which no volume takes.
+// Whether making a volume on a disk of `blocks` blocks prints this. Its source has one byte, which the command does not read.
 fn is_made(alloc: Global, blocks: u64, wanted: &str) -> bool {
     match MemDisk::new(alloc, blocks, CALLS, Vec::new(alloc)) {
-        Ok(mut disk) => is_told_of(alloc, MAKING, &mut disk, "x", wanted),
+        Ok(mut disk) => outputs_for(alloc, MAKING, &mut disk, "x", wanted),
         Err(_) => false,
     }
 }
 
 #[test]
-fn a_volume_is_made_where_it_fits(rt: HostRuntime) -> Result<(), Fail> {
+fn a_volume_is_made_if_it_fits(rt: HostRuntime) -> Result<(), Fail> {
     let alloc = rt.alloc();
     assert!(rt; is_made(alloc, BLOCKS - 1, "8 small 2660 2659\n") && is_made(alloc, BLOCKS, MADE));
     Ok(())
@@ -36,8 +36,8 @@ fn begins(disk: &mut MemDisk, i: u64, bytes: &[u8]) -> bool {
     i < disk.blocks() && disk.read(i, &mut out).is_ok() && out.starts_with(bytes)
 }
 
-// What a volume of 500 credits is asked in two runs. After them each kind of row has another value than in a fresh volume, and the last
-// line stands in the journal alone.
+// Two runs on a volume of 500 credits. After them each kind of row differs from that of a fresh volume, and the last line is in the
+// journal alone.
 const FIRST_RUN: &str = "1 create 2 1 0x28bd8653e56a5d40
 #= ok 0x0000000100001000 0x1aed8da0b819d2bd
 1 account 1 0x28bd8653e56a5d40 7
@@ -56,26 +56,26 @@ const SECOND_RUN: &str = "1 store 0x100000010 6
 
 // What a disk holds.
 #[derive(Clone, Copy, PartialEq)]
-enum Held {
+enum Content {
     // No volume.
     Nothing,
-    // The volume that was there.
+    // The volume that was there before.
     Older,
-    // Each block of the fresh one that is written: all but the indexes and the bodies of the journal, and the frames behind the
+    // Each block of the fresh volume that is written: all but the indexes and the bodies of the journal, and the frames after the
     // first.
     Fresh,
     Other,
 }
 
-fn what_is_on(alloc: Global, disk: &mut MemDisk, params: &Params) -> Held {
-    if is_told_of(alloc, "vol check", disk, "", "2 open not\n") {
-        Held::Nothing
-    } else if is_told_of(alloc, "vol check", disk, "", "0 ok 64 2 3 2 2 1 500\n") {
-        Held::Older
+fn content_of(alloc: Global, disk: &mut MemDisk, params: &Params) -> Content {
+    if outputs_for(alloc, "vol check", disk, "", "2 open not\n") {
+        Content::Nothing
+    } else if outputs_for(alloc, "vol check", disk, "", "0 ok 64 2 3 2 2 1 500\n") {
+        Content::Older
     } else if is_fresh(disk, params) {
-        Held::Fresh
+        Content::Fresh
     } else {
-        Held::Other
+        Content::Other
     }
 }
 
@@ -97,26 +97,27 @@ fn is_fresh(disk: &mut MemDisk, params: &Params) -> bool {
 }
 
 // Whether a stop now leaves this.
-fn leaves(alloc: Global, disk: &MemDisk, left: Left, params: &Params, wanted: Held) -> bool {
+fn leaves(alloc: Global, disk: &MemDisk, left: Left, params: &Params, wanted: Content) -> bool {
     match disk.stopped(alloc, left) {
-        Ok(mut stopped) => what_is_on(alloc, &mut stopped, params) == wanted,
+        Ok(mut stopped) => content_of(alloc, &mut stopped, params) == wanted,
         Err(_) => false,
     }
 }
 
-// What a stop leaves after so many calls: with the blocks that were written since the last sync as before, as written, and destroyed.
-// Block 0 is closed and synced first, and opened and synced last. Where it is destroyed it is open.
-fn wanted(calls: u64) -> [Held; 3] {
+// What a stop leaves after `calls` calls, if the blocks that were written since the last sync are as before, as written, or destroyed.
+// Block 0 is closed and synced first, and opened and synced last. A destroyed block 0 is an open gate.
+fn wanted(calls: u64) -> [Content; 3] {
     match calls {
-        0 => [Held::Older; 3],
-        1 => [Held::Older, Held::Nothing, Held::Older],
-        2..=1311 => [Held::Nothing; 3],
-        1312 => [Held::Nothing, Held::Fresh, Held::Fresh],
-        _ => [Held::Fresh; 3],
+        0 => [Content::Older; 3],
+        1 => [Content::Older, Content::Nothing, Content::Older],
+        2..=1311 => [Content::Nothing; 3],
+        1312 => [Content::Nothing, Content::Fresh, Content::Fresh],
+        _ => [Content::Fresh; 3],
     }
 }
 
-// Whether this is told of a volume that is made over an older one on a disk of so many calls, and a stop then leaves what it has to.
+// Whether making a volume over an older one, on a disk that stops after `calls` calls, prints its reply or fails, and leaves what it
+// must.
 fn is_made_in(alloc: Global, older: &MemDisk, calls: u64, params: &Params) -> bool {
     match older.stopped(alloc, Left::New) {
         Ok(disk) => is_made_by(alloc, Fuse::new(disk, calls), calls, params),
@@ -126,23 +127,22 @@ fn is_made_in(alloc: Global, older: &MemDisk, calls: u64, params: &Params) -> bo
 
 fn is_made_by(alloc: Global, fuse: Fuse<MemDisk>, calls: u64, params: &Params) -> bool {
     let mut fuse = fuse;
-    let told = if calls == CALLS { MADE } else { "4 " };
-    let is_told = is_told_of(alloc, MAKING, &mut fuse, "x", told);
+    let reply = if calls == CALLS { MADE } else { "4 " };
+    let is_printed = outputs_for(alloc, MAKING, &mut fuse, "x", reply);
     let disk = fuse.into_inner();
     let [old, new, gates] = wanted(calls);
-    is_told
+    is_printed
         && leaves(alloc, &disk, Left::Old, params, old)
         && leaves(alloc, &disk, Left::New, params, new)
         && leaves(alloc, &disk, Left::Gates, params, gates)
 }
 
-// Whether the disk is stopped after so many calls: each where few are made or few are wanting, and some between, which neither write
-// block 0 nor sync.
+// Whether the stop after `calls` calls is tried: the first and the last ones, and some between, which neither write block 0 nor sync.
 fn is_tried(calls: u64) -> bool {
     calls < 21 || calls % 50 == 0 || calls > CALLS - 24
 }
 
-// The first number of calls where it is not so.
+// The first number of calls after which the outcome is wrong.
 fn wrong(alloc: Global, older: &MemDisk, params: &Params) -> Option<u64> {
     for calls in 0..CALLS + 1 {
         if is_tried(calls) && !is_made_in(alloc, older, calls, params) {
@@ -181,25 +181,25 @@ fn a_stop_while_a_volume_is_made(rt: HostRuntime) -> Result<(), Fail> {
     Ok(())
 }
 
-// Whether a volume whose line is not put stands: the disk is not asked again.
-fn stands(alloc: Global, disk: &mut MemDisk) -> bool {
+// Whether a volume is whole although its reply could not be printed.
+fn survives(alloc: Global, disk: &mut MemDisk) -> bool {
     let streams = Streams {
         puts: &[0],
         ..Streams::of(b"")
     };
-    is_told(alloc, MAKING, disk, &streams, "6 ")
-        && is_told_of(alloc, "vol check", disk, "", "0 ok 64 1 1 1 1 0 1000\n")
+    outputs(alloc, MAKING, disk, &streams, "6 ")
+        && outputs_for(alloc, "vol check", disk, "", "0 ok 64 1 1 1 1 0 1000\n")
 }
 
-fn stands_on_zeros(alloc: Global) -> bool {
+fn survives_on_zeros(alloc: Global) -> bool {
     match MemDisk::new(alloc, BLOCKS, ROOM, Vec::new(alloc)) {
-        Ok(mut disk) => stands(alloc, &mut disk),
+        Ok(mut disk) => survives(alloc, &mut disk),
         Err(_) => false,
     }
 }
 
 #[test]
-fn a_line_of_a_volume_that_is_not_put(rt: HostRuntime) -> Result<(), Fail> {
-    assert!(rt; stands_on_zeros(rt.alloc()));
+fn a_volume_whose_reply_is_not_printed(rt: HostRuntime) -> Result<(), Fail> {
+    assert!(rt; survives_on_zeros(rt.alloc()));
     Ok(())
 }

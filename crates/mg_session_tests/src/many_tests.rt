@@ -1,20 +1,20 @@
-// As many accounts and objects as there may be, with rents where the pages in use are at a step of the tariff or beside it.
+// As many accounts and objects as possible, and rents at each step of the tariff and next to it.
 use mg_disk::MemDisk;
 use mg_model::draw;
-use mg_testing::{MAKING, Streams, ends, is_told_of, volume};
+use mg_testing::{MAKING, Streams, ends, outputs_for, volume};
 use std::alloc::Global;
 use std::test::Fail;
 
-/// How many accounts there may be.
+/// The most accounts.
 const ACCOUNTS: u64 = 1024;
 
-/// How many objects there may be.
+/// The most objects.
 const OBJECTS: u64 = 4096;
 
 /// The steps of the usual tariff of 4,100 frames, the last first: a number of pages, and the rate from there on.
 const STEPS: [(u64, u64); 4] = [(3075, 8), (2050, 4), (1025, 2), (0, 1)];
 
-/// The pages in use where rent is collected.
+/// The numbers of pages in use at which rent is collected.
 const RENTS: [u64; 10] = [
     1024, 1025, 1026, 2049, 2050, 2051, 3074, 3075, 3076, OBJECTS,
 ];
@@ -29,7 +29,7 @@ const DRY: &str =
 const FORMAT: &str =
     "vol format 4100 0000000000000000000000000000000000000000000000000000000000000000 10000000";
 
-/// What an account has, what it owes, and the pages that it pays for.
+/// The credits of an account, its debt, and the pages that it pays for.
 #[derive(Clone, Copy)]
 struct Account {
     balance: u64,
@@ -37,7 +37,7 @@ struct Account {
     pages: u64,
 }
 
-/// Lines with what they are to be answered, and what they leave.
+/// Lines with their answers, and the state that they leave.
 #[derive(Drop)]
 struct Script {
     input: String,
@@ -48,8 +48,8 @@ struct Script {
     period: u64,
 }
 
-/// No line yet: account 1 pays for the root, and the others are not opened.
-fn none(alloc: Global, accounts: Vec<Account>) -> Script {
+/// A script with no line: account 1 pays for the root, and the others are not open.
+fn empty_script(alloc: Global, accounts: Vec<Account>) -> Script {
     Script {
         input: String::new(alloc),
         wanted: String::new(alloc),
@@ -60,7 +60,7 @@ fn none(alloc: Global, accounts: Vec<Account>) -> Script {
     }
 }
 
-/// An account that has so much and pays for nothing.
+/// An account with these credits, which pays for nothing.
 fn with_balance(balance: u64) -> Account {
     Account {
         balance,
@@ -69,17 +69,17 @@ fn with_balance(balance: u64) -> Account {
     }
 }
 
-/// The password of this number. That of the treasury is the second one of all, and those of the other accounts follow it.
+/// The password with this number. That of the treasury has number 1, and those of the other accounts follow it.
 fn password(number: u64) -> u64 {
     draw(&[0; 32], number % 8192)
 }
 
-/// Puts a text behind another one. Where memory is wanting it is not there, and then the texts differ.
+/// Appends to a text. If memory runs out the part is missing, and the texts then differ.
 fn push(text: &mut String, part: &str) {
     let _ = text.push_str(part);
 }
 
-/// A line of these words and numbers.
+/// Appends a line of these words and numbers.
 fn push_line(text: &mut String, words: &str, numbers: &[u64]) {
     push(text, words);
     for number in numbers {
@@ -94,7 +94,7 @@ fn push_number(text: &mut String, number: u64) {
     push(text, digits.format(number));
 }
 
-/// A line of these words and of numbers in hexadecimal digits.
+/// Appends a line of these words and of numbers in hexadecimal digits.
 fn push_hex_line(text: &mut String, words: &str, numbers: &[u64]) {
     push(text, words);
     for number in numbers {
@@ -112,7 +112,7 @@ fn push_hex(text: &mut String, number: u64) {
     }
 }
 
-/// What an account is.
+/// The account with this number.
 fn row_of(script: &Script, number: u64) -> Account {
     let place = number.wrapping_sub(1) as usize;
     script
@@ -122,21 +122,21 @@ fn row_of(script: &Script, number: u64) -> Account {
         .unwrap_or(with_balance(0))
 }
 
-/// Makes an account another one.
-fn set(script: &mut Script, number: u64, new: Account) {
+/// Changes an account.
+fn set_account(script: &mut Script, number: u64, new: Account) {
     if let Some(old) = script.accounts.get_mut(number.wrapping_sub(1) as usize) {
         *old = new;
     }
 }
 
-/// Puts so many credits into an account.
-fn add(script: &mut Script, number: u64, amount: u64) {
+/// Adds credits to an account.
+fn add_credits(script: &mut Script, number: u64, amount: u64) {
     let row = row_of(script, number);
     let balance = row.balance.wrapping_add(amount);
-    set(script, number, Account { balance, ..row });
+    set_account(script, number, Account { balance, ..row });
 }
 
-/// Opens an account with so many credits of the treasury.
+/// Opens an account with credits of the treasury.
 fn open_account(script: &mut Script, number: u64, amount: u64) {
     let opens = password(number);
     push_line(&mut script.input, "1 account 1", &[password(1), amount]);
@@ -144,18 +144,18 @@ fn open_account(script: &mut Script, number: u64, amount: u64) {
     push_number(&mut script.wanted, number);
     push_hex_line(&mut script.wanted, "", &[opens]);
     script.draws = script.draws.wrapping_add(1);
-    add(script, 1, 0_u64.wrapping_sub(amount));
-    set(script, number, with_balance(amount));
+    add_credits(script, 1, 0_u64.wrapping_sub(amount));
+    set_account(script, number, with_balance(amount));
 }
 
-/// Opens the accounts that there may be beside the treasury; each ninth one has no credits.
+/// Opens all accounts but the treasury. Each ninth one has no credits.
 fn open_accounts(script: &mut Script) {
     for number in 2..ACCOUNTS + 1 {
         open_account(script, number, number % 9 * 300);
     }
 }
 
-/// An object of one page more, paid by this account; where that owes something it is refused.
+/// Makes an object of one page that this account pays for. It is refused if the account has a debt.
 fn create(script: &mut Script, payer: u64) -> bool {
     push_line(&mut script.input, "1 create 1", &[payer, password(payer)]);
     let row = row_of(script, payer);
@@ -169,11 +169,11 @@ fn create(script: &mut Script, payer: u64) -> bool {
     script.draws = script.draws.wrapping_add(1);
     script.used = script.used.wrapping_add(1);
     let pages = row.pages.wrapping_add(1);
-    set(script, payer, Account { pages, ..row });
+    set_account(script, payer, Account { pages, ..row });
     true
 }
 
-/// The rate where so many pages are in use.
+/// The rate for `used` pages in use.
 fn rate_at(used: u64) -> u64 {
     for (from, rate) in STEPS {
         if from <= used {
@@ -183,7 +183,7 @@ fn rate_at(used: u64) -> u64 {
     0
 }
 
-/// What an account pays at this rate, which is taken from it.
+/// Takes what an account pays at this rate, and returns it.
 fn pay(row: &mut Account, rate: u64) -> u64 {
     let due = row.owed.wrapping_add(rate.wrapping_mul(row.pages));
     let paid = due.min(row.balance);
@@ -192,7 +192,7 @@ fn pay(row: &mut Account, rate: u64) -> u64 {
     paid
 }
 
-/// What all accounts pay.
+/// Takes what all accounts pay, and returns the sum.
 fn pay_all(script: &mut Script, rate: u64) -> u64 {
     let mut sum: u64 = 0;
     for row in script.accounts.iter_mut() {
@@ -201,17 +201,17 @@ fn pay_all(script: &mut Script, rate: u64) -> u64 {
     sum
 }
 
-/// A collection of rent.
+/// Collects rent.
 fn collect(script: &mut Script) {
     let rate = rate_at(script.used);
     let sum = pay_all(script, rate);
-    add(script, 1, sum);
+    add_credits(script, 1, sum);
     script.period = script.period.wrapping_add(1);
     push(&mut script.input, "rent\n");
     push_line(&mut script.wanted, "ok", &[script.period, rate, sum]);
 }
 
-/// The objects that there may be beside the root, paid by the accounts in turn, and by the treasury where one owes something.
+/// Makes all objects but the root. The accounts pay in turn, and the treasury for each that has a debt.
 fn make_objects(script: &mut Script) {
     for number in 1..OBJECTS {
         if !create(script, number % ACCOUNTS + 1) {
@@ -223,8 +223,8 @@ fn make_objects(script: &mut Script) {
     }
 }
 
-/// What each account is told.
-fn tell_balances(script: &mut Script) {
+/// Appends a line for the balance of each account.
+fn push_balances(script: &mut Script) {
     for number in 1..ACCOUNTS + 1 {
         let row = row_of(script, number);
         let opens = password(number);
@@ -237,14 +237,14 @@ fn tell_balances(script: &mut Script) {
     }
 }
 
-/// All of these, and behind the accounts and the objects one more of each, which is refused.
-fn write(script: &mut Script) {
+/// Appends all of these lines. After all accounts and all objects one more of each is refused.
+fn write_all(script: &mut Script) {
     let opens = password(1);
     let treasury = Account {
         pages: 1,
         ..with_balance(10_000_000)
     };
-    set(script, 1, treasury);
+    set_account(script, 1, treasury);
     open_accounts(script);
     push_line(&mut script.input, "1 account 1", &[opens, 0]);
     push_line(&mut script.input, "1 account 1", &[opens, 10_000_000]);
@@ -253,30 +253,30 @@ fn write(script: &mut Script) {
     push_line(&mut script.input, "1 create 1 1", &[opens]);
     push_line(&mut script.input, "1 create 1024 1", &[opens]);
     push(&mut script.wanted, "no Limit\nno Limit\n");
-    tell_balances(script);
+    push_balances(script);
     collect(script);
-    tell_balances(script);
+    push_balances(script);
 }
 
-/// The accounts that there may be on a volume of 1,000 credits, of which each new one has a credit until there is none left; and
-/// behind them one more without a credit, and one with, which are refused.
+/// Opens all accounts on a volume of 1,000 credits. Each new one gets a credit until none is left. Then one more without a credit and
+/// one with a credit are refused.
 fn write_accounts(script: &mut Script) {
     let opens = password(1);
     let treasury = Account {
         pages: 1,
         ..with_balance(1000)
     };
-    set(script, 1, treasury);
+    set_account(script, 1, treasury);
     for number in 2..ACCOUNTS + 1 {
         open_account(script, number, u64::from(number < 1002));
     }
     push_line(&mut script.input, "1 account 1", &[opens, 0]);
     push_line(&mut script.input, "1 account 1", &[opens, 1]);
     push(&mut script.wanted, "no Limit\nno Credit\n");
-    tell_balances(script);
+    push_balances(script);
 }
 
-/// Whether a command with these lines puts just their answers.
+/// Whether a command with these lines prints just their answers.
 fn is_answered(alloc: Global, line: &str, disk: &mut MemDisk, script: &Script) -> bool {
     let streams = Streams {
         room: 1_000_000,
@@ -285,7 +285,7 @@ fn is_answered(alloc: Global, line: &str, disk: &mut MemDisk, script: &Script) -
     ends(alloc, line, disk, &streams, 0, script.wanted.as_bytes())
 }
 
-/// Whether `dry` does, on a disk that no call may be made of.
+/// Whether `dry` does, on a disk of which no call may be made.
 fn is_answered_dry(alloc: Global, script: &Script) -> bool {
     match MemDisk::new(alloc, 1, 0, Vec::new(alloc)) {
         Ok(mut disk) => is_answered(alloc, DRY, &mut disk, script),
@@ -293,12 +293,12 @@ fn is_answered_dry(alloc: Global, script: &Script) -> bool {
     }
 }
 
-/// Whether `run` does on the volume that these words make, and whether `check` tells this then.
+/// Whether `run` does on the volume that these words make, and whether `check` then prints this.
 fn is_answered_run(alloc: Global, format: &str, script: &Script, checked: &str) -> (bool, bool) {
     match volume(alloc, format) {
         Ok(mut disk) => {
             let is_answered = is_answered(alloc, "vol run 64", &mut disk, script);
-            let is_checked = is_told_of(alloc, "vol check", &mut disk, "", checked);
+            let is_checked = outputs_for(alloc, "vol check", &mut disk, "", checked);
             (is_answered, is_checked)
         }
         Err(_) => (false, false),
@@ -317,12 +317,12 @@ fn is_all_answered(alloc: Global, script: &Script) -> (bool, (bool, bool)) {
     )
 }
 
-/// The same of all these lines, which are more than 7,000.
+/// The same with more than 7,000 lines.
 fn is_written_answered(alloc: Global) -> (bool, (bool, bool)) {
     match vec![in alloc; with_balance(0); ACCOUNTS as usize] {
         Ok(accounts) => {
-            let mut script = none(alloc, accounts);
-            write(&mut script);
+            let mut script = empty_script(alloc, accounts);
+            write_all(&mut script);
             is_all_answered(alloc, &script)
         }
         Err(_) => (false, (false, false)),
@@ -335,11 +335,11 @@ fn as_many_accounts_and_objects_as_there_may_be(rt: HostRuntime) -> Result<(), F
     Ok(())
 }
 
-/// The same of the accounts of a volume of 1,000 credits.
+/// The same for the accounts of a volume of 1,000 credits.
 fn are_accounts_answered(alloc: Global) -> (bool, bool) {
     match vec![in alloc; with_balance(0); ACCOUNTS as usize] {
         Ok(accounts) => {
-            let mut script = none(alloc, accounts);
+            let mut script = empty_script(alloc, accounts);
             write_accounts(&mut script);
             is_answered_run(alloc, MAKING, &script, "0 ok 64 1 1 1024 1 0 1000\n")
         }

@@ -1,7 +1,7 @@
 // The words of the command line, form by form.
 use mg_model::{Params, Tariff};
-use mg_session::{Command, read_words};
 use mg_testing::words_of;
+use mg_volume_session::{Command, read_words};
 use std::alloc::Global;
 use std::test::Fail;
 
@@ -13,7 +13,7 @@ const BYTES: [u8; 32] = [
     0x80, 0x70, 0x60, 0x50, 0x40, 0x30, 0x20, 0x10, 0,
 ];
 
-// Lines that spell a command; S stands for the seed.
+// Lines that spell a command. S is the seed.
 const COMMANDS: &str = "vol dry 64 S 1000
 dry dry 0x10 S 0x3e8
 vol dry 16 S 0
@@ -26,8 +26,8 @@ vol run
 vol run 1
 vol run 0x40";
 
-// Lines that spell none. The tariffs have three steps, five, a first one that is not from 0, steps that do not rise, numbers above
-// 2^20, and what is no step.
+// Lines that spell no command. The tariffs have three steps, five steps, a first step that is not at 0, steps that do not rise, numbers
+// above 2^20, and words that are no step.
 const NO_COMMANDS: &str = "vol dry 15 S 0
 vol dry 65537 S 0
 vol dry 64 S 4611686018427387905
@@ -59,7 +59,7 @@ vol run 65
 vol run 1 1
 run";
 
-// What a line spells.
+// The command that a line spells.
 fn read(alloc: Global, line: &str) -> Option<Command> {
     match words_of(alloc, line) {
         Ok(words) => read_words(&words),
@@ -67,11 +67,11 @@ fn read(alloc: Global, line: &str) -> Option<Command> {
     }
 }
 
-// The same with a seed in the place of the first S.
+// The same, with the seed in place of the first S.
 fn read_seeded(alloc: Global, line: &str) -> Option<Command> {
     let mut text = String::new(alloc);
     let parts = match line.split_once('S') {
-        Some((before, behind)) => [before, SEED, behind],
+        Some((before, after)) => [before, SEED, after],
         None => [line, "", ""],
     };
     for part in parts {
@@ -80,7 +80,7 @@ fn read_seeded(alloc: Global, line: &str) -> Option<Command> {
     read(alloc, text.as_str())
 }
 
-// The first of these lines that does, or does not, spell a command.
+// The first of these lines that spells a command if `is_spelled`, else the first that spells none.
 fn first_spelled<'a>(alloc: Global, lines: &'a str, is_spelled: bool) -> Option<&'a str> {
     for line in lines.split('\n') {
         if read_seeded(alloc, line).is_some() == is_spelled {

@@ -1,31 +1,31 @@
-// A command from its words to its status.
+// Runs a command from its words to its status.
 ghost use Rattle.std.specs.Prelude.{◌≡◌, ◌<◌};
 
 use mg_disk::Disk;
 use mg_io::{MemSink, MemSource, Sink, Source};
 use mg_model::Steps;
-use mg_session::{Status, top};
+use mg_volume_session::{Status, top};
 use std::alloc::{AllocError, Global};
 use std::marker::Brand;
 use std::sync::ledger::{Blank, Ledger};
 
-/// What a command reads, and how its source and its sink behave.
+/// The input of a command, and how its source and its sink behave.
 #[derive(Clone, Copy)]
 pub struct Streams<'a> {
     /// The bytes of the source.
     pub input: &'a [u8],
-    /// How many bytes a take gives at most; 0 is read as 1.
+    /// The most bytes that a take gives. 0 is read as 1.
     pub piece: usize,
     /// The numbers of the takes that fail, from 0.
     pub takes: &'a [u64],
     /// The numbers of the puts that fail, from 0.
     pub puts: &'a [u64],
-    /// How many bytes the sink takes in all.
+    /// The number of bytes that the sink has room for.
     pub room: usize,
 }
 
 impl<'a> Streams<'a> {
-    /// This input in pieces of 4096 bytes, and a sink for 65,536; no call fails.
+    /// This input in pieces of 4096 bytes, and a sink for 65,536. No call fails.
     pub fn of(input: &'a [u8]) -> Streams<'a> {
         Streams {
             input,
@@ -37,15 +37,15 @@ impl<'a> Streams<'a> {
     }
 }
 
-/// How a command ended.
+/// The end of a command.
 #[derive(Drop)]
 pub struct Outcome {
     pub status: Status,
-    /// What the sink took.
-    pub put: Vec<u8>,
+    /// What the command printed: the bytes that the sink took.
+    pub printed: Vec<u8>,
 }
 
-/// The words of a command line, which blanks part.
+/// The words of a command line, which blanks separate.
 pub fn words_of(alloc: Global, line: &str) -> Result<Vec<String>, AllocError> {
     let mut words = Vec::new(alloc);
     for word in line.split(' ').filter(|word| !word.is_empty()) {
@@ -54,7 +54,7 @@ pub fn words_of(alloc: Global, line: &str) -> Result<Vec<String>, AllocError> {
     Ok(words)
 }
 
-/// Runs the command that the words of this line spell, over this disk.
+/// Runs the command that the words of this line spell, on this disk.
 pub fn command<D: Disk>(
     alloc: Global,
     line: &str,
@@ -67,7 +67,7 @@ pub fn command<D: Disk>(
     }
 }
 
-/// The same of the words.
+/// The same for words.
 fn spelled<D: Disk>(
     alloc: Global,
     words: &[String],
@@ -88,7 +88,7 @@ fn source_of(alloc: Global, streams: &Streams<'_>) -> Result<MemSource, AllocErr
     }
 }
 
-/// The same over this source.
+/// The same with this source.
 fn taken<D: Disk, S: Source>(
     alloc: Global,
     words: &[String],
@@ -109,7 +109,7 @@ fn sink_of(alloc: Global, streams: &Streams<'_>) -> Result<MemSink, AllocError> 
     }
 }
 
-/// The same over this sink too.
+/// The same with this sink too.
 fn put<D: Disk, S: Source>(
     alloc: Global,
     words: &[String],
@@ -120,12 +120,12 @@ fn put<D: Disk, S: Source>(
     let blank = Blank::new(1);
     let status = with_steps::<_, _, _, Brand>(alloc, words, disk, source, sink, blank);
     match sink.bytes().to_vec(alloc) {
-        Ok(put) => Ok(Outcome { status, put }),
+        Ok(printed) => Ok(Outcome { status, printed }),
         Err(e) => Err(e),
     }
 }
 
-/// The top call, with a count of steps of its own.
+/// The top call, with a counter of steps of its own.
 fn with_steps<D: Disk, S: Source, K: Sink, L: Ledger>(
     alloc: Global,
     words: &[String],

@@ -1,9 +1,9 @@
 //! Helpers for tests: whole commands of the program on disks in memory.
 //!
-//! [`command`] runs the words of a command line over any disk, with what its source and its sink do given as [`Streams`], and
-//! tells how it ended and what it put; [`told`] and [`told_of`] tell the same as one text. [`is_told`], [`is_told_of`], [`ends`] and
-//! [`answers`] compare with what is wanted, and give a `bool` alone, which is cheap to prove where many commands follow each other.
-//! [`volume`] is a disk in memory that such words made a volume, and [`fresh`] one of 64 frames.
+//! [`command`] runs the words of a command line over any disk, with a source and a sink that behave as [`Streams`] says. It returns the
+//! status and what was printed; [`output`] and [`output_for`] return both as one text. [`outputs`], [`outputs_for`], [`ends`] and
+//! [`answers`] compare, and return a `bool` alone, which takes little time to prove if many commands follow each other. [`volume`] is a
+//! disk in memory with a volume that such words made, and [`fresh`] one of 64 frames.
 #![tactic(auto)]
 
 mod commands;
@@ -12,7 +12,7 @@ mod volumes;
 
 pub use commands::{Outcome, Streams, command, words_of};
 pub use outcomes::{
-    BLOCKS, Byte, MAKING, answers, ends, fresh, is_told, is_told_of, making, put, put_bytes,
-    put_words, told, told_of,
+    BLOCKS, Byte, MAKING, answers, ends, fresh, making, output, output_for, outputs, outputs_for,
+    write_bytes, write_each, write_words,
 };
 pub use volumes::{ROOM, SEED, volume};

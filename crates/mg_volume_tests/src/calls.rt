@@ -1,4 +1,4 @@
-// Calls by their own names, behind no search for a right: those on the root by its base, and those that make and pick a thread.
+// Calls by their own names, without a search for a right: on the root by its base, and to make and pick a thread.
 ghost use Rattle.std.specs.Prelude.{◌≡◌, ◌≤◌, true};
 ghost use Rattle.mg_calls_obj.specs.Based.{is_object};
 ghost use Rattle.mg_volume.specs.Meaning.{staged_of};
@@ -13,13 +13,13 @@ use mg_vcache::VCache;
 use mg_volume::Volume;
 use std::alloc::Global;
 
-// The passwords of the key stream for the key 0, which RFC 8439 prints in its appendix A.1: the second is the treasury's, the third
-// the next that is drawn.
+// Passwords of the key stream for the key 0, which RFC 8439 prints in its appendix A.1. The second is the treasury's, and the third is
+// drawn next.
 const TREASURY: u64 = 0x28bd_8653_e56a_5d40;
 
 const DRAWN: u64 = 0x1aed_8da0_b819_d2bd;
 
-fn asked(volume: &mut Volume, cache: &mut VCache, call: &Call) -> Option<Reply>
+fn call_root(volume: &mut Volume, cache: &mut VCache, call: &Call) -> Option<Reply>
     requires there { is_object volume.old 0x100000000 ≡ true }
     requires at_most_30_staged { staged_of volume.old ≤ 30 }
 {
@@ -43,13 +43,13 @@ fn asked(volume: &mut Volume, cache: &mut VCache, call: &Call) -> Option<Reply>
     }
 }
 
-/// What a call on the root is answered, where the root is there and there is room for what is staged.
+/// The reply to a call on the root. None if the root is gone or more than 30 blocks are staged.
 fn answered(volume: &mut Volume, cache: &mut VCache, call: &Call) -> Option<Reply> {
     if volume.staged() > 30 {
         return None;
     }
     match volume.object(ROOT) {
-        Some(_) => asked(volume, cache, call),
+        Some(_) => call_root(volume, cache, call),
         None => None,
     }
 }
@@ -108,7 +108,7 @@ fn is_gone(volume: &mut Volume, cache: &mut VCache) -> bool {
         && volume.object(ROOT).is_none()
 }
 
-/// Whether each call on the root of a fresh volume is answered as its row says.
+/// Whether each call on the root of a fresh volume has its reply.
 fn are_answered(volume: &mut Volume, cache: &mut VCache) -> bool {
     is_about(volume, cache, 0, 0)
         && is_added(volume, cache, Some(0), Reply::No(Refusal::Past))
@@ -124,7 +124,7 @@ fn are_answered(volume: &mut Volume, cache: &mut VCache) -> bool {
         && is_gone(volume, cache)
 }
 
-/// Whether a thread is made on a fresh volume, and is the next one then: thread 1 is stopped.
+/// Whether a thread is made on a fresh volume and is then the next to run. Thread 1 is stopped.
 fn is_begun(volume: &mut Volume) -> bool
     requires { IsFresh volume.old }
 {

@@ -1,4 +1,4 @@
-// Lines that make an object and reach it: each read of the disk that they make fails once, and the line is stepped again.
+// Lines that make an object and reach it. Each disk call that they make fails once, and the line is stepped again.
 ghost use Rattle.std.specs.Prelude.{◌≡◌, ◌<◌};
 ghost use Rattle.mg_kernel.specs.Meaning.{StandsOn};
 
@@ -15,15 +15,14 @@ use std::sync::ledger::{Blank, Ledger};
 /// The second password of a fresh volume, which opens the treasury.
 const TREASURY: u64 = 0x28bd_8653_e56a_5d40;
 
-/// The third, which the new object gets.
+/// The third password, which the new object gets.
 const GIVEN: u64 = 0x1aed_8da0_b819_d2bd;
 
 /// A call of thread 1, and its reply.
 type Row = (Call, Reply);
 
-// Thread 1 makes an object of two pages, which it may not read before it puts it into the root's list; then it reads its word and writes
-// it. The page of the root is read, for the line that is denied. The object's page has no frame before it is written, and then its
-// frame is staged.
+// Thread 1 makes an object of two pages. Its first load is denied, and reads the root's page. Then it stores the object into the root's
+// list, loads a word and stores it. The object's page has no frame before the store. After it the frame is staged.
 const MAKING: [Row; 8] = [
     (
         Call::Create {
@@ -60,7 +59,7 @@ const MAKING: [Row; 8] = [
     (Call::Load { a: OTHER + 8 }, Reply::Value(5)),
 ];
 
-// The volume is opened again: a search reads the page of the root, and the word is in that of the object.
+// The volume is opened again. A search reads the root's page, and the load reads the object's page.
 const REACHING: [Row; 2] = [
     (Call::Load { a: OTHER + 8 }, Reply::Value(5)),
     (
@@ -72,15 +71,15 @@ const REACHING: [Row; 2] = [
     ),
 ];
 
-/// The calls of the disk that were made for some lines, from the first one to before the last, and how many of them failed.
+/// The disk calls that some lines make, from `first` up to before `last`, and the number of lines that failed once.
 #[derive(Clone, Copy)]
-struct Part {
+struct CallRange {
     first: u64,
     last: u64,
     failed: u64,
 }
 
-/// How many calls of the disk were made.
+/// The number of disk calls that were made.
 fn calls(disk: &MemDisk) -> u64 {
     let counts = disk.counts();
     counts
@@ -89,7 +88,7 @@ fn calls(disk: &MemDisk) -> u64 {
         .saturating_add(counts.syncs)
 }
 
-/// What a line is answered, and how often it failed before: once at most. It is stepped where there is room for what it stages.
+/// The reply to a line, and how often it failed before, once at most. None if it fails again, or if too much is staged.
 fn answered_again<D: Disk, L: Ledger>(
     kernel: &mut Kernel,
     disk: &mut D,
@@ -111,7 +110,7 @@ fn answered_again<D: Disk, L: Ledger>(
     }
 }
 
-/// How many lines failed once, where each of them is answered as its row says.
+/// The number of lines that failed once. None if a line has another reply than its row.
 fn failed_among<D: Disk, L: Ledger>(
     kernel: &mut Kernel,
     disk: &mut D,
@@ -132,20 +131,20 @@ fn failed_among<D: Disk, L: Ledger>(
     Some(failed)
 }
 
-/// What some lines come to on a kernel. What they changed is committed.
+/// Steps some lines on a kernel, and commits what they changed.
 fn stepped<L: Ledger>(
     kernel: &mut Kernel,
     disk: &mut MemDisk,
     rows: &[Row],
     steps: &mut Steps<L>,
-) -> Option<Part>
+) -> Option<CallRange>
     requires { StandsOn ⟦<MemDisk as Disk>⟧ kernel.old disk.old }
 {
     let first = calls(disk);
     let failed = failed_among(kernel, disk, rows, steps)?;
     let last = calls(disk);
     if is_committed(kernel, disk) {
-        Some(Part {
+        Some(CallRange {
             first,
             last,
             failed,
@@ -161,19 +160,19 @@ fn stepped_anew<L: Ledger>(
     disk: &mut MemDisk,
     rows: &[Row],
     steps: &mut Steps<L>,
-) -> Option<Part> {
+) -> Option<CallRange> {
     match Kernel::open(alloc, disk) {
         Ok(mut kernel) => stepped(&mut kernel, disk, rows, steps),
         Err(_) => None,
     }
 }
 
-/// What both runs of lines come to, on a disk that is made a volume here.
+/// Steps both lists of lines on a disk, which becomes a volume first.
 fn both_on<L: Ledger>(
     alloc: Global,
     disk: &mut MemDisk,
     steps: &mut Steps<L>,
-) -> Option<[Part; 2]> {
+) -> Option<[CallRange; 2]> {
     if !is_made(disk, 64) {
         return None;
     }
@@ -182,27 +181,35 @@ fn both_on<L: Ledger>(
     Some([making, reaching])
 }
 
-/// The same on a disk of which the calls of these numbers fail.
-fn both_with<L: Ledger>(alloc: Global, fails: Vec<u64>, steps: &mut Steps<L>) -> Option<[Part; 2]> {
+/// The same on a disk of which the calls with these numbers fail.
+fn both_with<L: Ledger>(
+    alloc: Global,
+    fails: Vec<u64>,
+    steps: &mut Steps<L>,
+) -> Option<[CallRange; 2]> {
     match MemDisk::new(alloc, 2660, 20_000, fails) {
         Ok(mut disk) => both_on(alloc, &mut disk, steps),
         Err(_) => None,
     }
 }
 
-fn both_without<L: Ledger>(alloc: Global, number: u64, steps: &mut Steps<L>) -> Option<[Part; 2]> {
+fn both_failing<L: Ledger>(
+    alloc: Global,
+    number: u64,
+    steps: &mut Steps<L>,
+) -> Option<[CallRange; 2]> {
     match [number].to_vec(alloc) {
         Ok(fails) => both_with(alloc, fails, steps),
         Err(_) => None,
     }
 }
 
-/// How many calls of the disk some lines make, where each of them fails in a run of its own, in which just one line is stepped
-/// again.
-fn count_fails<L: Ledger>(alloc: Global, part: &Part, steps: &mut Steps<L>) -> Option<u64> {
+/// The number of disk calls that some lines make. Each of these calls fails in a run of its own, in which just one line must be stepped
+/// again. None if not.
+fn count_fails<L: Ledger>(alloc: Global, range: &CallRange, steps: &mut Steps<L>) -> Option<u64> {
     let mut count: u64 = 0;
-    for number in part.first..part.last {
-        let [making, reaching] = both_without(alloc, number, steps)?;
+    for number in range.first..range.last {
+        let [making, reaching] = both_failing(alloc, number, steps)?;
         if making.failed.saturating_add(reaching.failed) != 1 {
             return None;
         }
@@ -211,7 +218,7 @@ fn count_fails<L: Ledger>(alloc: Global, part: &Part, steps: &mut Steps<L>) -> O
     Some(count)
 }
 
-/// The same of both runs of lines.
+/// The same for both lists of lines.
 fn count_both<L: Ledger>(alloc: Global, blank: Blank) -> Option<[u64; 2]>
     requires name { blank.name ≡ L.name }
     requires parts { blank.parts ≡ L.parts }

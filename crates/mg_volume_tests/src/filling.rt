@@ -1,9 +1,9 @@
-// More pages than the page cache keeps.
+// More pages than the page cache holds.
 ghost use Rattle.std.specs.Prelude.{◌≡◌, ◌<◌, true};
 ghost use Rattle.mg_kernel.specs.Meaning.{StandsOn};
 
 use crate::kernels::{LISTED, is_made, read_by};
-use crate::sharing::{OTHER, are_put};
+use crate::sharing::{OTHER, are_written};
 use crate::trials::{Row, wrong_row};
 use mg_disk::{Disk, MemDisk};
 use mg_kernel::Kernel;
@@ -12,37 +12,37 @@ use std::alloc::Global;
 use std::marker::Brand;
 use std::sync::ledger::{Blank, Ledger};
 
-/// How many blocks are kept at most.
-const KEPT: u64 = 256;
+/// The most blocks that the page cache holds.
+const CACHE_BLOCKS: u64 = 256;
 
-/// How many pages the other object has. With the page of the root's list they are three more than are kept.
-const PAGES: u64 = KEPT + 2;
+/// The number of pages of the other object. With the page of the root's list there are three more than the cache holds.
+const PAGES: u64 = CACHE_BLOCKS + 2;
 
 /// A store into a page of the other object, and a commit.
-fn written(page: u64) -> [Row; 2] {
+fn store_rows(page: u64) -> [Row; 2] {
     let store = Row::Store {
-        a: OTHER.saturating_add(page.saturating_mul(4096)),
+        address: OTHER.saturating_add(page.saturating_mul(4096)),
         value: 7,
         words: None,
     };
     [store, Row::Commit]
 }
 
-/// Stores into each page once, first to last, and commits each.
+/// Stores into each page once, first to last, and commits each store.
 fn is_filled<D: Disk, L: Ledger>(kernel: &mut Kernel, disk: &mut D, steps: &mut Steps<L>) -> bool
     requires { StandsOn D.Disk kernel.old disk.old }
     ensures { result ≡ true → StandsOn D.Disk kernel.new disk.new }
 {
     for page in 0..PAGES {
-        if wrong_row(kernel, disk, &written(page), steps).is_some() {
+        if wrong_row(kernel, disk, &store_rows(page), steps).is_some() {
             return false;
         }
     }
     true
 }
 
-/// Where all pages were stored into, how many blocks are read by the second store into the last page but one, by one into the first
-/// page, which is kept, and by the third into that page.
+/// The numbers of blocks that three stores read after a store into each page: the second store into the last page but one, a store into
+/// the first page, which is cached, and the third store into the last page but one.
 fn reads<L: Ledger>(
     kernel: &mut Kernel,
     disk: &mut MemDisk,
@@ -54,10 +54,10 @@ fn reads<L: Ledger>(
     if !is_filled(kernel, disk, steps) {
         return None;
     }
-    let second = read_by(kernel, disk, &written(KEPT), steps)?;
-    let kept = read_by(kernel, disk, &written(0), steps)?;
-    let third = read_by(kernel, disk, &written(KEPT), steps)?;
-    Some([second, kept, third])
+    let second = read_by(kernel, disk, &store_rows(CACHE_BLOCKS), steps)?;
+    let cached = read_by(kernel, disk, &store_rows(0), steps)?;
+    let third = read_by(kernel, disk, &store_rows(CACHE_BLOCKS), steps)?;
+    Some([second, cached, third])
 }
 
 fn reads_on<L: Ledger>(
@@ -65,7 +65,7 @@ fn reads_on<L: Ledger>(
     disk: &mut MemDisk,
     steps: &mut Steps<L>,
 ) -> Option<[u64; 3]> {
-    if !is_made(disk, 512) || !are_put(disk, ObjRow::new(OTHER, PAGES, 1)) {
+    if !is_made(disk, 512) || !are_written(disk, ObjRow::new(OTHER, PAGES, 1)) {
         return None;
     }
     match Kernel::open(alloc, disk) {

@@ -1,8 +1,8 @@
-// Kernels on volumes in memory: what their caches keep is counted in words and in blocks, and told by probes.
+// Kernels on volumes in memory. The words and blocks that are read show what the caches hold, and probes show what threads can reach.
 ghost use Rattle.std.specs.Prelude.{◌≡◌, ◌≤◌, ◌<◌, IsSome};
 ghost use Rattle.mg_kernel.specs.Meaning.{StandsOn};
 
-use crate::sharing::{OTHER, PASSWORD, are_put};
+use crate::sharing::{OTHER, PASSWORD, are_written};
 use crate::trials::{Row, wrong_row};
 use mg_disk::{Disk, MemDisk};
 use mg_kernel::Kernel;
@@ -13,58 +13,58 @@ use std::alloc::Global;
 use std::marker::Brand;
 use std::sync::ledger::{Blank, Ledger};
 
-/// What is tried on a fresh volume of 64 frames.
+/// A trial on a fresh volume of 64 frames.
 #[derive(Clone, Copy)]
 enum Trial {
     /// The words of a capability list are read once, until a store into it.
     Counting,
-    /// A page is read once, and stays behind a commit.
+    /// A page is read once, and stays cached after a commit.
     Reading,
-    /// A page that is written again and again is never read.
+    /// A page that is stored into again and again is never read.
     Writing,
-    /// A probe tells what a thread may reach, also once that has locked itself out.
+    /// A probe shows what a thread can reach, even after the thread has locked itself out.
     LockedOut,
-    /// It tells the same when the volume is opened again.
+    /// A probe shows the same after the volume is opened again.
     StillOut,
-    /// Two threads take one seat in turn.
+    /// Two threads use one seat in turn.
     Sharing,
 }
 
-// The root's list has one entry: a search reads the count, the base and the password. Each line has a word of its own; the store
-// wants another right, and so searches too.
+// The root's list has one entry. A search reads the count, the base and the password, and each line reads or writes one more word. The
+// store needs another right, so it searches too.
 const COUNTED: [Row; 4] = [
     Row::Loads {
         thread: 1,
-        a: ROOT,
+        address: ROOT,
         value: 1,
         times: 1,
         words: Some(4),
     },
     Row::Loads {
         thread: 1,
-        a: ROOT,
+        address: ROOT,
         value: 1,
         times: 999,
         words: Some(1003),
     },
     Row::Store {
-        a: ROOT + 2048,
+        address: ROOT + 2048,
         value: 5,
         words: Some(1007),
     },
     Row::Loads {
         thread: 1,
-        a: ROOT,
+        address: ROOT,
         value: 1,
         times: 1,
         words: Some(1011),
     },
 ];
 
-// The root's page is one block: its list and the word that is loaded.
+// The root's page is one block. It has the list and the word that is loaded.
 const FIRST_READ: [Row; 1] = [Row::Loads {
     thread: 1,
-    a: ROOT,
+    address: ROOT,
     value: 1,
     times: 1,
     words: None,
@@ -72,7 +72,7 @@ const FIRST_READ: [Row; 1] = [Row::Loads {
 
 const READ_AGAIN: [Row; 1] = [Row::Loads {
     thread: 1,
-    a: ROOT,
+    address: ROOT,
     value: 1,
     times: 99,
     words: None,
@@ -80,35 +80,35 @@ const READ_AGAIN: [Row; 1] = [Row::Loads {
 
 const COMMITTED: [Row; 2] = [
     Row::Store {
-        a: ROOT + 2048,
+        address: ROOT + 2048,
         value: 5,
         words: None,
     },
     Row::Commit,
 ];
 
-const READ_BEHIND: [Row; 1] = [Row::Loads {
+const READ_AFTER: [Row; 1] = [Row::Loads {
     thread: 1,
-    a: ROOT + 2048,
+    address: ROOT + 2048,
     value: 5,
     times: 1,
     words: None,
 }];
 
-// Thread 1 puts the other object into the root's list.
+// Thread 1 stores the other object into the root's list.
 pub(crate) const LISTED: [Row; 4] = [
     Row::Store {
-        a: ROOT,
+        address: ROOT,
         value: 2,
         words: None,
     },
     Row::Store {
-        a: ROOT + 32,
+        address: ROOT + 32,
         value: OTHER,
         words: None,
     },
     Row::Store {
-        a: ROOT + 40,
+        address: ROOT + 40,
         value: PASSWORD,
         words: None,
     },
@@ -117,7 +117,7 @@ pub(crate) const LISTED: [Row; 4] = [
 
 const WRITTEN: [Row; 2] = [
     Row::Store {
-        a: OTHER + 8,
+        address: OTHER + 8,
         value: 7,
         words: None,
     },
@@ -130,7 +130,7 @@ const LOCKED_OUT: [Row; 6] = [
     Row::Lives(2, false),
     Row::Probes(true),
     Row::Store {
-        a: ROOT,
+        address: ROOT,
         value: 0,
         words: None,
     },
@@ -140,48 +140,48 @@ const LOCKED_OUT: [Row; 6] = [
 
 const STILL_OUT: [Row; 1] = [Row::Probes(false)];
 
-// Thread 1 puts the other object into the root's list, behind the root. Its three stores each search the list up to the root's
+// Thread 1 stores the other object into the root's list, after the root. Each of its three stores searches the list up to the root's
 // entry. A search for the other object reads one base more. Both keys have seat 38, so the last load searches again.
 const SHARED: [Row; 6] = [
     Row::Store {
-        a: ROOT,
+        address: ROOT,
         value: 2,
         words: None,
     },
     Row::Store {
-        a: ROOT + 32,
+        address: ROOT + 32,
         value: OTHER,
         words: None,
     },
     Row::Store {
-        a: ROOT + 40,
+        address: ROOT + 40,
         value: PASSWORD,
         words: Some(12),
     },
     Row::Loads {
         thread: 1,
-        a: OTHER,
+        address: OTHER,
         value: 0,
         times: 1,
         words: Some(17),
     },
     Row::Loads {
         thread: 38,
-        a: ROOT,
+        address: ROOT,
         value: 2,
         times: 1,
         words: Some(21),
     },
     Row::Loads {
         thread: 1,
-        a: OTHER,
+        address: OTHER,
         value: 0,
         times: 1,
         words: Some(26),
     },
 ];
 
-/// How many blocks some rows read, where they are answered as they say.
+/// The number of blocks that some rows read. None if a row has another answer.
 pub(crate) fn read_by<L: Ledger>(
     kernel: &mut Kernel,
     disk: &mut MemDisk,
@@ -198,7 +198,7 @@ pub(crate) fn read_by<L: Ledger>(
     }
 }
 
-/// How many blocks are read by the first load, by those behind it, and by the one behind a commit.
+/// The numbers of blocks that are read by the first load, by the loads after it, and by the load after a commit.
 fn reads<L: Ledger>(
     kernel: &mut Kernel,
     disk: &mut MemDisk,
@@ -209,11 +209,11 @@ fn reads<L: Ledger>(
     let first = read_by(kernel, disk, &FIRST_READ, steps)?;
     let again = read_by(kernel, disk, &READ_AGAIN, steps)?;
     read_by(kernel, disk, &COMMITTED, steps)?;
-    let behind = read_by(kernel, disk, &READ_BEHIND, steps)?;
-    Some([first, again, behind])
+    let after = read_by(kernel, disk, &READ_AFTER, steps)?;
+    Some([first, again, after])
 }
 
-/// How many blocks are read by the first store into a page, by the second and by the third, with a commit behind each.
+/// The numbers of blocks that are read by the first, second and third store into a page, each followed by a commit.
 fn reads_to_write<L: Ledger>(
     kernel: &mut Kernel,
     disk: &mut MemDisk,
@@ -228,7 +228,7 @@ fn reads_to_write<L: Ledger>(
     Some([first, second, third])
 }
 
-/// Whether a trial on this kernel goes as it says.
+/// Whether a trial on this kernel goes as it should.
 fn goes_well<L: Ledger>(
     kernel: &mut Kernel,
     disk: &mut MemDisk,
@@ -260,7 +260,7 @@ fn is_opened_well<L: Ledger>(
     }
 }
 
-/// The same on a fresh volume, behind what the trial begins with.
+/// The same on a fresh volume, after the trial's preparation.
 fn all_go_well<L: Ledger>(
     alloc: Global,
     disk: &mut MemDisk,
@@ -268,14 +268,14 @@ fn all_go_well<L: Ledger>(
     steps: &mut Steps<L>,
 ) -> bool {
     let is_ready = match trial {
-        Trial::Sharing | Trial::Writing => are_put(disk, ObjRow::new(OTHER, 1, 1)),
+        Trial::Sharing | Trial::Writing => are_written(disk, ObjRow::new(OTHER, 1, 1)),
         Trial::StillOut => is_opened_well(alloc, disk, Trial::LockedOut, steps),
         _ => true,
     };
     is_ready && is_opened_well(alloc, disk, trial, steps)
 }
 
-/// Makes a volume of so many frames.
+/// Makes a volume of `frames` frames.
 pub(crate) fn is_made<D: Disk>(disk: &mut D, frames: u64) -> bool
     requires at_least_16_frames { 16 ≤ frames }
     requires at_most_65536_frames { frames ≤ 65536 }

@@ -1,7 +1,8 @@
-//! Tests of a volume, of the calls and of the kernel: each call that no program makes yet, once, and what it asks for is met.
+//! Tests of a volume, of the calls and of the kernel. Each call that no program makes is made once, so something meets what it
+//! requires.
 //!
-//! They stand above `mg_volume`, `mg_calls_obj`, `mg_calls_thr` and `mg_kernel`, over their public calls, so that those are proved once. `specs/Fresh.antt`
-//! says what is known of a fresh volume.
+//! They are in a crate of their own above `mg_volume`, `mg_calls_obj`, `mg_calls_thr` and `mg_kernel`, so that those are proved only
+//! once. `specs/Fresh.antt` says what is known of a fresh volume.
 #![tactic(auto)]
 
 #[cfg(test)]

@@ -11,7 +11,7 @@ use std::sync::ledger::Ledger;
 /// A thread, an address and a right.
 type Probe = (u64, u64, Right);
 
-// Probes of a fresh volume, and the bases that they answer. Thread 1 alone lives, and has each right to the root.
+// Probes of a fresh volume, and the base that each returns. Only thread 1 lives. It has every right to the root.
 const PROBES: [(Probe, Option<u64>); 14] = [
     ((1, ROOT, Right::R), Some(ROOT)),
     ((1, ROOT, Right::W), Some(ROOT)),
@@ -29,7 +29,7 @@ const PROBES: [(Probe, Option<u64>); 14] = [
     ((u64::MAX, ROOT, Right::R), None),
 ];
 
-/// What a probe answers, where there is room for what it stages.
+/// What a probe returns. None if it fails or if too much is staged.
 fn probed<D: Disk, L: Ledger>(
     kernel: &mut Kernel,
     disk: &mut D,
@@ -39,14 +39,14 @@ fn probed<D: Disk, L: Ledger>(
     requires { StandsOn D.Disk kernel.old disk.old }
     ensures { StandsOn D.Disk kernel.new disk.new }
 {
-    let (t, a, r) = probe;
+    let (thread, address, right) = probe;
     if !kernel.live() || kernel.staged() > 30 {
         return None;
     }
-    kernel.probe(disk, t, a, r, steps).ok()
+    kernel.probe(disk, thread, address, right, steps).ok()
 }
 
-/// The first probe that is answered otherwise: by its base where thread 1 still has the root, and else by nothing.
+/// The first probe that returns something else: its base if thread 1 still has the root, and otherwise nothing.
 pub(crate) fn wrong_probe<D: Disk, L: Ledger>(
     kernel: &mut Kernel,
     disk: &mut D,

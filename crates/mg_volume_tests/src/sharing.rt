@@ -1,4 +1,4 @@
-// A volume with a second thread, whose rights and those of the first have one seat.
+// A volume with a second thread. Its rights and those of the first thread have the same seat.
 ghost use Rattle.std.specs.Prelude.{◌≡◌, length};
 
 use crate::kernels::ROOT;
@@ -7,10 +7,10 @@ use mg_layout::{FIRST_OBJECT_BLOCK, FIRST_THREAD_BLOCK, GLOBALS_BLOCK};
 use mg_model::{Frame, ObjRow, Pw, Rights, Slot, ThrRow};
 use mg_rows::{Spelled, put_object, read_globals, read_thread, write_globals, write_thread};
 
-/// The base of another object, behind the root's one page.
+/// The base of another object, after the root's one page.
 pub(crate) const OTHER: u64 = ROOT + 4096;
 
-/// Its password.
+/// The password of that object.
 pub(crate) const PASSWORD: u64 = 7;
 
 fn block<D: Disk>(disk: &mut D, i: u64) -> Option<Block> {
@@ -21,12 +21,12 @@ fn block<D: Disk>(disk: &mut D, i: u64) -> Option<Block> {
     Some(block)
 }
 
-fn is_put<D: Disk>(disk: &mut D, i: u64, block: &Block) -> bool {
+fn is_written<D: Disk>(disk: &mut D, i: u64, block: &Block) -> bool {
     i < disk.blocks() && disk.write(i, block).is_ok()
 }
 
 /// A first frame with this slot.
-fn framed(slot: Option<&Slot>) -> Frame
+fn frame_with(slot: Option<&Slot>) -> Frame
     ensures { result.back ≡ 0 }
 {
     match slot {
@@ -39,11 +39,11 @@ fn framed(slot: Option<&Slot>) -> Frame
     }
 }
 
-/// A thread that has the first slot of the thread in this block, spelled.
-fn like(first: &Block) -> Option<Block> {
+/// The block of a thread with the first slot of the thread in this block.
+fn thread_like(first: &Block) -> Option<Block> {
     match read_thread(first) {
         Some(Spelled::Row(first)) => {
-            let row = ThrRow::new(2, 1, 0, framed(first.last().slots().first()));
+            let row = ThrRow::new(2, 1, 0, frame_with(first.last().slots().first()));
             let mut spelled = [0; BLOCK_SIZE];
             write_thread(Some(&row), &mut spelled);
             Some(spelled)
@@ -52,7 +52,7 @@ fn like(first: &Block) -> Option<Block> {
     }
 }
 
-/// The counters in this block with a second birth, spelled.
+/// The block of these counters with a second birth.
 fn with_birth(counters: &Block) -> Option<Block> {
     let mut globals = read_globals(counters)?;
     globals.set_births(2);
@@ -61,26 +61,29 @@ fn with_birth(counters: &Block) -> Option<Block> {
     Some(spelled)
 }
 
-/// Puts a thread 38 that has the first slot of thread 1, and counts its birth.
-fn is_thread_put<D: Disk>(disk: &mut D) -> Option<bool> {
-    let thread = like(&block(disk, FIRST_THREAD_BLOCK)?)?;
+/// Writes a thread 38 with the first slot of thread 1, and counts its birth. None if the blocks can't be read.
+fn is_thread_written<D: Disk>(disk: &mut D) -> Option<bool> {
+    let thread = thread_like(&block(disk, FIRST_THREAD_BLOCK)?)?;
     let counters = with_birth(&block(disk, GLOBALS_BLOCK)?)?;
-    Some(is_put(disk, FIRST_THREAD_BLOCK + 37, &thread) && is_put(disk, GLOBALS_BLOCK, &counters))
+    Some(
+        is_written(disk, FIRST_THREAD_BLOCK + 37, &thread)
+            && is_written(disk, GLOBALS_BLOCK, &counters),
+    )
 }
 
-/// Puts the other object, which has no password yet, into the row behind the root's.
-fn is_other_put<D: Disk>(disk: &mut D, mut row: ObjRow) -> Option<bool>
+/// Writes the other object into the row after the root's, with its password.
+fn is_other_written<D: Disk>(disk: &mut D, mut row: ObjRow) -> Option<bool>
     requires no_password { length row.passwords ≡ 0 }
 {
     row.add_password(Pw::new(PASSWORD, Rights::all(), Pw::NEVER));
     let mut spelled = block(disk, FIRST_OBJECT_BLOCK)?;
     put_object(Some(&row), 1, &mut spelled);
-    Some(is_put(disk, FIRST_OBJECT_BLOCK, &spelled))
+    Some(is_written(disk, FIRST_OBJECT_BLOCK, &spelled))
 }
 
-/// Puts both on a disk with a fresh volume, and says whether that was done.
-pub(crate) fn are_put<D: Disk>(disk: &mut D, other: ObjRow) -> bool
+/// Writes both on a disk with a fresh volume. False if that fails.
+pub(crate) fn are_written<D: Disk>(disk: &mut D, other: ObjRow) -> bool
     requires no_password { length other.passwords ≡ 0 }
 {
-    is_thread_put(disk) == Some(true) && is_other_put(disk, other) == Some(true)
+    is_thread_written(disk) == Some(true) && is_other_written(disk, other) == Some(true)
 }

@@ -1,4 +1,4 @@
-// Rows and counters that are staged: each is seen at once.
+// Rows and counters that are staged are seen at once.
 ghost use Rattle.std.specs.Prelude.{◌≡◌, IfSome, IsSome, IsSomeAnd};
 ghost use Rattle.mg_model.specs.Fresh.{fresh};
 ghost use Rattle.mg_model.specs.Volume.{Is, volume};
@@ -10,12 +10,12 @@ use mg_model::{Frame, Globals, ObjRow, Params, Slot, Tariff, ThrRow};
 use mg_volume::Volume;
 use std::alloc::Global;
 
-/// The base of another object than the root, and its pages.
+/// The base of an object that is not the root, and its pages.
 const BASE: u64 = 0x1_0001_0000;
 
 const PAGES: u64 = 3;
 
-/// A fresh volume of 64 frames, whose passwords are those of the seed 0.
+/// A fresh volume of 64 frames with the seed 0.
 pub(crate) fn fresh(alloc: Global) -> Option<Volume>
     ensures { IfSome result IsFresh }
 {
@@ -48,7 +48,7 @@ fn opened(alloc: Global, mut disk: MemDisk, params: &Params) -> Option<Volume>
     }
 }
 
-/// Whether an object stands there as it came, with an extension, and is gone; beside each the blocks that are staged.
+/// Whether an object is there as inserted, has its extension, and is gone, each with the number of staged blocks.
 type Objects = [(bool, usize); 3];
 
 fn objects_of(volume: &mut Volume) -> Objects
@@ -97,8 +97,8 @@ fn extended() -> ObjRow
     row
 }
 
-// Other counters, where there is room for them.
-fn put(volume: &mut Volume, counters: Globals) -> Option<()> {
+// Stages other counters. None if too much is staged.
+fn stage_counters(volume: &mut Volume, counters: Globals) -> Option<()> {
     if volume.staged() >= 160 {
         return None;
     }
@@ -110,16 +110,16 @@ fn thread() -> ThrRow {
     ThrRow::new(2, 1, 8, Frame::new(0))
 }
 
-// The next password, where there is room for the count of draws.
-fn next(volume: &mut Volume) -> Option<u64> {
+// Draws the next password. None if too much is staged or no password is left.
+fn next_password(volume: &mut Volume) -> Option<u64> {
     if volume.staged() >= 160 || volume.globals().draws() >= 1 << 32 {
         return None;
     }
     Some(volume.next_password())
 }
 
-/// Whether thread 1 is gone, thread 256 has come and the counters are the new ones, with two draws; the two passwords; and the
-/// blocks that are staged.
+/// Whether thread 1 is gone, whether thread 256 is there, and whether the counters are the new ones with two draws. Then the two
+/// passwords, and the number of staged blocks.
 type Rest = ([bool; 3], [u64; 2], usize);
 
 fn rest_of(volume: &mut Volume) -> Option<Rest>
@@ -127,10 +127,10 @@ fn rest_of(volume: &mut Volume) -> Option<Rest>
 {
     volume.stage_thread(256, Some(thread()));
     volume.stage_thread(1, None);
-    // A period may come after a later one.
-    put(volume, Globals::new(2, 5, 256, 9))?;
-    put(volume, Globals::new(2, 3, 256, 9))?;
-    let passwords = [next(volume)?, next(volume)?];
+    // The period may go back.
+    stage_counters(volume, Globals::new(2, 5, 256, 9))?;
+    stage_counters(volume, Globals::new(2, 3, 256, 9))?;
+    let passwords = [next_password(volume)?, next_password(volume)?];
     let are_seen = [
         volume.thread(1).is_none(),
         volume.thread(256) == Some(thread()),
@@ -141,30 +141,30 @@ fn rest_of(volume: &mut Volume) -> Option<Rest>
 
 /// What is staged on a fresh volume.
 #[derive(Clone, Copy)]
-enum Part {
+enum Staged {
     Objects,
     BasedObjects,
     Rest,
 }
 
-// Both rows of the object are in one block, and no page of it has a frame. The passwords are the third and the fourth of the key
-// stream for the key 0, which RFC 8439 prints in its appendix A.1.
-fn is_seen(volume: &mut Volume, part: Part) -> bool
+// Both rows of the object are in one block, and no page of it has a frame. The passwords are the third and the fourth of the key stream
+// for the key 0, which RFC 8439 prints in its appendix A.1.
+fn is_seen(volume: &mut Volume, staged: Staged) -> bool
     requires { IsFresh volume.old }
 {
-    match part {
-        Part::Objects => objects_of(volume) == [(true, 1); 3],
-        Part::BasedObjects => based_objects_of(volume) == [(true, 1); 3],
-        Part::Rest => {
+    match staged {
+        Staged::Objects => objects_of(volume) == [(true, 1); 3],
+        Staged::BasedObjects => based_objects_of(volume) == [(true, 1); 3],
+        Staged::Rest => {
             let passwords = [0x1aed_8da0_b819_d2bd, 0xc70d_778b_ccef_36a8];
             rest_of(volume) == Some(([true; 3], passwords, 3))
         }
     }
 }
 
-fn is_seen_on_fresh(alloc: Global, part: Part) -> bool {
+fn is_seen_on_fresh(alloc: Global, staged: Staged) -> bool {
     match fresh(alloc) {
-        Some(mut volume) => is_seen(&mut volume, part),
+        Some(mut volume) => is_seen(&mut volume, staged),
         None => false,
     }
 }
@@ -172,9 +172,9 @@ fn is_seen_on_fresh(alloc: Global, part: Part) -> bool {
 #[test]
 fn what_is_staged_is_seen(rt: HostRuntime) {
     let are_seen = [
-        is_seen_on_fresh(rt.alloc(), Part::Objects),
-        is_seen_on_fresh(rt.alloc(), Part::BasedObjects),
-        is_seen_on_fresh(rt.alloc(), Part::Rest),
+        is_seen_on_fresh(rt.alloc(), Staged::Objects),
+        is_seen_on_fresh(rt.alloc(), Staged::BasedObjects),
+        is_seen_on_fresh(rt.alloc(), Staged::Rest),
     ];
     assert_eq!(rt; are_seen, [true; 3]);
 }

@@ -1,4 +1,4 @@
-// Rows of calls on a kernel, and what each is answered.
+// Rows of calls on a kernel, with their answers.
 ghost use Rattle.std.specs.Prelude.{◌≡◌, None, true};
 ghost use Rattle.mg_kernel.specs.Meaning.{StandsOn};
 
@@ -8,31 +8,31 @@ use mg_kernel::Kernel;
 use mg_model::{Call, Line, Reply, Steps};
 use std::sync::ledger::Ledger;
 
-/// What is done on a kernel, and what it answers. Words are those that are counted then, where they are compared.
+/// A call on a kernel, with its answer. `words` is the number of words counted after it, or None if that is not compared.
 #[derive(Clone, Copy)]
 pub(crate) enum Row {
-    /// Loads of a thread that give a value.
+    /// Loads of a thread that all return a value.
     Loads {
         thread: u64,
-        a: u64,
+        address: u64,
         value: u64,
         times: u64,
         words: Option<u64>,
     },
     /// A store of thread 1.
     Store {
-        a: u64,
+        address: u64,
         value: u64,
         words: Option<u64>,
     },
     /// Whether a thread lives.
     Lives(u64, bool),
-    /// All probes, where thread 1 still has the root or not.
+    /// All probes, and whether thread 1 still has the root.
     Probes(bool),
     Commit,
 }
 
-/// What a line is answered, where there is room for what it stages.
+/// The reply to a line. None if it fails or if too much is staged.
 fn answered<D: Disk, L: Ledger>(
     kernel: &mut Kernel,
     disk: &mut D,
@@ -48,7 +48,7 @@ fn answered<D: Disk, L: Ledger>(
     kernel.step(disk, line, steps).ok()
 }
 
-/// Whether a line that comes so often gives this value each time.
+/// Whether a line returns this value each of `times` times.
 fn all_give<D: Disk, L: Ledger>(
     kernel: &mut Kernel,
     disk: &mut D,
@@ -71,14 +71,14 @@ fn all_give<D: Disk, L: Ledger>(
 fn is_stored<D: Disk, L: Ledger>(
     kernel: &mut Kernel,
     disk: &mut D,
-    a: u64,
+    address: u64,
     value: u64,
     steps: &mut Steps<L>,
 ) -> bool
     requires { StandsOn D.Disk kernel.old disk.old }
     ensures { StandsOn D.Disk kernel.new disk.new }
 {
-    let call = Call::Store { a, value };
+    let call = Call::Store { a: address, value };
     answered(kernel, disk, &Line { thread: 1, call }, steps) == Some(Reply::Done)
 }
 
@@ -89,15 +89,15 @@ pub(crate) fn is_committed<D: Disk>(kernel: &mut Kernel, disk: &mut D) -> bool
     kernel.live() && kernel.commit(disk).is_ok()
 }
 
-/// Whether so many words are counted, where they are compared.
-fn counts(kernel: &Kernel, words: Option<u64>) -> bool {
+/// Whether this number of words is counted. True if it is not compared.
+fn has_counted(kernel: &Kernel, words: Option<u64>) -> bool {
     match words {
         Some(words) => kernel.words() == words,
         None => true,
     }
 }
 
-/// Whether a row is answered as it says.
+/// Whether a row has its answer.
 fn is_right<D: Disk, L: Ledger>(
     kernel: &mut Kernel,
     disk: &mut D,
@@ -110,27 +110,29 @@ fn is_right<D: Disk, L: Ledger>(
     match row {
         Row::Loads {
             thread,
-            a,
+            address,
             value,
             times,
             words,
         } => {
             let line = Line {
                 thread: *thread,
-                call: Call::Load { a: *a },
+                call: Call::Load { a: *address },
             };
-            all_give(kernel, disk, &line, *value, *times, steps) && counts(kernel, *words)
+            all_give(kernel, disk, &line, *value, *times, steps) && has_counted(kernel, *words)
         }
-        Row::Store { a, value, words } => {
-            is_stored(kernel, disk, *a, *value, steps) && counts(kernel, *words)
-        }
+        Row::Store {
+            address,
+            value,
+            words,
+        } => { is_stored(kernel, disk, *address, *value, steps) && has_counted(kernel, *words) }
         Row::Lives(thread, lives) => kernel.lives(*thread) == *lives,
         Row::Probes(are_allowed) => wrong_probe(kernel, disk, *are_allowed, steps).is_none(),
         Row::Commit => is_committed(kernel, disk),
     }
 }
 
-/// The place of the first row that is answered otherwise. The rows behind it are left out.
+/// The place of the first row with another answer. Later rows are left out.
 pub(crate) fn wrong_row<D: Disk, L: Ledger>(
     kernel: &mut Kernel,
     disk: &mut D,

@@ -1,6 +1,6 @@
-// Which devices a run may have.
-use crate::runs::{Run, count_told, count_words_told};
-use mg_session::Status;
+// The devices that a run can have.
+use crate::runs::{Run, count_expected, count_words_expected};
+use mg_volume_session::Status;
 use std::test::Fail;
 
 const LOAD: &[&str] = &["1 load 0x100000000\n"];
@@ -19,7 +19,7 @@ const SEVENTEEN: &[&str] = &[
     "latch:16", "latch:17",
 ];
 
-/// What each of them puts at the end, behind the answer of the line.
+/// What the run prints: the answer of the line, and then a line for each device.
 const SIXTEEN_LEFT: &[&str] = &[
     "ok 0x0000000000000001\n",
     "dev 0x0000000000000001 1 0\n",
@@ -47,7 +47,7 @@ const MOST_DEVICES: [Run; 2] = [
         room: 0,
         input: LOAD,
         status: Status::Done,
-        put: SIXTEEN_LEFT,
+        printed: SIXTEEN_LEFT,
         left: 16,
         tapes: &[],
     },
@@ -57,7 +57,7 @@ const MOST_DEVICES: [Run; 2] = [
         room: 0,
         input: LOAD,
         status: Status::Usage,
-        put: USAGE,
+        printed: USAGE,
         left: 0,
         tapes: &[],
     },
@@ -65,18 +65,18 @@ const MOST_DEVICES: [Run; 2] = [
 
 #[test]
 fn sixteen_devices_and_no_more(rt: HostRuntime) -> Result<(), Fail> {
-    assert_eq!(rt; count_told(rt.alloc(), &MOST_DEVICES), 2);
+    assert_eq!(rt; count_expected(rt.alloc(), &MOST_DEVICES), 2);
     Ok(())
 }
 
-/// What words tell that ask for no run.
+/// The outcome of words that spell no run.
 const NO_RUN: Run = Run {
     line: &[],
     devices: None,
     room: 1,
     input: LOAD,
     status: Status::Usage,
-    put: USAGE,
+    printed: USAGE,
     left: 0,
     tapes: &[],
 };
@@ -96,11 +96,11 @@ const NO_RUNS: [&[&str]; 10] = [
 
 #[test]
 fn words_that_ask_for_no_run(rt: HostRuntime) -> Result<(), Fail> {
-    assert_eq!(rt; count_words_told(rt.alloc(), &NO_RUN, &NO_RUNS), 10);
+    assert_eq!(rt; count_words_expected(rt.alloc(), &NO_RUN, &NO_RUNS), 10);
     Ok(())
 }
 
-/// What a run tells whose words ask for other devices than it is given.
+/// The outcome of a run whose words name other devices than it is given.
 const OTHER_RUN: Run = Run {
     devices: Some(&["v", "dev", "latch:1"]),
     left: 1,
@@ -116,7 +116,10 @@ const OTHER_RUNS: [&[&str]; 4] = [
 
 #[test]
 fn other_devices_than_asked_for(rt: HostRuntime) -> Result<(), Fail> {
-    assert_eq!(rt; count_words_told(rt.alloc(), &OTHER_RUN, &OTHER_RUNS), 4);
+    assert_eq!(rt;
+        count_words_expected(rt.alloc(), &OTHER_RUN, &OTHER_RUNS),
+        4
+    );
     Ok(())
 }
 
@@ -127,7 +130,7 @@ const FEW_DEVICES: [Run; 2] = [
         room: 1,
         input: LOAD,
         status: Status::Done,
-        put: &["ok 0x0000000000000001\n"],
+        printed: &["ok 0x0000000000000001\n"],
         left: 0,
         tapes: &[],
     },
@@ -137,7 +140,7 @@ const FEW_DEVICES: [Run; 2] = [
         room: 1,
         input: &["1 store 0x100200000 1\n1 load 0x100000000\n"],
         status: Status::Done,
-        put: &["no Denied\nok 0x0000000000000001\ndev 0x0000000100200000 2 0\n"],
+        printed: &["no Denied\nok 0x0000000000000001\ndev 0x0000000100200000 2 0\n"],
         left: 1,
         tapes: &[],
     },
@@ -145,6 +148,6 @@ const FEW_DEVICES: [Run; 2] = [
 
 #[test]
 fn no_device_and_one_at_no_object(rt: HostRuntime) -> Result<(), Fail> {
-    assert_eq!(rt; count_told(rt.alloc(), &FEW_DEVICES), 2);
+    assert_eq!(rt; count_expected(rt.alloc(), &FEW_DEVICES), 2);
     Ok(())
 }

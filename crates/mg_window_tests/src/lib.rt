@@ -1,6 +1,6 @@
 //! Tests of runs with device windows, on disks in memory: what devices answer, when they are reached, and when they are dropped.
 //!
-//! They stand above `mg_window_session`, over its public call, so that it is proved once.
+//! They are in a crate of their own above `mg_window_session`, so that it is proved only once.
 #![tactic(auto)]
 
 #[cfg(test)]

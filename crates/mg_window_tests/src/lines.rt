@@ -1,9 +1,9 @@
 // Lines that reach devices, and lines that do not.
-use crate::runs::{Alone, Left, Run, are_told, count_told};
-use mg_session::Status;
+use crate::runs::{Alone, Left, Run, are_expected, count_expected};
+use mg_volume_session::Status;
 use std::test::Fail;
 
-/// An object of two pages, which thread 1 may then reach, and a load there.
+/// Makes an object of two pages, gives thread 1 access to it, and loads a word of it.
 const TWO_PAGES: &str =
     "1 create 2 1 0x28bd8653e56a5d40\n1 load 0x100001000\n1 store 0x100000020 0x100001000\n1 store 0x100000028 0x1aed8da0b819d2bd\n1 store 0x100000000 2\n1 load 0x100001000\n";
 
@@ -17,12 +17,12 @@ const LATCHED: Run = Run {
     room: 1024,
     input: &[TWO_PAGES],
     status: Status::Done,
-    put: &[MADE, "dev 0x0000000100001000 1 0\n"],
+    printed: &[MADE, "dev 0x0000000100001000 1 0\n"],
     left: 1,
     tapes: &[],
 };
 
-/// Its tape is one store of 9, at 8.
+/// The latch's tape is one store of 9, at 8.
 const LATCH_LEFT: &[Left] = &[Left {
     base: 0x1_0000_1000,
     kind: 1,
@@ -36,7 +36,7 @@ const TAKES_STORES: Run = Run {
         TWO_PAGES,
         "1 store 0x100001008 9\n1 load 0x100001008\n1 pwdel 0x100001000 5\n1 store 0x100001004 1\n",
     ],
-    put: &[
+    printed: &[
         MADE,
         "ok\nok 0x0000000000000009\nno NoPassword\nno Align\n",
         "dev 0x0000000100001000 1 1\n",
@@ -45,15 +45,15 @@ const TAKES_STORES: Run = Run {
     ..LATCHED
 };
 
-/// The volume has the object's words alone.
+/// The volume has only the object's words.
 const NO_STORE: Alone = Alone {
     input: "1 load 0x100001008\n",
-    put: "ok 0x0000000000000000\n",
+    printed: "ok 0x0000000000000000\n",
 };
 
 #[test]
 fn a_latch_takes_stores_in_place_of_words(rt: HostRuntime) -> Result<(), Fail> {
-    assert!(rt; are_told(rt.alloc(), &TAKES_STORES, &NO_STORE));
+    assert!(rt; are_expected(rt.alloc(), &TAKES_STORES, &NO_STORE));
     Ok(())
 }
 
@@ -63,7 +63,7 @@ const FULL_TAPE: Run = Run {
         TWO_PAGES,
         "1 store 0x100001008 9\n1 store 0x100001008 8\n1 load 0x100001008\n1 pwdel 0x100001000 0x1aed8da0b819d2bd\n1 store 0x100001008 7\n",
     ],
-    put: &[
+    printed: &[
         MADE,
         "ok\nno Limit\nok 0x0000000000000009\nok\nno Denied\n",
         "dev 0x0000000100001000 1 1\n",
@@ -74,18 +74,18 @@ const FULL_TAPE: Run = Run {
 
 #[test]
 fn a_full_tape_and_a_right_that_is_gone(rt: HostRuntime) -> Result<(), Fail> {
-    assert_eq!(rt; count_told(rt.alloc(), &[FULL_TAPE]), 1);
+    assert_eq!(rt; count_expected(rt.alloc(), &[FULL_TAPE]), 1);
     Ok(())
 }
 
-/// Two devices of other kinds: five and seven are added up, one store is counted, and the first object is deleted.
+/// Two devices of other kinds. One adds up five and seven, and the other counts one store. Then the first object is deleted.
 const COUNTED: &str =
     "1 create 1 1 0x28bd8653e56a5d40\n1 store 0x100000030 0x100003000\n1 store 0x100000038 0xc70d778bccef36a8\n1 store 0x100000000 3\n1 store 0x100001000 5\n1 store 0x100001000 7\n1 load 0x100001000\n1 store 0x100003008 1\n1 load 0x100003000\n1 delete 0x100001000\n1 load 0x100001000\n";
 
 const COUNTED_ANSWERS: &str =
     "ok 0x0000000100003000 0xc70d778bccef36a8\nok\nok\nok\nok\nok\nok 0x000000000000000c\nok\nok 0x0000000000000001\nok\nno Denied\n";
 
-/// The console took one store, which is counted at whatever place.
+/// The console took one store. It counts a store at any place.
 const CONSOLE_LEFT: &[Left] = &[Left {
     base: 0x1_0000_3000,
     kind: 2,
@@ -97,14 +97,14 @@ const CONSOLE_LEFT: &[Left] = &[Left {
 const DELETED: Run = Run {
     line: &["vol", "dev", "counter:0x100001000", "console:0x100003000"],
     input: &[TWO_PAGES, COUNTED],
-    put: &[MADE, COUNTED_ANSWERS, "dev 0x0000000100003000 2 1\n"],
+    printed: &[MADE, COUNTED_ANSWERS, "dev 0x0000000100003000 2 1\n"],
     tapes: CONSOLE_LEFT,
     ..LATCHED
 };
 
 #[test]
 fn a_deleted_object_takes_its_device_along(rt: HostRuntime) -> Result<(), Fail> {
-    assert_eq!(rt; count_told(rt.alloc(), &[DELETED]), 1);
+    assert_eq!(rt; count_expected(rt.alloc(), &[DELETED]), 1);
     Ok(())
 }
 
@@ -115,7 +115,7 @@ const MADE_AGAIN: Run = Run {
         COUNTED,
         "1 create 2 1 0x28bd8653e56a5d40\n1 store 0x100000028 0x8d4857517c5941da\n1 load 0x100001000\n",
     ],
-    put: &[
+    printed: &[
         MADE,
         COUNTED_ANSWERS,
         "ok 0x0000000100001000 0x8d4857517c5941da\nok\nok 0x0000000000000000\n",
@@ -127,7 +127,7 @@ const MADE_AGAIN: Run = Run {
 
 #[test]
 fn a_new_object_at_that_base_has_words(rt: HostRuntime) -> Result<(), Fail> {
-    assert_eq!(rt; count_told(rt.alloc(), &[MADE_AGAIN]), 1);
+    assert_eq!(rt; count_expected(rt.alloc(), &[MADE_AGAIN]), 1);
     Ok(())
 }
 
@@ -138,7 +138,7 @@ const SCRIPT_DELETES: Run = Run {
         "1 store 0x100000100 0x0000000400000001\n1 store 0x100000108 0x0000100000000101\n1 store 0x100000110 0x0000000100000102\n1 store 0x100000118 0xe\n1 thread 0x100000100\n2 turn\n2 turn\n2 turn\n1 store 0x100001000 3\n2 turn\n1 load 0x100001000\n",
         "1 create 2 1 0x28bd8653e56a5d40\n1 store 0x100000028 0xc70d778bccef36a8\n1 load 0x100001000\n",
     ],
-    put: &[
+    printed: &[
         MADE,
         "ok\nok\nok\nok\nok 2\nok Ready\nok Ready\nok Ready\nok\nok Ready\nno Denied\n",
         "ok 0x0000000100001000 0xc70d778bccef36a8\nok\nok 0x0000000000000000\n",
@@ -149,7 +149,7 @@ const SCRIPT_DELETES: Run = Run {
 
 #[test]
 fn a_script_that_deletes_takes_the_device_along(rt: HostRuntime) -> Result<(), Fail> {
-    assert_eq!(rt; count_told(rt.alloc(), &[SCRIPT_DELETES]), 1);
+    assert_eq!(rt; count_expected(rt.alloc(), &[SCRIPT_DELETES]), 1);
     Ok(())
 }
 
@@ -159,7 +159,7 @@ const SCRIPT_STORES: Run = Run {
         // The script is: set 1 0x1000, high 1 1, set 2 7, store 2 1 0, load 3 1 0, store 3 1 8, halt.
         "1 store 0x100000100 0x0000100000000101\n1 store 0x100000108 0x0000000100000102\n1 store 0x100000110 0x0000000700000201\n1 store 0x100000118 0x10207\n1 store 0x100000120 0x10306\n1 store 0x100000128 0x0000000800010307\n1 thread 0x100000100\n1 store 0x100001000 9\n2 turn\n2 turn\n2 turn\n2 turn\n2 turn\n2 turn\n2 turn\n1 load 0x100001000\n1 load 0x100001008\n",
     ],
-    put: &[
+    printed: &[
         MADE,
         "ok\nok\nok\nok\nok\nok\nok 2\nok\n",
         "ok Ready\nok Ready\nok Ready\nok Ready\nok Ready\nok Ready\nok Stopped\n",
@@ -171,12 +171,12 @@ const SCRIPT_STORES: Run = Run {
 
 const WORDS_STORED: Alone = Alone {
     input: "1 load 0x100001000\n1 load 0x100001008\n",
-    put: "ok 0x0000000000000007\nok 0x0000000000000007\n",
+    printed: "ok 0x0000000000000007\nok 0x0000000000000007\n",
 };
 
 #[test]
 fn a_script_reaches_words(rt: HostRuntime) -> Result<(), Fail> {
-    assert!(rt; are_told(rt.alloc(), &SCRIPT_STORES, &WORDS_STORED));
+    assert!(rt; are_expected(rt.alloc(), &SCRIPT_STORES, &WORDS_STORED));
     Ok(())
 }
 
@@ -194,7 +194,7 @@ const EACH_KIND: Run = Run {
         "1 store 0x100000020 0x100001000\n1 store 0x100000028 0x1aed8da0b819d2bd\n1 store 0x100000030 0x100002000\n1 store 0x100000038 0xc70d778bccef36a8\n1 store 0x100000040 0x100003000\n1 store 0x100000048 0x8d4857517c5941da\n1 store 0x100000000 4\n",
         "1 store 0x100001000 5\n1 store 0x100001000 7\n1 store 0x100002000 5\n1 store 0x100002000 7\n1 store 0x100003000 5\n1 store 0x100003000 7\n1 load 0x100001000\n1 load 0x100002000\n1 load 0x100003000\n",
     ],
-    put: &[
+    printed: &[
         "ok 0x0000000100001000 0x1aed8da0b819d2bd\nok 0x0000000100002000 0xc70d778bccef36a8\nok 0x0000000100003000 0x8d4857517c5941da\n",
         "ok\nok\nok\nok\nok\nok\nok\n",
         "ok\nok\nok\nok\nok\nok\nok 0x0000000000000007\nok 0x0000000000000002\nok 0x000000000000000c\n",
@@ -229,6 +229,6 @@ const EACH_KIND: Run = Run {
 
 #[test]
 fn a_device_of_each_kind(rt: HostRuntime) -> Result<(), Fail> {
-    assert_eq!(rt; count_told(rt.alloc(), &[EACH_KIND]), 1);
+    assert_eq!(rt; count_expected(rt.alloc(), &[EACH_KIND]), 1);
     Ok(())
 }

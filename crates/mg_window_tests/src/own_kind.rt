@@ -6,7 +6,7 @@ use std::alloc::{AllocError, Global};
 use std::marker::Model;
 use std::test::Fail;
 
-/// A mailbox, of kind 9: it keeps what is stored, and nothing is read of it.
+/// A mailbox, of kind 9. It holds what is stored, and each load returns 0.
 #[derive(Drop)]
 struct Mailbox {
     room: usize,
@@ -61,7 +61,7 @@ impl Device for Mailbox {
     }
 }
 
-/// Whether the one device that is attached takes two stores and no third, and each load of it is answered 0.
+/// Whether the one device that is attached takes two stores and no third, and each load of it returns 0.
 fn takes_two_stores(windows: &mut Windows) -> bool {
     if windows.len() != 1 {
         return false;
@@ -72,7 +72,7 @@ fn takes_two_stores(windows: &mut Windows) -> bool {
     first && second && third && windows.load(0, 8) == 0 && windows.length_at(0) == 2
 }
 
-/// Whether the one device of a list is of kind 9 and its tape holds two stores.
+/// Whether a list has one device, of kind 9, whose tape has two stores.
 fn is_mailbox(list: &[(u64, Box<dyn Device>)]) -> bool {
     match list {
         [(base, device)] => *base == 0x1_0000_1000 && device.kind() == 9 && device.length() == 2,

@@ -1,45 +1,44 @@
-// Runs with device windows on a disk in memory, from their words to what they told.
+// Runs with device windows on a disk in memory, from their words to their outcome.
 ghost use Rattle.std.specs.Prelude.{◌≡◌, ◌<◌};
 
 use mg_disk::{Disk, MemDisk};
 use mg_io::{MemSink, MemSource, Sink, Source};
 use mg_layout::format as make_volume;
 use mg_model::{Params, Steps, Tariff};
-use mg_session::{Status, run as run_plain};
+use mg_volume_session::{Status, run as run_plain};
 use mg_window::{Console, Counter, Device, Latch, Windows};
 use mg_window_session::{Asked, read_words, top_dev};
 use std::alloc::{AllocError, Global};
 use std::marker::Brand;
 use std::sync::ledger::{Blank, Ledger};
 
-/// How many blocks the disk has: those of a volume of 64 frames.
+/// The number of blocks of the disk: those of a volume of 64 frames.
 const BLOCKS: u64 = 2660;
 
-/// How many calls the disk counts.
+/// The number of calls for which the disk has room.
 const ROOM: u64 = 12_000;
 
 /// A run with device windows.
 #[derive(Clone, Copy)]
 pub struct Run {
-    /// Its words.
+    /// The words of the run.
     pub line: &'static [&'static str],
-    /// The words that ask for the devices which it is given, which are none where they ask for no run; None: those of the run.
+    /// Words that name the devices that the run is given. None for the words of the run. Words that spell no run name no device.
     pub devices: Option<&'static [&'static str]>,
-    /// For how many stores each device has room.
+    /// The number of stores for which each device has room.
     pub room: usize,
-    /// Its lines are these texts one after the other.
+    /// The lines of the run: these texts one after the other.
     pub input: &'static [&'static str],
     pub status: Status,
-    /// It puts these texts one after the other, and nothing behind.
-    pub put: &'static [&'static str],
-    /// How many devices are left.
+    /// What the run prints: these texts one after the other.
+    pub printed: &'static [&'static str],
+    /// The number of devices that are left.
     pub left: usize,
-    /// The first of these, as they are read back.
+    /// The first of the devices that are left.
     pub tapes: &'static [Left],
 }
 
-/// A device that is left: where it stands, its kind, how many stores its tape holds, and what a load at one place is answered
-/// with.
+/// A device that is left: its base, its kind, the number of stores on its tape, and the value of a load at one place.
 #[derive(Clone, Copy)]
 pub struct Left {
     pub base: u64,
@@ -49,23 +48,23 @@ pub struct Left {
     pub value: u64,
 }
 
-/// What a run of these lines on the volume alone has to put, a line a batch.
+/// A run of these lines on the volume without devices, with batches of 1, and what it prints.
 #[derive(Clone, Copy)]
 pub struct Alone {
     pub input: &'static str,
-    pub put: &'static str,
+    pub printed: &'static str,
 }
 
-/// How many of these runs, from the first on, told what they had to, one after the other on a fresh volume of 64 frames.
-pub fn count_told(alloc: Global, runs: &[Run]) -> usize {
+/// The number of these runs, from the first on, that have their outcome. They follow each other on a fresh volume of 64 frames.
+pub fn count_expected(alloc: Global, runs: &[Run]) -> usize {
     match fresh(alloc) {
         Some(mut disk) => count_on(alloc, &mut disk, runs),
         None => 0,
     }
 }
 
-/// With how many of these words, from the first on, this run told what it had to, one after the other on a fresh volume.
-pub fn count_words_told(alloc: Global, run: &Run, lines: &[&'static [&'static str]]) -> usize {
+/// The number of these lines of words, from the first on, with which the run has its outcome, one after the other on a fresh volume.
+pub fn count_words_expected(alloc: Global, run: &Run, lines: &[&'static [&'static str]]) -> usize {
     match fresh(alloc) {
         Some(mut disk) => count_words_on(alloc, &mut disk, run, lines),
         None => 0,
@@ -78,38 +77,38 @@ fn count_words_on(
     run: &Run,
     lines: &[&'static [&'static str]],
 ) -> usize {
-    let mut told: usize = 0;
+    let mut passed: usize = 0;
     for line in lines {
-        if !is_told(alloc, &Run { line, ..*run }, disk) {
+        if !is_expected(alloc, &Run { line, ..*run }, disk) {
             break;
         }
-        told = told.saturating_add(1);
+        passed = passed.saturating_add(1);
     }
-    told
+    passed
 }
 
-/// Whether this run on a fresh volume, and one on the same volume alone, told what they had to.
-pub fn are_told(alloc: Global, run: &Run, alone: &Alone) -> bool {
+/// Whether this run on a fresh volume has its outcome, and then the one without devices.
+pub fn are_expected(alloc: Global, run: &Run, alone: &Alone) -> bool {
     match fresh(alloc) {
         Some(mut disk) => {
-            is_told(alloc, run, &mut disk) && is_told_alone(alloc, alone, &mut disk)
+            is_expected(alloc, run, &mut disk) && is_expected_alone(alloc, alone, &mut disk)
         }
         None => false,
     }
 }
 
 fn count_on(alloc: Global, disk: &mut MemDisk, runs: &[Run]) -> usize {
-    let mut told: usize = 0;
+    let mut passed: usize = 0;
     for run in runs {
-        if !is_told(alloc, run, disk) {
+        if !is_expected(alloc, run, disk) {
             break;
         }
-        told = told.saturating_add(1);
+        passed = passed.saturating_add(1);
     }
-    told
+    passed
 }
 
-/// A disk that was made a fresh volume of 64 frames, with the seed of zeros and 1000 credits.
+/// A disk with a fresh volume of 64 frames, with the seed of zeros and 1000 credits.
 fn fresh(alloc: Global) -> Option<MemDisk> {
     match MemDisk::new(alloc, BLOCKS, ROOM, Vec::new(alloc)) {
         Ok(mut disk) => {
@@ -126,22 +125,22 @@ fn make(disk: &mut MemDisk) {
     }
 }
 
-/// Whether a run told what it had to.
-fn is_told(alloc: Global, run: &Run, disk: &mut MemDisk) -> bool {
+/// Whether a run has its outcome.
+fn is_expected(alloc: Global, run: &Run, disk: &mut MemDisk) -> bool {
     match source_of(alloc, run.input) {
-        Some(mut source) => is_told_of(alloc, run, disk, &mut source),
+        Some(mut source) => is_expected_of(alloc, run, disk, &mut source),
         None => false,
     }
 }
 
-fn is_told_of(alloc: Global, run: &Run, disk: &mut MemDisk, source: &mut MemSource) -> bool {
+fn is_expected_of(alloc: Global, run: &Run, disk: &mut MemDisk, source: &mut MemSource) -> bool {
     match MemSink::new(alloc, 65536, Vec::new(alloc)) {
-        Ok(mut sink) => is_told_in(alloc, run, disk, source, &mut sink),
+        Ok(mut sink) => is_expected_in(alloc, run, disk, source, &mut sink),
         Err(_) => false,
     }
 }
 
-fn is_told_in(
+fn is_expected_in(
     alloc: Global,
     run: &Run,
     disk: &mut MemDisk,
@@ -149,12 +148,12 @@ fn is_told_in(
     sink: &mut MemSink,
 ) -> bool {
     match words_of(alloc, run.line) {
-        Some(words) => is_told_by(alloc, run, &words, disk, source, sink),
+        Some(words) => is_expected_by(alloc, run, &words, disk, source, sink),
         None => false,
     }
 }
 
-fn is_told_by(
+fn is_expected_by(
     alloc: Global,
     run: &Run,
     words: &[String],
@@ -162,14 +161,14 @@ fn is_told_by(
     source: &mut MemSource,
     sink: &mut MemSink,
 ) -> bool {
-    match asked_by(alloc, run) {
-        Some(asked) => is_told_with(alloc, run, words, asked.as_slice(), disk, source, sink),
+    match devices_of(alloc, run) {
+        Some(asked) => is_expected_with(alloc, run, words, asked.as_slice(), disk, source, sink),
         None => false,
     }
 }
 
-/// The devices that a run is given; None where memory is wanting.
-fn asked_by(alloc: Global, run: &Run) -> Option<Asked> {
+/// The devices that a run is given. None if out of memory.
+fn devices_of(alloc: Global, run: &Run) -> Option<Asked> {
     match words_of(alloc, run.devices.unwrap_or(run.line)) {
         Some(words) => match read_words(&words) {
             Some(asked) => Some(asked),
@@ -179,8 +178,8 @@ fn asked_by(alloc: Global, run: &Run) -> Option<Asked> {
     }
 }
 
-/// The boxes are made here, since no function may make them and hand them out.
-fn is_told_with(
+/// The boxes are made here, since no function can make them and return them.
+fn is_expected_with(
     alloc: Global,
     run: &Run,
     words: &[String],
@@ -212,7 +211,7 @@ fn is_told_with(
     }
     let status = with_windows(alloc, words, disk, source, sink, &mut windows);
     status == run.status
-        && are_all(run.put, sink.bytes())
+        && are_all(run.printed, sink.bytes())
         && are_left(run, windows.into_list().as_slice())
 }
 
@@ -233,7 +232,7 @@ fn with_windows(
     with_steps::<_, _, _, Brand>(alloc, words, disk, source, sink, windows, blank)
 }
 
-/// Whether so many devices are left, and the first of them are these.
+/// Whether the run's number of devices is left, and the first of them are as it says.
 fn are_left(run: &Run, list: &[(u64, Box<dyn Device>)]) -> bool {
     if list.len() != run.left {
         return false;
@@ -254,19 +253,19 @@ fn is_left<D: Device>(left: &Left, base: u64, device: &D) -> bool {
 }
 
 /// Whether these bytes are these texts one after the other.
-fn are_all(texts: &[&str], put: &[u8]) -> bool {
-    let mut rest = put;
+fn are_all(texts: &[&str], printed: &[u8]) -> bool {
+    let mut rest = printed;
     for text in texts {
         match rest.strip_prefix(text.as_bytes()) {
-            Some(behind) => rest = behind,
+            Some(after) => rest = after,
             None => return false,
         }
     }
     rest.is_empty()
 }
 
-/// Whether a run on the volume alone told what it had to.
-fn is_told_alone(alloc: Global, alone: &Alone, disk: &mut MemDisk) -> bool {
+/// Whether a run without devices has its outcome.
+fn is_expected_alone(alloc: Global, alone: &Alone, disk: &mut MemDisk) -> bool {
     match source_of(alloc, &[alone.input]) {
         Some(mut source) => is_alone_of(alloc, alone, disk, &mut source),
         None => false,
@@ -289,20 +288,20 @@ fn is_alone_in(
 ) -> bool {
     let blank = Blank::new(1);
     let status = plain::<_, _, _, Brand>(alloc, disk, source, sink, blank);
-    status == Status::Done && sink.bytes() == alone.put.as_bytes()
+    status == Status::Done && sink.bytes() == alone.printed.as_bytes()
 }
 
-/// A source of these texts one after the other; None where memory is wanting.
+/// A source of these texts one after the other. None if out of memory.
 fn source_of(alloc: Global, texts: &[&str]) -> Option<MemSource> {
     let mut bytes = Vec::new(alloc);
-    if put_texts(&mut bytes, texts) {
+    if append_texts(&mut bytes, texts) {
         Some(MemSource::new(bytes, 4096, Vec::new(alloc)))
     } else {
         None
     }
 }
 
-fn put_texts(bytes: &mut Vec<u8>, texts: &[&str]) -> bool {
+fn append_texts(bytes: &mut Vec<u8>, texts: &[&str]) -> bool {
     for text in texts {
         if bytes.extend_from_slice(text.as_bytes()).is_err() {
             return false;
@@ -311,7 +310,7 @@ fn put_texts(bytes: &mut Vec<u8>, texts: &[&str]) -> bool {
     true
 }
 
-/// The top call, with a count of steps of its own.
+/// The top call, with a counter of steps of its own.
 fn with_steps<D: Disk, S: Source, K: Sink, L: Ledger>(
     alloc: Global,
     words: &[String],
@@ -329,7 +328,7 @@ fn with_steps<D: Disk, S: Source, K: Sink, L: Ledger>(
     top_dev(alloc, words, disk, source, sink, windows, &mut steps)
 }
 
-/// A run on the volume alone, with a count of steps of its own.
+/// A run without devices, with a counter of steps of its own.
 fn plain<D: Disk, S: Source, K: Sink, L: Ledger>(
     alloc: Global,
     disk: &mut D,
@@ -345,26 +344,26 @@ fn plain<D: Disk, S: Source, K: Sink, L: Ledger>(
     run_plain(alloc, 1, disk, source, sink, &mut steps)
 }
 
-/// Words as a command takes them; None where memory is wanting.
+/// The words of a command line. None if out of memory.
 fn words_of(alloc: Global, line: &[&str]) -> Option<Vec<String>> {
     let mut words = Vec::new(alloc);
-    if put_words(alloc, line, &mut words) {
+    if push_words(alloc, line, &mut words) {
         Some(words)
     } else {
         None
     }
 }
 
-fn put_words(alloc: Global, line: &[&str], words: &mut Vec<String>) -> bool {
+fn push_words(alloc: Global, line: &[&str], words: &mut Vec<String>) -> bool {
     for word in line {
-        if !put_word(alloc, word, words) {
+        if !push_word(alloc, word, words) {
             return false;
         }
     }
     true
 }
 
-fn put_word(alloc: Global, word: &str, words: &mut Vec<String>) -> bool {
+fn push_word(alloc: Global, word: &str, words: &mut Vec<String>) -> bool {
     match String::from_str(alloc, word) {
         Ok(word) => words.push(word).is_ok(),
         Err(_) => false,
