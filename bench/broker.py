@@ -3,7 +3,7 @@
 
     bench/broker.py [--program PATH] [--folder FOLDER] [--clients N] [--seconds S] [--rounds N] [--silence MICROSECONDS]
 
-In turn, so many rounds each:
+In turn, the same number of rounds each:
 
 - one client with `run 1`: it writes a line, reads the answer, and goes on;
 - N clients of the broker, each with a thread and an object of its own, that do the same over a connection each;

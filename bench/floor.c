@@ -1,10 +1,10 @@
-/* The calls of the system that the protocol asks for, and nothing else: so many stores, so many to a commit, over so many pages.
+/* The system calls that the protocol needs, and nothing else: a number of stores, in commits of a size, over a number of pages.
  *
  *     floor FILE STORES BATCH PAGES [KEPT]
  *
- * A commit closes after BATCH stores, or where more than 28 pages have changed. It writes a segment's index and its bodies in one
+ * A commit closes after BATCH stores, or if more than 28 pages have changed. It writes a segment's index and its bodies in one
  * call, syncs, opens the gate and syncs. A commit that finds eight segments open first writes each changed page home once, in order,
- * neighbours in one call, syncs, and closes the eight gates with a sync each. It puts the seconds that this took.
+ * neighbours in one call, syncs, and closes the eight gates with a sync each. It prints the seconds that this took.
  *
  * With KEPT it reads too: each page that a commit changes, the first KEPT of them only once, and, before homes are written, the bodies of
  * each segment that has the newest of a page, in one call.

@@ -5,18 +5,18 @@ openings beside reading the file, lines a second that are kept nowhere, instruct
     bench/measure.py [--program PATH] [--before PATH] [--folder FOLDER] [--seconds S] [--svg FILE]
     bench/measure.py --full [--program PATH] [--mirror PATH] [--folder FOLDER]
 
-It puts one table. A rate of mungi is that of a run less a run on no lines, both with the page cache warm; lines come from a file, and
-answers go into one. The floor is the rate of bench/floor.c, which makes just the calls of the system that the protocol asks for, and once
+It prints one table. A rate of mungi is that of a run less a run on no lines, both with the page cache warm; lines come from a file, and
+answers go into one. The floor is the rate of bench/floor.c, which makes just the system calls that the protocol needs, and once
 more with the reads that 256 kept blocks leave; the system's C compiler builds it. Both run on a copy of one volume. A rate of SQLite is
 that of updates of one row each, with journal_mode WAL and synchronous FULL, in transactions of as many updates as a batch has lines. A
-row fills a page of SQLite's as a store's page fills one of mungi's. What stands side by side is run in turn, ten times each where it is
+row fills a page of SQLite's as a store's page fills one of mungi's. What is compared is run in turn, ten times each if it is
 durable and four times else, and the fastest run of each counts. Instructions are counted by valgrind's callgrind and calls by strace.
 Where one of these tools is not there, its rows are left out, and that is said on standard error. --before names another build of the
-program, whose time for a million lines stands beside.
+program, whose time for a million lines is given too.
 --svg draws the ratios to the floor and to SQLite.
 
 With --full it measures a full volume instead: 65,536 frames, 4,096 objects, 61,426 pages and 256 threads. Openings stand beside `cat`
-of the blocks up to the end of the frame table, least of 20 with the page cache warm, and of 5 where it is dropped before each, which
+of the blocks up to the end of the frame table, least of 20 with the page cache warm, and of 5 if it is dropped before each, which
 takes a system that lets it be dropped; a migration, and a mirror's copy by the program mungi_dev, stand beside `cp`, with a sync and
 without. Their ratio is that of the speeds.
 """
@@ -50,7 +50,7 @@ ASIDE = [f"1 create 1 1 {TREASURY}", "1 store 0x100000020 0x100001000", "1 store
 PAGES = (1, 24, 1000)
 # How many blocks the program keeps.
 KEPT = 256
-# What is wanted of the ratio to the floor.
+# The goal for the ratio to the floor.
 WANTED = 0.9
 # How often each run is made, in turn with those that stand beside it, and one that waits for the disk, whose time is less even.
 ROUNDS = 4
@@ -81,7 +81,7 @@ def timed(program, words, lines, folder):
 
 
 def count_for(run, seconds):
-    """So many lines, a power of two, that a run of them takes so many seconds."""
+    """The number of lines, a power of two, with which a run takes this many seconds."""
     count = 64
     while count < 1 << 22 and run(count) < seconds:
         count *= 2
@@ -89,12 +89,12 @@ def count_for(run, seconds):
 
 
 def rates(runs, seconds):
-    """Durable lines a second of each, over runs that take so many seconds."""
+    """Durable lines a second of each, over runs of this many seconds."""
     return rates_of(runs, [count_for(run, seconds) for run in runs], DURABLE_ROUNDS)
 
 
 def rates_of(runs, counts, rounds=ROUNDS):
-    """Lines a second of each, the highest of so many runs of each that are made in turn: noise only makes a run slower."""
+    """Lines a second of each, the highest of this many runs of each, made in turn: noise only makes a run slower."""
     best = [0.0] * len(runs)
     for _ in range(rounds):
         for place, run in enumerate(runs):
@@ -103,7 +103,7 @@ def rates_of(runs, counts, rounds=ROUNDS):
 
 
 def volume_with(program, volume, pages):
-    """A volume with one object of so many pages, each stored to, and its base."""
+    """A volume with one object of this many pages, each stored to, and its base."""
     Path(volume).unlink(missing_ok=True)
     mungi(program, [volume, "format", "2048", SEED, "1000000"])
     _, put = mungi(program, [volume, "run"], [f"1 create {pages} 1 {TREASURY}"])
@@ -122,7 +122,7 @@ def copy_over(volume):
 
 
 def stores(program, volume, pages, batch, folder):
-    """Runs of stores over the pages of a new volume, so many to a commit, and their seconds."""
+    """Runs of stores over the pages of a new volume, this many to a commit, and their seconds."""
     base = volume_with(program, volume, pages)
     copy_over(volume)
     words = [volume, "run", str(batch)]
@@ -136,7 +136,7 @@ def stores(program, volume, pages, batch, folder):
 
 
 def floor_of(folder):
-    """The program that makes just the calls of the protocol, built in this folder; none where there is no C compiler."""
+    """The program that makes just the calls of the protocol, built in this folder; None without a C compiler."""
     compiler = shutil.which("cc")
     if compiler is None:
         print("cc is not there: no floor", file=sys.stderr)
@@ -146,7 +146,7 @@ def floor_of(folder):
 
 
 def floor_stores(floor, volume, pages, batch, *kept):
-    """The same of the floor, on a copy of that volume; with its reads, where it is told how many blocks are kept."""
+    """The same of the floor, on a copy of that volume; with its reads, if the number of kept blocks is given."""
     shutil.copy(volume, volume + ".floor")
 
     def run(count):
@@ -157,7 +157,7 @@ def floor_stores(floor, volume, pages, batch, *kept):
 
 
 def sqlite_updates(path, pages, batch):
-    """Runs of updates of a row each, so many to a transaction, and their seconds."""
+    """Runs of updates of a row each, this many to a transaction, and their seconds."""
     for name in (path, path + "-wal", path + "-shm"):
         Path(name).unlink(missing_ok=True)
     base = sqlite3.connect(path, isolation_level=None)
@@ -185,7 +185,7 @@ def sqlite_updates(path, pages, batch):
 
 
 def machine_with(objects):
-    """Lines that make a machine with so many objects, the root object among them."""
+    """Lines that make a machine with this many objects, the root object among them."""
     return [f"1 create 1 1 {TREASURY}"] * (objects - 1)
 
 
@@ -194,13 +194,13 @@ def dry(frames=65536):
 
 
 def dry_runs(program, line, before, folder):
-    """Runs of a line behind some others, and their seconds."""
+    """Runs of a line after some others, and their seconds."""
     empty = min(timed(program, dry(), before, folder) for _ in range(ROUNDS))
     return lambda count: timed(program, dry(), before + [line] * count, folder) - empty
 
 
 def gen_runs(program):
-    """Runs of so many generated lines, and their seconds."""
+    """Runs of this many generated lines, and their seconds."""
 
     def run(count):
         begun = time.perf_counter()
@@ -237,7 +237,7 @@ def counted(command, lines=()):
 
 
 def instructions(program, line, before=()):
-    """Instructions a line behind some others: those of 3,000 less those of 1,000, over 2,000. Several lines are made in turn."""
+    """Instructions a line after some others: those of 3,000 less those of 1,000, over 2,000. Several lines are made in turn."""
     lines = line if isinstance(line, list) else [line]
     few, many = (counted([program, *dry()], [*before, *lines * count]) for count in (1000, 3000))
     return (many - few) / (2000 * len(lines))
@@ -250,7 +250,7 @@ def generated(program):
 
 
 def jumping(threads):
-    """Lines that make so many threads, each of which jumps to its own word for ever."""
+    """Lines that make this many threads, each of which jumps to its own word for ever."""
     return ["1 store 0x100000200 0x8", *["1 thread 0x100000200"] * threads]
 
 
@@ -334,7 +334,7 @@ def cold(command):
 
 
 def system_calls(command):
-    """How many calls of the system a command makes; None where strace is not there."""
+    """How many calls of the system a command makes; None without strace."""
     if shutil.which("strace") is None:
         return None
     done = subprocess.run(["strace", "-f", *command], stdin=subprocess.DEVNULL, stdout=subprocess.DEVNULL, stderr=subprocess.PIPE, check=True)
@@ -399,7 +399,7 @@ def copies_beside_cp(name, command, source, target):
 
 
 def picture(ratios):
-    """The ratios to the floor and to SQLite as bars, with a mark at what is wanted of the first."""
+    """The ratios to the floor and to SQLite as bars, with a mark at the goal for the first."""
     left, wide, step = 210, 240, 56
     parts = []
     for place, ((batch, pages), (floor, other)) in enumerate(ratios.items()):

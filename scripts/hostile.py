@@ -1,13 +1,13 @@
 #!/usr/bin/env python3
-"""Runs mungi on real files in ways that a machine or a user may be hostile, and tells a line a case.
+"""Runs mungi on real files as a hostile machine or user may, and prints a line for each case.
 
     scripts/hostile.py files            files, folders, modes, limits, streams, two runs at once, two files, migrations
     scripts/hostile.py kill [RUNS]      runs that are killed at random moments, 100 of them
     scripts/hostile.py memory           each allocation refused in turn, which takes a C compiler
 
-Behind --program stands the program, which else is the one that the script mungi builds. The cases of a volume in two files take the program
-that the variable MUNGI_DEV names, or else the one that the script mungi_dev has built. No input is read. A line begins with 'ok', with 'not
-tried' and why, or with 'FAILED'; the status is 0 where no line is FAILED. docs/HOSTILE.md tells what each case shows.
+--program names the program; without it that of the script mungi is used. The cases of a volume in two files use the program that the variable
+MUNGI_DEV names, or else that of the script mungi_dev. No input is read. A line begins with 'ok', with 'not tried' and the reason, or with
+'FAILED'; the status is 0 if no line is FAILED. docs/HOSTILE.md says what each case shows.
 """
 import argparse
 import fcntl
@@ -43,7 +43,7 @@ def not_tried(case, why):
 
 
 class Ended:
-    """A run that ended: its status, what it put, how many bytes of its input it took, and what it said on standard error."""
+    """A run that ended: its status, what it printed, how many bytes of its input it took, and what it said on standard error."""
 
     def __init__(self, status, put, took, said):
         self.status, self.put, self.took, self.said = status, put, took, said
@@ -75,7 +75,7 @@ def as_nobody():
 
 
 def stores(first, count):
-    """Lines that store their own number, each at the word of its number modulo 400 behind the root's 8th."""
+    """Lines that store their own number, each at the word of its number modulo 400 after the root's 8th."""
     return "".join(f"1 store {ROOT + 64 + 8 * (i % 400)} {i}\n" for i in range(first, first + count)).encode()
 
 
@@ -134,7 +134,7 @@ def file_cases(folder):
 
     path = folder + "/nothing"
     ended = run([path, "check"])
-    tell((ended.status, ended.put, os.path.exists(path)) == (2, b"open not\n", False), "check where there is no file", str(ended))
+    tell((ended.status, ended.put, os.path.exists(path)) == (2, b"open not\n", False), "check without a file", str(ended))
 
     path = folder + "/new"
     ended = run([path, "run"], lines)
@@ -260,7 +260,7 @@ def mirror_cases(folder):
     for other in ("./side", "side.link", "side.hard"):
         for side, words in (("left", ("side", "mirror", other, "left")), ("right", (other, "mirror", "side", "right"))):
             done = mirrored(*words)
-            # The script refuses; the program says so, and goes on with one side, since the lock on the file keeps the other out.
+            # The script refuses; the program says so, and continues with one side, since the lock on the file keeps the other out.
             good = b"one file" in done.stderr and volume.read_bytes() == before
             good = good and ("MUNGI_DEV" in os.environ or (done.returncode, done.stdout) == (1, b""))
             tell(good, f"a mirror whose two files are one, {other}, from {side}", said(done))
@@ -278,7 +278,7 @@ def mirror_cases(folder):
     done = mirrored("side", "mirror", "side.copy", "left")
     os.umask(umask)
     good = done.returncode == 0 and mode_of(folder + "/side.copy") == 0o640 and run([folder + "/side.copy", "check"]).put == FRESH
-    tell(good, "a mirror makes a file with the mode of the one that it copies", said(done))
+    tell(good, "a mirror makes a file with the mode of the file that it copies", said(done))
 
 
 def maker_cases(folder):
@@ -292,7 +292,7 @@ def maker_cases(folder):
     before = Path(path).read_bytes()
     done = made(path, "64", "1000")
     good = done.returncode == 1 and b"is there already" in done.stderr and Path(path).read_bytes() == before
-    tell(good, "new_volume where there is a file", done.stderr.decode().strip())
+    tell(good, "new_volume over a file", done.stderr.decode().strip())
     done = made(folder + "/no_folder/made", "64", "1000")
     good = done.returncode == 1 and b"can't be made" in done.stderr
     tell(good, "new_volume in a folder that is not there", done.stderr.decode().strip())
@@ -399,7 +399,7 @@ def two_cases(folder):
     first.stdin.close()
     good = good and first.wait() == 0
     ended = run([volume, "check"])
-    tell(good and held(volume, 1, 2) == 2 and ended.status == 0, "the first run goes on, and its file is free afterwards", str(ended))
+    tell(good and held(volume, 1, 2) == 2 and ended.status == 0, "the first run continues, and its file is free afterwards", str(ended))
     with open(volume, "rb") as reader:
         fcntl.flock(reader, fcntl.LOCK_SH)
         ended, other = run([volume, "check"]), run([volume, "run"], stores(1, 600))
@@ -486,7 +486,7 @@ def kill_cases(folder, runs):
                 k = 0
             if put != b"ok\n" * answers or k is None or k < first - 1 + answers:
                 lost += 1
-                print(f"            run {number}, part {part}: batch {batch}, {answers} answers behind {first - 1}, held {k}", flush=True)
+                print(f"            run {number}, part {part}: batch {batch}, {answers} answers after {first - 1}, held {k}", flush=True)
                 break
             counts.append(answers)
             first = k + 1

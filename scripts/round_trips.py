@@ -5,10 +5,10 @@
 
 It reads no input.
 
-Each of ROUNDS trips, 100 where it is not said, puts 0 to 9,000 random bytes into one object, by `mungi_text put` and a run, over those of the
+Each of ROUNDS trips, 100 by default, stores 0 to 9,000 random bytes in one object, by `mungi_text put` and a run, over those of the
 trip before; and gets them in a run of its own, by `mungi_text get` and `mungi_text bytes`. The lengths begin with 0 to 17 and those around a
-page. The last trip is one of 4,194,296 bytes, the most that a document has, through files; one byte more has to be refused. NUMBER is where the random numbers begin, and is
-drawn where it is not said; it is printed. The volume lies in a temporary folder.
+page. The last trip is one of 4,194,296 bytes, the most that a document has, through files; one byte more must be refused. NUMBER is where the random numbers begin, and is
+drawn by default; it is printed. The volume lies in a temporary folder.
 
 The programs are those that the environment variables MUNGI and MUNGI_TEXT name, or else the scripts at the top of the repository. It prints
 what the last trip took, and ends with status 1 at the first bytes that come back changed, or at a program that can't be run.
@@ -32,7 +32,7 @@ MOST_BYTES = 1024 * 4096 - 8
 
 
 def put_by(words, given=b""):
-    """What a program puts of this input. It has to end with status 0."""
+    """What a program prints for this input. It must end with status 0."""
     try:
         done = subprocess.run(words, input=given, capture_output=True)
     except OSError as error:
@@ -92,7 +92,7 @@ def large_trip(folder, base):
     print(f"{MOST_BYTES} bytes came back the same: {into:.1f} s in, {out:.1f} s out")
     done = subprocess.run([MUNGI_TEXT, "put", "1", base], input=bytes(MOST_BYTES + 1), capture_output=True)
     if done.returncode != 7 or done.stdout:
-        sys.exit(f"one byte more ended with status {done.returncode} and put {len(done.stdout)} bytes")
+        sys.exit(f"one byte more ended with status {done.returncode} and printed {len(done.stdout)} bytes")
     print("one byte more is refused with status 7")
 
 

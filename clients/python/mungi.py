@@ -11,11 +11,11 @@
         reader.revoke()
 
 Python finds this file where its folder is on the path of modules, as in `PYTHONPATH=clients/python python3 program.py`. The program `mungi` is
-the one that the environment variable MUNGI names, or the one of the path, or else the script at the top of the repository.
+that of the environment variable MUNGI, or that of the path, or else the script at the top of the repository.
 
 A `Machine` runs `mungi VOLUME run BATCH` and holds the volume until it is closed. Every value that a method returns was durable before it
 was returned. A refused call raises the exception of its refusal, such as `Denied`, and has changed nothing. A program that ended early
-raises `Ended`, which tells which lines were answered.
+raises `Ended`, which says which lines were answered.
 
 Three things to know:
 
@@ -26,7 +26,7 @@ Three things to know:
 - **One Python thread at a time** uses a machine.
 
 Numbers are whole, from 0 to 2**64 - 1. A word is 8 bytes and a page 4,096. Addresses are bytes. All calls with their refusals are in
-docs/MACHINE.md, and docs/CLIENT.md tells how lines and replies go over the pipes. Linux and Python 3.11 or later; no other package.
+docs/MACHINE.md, and docs/CLIENT.md says how lines and replies go over the pipes. Linux and Python 3.11 or later; no other package.
 """
 
 from __future__ import annotations
@@ -68,7 +68,7 @@ MOST_INPUT_BYTES = 1 << 32
 # The most lines that wait for their answers. It is more than a batch, so the program always has a full one to answer.
 MOST_IN_FLIGHT = 4096
 
-# What the program says on standard error where another run has the file, and how many seconds pass until it is started again.
+# What the program says on standard error if another run has the file, and how many seconds pass until it is started again.
 HELD = "another run holds it"
 PAUSE = 0.05
 
@@ -268,7 +268,7 @@ class CutShort(VolumeWarning):
 
 
 class SideDropped(VolumeWarning):
-    """Of a volume in two files one failed, and the run goes on with the other alone."""
+    """Of a volume in two files one failed, and the run continues with the other alone."""
 
 
 class Capability(NamedTuple):
@@ -279,7 +279,7 @@ class Capability(NamedTuple):
 
 
 class Info(NamedTuple):
-    """What `info` tells of an object: its base, pages, the account that pays, password rows (ended ones too), entries, and whether it has
+    """What `info` says of an object: its base, pages, the account that pays, password rows (ended ones too), entries, and whether it has
     an extension."""
 
     base: int
@@ -329,7 +329,7 @@ class Next(NamedTuple):
 
 
 class Check(NamedTuple):
-    """What `check` tells of a volume: its frames, how many objects, pages, accounts and threads there are, the period, the credits."""
+    """What `check` says of a volume: its frames, the numbers of objects, pages, accounts and threads, the period, the credits."""
 
     frames: int
     objects: int
@@ -351,9 +351,9 @@ class Fresh(NamedTuple):
 class Unreached(NamedTuple):
     """An object on which no thread has a right now. It costs its account rent all the same.
 
-    - `password` is one of its passwords that gives D now, or None where none does.
+    - `password` is one of its passwords that gives D now, or None if none does.
     - `is_named` says whether some slot, extension, or two words in a row name it by one of its passwords: then a thread may come to it
-      again, for instance behind a door, or by `ret`. Where it is not named, only who noted its password elsewhere can.
+      again, for instance after `pdx`, or by `ret`. If no list names it, only somebody who noted its password elsewhere can.
     """
 
     base: int
@@ -369,9 +369,9 @@ class Unreached(NamedTuple):
 def default_program(name: str = "mungi") -> str:
     """The program `mungi`, or `mungi_dev` or `mungi_show` by its name.
 
-    It is the one that the environment variable MUNGI, MUNGI_DEV or MUNGI_SHOW names; for the last two else the one that lies beside the
+    It is that of the environment variable MUNGI, MUNGI_DEV or MUNGI_SHOW; for the last two else the one beside the
     program that MUNGI names; else the one of the path; else the script of that name two folders above this file. The script builds the
-    program if it is not built, which takes long, so build it before. Raises FileNotFoundError where there is none."""
+    program if it is not built, which takes long, so build it before. Raises FileNotFoundError if there is none."""
     variable = name.upper()
     told = os.environ.get(variable)
     if told:
@@ -391,14 +391,14 @@ def default_program(name: str = "mungi") -> str:
 
 
 def _there(path: str | os.PathLike) -> str:
-    """The name of a volume's file. Raises FileNotFoundError where there is none, so that a wrong name makes no empty file."""
+    """The name of a volume's file. Raises FileNotFoundError if there is none, so that a wrong name makes no empty file."""
     if not os.path.exists(path):
         raise FileNotFoundError(errno.ENOENT, "there is no volume", os.fspath(path))
     return os.fspath(path)
 
 
 def _look_before_mirror(volume: str, mirror: str, side: str) -> None:
-    """Raises ValueError where both names are one file, and FileExistsError where the copy would write over something else than a volume. A
+    """Raises ValueError if both names are one file, and FileExistsError if the copy would overwrite something other than a volume. A
     volume is known by its superblock, in block 1; an empty file, or one whose first 256 blocks are zeros, holds nothing."""
     if os.path.exists(volume) and os.path.exists(mirror) and os.path.samefile(volume, mirror):
         raise ValueError(f"{volume} and {mirror} are one file: a mirror needs two")
@@ -419,7 +419,7 @@ def _warn(said: str, names: Iterable[str], depth: int) -> None:
 
 
 def _put_by(words: list[str], program: str | os.PathLike | None) -> str:
-    """What a command puts that reads no input, and whose first word is the volume. Raises Ended where its status is not 0, and hands on
+    """What a command prints that reads no input, and whose first word is the volume. Raises Ended if its status is not 0, and hands on
     what it said else."""
     done = subprocess.run([program or default_program(), *words], stdin=subprocess.DEVNULL, capture_output=True, text=True, check=False)
     if done.returncode != 0:
@@ -443,7 +443,7 @@ def new_volume(
     which all passwords follow; without it 32 random bytes are drawn. The file gets the mode 0600, since who reads it has every password.
     The seed is a word of the command line, which the system shows to others while the command runs.
 
-    Raises Ended where the program refuses the words or the disk fails; no file is left then.
+    Raises Ended if the program refuses the words or the disk fails; no file is left then.
     """
     seed = secrets.token_hex(32) if seed is None else seed
     steps = [f"{_number(pages)}:{_number(rate)}" for pages, rate in tariff]
@@ -457,15 +457,15 @@ def new_volume(
 
 
 def check(path: str | os.PathLike, program: str | os.PathLike | None = None) -> Check:
-    """Tells what the volume in the file `path` holds. It only reads. Raises FileNotFoundError where there is no file, and Ended with status
-    2 where it is no volume, 4 where a run has it. Warns with CutShort where the file is shorter than its volume."""
+    """Returns what the volume in the file `path` holds. It only reads. Raises FileNotFoundError if there is no file, and Ended with status
+    2 if it is no volume, 4 if a run has it. Warns with CutShort if the file is shorter than its volume."""
     return Check(*(int(word) for word in _put_by([_there(path), "check"], program).split()[1:]))
 
 
 def unreached(path: str | os.PathLike, program: str | os.PathLike | None = None) -> list[Unreached]:
     """The objects of the volume on which no thread has a right now, in the order of their bases. It only reads; no run may have the volume.
 
-    A kill between a `create` and the store of its entry leaves such an object. docs/CLIENT.md tells how it is taken back. `program` is
+    A kill between a `create` and the store of its entry leaves such an object. docs/CLIENT.md says how it is taken back. `program` is
     mungi_show, else that of `default_program`. Raises FileNotFoundError and Ended as `check` does.
     """
     show = program or default_program("mungi_show")
@@ -551,7 +551,7 @@ class Answer:
     @property
     def value(self):
         """What the call gives, once it is durable; an answer that is not there is waited for. Raises the refusal of a refused call, and
-        Ended where the answer will not come."""
+        Ended if the answer will not come."""
         if self.text is None:
             self._machine._wait()
         if self.text is None:
@@ -620,7 +620,7 @@ class Machine:
 
     `volume` is the file. `batch`, 1 to 64, is how many lines become durable together: 1 makes each line durable by itself; 64 is faster for
     lines of a `with machine.batch():` block. `program` is the program, else that of `default_program`. `timeout`, in seconds, is how long
-    the program may neither take nor put anything while it is waited for; then it is killed, and Ended is raised with status -9. Without it
+    the program may neither read nor print anything while it is waited for; then it is killed, and Ended is raised with status -9. Without it
     a wait lasts as long as the program runs.
 
     `wait`, in seconds, is how long the volume is waited for while another run has it. The program itself asks for the lock for 0.3 s; with
@@ -630,19 +630,19 @@ class Machine:
     With `mirror`, another file, the volume is kept in both, by a run of `mungi_dev VOLUME mirror MIRROR SIDE`; `program` is mungi_dev then, and
     `batch` 1. `side` names the file that holds the volume: "left" is `volume`, "right" is `mirror`. **The other file is written over
     first**, with 287 MB, which the opening waits for; one that holds something else than a volume raises FileExistsError. Where one file
-    fails the run goes on with the other: `dropped` says so, and a SideDropped warning.
+    fails the run continues with the other: `dropped` says so, and a SideDropped warning.
 
-    Raises FileNotFoundError where there is no file (none is made), and Ended where the volume can't be opened: status 2 where the file is
-    no volume, 4 where another run has it, and has it still after `wait`. Warns with CutShort where the file is shorter than its volume; with
+    Raises FileNotFoundError if there is no file (none is made), and Ended if the volume can't be opened: status 2 if the file is
+    no volume, 4 if another run has it, and has it still after `wait`. Warns with CutShort if the file is shorter than its volume; with
     `warnings.simplefilter("error", mungi.CutShort)` that is raised, and the volume is closed again. Other lines that the program says
-    on standard error while it goes on are warned of as VolumeWarning.
+    on standard error later are warned of as VolumeWarning.
 
-    Used in a `with` block the machine is closed behind it.
+    Used in a `with` block the machine is closed after it.
     """
 
     # The first words of replies.
     _verdicts: tuple[str, ...] = ("ok", "no")
-    # Whether a run ends when it has read so many bytes.
+    # Whether a run ends when it has read that many bytes.
     _is_bounded = True
 
     def __init__(
@@ -668,7 +668,7 @@ class Machine:
         self.volume = os.fspath(volume)
         self.mirror = None if mirror is None else os.fspath(mirror)
         self.side = None if mirror is None else side or "left"
-        # The side of a mirror that was dropped in this run, "left" or "right", or None: known as soon as a call is answered behind it.
+        # The side of a mirror that was dropped in this run, "left" or "right", or None: known as soon as a later call is answered.
         self.dropped: str | None = None
         self._program = program
         # The first pages of objects that are known to be capability lists.
@@ -682,7 +682,7 @@ class Machine:
         self._open()
 
     def _open(self) -> None:
-        """Opens the volume, and waits for it where another run has it."""
+        """Opens the volume, and waits for it if another run has it."""
         end = time.monotonic() + self._patience
         while True:
             try:
@@ -723,7 +723,7 @@ class Machine:
 
     def _begin_run(self, process: subprocess.Popen | _Link) -> None:
         """Waits until the machine answers over the pipes of this program."""
-        # The lines that are not sent yet, and the answers that the program owes, in order; None stands for that of a line that fills.
+        # The lines that are not sent yet, and the answers that the program owes, in order; None for a line that only fills a batch.
         self._unsent: collections.deque[tuple[bytes, Answer | None]] = collections.deque()
         self._owed: collections.deque[Answer | None] = collections.deque()
         # The answers of the call or block that is under way.
@@ -787,23 +787,23 @@ class Machine:
                 for place in range(512):
                     document.store(8 * place, place)
 
-        In the block a method of one call returns an `Answer`, whose `value` is there behind the block. A method that makes several calls
+        In the block a method of one call returns an `Answer`, whose `value` is there after the block. A method that makes several calls
         and needs their answers to go on (`create` of a Home, `grant`, `add`, `remove`, `get`, `new_thread`) waits for them in the block
-        too, and `put` waits for the object's size. Behind the block the first refusal is raised, unless `check` is false; the lines
-        behind a refused one were sent all the same. A block keeps all its answers, so it should have some thousand lines at most.
+        too, and `put` waits for the object's size. After the block the first refusal is raised, unless `check` is false; the lines
+        after a refused one were sent all the same. A block keeps all its answers, so it should have some thousand lines at most.
 
         The block saves waiting for each answer. How many lines become durable together is another matter, and is set as the machine is
         opened: with `Machine(volume, batch=64)` up to 64 lines of a block cost one commit; with `batch=1` each has a commit of its own. A
         block is not one step in either case: after a stop a first part of its lines is kept.
 
-        The program holds answers back until a batch is full. Where they are wanted earlier, here at the end of the block and behind
+        The program holds answers back until a batch is full. If they are needed earlier, here at the end of the block and after
         every call outside of one, up to 63 lines are sent that are refused with Syntax and change nothing, and so fill the batch.
         """
         return Batch(self, lines, check)
 
     def close(self) -> int:
         """Sends what is unsent, ends the input, and returns the status of the program once it has ended; 0 says that every line is
-        answered and kept. Raises Ended where a line was not answered. Closing again returns the same status."""
+        answered and kept. Raises Ended if a line was not answered. Closing again returns the same status."""
         if self._status is None:
             with contextlib.suppress(Ended):
                 self._pump(lambda: not self._unsent)
@@ -824,11 +824,11 @@ class Machine:
 
     def backup(self, path: str | os.PathLike, script: str | os.PathLike | None = None) -> Check:
         """Copies the volume to the file `path`, which must not be there, and gives what the copy holds. The machine is closed meanwhile, and
-        open again behind it: all that was answered before is in the copy, and nothing else.
+        open again after it: all that was answered before is in the copy, and nothing else.
 
         The copy is made by `scripts/backup`, two folders above this file, or by the `script` that is told; its SHA-256 lies beside it, in
-        `path` with `.sha256`. Of a volume in two files the one in use is copied. Raises BackupFailed where there is no good copy, and Ended
-        where the volume can't be closed in order or opened again; another run may have it then, which is waited for as at the opening.
+        `path` with `.sha256`. Of a volume in two files the one in use is copied. Raises BackupFailed if there is no good copy, and Ended
+        if the volume can't be closed in order or opened again; another run may have it then, which is waited for as at the opening.
         """
         if self._block is not None:
             raise RuntimeError("a batch is open: a backup is made between calls")
@@ -858,7 +858,7 @@ class Machine:
         return Check(*(int(word) for word in done.stdout.split()[1:]))
 
     def kill(self) -> None:
-        """Kills the program. All that was answered is kept. The next call, or `close`, tells what was not answered."""
+        """Kills the program. All that was answered is kept. The next call, or `close`, says what was not answered."""
         if self._status is None:
             self._process.kill()
 
@@ -875,7 +875,7 @@ class Machine:
     # Within
 
     def _ask(self, line: str, read: Callable) -> Answer:
-        """Puts a line behind the others, to be sent. `read` makes the value of the words behind "ok"."""
+        """Queues a line to be sent. `read` makes the value of the words after "ok"."""
         data = line.encode() + b"\n"
         if len(data) > MOST_LINE_BYTES + 1 or b"\n" in data[:-1]:
             raise ValueError(f"a line has at most {MOST_LINE_BYTES} bytes, and no newline")
@@ -900,7 +900,7 @@ class Machine:
         return answer if self._gives_answers() else answer.value
 
     def _guard(self, address: int, into_list: bool) -> None:
-        """Raises ListPage where a store would change a list that is known, and is not asked to."""
+        """Raises ListPage if a store would change a list that is known, and is not asked to."""
         page = address - address % PAGE_BYTES
         if page in self._lists and not into_list and address != page + WORD_BYTES:
             raise ListPage(f"{address:#x} lies in a capability list: use add and remove, or say into_list=True")
@@ -945,7 +945,7 @@ class Machine:
             raise
 
     def _begin(self) -> None:
-        """A method of a user begins, unless it is part of a block or of another method: `Ended` then tells of its lines alone."""
+        """A method of a user begins, unless it is part of a block or of another method: `Ended` then speaks of its lines alone."""
         if self._block is None and not self._needs_values:
             self._asked = []
 
@@ -973,13 +973,13 @@ class Machine:
         """Waits until every line is answered."""
         last = self._asked[-1] if self._asked else None
         if last is not None and last.text is None:
-            # However the program cut its batches, the one that has the last line is full behind these.
+            # However the program cut its batches, the batch of the last line is full after these.
             self._fill(self._batch - 1)
             self._pump(lambda: last.text is not None)  # type: ignore[union-attr]
             self._look()
 
     def _pump(self, is_done: Callable[[], bool]) -> None:
-        """Sends and reads, whichever is possible, until `is_done`. Raises Ended where that will not be."""
+        """Sends and reads, whichever is possible, until `is_done`. Raises Ended if that can't happen."""
         while not is_done():
             if self._status is not None:
                 raise self._ended()
@@ -992,7 +992,7 @@ class Machine:
                 raise
 
     def _move(self) -> None:
-        """Waits until the program takes or puts something, and sends or reads it."""
+        """Waits until the program reads or prints something, and sends or reads it."""
         wants_to_send = self._takes_input and bool(self._unsent)
         is_registered = self._takes_input and self._input in self._selector.get_map()
         if wants_to_send and not is_registered:
@@ -1065,7 +1065,7 @@ class Machine:
             self._process.stdin.close()
 
     def _finish(self) -> None:
-        """Has the status of a program that put its last line, or was killed."""
+        """Waits for the status of a program that printed its last line, or was killed."""
         self._end_input()
         try:
             self._status = self._process.wait(self._timeout)
@@ -1128,8 +1128,8 @@ class Connected(Machine):
 
     All of `Machine` goes over it but `backup`, which is the broker's to make. Each line becomes durable together with those of others, so
     there is no batch to choose. A line that the broker does not give to the machine raises `NotAllowed`. `Ended` says that the broker or
-    its program ended; `unanswered` are then just the lines that may or may not be done. Its status is that of the program, or 0 where the
-    broker was ended in order, or `CUT` where no word of it came: then each line without an answer may be done.
+    its program ended; `unanswered` are then just the lines that may or may not be done. Its status is that of the program, or 0 if the
+    broker was ended in order, or `CUT` if no word of it came: then each line without an answer may be done.
     """
 
     _verdicts = ("ok", "no", "refused")
@@ -1196,15 +1196,15 @@ class Connected(Machine):
 
 
 def connect(path: str | os.PathLike, timeout: float | None = None) -> Machine:
-    """The volume of a broker that listens on the Unix socket `path`, as docs/SERVICE.md tells. `timeout` is that of `Machine`.
+    """The volume of a broker that listens on the Unix socket `path`, as docs/SERVICE.md says. `timeout` is that of `Machine`.
 
-    Raises FileNotFoundError or ConnectionRefusedError where nobody listens, and PermissionError where the broker does not name this user, or
+    Raises FileNotFoundError or ConnectionRefusedError if nobody listens, and PermissionError if the broker does not name this user, or
     the user has too many connections."""
     return Connected(path, timeout)
 
 
 class Thread:
-    """A thread of the machine, and its calls under their own names. Each needs what docs/MACHINE.md says, and raises NoThread where the
+    """A thread of the machine, and its calls under their own names. Each needs what docs/MACHINE.md says, and raises NoThread if the
     thread does not live. In a batch each returns an Answer instead of its value."""
 
     def __init__(self, machine: Machine, number: int):
@@ -1227,7 +1227,7 @@ class Thread:
     def store(self, address: int, value: int, into_list: bool = False) -> None:
         """The word at an address becomes `value`. Raises Align, or Denied without W.
 
-        Raises ListPage where the address lies in the first page of an object that is known to be a capability list, unless `into_list` is
+        Raises ListPage if the address lies in the first page of an object that is known to be a capability list, unless `into_list` is
         true, or it is that page's second word, which the machine does not use. Known are the root, each `CapabilityList` that was made over
         this machine, and each list that `apdadd` or `apdlist` named."""
         self._machine._guard(address, into_list)
@@ -1284,7 +1284,7 @@ class Thread:
         return self._call("apdlist", lambda words: self._machine._listed(_numbers(words[1:])))
 
     def pdx(self, address: int, mask: int) -> int:
-        """Enters an object at an entry, keeping slot j where bit j of `mask` is 1, 0 to 255: the number of frames. Raises Align, Denied
+        """Enters an object at an entry, keeping slot j if bit j of `mask` is 1, 0 to 255: the number of frames. Raises Align, Denied
         without P, NoEntry, Depth, SlotFull."""
         return self._call(f"pdx {_hex(address)} {_number(mask)}", _first)
 
@@ -1323,7 +1323,7 @@ class Thread:
 
     @contextlib.contextmanager
     def inside(self, address: int, mask: int):
-        """A block in which the thread is inside an object, entered by `pdx`; behind it the thread leaves by `ret`.
+        """A block in which the thread is inside an object, entered by `pdx`; after it the thread leaves by `ret`.
 
         After a stop in the block the thread is still inside: `ret` leads out."""
         with self._machine._values():
@@ -1379,7 +1379,7 @@ class Object:
         return f"<{type(self).__name__} {self.base:#x} of {self.thread!r}>"
 
     def load(self, offset: int) -> int:
-        """The word at `offset` bytes from the base, a multiple of 8. Raises Align, Denied, and ValueError where the offset is none of this
+        """The word at `offset` bytes from the base, a multiple of 8. Raises Align, Denied, and ValueError if the offset is not of this
         object: below 0, or not below its pages' bytes. Behind the first page `info` is asked once for the pages."""
         return self.thread.load(self._place(offset))
 
@@ -1417,10 +1417,10 @@ class Object:
 
     def put(self, data: bytes | bytearray | memoryview) -> None:
         """The object holds these bytes, as `get` reads them: their number is its first word, and they follow it, 8 a word, the first byte
-        the lowest, with zeros behind the last. An object of n pages has room for 4096 n - 8 bytes; more raise ValueError.
+        the lowest, with zeros after the last. An object of n pages has room for 4096 n - 8 bytes; more raise ValueError.
 
         The first word is 0 meanwhile, and becomes the number last. So after a stop in `put` the object holds what it held, nothing
-        (`get` returns b""), or all of the new bytes. Raises Denied without W, TypeError where `data` is no bytes, and ListPage where the
+        (`get` returns b""), or all of the new bytes. Raises Denied without W, TypeError if `data` is no bytes, and ListPage if the
         object is known to be a capability list."""
         # (bytes(5) would be five zeros)
         data = bytes(memoryview(data))
@@ -1435,7 +1435,7 @@ class Object:
 
     @_waits
     def get(self) -> bytes:
-        """The bytes that `put` put; none of an object of zeros. Raises Denied without R, and ValueError where the first word is no number
+        """The bytes that `put` stored; none of an object of zeros. Raises Denied without R, and ValueError if the first word is no number
         of bytes that fit."""
         room = self.info().pages * PAGE_BYTES - WORD_BYTES
         count = self.load(0)
@@ -1445,7 +1445,7 @@ class Object:
         return b"".join(answer.value.to_bytes(WORD_BYTES, "little") for answer in answers)[:count]
 
     def _place(self, offset: int) -> int:
-        """The address at `offset` bytes from the base. Raises ValueError where it is none of the object."""
+        """The address at `offset` bytes from the base. Raises ValueError if it is outside the object."""
         if offset >= PAGE_BYTES and self._pages is None:
             with self._machine._values():
                 self._pages = self.info().pages
@@ -1508,7 +1508,7 @@ class CapabilityList(Object):
 
     @_waits
     def remove(self, capability: Capability | Grant | Object) -> None:
-        """Removes every entry with this base and password; the last entries take their places. Raises Denied, and KeyError where there is
+        """Removes every entry with this base and password; the last entries take their places. Raises Denied, and KeyError if there is
         none. After a stop in `remove` an entry may be there twice, or be still there."""
         wanted = (capability.base, capability.password)
         entries = self.entries()
@@ -1557,7 +1557,7 @@ class Home(CapabilityList):
 
     @_waits
     def new_thread(self, used: CapabilityList, start: int) -> Thread:
-        """Makes a thread that has this list in its domain, and no other; it begins at the address `start`, where the list has to give X.
+        """Makes a thread that has this list in its domain, and no other; it begins at the address `start`, to which the list must give X.
 
         The list gets a password with R, under which the thread uses it. For a moment this thread enters its home with the new list
         alone: the home needs P and O on itself, which the root has, and may have no extension. After a stop meanwhile `ret` leads this

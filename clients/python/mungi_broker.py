@@ -11,7 +11,7 @@ with `run`. A line of a thread that is not the sender's is not given to the mach
 - SIGUSR1 runs the command of --backup while the volume is closed, and opens the volume again.
 - SIGTERM: no more lines are taken, those that were taken are answered, and the status is 0.
 
-The other statuses are 1 where a word or USERS is wrong or SOCKET is taken, and that of the program where the volume can't be opened at
+The other statuses are 1 if a word or USERS is wrong or SOCKET is taken, and that of the program if the volume can't be opened at
 first. What happens is written to standard error, a line each. Linux and Python 3.11 or later; no other package.
 """
 
@@ -56,7 +56,7 @@ FIRST_TRIES = 20
 FIRST_WAIT = 0.5
 # How long the command of --backup may take, in seconds.
 BACKUP_PATIENCE = 900.0
-# Lines are gathered for a batch at most so many times as long as the silence that closes one.
+# Lines are gathered for a batch at most this many times as long as the silence that closes one.
 LONGEST_GATHERING = 8
 # More than the most bytes of one batch.
 MOST_BATCH_BYTES = 1 << 15
@@ -145,7 +145,7 @@ class Users:
             raise Mistake(f"line {line}: it is not UTF-8") from None
 
     def grant_of(self, user: int, groups: Iterable[int]) -> Grant | None:
-        """What a user has by the own table and those of the groups, or None where no table names the user or one of the groups."""
+        """What a user has by the own table and those of the groups, or None if no table names the user or one of the groups."""
         found = [self.users[user]] if user in self.users else []
         found += [self.groups[group] for group in groups if group in self.groups]
         if not found:
@@ -239,7 +239,7 @@ REFUSED_THREAD = b"refused Thread"
 REFUSED_CALL = b"refused Call"
 REFUSED_HALF = b"refused Half"
 
-# The line that the machine refuses with Syntax. It stands for every line that the machine would refuse so.
+# The line that the machine refuses with Syntax. It replaces every line that the machine would refuse so.
 DOT = mungi.FILL.rstrip(b"\n")
 
 
@@ -337,7 +337,7 @@ class Connection:
         self.is_ready = self.is_held = self.has_ended = self.is_over = False
 
     def watch(self) -> None:
-        """Has its socket watched for what is wanted now. One from which nothing is wanted is not watched, since it would report a peer that
+        """Has its socket watched for what is needed now. A socket from which nothing is needed is not watched, since it would report a peer that
         is gone again and again."""
         wants_lines = not (self.is_held or self.has_ended or self.is_over or self.broker.is_ending)
         events = (select.EPOLLIN if wants_lines else 0) | (select.EPOLLOUT if self.unsent else 0)
@@ -478,7 +478,7 @@ class Broker:
         self.ready: collections.deque[Connection] = collections.deque()
         # Whose replies come next, in order; None is that of a dot.
         self.owed: collections.deque[Connection | Note | None] = collections.deque()
-        # How many of these are no dots. No batch is under way where there are none.
+        # How many of these are no dots. If there are none, no batch is under way.
         self.wanted = 0
         # How many of these let no other line be given before they are answered: the broker's own, and `next`, which may end any thread. And the
         # threads that others may end, whose numbers other threads may get then: no line of theirs is given.
@@ -738,7 +738,7 @@ class Broker:
         data = b"".join([line + b"\n" for line in lines]) + mungi.FILL * dots
         self.sent_bytes += len(data)
         self.progress = time.monotonic()
-        # A pipe takes so many bytes whole or not at all: whatever kills this process, the machine never gets half of a line.
+        # A pipe takes this many bytes whole or not at all: whatever kills this process, the machine never gets half of a line.
         while len(data) > select.PIPE_BUF:
             cut = data.rindex(b"\n", 0, select.PIPE_BUF) + 1
             self.unwritten.append(data[:cut])
@@ -876,7 +876,7 @@ class Broker:
         self.give([DOT])
 
     def run_ended(self) -> None:
-        """The program put its last reply. Who has lines under way is told, and its connection is closed."""
+        """The program printed its last reply. Each user with lines under way is told, and its connection is closed."""
         process = self.process
         assert process is not None and process.stdin is not None and process.stdout is not None
         self.process = None
@@ -941,7 +941,7 @@ class Broker:
             await self.outcome
 
     async def reopen(self) -> None:
-        """Closes the run if there is one, has the volume copied if that is wanted, and opens the volume again."""
+        """Closes the run if there is one, has the volume copied if that was asked for, and opens the volume again."""
         await self.close_run()
         if self.backup_is_wanted:
             await self.copy()
@@ -1125,7 +1125,7 @@ def main() -> None:
     parser.add_argument("--openings", type=int, default=10, metavar="N", help="the volume is opened at most N times in 60 seconds (10)")
     parser.add_argument("--patience", type=positive, default=60, metavar="SECONDS", help="a program that does not answer for so long is killed (60)")
     parser.add_argument("--backup", metavar="COMMAND", help="what SIGUSR1 runs, with VOLUME as last word, while the volume is closed")
-    parser.add_argument("--most-input", type=int, default=mungi.MOST_INPUT_BYTES, metavar="BYTES", help="a run ends before it has read so many bytes (2^32)")
+    parser.add_argument("--most-input", type=int, default=mungi.MOST_INPUT_BYTES, metavar="BYTES", help="a run ends before it has read this many bytes (2^32)")
     words = parser.parse_args()
     if words.openings < 1 or not 2 * MOST_BATCH_BYTES <= words.most_input <= mungi.MOST_INPUT_BYTES:
         parser.error(f"--openings is at least 1, and --most-input from {2 * MOST_BATCH_BYTES} to {mungi.MOST_INPUT_BYTES}")

@@ -1,5 +1,5 @@
 #!/usr/bin/env python3
-"""A mailbox: a sender puts a letter into it and can't read it, nor write to it past its door.
+"""A mailbox: a sender leaves a letter in it, can't read it, and can write to it only through its door.
 
     python3 clients/python/examples/mailbox.py [VOLUME]
 
@@ -7,8 +7,8 @@ Makes the volume in the file VOLUME, which must not be there yet, or in a tempor
 variable MUNGI names, or else the client's own choice. It prints
 
     before the door, a letter: Denied
-    behind the door, a letter: put
-    behind the door, a look: Denied
+    inside the door, a letter: put
+    inside the door, a look: Denied
     back again, a letter: Denied
     without the password of the door: Denied
     the owner reads: Dear owner, hello.
@@ -23,7 +23,7 @@ import mungi
 
 
 def tried(call, *words):
-    """"put" where a call is answered, or the word of its refusal."""
+    """"put" if a call is answered, or the word of its refusal."""
     try:
         call(*words)
         return "put"
@@ -38,9 +38,9 @@ def main(volume):
         mailbox, door = root.create(), root.create()
 
         # Behind the door a thread has the door's list too, which names the mailbox by a password that only writes.
-        behind = root.create_list()
-        behind.add(mailbox.grant("W"))
-        door.extend(behind.grant("R"))
+        inside = root.create_list()
+        inside.add(mailbox.grant("W"))
+        door.extend(inside.grant("R"))
         entrance = door.entry(0)
 
         # The sender's list names the door by a password that only lets in, and a page of zeros, where its thread begins.
@@ -53,8 +53,8 @@ def main(volume):
         slot = sender.object(mailbox)
         print("before the door, a letter:", tried(slot.put, b"Dear owner, hello."))
         with sender.inside(entrance, mask=1):
-            print("behind the door, a letter:", tried(slot.put, b"Dear owner, hello."))
-            print("behind the door, a look:", tried(slot.get))
+            print("inside the door, a letter:", tried(slot.put, b"Dear owner, hello."))
+            print("inside the door, a look:", tried(slot.get))
         print("back again, a letter:", tried(slot.put, b"And another thing."))
         way_in.revoke()
         print("without the password of the door:", tried(sender.pdx, entrance, 1))
