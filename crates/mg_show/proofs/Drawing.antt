@@ -14,7 +14,8 @@ use Rattle.mg_show.specs.DotText.{arrow, object_name, object_node, quoted, threa
 use Rattle.mg_show.specs.Drawn.{all_named, domains_drawn, entry_bits, graph_drawn, graph_end, graph_head, list_drawn, lists_drawn, marked_drawn, named_by, named_drawn, node_drawn, opened, shape, slot_bits, slot_drawn, threads_drawn}
 use Rattle.mg_show.specs.Reached.{Marks, by_byte, given}
 use Rattle.mg_show.specs.ReachText.{letters_by}
-use Rattle.mg_show.proofs.ByBytes.{bytes-same}
+use Rattle.mg_show.specs.Walked.{AreOpened}
+use Rattle.mg_show.proofs.ByPlaces.{places-same}
 use Rattle.mg_show.proofs.Letters.{any-right, any_same, letters_same, rights-letters}
 use Rattle.mg_show.proofs.Marked.{marks-given}
 
@@ -79,6 +80,10 @@ module _ (period : ℕ) (row : ObjectRow) where
       ∙ ap (λ v. v || given period (all_named threads) row R) (named-given slots)
       ∙ ap (λ v. list_any (λ (slot : Slot). slot.base == row.base && holds period row slot.password R) slots || v) (all-given threads)
 
+-- bytes that have what slots give have R for what is read as a list
+pub are-opened : (objects : List (ℕ × ObjectRow)) (period : ℕ) (threads : List (ℕ × ThreadRow)) (zeros bytes : List ℕ) → ((i : ℕ) → slice_index zeros i ≡ 0) → Marks objects period (all_named threads) zeros bytes → AreOpened objects period threads bytes
+are-opened objects period threads zeros bytes none marks i below d = marks-given objects period (all_named threads) zeros bytes none marks i below d R ∙ all-given period (slice_index_or objects i d).1 threads
+
 -- the graph by bytes that have what slots give is that by the slots
 pub marked-drawn : (image : List (List ℕ)) (frames : ℕ) (table : List ℕ) (objects : List (ℕ × ObjectRow)) (period : ℕ) (threads : List (ℕ × ThreadRow)) (zeros bytes : List ℕ)
     → ((i : ℕ) → slice_index zeros i ≡ 0) → Marks objects period (all_named threads) zeros bytes
@@ -89,15 +94,15 @@ marked-drawn image frames table objects period threads zeros bytes none marks =
     ap (λ (nodes : List ℕ). before ++ nodes ++ domains ++ lists_drawn image frames table bytes objects period ++ graph_end) nodes-same
     ∙ ap (λ (lists : List ℕ). before ++ flat_map (λ (o : ℕ × ObjectRow). object_node (shape (opened period threads o.1)) o.1) objects ++ domains ++ lists ++ graph_end) lists-same
   where
-    is-opened : (i : ℕ) → i < length objects → (d : ℕ × ObjectRow) → has_right (slice_index bytes i) R ≡ opened period threads (slice_index_or objects i d).1
-    is-opened i below d = marks-given objects period (all_named threads) zeros bytes none marks i below d R ∙ all-given period (slice_index_or objects i d).1 threads
+    is-opened : AreOpened objects period threads bytes
+    is-opened = are-opened objects period threads zeros bytes none marks
 
     nodes-same : by_byte node_drawn bytes 0 objects ≡ flat_map (λ (o : ℕ × ObjectRow). object_node (shape (opened period threads o.1)) o.1) objects
     nodes-same =
-        bytes-same node_drawn bytes (λ row. object_node (shape (opened period threads row)) row) objects
+        places-same (λ i row. node_drawn (slice_index bytes i) row) (λ row. object_node (shape (opened period threads row)) row) objects
         (λ i below d. ap (λ v. object_node (shape v) (slice_index_or objects i d).1) (is-opened i below d))
 
     lists-same : lists_drawn image frames table bytes objects period ≡ flat_map (λ (o : ℕ × ObjectRow). list_drawn image frames table objects period (opened period threads o.1) o.1) objects
     lists-same =
-        bytes-same (λ byte row. list_drawn image frames table objects period (has_right byte R) row) bytes (λ row. list_drawn image frames table objects period (opened period threads row) row) objects
+        places-same (λ i row. list_drawn image frames table objects period (has_right (slice_index bytes i) R) row) (λ row. list_drawn image frames table objects period (opened period threads row) row) objects
         (λ i below d. ap (λ v. list_drawn image frames table objects period v (slice_index_or objects i d).1) (is-opened i below d))

@@ -1,5 +1,5 @@
 -- The graph that is put is that of the state that the rows spell.
-use Rattle.std.specs.Prelude.{◌≡◌, ℕ, ◌+◌, ◌==◌, ◌&&◌, ◌||◌, Bool, true, false, All, List, [], ◌∷◌, ◌++◌, codes, find, flat_map, if◌then◌else◌, length, map, Some}
+use Rattle.std.specs.Prelude.{◌≡◌, ℕ, ◌+◌, ◌<◌, ◌==◌, ◌&&◌, ◌||◌, Bool, true, false, All, List, [], ◌∷◌, ◌++◌, codes, find, flat_map, if◌then◌else◌, length, map, Some}
 use Rattle.std.specs.List.{list_any}
 use Rattle.std.specs.Option.{option_map_or}
 use Rattle.std.proofs.Common.{refl, sym, ap, ◌∙◌, append_assoc, get_or}
@@ -17,7 +17,7 @@ use Rattle.mg_model.specs.Volume.{object_spelled, pages_words}
 use Rattle.mg_objects.specs.Held.{objects_in}
 use Rattle.mg_show.proofs.Letters.{any_same, letters_same}
 use Rattle.mg_show.proofs.ObjectsInOrder.{objects-in-order}
-use Rattle.mg_show.proofs.Reaching.{flat_map_same, list_first, ranges_kept}
+use Rattle.mg_show.proofs.Reaching.{flat_map_same, held-told, list_first, ranges_kept}
 use Rattle.mg_show.specs.DotText.{arrow, dot_text, entry_arrow, holds_now, is_list, list_arrows, object_name, object_node, slot_arrow, thread_name, thread_node}
 use Rattle.mg_show.specs.Drawn.{domains_drawn, entry_drawn, graph_drawn, graph_head, held, list_drawn, opened, shape, slot_drawn, slots_drawn, threads_drawn}
 use Rattle.mg_show.specs.Reached.{listed}
@@ -25,7 +25,7 @@ use Rattle.mg_show.specs.ReachText.{letters, letters_by}
 
 -- an object that is found by its base
 module _ (image : List (List ℕ)) (frames : ℕ) (table : List ℕ) where
-  abbrev spelled : ℕ × ObjectRow → Object
+  abbrev pub spelled : ℕ × ObjectRow → Object
   spelled o = object_spelled image frames table o.1
 
   held-same : (period base password : ℕ) (right : Right) (os : List (ℕ × ObjectRow))
@@ -40,7 +40,7 @@ module _ (image : List (List ℕ)) (frames : ℕ) (table : List ℕ) where
       by_test false rest = rest
 
 -- threads with their numbers
-abbrev numbered : ℕ × ThreadRow → Thread
+abbrev pub numbered : ℕ × ThreadRow → Thread
 numbered t = record { number = t.0 + 1; row = t.1 }
 
 opened-same : (period : ℕ) (row : ObjectRow) (threads : List (ℕ × ThreadRow))
@@ -67,14 +67,14 @@ module _ (s : State) (image : List (List ℕ)) (frames : ℕ) (table : List ℕ)
       ap (λ (ls : List ℕ). if entry.0 == 0 then [] else arrow (object_name list) (object_name entry.0) ls (list_any (λ (l : ℕ × Right). holds_now s entry.0 entry.1 l.1) letters)) (letters_same (holds_now s entry.0 entry.1) (held os period entry.0 entry.1) (holds-same entry.0 entry.1))
       ∙ ap (λ counts. if entry.0 == 0 then [] else arrow (object_name list) (object_name entry.0) (letters_by (held os period entry.0 entry.1)) counts) (any_same (holds_now s entry.0 entry.1) (held os period entry.0 entry.1) (holds-same entry.0 entry.1))
 
-  list-same : (row : ObjectRow) → is_list s row ≡ opened period threads row
+  pub list-same : (row : ObjectRow) → is_list s row ≡ opened period threads row
   list-same row =
       ap (λ (ts : List Thread). list_any (λ (thread : Thread). list_any (λ (slot : Slot). slot.base == row.base && holds period row slot.password R) (last_slots thread.row.frames)) ts) numbers
       ∙ opened-same period row threads
 
   -- the parts of the text
-  threads-same : flat_map (λ (thread : Thread). thread_node thread.number) s.threads ≡ threads_drawn threads
-  threads-same = let text : Thread → List ℕ = λ thread. thread_node thread.number in ap (flat_map text) numbers ∙ flat_map-map text numbered threads
+  pub threads-same : (drawn : List (ℕ × ThreadRow)) → flat_map (λ (thread : Thread). thread_node thread.number) (map numbered drawn) ≡ threads_drawn drawn
+  threads-same drawn = let text : Thread → List ℕ = λ thread. thread_node thread.number in flat_map-map text numbered drawn
 
   nodes-same : flat_map (λ (object : Object). object_node (shape (is_list s object.row)) object.row) s.objects ≡ flat_map (λ (o : ℕ × ObjectRow). object_node (shape (opened period threads o.1)) o.1) os
   nodes-same =
@@ -84,14 +84,13 @@ module _ (s : State) (image : List (List ℕ)) (frames : ℕ) (table : List ℕ)
       ∙ flat_map_same (λ (o : ℕ × ObjectRow). object_node (shape (is_list s o.1)) o.1) (λ (o : ℕ × ObjectRow). object_node (shape (opened period threads o.1)) o.1) os
       (λ i below d. ap (λ v. object_node (shape v) (get_or os i d).1) (list-same (get_or os i d).1))
 
-  domains-same : flat_map (λ (thread : Thread). flat_map (slot_arrow s thread.number) (last_slots thread.row.frames)) s.threads ≡ domains_drawn os period threads
-  domains-same =
+  pub domains-same : (drawn : List (ℕ × ThreadRow)) → flat_map (λ (thread : Thread). flat_map (slot_arrow s thread.number) (last_slots thread.row.frames)) (map numbered drawn) ≡ domains_drawn os period drawn
+  domains-same drawn =
       let text : Thread → List ℕ = λ thread. flat_map (slot_arrow s thread.number) (last_slots thread.row.frames) in
-      ap (flat_map text) numbers
-      ∙ flat_map-map text numbered threads
-      ∙ flat_map_same (λ (t : ℕ × ThreadRow). flat_map (slot_arrow s (t.0 + 1)) (last_slots t.1.frames)) (λ (t : ℕ × ThreadRow). slots_drawn os period (t.0 + 1) (last_slots t.1.frames)) threads
+      flat_map-map text numbered drawn
+      ∙ flat_map_same (λ (t : ℕ × ThreadRow). flat_map (slot_arrow s (t.0 + 1)) (last_slots t.1.frames)) (λ (t : ℕ × ThreadRow). slots_drawn os period (t.0 + 1) (last_slots t.1.frames)) drawn
       (λ i below d.
-      let t = get_or threads i d in
+      let t = get_or drawn i d in
       flat_map_same (slot_arrow s (t.0 + 1)) (λ (slot : Slot). slot_drawn (t.0 + 1) slot.base (held os period slot.base slot.password)) (last_slots t.1.frames) (λ k under e. slot-same (t.0 + 1) (get_or (last_slots t.1.frames) k e)))
 
   entries-same : (row : ObjectRow) → IsObjectRow row → flat_map (entry_arrow s row.base) (entries_of (pages_words image frames table (page_of row) row.pages)) ≡ flat_map (λ (entry : ℕ × ℕ). entry_drawn row.base entry.0 (held os period entry.0 entry.1)) (listed image frames table row)
@@ -99,18 +98,24 @@ module _ (s : State) (image : List (List ℕ)) (frames : ℕ) (table : List ℕ)
       ap (flat_map (entry_arrow s row.base)) (list_first image frames table (page_of row) row.pages kept.place.some)
       ∙ flat_map_same (entry_arrow s row.base) (λ (entry : ℕ × ℕ). entry_drawn row.base entry.0 (held os period entry.0 entry.1)) (listed image frames table row) (λ k under e. entry-same row.base (get_or (listed image frames table row) k e))
 
+  -- an object, if it is read as a list
+  pub arrows-same : (i : ℕ) → i < length os → (d : ℕ × ObjectRow) → list_arrows s (spelled image frames table (get_or os i d)) ≡ list_drawn image frames table os period (opened period threads (get_or os i d).1) (get_or os i d).1
+  arrows-same i below d =
+      let row = (get_or os i d).1 in
+      let entries = flat_map (entry_arrow s row.base) (entries_of (pages_words image frames table (page_of row) row.pages)) in
+      ap (λ v. if v then entries else []) (list-same row) ∙ ap (λ (es : List ℕ). if opened period threads row then es else []) (entries-same row (ranges i d below))
+
   lists-same : flat_map (list_arrows s) s.objects ≡ flat_map (λ (o : ℕ × ObjectRow). list_drawn image frames table os period (opened period threads o.1) o.1) os
   lists-same =
       ap (flat_map (list_arrows s)) are
       ∙ flat_map-map (list_arrows s) (spelled image frames table) os
       ∙ flat_map_same (λ (o : ℕ × ObjectRow). list_arrows s (spelled image frames table o)) (λ (o : ℕ × ObjectRow). list_drawn image frames table os period (opened period threads o.1) o.1) os
-      (λ i below d.
-      let row = (get_or os i d).1 in
-      let entries = flat_map (entry_arrow s row.base) (entries_of (pages_words image frames table (page_of row) row.pages)) in
-      ap (λ v. if v then entries else []) (list-same row) ∙ ap (λ (es : List ℕ). if opened period threads row then es else []) (entries-same row (ranges i d below)))
+      arrows-same
 
   pub dot_same : dot_text s ≡ graph_drawn image frames table os period threads
   dot_same =
+      let thread_text : Thread → List ℕ = λ thread. thread_node thread.number in
+      let domain_text : Thread → List ℕ = λ thread. flat_map (slot_arrow s thread.number) (last_slots thread.row.frames) in
       let nodes = flat_map (λ (object : Object). object_node (shape (is_list s object.row)) object.row) s.objects in
       let domains = flat_map (λ (thread : Thread). flat_map (slot_arrow s thread.number) (last_slots thread.row.frames)) s.threads in
       let lists = flat_map (list_arrows s) s.objects in
@@ -118,9 +123,9 @@ module _ (s : State) (image : List (List ℕ)) (frames : ℕ) (table : List ℕ)
       let nodes' = flat_map (λ (o : ℕ × ObjectRow). object_node (shape (opened period threads o.1)) o.1) os in
       let domains' = domains_drawn os period threads in
       let lists' = flat_map (λ (o : ℕ × ObjectRow). list_drawn image frames table os period (opened period threads o.1) o.1) os in
-      ap (λ (text : List ℕ). graph_head ++ text ++ nodes ++ domains ++ lists ++ codes "}" ++ 10 ∷ []) threads-same
+      ap (λ (text : List ℕ). graph_head ++ text ++ nodes ++ domains ++ lists ++ codes "}" ++ 10 ∷ []) (ap (flat_map thread_text) numbers ∙ threads-same threads)
       ∙ ap (λ (text : List ℕ). graph_head ++ threads' ++ text ++ domains ++ lists ++ codes "}" ++ 10 ∷ []) nodes-same
-      ∙ ap (λ (text : List ℕ). graph_head ++ threads' ++ nodes' ++ text ++ lists ++ codes "}" ++ 10 ∷ []) domains-same
+      ∙ ap (λ (text : List ℕ). graph_head ++ threads' ++ nodes' ++ text ++ lists ++ codes "}" ++ 10 ∷ []) (ap (flat_map domain_text) numbers ∙ domains-same threads)
       ∙ ap (λ (text : List ℕ). graph_head ++ threads' ++ nodes' ++ domains' ++ text ++ codes "}" ++ 10 ∷ []) lists-same
       ∙ append_assoc (graph_head ++ threads' ++ nodes' ++ domains' ++ lists') (codes "}") (10 ∷ [])
 
@@ -136,7 +141,4 @@ pub dot-told : (rows : VolumeRows) (kept : AreKept rows) (r : List (List ℕ)) (
     → objects ≡ objects_in rows.objects.items → frames ≡ rows.table.items → period ≡ rows.globals.period
     → graph_drawn r (length frames) frames objects period rows.threads.items ≡ dot_text (state_in rows r)
 dot-told rows kept r objects frames period o f p =
-    ap (λ objects. graph_drawn r (length frames) frames objects period rows.threads.items) o
-    ∙ ap (λ (frames : List ℕ). graph_drawn r (length frames) frames (objects_in rows.objects.items) period rows.threads.items) f
-    ∙ ap (λ period. graph_drawn r (length rows.table.items) rows.table.items (objects_in rows.objects.items) period rows.threads.items) p
-    ∙ dot-kept rows kept r
+    held-told (λ n frames objects period. graph_drawn r n frames objects period rows.threads.items) rows objects frames period o f p ∙ dot-kept rows kept r

@@ -11,9 +11,16 @@ mod Letters
 mod Marked
 mod ListEntries
 mod FoundSteps
-mod ByBytes
+mod ByPlaces
+mod Learning
+mod Ranking
+mod Walking
 mod Drawing
+mod PartRanked
+mod FoundThread
 mod ReachTexts
 mod Reaching
 mod DrawnState
+mod PartState
 mod TextTold
+mod Spelled

@@ -80,8 +80,3 @@ pub slot-unlisted : (image : List (List ℕ)) (frames : ℕ) (table : List ℕ) 
     → [] ≡ option_map_or (λ (o : ℕ × ObjectRow). row_listed image frames table period o.1 password) found []
 slot-unlisted image frames table period password None is = refl
 slot-unlisted image frames table period password (Some o) is = absurd (cc)
-
--- one element more
-pub flat_map_more : {X Y : Type 0} (f : X → List Y) (xs : List X) (i : ℕ) (d : X) → i < length xs → flat_map f (take i xs) ++ f (get_or xs i d) ≡ flat_map f (take (i + 1) xs)
-flat_map_more f xs i d below =
-    ap (λ t. flat_map f (take i xs) ++ t) (sym (append-nil (f (get_or xs i d)))) ∙ sym (flat_map-append f (take i xs) (get_or xs i d ∷ [])) ∙ ap (flat_map f) (sym (take_more xs i d below))

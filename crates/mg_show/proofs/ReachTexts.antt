@@ -13,7 +13,7 @@ use Rattle.mg_model.specs.State.{CallFrame, ObjectRow, ThreadRow}
 use Rattle.mg_show.specs.Reached.{Marks, bits_line, doors, given, marked_reach, objects_reach, row_reach, slots_listed, thread_reached}
 use Rattle.mg_show.specs.ReachText.{letters_by, reach_line}
 use Rattle.mg_show.specs.StateText.{line, rights_text}
-use Rattle.mg_show.proofs.ByBytes.{bytes-same}
+use Rattle.mg_show.proofs.ByPlaces.{places-same}
 use Rattle.mg_show.proofs.Letters.{has-none, letters_same, letters_six, none-has, rights-letters, tests}
 use Rattle.mg_show.proofs.Marked.{marks-given}
 
@@ -64,7 +64,7 @@ module _ (t : ℕ) (bytes : List ℕ) where
   pub marked-reach : (period : ℕ) (capabilities : List (ℕ × ℕ)) (objects : List (ℕ × ObjectRow)) (zeros : List ℕ) → ((i : ℕ) → slice_index zeros i ≡ 0) → Marks objects period capabilities zeros bytes
       → marked_reach t bytes 0 objects ≡ objects_reach t period capabilities objects
   marked-reach period capabilities objects zeros none marks =
-      bytes-same (λ byte row. row_reach t (has_right byte) row) bytes (λ row. row_reach t (given period capabilities row) row) objects
+      places-same (λ i row. row_reach t (has_right (slice_index bytes i)) row) (λ row. row_reach t (given period capabilities row) row) objects
       (λ i below d.
       row_same t (has_right (slice_index bytes i)) (given period capabilities (slice_index_or objects i d).1) (slice_index_or objects i d).1
       (marks-given objects period capabilities zeros bytes none marks i below d))

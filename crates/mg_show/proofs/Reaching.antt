@@ -193,12 +193,17 @@ reach-kept rows kept r =
     ∙ sym (reach_same (state_in rows r) r rows.params.frames rows.table.items (objects_in rows.objects.items) (objects-in-order r rows.params.frames rows.table.items rows.objects.items) (ranges_kept rows kept)
     (apart_kept rows kept) rows.threads.items refl kept.held.threads.rise)
 
--- the same from the lists that are held
+-- a text of what is held is that of the rows
+pub held-told : (text : ℕ → List ℕ → List (ℕ × ObjectRow) → ℕ → List ℕ) (rows : VolumeRows) (objects : List (ℕ × ObjectRow)) (frames : List ℕ) (period : ℕ)
+    → objects ≡ objects_in rows.objects.items → frames ≡ rows.table.items → period ≡ rows.globals.period
+    → text (length frames) frames objects period ≡ text (length rows.table.items) rows.table.items (objects_in rows.objects.items) rows.globals.period
+held-told text rows objects frames period o f p =
+    ap (λ (objects : List (ℕ × ObjectRow)). text (length frames) frames objects period) o
+    ∙ ap (λ (frames : List ℕ). text (length frames) frames (objects_in rows.objects.items) period) f
+    ∙ ap (λ period. text (length rows.table.items) rows.table.items (objects_in rows.objects.items) period) p
+
 pub reach-told : (rows : VolumeRows) (kept : AreKept rows) (r : List (List ℕ)) (objects : List (ℕ × ObjectRow)) (frames : List ℕ) (period : ℕ)
     → objects ≡ objects_in rows.objects.items → frames ≡ rows.table.items → period ≡ rows.globals.period
     → threads_reached r (length frames) frames objects period rows.threads.items ≡ reach_text (state_in rows r)
 reach-told rows kept r objects frames period o f p =
-    ap (λ objects. threads_reached r (length frames) frames objects period rows.threads.items) o
-    ∙ ap (λ (frames : List ℕ). threads_reached r (length frames) frames (objects_in rows.objects.items) period rows.threads.items) f
-    ∙ ap (λ period. threads_reached r (length rows.table.items) rows.table.items (objects_in rows.objects.items) period rows.threads.items) p
-    ∙ reach-kept rows kept r
+    held-told (λ n frames objects period. threads_reached r n frames objects period rows.threads.items) rows objects frames period o f p ∙ reach-kept rows kept r

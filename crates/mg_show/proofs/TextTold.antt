@@ -9,12 +9,14 @@ use Rattle.mg_objects.specs.Held.{objects_in}
 use Rattle.mg_space.specs.Space.{ArePaid}
 use Rattle.mg_show.specs.Commands.{text_of}
 use Rattle.mg_show.specs.Drawn.{graph_drawn}
+use Rattle.mg_show.specs.PartDrawn.{object_drawn, thread_drawn}
 use Rattle.mg_show.specs.Reached.{threads_reached}
 use Rattle.mg_show.specs.Shown.{text_shown}
 use Rattle.mg_show.specs.declared.command.Text.{Text}
 use Rattle.mg_show.specs.declared.command.Text.TheVariants as texts
 use Rattle.mg_show.specs.declared.held.Shown.{Shown}
 use Rattle.mg_show.proofs.DrawnState.{dot-told}
+use Rattle.mg_show.proofs.PartState.{object-told, thread-told}
 use Rattle.mg_show.proofs.Reaching.{reach-told}
 use Rattle.mg_show.proofs.StateParts.{state-told}
 
@@ -29,3 +31,9 @@ module _ (rows : VolumeRows) (kept : AreKept rows) (r : Image) (shown : Shown) (
       ap (λ (ts : List (ℕ × ThreadRow)). threads_reached r (length shown.frames) shown.frames shown.objects shown.counters.period ts) threads ∙ reach-told rows kept r shown.objects shown.frames shown.counters.period objects frames period
   text-told texts.Dot =
       ap (λ (ts : List (ℕ × ThreadRow)). graph_drawn r (length shown.frames) shown.frames shown.objects shown.counters.period ts) threads ∙ dot-told rows kept r shown.objects shown.frames shown.counters.period objects frames period
+  text-told (texts.DotThread number steps) =
+      ap (λ (ts : List (ℕ × ThreadRow)). thread_drawn r (length shown.frames) shown.frames shown.objects shown.counters.period ts number steps) threads
+      ∙ thread-told rows kept r shown.objects shown.frames shown.counters.period objects frames period number steps
+  text-told (texts.DotObject base steps) =
+      ap (λ (ts : List (ℕ × ThreadRow)). object_drawn r (length shown.frames) shown.frames shown.objects shown.counters.period ts base steps) threads
+      ∙ object-told rows kept r shown.objects shown.frames shown.counters.period objects frames period base steps

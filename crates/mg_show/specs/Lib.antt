@@ -2,6 +2,7 @@
 pub mod StateText
 pub mod ReachText
 pub mod DotText
+pub mod DotFrom
 pub mod Commands
 pub mod Headline
 pub mod Writing
@@ -10,5 +11,7 @@ pub mod WordText
 pub mod RowsText
 pub mod Reached
 pub mod Drawn
+pub mod Walked
+pub mod PartDrawn
 pub mod Shown
 pub mod WritingLemmas

@@ -27,11 +27,15 @@ reach_line t base (letter ∷ more) = line (codes "reach") (decimal t ∷ hex_te
 
 -- the entries of an object at which a thread may enter now
 abbrev pub enter_lines : State → ℕ → List ℕ → List ℕ
-enter_lines state t entries = flat_map (λ address. line (codes "enter") (decimal t ∷ hex_text address ∷ [])) (filter (λ address. allowed state t address P) entries)
+enter_lines state t entries =
+    flat_map (λ address. line (codes "enter") (decimal t ∷ hex_text address ∷ []))
+    (filter (λ address. allowed state t address P) entries)
 
 -- what one thread reaches, object by object in the order of their bases
 abbrev pub thread_reach : State → ℕ → List ℕ
-thread_reach state t = flat_map (λ (object : Object). reach_line t object.row.base (rights_now state t object.row.base) ++ enter_lines state t object.row.entries) state.objects
+thread_reach state t =
+    flat_map (λ (object : Object). reach_line t object.row.base (rights_now state t object.row.base)
+    ++ enter_lines state t object.row.entries) state.objects
 
 abbrev pub reach_text : State → List ℕ
 reach_text state = flat_map (λ (thread : Thread). thread_reach state thread.number) state.threads

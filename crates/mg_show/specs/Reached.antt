@@ -56,10 +56,14 @@ doors t has row = if has P then flat_map (enter_line t) row.entries else []
 abbrev pub row_reach : ℕ → (Right → Bool) → ObjectRow → List ℕ
 row_reach t has row = reach_line t row.base (letters_by has) ++ doors t has row
 
--- the texts of objects in their order, each by its byte; the bytes begin at place i
+-- the texts of objects in their order, each by its place; the first has place i
+abbrev pub by_place : (ℕ → ObjectRow → List ℕ) → ℕ → List (ℕ × ObjectRow) → List ℕ
+by_place text i [] = []
+by_place text i (o ∷ objects) = text i o.1 ++ by_place text (i + 1) objects
+
+-- the same, each by its byte
 abbrev pub by_byte : (ℕ → ObjectRow → List ℕ) → List ℕ → ℕ → List (ℕ × ObjectRow) → List ℕ
-by_byte text bytes i [] = []
-by_byte text bytes i (o ∷ objects) = text (slice_index bytes i) o.1 ++ by_byte text bytes (i + 1) objects
+by_byte text bytes i objects = by_place (λ j row. text (slice_index bytes j) row) i objects
 
 -- what a thread reaches, where the byte of each object has the rights on it
 abbrev pub marked_reach : ℕ → List ℕ → ℕ → List (ℕ × ObjectRow) → List ℕ

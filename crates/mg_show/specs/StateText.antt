@@ -60,7 +60,8 @@ abbrev pub pages_paid : List ObjectRow → ℕ → ℕ
 pages_paid rows n = sum_by (λ (row : ObjectRow). row.pages) (filter (λ (row : ObjectRow). row.account == n) rows)
 
 abbrev pub account_text : ℕ → AccRow → ℕ → List ℕ
-account_text n row pages = line (codes "account") (decimal n ∷ hex_text row.password ∷ decimal row.balance ∷ decimal row.owed ∷ decimal pages ∷ [])
+account_text n row pages =
+    line (codes "account") (decimal n ∷ hex_text row.password ∷ decimal row.balance ∷ decimal row.owed ∷ decimal pages ∷ [])
 
 -- the accounts from number n on, each with the pages that its number pays for
 abbrev pub accounts_text : (ℕ → ℕ) → ℕ → List AccRow → List ℕ
@@ -100,7 +101,9 @@ frame_text frame = line (codes "frame") (hex_text frame.back ∷ []) ++ flat_map
 
 -- the line of a thread up to its registers, and the rest of that line
 abbrev pub thread_head : ℕ → ThreadRow → List ℕ
-thread_head number row = codes "thread" ++ spaced (decimal number ∷ decimal row.birth ∷ decimal row.creator ∷ hex_text row.pc ∷ thread_state_text row.state ∷ [])
+thread_head number row =
+    codes "thread"
+    ++ spaced (decimal number ∷ decimal row.birth ∷ decimal row.creator ∷ hex_text row.pc ∷ thread_state_text row.state ∷ [])
 
 abbrev pub registers_text : List ℕ → List ℕ
 registers_text regs = spaced (map hex_text regs) ++ 10 ∷ []
@@ -113,7 +116,9 @@ thread_text thread = thread_head thread.number thread.row ++ registers_text thre
 -- the words from an address on
 abbrev pub words_text : ℕ → List ℕ → List ℕ
 words_text address [] = []
-words_text address (word ∷ words) = (if word == 0 then [] else line (codes "word") (hex_text address ∷ hex_text word ∷ [])) ++ words_text (address + 8) words
+words_text address (word ∷ words) =
+    (if word == 0 then [] else line (codes "word") (hex_text address ∷ hex_text word ∷ []))
+    ++ words_text (address + 8) words
 
 -- All of it
 

@@ -6,10 +6,10 @@ use Rattle.std.proofs.Common.{◌≡◌, ℕ, suc, ◌+◌, ◌<◌, List, [], �
 use Rattle.std.proofs.lemmas.Grind.{flat_map-append}
 use Rattle.std.proofs.Math.Seq.{take-suc}
 use Rattle.mg_check.specs.ReadRuns.{only_none, only_then, same_contents}
-use Rattle.mg_check.specs.Reads.{contents}
+use Rattle.mg_check.specs.Reads.{OnlyRead, contents}
 use Rattle.mg_disk.specs.declared.disk.Disk as disks
 use Rattle.mg_disk.specs.Disk.{Image}
-use Rattle.mg_disk.specs.Stops.{CountRose}
+use Rattle.mg_disk.specs.Stops.{CountGoes, CountRose}
 use Rattle.mg_faults.specs.Faults.{count_none, count_then, rose_then, then_rose}
 use Rattle.mg_io.specs.Known.{Appends-none, Appends-then, AppendsPrefix, AppendsPrefix-longer, AppendsPrefix-none}
 use Rattle.mg_io.specs.declared.traits.Sink as sinks
@@ -139,8 +139,8 @@ module _ {K : Type 0} (to : sinks.Ghosts K) where
     not_read = first.not_read;
   }
 
--- the texts of a list's elements, one more
-pub flat_more : {A : Type 0} (f : A → List ℕ) (xs : List A) (i : ℕ) (d : A) → i < length xs → flat_map f (take i xs) ++ f (get_or xs i d) ≡ flat_map f (take (i + 1) xs)
+-- what a list's elements give, one element more
+pub flat_more : {A B : Type 0} (f : A → List B) (xs : List A) (i : ℕ) (d : A) → i < length xs → flat_map f (take i xs) ++ f (get_or xs i d) ≡ flat_map f (take (i + 1) xs)
 flat_more f xs i d h =
     let s : i + 1 ≡ suc i = omega arith in
     sym (
@@ -220,10 +220,10 @@ module _ {D K : Type 0} (facts : disks.Ghosts D) (to : sinks.Ghosts K) (of : Ima
   pub of_same : {a b : Image → List ℕ} {d d' : D} {s s' : K} {o o' : Held} → ((r : Image) → a r ≡ b r) → PutsOf facts to of a d d' s s' o o' → PutsOf facts to of b d d' s s' o o'
   of_same e puts = record { told = puts.told; is = λ r told. puts.is r told ∙ e r; writes = puts.writes; reads = puts.reads; disk_rose = puts.disk_rose }
 
-  -- a text behind reads, which is that of the contents unless one failed
-  pub of_behind : {text : List ℕ} {whole : Image → List ℕ} {d d' : D} {s s' : K} {o o' o'' : Held} → Reads facts d d' o o' → Puts to text s s' o' o''
-      → (o'.fault ≡ None → ForSome (contents facts of d) (λ r. text ≡ whole r)) → PutsOf facts to of whole d d' s s' o o''
-  of_behind {text} {whole} {d} {d'} {s} {s'} {o} {o'} {o''} read puts is = by_ends read.ends
+  -- a text after reads, which is that of the contents unless one failed
+  after_reads : {text : List ℕ} {whole : Image → List ℕ} {d d' d'' : D} {s s' : K} {o o' o'' : Held} → Reads facts d d' o o' → Writes to text s s' o' o'' → OnlyRead facts d d'' → CountGoes facts d' d''
+      → (o''.fault ≡ Some fault.Disk → (o'.fault ≡ Some fault.Disk) ⊎ CountRose facts d' d'') → (o'.fault ≡ None → ForSome (contents facts of d) (λ r. text ≡ whole r)) → PutsOf facts to of whole d d'' s s' o o''
+  after_reads {text} {whole} {d} {d'} {d''} {s} {s'} {o} {o'} {o''} read writes all goes rose is = by_ends read.ends
     where
       -- the text of the contents where they are told
       any : List ℕ
@@ -232,27 +232,41 @@ module _ {D K : Type 0} (facts : disks.Ghosts D) (to : sinks.Ghosts K) (of : Ima
       any_is : ForSome (contents facts of d) (λ r. any ≡ whole r)
       any_is r told = ap (λ c. option_map_or whole c []) told
 
-      stands : IsTrue (is_some o'.fault) → (IsTrue (is_some o.fault) → o' ≡ o) → (o'.fault ≡ Some fault.Sink → o.fault ≡ Some fault.Sink) → (o'.fault ≡ Some fault.Disk → (o.fault ≡ Some fault.Disk) ⊎ CountRose facts d d') → PutsOf facts to of whole d d' s s' o o''
+      stands : IsTrue (is_some o'.fault) → (IsTrue (is_some o.fault) → o' ≡ o) → (o'.fault ≡ Some fault.Sink → o.fault ≡ Some fault.Sink) → (o'.fault ≡ Some fault.Disk → (o.fault ≡ Some fault.Disk) ⊎ CountRose facts d d') → PutsOf facts to of whole d d'' s s' o o''
       stands some same sink disk =
-          let kept = puts.writes.stays some in
+          let kept = writes.stays some in
           record {
             told = any;
             is = any_is;
             writes = subst (λ (k : K). Writes to any s k o o'') (sym kept.0) (subst (λ (h : Held). Writes to any s s o h) (sym kept.1) (writes_any to any s o o' same some sink));
-            reads = read.reads;
-            disk_rose = λ e. disk (ap (λ (h : Held). h.fault) (sym kept.1) ∙ e);
+            reads = all;
+            disk_rose = λ e.
+                ⊎_elim (λ before. inl before) (λ rose. inr (rose_then (facts.faults d) (facts.faults d') (facts.faults d'') (facts.is_spent d') (facts.is_spent d'') rose goes)) (disk (ap (λ (h : Held). h.fault) (sym kept.1) ∙ e));
           }
 
-      by_ends : (o' ≡ o) ⊎ ReadFails facts d d' o o' → PutsOf facts to of whole d d' s s' o o''
+      by_ends : (o' ≡ o) ⊎ ReadFails facts d d' o o' → PutsOf facts to of whole d d'' s s' o o''
       by_ends (inl same) =
           ⊎_elim
           (λ (none : o'.fault ≡ None). record {
             told = text;
             is = is none;
-            writes = subst (λ (h : Held). Writes to text s s' h o'') same puts.writes;
-            reads = read.reads;
-            disk_rose = λ e. inl (ap (λ (h : Held). h.fault) (sym same) ∙ puts.not_read e);
+            writes = subst (λ (h : Held). Writes to text s s' h o'') same writes;
+            reads = all;
+            disk_rose = λ e.
+                ⊎_elim (λ before. inl (ap (λ (h : Held). h.fault) (sym same) ∙ before)) (λ rose. inr (then_rose (facts.faults d) (facts.faults d') (facts.faults d'') (facts.is_spent d) (facts.is_spent d') (facts.is_spent d'') read.reads.count rose)) (rose e);
           })
           (λ some. stands some (λ was. same) (λ e. ap (λ (h : Held). h.fault) (sym same) ∙ e) (λ e. inl (ap (λ (h : Held). h.fault) (sym same) ∙ e)))
           (by_fault o'.fault)
       by_ends (inr fails) = stands (some_is o'.fault fault.Disk fails.failed) (λ was. absurd (not_both o.fault fails.none was)) (λ e. absurd (apart o'.fault fails.failed e)) (λ e. inr fails.rose)
+
+  -- one that needs no read
+  pub of_behind : {text : List ℕ} {whole : Image → List ℕ} {d d' : D} {s s' : K} {o o' o'' : Held} → Reads facts d d' o o' → Puts to text s s' o' o''
+      → (o'.fault ≡ None → ForSome (contents facts of d) (λ r. text ≡ whole r)) → PutsOf facts to of whole d d' s s' o o''
+  of_behind {text} {whole} {d} {d'} read puts is = after_reads read puts.writes read.reads (count_none (facts.faults d') (facts.is_spent d')) (λ e. inl (puts.not_read e)) is
+
+  -- one of the contents
+  pub of_after : {text whole : Image → List ℕ} {d d' d'' : D} {s s' : K} {o o' o'' : Held} → Reads facts d d' o o' → PutsOf facts to of text d' d'' s s' o' o''
+      → (o'.fault ≡ None → ForSome (contents facts of d) (λ r. text r ≡ whole r)) → PutsOf facts to of whole d d'' s s' o o''
+  of_after {text} {whole} {d} {d'} {d''} read puts is =
+      after_reads read puts.writes (only_then facts d d' d'' read.reads puts.reads) puts.reads.count puts.disk_rose
+      (λ none r told. puts.is r (same_contents facts of d d' read.reads ∙ told) ∙ is none r told)

@@ -23,7 +23,7 @@ use mg_layout::number_at;
 use mg_model::{ObjRow, Slot, ThrRow};
 use mg_objects::Objects;
 
-/// Puts an arrow for each slot of the present frames of threads, which have their places.
+/// Writes an arrow for each slot of the present frames of threads, which have their places.
 pub(crate) fn put_domains<K: Sink>(
     objects: &Objects,
     period: u64,
@@ -69,7 +69,7 @@ fn put_slot<K: Sink>(
     out.line(print_slot_arrow(number, slot.base, bits), sink);
 }
 
-/// Puts an arrow for each entry of the objects whose byte has R. Each list is read once.
+/// Writes an arrow for each entry of the objects whose byte has R. Each list is read once.
 pub(crate) fn put_lists<D: Disk, K: Sink>(
     shown: &Shown,
     bytes: &[u8],
@@ -87,8 +87,8 @@ pub(crate) fn put_lists<D: Disk, K: Sink>(
     }
 }
 
-// The arrows of an object, where it is read as a list.
-fn put_where<D: Disk, K: Sink>(
+/// The arrows of an object, if it is read as a list.
+pub(crate) fn put_where<D: Disk, K: Sink>(
     shown: &Shown,
     is_list: bool,
     row: &ObjRow,

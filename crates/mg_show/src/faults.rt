@@ -1,10 +1,10 @@
-// What fails outside while text is put.
+// What fails outside while text is written.
 
-/// Which of the two failed, where what a disk holds was put as text.
+/// Which of the two failed while the text of what a disk holds was written.
 #[derive(Clone, Copy)]
 pub(crate) enum ShowFault {
     /// A call of the disk.
     Disk,
-    /// A put.
+    /// A write to the sink.
     Sink,
 }

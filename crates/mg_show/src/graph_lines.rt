@@ -80,7 +80,7 @@ pub(crate) fn print_entry_arrow(list: u64, base: u64, bits: u8) -> Line
     out
 }
 
-/// An arrow behind the node that it leaves, dashed where it counts for nothing.
+/// An arrow after the node that it leaves, dashed if it counts for nothing.
 fn push_arrow_end(out: &mut Line, base: u64, bits: u8, counts: bool)
     requires { array_vec_len out.old ≤ 100 }
     ensures text { out.new.items ≡ out.old.items ++ arrow_end (object_name base) (rights_text bits) counts }
@@ -95,7 +95,7 @@ fn push_arrow_end(out: &mut Line, base: u64, bits: u8, counts: bool)
     push_text(out, b"]\n");
 }
 
-/// How an arrow is drawn that counts for nothing, 13 bytes; nothing where it counts.
+/// How an arrow is drawn that counts for nothing, 13 bytes; nothing if it counts.
 fn dash_of(counts: bool) -> &'static [u8]
     ensures text { result.now ≡ dash counts }
     ensures short { length result.now ≤ 13 }
@@ -125,7 +125,7 @@ fn push_object_name(out: &mut Line, base: u64)
     push_text(out, b"\"");
 }
 
-/// A word in hexadecimal, without the space that stands before it in a line.
+/// A word in hexadecimal, without the space before it in a line.
 fn push_hex(out: &mut Line, word: u64)
     requires { array_vec_len out.old ≤ 201 }
     ensures text { out.new.items ≡ out.old.items ++ hex_text word }

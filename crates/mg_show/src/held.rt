@@ -35,7 +35,7 @@ pub(crate) struct Shown {
 }
 
 /// A volume with these tables: its objects, of which no two share a page, its accounts, and its frame table, in which no page
-/// stands twice. None where there is not enough memory.
+/// is twice. None if there is not enough memory.
 pub(crate) fn shown_of(
     alloc: Global,
     params: Params,

@@ -1,4 +1,4 @@
-//! What is in a volume, as text: its whole state, who may reach what, or a graph of it.
+//! What is in a volume, as text: its whole state, who may reach what, or a graph of it or of a part.
 #![tactic(auto)]
 
 mod arrows;
@@ -13,12 +13,15 @@ mod marks;
 mod objects;
 mod opened;
 mod pages;
+mod part;
 mod putting;
+mod ranks;
 mod reach;
 mod rows;
 mod state;
 mod threads;
 mod top_call;
+mod walk;
 mod words;
 mod writer;
 

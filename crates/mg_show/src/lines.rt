@@ -61,7 +61,7 @@ pub(crate) fn print_pair(head: &[u8], first: u64, second: u64) -> Line
     out
 }
 
-/// The line of an account, which pays for so many pages.
+/// The line of an account, with the number of pages that it pays for.
 pub(crate) fn print_account(n: u64, row: &AccRow, pages: u64) -> Line
     ensures { result.items ≡ account_text n row.now pages }
 {
@@ -126,7 +126,7 @@ pub(crate) fn push_letters(out: &mut Line, bits: u8)
     push_letter(out, bits, b'O', 32);
 }
 
-/// The letter of a right, where the set has its bit.
+/// The letter of a right, if the set has its bit.
 fn push_letter(out: &mut Line, rights: u8, letter: u8, bit: u8)
     requires has_room { array_vec_len out.old ≤ 207 }
     requires bit { 1 ≤ bit }
@@ -203,7 +203,7 @@ pub(crate) fn print_tariff(tariff: Tariff) -> Line
     out
 }
 
-/// The four steps of a tariff, each behind a space.
+/// The four steps of a tariff, each after a space.
 fn push_steps(out: &mut Line, steps: &[(u64, u64); 4])
     requires { array_vec_len out.old ≤ 8 }
     ensures text { out.new.items ≡ out.old.items ++ spaced (map step_text steps.now) }

@@ -47,7 +47,7 @@ fn mark_slot<D: Disk>(shown: &Shown, slot: Slot, bytes: &mut [u8], disk: &mut D,
     }
 }
 
-// The rights that the list in an object gives, where the password may read it.
+// The rights that the list in an object gives, if the password may read it.
 fn mark_through<D: Disk>(
     shown: &Shown,
     row: &ObjRow,

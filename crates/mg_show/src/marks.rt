@@ -9,7 +9,7 @@ ghost use Rattle.mg_show.specs.Reached.{IsCut, IsPlaceOf, Marks};
 use mg_model::{ObjRow, Right};
 use mg_objects::Objects;
 
-/// The object with this base gets, in its byte, the rights that a password gives on it at a period. Where there is none, nothing
+/// The object with this base gets, in its byte, the rights that a password gives on it at a period. If there is none, nothing
 /// changes.
 pub(crate) fn mark(objects: &Objects, base: u64, password: u64, period: u64, bytes: &mut [u8])
     requires { length bytes.old ≡ length objects.now }
@@ -29,7 +29,7 @@ pub(crate) fn clear(bytes: &mut [u8])
     bytes.fill(0);
 }
 
-/// The rights that a password gives at a period on the object with this base, as bits; none where there is no such object.
+/// The rights that a password gives at a period on the object with this base, as bits; none if there is no such object.
 pub(crate) fn rights_on(objects: &Objects, base: u64, password: u64, period: u64) -> u8
     ensures { (x : right) → has_right result x ≡ held objects.now period base password x }
 {
@@ -46,8 +46,8 @@ pub(crate) fn has_r(bits: u8) -> bool
     bits % 2 == 1
 }
 
-// The place of the object with this base in the order of the bases.
-fn place_of(objects: &Objects, base: u64) -> Option<usize>
+/// The place of the object with this base in the order of the bases.
+pub(crate) fn place_of(objects: &Objects, base: u64) -> Option<usize>
     ensures { MatchOption result (All (λ o. o.1.base ≢ base) objects.now) (λ i. IsPlaceOf objects.now base i) }
 {
     let i = count_below(objects, base);
@@ -89,7 +89,7 @@ fn with_rights(byte: u8, row: &ObjRow, password: u64, period: u64) -> u8
         + 32 * joined(byte, 32, row, password, Right::O, period)
 }
 
-// 1 where a byte has this weight, or the password gives the right on the object at the period, else 0.
+// 1 if a byte has this weight, or the password gives the right on the object at the period, else 0.
 fn joined(byte: u8, weight: u8, row: &ObjRow, password: u64, right: Right, period: u64) -> u8
     requires { 1 ≤ weight }
     ensures is { (result == 1) ≡ (byte / weight % 2 == 1 || holds period row.now password right) }

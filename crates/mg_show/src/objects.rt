@@ -1,4 +1,4 @@
-// The rows of the objects, put as text.
+// The rows of the objects, written as text.
 ghost use Rattle.std.specs.Prelude.{ℕ, flat_map};
 ghost use Rattle.mg_model.specs.State.{ObjectRow};
 ghost use Rattle.mg_show.specs.StateText.{entry_text, extension_text, object_text, password_text};
@@ -10,7 +10,7 @@ use mg_io::Sink;
 use mg_model::{ObjRow, Pw};
 use mg_objects::Objects;
 
-/// Puts the lines of the objects, in the order of their bases.
+/// Writes the lines of the objects, in the order of their bases.
 pub(crate) fn put_objects<K: Sink>(objects: &Objects, out: &mut Writer, sink: &mut K)
     ensures { Puts K.Sink (flat_map (λ (o : ℕ × ObjectRow). object_text o.1) objects.now) sink.old sink.new out.old out.new }
 {

@@ -8,7 +8,7 @@ use crate::marks::mark;
 use mg_model::{Slot, ThrRow};
 use mg_objects::Objects;
 
-/// Each object gets, in its byte, the rights that the slots of the present frames give on it at a period. Where that has R, a thread
+/// Each object gets, in its byte, the rights that the slots of the present frames give on it at a period. If that has R, a thread
 /// reads it as a list.
 pub(crate) fn mark_opened(
     objects: &Objects,

@@ -52,7 +52,7 @@ pub(crate) fn read_page<D: Disk>(
 ///
 /// # Errors
 ///
-/// `Failed` where a read fails.
+/// `Failed` if a read fails.
 pub(crate) fn read_block<D: Disk>(
     view: &View,
     disk: &mut D,

@@ -14,6 +14,7 @@ ghost use Rattle.mg_show.specs.Writing.{PutsOf};
 use crate::command::Text;
 use crate::graph::put_graph;
 use crate::held::{Shown, shown_of};
+use crate::part::{put_object_part, put_thread_part};
 use crate::reach::put_reach;
 use crate::state::put_state;
 use crate::writer::Writer;
@@ -25,7 +26,7 @@ use mg_objects::Objects;
 use mg_serve::Status;
 use std::alloc::Global;
 
-/// Puts this text of the volume whose rows these are.
+/// Writes this text of the volume whose rows these are.
 pub(crate) fn show_rows<D: Disk, K: Sink>(
     alloc: Global,
     text: Text,
@@ -61,52 +62,64 @@ pub(crate) fn show_rows<D: Disk, K: Sink>(
         None => return Status::Memory,
     };
     match room_of(alloc, shown.objects.objects()) {
-        Some(mut bytes) => put_all(text, &shown, &mut bytes, disk, &mut out, sink),
+        Some((mut bytes, mut ranks)) => put_all(
+            text, &shown, &mut bytes, &mut ranks, disk, &mut out, sink,
+        ),
         None => Status::Memory,
     }
 }
 
-// A byte for each object. None where there is not enough memory.
-fn room_of(alloc: Global, objects: &Objects) -> Option<Vec<u8>>
-    ensures { IfSome result (λ bytes. length bytes.items ≡ length objects.now) }
+// A byte and a rank for each object. None if there is not enough memory.
+fn room_of(alloc: Global, objects: &Objects) -> Option<(Vec<u8>, Vec<u64>)>
+    ensures bytes { IfSome result (λ room. length room.0.items ≡ length objects.now) }
+    ensures ranks { IfSome result (λ room. length room.1.items ≡ length objects.now) }
 {
     let mut bytes = Vec::new(alloc);
+    let mut ranks = Vec::new(alloc);
     match bytes.resize(objects.len(), 0) {
-        Ok(()) => Some(bytes),
+        Ok(()) => {}
+        Err(_) => return None,
+    }
+    match ranks.resize(objects.len(), 0) {
+        Ok(()) => Some((bytes, ranks)),
         Err(_) => None,
     }
 }
 
-// Puts this text of a volume, all of it. There is a byte for each object, and nothing waits.
+// Writes this text of a volume, all of it. There is a byte and a rank for each object, and nothing waits.
 fn put_all<D: Disk, K: Sink>(
     text: Text,
     shown: &Shown,
     bytes: &mut [u8],
+    ranks: &mut [u64],
     disk: &mut D,
     out: &mut Writer,
     sink: &mut K,
 ) -> Status
     requires places { All (λ t. t.0 < thread_limit) shown.now.threads.items }
     requires long { length bytes.old ≡ length shown.now.objects }
+    requires long_ranks { length ranks.old ≡ length shown.now.objects }
     requires can { CanRead D.Disk shown.now.view.total (Fits shown.now.view) disk.old }
     requires empty { out.old ≡ record { waiting = []; fault = None } }
     ensures { PutsAll D.Disk K.Sink (λ image. replay image shown.now.view.total) (text_shown text shown.now) result disk.old disk.new sink.old sink.new }
 {
-    put_text(text, shown, bytes, disk, out, sink);
+    put_text(text, shown, bytes, ranks, disk, out, sink);
     out.finish(sink)
 }
 
-// Puts this text of a volume. There is a byte for each object.
+// Writes this text of a volume. There is a byte and a rank for each object.
 fn put_text<D: Disk, K: Sink>(
     text: Text,
     shown: &Shown,
     bytes: &mut [u8],
+    ranks: &mut [u64],
     disk: &mut D,
     out: &mut Writer,
     sink: &mut K,
 )
     requires places { All (λ t. t.0 < thread_limit) shown.now.threads.items }
     requires long { length bytes.old ≡ length shown.now.objects }
+    requires long_ranks { length ranks.old ≡ length shown.now.objects }
     requires can { CanRead D.Disk shown.now.view.total (Fits shown.now.view) disk.old }
     ensures { PutsOf D.Disk K.Sink (λ image. replay image shown.now.view.total) (text_shown text shown.now) disk.old disk.new sink.old sink.new out.old out.new }
 {
@@ -114,5 +127,25 @@ fn put_text<D: Disk, K: Sink>(
         Text::State => put_state(shown, disk, out, sink),
         Text::Reach => put_reach(shown, bytes, disk, out, sink),
         Text::Dot => put_graph(shown, bytes, disk, out, sink),
+        Text::DotThread(number, steps) => put_thread_part(
+            shown,
+            number,
+            u64::from(steps),
+            bytes,
+            ranks,
+            disk,
+            out,
+            sink,
+        ),
+        Text::DotObject(base, steps) => put_object_part(
+            shown,
+            base,
+            u64::from(steps),
+            bytes,
+            ranks,
+            disk,
+            out,
+            sink,
+        ),
     }
 }

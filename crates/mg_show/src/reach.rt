@@ -1,4 +1,4 @@
-// Who may reach what, put as text.
+// Who may reach what, written as text.
 ghost use Rattle.std.specs.Prelude.{◌≡◌, ◌+◌, ◌<◌, ℕ, All, flat_map, length};
 ghost use Rattle.mg_check.specs.Reads.{CanRead};
 ghost use Rattle.mg_journal.specs.Looked.{Fits};
@@ -18,7 +18,7 @@ use mg_io::Sink;
 use mg_model::{ObjRow, ThrRow};
 use mg_objects::Objects;
 
-/// Puts for each thread, in order, the objects that it may reach now, and the entries at which it may enter. There is a byte for each
+/// Writes for each thread, in order, the objects that it may reach now, and the entries at which it may enter. There is a byte for each
 /// object. A right that a list gives is found once.
 pub(crate) fn put_reach<D: Disk, K: Sink>(
     shown: &Shown,
@@ -37,7 +37,7 @@ pub(crate) fn put_reach<D: Disk, K: Sink>(
     }
 }
 
-// Puts what a thread may reach.
+// Writes what a thread may reach.
 fn put_thread<D: Disk, K: Sink>(
     shown: &Shown,
     thread: &(u64, ThrRow),
@@ -58,7 +58,7 @@ fn put_thread<D: Disk, K: Sink>(
     put_marked(thread.0 + 1, bytes, shown.objects.objects(), out, sink);
 }
 
-// Puts the objects that a thread may reach, with the rights in the byte of each.
+// Writes the objects that a thread may reach, with the rights in the byte of each.
 fn put_marked<K: Sink>(t: u64, bytes: &[u8], objects: &Objects, out: &mut Writer, sink: &mut K)
     requires long { length bytes.now ≡ length objects.now }
     ensures { Puts K.Sink (marked_reach t bytes.now 0 objects.now) sink.old sink.new out.old out.new }
@@ -68,7 +68,7 @@ fn put_marked<K: Sink>(t: u64, bytes: &[u8], objects: &Objects, out: &mut Writer
     }
 }
 
-// Puts an object on which a thread has the rights with these bits, and its entries where it may enter there.
+// Writes an object on which a thread has the rights with these bits, and its entries if it may enter there.
 fn put_row<K: Sink>(t: u64, bits: u8, row: &ObjRow, out: &mut Writer, sink: &mut K)
     ensures { Puts K.Sink (row_reach t (has_right bits) row.now) sink.old sink.new out.old out.new }
 {
@@ -76,7 +76,7 @@ fn put_row<K: Sink>(t: u64, bits: u8, row: &ObjRow, out: &mut Writer, sink: &mut
     put_doors(t, bits, row, out, sink);
 }
 
-// Puts the line of an object, and nothing where there is no right.
+// Writes the line of an object, and nothing if there is no right.
 fn put_rights<K: Sink>(t: u64, base: u64, bits: u8, out: &mut Writer, sink: &mut K)
     ensures { Puts K.Sink (bits_line t base bits) sink.old sink.new out.old out.new }
 {
@@ -86,7 +86,7 @@ fn put_rights<K: Sink>(t: u64, base: u64, bits: u8, out: &mut Writer, sink: &mut
     out.line(print_reach(t, base, bits), sink);
 }
 
-// Puts the entries of an object, and nothing where the thread may not enter.
+// Writes the entries of an object, and nothing if the thread may not enter.
 fn put_doors<K: Sink>(t: u64, bits: u8, row: &ObjRow, out: &mut Writer, sink: &mut K)
     ensures { Puts K.Sink (doors t (has_right bits) row.now) sink.old sink.new out.old out.new }
 {
@@ -95,7 +95,7 @@ fn put_doors<K: Sink>(t: u64, bits: u8, row: &ObjRow, out: &mut Writer, sink: &m
     }
 }
 
-// Puts entries at which a thread may enter.
+// Writes entries at which a thread may enter.
 fn put_entries<K: Sink>(t: u64, entries: &[u64], out: &mut Writer, sink: &mut K)
     ensures { Puts K.Sink (flat_map (enter_line t) entries.now) sink.old sink.new out.old out.new }
 {

@@ -1,4 +1,4 @@
-// The settings, the counters and the accounts of a volume, put as text.
+// The settings, the counters and the accounts of a volume, written as text.
 ghost use Rattle.std.specs.Prelude.{◌≡◌};
 ghost use Rattle.mg_bank.specs.Bank.{pages_at};
 ghost use Rattle.mg_show.specs.StateText.{accounts_text, settings_text};
@@ -10,7 +10,7 @@ use mg_bank::Bank;
 use mg_io::Sink;
 use mg_model::Params;
 
-/// Puts the lines of the settings.
+/// Writes the lines of the settings.
 pub(crate) fn put_settings<K: Sink>(params: &Params, out: &mut Writer, sink: &mut K)
     ensures { Puts K.Sink (settings_text params.now) sink.old sink.new out.old out.new }
 {
@@ -18,7 +18,7 @@ pub(crate) fn put_settings<K: Sink>(params: &Params, out: &mut Writer, sink: &mu
     out.line(print_tariff(params.tariff()), sink);
 }
 
-/// Puts the lines of the accounts of a bank, each with the pages that the bank keeps for it.
+/// Writes the lines of the accounts of a bank, each with the pages that the bank keeps for it.
 pub(crate) fn put_accounts<K: Sink>(bank: &Bank, out: &mut Writer, sink: &mut K)
     ensures { Puts K.Sink (accounts_text (pages_at bank.now.pages) 1 bank.now.accounts) sink.old sink.new out.old out.new }
 {

@@ -1,4 +1,4 @@
-// The whole state of a volume, put as text.
+// The whole state of a volume, written as text.
 ghost use Rattle.std.specs.Prelude.{◌<◌, ◌++◌, All, length};
 ghost use Rattle.mg_bank.specs.Bank.{pages_at};
 ghost use Rattle.mg_check.specs.Reads.{CanRead};
@@ -19,7 +19,7 @@ use crate::writer::Writer;
 use mg_disk::Disk;
 use mg_io::Sink;
 
-/// Puts the text of the state of a volume, all of it.
+/// Writes the text of the state of a volume, all of it.
 pub(crate) fn put_state<D: Disk, K: Sink>(
     shown: &Shown,
     disk: &mut D,

@@ -1,4 +1,4 @@
-// The rows of the threads, put as text.
+// The rows of the threads, written as text.
 ghost use Rattle.std.specs.Prelude.{◌+◌, ◌<◌, ℕ, All, codes, flat_map};
 ghost use Rattle.mg_model.specs.Limits.{thread_limit};
 ghost use Rattle.mg_model.specs.State.{ThreadRow};
@@ -10,7 +10,7 @@ use crate::writer::Writer;
 use mg_io::Sink;
 use mg_model::{Frame, Slot, ThrRow};
 
-/// Puts the lines of the threads, each of which has the place before its number.
+/// Writes the lines of the threads, each of which has the place before its number.
 pub(crate) fn put_threads<K: Sink>(threads: &[(u64, ThrRow)], out: &mut Writer, sink: &mut K)
     requires { All (λ t. t.0 < thread_limit) threads.now }
     ensures { Puts K.Sink (flat_map (λ (t : ℕ × ThreadRow). thread_text (record { number = t.0 + 1; row = t.1 })) threads.now) sink.old sink.new out.old out.new }

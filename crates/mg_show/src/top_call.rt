@@ -21,20 +21,22 @@ use mg_io::Sink;
 use mg_volume_session::{Status, put_fault, put_usage};
 use std::alloc::Global;
 
-/// Puts what a volume holds as text. The words are those behind the program's name.
+/// Writes what a volume holds as text. The words are those after the program's name.
 ///
-/// - `VOLUME`, or `VOLUME state`, puts the whole state, a line for each thing in it: what the volume was made with and its counters;
+/// - `VOLUME`, or `VOLUME state`, writes the whole state, a line for each thing in it: what the volume was made with and its counters;
 ///   each account; each object with its passwords, entries and extension; each thread with its frames and their slots; and each
 ///   word that is not 0.
-/// - `VOLUME reach` puts who may reach what: for each thread and each object the letters of the rights that an access of the thread
+/// - `VOLUME reach` writes who may reach what: for each thread and each object the letters of the rights that an access of the thread
 ///   would have there now, and each entry at which it may enter.
-/// - `VOLUME dot` puts a graph in Graphviz's language: a node for each thread and each object, an arrow for each slot of a present frame,
+/// - `VOLUME dot` writes a graph in Graphviz's language: a node for each thread and each object, an arrow for each slot of a present frame,
 ///   and one for each entry of an object that a thread reads as a capability list now, with the letters of the rights that the password
 ///   gives there now. An arrow that counts for nothing is dashed.
+/// - `VOLUME dot thread NUMBER STEPS` and `VOLUME dot object BASE STEPS` write the part of that graph that the thread or the object reaches
+///   in at most STEPS steps, 1 to 4,096. A step goes along an arrow.
 ///
-/// The disk is only read. [`Status::NoVolume`] comes exactly where it holds no volume, with the line `open not`, `open old` or `open
-/// damaged`. [`Status::Memory`] comes before anything is put. [`Status::Disk`] and [`Status::Sink`] come only where a call of the
-/// disk or of the sink failed; what was put is then a first part of the text.
+/// The disk is only read. [`Status::NoVolume`] comes exactly if it holds no volume, with the line `open not`, `open old` or `open
+/// damaged`. [`Status::Memory`] comes before anything is written. [`Status::Disk`] and [`Status::Sink`] come only if a call of the
+/// disk or of the sink failed; what was written is then a first part of the text.
 ///
 /// Other words get the line `usage` and [`Status::Usage`]; the disk is then left alone.
 pub fn top_show<D: Disk, K: Sink>(
@@ -43,7 +45,8 @@ pub fn top_show<D: Disk, K: Sink>(
     disk: &mut D,
     sink: &mut K,
 ) -> Status
-    ensures shows { (text : Text) → spelled (words_of words.now) ≡ Some text → ShowKeeps D.Disk K.Sink text result disk.old disk.new sink.old sink.new }
+    ensures shows { (text : Text) → spelled (words_of words.now) ≡ Some text
+        → ShowKeeps D.Disk K.Sink text result disk.old disk.new sink.old sink.new }
     ensures usage { spelled (words_of words.now) ≡ None → UsageKeeps K.Sink result disk.old disk.new sink.old sink.new }
 {
     match read_words(words) {
@@ -52,14 +55,14 @@ pub fn top_show<D: Disk, K: Sink>(
     }
 }
 
-/// Puts this text of the volume that the disk holds.
+/// Writes this text of the volume that the disk holds.
 fn show<D: Disk, K: Sink>(alloc: Global, text: Text, disk: &mut D, sink: &mut K) -> Status
     ensures { ShowKeeps D.Disk K.Sink text result disk.old disk.new sink.old sink.new }
 {
     tell(alloc, text, disk, sink)
 }
 
-/// Puts the text, or the line of what the disk holds in place of a volume.
+/// Writes the text, or the line of what the disk holds in place of a volume.
 fn tell<D: Disk, K: Sink>(alloc: Global, text: Text, disk: &mut D, sink: &mut K) -> Status
     ensures which { (result ≡ Status.Done) ⊎ EndsUnopened result }
     ensures done { result ≡ Status.Done → ForSome (D.seen disk.old) (λ image. (s : State) × (volume image ≡ Is s) × Appends (K.taken sink.old) (K.taken sink.new) (text_of text s)) }

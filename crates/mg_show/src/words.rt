@@ -1,4 +1,4 @@
-// The words of a volume that are not 0, put as text.
+// The words of a volume that are not 0, written as text.
 ghost use Rattle.std.specs.Prelude.{◌≡◌, ◌+◌, ◌≤◌, ◌<◌, ◌^◌, length};
 ghost use Rattle.mg_check.specs.Reads.{CanRead};
 ghost use Rattle.mg_journal.specs.Looked.{Fits};
@@ -16,7 +16,7 @@ use mg_io::Sink;
 use mg_layout::{BLOCK_WORDS, number_at};
 use mg_model::ObjRow;
 
-/// Puts the words of objects that are not 0, object by object, each as a line with its address. Each page that a frame holds is read
+/// Writes the words of objects that are not 0, object by object, each as a line with its address. Each page that a frame holds is read
 /// once.
 pub(crate) fn put_words<D: Disk, K: Sink>(
     shown: &Shown,
@@ -33,7 +33,7 @@ pub(crate) fn put_words<D: Disk, K: Sink>(
     }
 }
 
-// Puts the words of an object.
+// Writes the words of an object.
 fn put_object<D: Disk, K: Sink>(
     shown: &Shown,
     row: &ObjRow,
@@ -55,7 +55,7 @@ fn put_object<D: Disk, K: Sink>(
     );
 }
 
-// Puts the words of `n` pages from this one on.
+// Writes the words of `n` pages from this one on.
 fn put_pages<D: Disk, K: Sink>(
     shown: &Shown,
     first: u64,
@@ -74,7 +74,7 @@ fn put_pages<D: Disk, K: Sink>(
     }
 }
 
-// Puts the words of a page.
+// Writes the words of a page.
 fn put_page<D: Disk, K: Sink>(
     shown: &Shown,
     page: u64,
@@ -92,7 +92,7 @@ fn put_page<D: Disk, K: Sink>(
     put_read(is_held, BLOCK_SIZE as u64 * page, &block, out, sink);
 }
 
-// Puts the words of a page that was read, the first of them at this address.
+// Writes the words of a page that was read, the first of them at this address.
 fn put_read<K: Sink>(is_held: bool, address: u64, block: &Block, out: &mut Writer, sink: &mut K)
     requires place { address + 4096 ≤ 2 ^ 64 }
     ensures { Puts K.Sink (words_text address (words_read is_held block.now)) sink.old sink.new out.old out.new }
@@ -102,7 +102,7 @@ fn put_read<K: Sink>(is_held: bool, address: u64, block: &Block, out: &mut Write
     }
 }
 
-// Puts the words of a block, the first of them at this address.
+// Writes the words of a block, the first of them at this address.
 fn put_block<K: Sink>(address: u64, block: &Block, out: &mut Writer, sink: &mut K)
     requires place { address + 4096 ≤ 2 ^ 64 }
     ensures { Puts K.Sink (block_text address block.now) sink.old sink.new out.old out.new }
@@ -113,7 +113,7 @@ fn put_block<K: Sink>(address: u64, block: &Block, out: &mut Writer, sink: &mut 
     }
 }
 
-// Puts the line of a word, and nothing where it is 0.
+// Writes the line of a word, and nothing if it is 0.
 fn put_word<K: Sink>(address: u64, word: u64, out: &mut Writer, sink: &mut K)
     ensures { Puts K.Sink (word_text address word) sink.old sink.new out.old out.new }
 {

@@ -1,4 +1,4 @@
-// Text that waits to be put, and the first fault.
+// Text that waits to be written, and the first fault.
 ghost use Rattle.std.specs.Prelude.{◌≡◌, ◌+◌, ◌≤◌, ◌++◌, [], None, Some, IfOk, is_some, length};
 ghost use Rattle.mg_show.specs.Putting.{status_of};
 ghost use Rattle.mg_show.specs.Writing.{Puts};
@@ -14,7 +14,7 @@ use std::marker::Model;
 /// How many bytes wait at most.
 const ROOM: usize = 65_536;
 
-/// Bytes that wait to be put together, up to 65,536, and the first fault. After a fault nothing is put.
+/// Bytes that wait to be written together, up to 65,536, and the first fault. After a fault nothing is written.
 #[derive(Drop)]
 pub(crate) struct Writer {
     bytes: Vec<u8>,
@@ -43,7 +43,7 @@ impl Writer {
         })
     }
 
-    /// Puts this text, of at most 256 bytes: it waits behind the rest. Where it has no room, the rest is put first.
+    /// Writes this text, of at most 256 bytes: it waits after the rest. If it has no room, the rest is written first.
     pub(crate) fn add<K: Sink>(&mut self, text: &[u8], sink: &mut K)
         requires { length text.now ≤ 256 }
         ensures { Puts K.Sink text.now sink.old sink.new self.old self.new }
@@ -55,7 +55,7 @@ impl Writer {
         self.keep(text);
     }
 
-    /// Puts a line.
+    /// Writes a line.
     pub(crate) fn line<K: Sink>(&mut self, line: Line, sink: &mut K)
         ensures { Puts K.Sink line.items sink.old sink.new self.old self.new }
     {
@@ -69,14 +69,14 @@ impl Writer {
         self.fault.is_some()
     }
 
-    /// Remembers that the disk failed, where nothing had.
+    /// Remembers that the disk failed. Nothing had failed before.
     pub(crate) fn fail_reading(&mut self)
         ensures { self.new ≡ record self.old { fault = Some faults.Disk } }
     {
         self.fault = Some(ShowFault::Disk);
     }
 
-    /// Puts what waits, and tells how all of it ended.
+    /// Writes what waits, and returns how all of it ended.
     pub(crate) fn finish<K: Sink>(&mut self, sink: &mut K) -> Status
         ensures puts { Puts K.Sink [] sink.old sink.new self.old self.new }
         ensures empty { self.new.fault ≡ None → self.new.waiting ≡ [] }
@@ -90,7 +90,7 @@ impl Writer {
         }
     }
 
-    // Makes room for so many bytes.
+    // Makes room for `n` bytes.
     fn make_room<K: Sink>(&mut self, n: usize, sink: &mut K)
         requires no_fault { self.old.fault ≡ None }
         requires few { n ≤ 256 }
@@ -113,7 +113,7 @@ impl Writer {
         }
     }
 
-    // Puts what waits.
+    // Writes what waits.
     fn flush<K: Sink>(&mut self, sink: &mut K)
         ensures puts { Puts K.Sink [] sink.old sink.new self.old self.new }
         ensures empty { self.old.fault ≡ None → self.new.waiting ≡ [] }

@@ -2,8 +2,8 @@
 //! [`program::carry_out`], whose result it exits with.
 //!
 //! That function is the program over any disk and sink. It calls [`mg_show::top_show`] and ensures of the words what that ensures, that
-//! the exit status is the number of its status, and that nothing is written on the disk and nothing put after it. The file is only
-//! read, and is not made where there is none. Why it failed is told on standard error.
+//! the exit status is the number of its status, and that nothing is written on the disk or on the sink after it. The file is only
+//! read, and is not made if there is none. Standard error says why it failed.
 #![tactic(auto)]
 
 mod program;

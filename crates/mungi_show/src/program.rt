@@ -14,13 +14,15 @@ use std::alloc::Global;
 use std::io::{self, Eprint};
 
 /// What the program can be asked.
-const SYNOPSIS: [&str; 3] = [
+const SYNOPSIS: [&str; 5] = [
     "usage: mungi_show VOLUME [state]",
     "       mungi_show VOLUME reach",
     "       mungi_show VOLUME dot",
+    "       mungi_show VOLUME dot thread NUMBER STEPS",
+    "       mungi_show VOLUME dot object BASE STEPS",
 ];
 
-/// Carries out what the words ask for, tells on standard error why it ended so, and gives the exit status. What is told comes after the
+/// Carries out what the words ask for, says on standard error why it ended so, and returns the exit status. That is said after the
 /// command, and the disk alone is read for it.
 pub(crate) fn carry_out<R: AllocGlobal + Eprint, D: Disk + InFile, K: Sink + Stream>(
     rt: &R,
@@ -35,14 +37,14 @@ pub(crate) fn carry_out<R: AllocGlobal + Eprint, D: Disk + InFile, K: Sink + Str
     status.code()
 }
 
-/// Puts the text that the words ask for.
+/// Writes the text that the words ask for.
 fn show<D: Disk, K: Sink>(alloc: Global, words: &[String], disk: &mut D, sink: &mut K) -> Status
     ensures { Did D.Disk K.Sink words.now result disk.old disk.new sink.old sink.new }
 {
     top_show(alloc, words, disk, sink)
 }
 
-/// Tells why the program ended with this status, and what only the file of the volume shows.
+/// Says why the program ended with this status, and what only the file of the volume shows.
 fn tell_end<R: AllocGlobal + Eprint, D: Disk + InFile>(
     rt: &R,
     words: &[String],
@@ -64,7 +66,7 @@ fn tell_end<R: AllocGlobal + Eprint, D: Disk + InFile>(
     tell_status(rt, NAME, status, None, written);
 }
 
-/// Tells what the program can be asked, and which word is at fault.
+/// Says what the program can be asked, and which word is at fault.
 fn tell_usage<R: Eprint>(rt: &R, words: &[String]) {
     tell_lines(rt, &SYNOPSIS);
     match words {
@@ -73,6 +75,11 @@ fn tell_usage<R: Eprint>(rt: &R, words: &[String]) {
             let text = text.as_str();
             let _ = eprintln!(rt; "{NAME}: {text} is no text: state, reach and dot are");
         }
-        _ => tell(rt, NAME, "there are more than two words"),
+        [_, _, _, _, _] => tell(
+            rt,
+            NAME,
+            "the words after VOLUME are not dot thread NUMBER STEPS or dot object BASE STEPS, with 1 to 4096 steps",
+        ),
+        _ => tell(rt, NAME, "there are not one, two or five words"),
     }
 }

@@ -1,4 +1,4 @@
-use Rattle.std.proofs.Common.{List, ℕ, ◌≡◌, ap, arith, length, subst, sym, take, ◌++◌, ◌∙◌, get_or}
+use Rattle.std.proofs.Common.{List, ℕ, ◌≡◌, ap, arith, length, slice_index, subst, sym, take, ◌++◌, ◌∙◌, get_or}
 use Rattle.std.specs.List.{HoldsAt}
 use Rattle.mg_check.specs.ReadRuns.{still_read}
 use Rattle.mg_journal.specs.Looked.{Fits}
@@ -9,7 +9,7 @@ use Rattle.mg_model.specs.State.{ObjectRow}
 use Rattle.mg_show.specs.Drawn.{list_drawn}
 use Rattle.mg_show.specs.Reached.{by_byte}
 use Rattle.mg_show.specs.WritingLemmas.{of_put, of_same, of_then, puts_none}
-use Rattle.mg_show.proofs.ByBytes.{bytes-all, bytes-more}
+use Rattle.mg_show.proofs.ByPlaces.{places-all, places-more}
 use Rattle.mg_show.proofs.arrows.put_lists.Goals as goal
 
 pub loop-i-init : goal.loop-i-init
@@ -31,7 +31,7 @@ loop-i-preserved g c =
     let is = subst (λ (os : List (ℕ × ObjectRow)). HoldsAt (λ (o : ℕ × ObjectRow). row ≡ o.1) os i) same c.nth_ref.ensures in
     let drawn = λ (r : List (List ℕ)) (byte : ℕ) (row : ObjectRow). list_drawn r (length shown.frames) shown.frames shown.objects shown.counters.period (has_right byte R) row in
     of_same g.D.Disk g.K.Sink (λ image. replay image c.args.shown.now.view.total)
-    (λ r. ap (λ v. by_byte (drawn r) bytes 0 (take i shown.objects) ++ list_drawn r (length shown.frames) shown.frames shown.objects shown.counters.period v row) c.has_r.ensures ∙ bytes-more (drawn r) bytes shown.objects i (omega arith) row is)
+    (λ r. ap (λ v. by_byte (drawn r) bytes 0 (take i shown.objects) ++ list_drawn r (length shown.frames) shown.frames shown.objects shown.counters.period v row) c.has_r.ensures ∙ places-more (λ i row. drawn r (slice_index bytes i) row) shown.objects i (omega arith) row is)
     (of_then g.D.Disk g.K.Sink (λ image. replay image c.args.shown.now.view.total) c.loop-i.invariant c.put_where.ensures)
 
 pub returns : goal.returns
@@ -40,4 +40,4 @@ returns g c =
     let count = c.len-i-end.ensures.count in
     let past = c.loop-i-test.false in
     let long = ap (λ (os : List (ℕ × ObjectRow)). length os) c.objects-objects.ensures in
-    of_same g.D.Disk g.K.Sink (λ image. replay image c.args.shown.now.view.total) (λ r. bytes-all (λ byte row. list_drawn r (length shown.frames) shown.frames shown.objects shown.counters.period (has_right byte R) row) c.args.bytes.now shown.objects c.loop-i.i (omega arith)) c.loop-i.invariant
+    of_same g.D.Disk g.K.Sink (λ image. replay image c.args.shown.now.view.total) (λ r. places-all (λ i row. list_drawn r (length shown.frames) shown.frames shown.objects shown.counters.period (has_right (slice_index c.args.bytes.now i) R) row) shown.objects c.loop-i.i (omega arith)) c.loop-i.invariant

@@ -4,8 +4,8 @@ use Rattle.mg_check.specs.ReadRuns.{still_read}
 use Rattle.mg_journal.specs.Looked.{Fits}
 use Rattle.mg_model.specs.Replay.{replay}
 use Rattle.mg_show.specs.Reached.{slot_listed, slots_listed}
+use Rattle.mg_show.specs.WritingLemmas.{flat_more}
 use Rattle.mg_show.proofs.FoundSteps.{found_none, found_same, found_then}
-use Rattle.mg_show.proofs.ListEntries.{flat_map_more}
 use Rattle.mg_show.proofs.listed.mark_slots.Goals as goal
 
 pub loop-i-init : goal.loop-i-init
@@ -17,7 +17,7 @@ mark_slot-requires-clause-can g c = still_read g.D.Disk c.args.shown.now.view.to
 pub loop-i-preserved : goal.loop-i-preserved
 loop-i-preserved g c =
     let shown = c.args.shown.now in
-    found_same g.D.Disk (λ image. replay image c.args.shown.now.view.total) c.args.shown.now.objects c.args.shown.now.counters.period (λ r. flat_map_more (slot_listed r (length shown.frames) shown.frames shown.objects shown.counters.period) c.args.slots.now c.loop-i.i _ c.loop-i-test.true)
+    found_same g.D.Disk (λ image. replay image c.args.shown.now.view.total) c.args.shown.now.objects c.args.shown.now.counters.period (λ r. flat_more (slot_listed r (length shown.frames) shown.frames shown.objects shown.counters.period) c.args.slots.now c.loop-i.i _ c.loop-i-test.true)
     (found_then g.D.Disk (λ image. replay image c.args.shown.now.view.total) c.args.shown.now.objects c.args.shown.now.counters.period c.loop-i.invariant c.mark_slot.ensures)
 
 pub returns : goal.returns
