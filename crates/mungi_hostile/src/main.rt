@@ -2,8 +2,8 @@
 //! take long. They are a program of their own because a program has two minutes in the gate.
 #![tactic(auto)]
 
-use mg_shown_sessions::check_files;
 use std::process::ExitCode;
+use test_shown_scenarios::check_files;
 
 fn main(rt: HostRuntime) -> ExitCode {
     match check_files(&rt) {

@@ -1,4 +1,0 @@
-use Rattle.mg_session_tests.proofs.limit_tests.a_limit_of_16_bytes.Given as goal
-
-abbrev pub ghosts-served : goal.ghosts-served
-ghosts-served g a = record { name = a.blank.name; parts = a.blank.parts }

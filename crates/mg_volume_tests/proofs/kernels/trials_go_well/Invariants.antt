@@ -1,4 +1,0 @@
-use Rattle.mg_volume_tests.proofs.kernels.trials_go_well.Given as goal
-
-abbrev pub ghosts-tried : goal.ghosts-tried
-ghosts-tried g a = record { name = a.blank.name; parts = a.blank.parts }

@@ -1,5 +1,0 @@
-use Rattle.mg_kernel.specs.Meaning.{StandsOn}
-use Rattle.mg_volume_tests.proofs.probes.wrong_probe.Given as goal
-
-abbrev pub invariant-loop-probe : goal.invariant-loop-probe
-invariant-loop-probe g l = StandsOn g.D.Disk l.kernel l.disk

@@ -1,5 +1,0 @@
-use Rattle.mg_volume_tests.proofs.FreshOpened.{fresh_seen}
-use Rattle.mg_volume_tests.proofs.staging.opened.Goals as goal
-
-pub returns-in-Ok : goal.returns-in-Ok
-returns-in-Ok c = fresh_seen c.args.params.now c.in-Ok.volume _ _ c.requires.made c.in-Ok.ensures.opens c.requires.frames c.in-Ok.ensures.staged

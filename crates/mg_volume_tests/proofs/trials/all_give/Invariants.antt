@@ -1,5 +1,0 @@
-use Rattle.mg_kernel.specs.Meaning.{StandsOn}
-use Rattle.mg_volume_tests.proofs.trials.all_give.Given as goal
-
-abbrev pub invariant-loop : goal.invariant-loop
-invariant-loop g l = StandsOn g.D.Disk l.kernel l.disk

@@ -1,4 +1,0 @@
-use Rattle.mg_window_tests.proofs.runs.is_alone_in.Given as goal
-
-abbrev pub ghosts-plain : goal.ghosts-plain
-ghosts-plain a = record { name = a.blank.name; parts = a.blank.parts }

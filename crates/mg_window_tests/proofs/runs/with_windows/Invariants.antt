@@ -1,4 +1,0 @@
-use Rattle.mg_window_tests.proofs.runs.with_windows.Given as goal
-
-abbrev pub ghosts-with_steps : goal.ghosts-with_steps
-ghosts-with_steps g a = record { name = a.blank.name; parts = a.blank.parts }
