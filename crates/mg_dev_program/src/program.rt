@@ -15,7 +15,8 @@ use crate::usage::tell_usage;
 use mg_console::{InFile, Stream, tell_fault, tell_status, tell_volume, word};
 use mg_disk::Disk;
 use mg_io::{Sink, Source};
-use mg_mirror_session::{Mirrored, top_mirror};
+use mg_mirror::Side;
+use mg_mirror_session::top_mirror;
 use mg_model::Steps;
 use mg_session::Status;
 use mg_window::{Device, Windows};
@@ -61,9 +62,7 @@ pub fn carry_out<
         (seen T.held windows.old) (seen T.held windows.new) steps.old steps.new) result.right) result.left) result.code }
 {
     let ran = command(rt, words, left, right, source, sink, windows, steps);
-    let status = ran.status;
-    let mut left = ran.left;
-    let mut right = ran.right;
+    let (status, _, mut left, mut right) = ran;
     tell_files(rt, words, status, &mut left, &mut right);
     if status == Status::Usage {
         tell_usage(rt, words);
@@ -96,8 +95,8 @@ fn command<R: AllocGlobal + Eprint, T: Device, D: Disk, E: Disk, S: Source, K: S
     sink: &mut K,
     windows: &mut Windows<T>,
     steps: &mut Steps<L>,
-) -> Mirrored<D, E>
-    ensures { Did words.now result.status (disk_use D.Disk left result.left) (disk_use E.Disk right result.right)
+) -> (Status, Option<Side>, D, E)
+    ensures { Did words.now result.0 (disk_use D.Disk left result.2) (disk_use E.Disk right result.3)
         (source_use S.Source source.old source.new) (sink_use K.Sink sink.old sink.new)
         (seen T.held windows.old) (seen T.held windows.new) steps.old steps.new }
 {
@@ -106,12 +105,7 @@ fn command<R: AllocGlobal + Eprint, T: Device, D: Disk, E: Disk, S: Source, K: S
     } else {
         let mut left = left;
         let status = on_devices(rt, words, &mut left, source, sink, windows, steps);
-        Mirrored {
-            status,
-            alone: None,
-            left,
-            right,
-        }
+        (status, None, left, right)
     }
 }
 
@@ -124,8 +118,8 @@ fn over_mirror<D: Disk, E: Disk, S: Source, K: Sink, L: Ledger>(
     source: &mut S,
     sink: &mut K,
     steps: &mut Steps<L>,
-) -> Mirrored<D, E>
-    ensures { OverMirror words.now result.status result.alone (disk_use D.Disk left result.left) (disk_use E.Disk right result.right)
+) -> (Status, Option<Side>, D, E)
+    ensures { OverMirror words.now result.0 result.1 (disk_use D.Disk left result.2) (disk_use E.Disk right result.3)
         (source_use S.Source source.old source.new) (sink_use K.Sink sink.old sink.new) steps.old steps.new }
 {
     top_mirror(alloc, words, left, right, source, sink, steps)

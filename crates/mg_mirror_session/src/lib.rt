@@ -14,4 +14,4 @@ mod putting;
 mod top_call;
 mod words;
 
-pub use top_call::{Mirrored, top_mirror};
+pub use top_call::top_mirror;

@@ -18,16 +18,6 @@ use std::alloc::Global;
 use std::marker::Brand;
 use std::sync::ledger::Ledger;
 
-/// How a run over a mirror ended, and its two disks as they are then.
-#[derive(Drop)]
-pub struct Mirrored<D: Disk, E: Disk> {
-    pub status: Status,
-    /// The one side that is still in use; none while both are, and where no mirror was opened.
-    pub alone: Option<Side>,
-    pub left: D,
-    pub right: E,
-}
-
 /// All that the program does over a mirror. The words, which are those behind its name, are `LEFT mirror RIGHT SIDE`.
 ///
 /// First the gate and the superblock of SIDE's disk are judged, before anything is written. Where they tell that it holds no
@@ -49,6 +39,9 @@ pub struct Mirrored<D: Disk, E: Disk> {
 /// [`Status::Sink`] comes too where the last line could not be put.
 ///
 /// Which side is in use is not kept on the disks: a later call is told a side that was.
+///
+/// It returns the status, the one side that is still in use, and the disks as they are then, the left one first. No side is returned
+/// while both are in use, and if no mirror was opened.
 pub fn top_mirror<D: Disk, E: Disk, S: Source, K: Sink, L: Ledger>(
     alloc: Global,
     words: &[String],
@@ -57,23 +50,18 @@ pub fn top_mirror<D: Disk, E: Disk, S: Source, K: Sink, L: Ledger>(
     source: &mut S,
     sink: &mut K,
     steps: &mut Steps<L>,
-) -> Mirrored<D, E>
-    ensures mirror { IfSome (mirror_of (words_of words.now)) (λ from. MirrorKeeps (session_over from result.status result.alone
-        (disk_use D.Disk left result.left) (disk_use E.Disk right result.right) (source_use S.Source source.old source.new)
+) -> (Status, Option<Side>, D, E)
+    ensures mirror { IfSome (mirror_of (words_of words.now)) (λ from. MirrorKeeps (session_over from result.0 result.1
+        (disk_use D.Disk left result.2) (disk_use E.Disk right result.3) (source_use S.Source source.old source.new)
         (sink_use K.Sink sink.old sink.new) steps.old steps.new)) }
-    ensures usage { mirror_of (words_of words.now) ≡ None → NoMirrorKeeps K.Sink result.status result.alone
-        left result.left right result.right source.old source.new sink.old sink.new }
+    ensures usage { mirror_of (words_of words.now) ≡ None → NoMirrorKeeps K.Sink result.0 result.1
+        left result.2 right result.3 source.old source.new sink.old sink.new }
 {
     match read_words(words) {
         Some(from) => {
             run_on_mirror::<D, E, S, K, L, Brand>(alloc, from, left, right, source, sink, steps)
         }
-        None => Mirrored {
-            status: put_usage(sink),
-            alone: None,
-            left,
-            right,
-        },
+        None => (put_usage(sink), None, left, right),
     }
 }
 
@@ -87,13 +75,13 @@ fn run_on_mirror<D: Disk, E: Disk, S: Source, K: Sink, L: Ledger, O: Opened<D, E
     source: &mut S,
     sink: &mut K,
     steps: &mut Steps<L>,
-) -> Mirrored<D, E>
+) -> (Status, Option<Side>, D, E)
     requires left_faults { D.faults left ≡ O.left_faults }
     requires right_faults { E.faults right ≡ O.right_faults }
     requires left_unknown { O.left_out ≡ None }
     requires right_unknown { O.right_out ≡ None }
-    ensures { MirrorKeeps (session_over from result.status result.alone
-        (disk_use D.Disk left result.left) (disk_use E.Disk right result.right) (source_use S.Source source.old source.new)
+    ensures { MirrorKeeps (session_over from result.0 result.1
+        (disk_use D.Disk left result.2) (disk_use E.Disk right result.3) (source_use S.Source source.old source.new)
         (sink_use K.Sink sink.old sink.new) steps.old steps.new) }
 {
     let (mut left, mut right) = (left, right);
@@ -104,31 +92,16 @@ fn run_on_mirror<D: Disk, E: Disk, S: Source, K: Sink, L: Ledger, O: Opened<D, E
         Ok(None) => {}
         Ok(Some(fault)) => {
             let status = put_fault(fault, sink);
-            return Mirrored {
-                status,
-                alone: None,
-                left,
-                right,
-            };
+            return (status, None, left, right);
         }
         Err(Failed) => {
-            return Mirrored {
-                status: Status::Disk,
-                alone: None,
-                left,
-                right,
-            };
+            return (Status::Disk, None, left, right);
         }
     }
     let mirror = match Mirror::<D, E, O>::open_behind(left, right, from, first) {
         Ok(mirror) => mirror,
         Err(MirrorFailed { left, right }) => {
-            return Mirrored {
-                status: Status::Disk,
-                alone: None,
-                left,
-                right,
-            };
+            return (Status::Disk, None, left, right);
         }
     };
     run_opened::<D, E, S, K, L, O, Brand>(alloc, mirror, source, sink, steps)
@@ -141,23 +114,18 @@ fn run_opened<D: Disk, E: Disk, S: Source, K: Sink, L: Ledger, O: Opened<D, E>, 
     source: &mut S,
     sink: &mut K,
     steps: &mut Steps<L>,
-) -> Mirrored<D, E>
+) -> (Status, Option<Side>, D, E)
     requires left_faults { J.left_faults ≡ O.left_faults }
     requires right_faults { J.right_faults ≡ O.right_faults }
     requires left_out { J.left_out ≡ out_left mirror.alone mirror.left }
     requires right_out { J.right_out ≡ out_right mirror.alone mirror.right }
-    ensures { RanOpened D.Disk E.Disk S.Source K.Sink O.left_faults O.right_faults (as_two D.Disk E.Disk O.Opened mirror) result.status result.alone
-        result.left result.right source.old source.new sink.old sink.new steps.old steps.new }
+    ensures { RanOpened D.Disk E.Disk S.Source K.Sink O.left_faults O.right_faults (as_two D.Disk E.Disk O.Opened mirror) result.0 result.1
+        result.2 result.3 source.old source.new sink.old sink.new steps.old steps.new }
 {
     let mut mirror = mirror.known::<J>();
     let ran = run(alloc, 1, &mut mirror, source, sink, steps);
     let alone = mirror.alone();
     let status = put_side(ran, alone, sink);
     let (left, right) = mirror.sides();
-    Mirrored {
-        status,
-        alone,
-        left,
-        right,
-    }
+    (status, alone, left, right)
 }

@@ -3,10 +3,10 @@ use Rattle.mg_dev_program.proofs.program.carry_out.Goals as goal
 
 pub returns : goal.returns
 returns g c = record {
-  status = c.command-ran.result.status;
+  status = c.command-ran.result.0;
   did = record {
-    left = c.command-ran.result.left;
-    did = record { left = c.command-ran.result.right; did = c.command-ran.ensures; writes = c.tell_files.ensures.right };
+    left = c.command-ran.result.2;
+    did = record { left = c.command-ran.result.3; did = c.command-ran.ensures; writes = c.tell_files.ensures.right };
     writes = c.tell_files.ensures.left;
   };
   is_code = search rules;

@@ -45,14 +45,14 @@ returns g c =
     let opened = as_two d e g.O.Opened c.in-Ok.mirror in
     let ended = c.run_opened.result in
     let ran = c.run_opened.ensures in
-    let closed : Two g.row.D.Denot g.row.E.Denot = record { left = ended.left; right = ended.right; blocks = opened.blocks; alone = ended.alone; failed = ran.failed } in
+    let closed : Two g.row.D.Denot g.row.E.Denot = record { left = ended.2; right = ended.3; blocks = opened.blocks; alone = ended.1; failed = ran.failed } in
     let judged = side_judged d e c.args.from c.args.left read.left c.args.right read.right read.first c.in-Ok-None.field-0 None c.in-Ok-None.field-0-is told.left told.right told.left_alone told.right_alone in
     let room : length read.first ≡ min (min (d.block_count c.args.left) (e.block_count c.args.right)) 32 = search rules in
     let left_been = g.met.D.Disk.now_has_been c.args.left in
     let right_been = g.met.E.Disk.now_has_been c.args.right in
     let left_count = g.met.D.Disk.seen_count c.args.left in
     let right_count = g.met.E.Disk.seen_count c.args.right in
-    mirror_keeps d e g.S.Source g.K.Sink c.args.from c.args.left c.args.right opened closed ran.ran ended.status c.args.source.now c.run_opened.new.source
+    mirror_keeps d e g.S.Source g.K.Sink c.args.from c.args.left c.args.right opened closed ran.ran ended.0 c.args.source.now c.run_opened.new.source
     c.args.sink.now ran.replied c.run_opened.new.sink c.args.steps.now c.run_opened.new.steps
     (opened_since d e c.args.left read.left c.args.right read.right
     (read_left d e c.args.left read.left c.args.right read.right read.first (Ok None) left_been right_been c.args.from judged) (read_right d e c.args.left read.left c.args.right read.right read.first (Ok None) left_been right_been c.args.from judged)
@@ -63,13 +63,13 @@ returns g c =
     (λ is. left_copied d e c.args.from c.args.left read.left c.args.right read.right read.first None left_count right_count room judged opened.blocks opened.left refl left_been right_been opens.blocks is (opens.left_copy is))))
     refl ran.keeps ran.ends ran.before ran.after
     (λ some.
-    subst (λ n. BothRose n (d.faults ended.left) (d.is_spent ended.left) (e.faults c.args.right) (e.faults ended.right) (e.is_spent ended.right)) (sym c.requires.left_faults)
-    (subst (λ n. BothRose g.O.Opened.left_faults (d.faults ended.left) (d.is_spent ended.left) n (e.faults ended.right) (e.is_spent ended.right)) (sym c.requires.right_faults) (ran.both some)))
+    subst (λ n. BothRose n (d.faults ended.2) (d.is_spent ended.2) (e.faults c.args.right) (e.faults ended.3) (e.is_spent ended.3)) (sym c.requires.left_faults)
+    (subst (λ n. BothRose g.O.Opened.left_faults (d.faults ended.2) (d.is_spent ended.2) n (e.faults ended.3) (e.is_spent ended.3)) (sym c.requires.right_faults) (ran.both some)))
     ran.right_out ran.left_out
-    (g.met.D.Disk.only_told ended.left) (g.met.E.Disk.only_told ended.right) left_count right_count
+    (g.met.D.Disk.only_told ended.2) (g.met.E.Disk.only_told ended.3) left_count right_count
     (no_fault d e c.args.from c.args.left read.left c.args.right read.right read.first None left_count right_count room judged refl)
-    (λ is. subst (λ n. RoseFrom n (e.faults ended.right) (e.is_spent ended.right)) (sym c.requires.right_faults) (ran.dropped_right is))
-    (λ is. subst (λ n. RoseFrom n (d.faults ended.left) (d.is_spent ended.left)) (sym c.requires.left_faults) (ran.dropped_left is))
+    (λ is. subst (λ n. RoseFrom n (e.faults ended.3) (e.is_spent ended.3)) (sym c.requires.right_faults) (ran.dropped_right is))
+    (λ is. subst (λ n. RoseFrom n (d.faults ended.2) (d.is_spent ended.2)) (sym c.requires.left_faults) (ran.dropped_left is))
 
 pub returns-in-Err : goal.returns-in-Err
 returns-in-Err g c =
