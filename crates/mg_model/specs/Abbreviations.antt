@@ -1,5 +1,5 @@
--- Names for parts of the definitions, as lemmas and the contracts of the crates above use them. No definition of the machine, of a
--- row or of a volume is made of them: each is what stands written out there.
+-- Names for parts of the definitions, for lemmas and for the contracts of the crates above. No definition of the machine, of
+-- a row or of a volume uses these names: it writes out the same part.
 use Rattle.std.specs.Prelude.{ℕ, ◌+◌, ◌-◌, ◌/◌, ◌%◌, ◌==◌, ◌&&◌, ◌||◌, nat_le, Bool, List, [], ◌++◌, length, if◌then◌else◌, map, slice_index, slice_index_or, take, Option, Some, None}
 use Rattle.std.specs.Option.{option_to_list}
 use Rattle.mg_model.specs.declared.accounts.AccRow.{AccRow}
@@ -54,7 +54,7 @@ pdx_of a mask = if nat_le mask 255 then call.Pdx a mask else call.Bad
 abbrev pub is_call_frame : CallFrame → Bool
 is_call_frame frame = frame.back % 8 == 0 && nat_le (length frame.slots) slot_limit
 
--- where the first frame returns to
+-- the address that the first frame returns to
 abbrev pub first_back : List CallFrame → ℕ
 first_back frames = (slice_index_or frames 0 (record { back = 0; slots = [] })).back
 

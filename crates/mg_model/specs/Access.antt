@@ -1,4 +1,4 @@
--- Which access is allowed: a search made anew on the state of the moment.
+-- Which access is allowed: a search of the present state, made anew each time.
 --
 -- Everything here is a function of the objects, the period and the slots of the thread's present frame alone.
 use Rattle.std.specs.Prelude.{ℕ, zero, suc, ◌+◌, ◌-◌, ◌*◌, ◌==◌, ◌&&◌, nat_le, nat_lt, min, Bool, false, List, [], ◌∷◌, slice_index, if◌then◌else◌, find, flat_map, length, slice_get, Option}
@@ -32,7 +32,7 @@ gives period row password right = row.password == password && (has_right row.rig
 abbrev pub holds : ℕ → ObjectRow → ℕ → Right → Bool
 holds period row password right = list_any (λ (pw : Pw). gives period pw password right) row.passwords
 
--- the entries of a capability list from place j on, so many of them: pairs of a base and a password
+-- n entries of a capability list, from place j on: pairs of a base and a password
 abbrev pub entries_from : List ℕ → ℕ → ℕ → List (ℕ × ℕ)
 entries_from words j zero = []
 entries_from words j (suc n) = (slice_index words (2 + 2 * j), slice_index words (3 + 2 * j)) ∷ entries_from words (j + 1) n
@@ -44,7 +44,9 @@ entries_of words = entries_from words 0 (min (slice_index words 0) entry_limit)
 -- what a slot gives: the entries of its capability list, while the list's object holds the slot's password with R
 abbrev pub entries_under : List Object → ℕ → Slot → List (ℕ × ℕ)
 entries_under objects period slot =
-    option_map_or (λ (clist : Object). if holds period clist.row slot.password R then entries_of clist.words else []) (based_at objects slot.base) []
+    option_map_or
+    (λ (clist : Object). if holds period clist.row slot.password R then entries_of clist.words else [])
+    (based_at objects slot.base) []
 
 -- the capabilities of these slots, in order
 abbrev pub capabilities : List Object → ℕ → List Slot → List (ℕ × ℕ)
@@ -53,7 +55,10 @@ capabilities objects period slots = flat_map (λ slot. entries_under objects per
 -- whether these slots reach the address with the right
 abbrev pub reaches : List Object → ℕ → List Slot → ℕ → Right → Bool
 reaches objects period slots address right =
-    option_map_or (λ (object : Object). list_any (λ (entry : ℕ × ℕ). entry.0 == object.row.base && holds period object.row entry.1 right) (capabilities objects period slots)) (at objects address) false
+    option_map_or
+    (λ (object : Object). list_any (λ (entry : ℕ × ℕ). entry.0 == object.row.base && holds period object.row entry.1 right)
+    (capabilities objects period slots))
+    (at objects address) false
 
 -- the thread with this number
 abbrev pub thread_of : State → ℕ → Option Thread
@@ -63,7 +68,7 @@ thread_of state t = find (λ (thread : Thread). thread.number == t) state.thread
 abbrev pub last_slots : List CallFrame → List Slot
 last_slots frames = option_map_or (λ (frame : CallFrame). frame.slots) (slice_get frames (length frames - 1)) []
 
--- a thread's protection domain; none where no such thread lives
+-- a thread's protection domain; no slots if no such thread lives
 abbrev pub domain_of : State → ℕ → List Slot
 domain_of state t = option_map_or (λ (thread : Thread). last_slots thread.row.frames) (thread_of state t) []
 

@@ -1,7 +1,7 @@
 -- Which accesses a line makes, and which words it itself loads, fetches or stores.
 --
--- Both are those of the state before the line. An access is made where its right is tested: one that an earlier test of the
--- line has decided is not made.
+-- Both are those of the state before the line. A line makes an access when it tests a right. If an earlier test of the line
+-- already decides, the later test is not made.
 use Rattle.std.specs.Prelude.{ℕ, ◌+◌, ◌&&◌, nat_lt, List, [], ◌∷◌, ◌++◌, if◌then◌else◌, map, Option, Some, None}
 use Rattle.std.specs.Option.{option_map_or}
 use Rattle.mg_model.specs.declared.calls.Call.{Call}
@@ -19,7 +19,7 @@ use Rattle.mg_model.specs.State.{State, Thread, ThreadRow}
 use Rattle.mg_model.specs.Threads.{is_thread}
 use Rattle.mg_model.specs.Turn.{picked, spelled, thread_is_ready}
 
--- a thread asks for an address with a right
+-- the access of a thread to an address with a right
 pub record Access : Type 0 where
   pub thread : ℕ
   pub address : ℕ
@@ -29,7 +29,7 @@ pub record Access : Type 0 where
 abbrev pub one_access : ℕ → ℕ → Right → List Access
 one_access t address right = record { thread = t; address = address; right = right } ∷ []
 
--- the same where the address is tested first: one of no word ends the call before its right is looked at
+-- the same when the address is tested first: if it is not the address of a word, the call ends before its right is looked at
 abbrev pub word_access : ℕ → ℕ → Right → List Access
 word_access t address right = if is_aligned address then one_access t address right else []
 
@@ -62,8 +62,8 @@ call_accesses state t _ = []
 abbrev pub fetched : State → Thread → Option Instr
 fetched state thread = if allowed state thread.number thread.row.pc X then decoded (word_at state.objects thread.row.pc) else None
 
--- The accesses of an instruction, made by the thread with this number and this row. A mask above a byte is refused before
--- the right is looked at.
+-- The accesses of an instruction, made by the thread with this number and this row. A mask of more than 8 bits is refused
+-- before the right is looked at.
 abbrev pub instruction_accesses : State → ℕ → ThreadRow → Option Instr → List Access
 instruction_accesses state t thread (Some (op.Load a b i)) = word_access t (operand thread b i) R
 instruction_accesses state t thread (Some (op.Store a b i)) = word_access t (operand thread b i) W
@@ -76,7 +76,7 @@ abbrev pub turn_accesses : State → Thread → List Access
 turn_accesses state thread =
     one_access thread.number thread.row.pc X ++ instruction_accesses state thread.number thread.row (fetched state thread)
 
--- the thread that a `turn` runs: one that is not Ready runs nothing
+-- the thread that a `turn` runs; if it is not Ready, the turn runs nothing
 abbrev pub turning : State → ℕ → Option Thread
 turning state t = if thread_is_ready state t then thread_of state t else None
 
@@ -105,7 +105,7 @@ instruction_words state t thread (Some (op.Store a b i)) = word_under state t (o
 instruction_words state t thread (Some op.Sys) = call_words state t (spelled thread)
 instruction_words state t thread _ = 0
 
--- the word that is fetched, whatever it spells, and those of what it says
+-- the word that is fetched, whatever it spells, and the words that its instruction loads or stores
 abbrev pub turn_words : State → Thread → ℕ
 turn_words state thread =
     if allowed state thread.number thread.row.pc X then 1 + instruction_words state thread.number thread.row (fetched state thread) else 0

@@ -17,7 +17,7 @@ account_of-row accounts (suc place) row is =
     let e : suc place - 1 ≡ place = omega arith in
     record { some = omega arith; within = omega arith; there = λ d. ap (λ k. get_or accounts k d) e ∙ get_or_from_slice_get accounts place row d is }
 
--- where there is a value
+-- when there is a value
 pub some_value : {X : Type 0} (o : Option X) → is_some o ≡ true → (x : X) × (o ≡ Some x)
 some_value None passes = absurd (cc)
 some_value (Some x) passes = (x, refl)

@@ -20,14 +20,15 @@ use Rattle.mg_model.specs.Turn.{picked, spelled}
 
 -- whether the object with this base holds a password with a right
 abbrev pub held_at : State → ℕ → ℕ → Right → Bool
-held_at state base password right = option_map_or (λ (object : Object). holds state.counters.period object.row password right) (based_at state.objects base) false
+held_at state base password right =
+    option_map_or (λ (object : Object). holds state.counters.period object.row password right) (based_at state.objects base) false
 
--- the entries of the object with this base, where it is read as a capability list
+-- the entries of the object with this base, when it is read as a capability list
 abbrev pub entries_at : State → ℕ → List (ℕ × ℕ)
 entries_at state base = option_map_or (λ (object : Object). entries_of object.words) (based_at state.objects base) []
 
--- The thread's present frame has a slot for the list, and the slot's password opens the list; and the list has an entry for
--- the object, whose password gives the right there. So the thread lives: one that does not has no slot.
+-- The thread's present frame has a slot for the list, and the slot's password opens the list. The list has an entry for the
+-- object, and the entry's password gives the right on it. So the thread lives: a thread that does not live has no slot.
 pub record IsBacked (state : State) (seat : Seat) : Type 0 where
   pub slot : Slot
   pub slots : Contains (domain_of state seat.thread) slot

@@ -26,11 +26,13 @@ owed_by accounts number = option_map_or (λ (row : AccRow). row.owed) (account_o
 -- the accounts after an amount was taken from one, and given to one
 abbrev pub taken_from : List AccRow → ℕ → ℕ → List AccRow
 taken_from accounts number amount =
-    option_map_or (λ (row : AccRow). with_account accounts number (record row { balance = row.balance - amount })) (account_of accounts number) accounts
+    option_map_or (λ (row : AccRow). with_account accounts number (record row { balance = row.balance - amount }))
+    (account_of accounts number) accounts
 
 abbrev pub given_to : List AccRow → ℕ → ℕ → List AccRow
 given_to accounts number amount =
-    option_map_or (λ (row : AccRow). with_account accounts number (record row { balance = row.balance + amount })) (account_of accounts number) accounts
+    option_map_or (λ (row : AccRow). with_account accounts number (record row { balance = row.balance + amount }))
+    (account_of accounts number) accounts
 
 -- how many pages the objects have together
 abbrev pub used : List Object → ℕ
@@ -40,7 +42,7 @@ used objects = sum_by (λ (object : Object). object.row.pages) objects
 abbrev pub pages_of : List Object → ℕ → ℕ
 pages_of objects number = used (filter (λ (object : Object). object.row.account == number) objects)
 
--- the rate of the last step that holds at so many pages in use
+-- the rate of the last step that holds when this number of pages is in use
 abbrev pub rate_of : List (ℕ × ℕ) → ℕ → ℕ
 rate_of tariff pages = option_map_or (λ (step : ℕ × ℕ). step.1) (find (λ (step : ℕ × ℕ). nat_le step.0 pages) (reverse tariff)) 0
 
@@ -48,7 +50,7 @@ rate_of tariff pages = option_map_or (λ (step : ℕ × ℕ). step.1) (find (λ 
 abbrev pub paid : AccRow → ℕ → ℕ
 paid row due = min row.balance (row.owed + due)
 
--- the account after that: what it could not pay it owes
+-- the account after that: it owes what it could not pay
 abbrev pub charged : AccRow → ℕ → AccRow
 charged row due = record row { balance = row.balance - paid row due; owed = row.owed + due - paid row due }
 

@@ -16,7 +16,10 @@ open_account state account password amount =
     ∷ (nat_lt (balance_of state.accounts account) amount, Credit)
     ∷ (nat_le account_limit (length state.accounts) || all_drawn state, Limit)
     ∷ []) (
-      record (drawn state) { accounts = taken_from state.accounts account amount ++ record { password = next_password state; balance = amount; owed = 0 } ∷ [] },
+      record (drawn state) {
+        accounts = taken_from state.accounts account amount
+            ++ record { password = next_password state; balance = amount; owed = 0 } ∷ [];
+      },
       Opened (length state.accounts + 1) (next_password state),
     )
 
@@ -39,5 +42,7 @@ balance state account password =
 abbrev pub rent : State → Answer
 rent state =
     let period = state.counters.period in
-    row state ((period == period_limit, Calendar) ∷ [])
-    (record state { counters = record state.counters { period = period + 1 }; accounts = rent_accounts state }, Collected (period + 1) (rate_now state) (rent_paid state))
+    row state ((period == period_limit, Calendar) ∷ []) (
+      record state { counters = record state.counters { period = period + 1 }; accounts = rent_accounts state },
+      Collected (period + 1) (rate_now state) (rent_paid state),
+    )

@@ -10,11 +10,11 @@ word_bytes n = to_le_bytes w64 n
 abbrev pub words_bytes : List ℕ → List ℕ
 words_bytes ns = flat_map word_bytes ns
 
--- filled up with zeros to so many bytes
+-- filled up with zeros to n bytes
 abbrev pub padded_to : ℕ → List ℕ → List ℕ
 padded_to n bytes = bytes ++ replicate (n - length bytes) 0
 
--- so many bytes from an offset on
+-- n bytes from an offset on
 abbrev pub bytes_at : List ℕ → ℕ → ℕ → List ℕ
 bytes_at bytes offset n = take n (drop offset bytes)
 
@@ -22,7 +22,7 @@ bytes_at bytes offset n = take n (drop offset bytes)
 abbrev pub number_at : List ℕ → ℕ → ℕ
 number_at bytes offset = from_le_bytes w64 (bytes_at bytes offset 8)
 
--- so many numbers from an offset on
+-- n numbers from an offset on
 abbrev pub numbers_at : List ℕ → ℕ → ℕ → List ℕ
 numbers_at bytes offset zero = []
 numbers_at bytes offset (suc n) = number_at bytes offset ∷ numbers_at bytes (offset + 8) n

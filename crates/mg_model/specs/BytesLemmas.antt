@@ -1,4 +1,4 @@
--- Lemmas that crates above need: numbers and bytes are read back where they were written.
+-- Lemmas that crates above need: numbers and bytes are read back from the place where they were written.
 use Rattle.std.specs.Prelude.{◌≡◌, ℕ, zero, suc, ◌+◌, ◌-◌, ◌*◌, ◌≤◌, ◌==◌, true, List, [], ◌∷◌, ◌++◌, All, drop, length, replicate, take}
 use Rattle.std.specs.Int.{from_le_bytes, w64}
 use Rattle.std.proofs.Common.{refl, sym, ap, ◌∙◌, arith, append_assoc, length-append, add_assoc}
@@ -14,7 +14,7 @@ pub same_bytes-refl : (xs : List ℕ) → same_bytes xs xs ≡ true
 same_bytes-refl [] = refl
 same_bytes-refl (x ∷ xs) = and_from (x == x) (same_bytes xs xs) (eq-eqb x x refl) (same_bytes-refl xs)
 
--- behind the first n bytes
+-- after the first n bytes
 pub bytes_at-behind : (xs ys : List ℕ) (n k m : ℕ) → length xs ≡ n → bytes_at (xs ++ ys) (n + k) m ≡ bytes_at ys k m
 bytes_at-behind xs ys n k m is = ap (take m) (sym (drop-drop k n (xs ++ ys)) ∙ ap (drop k) (drop_at xs ys n is))
 

@@ -1,4 +1,4 @@
--- Counts of words: a layer has its own, and `Steps` is the one that its caller sees.
+-- Counts of words: each layer has its own count, and `Steps` is the count that its caller sees.
 use Rattle.std.specs.Prelude.{◌≡◌, ◌+◌, ◌%◌, ◌^◌, ℕ}
 
 -- one count rose by as much as the other, modulo 2^64

@@ -13,7 +13,11 @@ use Rattle.mg_model.specs.State.{State, Thread, ThreadRow, CallFrame}
 
 -- the state with a change of this thread's row
 abbrev pub with_thread : State → ℕ → (ThreadRow → ThreadRow) → State
-with_thread state t change = record state { threads = map (λ (thread : Thread). if thread.number == t then record thread { row = change thread.row } else thread) state.threads }
+with_thread state t change =
+    record state {
+      threads = map
+          (λ (thread : Thread). if thread.number == t then record thread { row = change thread.row } else thread) state.threads;
+    }
 
 -- the frames with other slots in the last
 abbrev pub with_last_slots : List CallFrame → List Slot → List CallFrame
@@ -71,7 +75,7 @@ pdx state t a mask =
       Count (length (frames_of state t) + 1),
     )
 
--- where the present frame returns to
+-- the address that the present frame returns to
 abbrev pub last_back : List CallFrame → ℕ
 last_back frames = option_map_or (λ (frame : CallFrame). frame.back) (slice_get frames (length frames - 1)) 0
 
@@ -79,6 +83,7 @@ last_back frames = option_map_or (λ (frame : CallFrame). frame.back) (slice_get
 abbrev pub ret : State → ℕ → Answer
 ret state t =
     row state ((nat_le (length (frames_of state t)) 1, NoFrame) ∷ []) (
-      with_thread state t (λ thread. record thread { pc = last_back thread.frames; frames = take (length thread.frames - 1) thread.frames }),
+      with_thread state t
+          (λ thread. record thread { pc = last_back thread.frames; frames = take (length thread.frames - 1) thread.frames }),
       Count (length (frames_of state t) - 1),
     )

@@ -1,4 +1,4 @@
--- The lines that an input has whole: those that a newline ends.
+-- The whole lines of an input: those that a newline ends.
 use Rattle.std.specs.Prelude.{ℕ, List, [], ◌∷◌}
 use Rattle.std.specs.List.{filter_map}
 use Rattle.mg_model.specs.declared.calls.Line.{Line}

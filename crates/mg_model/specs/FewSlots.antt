@@ -1,4 +1,4 @@
--- How many slots a reply may tell of.
+-- How many slots a reply may list.
 use Rattle.std.specs.Prelude.{◌≤◌}
 use Rattle.mg_model.specs.declared.replies.Reply.{Reply}
 use Rattle.mg_model.specs.declared.replies.Reply.TheVariants as reply

@@ -1,4 +1,4 @@
--- A list in an array of fixed size: what stands behind its last item is a filler.
+-- A list in an array of fixed size: the places after its last item hold a filler.
 use Rattle.std.specs.Prelude.{◌≡◌, ◌≤◌, ◌-◌, ℕ, List, ◌++◌, length, replicate, drop}
 
 -- a list filled up to n items

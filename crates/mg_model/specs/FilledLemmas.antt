@@ -14,7 +14,7 @@ filled-take filler n items count f =
 pub length-filled : {X : Type 0} (filler : X) (n : ℕ) (items : List X) (count : ℕ) → IsFilled filler n items count → length (take count items) ≡ count
 length-filled filler n items count f = let e = f.size in let w = f.within in length-take-le count items (omega arith)
 
--- one item more, in the place behind the last
+-- one item more, in the place after the last
 pub IsFilled-add : {X : Type 0} (filler : X) (n : ℕ) (items : List X) (count : ℕ) (x : X) → IsFilled filler n items count → count < n → IsFilled filler n (set items count x) (count + 1)
 IsFilled-add filler n items count x f room =
     let size = f.size in

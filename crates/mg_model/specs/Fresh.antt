@@ -7,7 +7,7 @@ use Rattle.mg_model.specs.Settings.{Settings}
 use Rattle.mg_model.specs.State.{State, Object, Thread}
 use Rattle.mg_model.specs.Threads.{new_thread}
 
--- where the root object lies
+-- the base of the root object
 abbrev pub root_base : ℕ
 root_base = 0x0000000100000000
 

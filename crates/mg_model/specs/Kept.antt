@@ -15,17 +15,17 @@ use Rattle.mg_model.specs.Warmth.{Event, failing, is_disturbing, is_recent}
 abbrev pub is_known : (Key → Bool) → State → Access → Bool
 is_known kept state access = option_map_or kept (key_of state access) false
 
--- the most that is searched for one access: nothing where its key is kept
+-- the most words that are searched for one access: none if its key is kept
 abbrev pub access_limit : (Key → Bool) → State → Access → ℕ
 access_limit kept state access = if is_known kept state access then 0 else search_limit
 
--- One access, for which so many words were searched. Where it is allowed its key is kept, and of other seats nothing changes.
+-- One access, for which this number of words was searched. If it is allowed, its key is kept, and no other seat changes.
 pub record Validates (state : State) (access : Access) (kept kept' : Key → Bool) (words : ℕ) : Type 0 where
   pub own : (key : Key) → taken state access ≡ key ∷ [] → kept' key ≡ true
   pub others : (key : Key) → is_elsewhere (taken state access) key ≡ true → kept' key ≡ kept key
   pub few : words ≤ access_limit kept state access
 
--- accesses one after another, for which so many words were searched in all
+-- accesses one after another, for which this number of words was searched in all
 abbrev pub Searches : State → (Key → Bool) → List Access → (Key → Bool) → ℕ → Type 0
 Searches state kept [] kept' words = ((key : Key) → kept' key ≡ kept key) × (words ≡ 0)
 Searches state kept (access ∷ more) kept' words =
@@ -54,19 +54,19 @@ pub record KeepsRules (state : State) (made : List Access) (kept kept' : Key →
 abbrev pub line_limit : (Key → Bool) → State → Line → ℕ
 line_limit kept state line = words_of state line + searches_limit kept state (accesses state line)
 
--- A line that was answered. Its words are counted; beside these no more than what is searched; and where it does not
--- disturb, keys are kept by the rules. A line that disturbs may drop any key.
+-- A line that was answered. The counter adds the line's own words, and at most the words of its searches besides. If the
+-- line does not disturb, keys are kept by the rules. A line that disturbs may drop any key.
 pub record KeepsLine (state : State) (line : Line) (kept kept' : Key → Bool) (steps steps' : ℕ) : Type 0 where
   pub keys : is_disturbing state line ≡ false → KeepsKeys state (accesses state line) kept kept'
   pub least : steps + words_of state line ≤ steps'
   pub most : steps' ≤ steps + line_limit kept state line
 
--- behind earlier lines of a session each key that would be warm is kept
+-- after earlier lines of a session each key that would be warm is kept
 pub record KeepsWarm (past : List Event) (kept : Key → Bool) : Type 0 where
   pub each : (key : Key) → is_recent past key ≡ true → kept key ≡ true
 
--- Lines one after another, and the counter before and behind them: each stays within its limit, and keeps its keys where it
--- does not disturb. Where the last line was not answered, nothing needs to be kept behind it.
+-- Lines one after another, and the counter before and after them. Each line stays within its limit, and keeps its keys if it
+-- does not disturb. If the last line was not answered, nothing needs to be kept after it.
 abbrev pub Follows : (Key → Bool) → State → List Line → ℕ → ℕ → Type 0
 Follows kept state [] steps steps' = steps ≡ steps'
 Follows kept state (line ∷ more) steps steps' =

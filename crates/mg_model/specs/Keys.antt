@@ -22,12 +22,13 @@ seat_of key = (key.thread + page_stride * (key.base / page_size) + right_stride 
 abbrev pub is_key : Key → Key → Bool
 is_key key other = key.thread == other.thread && (key.base == other.base && right_number key.right == right_number other.right)
 
--- the key of an access; one to an address of no object has none
+-- the key of an access; an access to an address of no object has none
 abbrev pub key_of : State → Access → Option Key
 key_of state access =
-    option_map (λ (object : Object). record { thread = access.thread; base = object.row.base; right = access.right }) (at state.objects access.address)
+    option_map (λ (object : Object). record { thread = access.thread; base = object.row.base; right = access.right })
+    (at state.objects access.address)
 
--- the key that takes its seat by an access: only one that is allowed takes any
+-- the key that takes its seat by an access; an access that is not allowed gives no key
 abbrev pub taken : State → Access → List Key
 taken state access = if allowed state access.thread access.address access.right then option_to_list (key_of state access) else []
 
@@ -36,7 +37,7 @@ abbrev pub taken_by : State → List Access → List Key
 taken_by state [] = []
 taken_by state (access ∷ more) = taken_by state more ++ taken state access
 
--- of keys that took their seats, the last one first, the one that has this seat now
+-- of keys that took their seats, the last one first, the key that has this seat now
 abbrev pub first_at : ℕ → List Key → Option Key
 first_at seat keys = find (λ key. seat_of key == seat) keys
 

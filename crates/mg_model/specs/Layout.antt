@@ -6,7 +6,7 @@ use Rattle.mg_model.specs.declared.layout.TheConstants.{GATE_BLOCK, SUPER_BLOCK,
 abbrev pub block_size : ℕ
 block_size = 4096
 
--- what byte 0 of a gate holds where it is open
+-- byte 0 of an open gate
 abbrev pub gate_open : ℕ
 gate_open = 0xA5
 
@@ -28,11 +28,11 @@ segment_body s j = FIRST_SEGMENT + SEGMENT_SIZE * s + 2 + j
 abbrev pub table_blocks : ℕ → ℕ
 table_blocks frames = (frames + 511) / 512
 
--- the frames behind it
+-- the frames after it
 abbrev pub first_frame : ℕ → ℕ
 first_frame frames = TABLE_BLOCK + table_blocks frames
 
--- how many blocks a volume of so many frames needs
+-- how many blocks a volume with this number of frames needs
 abbrev pub total_blocks : ℕ → ℕ
 total_blocks frames = first_frame frames + frames
 

@@ -31,7 +31,7 @@ pub mod Lines
 pub mod Ended
 pub mod FewSlots
 pub mod Print
--- Where the machine begins, and what it keeps.
+-- The fresh machine, and what every state keeps.
 pub mod Fresh
 pub mod Ranges
 pub mod WellFormed

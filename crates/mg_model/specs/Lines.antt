@@ -7,7 +7,7 @@ use Rattle.mg_model.specs.declared.calls.Call.TheVariants as call
 use Rattle.mg_model.specs.declared.calls.Line.{Line}
 use Rattle.mg_model.specs.Words.{is_newline, number_of, numbers_of, rights_of, same_bytes, split_at, words}
 
--- just so many numbers, if these are numbers
+-- exactly n numbers, if these are numbers
 abbrev pub one : Option (List ℕ) → Option ℕ
 one (Some (a ∷ [])) = Some a
 one _ = None
@@ -24,7 +24,7 @@ abbrev pub four : Option (List ℕ) → Option (ℕ × ℕ × ℕ × ℕ)
 four (Some (a ∷ b ∷ c ∷ d ∷ [])) = Some (a, b, c, d)
 four _ = None
 
--- a call of so many numbers; Bad where there are more or fewer, or a word spells none
+-- a call of n numbers; Bad if there are more or fewer, or if a word spells no number
 abbrev pub form0 : Call → List (List ℕ) → Call
 form0 made [] = made
 form0 made _ = call.Bad
@@ -84,7 +84,7 @@ call_table =
     ∷ (codes "rent", form0 call.Rent)
     ∷ []
 
--- the call words that stand alone; before every other one stands the number of a thread
+-- the call words that begin a line; before each other call word is the number of a thread
 abbrev pub lone_words : List (List ℕ)
 lone_words = codes "next" ∷ codes "rent" ∷ []
 
@@ -100,16 +100,16 @@ call_by ((known, form) ∷ rows) word args = if same_bytes word known then Some 
 abbrev pub bad_line : Line
 bad_line = record { thread = 0; call = call.Bad }
 
--- a line's thread is 0 where its call is Bad
+-- a line's thread is 0 if its call is Bad
 abbrev pub line_with : ℕ → Call → Line
 line_with t call.Bad = bad_line
 line_with t made = record { thread = t; call = made }
 
--- the line of a call word with these arguments; Bad where there is no such call
+-- the line of a call word with these arguments; Bad if there is no such call
 abbrev pub call_line : ℕ → List ℕ → List (List ℕ) → Line
 call_line t word args = option_map_or (λ made. line_with t made) (call_by call_table word args) bad_line
 
--- behind a thread's number: a call word, and its arguments
+-- after a thread's number: a call word, and its arguments
 abbrev pub thread_line : ℕ → List (List ℕ) → Line
 thread_line t [] = bad_line
 thread_line t (word ∷ args) = if is_among word lone_words then bad_line else call_line t word args
@@ -134,7 +134,7 @@ line_of_words (first ∷ more) = if is_note first then None else Some (spelled_l
 abbrev pub line_of : List ℕ → Option Line
 line_of bytes = if nat_lt 256 (length bytes) then Some bad_line else line_of_words (words bytes)
 
--- The lines of an input. The last line may lack its newline: the piece behind the last newline is one more, and an empty
+-- The lines of an input. The last line may lack its newline: the bytes after the last newline are one more piece. An empty
 -- piece spells no line.
 abbrev pub lines : List ℕ → List Line
 lines bytes = filter_map line_of (split_at is_newline bytes)

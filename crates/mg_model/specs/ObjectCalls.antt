@@ -53,14 +53,16 @@ create state n account password =
     ∷ (nat_lt 0 (owed_by state.accounts account), Debt)
     ∷ (nat_le object_limit (length state.objects) || all_drawn state, Limit)
     ∷ (nat_lt state.settings.frames (used state.objects + n), Full)
-    ∷ [])
-    (record (drawn state) { objects = with_object (new_object base n account (next_password state)) state.objects }, Made base (next_password state))
+    ∷ []) (
+      record (drawn state) { objects = with_object (new_object base n account (next_password state)) state.objects },
+      Made base (next_password state),
+    )
 
 -- the row of no object
 abbrev pub no_row : ObjectRow
 no_row = record { base = 0; pages = 0; account = 0; passwords = []; entries = []; extension = None }
 
--- the row of the object that has the address, and `no_row` where no object has it
+-- the row of the object that has the address, and `no_row` if no object has it
 abbrev pub row_at : State → ℕ → ObjectRow
 row_at state address = option_map_or (λ (object : Object). object.row) (at state.objects address) no_row
 
@@ -80,7 +82,9 @@ any_allowed state t address = list_any (λ right. allowed state t address right)
 
 -- what `info` says of an object
 abbrev pub about : ObjectRow → Reply
-about object = About object.base object.pages object.account (length object.passwords) (length object.entries) (if is_some object.extension then 1 else 0)
+about object =
+    About object.base object.pages object.account (length object.passwords) (length object.entries)
+    (if is_some object.extension then 1 else 0)
 
 -- `info B`
 abbrev pub info : State → ℕ → ℕ → Answer
@@ -99,7 +103,11 @@ pwadd state t b rights until =
     ∷ (is_past state.counters.period until, Past)
     ∷ (nat_le password_limit (length (row_at state b).passwords) || all_drawn state, Limit)
     ∷ []) (
-      with_row_at (drawn state) b (λ object. record object { passwords = object.passwords ++ record { password = next_password state; rights = rights; until = unwrap_or until never } ∷ [] }),
+      with_row_at (drawn state) b
+          (λ object. record object {
+            passwords = object.passwords
+                ++ record { password = next_password state; rights = rights; until = unwrap_or until never } ∷ [];
+          }),
       Value (next_password state),
     )
 

@@ -74,7 +74,7 @@ reply_text (reply.Ran number state) = ok_text (decimal number ∷ after_text sta
 reply_text (reply.Funds balance owed pages) = ok_text (decimal balance ∷ decimal owed ∷ decimal pages ∷ [])
 reply_text (reply.Collected period rate paid) = ok_text (decimal period ∷ decimal rate ∷ decimal paid ∷ [])
 
--- a reply as it is put: ended by a newline
+-- a reply as it is written: ended by a newline
 abbrev pub reply_line : Reply → List ℕ
 reply_line answer = reply_text answer ++ 10 ∷ []
 
@@ -83,6 +83,6 @@ abbrev pub text : State → List Line → List ℕ
 text state [] = []
 text state (line ∷ more) = reply_line (step state line).1 ++ text (step state line).0 more
 
--- how many replies these bytes have whole: the number of newlines
+-- how many whole replies these bytes hold: the number of newlines
 abbrev pub answered : List ℕ → ℕ
 answered bytes = count_by is_newline bytes

@@ -26,7 +26,7 @@ pub record IsEntryOf (base pages address : ℕ) : Type 0 where
   pub above : base ≤ address
   pub below : address < base + 4096 * pages
 
--- where an object lies
+-- the pages that an object may have
 pub record IsPlace (base pages : ℕ) : Type 0 where
   pub aligned : base % 4096 ≡ 0
   pub low : first_page ≤ base / 4096

@@ -1,4 +1,4 @@
--- A row of the table of calls: the refusals in their order, and what is done where none holds.
+-- A row of the table of calls: the refusals in their order, and what is done if none of them holds.
 use Rattle.std.specs.Prelude.{Bool, List, [], ◌∷◌, Option, Some, None, if◌then◌else◌}
 use Rattle.mg_model.specs.declared.replies.Refusal.{Refusal}
 use Rattle.mg_model.specs.declared.replies.Reply.{Reply}

@@ -19,16 +19,16 @@ body_count image s = number_at (block_of image (segment_index s)) 0
 abbrev pub home_of : List (List ℕ) → ℕ → ℕ → ℕ
 home_of image s j = number_at (block_of image (segment_index s)) (8 + 8 * j)
 
--- the writes of a segment from body j on, so many of them: pairs of a block's number and what is written there
+-- the writes of n bodies of segment s, from body j on: pairs of a block's number and what is written there
 abbrev pub writes_from : List (List ℕ) → ℕ → ℕ → ℕ → List (ℕ × List ℕ)
 writes_from image s j zero = []
 writes_from image s j (suc n) = (home_of image s j, block_of image (segment_body s j)) ∷ writes_from image s (j + 1) n
 
--- what a segment writes, which is nothing where it is closed
+-- what a segment writes; a closed segment writes nothing
 abbrev pub writes_of : List (List ℕ) → ℕ → List (ℕ × List ℕ)
 writes_of image s = if is_open image s then writes_from image s 0 (body_count image s) else []
 
--- whether each is of a block behind the journal and below the total
+-- whether each is of a block after the journal and below the total
 abbrev pub homes_fit : ℕ → List (ℕ × List ℕ) → Bool
 homes_fit total writes = list_all (λ (write : ℕ × List ℕ). nat_le globals_block write.0 && nat_lt write.0 total) writes
 
@@ -36,7 +36,7 @@ homes_fit total writes = list_all (λ (write : ℕ × List ℕ). nat_le globals_
 abbrev pub segment_fits : ℕ → List (List ℕ) → ℕ → Bool
 segment_fits total image s = if is_open image s then nat_le (body_count image s) body_limit && homes_fit total (writes_of image s) else true
 
--- from segment s on, so many of them
+-- n segments from segment s on
 abbrev pub segments_fit : ℕ → List (List ℕ) → ℕ → ℕ → Bool
 segments_fit total image s zero = true
 segments_fit total image s (suc n) = segment_fits total image s && segments_fit total image (s + 1) n

@@ -1,4 +1,5 @@
--- Lemmas that crates above need: rows are read where they are written, and a table of free rows behind a live one has that one alone.
+-- Lemmas that crates above need: rows are read back from the place where they were written, and a table of one live row and
+-- free rows after it has that row alone.
 use Rattle.std.specs.Prelude.{◌≡◌, ℕ, zero, suc, ◌+◌, ◌-◌, ◌*◌, ◌<◌, ◌≤◌, ◌==◌, ◌&&◌, Bool, true, false, All, List, [], ◌∷◌, ◌++◌, drop, if◌then◌else◌, length, replicate, take, Some, None}
 use Rattle.std.specs.Int.{from_le_bytes, to_le_bytes, w64}
 use Rattle.std.proofs.Common.{refl, sym, ap, subst, ◌∙◌, arith}
@@ -92,7 +93,7 @@ account_fields-written row password balance owed =
     ∙ ap (λ n. account_of row.password n (from_le_bytes w64 (to_le_bytes w64 row.owed))) (from_le_bytes-to_le_bytes_8 row.balance balance)
     ∙ ap (λ n. account_of row.password row.balance n) (from_le_bytes-to_le_bytes_8 row.owed owed)
 
--- in a block that is filled up with zeros, a row behind what is filled is all zeros
+-- in a block that is filled up with zeros, each row after the bytes that are filled is all zeros
 pub zeros-behind : (block xs : List ℕ) (m k n : ℕ) → block ≡ xs ++ replicate m 0 → length xs ≤ k → are_zeros (bytes_at block k n) ≡ true
 zeros-behind block xs m k n is behind =
     let split : length xs + (k - length xs) ≡ k = omega arith in

@@ -1,4 +1,5 @@
--- Lemmas that crates above need: what the tests on the fields of a row tell, as facts. That numbers have 64 bits is not among them: a row's bytes tell it.
+-- Lemmas that crates above need: the tests on the fields of a row, as facts. That numbers have 64 bits is not among them: it
+-- follows from a row's bytes.
 use Rattle.std.specs.Prelude.{◌≡◌, ◌≢◌, ℕ, ◌==◌, Bool, true, false, not, All, AllPairs, List, [], ◌∷◌}
 use Rattle.std.specs.List.{list_all, list_any}
 use Rattle.std.proofs.Common.{arith}

@@ -4,7 +4,7 @@ use Rattle.mg_model.specs.declared.instructions.Instr.{Instr}
 use Rattle.mg_model.specs.declared.instructions.Instr.TheVariants as op
 use Rattle.mg_model.specs.State.{ThreadRow}
 
--- an instruction, where its fields are as it wants them
+-- an instruction, if its fields are as it needs them
 abbrev pub where_so : Bool → Instr → Option Instr
 where_so true instr = Some instr
 where_so false instr = None

@@ -1,6 +1,6 @@
--- How rows are spelled in bytes: each row in one way alone, so a row is read where writing it gives the bytes back. That bytes
--- spell a row exactly where a row in its ranges has them is a law (`rows_are_spelled_in_one_way` in `mg_rows`), so the ways to
--- write a row say all; the ways to read it are there to be computed.
+-- How rows are spelled in bytes. Each row is spelled in one way alone, so bytes are read as a row if writing that row gives
+-- them back. That bytes spell a row exactly when a row in its ranges has them is a law (`rows_are_spelled_in_one_way` in
+-- `mg_rows`). So the ways to write a row are the whole meaning; the ways to read it are there to be computed.
 use Rattle.std.specs.Prelude.{ℕ, zero, suc, ◌+◌, ◌-◌, ◌*◌, ◌==◌, ◌&&◌, nat_lt, Bool, true, not, min, List, [], ◌∷◌, ◌++◌, flat_map, if◌then◌else◌, is_some, length, map, replicate, slice_index, Option, Some, None}
 use Rattle.std.specs.Option.{option_map_or}
 use Rattle.mg_model.specs.declared.accounts.AccRow.{AccRow}
@@ -23,7 +23,7 @@ use Rattle.mg_model.specs.Words.{same_bytes}
 abbrev pub Read : Type 0 → Type 0
 Read R = Option (Option R)
 
--- a live row, where it keeps its rule and these are its bytes
+-- a live row, if it keeps its rule and these are its bytes
 abbrev pub live_if : {R : Type 0} → Bool → List ℕ → List ℕ → R → Read R
 live_if rule written bytes row = if rule && same_bytes written bytes then Some (Some row) else None
 
@@ -31,7 +31,8 @@ live_if rule written bytes row = if rule && same_bytes written bytes then Some (
 abbrev pub free_or : {R : Type 0} → List ℕ → Read R → Read R
 free_or bytes live = if are_zeros bytes then Some None else live
 
--- An account. Each row lists its words in the order of their places; where one is read, the byte at which it begins stands beside it.
+-- An account. Each row lists its words in the order of their places. The line that reads a word names the byte at which the
+-- word begins.
 abbrev pub account_bytes : AccRow → List ℕ
 account_bytes row = padded_to account_size (words_bytes (1 ∷ row.password ∷ row.balance ∷ row.owed ∷ []))
 
@@ -61,13 +62,15 @@ object_bytes row =
     ++ (padded_to 256 (words_bytes (map (λ (pw : Pw). pw.until) row.passwords))
     ++ replicate 272 0))))
 
--- the password rows that begin at place k, so many of them
+-- n password rows, from place k on
 abbrev pub passwords_at : List ℕ → ℕ → ℕ → List Pw
 passwords_at bytes k zero = []
 passwords_at bytes k (suc n) =
-    record { password = number_at bytes (80 + 8 * k); rights = slice_index bytes (336 + k); until = number_at bytes (496 + 8 * k) } ∷ passwords_at bytes (k + 1) n
+    record { password = number_at bytes (80 + 8 * k); rights = slice_index bytes (336 + k); until = number_at bytes (496 + 8 * k) }
+    ∷ passwords_at bytes (k + 1) n
 
--- The fields that these bytes have. Where a count is above its limit, one row more than the limit is read: `is_object_row` refuses that.
+-- The fields that these bytes have. If a count is above its limit, one row more than the limit is read: `is_object_row`
+-- refuses that.
 abbrev pub object_fields : List ℕ → ObjectRow
 object_fields bytes = record {
   base = number_at bytes 8;
@@ -79,7 +82,9 @@ object_fields bytes = record {
 }
 
 abbrev pub object_read : List ℕ → Read ObjectRow
-object_read bytes = free_or bytes (live_if (is_object_row (object_fields bytes)) (object_bytes (object_fields bytes)) bytes (object_fields bytes))
+object_read bytes =
+    free_or bytes
+    (live_if (is_object_row (object_fields bytes)) (object_bytes (object_fields bytes)) bytes (object_fields bytes))
 
 -- a thread: a block, with six words, its registers from byte 64 on, and its frames from byte 128 on
 abbrev pub state_number : ThrState → ℕ
@@ -100,7 +105,7 @@ state_numbered n =
 abbrev pub slot_words : Slot → List ℕ
 slot_words slot = slot.base ∷ slot.password ∷ []
 
--- a frame of a thread: where it returns to, how many slots it has, and the slots, each a base and a password
+-- a frame of a thread: the address that it returns to, how many slots it has, and the slots, each a base and a password
 abbrev pub frame_bytes : CallFrame → List ℕ
 frame_bytes frame = padded_to 144 (words_bytes (frame.back ∷ length frame.slots ∷ flat_map slot_words frame.slots))
 
@@ -111,10 +116,16 @@ thread_bytes row =
 
 abbrev pub slots_at : List ℕ → ℕ → ℕ → List Slot
 slots_at bytes offset zero = []
-slots_at bytes offset (suc n) = record { base = number_at bytes offset; password = number_at bytes (offset + 8) } ∷ slots_at bytes (offset + 16) n
+slots_at bytes offset (suc n) =
+    record { base = number_at bytes offset; password = number_at bytes (offset + 8) } ∷ slots_at bytes (offset + 16) n
 
 abbrev pub frame_at : List ℕ → ℕ → CallFrame
-frame_at bytes offset = record { back = number_at bytes offset; slots = slots_at bytes (offset + 16) (min (number_at bytes (offset + 8)) (slot_limit + 1)) }
+frame_at bytes offset =
+    record {
+      back = number_at bytes offset;
+      slots = slots_at bytes (offset + 16)
+          (min (number_at bytes (offset + 8)) (slot_limit + 1));
+    }
 
 abbrev pub frames_at : List ℕ → ℕ → ℕ → List CallFrame
 frames_at bytes offset zero = []
@@ -131,18 +142,23 @@ thread_fields bytes = record {
 }
 
 abbrev pub thread_read : List ℕ → Read ThreadRow
-thread_read bytes = free_or bytes (live_if (is_thread_row (thread_fields bytes)) (thread_bytes (thread_fields bytes)) bytes (thread_fields bytes))
+thread_read bytes =
+    free_or bytes
+    (live_if (is_thread_row (thread_fields bytes)) (thread_bytes (thread_fields bytes)) bytes (thread_fields bytes))
 
 -- the globals: a block, never free
 abbrev pub globals_bytes : Counters → List ℕ
 globals_bytes counters = padded_to block_size (words_bytes (counters.draws ∷ counters.period ∷ counters.cursor ∷ counters.births ∷ []))
 
 abbrev pub globals_fields : List ℕ → Counters
-globals_fields bytes = record { draws = number_at bytes 0; period = number_at bytes 8; cursor = number_at bytes 16; births = number_at bytes 24 }
+globals_fields bytes =
+    record { draws = number_at bytes 0; period = number_at bytes 8; cursor = number_at bytes 16; births = number_at bytes 24 }
 
 abbrev pub globals_read : List ℕ → Option Counters
 globals_read bytes =
-    if are_counters (globals_fields bytes) && same_bytes (globals_bytes (globals_fields bytes)) bytes then Some (globals_fields bytes) else None
+    if are_counters (globals_fields bytes) && same_bytes (globals_bytes (globals_fields bytes)) bytes
+    then Some (globals_fields bytes)
+    else None
 
 -- The superblock: the magic, the version, the frames, the credits, the seed of 32 bytes, and four steps of two words.
 abbrev pub step_words : List (ℕ × ℕ) → List ℕ
@@ -150,14 +166,21 @@ step_words steps = flat_map (λ (step : ℕ × ℕ). step.0 ∷ step.1 ∷ []) s
 
 abbrev pub super_bytes : Settings → List ℕ
 super_bytes settings =
-    magic ++ padded_to (block_size - 8) (words_bytes (version ∷ settings.frames ∷ settings.credits ∷ []) ++ (settings.seed ++ words_bytes (step_words settings.tariff)))
+    magic ++ padded_to (block_size - 8)
+    (words_bytes (version ∷ settings.frames ∷ settings.credits ∷ []) ++ (settings.seed ++ words_bytes (step_words settings.tariff)))
 
 abbrev pub steps_at : List ℕ → ℕ → ℕ → List (ℕ × ℕ)
 steps_at bytes offset zero = []
 steps_at bytes offset (suc n) = (number_at bytes offset, number_at bytes (offset + 8)) ∷ steps_at bytes (offset + 16) n
 
 abbrev pub super_fields : List ℕ → Settings
-super_fields bytes = record { frames = number_at bytes 16; seed = bytes_at bytes 32 32; credits = number_at bytes 24; tariff = steps_at bytes 64 4 }
+super_fields bytes =
+    record {
+      frames = number_at bytes 16;
+      seed = bytes_at bytes 32 32;
+      credits = number_at bytes 24;
+      tariff = steps_at bytes 64 4;
+    }
 
 abbrev pub are_settings : Settings → Bool
 are_settings settings = within_limits settings.frames settings.credits && is_tariff settings.tariff

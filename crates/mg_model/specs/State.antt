@@ -6,7 +6,7 @@ use Rattle.mg_model.specs.declared.slots.Slot.{Slot}
 use Rattle.mg_model.specs.declared.threads.ThrState.{ThrState}
 use Rattle.mg_model.specs.Settings.{Settings}
 
--- what is known of an object beside its words
+-- what is known of an object besides its words
 pub record ObjectRow : Type 0 where
   pub base : ℕ
   pub pages : ℕ
@@ -15,12 +15,12 @@ pub record ObjectRow : Type 0 where
   pub entries : List ℕ
   pub extension : Option Slot
 
--- an object: every word of it stands in the list, one that was never stored to as 0
+-- an object: the list has every word of it; a word that was never stored to is 0
 pub record Object : Type 0 where
   pub row : ObjectRow
   pub words : List ℕ
 
--- a frame of a thread: where its call returns to, and the slots that it runs under
+-- a frame of a thread: the address that its call returns to, and the slots that it runs under
 pub record CallFrame : Type 0 where
   pub back : ℕ
   pub slots : List Slot
@@ -45,7 +45,7 @@ pub record Counters : Type 0 where
   pub cursor : ℕ
   pub births : ℕ
 
--- the objects stand in the order of their bases, the threads in that of their numbers; account n stands at place n - 1
+-- the objects are in the order of their bases, the threads in the order of their numbers; account n is at place n - 1
 pub record State : Type 0 where
   pub settings : Settings
   pub counters : Counters

@@ -11,7 +11,7 @@ use Rattle.mg_model.specs.State.{State}
 use Rattle.mg_model.specs.Threads.{is_thread}
 use Rattle.mg_model.specs.Turn.{next, thread_call, turn}
 
--- a call that names its thread is refused where no such thread lives
+-- a call that names its thread is refused if no such thread lives
 abbrev pub of_thread : State → ℕ → Answer → Answer
 of_thread state t done = if is_thread state t then done else (state, No refusal.NoThread)
 

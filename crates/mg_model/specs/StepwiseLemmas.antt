@@ -1,4 +1,4 @@
--- Lemmas that crates above need: what three definitions come to where a list is gone through element by element.
+-- Lemmas that crates above need: three definitions on lists, as a walk through the list element by element computes them.
 use Rattle.std.specs.Prelude.{◌≡◌, ◌⊎◌, ◌≤◌, ℕ, suc, ◌+◌, ◌/◌, ◌%◌, ◌==◌, ◌&&◌, ◌||◌, nat_le, nat_lt, Bool, true, false, not, List, [], ◌∷◌, length, slice_index_or, if◌then◌else◌, find, reverse, sum_by, Option, Some, None}
 use Rattle.std.specs.Option.{ForSome, option_map_or, option_or}
 use Rattle.std.specs.List.{cons_option, filter_map, list_all, list_any}
@@ -16,7 +16,7 @@ use Rattle.mg_model.specs.Tariff.{is_tariff}
 use Rattle.mg_model.specs.Tests.{all_distinct}
 use Rattle.mg_model.specs.Words.{and_then, is_some_word, letter_weight, rights_of}
 
--- the rate of the last step that holds at so many pages in use, else the one before
+-- the rate of the last step that holds when this number of pages is in use, else the rate before
 abbrev pub rate_from : ℕ → List (ℕ × ℕ) → ℕ → ℕ
 rate_from before [] pages = before
 rate_from before ((from, rate) ∷ steps) pages = rate_from (if nat_le from pages then rate else before) steps pages
@@ -49,7 +49,7 @@ pub rate_of-from : (tariff : List (ℕ × ℕ)) (pages : ℕ) → rate_of tariff
 unfolding rate holds
 rate_of-from tariff pages = rate-reversed 0 tariff pages
 
--- the rights that these letters spell beside those that were read; no letter comes twice
+-- the rights that these letters spell besides those that were read; no letter comes twice
 abbrev pub rights_from : ℕ → List ℕ → Option ℕ
 rights_from bits [] = Some bits
 rights_from bits (b ∷ bytes) = and_then (letter_weight b) (λ weight. if bits / weight % 2 == 1 then None else rights_from (bits + weight) bytes)

@@ -87,7 +87,7 @@ tariff-fits (a ∷ b ∷ c ∷ []) rule = let n = tariff-four (a ∷ b ∷ c ∷
 tariff-fits (a ∷ b ∷ c ∷ d ∷ []) rule = four_fit a b c d (four_bounded a b c d rule)
 tariff-fits (a ∷ b ∷ c ∷ d ∷ e ∷ steps) rule = let n = tariff-four (a ∷ b ∷ c ∷ d ∷ e ∷ steps) rule in absurd (omega arith)
 
--- the bytes before the tariff, and what is behind it
+-- the bytes before the tariff, and the bytes after it
 abbrev super_front : Settings → List ℕ
 super_front settings = magic ++ (words_bytes (version ∷ settings.frames ∷ settings.credits ∷ []) ++ settings.seed)
 
@@ -172,7 +172,7 @@ super_bytes-parts settings d rule =
     ap (λ words. padded_to 4096 (([] ++ magic ++ front ++ settings.seed) ++ words_bytes words)) (four_words settings.tariff d (tariff-four settings.tariff rule))
     ∙ padded_to-append 8 4088 magic (front ++ (settings.seed ++ words_bytes (step_words settings.tariff))) refl
 
--- the four cases, each where its test holds and those before it do not
+-- the four cases: in each its test holds and those before it do not
 pub super_read-not : (bytes : List ℕ) → same_bytes magic (bytes_at bytes 0 8) ≡ false → super_read bytes ≡ NotSuper
 super_read-not bytes other = rw other
 

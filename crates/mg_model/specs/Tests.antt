@@ -7,7 +7,7 @@ use Rattle.mg_model.specs.declared.slots.Slot.{Slot}
 use Rattle.mg_model.specs.declared.limits.TheConstants.{ACCOUNT_LIMIT as account_limit, ALL_RIGHTS as all_rights, BIRTH_LIMIT as birth_limit, DRAW_LIMIT as draw_limit, ENTRY_POINT_LIMIT as entry_point_limit, FIRST_PAGE as first_page, FRAME_LIMIT as frame_limit, NEVER as never, OBJECT_PAGE_LIMIT as object_page_limit, PAGE_END as page_end, PASSWORD_LIMIT as password_limit, PERIOD_LIMIT as period_limit, SLOT_LIMIT as slot_limit, THREAD_LIMIT as thread_limit}
 use Rattle.mg_model.specs.State.{CallFrame, Counters, ObjectRow, ThreadRow}
 
--- no number stands there twice
+-- no number is in the list twice
 abbrev pub all_distinct : List ℕ → Bool
 all_distinct [] = true
 all_distinct (x ∷ xs) = not (list_any (λ y. x == y) xs) && all_distinct xs
@@ -19,7 +19,9 @@ abbrev pub is_entry_of : ℕ → ℕ → ℕ → Bool
 is_entry_of base pages address = address % 8 == 0 && nat_le base address && nat_lt address (base + 4096 * pages)
 
 abbrev pub is_place : ℕ → ℕ → Bool
-is_place base pages = base % 4096 == 0 && nat_le first_page (base / 4096) && nat_le 1 pages && nat_le pages object_page_limit && nat_le (base / 4096 + pages) page_end
+is_place base pages =
+    base % 4096 == 0 && nat_le first_page (base / 4096) && nat_le 1 pages && nat_le pages object_page_limit
+    && nat_le (base / 4096 + pages) page_end
 
 abbrev pub is_object_row : ObjectRow → Bool
 is_object_row row =

@@ -16,8 +16,8 @@ use Rattle.mg_model.specs.State.{State, Thread}
 abbrev pub is_thread : State → ℕ → Bool
 is_thread state t = is_some (thread_of state t)
 
--- The least number from this one on that no thread has; the threads stand in the order of their numbers. That it is the least is the law
--- `free_numbers_are_least`.
+-- The least number from this one on that no thread has. The threads are in the order of their numbers. That it is the least
+-- is the law `free_numbers_are_least`.
 abbrev pub free_number_from : ℕ → List Thread → ℕ
 free_number_from n [] = n
 free_number_from n (thread ∷ threads) = if thread.number == n then free_number_from (n + 1) threads else n
@@ -25,7 +25,8 @@ free_number_from n (thread ∷ threads) = if thread.number == n then free_number
 -- the threads with one more, in its place in the order of the numbers
 abbrev pub with_new_thread : Thread → List Thread → List Thread
 with_new_thread new [] = new ∷ []
-with_new_thread new (thread ∷ threads) = if nat_lt new.number thread.number then new ∷ thread ∷ threads else thread ∷ with_new_thread new threads
+with_new_thread new (thread ∷ threads) =
+    if nat_lt new.number thread.number then new ∷ thread ∷ threads else thread ∷ with_new_thread new threads
 
 abbrev pub birth_of : State → ℕ → ℕ
 birth_of state t = option_map_or (λ (thread : Thread). thread.row.birth) (thread_of state t) 0
@@ -59,12 +60,15 @@ make_thread state t pc =
     ∷ (not (allowed state t pc X), Denied)
     ∷ (nat_le thread_limit (length state.threads) || nat_le birth_limit state.counters.births, Limit)
     ∷ []) (
-      record (born state) { threads = with_new_thread (new_thread number (state.counters.births + 1) (birth_of state t) pc (domain_of state t)) state.threads },
+      record (born state) {
+        threads = with_new_thread
+            (new_thread number (state.counters.births + 1) (birth_of state t) pc (domain_of state t)) state.threads;
+      },
       Count number,
     )
 
--- Whether thread i is t itself or created by t. Numbers are used again and births are not, so it is told by the births. Thread
--- 1 was created by none: the birth 0 of its creator is no thread's.
+-- Whether thread i is t itself or was created by t. Numbers are used again and births are not, so births decide. No thread
+-- created thread 1: its creator's birth number is 0, which no thread has.
 abbrev pub is_own : State → ℕ → ℕ → Bool
 is_own state t i = i == t || creator_of state i == birth_of state t
 

@@ -27,8 +27,9 @@ use Rattle.mg_model.specs.Script.{decoded, jumped, operand, register, with_regis
 use Rattle.mg_model.specs.State.{State, Thread, ThreadRow}
 use Rattle.mg_model.specs.Threads.{end_thread, make_thread, resume}
 
--- The calls of a thread that lives: a line makes them, and a script too. Of the other four, `turn`, `next`, `rent` and Bad, only Bad
--- comes here, which a script makes by registers that spell no call; a line of theirs has a row of its own in `step`.
+-- The calls of a thread that lives: a line makes them, and a script too. Of the other four, `turn`, `next`, `rent` and Bad,
+-- only Bad is possible here: a script makes it when its registers spell no call. A line with one of the four has a row of
+-- its own in `step`.
 abbrev pub thread_call : State → ℕ → Call → Answer
 thread_call state t (call.Load a) = load state t a
 thread_call state t (call.Store a value) = store state t a value
@@ -107,7 +108,7 @@ spelled thread =
     else if r 0 == 19 then spelled_pwadd (r 1) (r 2) (Some (r 3))
     else call.Bad
 
--- the values that an ok reply leaves in registers, in order; the bases of slots, and what a turn came to, are none
+-- the values that an ok reply leaves in registers, in order; the bases of slots and the end of a turn leave no value
 abbrev pub values_of : Reply → List ℕ
 values_of (reply.Value w) = w ∷ []
 values_of (reply.Count n) = n ∷ []
@@ -118,13 +119,13 @@ values_of (reply.Funds balance owed pages) = balance ∷ owed ∷ pages ∷ []
 values_of (reply.Collected period rate paid) = period ∷ rate ∷ paid ∷ []
 values_of _ = []
 
--- these values stand in the registers from one on
+-- these values are in the registers from register k on
 abbrev pub with_registers : ThreadRow → ℕ → List ℕ → ThreadRow
 with_registers thread k [] = thread
 with_registers thread k (value ∷ values) = with_registers (with_register thread k value) (k + 1) values
 
--- A call by a script, and what its thread sees of the answer. Where the call is refused, register 0 gets the refusal's
--- number; where it is ok, the row changes so.
+-- A call by a script, and what its thread sees of the answer. If the call is refused, register 0 gets the refusal's number.
+-- If it is ok, the row changes so.
 abbrev pub seen : ℕ → (Reply → ThreadRow → ThreadRow) → Answer → State
 seen t on_ok (state, reply.No word) = with_thread state t (λ thread. with_register thread 0 (refusal_number word))
 seen t on_ok (state, said) = with_thread state t (on_ok said)
@@ -144,30 +145,36 @@ unless_faulted state t address may done =
     else if not may then faulted state t fault.Denied
     else done
 
--- Runs an instruction that stands at `here`; the row is the thread's, its pc advanced.
+-- Runs the instruction at `here`; the row is the thread's, its pc advanced.
 abbrev pub run : State → ℕ → ℕ → ThreadRow → Instr → State
 run state t here thread op.Halt = put_row state t (record thread { state = Stopped })
 run state t here thread (op.Set a i) = put_row state t (with_register thread a i)
 run state t here thread (op.High a i) = put_row state t (with_register thread a (register thread a % 2 ^ 32 + i * 2 ^ 32))
 run state t here thread (op.Add a b c) = put_row state t (with_register thread a ((register thread b + register thread c) % word_end))
-run state t here thread (op.Sub a b c) = put_row state t (with_register thread a ((register thread b + word_end - register thread c) % word_end))
-run state t here thread (op.Lt a b c) = put_row state t (with_register thread a (if nat_lt (register thread b) (register thread c) then 1 else 0))
+run state t here thread (op.Sub a b c) =
+    put_row state t (with_register thread a ((register thread b + word_end - register thread c) % word_end))
+run state t here thread (op.Lt a b c) =
+    put_row state t (with_register thread a (if nat_lt (register thread b) (register thread c) then 1 else 0))
 run state t here thread (op.Load a b i) =
     let address = operand thread b i in
     unless_faulted state t address (allowed state t address R) (put_row state t (with_register thread a (word_at state.objects address)))
 run state t here thread (op.Store a b i) =
     let address = operand thread b i in
-    unless_faulted state t address (allowed state t address W) (put_row (record state { objects = with_word state.objects address (register thread a) }) t thread)
+    unless_faulted state t address (allowed state t address W)
+    (put_row (record state { objects = with_word state.objects address (register thread a) }) t thread)
 run state t here thread (op.Jump i) = put_row state t (jumped thread here i)
 run state t here thread (op.Jz a i) = put_row state t (if register thread a == 0 then jumped thread here i else thread)
 run state t here thread (op.Jnz a i) = put_row state t (if register thread a == 0 then thread else jumped thread here i)
 run state t here thread (op.Pdx a b) =
     let before = put_row state t thread in
     let mask = register thread b in
-    seen t (λ _ entered. with_register entered 0 0) (if nat_lt 255 mask then (before, reply.No refusal.Syntax) else pdx before t (register thread a) mask)
+    seen t (λ _ entered. with_register entered 0 0)
+    (if nat_lt 255 mask then (before, reply.No refusal.Syntax) else pdx before t (register thread a) mask)
 run state t here thread op.Ret = seen t (λ _ returned. returned) (ret (put_row state t thread) t)
 run state t here thread op.Yield = put_row state t thread
-run state t here thread op.Sys = seen t (λ said caller. with_registers caller 0 (0 ∷ values_of said)) (thread_call (put_row state t thread) t (spelled thread))
+run state t here thread op.Sys =
+    seen t (λ said caller. with_registers caller 0 (0 ∷ values_of said))
+    (thread_call (put_row state t thread) t (spelled thread))
 
 -- the pc is first advanced by the width of a word
 abbrev pub run_word : State → ℕ → ThreadRow → Option Instr → State
@@ -185,7 +192,9 @@ after_of state t = option_map_or (λ (thread : ThreadRow). as_after thread.state
 
 -- the state after the turn of a thread with this row
 abbrev pub turned : State → ℕ → ThreadRow → State
-turned state t thread = if allowed state t thread.pc X then run_word state t thread (decoded (word_at state.objects thread.pc)) else faulted state t fault.Denied
+turned state t thread =
+    if allowed state t thread.pc X then run_word state t thread (decoded (word_at state.objects thread.pc))
+    else faulted state t fault.Denied
 
 abbrev pub turn_state : State → ℕ → State
 turn_state state t = option_map_or (λ thread. turned state t thread) (row_of state t) state
@@ -203,7 +212,7 @@ turn state t =
     row state ((not (thread_is_ready state t), refusal.NotReady) ∷ [])
     (turn_state state t, reply.Turned (after_of (turn_state state t) t))
 
--- the least number above the cursor of a thread that is Ready, else the least; the threads stand in order
+-- the least number above the cursor of a thread that is Ready, else the least of a Ready thread; the threads are in order
 abbrev pub ready_above : ℕ → List Thread → Option Thread
 ready_above cursor threads = find (λ (thread : Thread). is_ready thread.row.state && nat_lt cursor thread.number) threads
 

@@ -32,7 +32,7 @@ abbrev pub with_live : {R : Type 0} → ℕ → Option R → List (ℕ × R) →
 with_live i None rows = rows
 with_live i (Some row) rows = (i, row) ∷ rows
 
--- the live rows from place i on, so many places, each with its place; none where one of them spells nothing
+-- the live rows of n places from place i on, each with its place; None if one of them spells nothing
 abbrev pub live_rows : {R : Type 0} → (ℕ → Read R) → ℕ → ℕ → Option (List (ℕ × R))
 live_rows read i zero = Some []
 live_rows read i (suc n) = and_then (read i) (λ row. and_then (live_rows read (i + 1) n) (λ rows. Some (with_live i row rows)))
@@ -68,7 +68,8 @@ rows_of image frames =
 -- the words of a page: those of the frame that holds it, or zeros
 abbrev pub page_words : List (List ℕ) → ℕ → List ℕ → ℕ → List ℕ
 page_words image frames table page =
-    option_map_or (λ frame. block_words (block_of image (first_frame frames + frame))) (position (λ entry. entry == page) table) (replicate 512 0)
+    option_map_or (λ frame. block_words (block_of image (first_frame frames + frame)))
+    (position (λ entry. entry == page) table) (replicate 512 0)
 
 abbrev pub pages_words : List (List ℕ) → ℕ → List ℕ → ℕ → ℕ → List ℕ
 pages_words image frames table page zero = []
@@ -80,7 +81,8 @@ object_spelled image frames table row = record { row = row; words = pages_words 
 -- the objects in the order of their bases, whatever rows they have
 abbrev pub objects_spelled : List (List ℕ) → ℕ → List ℕ → List (ℕ × ObjectRow) → List Object
 objects_spelled image frames table [] = []
-objects_spelled image frames table ((place, row) ∷ rows) = with_object (object_spelled image frames table row) (objects_spelled image frames table rows)
+objects_spelled image frames table ((place, row) ∷ rows) =
+    with_object (object_spelled image frames table row) (objects_spelled image frames table rows)
 
 -- the state that these rows and the frames spell
 abbrev pub state_spelled : List (List ℕ) → Settings → Rows → State
@@ -92,7 +94,7 @@ state_spelled image settings rows = record {
   threads = map (λ (r : ℕ × ThreadRow). record { number = r.0 + 1; row = r.1 }) rows.threads;
 }
 
--- live accounts stand without a gap from the first row on
+-- live accounts are without a gap from the first row on
 abbrev pub has_no_gap : ℕ → List (ℕ × AccRow) → Bool
 has_no_gap i [] = true
 has_no_gap i ((place, row) ∷ rows) = place == i && has_no_gap (i + 1) rows
@@ -104,7 +106,7 @@ accounts_fit credits period accounts =
     && sum_by (λ (row : AccRow). row.balance) accounts == credits
     && list_all (λ (row : AccRow). nat_le row.owed (debt_limit period)) accounts
 
--- no object reaches past the first page of the next; they stand in the order of their bases
+-- no object reaches past the first page of the next; they are in the order of their bases
 abbrev pub are_apart : List Object → Bool
 are_apart (object ∷ next ∷ objects) = nat_le (page_behind object.row) (page_of next.row) && are_apart (next ∷ objects)
 are_apart _ = true
@@ -134,9 +136,11 @@ is_page_of page object = nat_le (page_of object.row) page && nat_lt page (page_b
 abbrev pub bound_pages : List ℕ → List ℕ
 bound_pages table = filter (λ page. not (page == 0)) table
 
--- each of them lies in an object, and none stands there twice
+-- each of them lies in an object, and none is there twice
 abbrev pub table_fits : List Object → List ℕ → Bool
-table_fits objects table = list_all (λ page. list_any (λ object. is_page_of page object) objects) (bound_pages table) && all_distinct (bound_pages table)
+table_fits objects table =
+    list_all (λ page. list_any (λ object. is_page_of page object) objects) (bound_pages table)
+    && all_distinct (bound_pages table)
 
 abbrev pub state_fits : Rows → State → Bool
 state_fits rows state =
@@ -151,7 +155,8 @@ fitting rows state = if state_fits rows state then Is state else Damaged
 
 -- what a replayed image spells under these settings
 abbrev pub replayed_volume : Settings → List (List ℕ) → VolumeRead
-replayed_volume settings image = option_map_or (λ rows. fitting rows (state_spelled image settings rows)) (rows_of image settings.frames) Damaged
+replayed_volume settings image =
+    option_map_or (λ rows. fitting rows (state_spelled image settings rows)) (rows_of image settings.frames) Damaged
 
 -- an image has at least as many blocks as its frames need, and its journal can be replayed
 abbrev pub settled_volume : List (List ℕ) → Settings → VolumeRead
@@ -166,7 +171,7 @@ volume_behind image OldSuper = OldVolume
 volume_behind image BadSuper = Damaged
 volume_behind image (Spells settings) = settled_volume image settings
 
--- an image has the gate's block and the one behind it, and its gate is open: byte 0 of the gate says so
+-- an image has the gate's block and the block after it, and its gate is open: byte 0 of the gate says so
 abbrev pub has_open_gate : List (List ℕ) → Bool
 has_open_gate image = nat_le 2 (length image) && slice_index (block_of image gate_block) 0 == gate_open
 

@@ -342,7 +342,7 @@ opened-same a b opened_a opened_b super same =
     ∙ ap (λ block. volume_behind b (super_read block)) super
     ∙ sym (volume-opened b opened_b)
 
--- Two images of the same length whose gates are open have the same volume where they agree everywhere but in block 0.
+-- Two images of the same length whose gates are open have the same volume if they agree everywhere but in block 0.
 pub volume-same_behind : (a b : List (List ℕ)) → IsOpened a → IsOpened b → length a ≡ length b → ((k : ℕ) → super_block ≤ k → block_of a k ≡ block_of b k) → volume a ≡ volume b
 volume-same_behind a b opened_a opened_b long each = opened-same a b opened_a opened_b (each super_block (omega arith)) (λ settings read. settled settings)
   where

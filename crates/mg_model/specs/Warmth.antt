@@ -1,8 +1,8 @@
 -- Which accesses of a session are warm, and what its lines may cost.
 --
--- An access is warm where an earlier line made an allowed access with its key, unless something came between: a line that
--- disturbs, or an allowed access with another key that has the same seat. The earlier lines of a session come here as a list
--- of events, the last one first.
+-- An access is warm if an earlier line made an allowed access with its key and nothing came between: no line that disturbs,
+-- and no allowed access with another key that has the same seat. The earlier lines of a session are given here as a list of
+-- events, the last one first.
 use Rattle.std.specs.Prelude.{ℕ, ◌≡◌, ◌↔◌, ◌+◌, ◌*◌, ◌&&◌, nat_le, nat_lt, Bool, true, false, not, List, [], ◌∷◌, ◌++◌, All, if◌then◌else◌, Option, Some}
 use Rattle.std.specs.Option.{option_map_or}
 use Rattle.std.specs.List.{list_any}
@@ -31,13 +31,15 @@ is_ok _ = true
 
 -- whether an address lies in the first page of an object: there capability lists are read
 abbrev pub in_first_page : List Object → ℕ → Bool
-in_first_page objects address = list_any (λ (object : Object). nat_le object.row.base address && nat_lt address (object.row.base + page_size)) objects
+in_first_page objects address =
+    list_any (λ (object : Object). nat_le object.row.base address && nat_lt address (object.row.base + page_size)) objects
 
 -- whether an instruction stores a word into a first page; a store that faults stores none
 abbrev pub stores_first_page : State → ℕ → ℕ → Bool
 stores_first_page state t address = is_aligned address && (allowed state t address W && in_first_page state.objects address)
 
--- whether a turn that fetches so leaves rights as they are: `sys`, `pdx` and `ret` may change them, whatever they are answered
+-- whether a turn that fetches this word leaves rights as they are: `sys`, `pdx` and `ret` may change them, whatever they are
+-- answered
 abbrev pub is_calm : State → ℕ → ThreadRow → Option Instr → Bool
 is_calm state t thread (Some op.Sys) = false
 is_calm state t thread (Some (op.Pdx a b)) = false
@@ -48,7 +50,7 @@ is_calm state t thread _ = true
 abbrev pub is_calm_turn : State → Option Thread → Bool
 is_calm_turn state turns = option_map_or (λ (thread : Thread). is_calm state thread.number thread.row (fetched state thread)) turns true
 
--- whether a call disturbs where it is answered ok
+-- whether a call disturbs if it is answered ok
 abbrev pub disturbs : State → ℕ → Call → Bool
 disturbs state t (call.Load a) = false
 disturbs state t (call.Info b) = false
@@ -59,16 +61,16 @@ disturbs state t call.Turn = not (is_calm_turn state (turning state t))
 disturbs state t call.Next = not (is_calm_turn state (picked state))
 disturbs state t _ = true
 
--- whether a line disturbs: what was known of rights before it is not taken as known behind it
+-- whether a line disturbs: what was known of rights before it no longer counts after it
 abbrev pub is_disturbing : State → Line → Bool
 is_disturbing state line = is_ok (step state line).1 && disturbs state line.thread line.call
 
--- an earlier line of the session, and the state that it came to
+-- an earlier line of the session, and the state after it
 pub record Event : Type 0 where
   pub state : State
   pub line : Line
 
--- the events of a session behind those of earlier lines, where these lines are done from a state on
+-- the events of a session: those of earlier lines, and then those of these lines, done from a state on
 abbrev pub events : List Event → State → List Line → List Event
 events past state [] = past
 events past state (line ∷ more) = events (record { state = state; line = line } ∷ past) (step state line).0 more
@@ -79,15 +81,16 @@ recent [] = []
 recent (event ∷ past) =
     if is_disturbing event.state event.line then [] else taken_by event.state (accesses event.state event.line) ++ recent past
 
--- whether a key was taken since then, and none but itself took its seat behind that
+-- whether a key was taken since then, and after that no other key took its seat
 abbrev pub is_recent : List Event → Key → Bool
 is_recent past key = option_map_or (λ last. is_key last key) (first_at (seat_of key) (recent past)) false
 
--- whether an access is warm, behind earlier lines and, in its own line, behind earlier accesses
+-- whether an access is warm after earlier lines and, in its own line, after earlier accesses
 abbrev pub is_warm : List Event → State → List Access → Access → Bool
-is_warm past state before access = option_map_or (λ key. is_recent past key && has_seat (taken_by state before) key) (key_of state access) false
+is_warm past state before access =
+    option_map_or (λ key. is_recent past key && has_seat (taken_by state before) key) (key_of state access) false
 
--- how many accesses fail a test, which is given with each those that came before it in its line
+-- how many accesses fail a test; the test gets each access with those that came before it in its line
 abbrev pub failing : (List Access → Access → Bool) → List Access → List Access → ℕ
 failing test before [] = 0
 failing test before (access ∷ more) = (if test before access then 0 else 1) + failing test (before ++ access ∷ []) more
@@ -96,10 +99,11 @@ failing test before (access ∷ more) = (if test before access then 0 else 1) + 
 abbrev pub line_cost : List Event → State → Line → ℕ
 line_cost past state line = words_of state line + search_limit * failing (is_warm past state) [] (accesses state line)
 
--- what lines may cost behind earlier ones
+-- what lines may cost after earlier ones
 abbrev pub cost_behind : List Event → State → List Line → ℕ
 cost_behind past state [] = 0
-cost_behind past state (line ∷ more) = line_cost past state line + cost_behind (record { state = state; line = line } ∷ past) (step state line).0 more
+cost_behind past state (line ∷ more) =
+    line_cost past state line + cost_behind (record { state = state; line = line } ∷ past) (step state line).0 more
 
 -- what the lines of a session may cost, from its first state on
 abbrev pub cost : State → List Line → ℕ

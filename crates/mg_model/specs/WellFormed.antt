@@ -32,7 +32,7 @@ pub record IsObject (object : Object) : Type 0 where
 abbrev pub IsBefore : Object → Object → Type 0
 IsBefore object later = page_behind object.row ≤ page_of later.row
 
--- objects stand in the order of their bases and do not overlap; each is paid by an account that is there
+-- objects are in the order of their bases and do not overlap; an account that is there pays for each
 pub record AreObjects (frames accounts : ℕ) (objects : List Object) : Type 0 where
   pub few : length objects ≤ object_limit
   pub each : All IsObject objects
@@ -58,7 +58,7 @@ pub record IsThread (births : ℕ) (thread : Thread) : Type 0 where
   pub row : IsThreadRow thread.row
   pub born : thread.row.birth ≤ births
 
--- threads stand in the order of their numbers; no two have one birth
+-- threads are in the order of their numbers; no two have one birth
 pub record AreThreads (births : ℕ) (threads : List Thread) : Type 0 where
   pub each : All (IsThread births) threads
   pub ordered : AllPairs (λ (x y : Thread). x.number < y.number) threads

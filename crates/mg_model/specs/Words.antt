@@ -30,7 +30,7 @@ is_some_word (b ∷ bytes) = true
 abbrev pub words : List ℕ → List (List ℕ)
 words bytes = filter is_some_word (split_at is_blank bytes)
 
--- what a digit to base 10 or 16 stands for
+-- the value of a digit to base 10 or 16
 abbrev pub digit_of : ℕ → ℕ → Option ℕ
 digit_of base b =
     if nat_le 48 b && nat_lt b 58 then Some (b - 48)
@@ -43,12 +43,12 @@ abbrev pub and_then : {X Y : Type 0} → Option X → (X → Option Y) → Optio
 and_then None f = None
 and_then (Some x) f = f x
 
--- the number that these digits spell behind those that were read
+-- the number that these digits spell after those that were read
 abbrev pub value_from : ℕ → ℕ → List ℕ → Option ℕ
 value_from base n [] = Some n
 value_from base n (b ∷ bytes) = and_then (digit_of base b) (λ d. value_from base (n * base + d) bytes)
 
--- a number of one digit to so many
+-- a number of 1 to `most` digits
 abbrev pub value_of_digits : ℕ → ℕ → List ℕ → Option ℕ
 value_of_digits base most bytes = if nat_le 1 (length bytes) && nat_le (length bytes) most then value_from base 0 bytes else None
 
@@ -57,7 +57,7 @@ abbrev pub below_word : Option ℕ → Option ℕ
 below_word None = None
 below_word (Some n) = if nat_lt n (2 ^ 64) then Some n else None
 
--- the bytes behind "0x", if the word begins so
+-- the bytes after "0x", if the word begins so
 abbrev pub hex_part : List ℕ → Option (List ℕ)
 hex_part (a ∷ b ∷ bytes) = if a == 48 && b == 120 then Some bytes else None
 hex_part _ = None

@@ -1,4 +1,4 @@
-// The system calls, one a line.
+// The system calls, one in each line.
 use crate::rights::Rights;
 
 /// A system call with its arguments, in the order of the table of calls. Addresses, passwords and words are 64 bits.
@@ -85,7 +85,7 @@ pub enum Call {
         password: u64,
     },
     Rent,
-    /// A line of no form.
+    /// A line that is no known call.
     Bad,
 }
 

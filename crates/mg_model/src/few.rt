@@ -13,8 +13,8 @@ pub trait Filler: Copy {
         ensures { result ≡ blank };
 }
 
-/// Up to `N` items. The places behind the last are blank, so two with the same items are the same.
-#[derive(Debug, PartialEq, Eq)]
+/// Up to `N` items. The places after the last are blank, so two with the same items are the same.
+#[derive(PartialEq, Eq)]
 pub struct Few<T: Filler, const N: usize> {
     items: [T; N],
     count: usize,
@@ -93,7 +93,7 @@ impl<T: Filler, const N: usize> Few<T, N> {
         self.items[self.count] = T::blank();
     }
 
-    /// These items too, behind the others.
+    /// These items too, after the others.
     pub fn extend(&mut self, items: &[T])
         requires { length self.old + length items.now ≤ N }
         ensures { self.new ≡ self.old ++ items.now }

@@ -19,10 +19,12 @@ impl Filler for Slot {
 }
 
 /// A frame of a thread: the address that its call returns to, and up to 8 slots that the thread runs under.
-#[derive(Clone, Copy, Debug, PartialEq, Eq)]
+#[derive(Clone, Copy, PartialEq, Eq)]
 pub struct Frame {
-    back: u64,
-    slots: Few<Slot, SLOT_LIMIT>,
+    /// The address that the call returns to, a multiple of 8.
+    pub back: u64,
+    /// The slots, in order.
+    pub slots: Few<Slot, SLOT_LIMIT>,
 }
 
 impl Model for Frame {
@@ -50,7 +52,7 @@ impl Frame {
         }
     }
 
-    /// Tells that the frame keeps its rules. It does nothing when it runs.
+    /// States that the frame keeps its rules, for proofs. It does nothing when it runs.
     pub fn keep_rules(&self)
         ensures { IsCallFrame self.now }
     {
@@ -88,7 +90,7 @@ impl Frame {
         self.slots.add(slot);
     }
 
-    /// The slot at this place goes, and the later ones close up.
+    /// Removes the slot at this place. The later ones close up.
     pub fn remove(&mut self, place: usize)
         requires { place < length self.old.slots }
         ensures { self.new ≡ record self.old { slots = take place self.old.slots ++ drop (suc place) self.old.slots } }

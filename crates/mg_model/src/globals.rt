@@ -4,13 +4,17 @@ ghost use Rattle.mg_model.specs.Ranges.{IsCounters};
 
 use std::marker::Model;
 
-/// What the machine counts beside its objects, accounts and threads.
-#[derive(Clone, Copy, Debug, PartialEq, Eq)]
+/// What the machine counts besides its objects, accounts and threads.
+#[derive(Clone, Copy, PartialEq, Eq)]
 pub struct Globals {
-    draws: u64,
-    period: u64,
-    cursor: u64,
-    births: u64,
+    /// How many passwords were drawn, from 2 to `2^32`.
+    pub draws: u64,
+    /// The period: how often rent was collected, at most `2^24 - 1`.
+    pub period: u64,
+    /// The number of the thread that `next` ran last, at most 256; 0 before the first.
+    pub cursor: u64,
+    /// The last birth number that a thread was given, from 1 to `2^32 - 1`.
+    pub births: u64,
 }
 
 impl Model for Globals {
@@ -40,7 +44,7 @@ impl Globals {
         }
     }
 
-    /// Tells that the row keeps its rules. It does nothing when it runs.
+    /// States that the row keeps its rules, for proofs. It does nothing when it runs.
     pub fn keep_rules(&self)
         ensures { IsCounters self.now }
     {

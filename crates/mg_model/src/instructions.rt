@@ -2,7 +2,7 @@
 
 /// An instruction. A register is a number below 8; an immediate is the upper half of its word, which the jumps read as
 /// signed.
-#[derive(Clone, Copy)]
+#[derive(Clone, Copy, PartialEq, Eq)]
 pub enum Instr {
     Halt,
     Set { a: u8, i: u32 },

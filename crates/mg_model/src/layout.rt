@@ -1,4 +1,5 @@
-// Where everything lies on a volume, in blocks. The definitions take these numbers from here, under the same names in small letters
+// The place of everything on a volume, in blocks. The definitions take these numbers from here, under the same names in
+// small letters
 // (`specs/Layout.antt`).
 
 /// The block of the volume's gate.
@@ -22,7 +23,7 @@ pub const SEGMENT_SIZE: u64 = 2 + BODY_LIMIT;
 /// The gate of the first segment.
 pub const FIRST_SEGMENT: u64 = 2;
 
-/// The block of the period and the other counters, the first one behind the journal.
+/// The block of the period and the other counters, the first block after the journal.
 pub const GLOBALS_BLOCK: u64 = FIRST_SEGMENT + SEGMENT_COUNT * SEGMENT_SIZE;
 
 /// The bytes of an account's row.

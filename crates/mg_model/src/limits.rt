@@ -9,7 +9,7 @@ pub const ROOT_BASE: u64 = 0x0000_0001_0000_0000;
 /// The first page that an object may have.
 pub const FIRST_PAGE: u64 = 1 << 20;
 
-/// The page behind the last that an object may have.
+/// The page after the last page that an object may have.
 pub const PAGE_END: u64 = 1 << 40;
 
 /// How many objects there may be.
@@ -57,13 +57,13 @@ pub const BIRTH_LIMIT: u64 = (1 << 32) - 1;
 /// What an account may owe for each period.
 pub const DEBT_LIMIT: u64 = 1 << 36;
 
-/// How many frames a volume has at least.
+/// The least number of frames of a volume.
 pub const LEAST_FRAMES: u64 = 16;
 
-/// How many frames a volume has at most.
+/// The greatest number of frames of a volume.
 pub const MOST_FRAMES: u64 = 65_536;
 
-/// How many credits a volume may be made with.
+/// The most credits that a volume may be made with.
 pub const CREDIT_LIMIT: u64 = 1 << 62;
 
 /// The largest number of pages or rate of a step of the tariff.

@@ -28,17 +28,23 @@ impl Filler for u64 {
     }
 }
 
-/// What is known of an object beside its words: where it lies, the account that pays for it (1 to 1024), up to 32
+/// What is known of an object besides its words: its base and pages, the account that pays for it (1 to 1024), up to 32
 /// password rows, up to 16 entries, and its extension, whose base is not 0. Each entry is the address of a word of the
 /// object, and none comes twice.
-#[derive(Clone, Copy, Debug, PartialEq, Eq)]
+#[derive(Clone, Copy, PartialEq, Eq)]
 pub struct ObjRow {
-    base: u64,
-    pages: u64,
-    account: u64,
-    passwords: Few<Pw, PASSWORD_LIMIT>,
-    entries: Few<u64, ENTRY_POINT_LIMIT>,
-    extension: Option<Slot>,
+    /// The address of its first byte.
+    pub base: u64,
+    /// How many pages it has, from 1 to 1024.
+    pub pages: u64,
+    /// The number of the account that pays for it, from 1 to 1024.
+    pub account: u64,
+    /// Its password rows, in the order in which they were added.
+    pub passwords: Few<Pw, PASSWORD_LIMIT>,
+    /// Its entries, in the order in which they were added.
+    pub entries: Few<u64, ENTRY_POINT_LIMIT>,
+    /// Its extension, whose base is not 0.
+    pub ext: Option<Slot>,
 }
 
 impl Model for ObjRow {
@@ -47,16 +53,37 @@ impl Model for ObjRow {
 
     ghost Value = { ObjectRow };
 
-    ghost view = { λ row. record { base = row.base; pages = row.pages; account = row.account; passwords = row.passwords; entries = row.entries; extension = row.extension } };
+    ghost view = { λ row. record {
+      base = row.base;
+      pages = row.pages;
+      account = row.account;
+      passwords = row.passwords;
+      entries = row.entries;
+      extension = row.ext;
+    } };
 
-    ghost invariant = { λ row. IsObjectRow (record { base = row.base; pages = row.pages; account = row.account; passwords = row.passwords; entries = row.entries; extension = row.extension }) };
+    ghost invariant = { λ row. IsObjectRow (record {
+      base = row.base;
+      pages = row.pages;
+      account = row.account;
+      passwords = row.passwords;
+      entries = row.entries;
+      extension = row.ext;
+    }) };
 
-    ghost inverse = { λ row. record { base = row.base; pages = row.pages; account = row.account; passwords = row.passwords; entries = row.entries; extension = row.extension } };
+    ghost inverse = { λ row. record {
+      base = row.base;
+      pages = row.pages;
+      account = row.account;
+      passwords = row.passwords;
+      entries = row.entries;
+      ext = row.extension;
+    } };
 }
 
 impl ObjRow {
-    /// An object of so many pages (1 to 1024) at this base (a multiple of 4096, from page `2^20` on and below page
-    /// `2^40` whole), paid by this account (1 to 1024): without passwords, entries and extension.
+    /// An object of `pages` pages (1 to 1024) at this base (a multiple of 4096), all of them from page `2^20` on and below
+    /// page `2^40`. This account (1 to 1024) pays for it. It has no passwords, entries or extension.
     pub fn new(base: u64, pages: u64, account: u64) -> ObjRow
         requires place { IsPlace base pages }
         requires account_some { 1 ≤ account }
@@ -69,11 +96,11 @@ impl ObjRow {
             account,
             passwords: Few::new(),
             entries: Few::new(),
-            extension: None,
+            ext: None,
         }
     }
 
-    /// Tells that the row keeps its rules. It does nothing when it runs.
+    /// States that the row keeps its rules, for proofs. It does nothing when it runs.
     pub fn keep_rules(&self)
         ensures { IsObjectRow self.now }
     {
@@ -106,7 +133,7 @@ impl ObjRow {
     pub fn ext(&self) -> Option<Slot>
         ensures { result ≡ self.now.extension }
     {
-        self.extension
+        self.ext
     }
 
     /// Its password rows, in the order in which they were added.
@@ -124,37 +151,40 @@ impl ObjRow {
     }
 
     /// Whether this address lies in it.
-    pub fn covers(&self, a: u64) -> bool
-        ensures { result ≡ covers self.now a }
+    pub fn covers(&self, address: u64) -> bool
+        ensures { result ≡ covers self.now address }
     {
-        self.base <= a && a < self.base + PAGE_SIZE * self.pages
+        self.base <= address && address < self.base + PAGE_SIZE * self.pages
     }
 
     /// Whether it holds this password with this right at this period.
-    pub fn holds(&self, p: u64, r: Right, period: u64) -> bool
-        ensures { result ≡ holds period self.now p r }
+    pub fn holds(&self, password: u64, right: Right, period: u64) -> bool
+        ensures { result ≡ holds period self.now password right }
     {
         self.passwords
             .as_slice()
             .iter()
-            .any(|pw| pw.gives(p, r, period))
+            .any(|pw| pw.gives(password, right, period))
     }
 
-    /// Whether a row of it has this password, be it current or not.
-    pub fn has_password(&self, p: u64) -> bool
-        ensures { result ≡ list_any (λ pw. has_password p pw) self.now.passwords }
+    /// Whether a row of it has this password, current or not.
+    pub fn has_password(&self, password: u64) -> bool
+        ensures { result ≡ list_any (λ pw. has_password password pw) self.now.passwords }
     {
         self.passwords
             .as_slice()
             .iter()
-            .any(|pw| pw.password() == p)
+            .any(|pw| pw.password() == password)
     }
 
     /// Whether this address is an entry of it.
-    pub fn is_entry(&self, a: u64) -> bool
-        ensures { result ≡ is_entry self.now a }
+    pub fn is_entry(&self, address: u64) -> bool
+        ensures { result ≡ is_entry self.now address }
     {
-        self.entries.as_slice().iter().any(|entry| *entry == a)
+        self.entries
+            .as_slice()
+            .iter()
+            .any(|entry| *entry == address)
     }
 
     /// One password row more, the last.
@@ -162,26 +192,26 @@ impl ObjRow {
         requires fewer_than_32_passwords { length self.old.passwords < 32 }
         ensures { self.new ≡ record self.old { passwords = self.old.passwords ++ pw ∷ [] } }
     {
-        // It tells that the row keeps its ranges.
+        // It states that the row keeps its ranges.
         pw.keep_rules();
         self.passwords.add(pw);
     }
 
-    /// Every row with this password goes.
-    pub fn remove_passwords(&mut self, p: u64)
-        ensures { self.new ≡ record self.old { passwords = filter (λ pw. not (has_password p pw)) self.old.passwords } }
+    /// Removes every row with this password.
+    pub fn remove_passwords(&mut self, password: u64)
+        ensures { self.new ≡ record self.old { passwords = filter (λ pw. not (has_password password pw)) self.old.passwords } }
     {
-        self.passwords = without(self.passwords.as_slice(), p);
+        self.passwords = without(self.passwords.as_slice(), password);
     }
 
     /// One entry more, the last: the address of a word of the object that is no entry yet.
-    pub fn add_entry(&mut self, a: u64)
+    pub fn add_entry(&mut self, address: u64)
         requires fewer_than_16_entries { length self.old.entries < 16 }
-        requires place { IsEntryOf self.old.base self.old.pages a }
-        requires once { is_entry self.old a ≡ false }
-        ensures { self.new ≡ record self.old { entries = self.old.entries ++ a ∷ [] } }
+        requires place { IsEntryOf self.old.base self.old.pages address }
+        requires once { is_entry self.old address ≡ false }
+        ensures { self.new ≡ record self.old { entries = self.old.entries ++ address ∷ [] } }
     {
-        self.entries.add(a);
+        self.entries.add(address);
     }
 
     /// Another extension, or none. One whose base is 0 is no extension.
@@ -189,27 +219,27 @@ impl ObjRow {
         requires { IfSome ext (λ slot. slot.base ≢ 0) }
         ensures { self.new ≡ record self.old { extension = ext } }
     {
-        self.extension = ext;
+        self.ext = ext;
     }
 
     /// Another account that pays for it, from 1 to 1024.
-    pub fn set_account(&mut self, n: u64)
-        requires n_at_least_1 { 1 ≤ n }
-        requires n_at_most_1024 { n ≤ 1024 }
-        ensures { self.new ≡ record self.old { account = n } }
+    pub fn set_account(&mut self, account: u64)
+        requires n_at_least_1 { 1 ≤ account }
+        requires n_at_most_1024 { account ≤ 1024 }
+        ensures { self.new ≡ record self.old { account = account } }
     {
-        self.account = n;
+        self.account = account;
     }
 }
 
 // The rows that do not have this password.
-fn without(passwords: &[Pw], p: u64) -> Few<Pw, PASSWORD_LIMIT>
+fn without(passwords: &[Pw], password: u64) -> Few<Pw, PASSWORD_LIMIT>
     requires { length passwords.now ≤ 32 }
-    ensures { result ≡ filter (λ pw. not (has_password p pw)) passwords.now }
+    ensures { result ≡ filter (λ pw. not (has_password password pw)) passwords.now }
 {
     let mut left = Few::new();
     for pw in passwords {
-        if pw.password() != p {
+        if pw.password() != password {
             left.add(*pw);
         }
     }

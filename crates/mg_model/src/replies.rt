@@ -65,7 +65,7 @@ impl Refusal {
 }
 
 /// What a thread is after its turn.
-#[derive(Clone, Copy, Debug, PartialEq, Eq)]
+#[derive(Clone, Copy, PartialEq, Eq)]
 pub enum After {
     Ready,
     Stopped,

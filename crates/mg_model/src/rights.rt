@@ -6,7 +6,7 @@ use crate::limits::ALL_RIGHTS;
 use std::marker::Model;
 
 /// A right that a password may give.
-#[derive(Clone, Copy, Debug, PartialEq, Eq)]
+#[derive(Clone, Copy, PartialEq, Eq)]
 pub enum Right {
     /// Read.
     R,
@@ -23,7 +23,7 @@ pub enum Right {
 }
 
 /// A set of at least one right, as six bits: R 1, W 2, X 4, D 8, P 16, O 32.
-#[derive(Clone, Copy, Debug, PartialEq, Eq)]
+#[derive(Clone, Copy, PartialEq, Eq)]
 pub struct Rights {
     bits: u8,
 }
@@ -70,10 +70,10 @@ impl Rights {
     }
 
     /// Whether the set has this right.
-    pub fn has(self, r: Right) -> bool
-        ensures { result ≡ has_right self r }
+    pub fn has(self, right: Right) -> bool
+        ensures { result ≡ has_right self right }
     {
-        match r {
+        match right {
             Right::R => self.bits % 2 == 1,
             Right::W => self.bits / 2 % 2 == 1,
             Right::X => self.bits / 4 % 2 == 1,

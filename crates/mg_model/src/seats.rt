@@ -2,8 +2,8 @@
 use crate::rights::Right;
 
 /// A right that was found once: this thread reaches the object with this base with this right, by a capability list of its
-/// present frame. It is true of a state where `IsBacked` of `specs/Backed.antt` holds.
-#[derive(Clone, Copy, Debug, PartialEq, Eq)]
+/// present frame. A seat is true of a state if `IsBacked` of `specs/Backed.antt` holds.
+#[derive(Clone, Copy, PartialEq, Eq)]
 pub struct Seat {
     /// The number of the thread.
     pub thread: u64,

@@ -8,12 +8,16 @@ use crate::tariffs::Tariff;
 use std::marker::Model;
 
 /// What a volume is made with and keeps: frames (16 to 65,536), a seed, credits (at most `2^62`), and a tariff.
-#[derive(Clone, Copy, Debug, PartialEq, Eq)]
+#[derive(Clone, Copy, PartialEq, Eq)]
 pub struct Params {
-    frames: u64,
-    seed: [u8; 32],
-    credits: u64,
-    tariff: Tariff,
+    /// How many frames the volume has: the most pages that its objects may have together, from 16 to 65,536.
+    pub frames: u64,
+    /// The seed of its passwords.
+    pub seed: [u8; 32],
+    /// The credits that all balances sum to, at most `2^62`.
+    pub credits: u64,
+    /// What rent costs.
+    pub tariff: Tariff,
 }
 
 impl Model for Params {
@@ -30,7 +34,7 @@ impl Model for Params {
 }
 
 impl Params {
-    /// The settings of a volume; None exactly where frames or credits are outside their limits.
+    /// The settings of a volume; None exactly if frames or credits are outside their limits.
     pub fn new(frames: u64, seed: [u8; 32], credits: u64, tariff: Tariff) -> Option<Params>
         ensures { result ≡ (if within_limits frames credits then Some (record { frames = frames; seed = seed; credits = credits; tariff = tariff }) else None) }
     {
@@ -46,7 +50,7 @@ impl Params {
         }
     }
 
-    /// Tells that the settings keep their rules. It does nothing when it runs.
+    /// States that the settings keep their rules, for proofs. It does nothing when it runs.
     pub fn keep_rules(&self)
         ensures rules { IsSettings self.now }
         ensures at_least_16_frames { 16 ≤ self.now.frames }

@@ -9,7 +9,7 @@ use crate::rights::{Right, Rights};
 use std::marker::Model;
 
 /// A slot of a protection domain: a capability list and the password that opens it. A thread's frame has up to 8.
-#[derive(Clone, Copy, Debug, PartialEq, Eq)]
+#[derive(Clone, Copy, PartialEq, Eq)]
 pub struct Slot {
     /// The base address of the object whose page 0 is the capability list.
     pub base: u64,
@@ -18,11 +18,14 @@ pub struct Slot {
 }
 
 /// A password row of an object, of which it has up to 32. Its until is from 1 to `2^24`.
-#[derive(Clone, Copy, Debug, PartialEq, Eq)]
+#[derive(Clone, Copy, PartialEq, Eq)]
 pub struct Pw {
-    password: u64,
-    rights: Rights,
-    until: u64,
+    /// The password that the row is for.
+    pub password: u64,
+    /// What the password gives while the row is current.
+    pub rights: Rights,
+    /// The first period at which the row is current no more, from 1 to `2^24`. A row with `2^24` never ends.
+    pub until: u64,
 }
 
 impl Model for Pw {
@@ -54,7 +57,7 @@ impl Pw {
         }
     }
 
-    /// Tells that the row keeps its rules. It does nothing when it runs.
+    /// States that the row keeps its rules, for proofs. It does nothing when it runs.
     pub fn keep_rules(&self)
         ensures { IsPassword self.now }
     {
@@ -75,7 +78,7 @@ impl Pw {
         self.rights
     }
 
-    /// The first period at which the row is current no more, from 1 to `2^24`. A row with `2^24` never ends.
+    /// The first period at which the row is no longer current, from 1 to `2^24`. A row with `2^24` never ends.
     pub fn until(&self) -> u64
         ensures { result ≡ self.now.until }
     {
@@ -83,9 +86,9 @@ impl Pw {
     }
 
     /// Whether the row is for this password, has this right, and is current at this period.
-    pub fn gives(&self, p: u64, r: Right, period: u64) -> bool
-        ensures { result ≡ gives period self.now p r }
+    pub fn gives(&self, password: u64, right: Right, period: u64) -> bool
+        ensures { result ≡ gives period self.now password right }
     {
-        self.password == p && self.rights.has(r) && period < self.until
+        self.password == password && self.rights.has(right) && period < self.until
     }
 }

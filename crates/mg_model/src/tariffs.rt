@@ -7,7 +7,7 @@ use std::marker::Model;
 
 /// Four steps, each the number of pages in use from which it holds and its rate: credits for each page of an account
 /// and period. The first step holds from 0, each next one from a greater number; numbers and rates are at most `2^20`.
-#[derive(Clone, Copy, Debug, PartialEq, Eq)]
+#[derive(Clone, Copy, PartialEq, Eq)]
 pub struct Tariff {
     steps: [(u64, u64); 4],
 }
@@ -26,7 +26,7 @@ impl Model for Tariff {
 }
 
 impl Tariff {
-    /// The tariff with these steps; None exactly where they break its rule.
+    /// The tariff with these steps; None exactly if they break its rule.
     #[tactic(auto, using(crate::specs::StepwiseLemmas::tariff_places))]
     pub fn new(steps: [(u64, u64); 4]) -> Option<Tariff>
         ensures { result ≡ (if is_tariff steps then Some steps else None) }
@@ -47,7 +47,7 @@ impl Tariff {
         }
     }
 
-    /// The tariff that a volume of so many frames has where none is given.
+    /// The tariff of a volume with this number of frames when none is given.
     pub fn usual(frames: u64) -> Tariff
         requires at_least_16_frames { 16 ≤ frames }
         requires at_most_65536_frames { frames ≤ 65536 }

@@ -1,5 +1,5 @@
 // What is known of a thread.
-ghost use Rattle.std.specs.Prelude.{◌≡◌, ◌≤◌, ◌<◌, ◌+◌, ◌-◌, ◌%◌, ◌^◌, ◌++◌, ◌∷◌, [], length, take, replicate, slice_get, slice_index, slice_set};
+ghost use Rattle.std.specs.Prelude.{◌≡◌, ◌≤◌, ◌<◌, ◌+◌, ◌-◌, ◌%◌, ◌^◌, ◌++◌, ◌∷◌, [], length, take, replicate, slice_get, slice_set};
 ghost use Rattle.mg_model.specs.Domains.{last_back};
 ghost use Rattle.mg_model.specs.Ranges.{IsThreadRow};
 
@@ -19,14 +19,20 @@ impl Filler for Frame {
 
 /// What is known of a thread: its birth number and its creator's, its pc, its state, eight registers, and 1 to 16 frames
 /// of which the last is the present one and the first returns to 0.
-#[derive(Clone, Copy, Debug, PartialEq, Eq)]
+#[derive(Clone, Copy, PartialEq, Eq)]
 pub struct ThrRow {
-    birth: u64,
-    creator: u64,
-    pc: u64,
-    state: ThrState,
-    regs: [u64; 8],
-    frames: Few<Frame, FRAME_LIMIT>,
+    /// Its birth number, which no other thread ever has.
+    pub birth: u64,
+    /// The birth number of the thread that created it; 0 of the first thread.
+    pub creator: u64,
+    /// The address of its next word, a multiple of 8.
+    pub pc: u64,
+    /// Whether it takes turns.
+    pub state: ThrState,
+    /// Its registers.
+    pub regs: [u64; 8],
+    /// Its frames, of which the last is the present one.
+    pub frames: Few<Frame, FRAME_LIMIT>,
 }
 
 impl Model for ThrRow {
@@ -35,11 +41,32 @@ impl Model for ThrRow {
 
     ghost Value = { ThreadRow };
 
-    ghost view = { λ row. record { birth = row.birth; creator = row.creator; pc = row.pc; state = row.state; regs = row.regs; frames = row.frames } };
+    ghost view = { λ row. record {
+      birth = row.birth;
+      creator = row.creator;
+      pc = row.pc;
+      state = row.state;
+      regs = row.regs;
+      frames = row.frames;
+    } };
 
-    ghost invariant = { λ row. IsThreadRow (record { birth = row.birth; creator = row.creator; pc = row.pc; state = row.state; regs = row.regs; frames = row.frames }) };
+    ghost invariant = { λ row. IsThreadRow (record {
+      birth = row.birth;
+      creator = row.creator;
+      pc = row.pc;
+      state = row.state;
+      regs = row.regs;
+      frames = row.frames;
+    }) };
 
-    ghost inverse = { λ row. record { birth = row.birth; creator = row.creator; pc = row.pc; state = row.state; regs = row.regs; frames = row.frames } };
+    ghost inverse = { λ row. record {
+      birth = row.birth;
+      creator = row.creator;
+      pc = row.pc;
+      state = row.state;
+      regs = row.regs;
+      frames = row.frames;
+    } };
 }
 
 impl ThrRow {
@@ -63,7 +90,7 @@ impl ThrRow {
         }
     }
 
-    /// Tells that the row keeps its rules. It does nothing when it runs.
+    /// States that the row keeps its rules, for proofs. It does nothing when it runs.
     pub fn keep_rules(&self)
         ensures { IsThreadRow self.now }
     {
@@ -104,14 +131,6 @@ impl ThrRow {
         ensures { result ≡ self.now.regs }
     {
         self.regs
-    }
-
-    /// The register with this number.
-    pub fn register(&self, number: usize) -> u64
-        requires { number < 8 }
-        ensures { result ≡ slice_index self.now.regs number }
-    {
-        self.regs[number]
     }
 
     /// Its frames; the last is the present one.
@@ -159,7 +178,7 @@ impl ThrRow {
         self.frames.add(frame);
     }
 
-    /// The present frame goes, and the one below it becomes the present one. The thread has two frames at least.
+    /// Removes the present frame, and the frame below it becomes the present one. The thread has at least two frames.
     pub fn pop_frame(&mut self)
         requires { 2 ≤ length self.old.frames }
         ensures { self.new ≡ record self.old { frames = take (length self.old.frames - 1) self.old.frames } }
@@ -167,7 +186,7 @@ impl ThrRow {
         self.frames.pop();
     }
 
-    /// Another present frame, which returns to where the present one does.
+    /// Another present frame, which returns to the same address as the present one.
     pub fn set_last(&mut self, last: Frame)
         requires { last.back ≡ last_back self.old.frames }
         ensures { self.new ≡ record self.old { frames = take (length self.old.frames - 1) self.old.frames ++ last ∷ [] } }

@@ -1,7 +1,7 @@
 // The state of a thread.
 
 /// Why a turn faulted.
-#[derive(Clone, Copy, Debug, PartialEq, Eq)]
+#[derive(Clone, Copy, PartialEq, Eq)]
 pub enum Fault {
     /// A load or a store at an address that is no multiple of 8.
     Align,
@@ -12,7 +12,7 @@ pub enum Fault {
 }
 
 /// Whether a thread takes turns.
-#[derive(Clone, Copy, Debug, PartialEq, Eq)]
+#[derive(Clone, Copy, PartialEq, Eq)]
 pub enum ThrState {
     Ready,
     Stopped,

@@ -23,8 +23,8 @@ abbrev pub settled : Reply → ThreadRow → ThreadRow
 settled (reply.No word) thread = with_register thread 0 (refusal_number word)
 settled said thread = with_registers thread 0 (0 ∷ values_of said)
 
--- The state after the turn of thread t. The row is the thread's with its pc advanced, and the action is the one that its
--- instruction requires.
+-- The state after the turn of thread t. The row is the thread's with its pc advanced, and the action is what its instruction
+-- requires.
 abbrev pub carried_out : State → ℕ → ThreadRow → Action → State
 carried_out state t thread (action.Next row) = put_row state t row
 carried_out state t thread (action.Load address to) =

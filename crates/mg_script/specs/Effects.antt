@@ -57,7 +57,7 @@ is_spelled call.Next = false
 is_spelled call.Rent = false
 is_spelled other = true
 
--- a load puts its word into one of the eight registers, and a pc is a multiple of 8
+-- a load stores its word in one of the eight registers, and a pc is a multiple of 8
 abbrev pub HasPlace : Effect → Type 0
 HasPlace (effect.Next stands) = stands.pc % 8 ≡ 0
 HasPlace (effect.Load address to) = to < 8

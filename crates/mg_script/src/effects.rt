@@ -38,7 +38,7 @@ pub enum Effect {
 }
 
 /// Moves the pc to the next word, by 8 bytes. The word after the last one is the first.
-pub fn advance(row: &mut ThrRow)
+pub(crate) fn advance(row: &mut ThrRow)
     ensures { row.new ≡ advanced row.old }
 {
     row.keep_rules();

@@ -49,21 +49,21 @@ pub fn call(row: &ThrRow, effect: &Effect) -> Call
 }
 
 // The call `pdx` with this mask.
-fn enter(a: u64, mask: u64) -> Call
-    ensures { result ≡ entering_call a mask }
+fn enter(address: u64, mask: u64) -> Call
+    ensures { result ≡ entering_call address mask }
 {
     if mask > 255 {
         return Call::Bad;
     }
     Call::Pdx {
-        a,
+        a: address,
         mask: mask as u8,
     }
 }
 
-/// The row of a thread after its turn. `row` is the row after the call of the turn's effect, and `reply` that call's reply. A load or
-/// a store that is refused faults, and the pc stays. After every other call the pc is advanced, or is where the call went. A
-/// frame that a `Pdx` entered returns to the word after the `pdx`.
+/// The row of a thread after its turn. `row` is the row after the call of the turn's effect, and `reply` that call's reply.
+/// A load or a store that is refused faults, and the pc stays. After every other call the pc is advanced, or is the address
+/// that the call went to. A frame that a `Pdx` entered returns to the word after the `pdx`.
 pub fn resume(row: ThrRow, effect: &Effect, reply: &Reply) -> ThrRow
     requires { HasPlace effect.now }
     ensures { result ≡ resumed effect.now reply.now row }

@@ -7,7 +7,7 @@ ghost use Rattle.mg_script.specs.Actions.{settled};
 use mg_model::{Refusal, Reply, ThrRow};
 
 /// Register 0 gets the number of a refusal, 1 to 22. The other registers stay.
-pub fn refuse(row: &mut ThrRow, word: Refusal)
+pub(crate) fn refuse(row: &mut ThrRow, word: Refusal)
     ensures { row.new ≡ with_register row.old 0 (refusal_number word) }
 {
     row.set_register(0, word.number());
