@@ -5,7 +5,7 @@ use Rattle.std.proofs.Common.{arith, ap, ◌∙◌}
 use Rattle.mg_model.specs.Domains.{last_back, with_last_slots}
 use Rattle.mg_model.specs.State.{CallFrame}
 
--- the last frame is put in place of the one that goes
+-- the last frame takes the place of the frame that goes
 pub last_put : (frames : List CallFrame) (last : CallFrame) → 1 ≤ length frames → last.back ≡ last_back frames → take (length frames - 1) frames ++ last ∷ [] ≡ with_last_slots frames last.slots
 last_put [] last some back = absurd (omega arith)
 last_put (frame ∷ []) last some back = ap (λ b. record { back = b; slots = last.slots } ∷ []) back

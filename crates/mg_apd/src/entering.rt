@@ -8,58 +8,58 @@ use crate::present::present;
 use mg_model::limits::{FRAME_LIMIT, SLOT_LIMIT};
 use mg_model::{Frame, Refusal, Slot, ThrRow};
 
-/// A thread goes on at an address, a multiple of 8, under a new frame, which returns to where the thread is. Its slots are
+/// A thread continues at an address, a multiple of 8, under a new frame, which returns to where the thread is. Its slots are
 /// those of the present frame whose bit of the mask is 1, in their order (the bit with weight `2^j` is that of slot j), and
-/// then the extension, where there is one. Gives how many frames there are then.
+/// then the extension, if there is one. Gives how many frames there are then.
 ///
 /// The refusals come in this order: a thread with 16 frames (Depth), more than 8 slots (SlotFull). The row then stays.
-pub fn enter(r: &mut ThrRow, a: u64, mask: u8, ext: Option<Slot>) -> Result<u64, Refusal>
-    requires { a % 8 ≡ 0 }
-    ensures refusal { MatchResult result (λ _. entering_refusal r.old mask ext ≡ None) (λ word. entering_refusal r.old mask ext ≡ Some word) }
-    ensures number { IfOk result (λ n. n ≡ length r.old.frames + 1) }
-    ensures row { OnOk result (r.new ≡ record r.old { pc = a; frames = r.old.frames ++ record { back = r.old.pc; slots = entered_slots r.old mask ext } ∷ [] }) }
-    ensures stays { OnErr result (r.new ≡ r.old) }
+pub fn enter(row: &mut ThrRow, address: u64, mask: u8, ext: Option<Slot>) -> Result<u64, Refusal>
+    requires { address % 8 ≡ 0 }
+    ensures refusal { MatchResult result (λ _. entering_refusal row.old mask ext ≡ None) (λ word. entering_refusal row.old mask ext ≡ Some word) }
+    ensures number { IfOk result (λ n. n ≡ length row.old.frames + 1) }
+    ensures row { OnOk result (row.new ≡ record row.old { pc = address; frames = row.old.frames ++ record { back = row.old.pc; slots = entered_slots row.old mask ext } ∷ [] }) }
+    ensures stays { OnErr result (row.new ≡ row.old) }
 {
-    let count = r.frames().len();
+    let count = row.frames().len();
     if count >= FRAME_LIMIT {
         return Err(Refusal::Depth);
     }
-    let Some(frame) = frame_entered(r, mask, ext) else {
+    let Some(frame) = frame_entered(row, mask, ext) else {
         return Err(Refusal::SlotFull);
     };
-    r.push_frame(frame);
-    r.set_pc(a);
+    row.push_frame(frame);
+    row.set_pc(address);
     Ok(count as u64 + 1)
 }
 
-/// A thread's present frame goes, and the thread goes on at the address that the frame returns to, under the frame below.
+/// A thread's present frame goes, and the thread continues at the address that the frame returns to, under the frame below.
 /// Gives how many frames there are then. A thread with one frame is refused (NoFrame), and the row then stays.
-pub fn leave(r: &mut ThrRow) -> Result<u64, Refusal>
-    ensures refusal { MatchResult result (λ _. leaving_refusal r.old ≡ None) (λ word. leaving_refusal r.old ≡ Some word) }
-    ensures number { IfOk result (λ n. n ≡ length r.old.frames - 1) }
-    ensures row { OnOk result (r.new ≡ record r.old { pc = last_back r.old.frames; frames = take (length r.old.frames - 1) r.old.frames }) }
-    ensures stays { OnErr result (r.new ≡ r.old) }
+pub fn leave(row: &mut ThrRow) -> Result<u64, Refusal>
+    ensures refusal { MatchResult result (λ _. leaving_refusal row.old ≡ None) (λ word. leaving_refusal row.old ≡ Some word) }
+    ensures number { IfOk result (λ n. n ≡ length row.old.frames - 1) }
+    ensures row { OnOk result (row.new ≡ record row.old { pc = last_back row.old.frames; frames = take (length row.old.frames - 1) row.old.frames }) }
+    ensures stays { OnErr result (row.new ≡ row.old) }
 {
-    let count = r.frames().len();
+    let count = row.frames().len();
     if count <= 1 {
         return Err(Refusal::NoFrame);
     }
-    let last = present(r);
-    r.pop_frame();
-    r.set_pc(last.back());
+    let last = present(row);
+    row.pop_frame();
+    row.set_pc(last.back());
     Ok(count as u64 - 1)
 }
 
-// The frame that a thread enters; none where it would have more than 8 slots.
-fn frame_entered(r: &ThrRow, mask: u8, ext: Option<Slot>) -> Option<Frame>
-    ensures fits { MatchOption result (nat_lt slot_limit (length (entered_slots r.now mask ext)) ≡ true) (λ _. nat_lt slot_limit (length (entered_slots r.now mask ext)) ≡ false) }
-    ensures frame { MatchOption result (Unit {0}) (λ frame. frame ≡ record { back = r.now.pc; slots = entered_slots r.now mask ext }) }
+// The frame that a thread enters; none if it would have more than 8 slots.
+fn frame_entered(row: &ThrRow, mask: u8, ext: Option<Slot>) -> Option<Frame>
+    ensures fits { MatchOption result (nat_lt slot_limit (length (entered_slots row.now mask ext)) ≡ true) (λ _. nat_lt slot_limit (length (entered_slots row.now mask ext)) ≡ false) }
+    ensures frame { MatchOption result (Unit {0}) (λ frame. frame ≡ record { back = row.now.pc; slots = entered_slots row.now mask ext }) }
 {
-    // It tells that the pc is a multiple of 8.
-    r.keep_rules();
-    let last = present(r);
+    // This says that the pc is a multiple of 8.
+    row.keep_rules();
+    let last = present(row);
     last.keep_rules();
-    let kept = frame_kept(last.slots(), mask, r.pc());
+    let kept = frame_kept(last.slots(), mask, row.pc());
     match ext {
         Some(slot) => with_slot(kept, slot),
         None => Some(kept),
@@ -79,7 +79,7 @@ fn frame_kept(slots: &[Slot], mask: u8, back: u64) -> Frame
     frame
 }
 
-// The slot with this number is kept too, where its bit of the mask is 1.
+// The slot with this number is kept too, if its bit of the mask is 1.
 fn keep(frame: &mut Frame, slots: &[Slot], mask: u8, place: usize)
     requires place { place < length slots.now }
     requires place_below_8 { place < 8 }
@@ -99,7 +99,7 @@ fn is_kept(mask: u8, place: usize) -> bool
     (mask >> place) % 2 == 1
 }
 
-// A frame with one slot more; none where it has 8.
+// A frame with one slot more; none if it has 8.
 fn with_slot(frame: Frame, slot: Slot) -> Option<Frame>
     ensures fits { MatchOption result (nat_lt slot_limit (length (frame.slots ++ slot ∷ [])) ≡ true) (λ _. nat_lt slot_limit (length (frame.slots ++ slot ∷ [])) ≡ false) }
     ensures more { MatchOption result (Unit {0}) (λ more. more ≡ record frame { slots = frame.slots ++ slot ∷ [] }) }

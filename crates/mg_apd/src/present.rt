@@ -6,19 +6,19 @@ ghost use Rattle.mg_model.specs.Domains.{last_back, with_last_slots};
 use mg_model::{Frame, ThrRow};
 
 /// The present frame.
-pub(crate) fn present(r: &ThrRow) -> Frame
-    ensures slots { result.slots ≡ last_slots r.now.frames }
-    ensures back { result.back ≡ last_back r.now.frames }
+pub(crate) fn present(row: &ThrRow) -> Frame
+    ensures slots { result.slots ≡ last_slots row.now.frames }
+    ensures back { result.back ≡ last_back row.now.frames }
 {
-    r.last()
+    row.last()
 }
 
 /// Other slots in the present frame.
-pub(crate) fn put_present(r: &mut ThrRow, last: Frame)
-    requires { last.back ≡ last_back r.old.frames }
-    ensures { r.new ≡ record r.old { frames = with_last_slots r.old.frames last.slots } }
+pub(crate) fn put_present(row: &mut ThrRow, last: Frame)
+    requires { last.back ≡ last_back row.old.frames }
+    ensures { row.new ≡ record row.old { frames = with_last_slots row.old.frames last.slots } }
 {
-    // It tells that there is a frame.
-    r.keep_rules();
-    r.set_last(last);
+    // This says that there is a frame.
+    row.keep_rules();
+    row.set_last(last);
 }

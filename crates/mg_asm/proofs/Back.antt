@@ -139,10 +139,6 @@ record IsReadBack (word : ℕ) (first : List ℕ) (more : List (List ℕ)) : Typ
   pub are : AreWords more
   pub read : reading (first ∷ more) ≡ Ok (item.Word word)
 
--- the immediate of a word of 64 bits
-upper : (rest i : ℕ) → rest + i * 2 ^ 32 < 2 ^ 64 → i < 2 ^ 32
-upper rest i h = omega arith
-
 jumped : (near i word : ℕ) → near + i * 2 ^ 32 ≡ word → i < 2 ^ 32 → jump_to near (signed_text i) ≡ Ok (item.Word word)
 jumped near i word e fits = jump_to-back near i fits ∙ ap (λ w. Ok (item.Word w)) e
 

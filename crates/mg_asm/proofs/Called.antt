@@ -20,7 +20,7 @@ use Rattle.mg_model.specs.Words.{is_blank, is_newline, is_some_word, number_of, 
 blank_low : (b : ℕ) → 45 ≤ b → is_blank b ≡ false
 blank_low b h = grind (arith, nat_tests)
 
--- a number is no note and no call word that stands alone
+-- a number is no note, and no call word that begins a line without a thread's number
 no_note : (xs : List ℕ) → Digits xs → is_note xs ≡ false
 no_note [] h = refl
 no_note (b ∷ xs) h = let low : 48 ≤ b = h.0.0 in grind (arith, nat_tests)

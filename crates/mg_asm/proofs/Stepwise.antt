@@ -43,7 +43,7 @@ listed_behind before n [] = Ok before
 listed_behind before n (line ∷ lines) =
     with_word n (with_room (length before) (listed_line line)) (λ word. listed_behind (before ++ option_to_list word) (n + 1) lines)
 
--- They are what the definitions say: lists of which some were gone through, and the others are left.
+-- These lists are what the definitions say: a part of each was read, and the rest is left.
 
 abbrev oks : {X : Type 0} → List X → List (Result X AsmKind)
 oks xs = map (λ x. Ok x) xs

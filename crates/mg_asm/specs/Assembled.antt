@@ -75,7 +75,8 @@ abbrev pub made_at : List Item → ℕ → Item → Result (Option ℕ) AsmKind
 made_at all here item.Blank = Ok None
 made_at all here (item.Label name) = Ok None
 made_at all here (item.Word word) = Ok (Some word)
-made_at all here (item.Jump near name) = option_map_or (λ to. Ok (Some (near + distance here to * 2 ^ 32))) (place_of name all) (Err NoLabel)
+made_at all here (item.Jump near name) =
+    option_map_or (λ to. Ok (Some (near + distance here to * 2 ^ 32))) (place_of name all) (Err NoLabel)
 
 -- the word that an item makes after the first k, if it makes one
 abbrev pub word_at : List Item → ℕ × Item → Result (Option ℕ) AsmKind

@@ -15,7 +15,7 @@ kind_name Twice = codes "Twice"
 kind_name TooLong = codes "TooLong"
 kind_name NoLabel = codes "NoLabel"
 
--- the line of a fault; want of memory has none
+-- the line of a fault; it is empty if there was not enough memory
 abbrev pub fault_line : AsmFault → List ℕ
 fault_line Memory = []
 fault_line (At line kind) = codes "line " ++ decimal line ++ codes ": " ++ kind_name kind ++ 10 ∷ []

@@ -42,18 +42,24 @@ three _ = None
 -- The operands of an instruction: registers, and then an immediate. Their number is tried first, then the registers from the
 -- left, then the immediate.
 abbrev pub registers_2 : List (List ℕ) → Result (ℕ × ℕ) AsmKind
-registers_2 words = from Operands (two words) (λ (a, b). from Register (register_of a) (λ a. from Register (register_of b) (λ b. Ok (a, b))))
+registers_2 words =
+    from Operands (two words) (λ (a, b). from Register (register_of a) (λ a. from Register (register_of b) (λ b. Ok (a, b))))
 
 abbrev pub registers_3 : List (List ℕ) → Result (ℕ × ℕ × ℕ) AsmKind
 registers_3 words =
-    from Operands (three words) (λ (a, b, c). from Register (register_of a) (λ a. from Register (register_of b) (λ b. from Register (register_of c) (λ c. Ok (a, b, c)))))
+    from Operands (three words)
+    (λ (a, b, c). from Register (register_of a) (λ a. from Register (register_of b)
+    (λ b. from Register (register_of c) (λ c. Ok (a, b, c)))))
 
 abbrev pub register_1_and_immediate : List (List ℕ) → Result (ℕ × ℕ) AsmKind
-register_1_and_immediate words = from Operands (two words) (λ (a, i). from Register (register_of a) (λ a. from Number (immediate_of i) (λ i. Ok (a, i))))
+register_1_and_immediate words =
+    from Operands (two words) (λ (a, i). from Register (register_of a) (λ a. from Number (immediate_of i) (λ i. Ok (a, i))))
 
 abbrev pub registers_2_and_immediate : List (List ℕ) → Result (ℕ × ℕ × ℕ) AsmKind
 registers_2_and_immediate words =
-    from Operands (three words) (λ (a, b, i). from Register (register_of a) (λ a. from Register (register_of b) (λ b. from Number (immediate_of i) (λ i. Ok (a, b, i)))))
+    from Operands (three words)
+    (λ (a, b, i). from Register (register_of a) (λ a. from Register (register_of b)
+    (λ b. from Number (immediate_of i) (λ i. Ok (a, b, i)))))
 
 -- the word of an instruction
 abbrev pub as_word : Result Instr AsmKind → Reading
@@ -75,7 +81,8 @@ abbrev pub jump : List (List ℕ) → Reading
 jump words = from Operands (one words) (jump_to (encoded (op.Jump 0)))
 
 abbrev pub jump_by_register : (ℕ → Instr) → List (List ℕ) → Reading
-jump_by_register made words = from Operands (two words) (λ (a, target). from Register (register_of a) (λ a. jump_to (encoded (made a)) target))
+jump_by_register made words =
+    from Operands (two words) (λ (a, target). from Register (register_of a) (λ a. jump_to (encoded (made a)) target))
 
 -- `.word N`: any word
 abbrev pub plain_word : List (List ℕ) → Reading

@@ -17,4 +17,5 @@ store_lines thread address (word ∷ words) = store_line thread address word ++ 
 -- the calls themselves
 abbrev pub store_calls : ℕ → ℕ → List ℕ → List Line
 store_calls thread address [] = []
-store_calls thread address (word ∷ words) = record { thread = thread; call = call.Store address word } ∷ store_calls thread (address + 8) words
+store_calls thread address (word ∷ words) =
+    record { thread = thread; call = call.Store address word } ∷ store_calls thread (address + 8) words

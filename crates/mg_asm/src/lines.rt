@@ -64,7 +64,7 @@ fn instruction(first: &[u8], rest: &[u8]) -> Result<Item, AsmKind>
     }
 }
 
-/// The same, by the rows of the table of instructions from `jump` on.
+/// The item of an instruction or a plain word, by the rows of the table of instructions from `jump` on.
 fn going(first: &[u8], rest: &[u8]) -> Result<Item, AsmKind>
     ensures { result ≡ row_by (drop 8 rows) first.now (tokens rest.now) }
 {

@@ -5,7 +5,7 @@ ghost use Rattle.mg_asm.specs.Tokens.{is_letter, is_name, is_name_byte, label_of
 ghost use Rattle.mg_model.specs.Bytes.{padded_to};
 
 /// A name: a letter and up to 15 letters, digits or `_`, followed by zeros.
-#[derive(Clone, Copy, Debug, PartialEq, Eq)]
+#[derive(Clone, Copy, PartialEq, Eq)]
 pub struct Name {
     bytes: [u8; 16],
 }

@@ -12,7 +12,8 @@ is_place address = address % 8 == 0 && nat_lt address (2 ^ 52)
 
 -- `THREAD ADDRESS`
 abbrev pub store_of : List ℕ → List ℕ → Option Command
-store_of thread address = and_then (number_of thread) (λ t. and_then (number_of address) (λ a. if is_place a then Some (Store t a) else None))
+store_of thread address =
+    and_then (number_of thread) (λ t. and_then (number_of address) (λ a. if is_place a then Some (Store t a) else None))
 
 -- `print`
 abbrev pub print_of : List ℕ → Option Command
@@ -28,7 +29,7 @@ command_of words = None
 abbrev pub words_of : List (String Global) → List (List ℕ)
 words_of words = map (λ (word : String Global). string_bytes word) words
 
--- the words of a command are stored where objects may be
+-- the words of a command are stored at addresses that objects may have
 abbrev pub IsStored : Command → Type 0
 IsStored (Store thread address) = address < 2 ^ 52
 IsStored Print = Unit {0}

@@ -43,14 +43,22 @@ PutsPart (Ok lines) taken taken' aside aside' = AppendsPrefix taken taken' lines
 PutsPart (Err fault) taken taken' aside aside' = (taken' ≡ taken) × AppendsPrefix aside aside' (fault_line fault)
 
 -- What a command keeps: `out` takes what the text became, and `err` its fault.
-pub record Keeps {S O E : Type 0} (from : sources.Ghosts S) (to : sinks.Ghosts O) (aside : sinks.Ghosts E) (command : Command) (result : Status) (source source' : S) (out out' : O) (err err' : E) : Type 0 where
+pub record Keeps {S O E : Type 0} (from : sources.Ghosts S) (to : sinks.Ghosts O) (aside : sinks.Ghosts E) (command : Command)
+    (result : Status) (source source' : S) (out out' : O) (err err' : E) : Type 0 where
   -- At the end `out` took what the text became, and nothing else was written.
-  pub done : result ≡ status.Done → OfWhole (from.left source) (from.left source') (λ text. PutsLines (became command text) (to.taken out) (to.taken out')) × (err' ≡ err)
+  pub done : result ≡ status.Done
+      → OfWhole (from.left source) (from.left source')
+      (λ text. PutsLines (became command text) (to.taken out) (to.taken out')) × (err' ≡ err)
   -- At a fault `err` took its line, and nothing else was written.
-  pub fault : result ≡ status.Fault → OfWhole (from.left source) (from.left source') (λ text. PutsFault (became command text) (aside.taken err) (aside.taken err')) × (out' ≡ out)
+  pub fault : result ≡ status.Fault
+      → OfWhole (from.left source) (from.left source')
+      (λ text. PutsFault (became command text) (aside.taken err) (aside.taken err')) × (out' ≡ out)
   -- A sink that failed took a first part of its text. It fails only if its count of faults rose.
-  pub sink : result ≡ status.Sink → OfWhole (from.left source) (from.left source') (λ text. PutsPart (became command text) (to.taken out) (to.taken out') (aside.taken err) (aside.taken err'))
-  pub sink_failed : result ≡ status.Sink → Rose (to.faults out) (to.faults out') (to.is_spent out') ⊎ Rose (aside.faults err) (aside.faults err') (aside.is_spent err')
+  pub sink : result ≡ status.Sink
+      → OfWhole (from.left source) (from.left source')
+      (λ text. PutsPart (became command text) (to.taken out) (to.taken out') (aside.taken err) (aside.taken err'))
+  pub sink_failed : result ≡ status.Sink → Rose (to.faults out) (to.faults out') (to.is_spent out')
+      ⊎ Rose (aside.faults err) (aside.faults err') (aside.is_spent err')
   -- If there was not enough memory, the source failed or the text is too long, nothing was written.
   pub nothing : (result ≡ status.Memory) ⊎ ((result ≡ status.Source) ⊎ (result ≡ status.TooLong)) → (out' ≡ out) × (err' ≡ err)
   -- The source failed only if its count of faults rose.

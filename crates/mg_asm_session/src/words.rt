@@ -6,7 +6,7 @@ use mg_model::limits::{PAGE_END, PAGE_SIZE};
 use mg_text::{is_word, read_number};
 
 /// What the program is asked to do.
-#[derive(Clone, Copy, Debug, PartialEq, Eq)]
+#[derive(Clone, Copy, PartialEq, Eq)]
 pub enum Command {
     /// Write the calls by which this thread stores the words of a script's text, from this address on.
     Store(u64, u64),
@@ -16,8 +16,8 @@ pub enum Command {
 
 /// The command that these words spell, which follow the program's name. None exactly if they spell none.
 ///
-/// They are `THREAD ADDRESS` or `print`. THREAD and ADDRESS are numbers as in lines of calls. ADDRESS is a multiple of 8 below
-/// `2^52`, where objects end.
+/// They are `THREAD ADDRESS` or `print`. THREAD and ADDRESS are numbers as in lines of calls. ADDRESS is a multiple of 8
+/// below `2^52`, the end of all objects.
 pub fn read_words(words: &[String]) -> Option<Command>
     ensures command { result ≡ command_of (words_of words.now) }
     ensures place { IfSome result IsStored }

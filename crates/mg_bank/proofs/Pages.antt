@@ -11,7 +11,7 @@ no_pages pages are n =
     ap (λ (those : List ℕ). pages_at those n) are
     ∙ ⊎_elim (λ (low : n < 1025). get_or-replicate 1025 n 0 0 low) (λ (high : 1025 ≤ n). get_or_past (replicate 1025 0) n 0 (let l = length-replicate {A = ℕ} 1025 0 in omega arith)) (cases_lt n 1025)
 
--- and where one account pays for others than before
+-- and if one account pays for others than before
 pub pages_set : (pages : List ℕ) (n total : ℕ) → n < length pages → (k : ℕ) → pages_at (slice_set pages n total) k ≡ (if n == k then total else pages_at pages k)
 pages_set pages n total within k = ⊎_elim here elsewhere (cases_eq n k)
   where

@@ -27,7 +27,7 @@ account_there accounts number there =
     let found = some_value (account_of accounts number) there in
     record { row = found.0; is = found.1; at = account_of-row accounts number found.0 found.1 }
 
--- where the row of an account is put, the credits change by its balance
+-- when the row of an account is written, the credits change by its balance
 pub with_account-credits : (accounts : List AccRow) (number : ℕ) (row new : AccRow) → IsRowOf accounts number row → credits_of (with_account accounts number new) + row.balance ≡ credits_of accounts + new.balance
 with_account-credits accounts number row new is =
     let within = is.within in

@@ -1,4 +1,4 @@
--- Why accounts refuse, the first reason against it, and what holds where there is none.
+-- Why accounts refuse, the first reason against it, and what holds if there is none.
 use Rattle.std.specs.Prelude.{◌≡◌, ◌≤◌, ◌<◌, ◌||◌, ◌∷◌, [], ℕ, List, true, nat_le, nat_lt, not, length, is_some, Option}
 use Rattle.mg_model.specs.declared.accounts.AccRow.{AccRow}
 use Rattle.mg_model.specs.declared.replies.Refusal.{Refusal}

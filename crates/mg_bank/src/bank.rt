@@ -56,7 +56,7 @@ impl Bank {
         Ok(Bank { rows, pages })
     }
 
-    /// Tells that there are 1,024 accounts at most, which have at most `2^62` credits together. It does nothing when it runs.
+    /// States that there are at most 1,024 accounts, which have at most `2^62` credits together. It does nothing when it runs.
     pub fn keep_rules(&self)
         ensures at_most_1024 { length self.now.accounts ≤ account_limit }
         ensures credits { credits_of self.now.accounts ≤ credit_limit }
@@ -73,92 +73,92 @@ impl Bank {
         self.rows.len() as u64
     }
 
-    /// The accounts: account n stands at place n - 1.
+    /// The accounts: account n is at place n - 1.
     pub fn rows(&self) -> &[AccRow]
         ensures { result.now ≡ self.now.accounts }
     {
         &self.rows
     }
 
-    /// Account n, 1 to 1,024.
-    pub fn row(&self, n: u64) -> Option<AccRow>
-        ensures found { result ≡ account_of self.now.accounts n }
-        ensures within_1_and_1024 { IfSome result (λ _. (1 ≤ n) × (n ≤ 1024)) }
+    /// The account with this number, 1 to 1,024.
+    pub fn row(&self, account: u64) -> Option<AccRow>
+        ensures found { result ≡ account_of self.now.accounts account }
+        ensures within_1_and_1024 { IfSome result (λ _. (1 ≤ account) × (account ≤ 1024)) }
     {
-        row_of(&self.rows, n)
+        row_of(&self.rows, account)
     }
 
-    /// Whether this password opens account n. It opens none that is not there.
-    pub fn opens(&self, n: u64, password: u64) -> bool
-        ensures opens { result ≡ opens self.now.accounts n password }
-        ensures n_at_least_1 { result ≡ true → 1 ≤ n }
-        ensures n_at_most_1024 { result ≡ true → n ≤ 1024 }
+    /// Whether this password opens this account. It opens none that is not there.
+    pub fn opens(&self, account: u64, password: u64) -> bool
+        ensures opens { result ≡ opens self.now.accounts account password }
+        ensures n_at_least_1 { result ≡ true → 1 ≤ account }
+        ensures n_at_most_1024 { result ≡ true → account ≤ 1024 }
     {
-        match self.row(n) {
+        match self.row(account) {
             Some(row) => row.password == password,
             None => false,
         }
     }
 
-    /// The credits of account n, 0 where it is not there.
-    pub fn balance_of(&self, n: u64) -> u64
-        ensures { result ≡ balance_of self.now.accounts n }
+    /// The credits of this account, 0 if it is not there.
+    pub fn balance_of(&self, account: u64) -> u64
+        ensures { result ≡ balance_of self.now.accounts account }
     {
-        match self.row(n) {
+        match self.row(account) {
             Some(row) => row.balance,
             None => 0,
         }
     }
 
-    /// What account n owes in rent, 0 where it is not there.
-    pub fn owed_by(&self, n: u64) -> u64
-        ensures { result ≡ owed_by self.now.accounts n }
+    /// What this account owes in rent, 0 if it is not there.
+    pub fn owed_by(&self, account: u64) -> u64
+        ensures { result ≡ owed_by self.now.accounts account }
     {
-        match self.row(n) {
+        match self.row(account) {
             Some(row) => row.owed,
             None => 0,
         }
     }
 
-    /// One account more, the last, with which all have at most `2^62` credits. There are fewer than 1,024.
-    pub fn push(&mut self, r: AccRow)
+    /// One more account, the last, with which all have at most `2^62` credits. There are fewer than 1,024.
+    pub fn push(&mut self, row: AccRow)
         requires fewer_than_1024 { length self.old.accounts < account_limit }
-        requires credits { credits_of self.old.accounts + r.balance ≤ credit_limit }
-        ensures accounts { self.new.accounts ≡ self.old.accounts ++ r ∷ [] }
+        requires credits { credits_of self.old.accounts + row.balance ≤ credit_limit }
+        ensures accounts { self.new.accounts ≡ self.old.accounts ++ row ∷ [] }
         ensures pages { self.new.pages ≡ self.old.pages }
     {
         // There is room.
-        let _ = self.rows.push(r);
+        let _ = self.rows.push(row);
     }
 
-    /// Another row for account n, with which all have at most `2^62` credits.
-    pub fn set(&mut self, n: u64, r: AccRow)
-        requires there { is_some (account_of self.old.accounts n) ≡ true }
-        requires credits { credits_of (with_account self.old.accounts n r) ≤ credit_limit }
-        ensures accounts { self.new.accounts ≡ with_account self.old.accounts n r }
+    /// Another row for this account, with which all have at most `2^62` credits.
+    pub fn set(&mut self, account: u64, row: AccRow)
+        requires there { is_some (account_of self.old.accounts account) ≡ true }
+        requires credits { credits_of (with_account self.old.accounts account row) ≤ credit_limit }
+        ensures accounts { self.new.accounts ≡ with_account self.old.accounts account row }
         ensures pages { self.new.pages ≡ self.old.pages }
     {
-        put(&mut self.rows, n, r);
+        put(&mut self.rows, account, row);
     }
 
-    /// For how many pages account n pays: 0 where n is not from 1 to 1,024.
-    pub fn pages(&self, n: u64) -> u64
-        ensures { result ≡ pages_at self.now.pages n }
+    /// For how many pages this account pays: 0 if its number is not from 1 to 1,024.
+    pub fn pages(&self, account: u64) -> u64
+        ensures { result ≡ pages_at self.now.pages account }
     {
         let pages = &self.pages;
-        if n >= PLACES as u64 {
+        if account >= PLACES as u64 {
             return 0;
         }
-        pages[n as usize]
+        pages[account as usize]
     }
 
-    /// Account n, at most 1,024, pays for so many pages. The accounts stay.
-    pub fn set_pages(&mut self, n: u64, pages: u64)
-        requires { n ≤ 1024 }
-        ensures pages { (k : ℕ) → pages_at self.new.pages k ≡ (if n == k then pages else pages_at self.old.pages k) }
+    /// This account, at most 1,024, pays for `pages` pages. The accounts stay.
+    pub fn set_pages(&mut self, account: u64, pages: u64)
+        requires { account ≤ 1024 }
+        ensures pages { (k : ℕ) → pages_at self.new.pages k ≡ (if account == k then pages else pages_at self.old.pages k) }
         ensures accounts { self.new.accounts ≡ self.old.accounts }
     {
-        self.pages[n as usize] = pages;
+        self.pages[account as usize] = pages;
     }
 
     /// Credits of one account go to another, which may be the same. The first has as many.
@@ -175,7 +175,7 @@ impl Bank {
         give(&mut self.rows, to, amount);
     }
 
-    /// One account more, the last, with this password and credits of the payer, who has as many. There are fewer than 1,024.
+    /// One more account, the last, with this password and credits of the payer, who has that many. There are fewer than 1,024.
     pub fn add_account(&mut self, payer: u64, amount: u64, password: u64)
         requires payer { is_some (account_of self.old.accounts payer) ≡ true }
         requires enough { amount ≤ balance_of self.old.accounts payer }

@@ -28,7 +28,7 @@ opening_of accounts counters account password amount =
     ∷ (nat_le account_limit (length accounts) || nat_le draw_limit counters.draws, Limit)
     ∷ [])
 
--- what they do where none holds
+-- what they do if none holds
 abbrev pub opened_of : State → ℕ → ℕ → Answer
 opened_of state account amount =
     (record (drawn state) { accounts = taken_from state.accounts account amount ++ record { password = next_password state; balance = amount; owed = 0 } ∷ [] }, Opened (length state.accounts + 1) (next_password state))
@@ -51,7 +51,7 @@ pay-is v image account password to amount word is =
 pub drawn-accounts : (old mid : VolumeHeld) → ((image : List (List ℕ)) → now_of mid image ≡ drawn (now_of old image)) → accounts_in mid ≡ accounts_in old
 drawn-accounts old mid now = sym (now_accounts mid []) ∙ ap (λ (s : State). s.accounts) (now []) ∙ now_accounts old []
 
--- what is staged is the state behind it
+-- what is staged is the state after it
 pub opened : (state mid new : State) (accounts : List AccRow) (account amount number fresh : ℕ) → accounts ≡ state.accounts → number ≡ length state.accounts + 1 → fresh ≡ next_password state → mid ≡ drawn state
     → new ≡ record mid { accounts = taken_from accounts account amount ++ record { password = fresh; balance = amount; owed = 0 } ∷ [] } → opened_of state account amount ≡ (new, Opened number fresh)
 opened state mid new accounts account amount number fresh same count fresh_is mid_is new_is =
@@ -65,7 +65,7 @@ pub paid : (state new : State) (accounts : List AccRow) (account to amount : ℕ
 paid state new accounts account to amount same new_is =
     ap (λ (a : List AccRow). (record state { accounts = given_to (taken_from a account amount) to amount }, Done)) (sym same) ∙ ap (λ (s : State). (s, Done)) (sym new_is)
 
--- what is told of an account that is opened
+-- what is known of an account that is opened
 abbrev funds_of : State → ℕ → Answer
 funds_of state account = (state, Funds (balance_of state.accounts account) (owed_by state.accounts account) (pages_of state.objects account))
 

@@ -35,7 +35,7 @@ few-owed v image formed =
 pub same-counters : (old mid : VolumeHeld) → ((image : List (List ℕ)) → now_of mid image ≡ record (now_of old image) { accounts = accounts_in mid }) → counters_in mid ≡ counters_in old
 same-counters old mid now = sym (now_counters mid []) ∙ ap (λ (s : State). s.counters) (now []) ∙ now_counters old []
 
--- the state behind both
+-- the state after both
 pub rented-now : (old mid new : State) (before between : Counters) (accounts : List AccRow) (next : ℕ) → mid ≡ record old { accounts = accounts } → accounts ≡ rent_accounts old → between ≡ before → next ≡ before.period + 1
     → new ≡ record mid { counters = record between { period = next } } → new ≡ record old { counters = record before { period = before.period + 1 }; accounts = rent_accounts old }
 rented-now old mid new before between accounts next mid_is rented same next_is new_is =

@@ -18,7 +18,7 @@ opening_refusal v account password amount =
     ∷ (nat_le account_limit (length (accounts_in v)) || nat_le draw_limit (counters_in v).draws, Limit)
     ∷ [])
 
--- what holds where there is none
+-- what holds if there is none
 pub record MayOpen (v : VolumeHeld) (account password amount : ℕ) : Type 0 where
   pub accepted : bank.opening_refusal (accounts_in v) account password amount ≡ None
   pub draws : (counters_in v).draws < draw_limit

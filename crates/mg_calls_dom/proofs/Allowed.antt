@@ -1,4 +1,4 @@
--- What is kept tells of an access, and what is found backs the seat that it fills.
+-- What is kept says whether an access is allowed, and what is found backs the seat that it fills.
 use Rattle.std.proofs.Common.{ℕ, ◌≡◌, ◌==◌, ◌&&◌, Bool, true, false, List, if◌then◌else◌, Option, Some, None, refl, sym, ap, subst, ◌∙◌}
 use Rattle.std.specs.Prelude.{Contains, find, map, option_map}
 use Rattle.std.specs.List.{list_any}
@@ -28,7 +28,7 @@ module _ (state : State) (t a : ℕ) (right : Right) where
   by_test true None object row may there same = cc
   by_test false o object row may there same = cc
 
-  -- where the key is kept, the row of the address is that of an allowed access
+  -- when the key is kept, the row of the address is that of an allowed access
   pub kept-allowed : (row : ObjectRow) (seats : List (Option Seat)) → IsWellFormed state → BackedAllows allowed → find (λ (r : ObjectRow). covers r a) (map (λ (o : Object). o.row) state.objects) ≡ Some row → AllBacked state seats
       → is_kept seats (record { thread = t; base = row.base; right = right }) ≡ true → Some row ≡ allowed_row state t a right
   kept-allowed row seats formed allows found all kept =
@@ -63,7 +63,7 @@ module _ (state : State) (t a : ℕ) (sought : Sought) (found : find (λ (r : Ob
       subst (λ b. IsBacked state (record { thread = t; base = b; right = sought.right; via = via })) (ap (λ (r : ObjectRow). r.base) same)
       (subst (λ c. IsBacked state (record { thread = t; base = object.row.base; right = sought.right; via = c })) is.base backed)
 
--- what a volume told is what is sought there
+-- what a volume gave is what is sought there
 pub sought-there : (v : VolumeHeld) (a : ℕ) (sought : Sought) (counters : Counters) → Some sought.object ≡ find (λ (r : ObjectRow). covers r a) (objects_in v) → counters ≡ counters_in v → sought.period ≡ counters.period → IsSoughtAt v a sought
 sought-there v a sought counters found told period = record { found = sym found; period = period ∙ ap (λ (k : Counters). k.period) told }
 

@@ -1,4 +1,4 @@
--- Objects lie apart: the object with a base is the one that has each address of it.
+-- Objects lie apart: the object with a base has each address of it.
 use Rattle.std.proofs.Common.{ℕ, ◌+◌, ◌-◌, ◌*◌, ◌/◌, ◌<◌, ◌≤◌, ◌≡◌, ◌==◌, ◌&&◌, ◌||◌, not, Bool, true, false, List, [], ◌∷◌, length, if◌then◌else◌, Option, Some, None, refl, sym, ap, subst, ◌∙◌, arith}
 use Rattle.std.specs.Prelude.{find, map, nat_le, nat_lt, option_map, slice_index}
 use Rattle.std.specs.List.{list_all, list_any}
@@ -17,7 +17,7 @@ use Rattle.mg_model.specs.RowTestLemmas.{place-tells}
 use Rattle.mg_model.specs.Volume.{are_apart}
 use Rattle.mg_volume.specs.Meaning.{is_page_in}
 
--- the object behind a row
+-- the object after a row
 pub found-object : (o : Option Object) (row : ObjectRow) → option_map (λ (o : Object). o.row) o ≡ Some row → (object : Object) × (o ≡ Some object) × (object.row ≡ row)
 found-object None row h = cc
 found-object (Some object) row h = let is : object.row ≡ row = cc in (object, refl, is)
@@ -61,7 +61,7 @@ row-place row keeps =
     (first_of (is_place row.base row.pages) (nat_le 1 row.account && nat_le row.account 1024) (nat_le (length row.passwords) 32 && list_all is_password row.passwords)
     (nat_le (length row.entries) 16 && list_all (is_entry_of row.base row.pages) row.entries && all_distinct row.entries) (option_map_or (λ (slot : Slot). not (slot.base == 0)) row.extension true) keeps)
 
--- an object that is found behind others lies behind them
+-- an object that is found after others lies after them
 behind-first : (o : Object) (objects : List Object) (base : ℕ) (object : Object) → are_apart (o ∷ objects) ≡ true → based_at objects base ≡ Some object → page_behind o.row ≤ page_of object.row
 behind-first o [] base object apart h = cc
 behind-first o (next ∷ objects) base object apart h =

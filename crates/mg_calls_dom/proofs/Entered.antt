@@ -36,12 +36,12 @@ use Rattle.mg_model.specs.WellFormed.{IsWellFormed}
 use Rattle.mg_vcache.specs.SeatLemmas.{backed_without}
 use Rattle.mg_vcache.specs.Seats.{AllBacked, without}
 
--- the frames that are told of a thread by its row
+-- the frames of a thread, by its row
 frames-in : (found : Option Thread) (thread : ThreadRow) → option_map (λ (x : Thread). x.row) found ≡ Some thread → option_map_or (λ (x : Thread). x.row.frames) found [] ≡ thread.frames
 frames-in None thread h = cc
 frames-in (Some x) thread h = let same : x.row ≡ thread = cc in ap (λ (r : ThreadRow). r.frames) same
 
--- the frame that an entry adds, and the one that a return takes away
+-- the frame that an entry adds, and the frame that a return removes
 abbrev pub entering : ℕ → List Slot → ThreadRow → ThreadRow
 entering a slots thread = record thread { pc = a; frames = thread.frames ++ record { back = thread.pc; slots = slots } ∷ [] }
 
@@ -67,7 +67,7 @@ module _ (state : State) (t : ℕ) (thread : ThreadRow) (there : option_map (λ 
         unless_refused (first_refusal ((not (is_aligned a), Align) ∷ (not (allowed state t a P), Denied) ∷ by_tests object frames slots)) state
         (with_thread state t (entering a slots), Count (length frames + 1))
 
-    -- `pdx`, where the access is allowed
+    -- `pdx`, if the access is allowed
     pub pdx-is : (object : ObjectRow) (word : Option Refusal) → row_at state a ≡ object → access_refusal state t a P ≡ None → word ≡ pdx_refusal thread object a mask
         → pdx state t a mask ≡ unless_refused word state (with_thread state t (entering a (apd.entered_slots thread mask object.extension)), Count (length thread.frames + 1))
     pdx-is object word named may is =
@@ -77,7 +77,7 @@ module _ (state : State) (t : ℕ) (thread : ThreadRow) (there : option_map (λ 
         ∙ ap (λ w. unless_refused w state (with_thread state t (entering a (apd.entered_slots thread mask object.extension)), Count (length thread.frames + 1)))
         (access_passed (not (is_aligned a)) (not (allowed state t a P)) (by_tests object thread.frames (apd.entered_slots thread mask object.extension)) may ∙ sym is)
 
--- `pdx`, where it is not
+-- `pdx`, if it is not
 pub pdx-denied : (state : State) (t a mask : ℕ) (word : Refusal) → access_refusal state t a P ≡ Some word → pdx state t a mask ≡ (state, No word)
 pdx-denied state t a mask word some =
     ap (λ w. unless_refused w state (with_thread state t (entering a (entered_slots state t a mask)), Count (length (frames_of state t) + 1)))
@@ -98,7 +98,7 @@ module _ (state : State) (t a mask : ℕ) where
   pub no-words : words_of state (record { thread = t; call = call.Pdx a mask }) ≡ 0
   no-words = neither (is_thread state t)
 
-  -- where it is done it disturbs, and ends the seats of its thread alone
+  -- when it is done it disturbs, and ends the seats of its thread alone
   module _ (new : State) (n : ℕ) (done : pdx state t a mask ≡ (new, Count n)) where
     pub entering-disturbs : is_thread state t ≡ true → is_disturbing state (record { thread = t; call = call.Pdx a mask }) ≡ true
     entering-disturbs is = and_from (is_ok (step state line).1) true (lives-ok state (is_thread state t) (pdx state t a mask) is (ap (λ (answer : Answer). is_ok answer.1) done)) refl

@@ -35,7 +35,7 @@ list_any-flat_map : {X Y : Type 0} (test : Y → Bool) (f : X → List Y) (xs : 
 list_any-flat_map test f [] = refl
 list_any-flat_map test f (x ∷ xs) = list_any-append test (f x) (flat_map f xs) ∙ ap (λ b. list_any test (f x) || b) (list_any-flat_map test f xs)
 
--- what these slots reach, where the object is found
+-- what these slots reach, when the object is found
 pub reaches-at : (state : State) (slots : List Slot) (address : ℕ) (sought : Sought) (object : Object) → at state.objects address ≡ Some object → object.row ≡ sought.object → state.counters.period ≡ sought.period
     → reaches state.objects state.counters.period slots address sought.right ≡ list_any (λ slot. slot_opens state sought slot) slots
 reaches-at state slots address sought object e row period =

@@ -57,7 +57,7 @@ module _ {D : Type 0} (facts : Ghosts D) (t a : ℕ) (right : Right) (old new : 
       same None = tt
 
   module _ (seats seats' : List (Option Seat)) (before after : D) (steps steps' : ℕ) where
-    -- a search where the right on the object of the address was not kept
+    -- a search when the right on the object of the address was not kept
     module _ (row : ObjectRow) (there : find (λ (r : ObjectRow). covers r a) (objects_in old) ≡ Some row) (missed : is_kept seats (of row) ≡ false) (backed : ForSome (facts.seen before) (λ image. AllBacked (now_of new image) seats'))
         (nobody : find (λ (thread : Thread). thread.number == t) (threads_in old) ≡ None → steps' ≡ steps) (few : steps' ≤ steps + search_limit) (reads : Reads facts old new before after steps steps') where
       limited : ForSome (facts.seen before) (λ image. steps' ≤ steps + access_limit (λ key. is_kept seats key) (now_of old image) access)

@@ -20,7 +20,7 @@ slot-none state sought slot none =
     let gone = found-none (based_at state.objects slot.base) (sym (find-rows (λ (r : ObjectRow). r.base == slot.base) state.objects) ∙ none) in
     ap (λ (o : Option Object). list_any (λ entry. opens sought entry) (option_map_or (λ (clist : Object). if holds sought.period clist.row slot.password R then entries_of clist.words else []) o [])) gone
 
--- one whose base has one opens what the words of that one list, where it holds the slot's password with R
+-- one whose base has one opens what the words of that one list, if it holds the slot's password with R
 pub slot-some : (state : State) (sought : Sought) (slot : Slot) (row : ObjectRow) → find (λ (r : ObjectRow). r.base == slot.base) (map (λ (o : Object). o.row) state.objects) ≡ Some row
     → slot_opens state sought slot ≡ list_any (λ entry. opens sought entry) (if holds sought.period row slot.password R then entries_of (words_based state.objects slot.base) else [])
 slot-some state sought slot row found =
@@ -39,7 +39,7 @@ reached-none state slots a right none =
     let gone = found-none (at state.objects a) (sym (find-rows (λ (r : ObjectRow). covers r a) state.objects) ∙ none) in
     sym (ap (λ v. if v then option_map (λ (object : Object). object.row) (at state.objects a) else None) (reaches-nowhere state slots a right gone))
 
--- one that an object has is reached where a slot opens that one
+-- one that an object has is reached if a slot opens that one
 pub reached-some : (state : State) (slots : List Slot) (a : ℕ) (sought : Sought) → find (λ (r : ObjectRow). covers r a) (map (λ (o : Object). o.row) state.objects) ≡ Some sought.object → state.counters.period ≡ sought.period
     → (v : Bool) → v ≡ list_any (λ slot. slot_opens state sought slot) slots → (if v then Some sought.object else None) ≡ reached_row state slots a sought.right
 reached-some state slots a sought found period v is =

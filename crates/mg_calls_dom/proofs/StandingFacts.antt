@@ -1,4 +1,4 @@
--- What is told of the state of a volume that stands on a disk.
+-- What is known of the state of a volume that stands on a disk.
 use Rattle.std.proofs.Common.{ℕ, ◌+◌, ◌*◌, ◌/◌, ◌<◌, ◌≡◌, ◌==◌, ◌&&◌, Bool, true, false, length, Option, None, Some, refl, sym, subst}
 use Rattle.std.specs.Prelude.{IsSome, find, nat_le, slice_index}
 use Rattle.std.specs.List.{list_all}

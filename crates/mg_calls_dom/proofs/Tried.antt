@@ -42,7 +42,7 @@ module _ (t a : ℕ) (right : Right) where
       by_test true is apart = cc
       by_test false is apart = cc
 
-  -- an address is known where the right on its object is kept
+  -- an address is known if the right on its object is kept
   pub known-at : (rows : List ObjectRow) (seats : List (Option Seat)) (row : ObjectRow) (base : ℕ) → find (λ (r : ObjectRow). covers r a) rows ≡ Some row → base ≡ row.base
       → rows_know rows seats t a right ≡ is_kept seats (record { thread = t; base = base; right = right })
   known-at rows seats row base found same =
@@ -78,6 +78,6 @@ module _ (t a : ℕ) (right : Right) where
         few = omega arith;
       }
 
--- a bound on what was searched, where the key was not known
+-- a bound on what was searched, if the key was not known
 pub within : (v : Bool) (steps steps' : ℕ) → v ≡ false → steps' ≤ steps + search_limit → steps' ≤ steps + (if v then 0 else search_limit)
 within v steps steps' unknown few = subst (λ known. steps' ≤ steps + (if known then 0 else search_limit)) (sym unknown) few

@@ -89,14 +89,14 @@ module _ (state : State) (t a : ℕ) (right : Right) where
   none-when true false may word some = refl
   none-when false on may word some = refl
 
-  -- its own word is one where it is not refused, and none where it is
+  -- its own word is one if it is not refused, and none if it is
   pub own-word : (row : ObjectRow) → Some row ≡ allowed_row state t a right → access_refusal state t a right ≡ None → (if is_thread state t then word_under state t a right else 0) ≡ 1
   own-word row found none = own-when (is_thread state t) (is_aligned a) (allowed state t a right) (reached_lives state t a right row found) none
 
   pub no-word : (word : Refusal) → access_refusal state t a right ≡ Some word → (if is_thread state t then word_under state t a right else 0) ≡ 0
   no-word word some = none-when (is_thread state t) (is_aligned a) (allowed state t a right) word some
 
-  -- the object behind a row that is reached
+  -- the object after a row that is reached
   pub reached-object : (row : ObjectRow) → Some row ≡ allowed_row state t a right → (object : Object) × (at state.objects a ≡ Some object) × (object.row ≡ row)
   reached-object row found = by_test (allowed state t a right) (at state.objects a) found
     where
@@ -110,7 +110,7 @@ pub lives-ok : (state : State) (v : Bool) (answer : Answer) → v ≡ true → i
 lives-ok state true answer is ok = ok
 lives-ok state false answer is ok = cc
 
--- what a store drops, told by the base of its object and by its row
+-- what a store drops, by the base of its object and by its row
 pub dropped-at : (a : ℕ) (seats seats' : List (Option Seat)) (base : ℕ) (row : ObjectRow) → base ≡ row.base → seats' ≡ (if nat_lt a (base + page_size) then without (by_given base) seats else seats)
     → seats' ≡ (if nat_lt a (row.base + page_size) then without (by_given row.base) seats else seats)
 dropped-at a seats seats' base row is dropped = subst (λ b. seats' ≡ (if nat_lt a (b + page_size) then without (by_given b) seats else seats)) is dropped

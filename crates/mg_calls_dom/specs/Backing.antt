@@ -7,6 +7,6 @@ use Rattle.mg_vcache.specs.Seats.{AllBacked}
 use Rattle.mg_volume.specs.Held.{VolumeHeld}
 use Rattle.mg_volume.specs.Meaning.{IsSpelledBy, now_of}
 
--- where each was one that the state gives, each that is left is one that the new state gives
+-- when each was one that the state gives, each that is left is one that the new state gives
 abbrev pub StayBacked : VolumeHeld → VolumeHeld → List (Option Seat) → List (Option Seat) → Type 0
 StayBacked old new seats seats' = (image : Image) → IsSpelledBy old image → IsWellFormed (now_of old image) → AllBacked (now_of old image) seats → AllBacked (now_of new image) seats'

@@ -1,4 +1,4 @@
--- Why a thread may not enter an object by an address, where the access is allowed.
+-- Why a thread may not enter an object by an address, when the access is allowed.
 use Rattle.std.specs.Prelude.{ℕ, nat_le, nat_lt, not, [], ◌∷◌, length, Option}
 use Rattle.mg_apd.specs.Refusals.{entered_slots}
 use Rattle.mg_model.specs.declared.replies.Refusal.{Refusal}
@@ -8,7 +8,7 @@ use Rattle.mg_model.specs.ObjectCalls.{is_entry}
 use Rattle.mg_model.specs.Refused.{first_refusal}
 use Rattle.mg_model.specs.State.{ObjectRow, ThreadRow}
 
--- what stands against it, of the thread's row and the object's
+-- what is against it, of the thread's row and the object's
 abbrev pub pdx_refusal : ThreadRow → ObjectRow → ℕ → ℕ → Option Refusal
 pdx_refusal thread object a mask =
     first_refusal (

@@ -6,7 +6,7 @@ use Rattle.mg_model.specs.Kept.{Validates, access_limit}
 use Rattle.mg_model.specs.Keys.{Key}
 use Rattle.mg_model.specs.State.{State}
 
--- A word is fetched with X: so many words are searched, and one is counted where the access is allowed.
+-- A word is fetched with X: the words of the search are counted, and one more if the access is allowed.
 pub record Fetches (state : State) (access : Access) (kept kept' : Key → Bool) (steps steps' : ℕ) : Type 0 where
   pub searched : ℕ
   pub keeps : Validates state access kept kept' searched

@@ -1,4 +1,4 @@
--- Whether the key of an access is kept, told by the rows of the objects alone.
+-- Whether the key of an access is kept, by the rows of the objects alone.
 use Rattle.std.specs.Prelude.{ℕ, Bool, false, List, find, Option}
 use Rattle.std.specs.Option.{option_map_or}
 use Rattle.mg_model.specs.declared.rights.Right.{Right}

@@ -1,4 +1,4 @@
--- Lemmas on what rows tell of the objects of a state.
+-- Lemmas on what rows say of the objects of a state.
 use Rattle.std.specs.Prelude.{ℕ, ◌≡◌, Bool, true, false, List, [], ◌∷◌, if◌then◌else◌, find, map, option_map, Option, Some, None}
 use Rattle.std.specs.Option.{option_map_or}
 use Rattle.std.proofs.Common.{refl, sym, ap, ◌∙◌}
@@ -30,7 +30,7 @@ by_object : (seats : List (Option Seat)) (t : ℕ) (right : Right) (o : Option O
 by_object seats t right None = refl
 by_object seats t right (Some object) = refl
 
--- the rows tell whether the key of an access is kept
+-- the rows say whether the key of an access is kept
 pub rows_tell : (v : VolumeHeld) (image : Image) (seats : List (Option Seat)) (t a : ℕ) (right : Right)
     → is_known (λ key. is_kept seats key) (now_of v image) (record { thread = t; address = a; right = right }) ≡ rows_know (objects_in v) seats t a right
 rows_tell v image seats t a right =

@@ -20,7 +20,7 @@ keeps_line state line kept kept' steps steps' words rules count = record {
   most = let few = rules.few in omega arith;
 }
 
--- the same of one that may have dropped keys behind its accesses, where it disturbs
+-- the same of one that may have dropped keys after its accesses, if it disturbs
 pub drops_line : (state : State) (line : Line) (kept kept' : Key → Bool) (steps steps' words : ℕ) → (is_disturbing state line ≡ false → KeepsKeys state (accesses state line) kept kept') → words ≤ searches_limit kept state (accesses state line)
     → steps' ≡ steps + words_of state line + words → KeepsLine state line kept kept' steps steps'
 drops_line state line kept kept' steps steps' words keys few count = record { keys = keys; least = omega arith; most = omega arith }
@@ -33,7 +33,7 @@ none_rules state kept kept' words same none keep = keep state kept [] kept' word
 pub one_rules : (state : State) (access : Access) (kept kept' : Key → Bool) (words : ℕ) → Validates state access kept kept' words → SearchesKeepRules Searches → KeepsRules state (access ∷ []) kept kept' words
 one_rules state access kept kept' words valid keep = keep state kept (access ∷ []) kept' words (kept', words, 0, omega arith, valid, ((λ key. refl), refl))
 
--- The keys that would be kept behind an access, whether it is allowed or not.
+-- The keys that would be kept after an access, whether it is allowed or not.
 abbrev pub as_if : State → Access → (Key → Bool) → Key → Bool
 as_if state access kept key = if is_elsewhere (taken state access) key then kept key else true
 
@@ -60,11 +60,11 @@ failing-append test before (access ∷ first) more = let later = failing-append 
 pub limit_append : (state : State) (kept : Key → Bool) (first more : List Access) → searches_limit kept state first ≤ searches_limit kept state (first ++ more)
 limit_append state kept first more = let less = failing-append (is_served kept state) [] first more in omega arith
 
--- a line stays within its limit where its searches do
+-- a line stays within its limit if its searches do
 pub limit_line : (state : State) (line : Line) (kept : Key → Bool) (steps steps' : ℕ) → steps' ≤ steps + searches_limit kept state (accesses state line) → steps' ≤ steps + line_limit kept state line
 limit_line state line kept steps steps' few = omega arith
 
--- Accesses of a thread, which makes none where it does not live.
+-- Accesses of a thread, which makes none if it does not live.
 pub thread_rules : (state : State) (t : ℕ) (made : List Access) (kept kept' : Key → Bool) (steps steps' : ℕ) → SearchesKeepRules Searches → Searches state kept made kept' (steps' - steps)
     → (is_thread state t ≡ false → (key : Key) → kept' key ≡ kept key) → (is_thread state t ≡ false → steps' ≡ steps) → KeepsRules state (if is_thread state t then made else []) kept kept' (steps' - steps)
 thread_rules state t made kept kept' steps steps' keep searches same none = by_thread (is_thread state t) same none

@@ -1,4 +1,4 @@
--- Lemmas on what was reached: what the row that is found tells of the access, and steps of a search through a list.
+-- Lemmas on what was reached: what the row that is found says of the access, and steps of a search through a list.
 use Rattle.std.proofs.Common.{ℕ, suc, ◌+◌, ◌<◌, ◌≤◌, ◌≡◌, ◌||◌, ◌&&◌, ◌==◌, Bool, true, false, List, length, get_or, drop, if◌then◌else◌, Option, Some, None, refl, sym, ap, ◌∙◌, arith}
 use Rattle.std.specs.Prelude.{[], find, is_some, option_map}
 use Rattle.std.specs.List.{list_any}
@@ -17,7 +17,7 @@ use Rattle.mg_volume.specs.StateLemmas.{now_threads}
 use Rattle.mg_volume.specs.Meaning.{Keeps, now_of, threads_in}
 use Rattle.mg_volume.specs.RunLemmas.{told_thread}
 
--- where a row is reached the access is allowed, and the row is that of the address
+-- when a row is reached the access is allowed, and the row is that of the address
 reached-when : (v : Bool) (o : Option Object) (row : ObjectRow) → Some row ≡ (if v then option_map (λ (object : Object). object.row) o else None) → (v ≡ true) × (option_map_or (λ (object : Object). object.row) o no_row ≡ row)
 reached-when true None row h = cc
 reached-when true (Some object) row h = let is : object.row ≡ row = cc in (refl, is)
@@ -29,7 +29,7 @@ reached_allowed state t a right row h = (reached-when (allowed state t a right) 
 pub reached_at : (state : State) (t a : ℕ) (right : Right) (row : ObjectRow) → Some row ≡ allowed_row state t a right → row_at state a ≡ row
 reached_at state t a right row h = (reached-when (allowed state t a right) (at state.objects a) row h).1
 
--- where none is, the access is not allowed: an address that no object has is reached by none
+-- when none is, the access is not allowed: an address that no object has is reached by none
 unreached-when : (o : Option Object) (test : Object → Bool) → None ≡ (if option_map_or test o false then option_map (λ (object : Object). object.row) o else None) → option_map_or test o false ≡ false
 unreached-when None test h = refl
 unreached-when (Some object) test h = by_test (test object) h
@@ -73,7 +73,7 @@ gone_held v image t gone =
     let same = told_thread v image t (find (λ (thread : Thread). thread.number == t) (threads_in v)) refl in
     none-of (find (λ (thread : Thread). thread.number == t) (threads_in v)) (sym (ap is_some same) ∙ gone)
 
--- the threads that are held stay where the state does
+-- the threads that are held stay if the state does
 pub same_threads : (a b : VolumeHeld) → Keeps a b → threads_in b ≡ threads_in a
 same_threads a b keeps = sym (now_threads b []) ∙ ap (λ (s : State). s.threads) (keeps.now []) ∙ now_threads a []
 
@@ -87,6 +87,6 @@ any_miss test xs i x h miss same =
     let next : suc i ≡ i + 1 = omega arith in
     same ∙ ap (λ ys. list_any test ys) (drop-cons xs i x h) ∙ ap (λ v. v || list_any test (drop (suc i) xs)) (sym miss) ∙ ap (λ k. list_any test (drop k xs)) next
 
--- behind the last there is none
+-- after the last there is none
 pub any_end : {X : Type 0} (test : X → Bool) (xs : List X) (i : ℕ) → length xs ≤ i → list_any test xs ≡ list_any test (drop i xs) → false ≡ list_any test xs
 any_end test xs i h same = sym (same ∙ ap (λ ys. list_any test ys) (drop_all i xs h))

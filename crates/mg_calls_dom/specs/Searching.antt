@@ -16,7 +16,7 @@ use Rattle.mg_model.specs.State.{Object, ObjectRow, State}
 use Rattle.mg_volume.specs.Held.{VolumeHeld}
 use Rattle.mg_volume.specs.Meaning.{counters_in, objects_in}
 
--- the object that is sought is the one that has this address, at the period of a volume
+-- the object that is sought is the object that has this address, at the period of a volume
 pub record IsSoughtAt (v : VolumeHeld) (address : ℕ) (sought : Sought) : Type 0 where
   pub found : find (λ (r : ObjectRow). covers r address) (objects_in v) ≡ Some sought.object
   pub period : sought.period ≡ (counters_in v).period
@@ -44,12 +44,12 @@ pub record IsOpenedBy (state : State) (sought : Sought) (slots : List Slot) (via
   pub base : slot.base ≡ via
   pub opened : slot_opens state sought slot ≡ true
 
--- the row of the object that has the address, where these slots reach it with the right
+-- the row of the object that has the address, if these slots reach it with the right
 abbrev pub reached_row : State → List Slot → ℕ → Right → Option ObjectRow
 reached_row state slots address right =
     if reaches state.objects state.counters.period slots address right then option_map (λ (object : Object). object.row) (at state.objects address) else None
 
--- the same where a thread may reach it
+-- the same if a thread may reach it
 abbrev pub allowed_row : State → ℕ → ℕ → Right → Option ObjectRow
 allowed_row state t address right = if allowed state t address right then option_map (λ (object : Object). object.row) (at state.objects address) else None
 

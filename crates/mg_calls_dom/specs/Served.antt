@@ -19,7 +19,7 @@ use Rattle.mg_volume.specs.Calls.{Reads, Serves}
 use Rattle.mg_volume.specs.Held.{VolumeHeld}
 use Rattle.mg_volume.specs.Meaning.{Keeps, now_of, staged_of}
 
--- A call, as its contract speaks of it: its row of the definition; which keys stay kept and how many words are counted where it
+-- A call, as its contract speaks of it: its row of the definition; which keys stay kept and how many words are counted if it
 -- is answered; and how many are counted at most, be it answered or not.
 pub record CallRow : Type 1 where
   pub row : State → Answer
@@ -34,11 +34,11 @@ of_line line = record {
   IsWithin = λ state kept steps steps'. steps' ≤ steps + line_limit kept state line;
 }
 
--- the same of the call of a thread, which is not asked whether it lives
+-- the same of the call of a thread, without a test whether it lives
 abbrev pub of_call : ℕ → Call → CallRow
 of_call t made = record (of_line (record { thread = t; call = made })) { row = λ state. thread_call state t made }
 
--- One that may stage, at most so many blocks more. Where it is refused nothing more is staged, and where a call of the disk
+-- A call that may stage, at most `most` blocks more. If it is refused nothing more is staged, and if a call of the disk
 -- failed the state stays. Each right that is kept is one that the state gives.
 pub record CallServes {D E : Type 0} (most : ℕ) (facts : Ghosts D) (call : CallRow) (result : Result Reply E) (old new : VolumeHeld) (seats seats' : List (Option Seat)) (before after : D) (steps steps' : ℕ) : Type 0 where
   pub answers : IfOk result (λ reply. ForSome (facts.seen before) (λ image. call.row (now_of old image) ≡ (now_of new image, reply)))

@@ -1,4 +1,4 @@
--- Lemmas on what a call with the disk keeps: of one that was answered behind reads alone, and of one that reads where it might stage.
+-- Lemmas on what a call with the disk keeps: of one that was answered after reads alone, and of one that reads and might have staged.
 use Rattle.std.specs.Prelude.{ℕ, ◌≡◌, ◌-◌, List, Option, Result, Ok, Err}
 use Rattle.std.specs.Option.{ForSome}
 use Rattle.std.proofs.Common.{arith, sym, ap, ◌∙◌}

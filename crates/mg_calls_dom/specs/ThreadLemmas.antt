@@ -20,7 +20,7 @@ lives-row t (thread ∷ threads) is none = by_test (thread.number == t) is none 
     by_test true is none later = cc
     by_test false is none later = later is none
 
--- the slots that are told of a thread by its row
+-- the slots of a thread, by its row
 pub slots-of : (found : Option Thread) (thread : ThreadRow) → option_map (λ (x : Thread). x.row) found ≡ Some thread → option_map_or (λ (x : Thread). last_slots x.row.frames) found [] ≡ last_slots thread.frames
 slots-of None thread h = cc
 slots-of (Some x) thread h = let same : x.row ≡ thread = cc in ap (λ (r : ThreadRow). last_slots r.frames) same

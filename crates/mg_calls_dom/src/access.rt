@@ -135,7 +135,7 @@ pub fn word_object<D: Disk, L: Ledger>(
     }
 }
 
-/// As [`word_object`], and gives the base of the object alone.
+/// As [`word_object`], but returns the base of the object alone.
 fn word_base<D: Disk, L: Ledger>(
     volume: &mut Volume,
     cache: &mut VCache,

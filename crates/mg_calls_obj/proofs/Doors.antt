@@ -1,4 +1,4 @@
--- What a call on an object keeps and costs, behind one search.
+-- What a call on an object keeps and costs, after one search.
 use Rattle.std.specs.Prelude.{◌≡◌, ◌≤◌, ◌+◌, ◌-◌, ◌&&◌, ℕ, Bool, true, false, List, [], ◌∷◌, if◌then◌else◌, Option}
 use Rattle.std.proofs.Common.{refl, sym, ap, arith, subst, ◌∙◌}
 use Rattle.mg_calls_dom.specs.LineLemmas.{drops_line, limit_line, one_limit, thread_limit, thread_rules}
@@ -60,7 +60,7 @@ denied (call.Ext b clist password) state t on barred = rw barred refl
 denied (call.Recharge b account password) state t on barred = rw barred refl
 denied other state t on barred = cc
 
--- where it is refused it ends no seat
+-- when it is refused it ends no seat
 pub ends_none : (made : Call) (object : ObjectRow) (old new : List (Option Seat)) (reply : Reply) → EndsBy made object old new reply → is_ok reply ≡ false → new ≡ old
 ends_none (call.Delete b) object old new reply ends ok = drops_none (by_via object.base) old new reply ends ok
 ends_none (call.Pwdel b password) object old new reply ends ok = drops_none (by_via object.base) old new reply ends ok
@@ -80,7 +80,7 @@ ends_backed (call.Ext b clist password) state new t object seats seats' reply on
 ends_backed (call.Recharge b account password) state new t object seats seats' reply on keeps at ends same all = same_backed state new seats seats' keeps ends all
 ends_backed other state new t object seats seats' reply on keeps at ends same all = cc
 
--- what is said of the address and the right that were told
+-- what is said of the address and the right that were given
 pub at_door : (P : ℕ → Right → Type 0) (made : Call) (place : ℕ × Right) → place ≡ (named made, asked made) → P place.0 place.1 → P (named made) (asked made)
 at_door P made place is holds = subst (λ (x : ℕ × Right). P x.0 x.1) is holds
 

@@ -61,7 +61,7 @@ module _ (v : VolumeHeld) (image : Image) (n account password : ℕ) where
   pub create-is : (word : Option Refusal) → word ≡ creating_refusal v n account password → create (now_of v image) n account password ≡ unless_refused word (now_of v image) (done_of (now_of v image) n account)
   create-is word is = ap (λ r. unless_refused r (now_of v image) (done_of (now_of v image) n account)) (same-refusal ∙ sym is)
 
--- what is staged is the state behind it
+-- what is staged is the state after it
 pub created :
     (state mid new : State) (n account base page fresh : ℕ) (row : ObjectRow) → base ≡ 4096 * page → page ≡ lowest_free state.objects n → fresh ≡ next_password state → row ≡ (new_object base n account fresh).row
     → mid ≡ drawn state → new ≡ record mid { objects = with_object (blank row) mid.objects } → done_of state n account ≡ (new, Made base fresh)

@@ -66,7 +66,7 @@ module _ (state : State) (t a : ℕ) where
   made_next rights i d = map-append of (take i rights) (get_or rights i d ∷ [])
 
   module _ (kept : Key → Bool) (rights : List Right) (i : ℕ) (d : Right) (s u w : ℕ) (low : s ≤ u) (high : u ≤ w) (more : SearchesGoOn Searches) (before : Searches state kept (map of (take i rights)) kept (u - s)) where
-    -- an access behind those that found nothing
+    -- an access after those that found nothing
     pub searched : (kept' : Key → Bool) → Validates state (of (get_or rights i d)) kept kept' (w - u) → Searches state kept (map of (take i rights ++ get_or rights i d ∷ [])) kept' (w - s)
     searched kept' valid =
         let total : (u - s) + (w - u) ≡ w - s = omega arith in
@@ -85,14 +85,14 @@ module _ (state : State) (t a : ℕ) where
         let less : w - s ≤ searches_limit kept state (map of first ++ map of rest) = omega arith in
         subst (λ made. w - s ≤ searches_limit kept state made) (sym (ap (λ xs. map of xs) whole ∙ map-append of first rest)) less
 
--- the rule of an access, told of the state and the seats before a run of reads
+-- the rule of an access, for the state and the seats before a run of reads
 pub valid-since : (one other : State) (access : Access) (seats seats' : List (Option Seat)) (kept' : Key → Bool) (words : ℕ) → other ≡ one → seats' ≡ seats → Validates other access (λ key. is_kept seats' key) kept' words → Validates one access (λ key. is_kept seats key) kept' words
 valid-since one other access seats seats' kept' words e same valid = subst (λ s. Validates s access (λ key. is_kept seats key) kept' words) e (subst (λ s. Validates other access (λ key. is_kept s key) kept' words) same valid)
 
 pub limit-since : (one other : State) (access : Access) (seats seats' : List (Option Seat)) (u w : ℕ) → other ≡ one → seats' ≡ seats → w ≤ u + access_limit (λ key. is_kept seats' key) other access → w ≤ u + access_limit (λ key. is_kept seats key) one access
 limit-since one other access seats seats' u w e same few = subst (λ s. w ≤ u + access_limit (λ key. is_kept seats key) s access) e (subst (λ s. w ≤ u + access_limit (λ key. is_kept s key) other access) same few)
 
--- a thread that is not there is not there where the state stays
+-- a thread that is not there is not there if the state stays
 pub gone-since : (a b : VolumeHeld) (t : ℕ) → Keeps a b → find (λ (thread : Thread). thread.number == t) (threads_in a) ≡ None → find (λ (thread : Thread). thread.number == t) (threads_in b) ≡ None
 gone-since a b t keeps gone = ap (λ threads. find (λ (thread : Thread). thread.number == t) threads) (same_threads a b keeps) ∙ gone
 

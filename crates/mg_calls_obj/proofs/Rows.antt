@@ -83,7 +83,7 @@ module _ (state : State) (t a : ℕ) (object : ObjectRow) (named : row_at state 
       ∙ ap (λ (r : ObjectRow). (record state { objects = without_object r.base state.objects }, Done)) named
 
   module _ (may : allowed state t a O ≡ true) where
-    -- what an owner's call comes to
+    -- what an owner's call does
     of_owner : (call : Bool → ObjectRow → Answer) → call (allowed state t a O) (row_at state a) ≡ call true object
     of_owner call = ap (λ m. call m (row_at state a)) may ∙ ap (λ r. call true r) named
 

@@ -24,7 +24,7 @@ creating_refusal v n account password =
     ∷ (nat_lt (settings_in v).frames (used_in v + n), Full)
     ∷ [])
 
--- what holds where there is none
+-- what holds if there is none
 pub record IsRoom (v : VolumeHeld) (n account : ℕ) : Type 0 where
   pub some : 1 ≤ n
   pub few : n ≤ object_page_limit

@@ -40,7 +40,7 @@ abbrev pub asked : Call → Right
 asked (call.Delete b) = D
 asked other = O
 
--- its reply and the state after it are those of its row, where the address names the object and the thread has the right
+-- its reply and the state after it are those of its row, if the address names the object and the thread has the right
 abbrev pub ActsBy : Call → ObjectRow → VolumeHeld → VolumeHeld → Reply → Type 0
 ActsBy made object old new reply =
     (image : Image) (t : ℕ) → IsSpelledBy old image → IsWellFormed (now_of old image) → row_at (now_of old image) (named made) ≡ object → allowed (now_of old image) t (named made) (asked made) ≡ true

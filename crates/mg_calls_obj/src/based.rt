@@ -41,7 +41,7 @@ pub fn pwadd(volume: &mut Volume, base: u64, rights: Rights, until: Option<u64>)
     pwadd_by_row(volume, object, rights, until)
 }
 
-/// Every password row with this password goes of the object with this base, be it current or not, and with them all rights that
+/// Every password row with this password goes of the object with this base, whether it is current or not, and with them all rights that
 /// were found for the object or in it; the others stay ones that the state gives. An object without one is refused (NoPassword).
 pub fn pwdel(volume: &mut Volume, cache: &mut VCache, base: u64, password: u64) -> Reply
     requires there { is_object volume.old base ≡ true }

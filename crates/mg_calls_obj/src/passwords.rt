@@ -42,7 +42,7 @@ pub(crate) fn pwadd_by_row(
     Reply::Value(password)
 }
 
-/// Every password row of an object with this password goes, be it current or not, and with them all rights that were found
+/// Every password row of an object with this password goes, whether it is current or not, and with them all rights that were found
 /// for the object or in it. An object without one is refused (NoPassword).
 pub(crate) fn pwdel_by_row(
     volume: &mut Volume,

@@ -40,7 +40,7 @@ use Rattle.mg_volume.specs.Staging.{threads_with}
 abbrev pub is_full : List Thread → Counters → Bool
 is_full threads counters = nat_le thread_limit (length threads) || nat_le birth_limit counters.births
 
--- what is made where there may, by what it is made of
+-- what is made if it may be made, by what it is made of
 abbrev made_by : State → ℕ → ℕ → Counters → ℕ → List Slot → List Thread → Answer
 made_by state pc number counters creator slots threads =
     (record state { counters = record counters { births = counters.births + 1 }; threads = with_new_thread (new_thread number (counters.births + 1) creator pc slots) threads }, Count number)
@@ -49,12 +49,12 @@ abbrev pub made_of : State → ℕ → ℕ → Answer
 made_of state t pc = made_by state pc (free_number state.threads) state.counters (birth_of state t) (domain_of state t) state.threads
 
 module _ (state : State) (t pc : ℕ) where
-  -- where the access is not allowed
+  -- when the access is not allowed
   pub make-denied : (word : Refusal) → access_refusal state t pc X ≡ Some word → make_thread state t pc ≡ (state, No word)
   make-denied word some =
       ap (λ w. unless_refused w state (made_of state t pc)) (access_stopped (not (is_aligned pc)) (not (allowed state t pc X)) word ((is_full state.threads state.counters, Limit) ∷ []) some)
 
-  -- where it is
+  -- when it is
   make-by : access_refusal state t pc X ≡ None → make_thread state t pc ≡ unless_refused (if is_full state.threads state.counters then Some Limit else None) state (made_of state t pc)
   make-by may = ap (λ w. unless_refused w state (made_of state t pc)) (access_passed (not (is_aligned pc)) (not (allowed state t pc X)) ((is_full state.threads state.counters, Limit) ∷ []) may)
 
@@ -68,7 +68,7 @@ module _ (state : State) (t pc : ℕ) where
     pub make-done : access_refusal state t pc X ≡ None → is_full threads counters ≡ false → make_thread state t pc ≡ made_of state t pc
     make-done may room = make-by may ∙ ap (λ v. unless_refused (if v then Some Limit else None) state (made_of state t pc)) (full-is false room)
 
-    -- what is staged is the state behind it
+    -- what is staged is the state after it
     pub made : (mid new : State) (maker : ThreadRow) (number : ℕ) → option_map (λ (x : Thread). x.row) (thread_of state t) ≡ Some maker → maker.birth ≤ counters.births → number ≡ free_number threads
         → mid ≡ record state { counters = record counters { births = counters.births + 1 } } → new ≡ record mid { threads = with_new_thread (record { number = number; row = first_row maker counters.births pc }) threads }
         → made_of state t pc ≡ (new, Count number)

@@ -1,4 +1,4 @@
--- What is told of a thread by its row, where it is held.
+-- What the row of a thread says of it, if it is held.
 use Rattle.std.proofs.Common.{ℕ, ◌≡◌, ◌||◌, ◌==◌, Bool, not, true, false, List, [], ◌∷◌, if◌then◌else◌, Option, Some, None, refl, ap}
 use Rattle.std.specs.Prelude.{find, is_some, option_map}
 use Rattle.std.specs.List.{list_any}

@@ -16,7 +16,7 @@ use Rattle.mg_volume.specs.Meaning.{IsSpelledBy, now_of}
 abbrev pub first_frame : ThreadRow → CallFrame
 first_frame maker = record { back = 0; slots = last_slots maker.frames }
 
--- its row, behind so many births: in a state that is well formed none is above them
+-- its row, after this number of births: in a state that is well formed none is above them
 abbrev pub first_row : ThreadRow → ℕ → ℕ → ThreadRow
 first_row maker births pc = record {
   birth = births + 1;
@@ -27,6 +27,6 @@ first_row maker births pc = record {
   frames = first_frame maker ∷ [];
 }
 
--- the state and the reply are those of its row, where thread t may execute at the address
+-- the state and the reply are those of its row, if thread t may execute at the address
 abbrev pub Begins : ℕ → ℕ → VolumeHeld → VolumeHeld → Reply → Type 0
 Begins t pc old new reply = (image : Image) → IsSpelledBy old image → IsWellFormed (now_of old image) → access_refusal (now_of old image) t pc X ≡ None → make_thread (now_of old image) t pc ≡ (now_of new image, reply)

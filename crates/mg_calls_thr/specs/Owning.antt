@@ -9,7 +9,7 @@ use Rattle.mg_model.specs.State.{Thread}
 abbrev pub thread_among : List Thread → ℕ → Option Thread
 thread_among threads i = find (λ (thread : Thread). thread.number == i) threads
 
--- the birth of a thread, and its creator's; 0 where there is no such thread
+-- the birth of a thread, and its creator's; 0 if there is no such thread
 abbrev pub birth_among : List Thread → ℕ → ℕ
 birth_among threads i = option_map_or (λ (thread : Thread). thread.row.birth) (thread_among threads i) 0
 

@@ -1,4 +1,4 @@
--- Runs are apart exactly where no number lies in two of them; so a list can be tested in another order.
+-- Runs are apart exactly if no number lies in two of them; so a list can be tested in another order.
 use Rattle.std.specs.Prelude.{◌≡◌, ℕ, zero, suc, ◌+◌, ◌<◌, ◌≤◌, ◌==◌, ◌&&◌, ◌||◌, nat_le, nat_lt, not, Bool, true, false, List, [], ◌∷◌, All, if◌then◌else◌, length, map, slice_index_or, sum_by}
 use Rattle.std.specs.List.{AllAdjacentBelow, list_any}
 use Rattle.std.specs.List.Sorted.{IsPermutation, IsSorted}
@@ -105,7 +105,7 @@ units_some : (xs : List ℕ) → All IsSome (units xs)
 units_some [] = All-nil IsSome
 units_some (x ∷ xs) = All-cons IsSome (unit x) (units xs) (omega arith) (units_some xs)
 
--- a number that stands there is counted
+-- a number that is in the list is counted
 is_in_unit : (n x : ℕ) → is_in n (unit x) ≡ (n == x)
 is_in_unit n x = grind (arith, nat_tests)
 
@@ -156,7 +156,7 @@ once_distinct (x ∷ xs) single = and_from (not (list_any (λ y. x == y) xs)) (a
     new : list_any (λ y. x == y) xs ≡ false → not (list_any (λ y. x == y) xs) ≡ true
     new f = ap not f
 
--- Numbers are distinct exactly where they rise in another order of theirs that does not fall.
+-- Numbers are distinct exactly if they rise in another order of theirs that does not fall.
 pub distinct-same : (xs ys : List ℕ) → IsPermutation xs ys → ordered_from 0 (units ys) ≡ true → all_distinct xs ≡ rises_from 0 ys
 distinct-same xs ys moved ordered =
     both_ways (all_distinct xs) (apart_from 0 (units ys))

@@ -1,4 +1,4 @@
--- What is told of a volume by its rows.
+-- What the rows of a volume say of it.
 use Rattle.std.specs.Prelude.{◌≡◌, ◌+◌, ℕ, List, length, sum_by}
 use Rattle.std.proofs.Common.{sym, ap, ◌∙◌}
 use Rattle.std.proofs.lemmas.List.{length-map}

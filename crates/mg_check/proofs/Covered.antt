@@ -53,7 +53,7 @@ module _ (spans : List (ℕ × ℕ)) (some : All IsSome spans) (apart : apart_fr
             omega arith))
             (cases_eq k (place - 1))
 
--- a run that stands there
+-- a run that is in the list
 pub within-there : (spans : List (ℕ × ℕ)) (k : ℕ) (d : ℕ × ℕ) → k < length spans → IsWithin (slice_index_or spans k d) spans
 within-there spans k d there n inside = list_any_at (is_in n) spans k d there inside
 
@@ -61,7 +61,7 @@ within-there spans k d there n inside = list_any_at (is_in n) spans k d there in
 pub none-within : (spans : List (ℕ × ℕ)) → IsWithin (0, 0) spans
 none-within spans n inside = absurd (let i = in_one n (0, 0) inside in omega arith)
 
--- all of a list pass where all do in another order
+-- all of a list pass if all do in another order
 pub all-permuted : (p : ℕ → Bool) (xs ys : List ℕ) → IsPermutation xs ys → list_all p xs ≡ list_all p ys
 all-permuted p xs ys moved = none_fails xs ∙ ap not (list_any-IsPermutation (λ x. not (p x)) xs ys moved) ∙ sym (none_fails ys)
   where

@@ -56,7 +56,7 @@ module _ (entry : ℕ → ℕ) where
     rest = ap (λ n. are_zeros (entries entry frames n)) (let e : f + 1 - frames ≡ 0 = omega arith in e);
   }
 
-  -- an entry behind the last frame
+  -- an entry after the last frame
   pub entry-free : (f frames : ℕ) (old : List ℕ) → frames ≤ f → AreEntries entry f frames old → (entry f == 0) ≡ true → AreEntries entry (f + 1) frames old
   entry-free f frames old behind told nothing = record {
     are = told.are ∙ ap (entries entry 0) (let e : min f frames ≡ min (f + 1) frames = omega arith in e);

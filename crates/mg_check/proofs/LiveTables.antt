@@ -31,7 +31,7 @@ module _ {R : Type 0} where
   pub behind-none : (old new : List (Option R)) → new ≡ old ++ None ∷ [] → live_from 0 new ≡ live_from 0 old
   behind-none old new more = ap (live_from 0) more ∙ live-behind 0 old None ∙ append-nil (live_from 0 old)
 
-  -- a row in a place of its own, behind free ones
+  -- a row in a place of its own, after free ones
   pub behind-filled :
       (i : ℕ) (row : R) (old mid new : List (Option R)) → length mid ≡ i → live_from 0 mid ≡ live_from 0 old → new ≡ mid ++ Some row ∷ [] → live_from 0 new ≡ live_from 0 old ++ (i, row) ∷ []
   behind-filled i row old mid new long same more = behind-row i row mid new long more ∙ ap (λ xs. xs ++ (i, row) ∷ []) same
@@ -39,7 +39,7 @@ module _ {R : Type 0} where
   pub long-more : (i : ℕ) (row : Option R) (old new : List (Option R)) → length old ≡ i → new ≡ old ++ row ∷ [] → length new ≤ i + 1
   long-more i row old new long more = let e = ap length more in let l = length-append old (row ∷ []) in omega arith
 
--- what is told place by place is told of the live rows
+-- what is said place by place is said of the live rows
 pub live-places : (i : ℕ) (rows : List (Option ObjectRow)) → filter_map (option_map place_of) rows ≡ places_of (live_from i rows)
 live-places i [] = refl
 live-places i (None ∷ rows) = live-places (i + 1) rows

@@ -1,4 +1,4 @@
--- Where something is not spelled, or an account stands behind a free row, there is no state.
+-- If something is not spelled, or an account follows a free row, there is no state.
 use Rattle.std.specs.Prelude.{◌≡◌, ◌&&◌, ℕ, true, false, List, drop, if◌then◌else◌, length, take, Option, None, Some}
 use Rattle.std.specs.Option.{option_map_or}
 use Rattle.std.proofs.Common.{refl, ap, ◌∙◌, ⊎_elim}
@@ -42,7 +42,7 @@ module _ (frames : ℕ) (whole : List ℕ) where
   no_table (Some c) (Some a) (Some t) None rest = refl
   no_table (Some c) (Some a) (Some t) (Some o) rest = ap (λ b. if b then Some (rows_with c a t o (take frames whole)) else None) rest
 
--- an account behind a free row
+-- an account after a free row
 module _ (settings : Settings) (image : List (List ℕ)) where
   abbrev reading : Option Rows → VolumeRead
   reading found = option_map_or (λ rows. fitting rows (state_spelled image settings rows)) found Damaged
@@ -105,7 +105,7 @@ module _ (settings : Settings) (image : List (List ℕ)) where
   pub without-accounts : NotSpelled (λ i. account_read (account_row_bytes image i)) account_limit → HasNoState settings image
   without-accounts missing = no_state (ap (λ a. rows_from frames counters a (threads thread_limit) (objects object_limit) whole) missing.none ∙ no_accounts frames whole counters (threads thread_limit) (objects object_limit))
 
-  -- where an account stands behind a free row
+  -- when an account follows a free row
   pub with-gap : (rows : List (ℕ × AccRow)) → AreLive (λ i. account_read (account_row_bytes image i)) account_limit rows → has_no_gap 0 rows ≡ false → HasNoState settings image
   with-gap rows live gap = record {
     none =

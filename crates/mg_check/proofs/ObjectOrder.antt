@@ -110,7 +110,7 @@ module _ (image : List (List ℕ)) (frames : ℕ) (table : List ℕ) where
   ordered [] = refl
   ordered ((place, row) ∷ rows) = ordered_with 0 (object_spelled image frames table row) (objects_spelled image frames table rows) (omega arith) (ordered rows)
 
-  -- what is told of the rows is told of the objects
+  -- what is said of the rows is said of the objects
   pub spelled-used : (rows : List (ℕ × ObjectRow)) → used (objects_spelled image frames table rows) ≡ sum_by (λ (row : ℕ × ObjectRow). row.1.pages) rows
   spelled-used rows = sum_by-IsPermutation (λ (object : Object). object.row.pages) (map spelled rows) (objects_spelled image frames table rows) (moved rows) ∙ sum-map (λ (object : Object). object.row.pages) spelled rows
 

@@ -14,7 +14,7 @@ module _ {R : Type 0} where
   abbrev Below : ℕ → ℕ × R → Type 0
   Below n row = row.0 < n
 
-  -- a row behind all others
+  -- a row after all others
   rise_more : (i : ℕ) (row : R) (rows : List (ℕ × R)) → All (Below i) rows → AllPairs Before rows → AllPairs Before (rows ++ (i, row) ∷ [])
   rise_more i row [] below rise = AllPairs-cons Before (i, row) [] (All-nil (Before (i, row))) (AllPairs-nil Before)
   rise_more i row (first ∷ rows) below rise =

@@ -1,4 +1,4 @@
--- From what is told of the rows to what is told of the image.
+-- From what is said of the rows to what is said of the image.
 use Rattle.std.specs.Prelude.{◌≡◌, ℕ, ◌<◌, ◌≤◌, ◌==◌, nat_le, Bool, true, List, IsSome, if◌then◌else◌, length, Option, None, Some}
 use Rattle.std.specs.Option.{option_map_or}
 use Rattle.std.proofs.Common.{refl, sym, ap, ◌∙◌}

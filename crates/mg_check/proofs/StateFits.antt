@@ -1,4 +1,4 @@
--- The tests of the rows decide whether these may stand beside each other.
+-- The tests of the rows decide whether these keep the rules between each other.
 use Rattle.std.specs.Prelude.{◌≡◌, ℕ, ◌+◌, ◌==◌, ◌&&◌, nat_le, Bool, true, false, List, [], ◌∷◌, Option, if◌then◌else◌, length, sum_by, Some}
 use Rattle.std.specs.List.{list_all, list_any}
 use Rattle.std.specs.Option.{option_map_or}
@@ -102,7 +102,7 @@ module _ (rows : VolumeRows) where
       && threads_fit rows.globals.births (threads_spelled rows.threads.items)
       && table_fits (objects_at image) rows.table.items) (accounts-placed 0 rows.accounts.items)
 
-  -- what the tests of them tell, where the parts are taken out
+  -- what the tests of them say, when the parts are taken out
   pub accounts-test : (test : Bool) (credits : ℕ) (accounts : List AccRow) → test ≡ accounts_fit credits rows.globals.period accounts → credits ≡ rows.params.credits → accounts ≡ rows.accounts.items
       → accounts_fit rows.params.credits rows.globals.period rows.accounts.items ≡ test
   accounts-test test credits accounts is same here = sym (is ∙ ap (λ n. accounts_fit n rows.globals.period accounts) same ∙ ap (accounts_fit rows.params.credits rows.globals.period) here)
@@ -155,7 +155,7 @@ module _ (rows : VolumeRows) where
           ∙ sym is;
     }
 
-  -- what is told of an image that spells them
+  -- what is said of an image that spells them
   module _ (settings : Settings) (same : rows.params ≡ settings) (image : Image) (told : AreTold rows image) where
     rows_are : rows_of image settings.frames ≡ Some (rows_in rows)
     rows_are = ap (λ (s : Settings). rows_of image s.frames) (sym same) ∙ told.are
@@ -171,7 +171,7 @@ module _ (rows : VolumeRows) where
     pub damaged-rows : Decides false rows → HasNoState settings image
     damaged-rows unfit = record { none = reads_as ∙ ap (λ b. if b then Is (state_in rows image) else Damaged) (unfit.is image) }
 
--- each table told
+-- what is said of each table
 pub tables-told : (rows : VolumeRows) (image : Image) → globals_read (block_of image globals_block) ≡ Some rows.globals
     → AreLive (λ i. account_read (account_row_bytes image i)) account_limit (placed_from 0 rows.accounts.items)
     → AreLive (λ i. thread_read (thread_row_bytes image i)) thread_limit rows.threads.items

@@ -4,7 +4,7 @@ pub mod Summaries
 -- What was read, and which rows are live.
 pub mod Reads
 pub mod TableRows
--- What each table tells, and the rules between rows.
+-- What each table holds, and the rules between rows.
 pub mod TableTold
 pub mod RowsTold
 pub mod Spans

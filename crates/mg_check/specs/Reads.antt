@@ -15,12 +15,12 @@ pub record CanRead {D : Type 0} (facts : Ghosts D) (need : ℕ) (Fits : Image �
   pub room : need ≤ facts.block_count disk
   pub fits : ForSome (facts.seen disk) Fits
 
--- from old to new nothing was written, and the count of faults went on
+-- from old to new nothing was written, and the count of faults did not fall
 pub record OnlyRead {D : Type 0} (facts : Ghosts D) (old new : D) : Type 0 where
   pub writes : WritesNothing facts old new
   pub count : CountGoes facts old new
   pub blocks : facts.block_count new ≡ facts.block_count old
 
--- so many blocks of the contents from the first one on are at hand
+-- this many blocks of the contents, from the first one on, are at hand
 abbrev pub IsRun : ℕ → ℕ → Image → Image → Type 0
 IsRun first count blocks r = (k : ℕ) → k < count → block_at r (first + k) ≡ block_at blocks k

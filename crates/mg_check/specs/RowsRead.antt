@@ -16,7 +16,7 @@ abbrev pub placed_from : ℕ → List AccRow → List (ℕ × AccRow)
 placed_from i [] = []
 placed_from i (row ∷ rows) = (i, row) ∷ placed_from (i + 1) rows
 
--- the rows that are there, each with its place, where the first place is i
+-- the rows that are there, each with its place, counted from i
 abbrev pub live_from : {R : Type 0} → ℕ → List (Option R) → List (ℕ × R)
 live_from i [] = []
 live_from i (None ∷ rows) = live_from (i + 1) rows
@@ -49,7 +49,7 @@ pub record IsReadAs (rows : VolumeRows) (image : Image) : Type 0 where
   pub rows_are : rows_of replayed rows.params.frames ≡ Some (rows_in rows)
   pub is : volume image ≡ Is (state_in rows replayed)
 
--- so many rows of a table, in the order of their places
+-- the rows of a table of n places, in the order of their places
 pub record ArePlaced {R : Type 0} (n : ℕ) (rows : List (ℕ × R)) : Type 0 where
   pub few : length rows ≤ n
   pub below : All (λ (row : ℕ × R). row.0 < n) rows

@@ -1,4 +1,4 @@
--- What is told of a volume by the rows that were read.
+-- What the rows that were read say of a volume.
 use Rattle.std.specs.Prelude.{◌≡◌, ℕ, List, None, Some}
 use Rattle.mg_check.specs.declared.volume_rows.VolumeRows.{VolumeRows}
 use Rattle.mg_check.specs.RowsRead.{rows_in, state_in}

@@ -25,6 +25,6 @@ pub record AreSpans (spans : List (ℕ × ℕ)) (rows : List (ℕ × ObjectRow))
   pub ordered : ordered_from 0 spans ≡ true
   pub each : All IsSome spans
 
--- this says whether the rows may stand beside each other, whatever words the frames have
+-- this says whether the rows keep the rules between each other, whatever words the frames have
 pub record Decides (fit : Bool) (rows : VolumeRows) : Type 0 where
   pub is : (replayed : Image) → state_fits (rows_in rows) (state_in rows replayed) ≡ fit

@@ -1,4 +1,4 @@
--- What is told of an image with a superblock.
+-- What is reported of an image with a superblock.
 use Rattle.std.specs.Prelude.{◌≡◌, ℕ, List, Some}
 use Rattle.mg_check.specs.declared.volume_rows.VolumeRows.{VolumeRows}
 use Rattle.mg_check.specs.RowsRead.{rows_in, state_in}

@@ -1,18 +1,18 @@
--- Runs of numbers: each a pair of its first number and the one right behind it.
+-- Runs of numbers: each a pair of its first number and the one right after it.
 use Rattle.std.specs.Prelude.{ℕ, ◌≡◌, ◌+◌, ◌<◌, ◌&&◌, nat_le, nat_lt, Bool, true, List, [], ◌∷◌}
 use Rattle.std.specs.List.{list_any}
 
--- whether each run begins at or behind the end of the one before, and the first at or behind a bound
+-- whether each run begins at or after the end of the one before, and the first at or after a bound
 abbrev pub apart_from : ℕ → List (ℕ × ℕ) → Bool
 apart_from bound [] = true
 apart_from bound (span ∷ spans) = nat_le bound span.0 && apart_from span.1 spans
 
--- whether each number is above the one before, and the first at or behind a bound
+-- whether each number is above the one before, and the first at or after a bound
 abbrev pub rises_from : ℕ → List ℕ → Bool
 rises_from bound [] = true
 rises_from bound (x ∷ xs) = nat_le bound x && rises_from (x + 1) xs
 
--- whether each run begins no lower than the one before, and the first at or behind a bound
+-- whether each run begins no lower than the one before, and the first at or after a bound
 abbrev pub ordered_from : ℕ → List (ℕ × ℕ) → Bool
 ordered_from bound [] = true
 ordered_from bound (span ∷ spans) = nat_le bound span.0 && ordered_from span.0 spans

@@ -1,4 +1,4 @@
--- What is told of a volume.
+-- What is reported of a volume.
 use Rattle.std.specs.Prelude.{◌≡◌, length}
 use Rattle.mg_check.specs.declared.examining.Summary.{Summary}
 use Rattle.mg_check.specs.declared.volume_rows.VolumeRows.{VolumeRows}
@@ -19,12 +19,12 @@ summary_of state = record {
   credits = state.settings.credits;
 }
 
--- the image is a volume, and this is what is told of its state
+-- the image is a volume, and this is what is reported of its state
 pub record Tells (summary : Summary) (image : Image) : Type 0 where
   pub state : State
   pub is : volume image ≡ Is state
   pub told : summary ≡ summary_of state
 
--- this is what is told of these rows, whatever words the frames have
+-- this is what is reported of these rows, whatever words the frames have
 abbrev pub TellsOf : Summary → VolumeRows → Type 0
 TellsOf summary rows = (replayed : Image) → summary ≡ summary_of (state_in rows replayed)

@@ -1,4 +1,4 @@
--- What is told of the live rows of a table.
+-- What is said of the live rows of a table.
 use Rattle.std.specs.Prelude.{◌≡◌, ℕ, All, List, None, Some}
 use Rattle.mg_model.specs.Spelling.{Read}
 use Rattle.mg_model.specs.Volume.{live_rows}

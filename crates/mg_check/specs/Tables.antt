@@ -1,8 +1,8 @@
--- What a place of the table of objects counts for, where it has a row and where it has none.
+-- What a place of the table of objects counts for, when it has a row and when it has none.
 use Rattle.std.specs.Prelude.{ℕ, nat_le, Bool, true, Option, None, Some}
 use Rattle.mg_model.specs.State.{ObjectRow}
 
--- whether the account of an object is one of the first so many
+-- whether the account of an object is one of the first n accounts
 abbrev pub is_paid : ℕ → Option ObjectRow → Bool
 is_paid accounts None = true
 is_paid accounts (Some row) = nat_le row.account accounts

@@ -44,7 +44,7 @@ impl TableRow for AccRow {
     }
 }
 
-/// These accounts without their places. They are damaged where these are not the first ones, one after another.
+/// These accounts without their places. They are damaged if these are not the first ones, one after another.
 pub(crate) fn without_places(
     alloc: Global,
     rows: &[(u64, AccRow)],

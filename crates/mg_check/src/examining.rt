@@ -20,7 +20,7 @@ use thiserror::Error;
 /// Why a disk was not opened.
 #[derive(Debug, Drop, Error)]
 pub enum OpenFault {
-    /// It holds no volume: its gate is closed, or no superblock is behind it.
+    /// It holds no volume: its gate is closed, or no superblock is after it.
     #[error("no volume")]
     Not,
     /// It holds a volume of an older version.
@@ -37,8 +37,8 @@ pub enum OpenFault {
     Memory,
 }
 
-/// What is told of a volume.
-#[derive(Clone, Copy, Debug, PartialEq, Eq)]
+/// What is reported of a volume.
+#[derive(Clone, Copy, PartialEq, Eq)]
 pub struct Summary {
     /// The most pages that its objects may have together: 16 to 65,536.
     pub frames: u64,
@@ -56,11 +56,12 @@ pub struct Summary {
     pub credits: u64,
 }
 
-/// Tells whether a disk holds a volume, and what of it. It writes nothing. Beside what the journal needs, the gate, the
+/// Reports whether a disk holds a volume, and counts what is in it. It writes nothing. Beside what the journal needs, the gate, the
 /// superblock and each block of a table are read once, and no block of a frame.
 ///
-/// [`OpenFault::Not`], [`OpenFault::Old`] and [`OpenFault::Damaged`] come exactly where the image that reads give is no
-/// volume, an older one, or a damaged one; [`OpenFault::Disk`] only where a call of the disk failed.
+/// [`OpenFault::Not`], [`OpenFault::Old`] and [`OpenFault::Damaged`] come exactly if the image that reads give is no
+/// volume, an older one, or a damaged one; [`OpenFault::Disk`] only if a call of the disk failed. [`OpenFault::Memory`] comes if
+/// out of memory: for the view of the journal, or for the rows, which are kept as they are read.
 pub fn examine<D: Disk>(alloc: Global, disk: &mut D) -> Result<Summary, OpenFault>
     ensures tells { IfOk result (λ summary. ForSome (D.seen disk.old) (Tells summary)) }
     ensures not { result ≡ Err OpenFault.Not → ForSome (D.seen disk.old) (λ image. volume image ≡ NotVolume) }
@@ -104,7 +105,7 @@ fn count(objects: &[Option<ObjRow>]) -> u64
     count
 }
 
-/// What is told of a volume with these rows.
+/// What is reported of a volume with these rows.
 pub fn summary_of(rows: &VolumeRows) -> Summary
     requires held { AreHeld rows.now }
     ensures told { TellsOf result rows.now }

@@ -3,7 +3,7 @@
 //! A layer above learns from [`read_volume`] what the image that reads give spells: no volume, an older one, a damaged one, or
 //! a state, exactly by the definition `volume` of `mg_model`, and without a write. Of a volume it gets the rows and the frame
 //! table, which keep the rules between rows on every disk: `IsReadAs` and `AreKept` in `specs/RowsRead.antt`. [`examine`]
-//! tells what one counts in them. The tables are read out of [`Contents`]: what the journal of a volume gives, or what another
+//! counts what is in them. The tables are read from [`Contents`]: what the journal of a volume gives, or what another
 //! crate gives in its place to [`read_rows`].
 #![tactic(auto)]
 

@@ -4,20 +4,20 @@ ghost use Rattle.std.specs.Prelude.{◌≡◌, ◌≢◌, ◌≤◌, ◌++◌, �
 use mg_journal::ViewFault;
 use std::alloc::Global;
 
-/// An empty list with room for so many.
-pub(crate) fn with_room<T>(alloc: Global, n: usize) -> Result<Vec<T>, ViewFault>
+/// An empty list with room for `count` items.
+pub(crate) fn with_room<T>(alloc: Global, count: usize) -> Result<Vec<T>, ViewFault>
     ensures none { IfOk result (λ list. list.items ≡ []) }
-    ensures has_capacity { IfOk result (λ list. n ≤ vec_capacity list) }
+    ensures has_capacity { IfOk result (λ list. count ≤ vec_capacity list) }
     ensures memory { result ≢ Err ViewFault.Damaged }
     ensures no_disk { result ≢ Err ViewFault.Disk }
 {
-    match Vec::with_capacity(alloc, n) {
+    match Vec::with_capacity(alloc, count) {
         Ok(list) => Ok(list),
         Err(_) => Err(ViewFault::Memory),
     }
 }
 
-/// Adds one behind the others.
+/// Adds an item after the others.
 pub(crate) fn add<T: Drop>(list: &mut Vec<T>, last: T) -> Result<(), ViewFault>
     ensures more { OnOk result (list.new.items ≡ list.old.items ++ last ∷ []) }
     ensures keeps_capacity { vec_capacity list.old ≤ vec_capacity list.new }

@@ -21,23 +21,27 @@ use mg_model::Params;
 use std::alloc::Global;
 
 // Reads the rows of a volume with these settings, through a view of its journal.
-fn settle<D: Disk>(alloc: Global, disk: &mut D, p: &Params) -> Result<(View, VolumeRows), ViewFault>
-    ensures told { IfOk result (λ read. ForSome (D.seen disk.old) (IsSettled p.now read.1)) }
-    ensures params { IfOk result (λ read. read.1.params ≡ p.now) }
+fn settle<D: Disk>(
+    alloc: Global,
+    disk: &mut D,
+    params: &Params,
+) -> Result<(View, VolumeRows), ViewFault>
+    ensures told { IfOk result (λ read. ForSome (D.seen disk.old) (IsSettled params.now read.1)) }
+    ensures params { IfOk result (λ read. read.1.params ≡ params.now) }
     ensures kept { IfOk result (λ read. AreKept read.1) }
     ensures fits { IfOk result (λ read. ForSome (D.seen disk.old) (λ image. Fits read.0 image)) }
-    ensures total { IfOk result (λ read. read.0.total ≡ total_blocks p.now.frames) }
-    ensures within_disk { OnOk result (total_blocks p.now.frames ≤ D.block_count disk.old) }
-    ensures damaged { result ≡ Err ViewFault.Damaged → ForSome (D.seen disk.old) (λ image. settled_volume image p.now ≡ Damaged) }
+    ensures total { IfOk result (λ read. read.0.total ≡ total_blocks params.now.frames) }
+    ensures within_disk { OnOk result (total_blocks params.now.frames ≤ D.block_count disk.old) }
+    ensures damaged { result ≡ Err ViewFault.Damaged → ForSome (D.seen disk.old) (λ image. settled_volume image params.now ≡ Damaged) }
     ensures cause { result ≡ Err ViewFault.Disk → CountRose D.Disk disk.old disk.new }
     ensures reads { OnlyRead D.Disk disk.old disk.new }
 {
-    let total = Geometry::of(p.frames()).total;
+    let total = Geometry::of(params.frames()).total;
     if disk.blocks() < total {
         return Err(ViewFault::Damaged);
     }
     let view = View::look(alloc, disk, total)?;
-    match read_rows(alloc, &view, disk, p) {
+    match read_rows(alloc, &view, disk, params) {
         Ok(rows) => Ok((view, rows)),
         Err(fault) => Err(fault),
     }
@@ -47,8 +51,8 @@ fn settle<D: Disk>(alloc: Global, disk: &mut D, p: &Params) -> Result<(View, Vol
 /// It writes nothing. Beside what the journal needs, the gate, the superblock and each block of a table are read once, and no
 /// block of a frame. The rows keep the rules of a volume, whatever the disk reads.
 ///
-/// [`OpenFault::Not`], [`OpenFault::Old`] and [`OpenFault::Damaged`] come exactly where the image that reads give is no
-/// volume, an older one, or a damaged one; [`OpenFault::Disk`] only where a call of the disk failed.
+/// [`OpenFault::Not`], [`OpenFault::Old`] and [`OpenFault::Damaged`] come exactly if the image that reads give is no
+/// volume, an older one, or a damaged one; [`OpenFault::Disk`] only if a call of the disk failed.
 pub fn read_volume<D: Disk>(alloc: Global, disk: &mut D) -> Result<(View, VolumeRows), OpenFault>
     ensures told { IfOk result (λ read. ForSome (D.seen disk.old) (IsReadAs read.1)) }
     ensures kept { IfOk result (λ read. AreKept read.1) }

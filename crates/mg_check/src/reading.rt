@@ -11,20 +11,20 @@ use mg_disk::{BLOCK_SIZE, Block, COPY_BLOCKS, Disk};
 use mg_faults::Failed;
 use mg_journal::View;
 
-/// The contents of a volume, as blocks of a disk give them. Whoever has them judges and tells their rows by [`read_rows`].
+/// The contents of a volume, as blocks of a disk give them. Whoever has them judges and reads their rows with [`read_rows`].
 ///
 /// [`read_rows`]: crate::read_rows
 pub trait Contents {
     /// How many blocks they have.
     ghost total: { Self → ℕ };
 
-    /// The contents that an image has, where it has some.
+    /// The contents that an image has, if it has some.
     ghost of: { Self → Image → Option Image };
 
     /// How many blocks a disk has to have.
     ghost need: { Self → ℕ };
 
-    /// The image is one that they can be read of.
+    /// Whether they can be read from this image.
     ghost Fits: { Self → Image → Type 0 };
 
     /// Gives block `i` of the contents. It writes nothing. A read that fails leaves any bytes in `out`.
@@ -36,10 +36,10 @@ pub trait Contents {
         ensures writes { WritesNothing D.Disk disk.old disk.new }
         ensures calls { DiskCalls D.Disk disk.old disk.new result };
 
-    /// Gives blocks of the contents one behind the other, the first of them block `first`, as many as `out` has room for. It
+    /// Gives blocks of the contents one after another, the first of them block `first`, as many as `out` has room for. It
     /// writes nothing. A read that fails leaves any bytes in `out`.
     ///
-    /// Where contents have no faster way, this is a call of `read` a block.
+    /// If contents have no faster way, this is a call of `read` a block.
     fn read_blocks<D: Disk>(
         &self,
         disk: &mut D,
@@ -122,7 +122,7 @@ impl Run {
         }
     }
 
-    /// Sees to it that block `i` of the contents is among them. Where it is not there yet, it is read, and so are those that follow it
+    /// Sees to it that block `i` of the contents is among them. If it is not there yet, it is read, and so are those that follow it
     /// before block `end`, as many as there is room for.
     pub(crate) fn turn_to<C: Contents, D: Disk>(
         &mut self,
@@ -164,7 +164,7 @@ impl Run {
     }
 }
 
-// Gives blocks of the contents one behind the other, the first of them block `first`.
+// Gives blocks of the contents one after another, the first of them block `first`.
 fn read_run<C: Contents, D: Disk>(
     view: &C,
     disk: &mut D,

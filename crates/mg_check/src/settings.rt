@@ -16,7 +16,7 @@ use mg_faults::Failed;
 use mg_layout::{GATE_BLOCK, GATE_OPEN, SUPER_BLOCK, Super, read_super};
 use mg_model::Params;
 
-/// Whether the gate of a volume, block 0, is open, that is whether its first byte is the open gate's. It fails only where a call of
+/// Whether the gate of a volume, block 0, is open, that is whether its first byte is the open gate's. It fails only if a call of
 /// the disk fails.
 pub fn is_gate_open<D: Disk>(disk: &mut D) -> Result<bool, Failed>
     requires at_least_2_blocks { 2 ≤ D.block_count disk.old }

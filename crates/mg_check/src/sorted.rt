@@ -4,7 +4,7 @@ ghost use Rattle.std.specs.List.{list_all, list_any};
 ghost use Rattle.mg_check.specs.Spans.{IsSome, IsWithin, apart_from, is_in, rises_from};
 ghost use Rattle.mg_model.specs.Tests.{all_distinct};
 
-/// Whether each run begins at or behind the end of the one before.
+/// Whether each run begins at or after the end of the one before.
 pub(crate) fn are_apart(spans: &[(u64, u64)]) -> bool
     ensures { result ≡ apart_from 0 spans.now }
 {
@@ -40,7 +40,7 @@ fn is_in(number: u64, run: (u64, u64)) -> bool
     run.0 <= number && number < run.1
 }
 
-// The one of these runs, which are apart, that a number lies in.
+// The run that a number lies in, of these runs, which are apart.
 fn run_of(spans: &[(u64, u64)], number: u64) -> Option<(u64, u64)>
     requires apart { apart_from 0 spans.now ≡ true }
     requires no_empty_span { All IsSome spans.now }

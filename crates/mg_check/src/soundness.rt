@@ -54,7 +54,7 @@ pub(crate) fn accounts_fit(accounts: &[AccRow], credits: u64, globals: &Globals)
     !accounts.is_empty() && sum_to(accounts, credits) && owe_at_most(accounts, most_owed(globals))
 }
 
-// The first page of an object, and the one right behind it.
+// The first page of an object, and the one right after it.
 fn place_of(row: &Option<ObjRow>) -> Option<(u64, u64)>
     ensures { result ≡ option_map place_of row.now }
 {
@@ -90,7 +90,7 @@ pub(crate) fn spans(
     Ok(spans)
 }
 
-// Whether the account of an object is one of the first so many.
+// Whether the account of an object is one of the first `accounts` accounts.
 fn is_paid(row: &Option<ObjRow>, accounts: u64) -> bool
     ensures { result ≡ is_paid accounts row.now }
 {
@@ -100,7 +100,7 @@ fn is_paid(row: &Option<ObjRow>, accounts: u64) -> bool
     }
 }
 
-// Whether the account of each object is one of the first so many.
+// Whether the account of each object is one of the first `accounts` accounts.
 fn are_paid(objects: &[Option<ObjRow>], accounts: u64) -> bool
     ensures { result ≡ list_all (is_paid accounts) objects.now }
 {

@@ -14,16 +14,16 @@ use mg_journal::ViewFault;
 use mg_layout::{BLOCK_WORDS, TABLE_BLOCK, number_at};
 use std::alloc::Global;
 
-// Takes entry `f` of the table out of its block; there are so many frames.
-fn take(table: &mut Vec<u64>, f: u64, block: &Block, frames: u64) -> Result<(), ViewFault>
-    ensures told { OnOk result ((entry : ℕ → ℕ) → entry f ≡ entry_in block.now f → AreEntries entry f frames table.old.items → AreEntries entry (f + 1) frames table.new.items) }
-    ensures long { OnOk result (length table.old.items ≡ min f frames → length table.new.items ≡ min (f + 1) frames) }
-    ensures damaged { result ≡ Err ViewFault.Damaged → (entry_in block.now f == 0) ≡ false }
-    ensures behind { result ≡ Err ViewFault.Damaged → frames ≤ f }
+// Takes the entry of this frame out of its block of the table; there are `frames` frames.
+fn take(table: &mut Vec<u64>, frame: u64, block: &Block, frames: u64) -> Result<(), ViewFault>
+    ensures told { OnOk result ((entry : ℕ → ℕ) → entry frame ≡ entry_in block.now frame → AreEntries entry frame frames table.old.items → AreEntries entry (frame + 1) frames table.new.items) }
+    ensures long { OnOk result (length table.old.items ≡ min frame frames → length table.new.items ≡ min (frame + 1) frames) }
+    ensures damaged { result ≡ Err ViewFault.Damaged → (entry_in block.now frame == 0) ≡ false }
+    ensures behind { result ≡ Err ViewFault.Damaged → frames ≤ frame }
     ensures no_disk { result ≢ Err ViewFault.Disk }
 {
-    let page = number_at(block, 8 * (f % BLOCK_WORDS) as usize);
-    if f < frames {
+    let page = number_at(block, 8 * (frame % BLOCK_WORDS) as usize);
+    if frame < frames {
         return add(table, page);
     }
     if page == 0 {
@@ -33,7 +33,7 @@ fn take(table: &mut Vec<u64>, f: u64, block: &Block, frames: u64) -> Result<(), 
     }
 }
 
-/// Reads the frame table of so many frames.
+/// Reads the frame table of this number of frames.
 pub(crate) fn read_table<C: Contents, D: Disk>(
     alloc: Global,
     view: &C,

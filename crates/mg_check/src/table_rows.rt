@@ -28,10 +28,10 @@ pub(crate) trait TableRow: Copy {
     /// The block of the volume that row `i` lies in.
     ghost block_at: { ℕ → ℕ };
 
-    /// The block behind the table.
+    /// The block after the table.
     ghost END: { ℕ };
 
-    /// The block behind the table.
+    /// The block after the table.
     const END: u64;
 
     /// What row `i` spells in its block.
@@ -103,22 +103,22 @@ pub(crate) fn read_all<R: TableRow, C: Contents, D: Disk>(
     Ok(rows)
 }
 
-// Puts free places behind the others, until there are so many.
-fn fill_to<R: TableRow>(rows: &mut Vec<Option<R>>, n: u64) -> Result<(), ViewFault>
-    requires within { length rows.old.items ≤ n }
-    ensures long { OnOk result (length rows.new.items ≡ n) }
+// Adds free places after the others, until there are `count` places.
+fn fill_to<R: TableRow>(rows: &mut Vec<Option<R>>, count: u64) -> Result<(), ViewFault>
+    requires within { length rows.old.items ≤ count }
+    ensures long { OnOk result (length rows.new.items ≡ count) }
     ensures live { OnOk result (live_from 0 rows.new.items ≡ live_from 0 rows.old.items) }
     ensures memory { result ≢ Err ViewFault.Damaged }
     ensures no_disk { result ≢ Err ViewFault.Disk }
     ensures keeps_capacity { vec_capacity rows.old ≤ vec_capacity rows.new }
 {
-    for _ in rows.len() as u64..n {
+    for _ in rows.len() as u64..count {
         add(rows, None)?;
     }
     Ok(())
 }
 
-// Puts row `i` of the table into its place. Where there is none, nothing is put.
+// Adds row `i` of the table in its place. If there is none, nothing is added.
 fn put<R: TableRow>(rows: &mut Vec<Option<R>>, i: u64, block: &Block) -> Result<(), ViewFault>
     requires place { i < R.ROWS }
     requires next { length rows.old.items ≤ i }

@@ -41,23 +41,23 @@ fn read_counters<C: Contents, D: Disk>(view: &C, disk: &mut D) -> Result<Globals
     }
 }
 
-// Reads all tables of a volume with these settings, in the order in which they lie behind the journal.
+// Reads all tables of a volume with these settings, in the order in which they lie after the journal.
 fn read_tables<C: Contents, D: Disk>(
     alloc: Global,
     view: &C,
     disk: &mut D,
-    p: &Params,
+    params: &Params,
 ) -> Result<VolumeRows, ViewFault>
-    requires within_view { total_blocks p.now.frames ≤ C.total view.now }
+    requires within_view { total_blocks params.now.frames ≤ C.total view.now }
     requires can { CanRead D.Disk (C.need view.now) (C.Fits view.now) disk.old }
     ensures told { IfOk result (λ rows. ForSome (contents D.Disk (C.of view.now) disk.old) (AreTold rows)) }
-    ensures params { IfOk result (λ rows. rows.params ≡ p.now) }
+    ensures params { IfOk result (λ rows. rows.params ≡ params.now) }
     ensures held { IfOk result AreHeld }
-    ensures damaged { result ≡ Err ViewFault.Damaged → ForSome (contents D.Disk (C.of view.now) disk.old) (HasNoState p.now) }
+    ensures damaged { result ≡ Err ViewFault.Damaged → ForSome (contents D.Disk (C.of view.now) disk.old) (HasNoState params.now) }
     ensures cause { result ≡ Err ViewFault.Disk → CountRose D.Disk disk.old disk.new }
     ensures reads { OnlyRead D.Disk disk.old disk.new }
 {
-    let frames = p.frames();
+    let frames = params.frames();
     let globals = read_counters(view, disk)?;
     let placed: Vec<(u64, AccRow)> = read_all(alloc, view, disk)?;
     let accounts = without_places(alloc, &placed)?;
@@ -65,7 +65,7 @@ fn read_tables<C: Contents, D: Disk>(
     let objects = read_places(alloc, view, disk)?;
     let table = read_table(alloc, view, disk, frames)?;
     Ok(VolumeRows {
-        params: *p,
+        params: *params,
         globals,
         accounts,
         threads,
@@ -77,24 +77,24 @@ fn read_tables<C: Contents, D: Disk>(
 /// Reads the tables of a volume with these settings out of its contents: the rows and the frame table, which keep the rules of a
 /// volume, whatever the disk reads. It writes nothing, and reads each block of a table once.
 ///
-/// [`ViewFault::Damaged`] comes exactly where the contents that reads give spell no state with these settings;
-/// [`ViewFault::Disk`] only where a call of the disk failed.
+/// [`ViewFault::Damaged`] comes exactly if the contents that reads give spell no state with these settings;
+/// [`ViewFault::Disk`] only if a call of the disk failed.
 pub fn read_rows<C: Contents, D: Disk>(
     alloc: Global,
     view: &C,
     disk: &mut D,
-    p: &Params,
+    params: &Params,
 ) -> Result<VolumeRows, ViewFault>
-    requires within_view { total_blocks p.now.frames ≤ C.total view.now }
+    requires within_view { total_blocks params.now.frames ≤ C.total view.now }
     requires can { CanRead D.Disk (C.need view.now) (C.Fits view.now) disk.old }
-    ensures told { IfOk result (λ rows. ForSome (contents D.Disk (C.of view.now) disk.old) (TellsRows p.now rows)) }
-    ensures params { IfOk result (λ rows. rows.params ≡ p.now) }
+    ensures told { IfOk result (λ rows. ForSome (contents D.Disk (C.of view.now) disk.old) (TellsRows params.now rows)) }
+    ensures params { IfOk result (λ rows. rows.params ≡ params.now) }
     ensures kept { IfOk result AreKept }
-    ensures damaged { result ≡ Err ViewFault.Damaged → ForSome (contents D.Disk (C.of view.now) disk.old) (HasNoState p.now) }
+    ensures damaged { result ≡ Err ViewFault.Damaged → ForSome (contents D.Disk (C.of view.now) disk.old) (HasNoState params.now) }
     ensures cause { result ≡ Err ViewFault.Disk → CountRose D.Disk disk.old disk.new }
     ensures reads { OnlyRead D.Disk disk.old disk.new }
 {
-    let rows = read_tables(alloc, view, disk, p)?;
+    let rows = read_tables(alloc, view, disk, params)?;
     match rows.fit(alloc) {
         Ok(true) => Ok(rows),
         Ok(false) => Err(ViewFault::Damaged),

@@ -14,18 +14,18 @@ pub struct VolumeRows {
     pub params: Params,
     /// The period and the other counters.
     pub globals: Globals,
-    /// Its accounts, at most 1,024: account n stands at place n - 1. There is room for all.
+    /// Its accounts, at most 1,024: account n is at place n - 1. There is room for all.
     pub accounts: Vec<AccRow>,
     /// Its threads, at most 256, each with the place of its row: thread n has place n - 1. There is room for all.
     pub threads: Vec<(u64, ThrRow)>,
     /// The table of its objects, a row or none in each place up to the last that has one.
     pub objects: Vec<Option<ObjRow>>,
-    /// The page that each frame holds, 0 where it holds none.
+    /// The page that each frame holds, 0 if it holds none.
     pub table: Vec<u64>,
 }
 
 impl VolumeRows {
-    /// Whether the rows may stand beside each other.
+    /// Whether the rows keep the rules between each other.
     pub(crate) fn fit(&self, alloc: Global) -> Result<bool, AllocError>
         requires held { AreHeld self.now }
         ensures { IfOk result (λ fit. Decides fit self.now) }

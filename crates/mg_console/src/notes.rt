@@ -7,7 +7,7 @@ use std::io::Eprint;
 const STEP: u64 = 2048;
 
 /// The use of a file, which decides what is reported while a command runs.
-#[derive(Clone, Copy, Debug, PartialEq, Eq)]
+#[derive(Clone, Copy, PartialEq, Eq)]
 pub enum Task {
     /// A volume of its own. Its first fault ends the command, and is reported then.
     Volume,

@@ -1,4 +1,4 @@
--- What lasts while blocks are read and put one behind the other, a call each.
+-- What lasts while blocks are read or written next to each other, one call for each block.
 use Rattle.std.specs.Prelude.{◌≡◌, ℕ, length}
 use Rattle.std.specs.Option.{ForSome}
 use Rattle.mg_disk.specs.Disk.{Image, InRange, SeenBut, TornAt, no_image}
@@ -7,7 +7,7 @@ use Rattle.mg_disk.specs.Stops.{CountGoes, TimeGoes}
 use Rattle.mg_disk.specs.declared.disk.Disk.{Ghosts}
 
 module _ {D : Type 0} (facts : Ghosts D) where
-  -- the first n blocks were put, and no other place was written
+  -- the first n blocks were written, and no other place was
   pub record ArePutSoFar (first : ℕ) (from : Image) (n : ℕ) (old new : D) : Type 0 where
     pub put : ForSome (facts.seen new) (HasFirst first from n)
     pub seen : SeenBut (InRange first n) (facts.seen old) (facts.seen new)

@@ -1,4 +1,4 @@
--- Only the first of some blocks were put or read. Of a write that is a run of all of them that failed.
+-- Only the first of some blocks were written or read. Also a run of writes that failed, when the run has all the blocks.
 use Rattle.std.specs.Prelude.{◌≡◌, ℕ, ◌<◌, ◌≤◌, ◌++◌, drop, length, min, take, Option, Some, None}
 use Rattle.std.proofs.Common.{ap, arith, ◌∙◌}
 use Rattle.std.proofs.Math.Nat.{le-min, min-eq_left, min-le_right}

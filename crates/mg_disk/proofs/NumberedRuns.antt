@@ -26,7 +26,7 @@ one_more_write a b n is =
     let next : a.writes + n + 1 ≡ a.writes + (n + 1) = omega arith in
     ap one_write is ∙ ap (λ (w : ℕ). record a { writes = w }) next
 
--- what a `MemDisk` tells, as the trait's members
+-- what a `MemDisk` shows, as the trait's members
 abbrev pub told_by : Ghosts MemDisk
 told_by = record {
   block_count = λ disk. vec_len disk.content;
@@ -45,7 +45,7 @@ sum_of counts = counts.reads + counts.writes + counts.syncs
 no_error : (T E : Type 0) (x : T) → IsErr {T = T} {E = E} (Ok x) → ⊥
 no_error T E x is = cc
 
--- so many calls passed
+-- n calls passed
 pub record Passed (made : ℕ → Counts) (n : ℕ) (old new : MemDisk) : Type 0 where
   pub recorded : counts_of new ≡ made n
   pub none : (j : ℕ) → j < n → FailsAt old (calls_made old + j) → ⊥
@@ -68,7 +68,7 @@ module _ (made : ℕ → Counts) (old mid : MemDisk) (n : ℕ) (counted : sum_of
       let room = passed.same_room in
       ⊎_elim (λ past. inl (omega arith)) (λ among. inr (subst (λ numbers. Contains numbers (calls_made mid)) (sym passed.same_fails) (subst (Contains (fails_of old)) (sym is) among))) h
 
-  -- one more that passes
+  -- one more call that passes
   pub passed_more : {T E : Type 0} (new : MemDisk) (x : T) (one : Counts) → one ≡ made (n + 1) → Numbered {T = T} {E = E} mid new one (Ok x) → Passed made (n + 1) old new
   passed_more {T = T} {E = E} new x one is call = record {
     recorded = ⊎_elim (λ room. call.recorded room ∙ is) (λ past. absurd (no_error T E x (call.exact.1 (inl past)))) (cases_lt (calls_made mid) (room_of mid));
@@ -77,7 +77,7 @@ module _ (made : ℕ → Counts) (old mid : MemDisk) (n : ℕ) (counted : sum_of
     same_fails = call.same_fails ∙ passed.same_fails;
   }
 
-  -- one that fails
+  -- one call that fails
   pub failed_first : {T E : Type 0} (new : MemDisk) (e : E) (calls : ℕ) (one : Counts) → n < calls → one ≡ made (n + 1) → Numbered {T = T} {E = E} mid new one (Err e) → FailsFirst old new made calls n
   failed_first new e calls one few next call = record {
     one = few;
@@ -98,7 +98,8 @@ module _ (made : ℕ → Counts) (old mid : MemDisk) (n : ℕ) (counted : sum_of
 pub all_passed : {T E : Type 0} (made : ℕ → Counts) (old new : MemDisk) (x : T) (calls : ℕ) → Passed made calls old new → NumberedRun {T = T} {E = E} calls old new made (Ok x)
 all_passed made old new x calls passed = record { all = (passed.recorded, passed.none); first = tt; same_room = passed.same_room; same_fails = passed.same_fails }
 
--- The content of a run of writes that ended with block k: it was written up to there, and then one more call failed.
+-- The content after a run of writes that ended with block k: the blocks before k were written, and the call for block k
+-- failed.
 module _ (old mid new : MemDisk) (first k : ℕ) (from : Image) (so_far : ArePutSoFar told_by first from k old mid) (passed : Passed (more_writes (counts_of old)) k old mid) where
   same_number : calls_made mid ≡ calls_made old + k
   same_number = number (more_writes (counts_of old)) old mid k (omega arith) passed

@@ -1,4 +1,4 @@
--- One call more of a run of calls, a block each.
+-- One call more of a run of calls, one block for each call.
 use Rattle.std.specs.Prelude.{◌≡◌, ◌+◌, ◌<◌, ◌≤◌, ℕ, zero, suc, List, [], ◌∷◌, get_or, length, option_map, slice_set, Option, Some, None, Ok, Err}
 use Rattle.std.specs.Option.{ForSome}
 use Rattle.std.proofs.Common.{ap, arith, refl, subst, sym, ◌∙◌, ⊎_elim}
@@ -127,7 +127,7 @@ module _ {D : Type 0} (facts : Ghosts D) (first n : ℕ) (old mid new : D) where
       };
     }
 
--- all of them were put
+-- all of them were written
 pub all_put : {D T E : Type 0} (facts : Ghosts D) (first : ℕ) (from : Image) (old new : D) (x : T) → ArePutSoFar facts first from (length from) old new → IsWriteRun {T = T} {E = E} facts old new first from (Ok x)
 all_put facts first from old new x so_far = record {
   written = so_far.put;
@@ -135,7 +135,7 @@ all_put facts first from old new x so_far = record {
   rules = record { stops = so_far.stops; blocks = so_far.blocks; tells = so_far.tells; count = so_far.count; cause = tt };
 }
 
--- an item of a list, whatever stands for those past its end
+-- an item of a list, whatever value the places past its end have
 pub same_item : (xs : Image) (k : ℕ) (d : List ℕ) → k < length xs → get_or xs k d ≡ block_at xs k
 same_item [] k d inside = absurd (omega arith)
 same_item (x ∷ xs) zero d inside = refl

@@ -8,7 +8,7 @@ use Rattle.mg_disk.specs.Disk.{Image, block_at, SameBut, AreBytes}
 abbrev pub zero_block : List ℕ
 zero_block = replicate 4096 0
 
--- that many blocks of zeros
+-- `blocks` blocks of zeros
 abbrev pub zeros_of : ℕ → Image
 zeros_of blocks = replicate blocks zero_block
 
@@ -24,10 +24,10 @@ pub record IsGated (places : List ℕ) (old new : Image) : Type 0 where
 some_inj : {A : Type 0} (x y : A) → Some x ≡ Some y → y ≡ x
 some_inj x y is = cc
 
--- a vector's blocks, told, are as many as it has
+-- a vector shows as many blocks as it has
 pub told_count : {Z : Type 0} (v : Vec (List ℕ) Z) (image : Image) → Some v.items ≡ Some image → length image ≡ vec_len v
 told_count v image is = ap length (some_inj v.items image is) ∙ sym v.ok.0
 
--- blocks of bytes, told
+-- the blocks that are shown are bytes
 pub told_bytes : (blocks : Image) → AreBytes blocks → (image : Image) → Some blocks ≡ Some image → AreBytes image
 told_bytes blocks are image is = subst AreBytes (sym (some_inj blocks image is)) are

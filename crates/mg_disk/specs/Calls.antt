@@ -1,4 +1,4 @@
--- The calls of the trait, each as one word: what a disk's own method says, beside what it says of itself.
+-- The calls of the trait, each as one word: what a disk's own method says, besides what it says of the disk's kind.
 use Rattle.std.specs.Prelude.{◌≡◌, ℕ, List, Result, OnOk, OnErr, length, option_map, slice_set}
 use Rattle.std.specs.Option.{ForSome}
 use Rattle.mg_disk.specs.Disk.{HasBlocks, Image, InRange, block_at, SeenBut, only_place, no_image, TornAt}
@@ -26,14 +26,14 @@ module _ {D T E : Type 0} (facts : Ghosts D) (old new : D) where
     pub unknown : OnErr result (SeenBut (only_place i) (facts.seen old) (facts.seen new))
     pub rules : KeepsRules (TornAt (only_place i) (facts.left_since old (facts.moment old))) result
 
-  -- a read of so many blocks, one behind the other, the first of them at this place
+  -- a read of `count` blocks next to each other, the first of them at this place
   pub record IsReadRun (first count : ℕ) (out : Image) (result : Result T E) : Type 0 where
     pub read : OnOk result (ForSome (facts.seen old) (HasBlocks first out))
     pub room : length out ≡ count
     pub seen : facts.seen new ≡ facts.seen old
     pub rules : KeepsRules no_image result
 
-  -- a write of blocks, one behind the other, the first of them at this place
+  -- a write of blocks next to each other, the first of them at this place
   pub record IsWriteRun (first : ℕ) (from : Image) (result : Result T E) : Type 0 where
     pub written : OnOk result (ForSome (facts.seen new) (HasBlocks first from))
     pub unknown : SeenBut (InRange first (length from)) (facts.seen old) (facts.seen new)

@@ -1,4 +1,4 @@
--- What a disk's calls are said to do: images, moments, and what a stop may leave. These words are over values.
+-- What the clauses of a disk's calls say: images, moments, and what a stop may leave. These words are over values.
 use Rattle.std.specs.Prelude.{◌≡◌, ◌⊎◌, ◌+◌, ◌<◌, ◌≤◌, ℕ, List, [], length, All, slice_index_or, Option, Some, None}
 
 -- An image is a list of blocks, each a list of bytes.
@@ -17,13 +17,13 @@ file_blocks = 70000
 abbrev pub AreBytes : Image → Type 0
 AreBytes image = All (λ block. All (λ byte. byte < 256) block) image
 
--- A moment of a disk: a number for a plain one; for a disk made of two, a moment of each, or of the one that is in use.
+-- A moment of a disk: a number for a plain disk; for a disk made of two, a moment of each, or of the disk that is in use.
 pub data Moment : Type 0 where
   At : ℕ → Moment
   Both : Moment → Moment → Moment
   Alone : Moment → Moment
 
--- as many blocks, and the same ones but at these places
+-- the same number of blocks, and the same blocks except at these places
 pub record SameBut (places : ℕ → Type 0) (old new : Image) : Type 0 where
   pub count : length new ≡ length old
   pub others : (k : ℕ) → (places k → ⊥) → block_at new k ≡ block_at old k
@@ -32,28 +32,29 @@ pub record SameBut (places : ℕ → Type 0) (old new : Image) : Type 0 where
 abbrev pub only_place : ℕ → ℕ → Type 0
 only_place i k = k ≡ i
 
--- so many places from the first one on
+-- `count` places from the first one on
 pub record InRange (first count k : ℕ) : Type 0 where
   pub from : first ≤ k
   pub before : k < first + count
 
--- an image has these blocks one behind the other, the first of them at this place
+-- an image has these blocks next to each other, the first of them at this place
 abbrev pub HasBlocks : ℕ → Image → Image → Type 0
 HasBlocks first blocks image = (k : ℕ) → k < length blocks → block_at image (first + k) ≡ block_at blocks k
 
--- what reads give differs at these places alone, where it is told
+-- What reads give differs at these places alone, if it is told. A disk that tells it before tells it after.
 abbrev pub SeenBut : (ℕ → Type 0) → Option Image → Option Image → Type 0
 SeenBut places (Some old) (Some new) = SameBut places old new
 SeenBut places None None = Unit {0}
 SeenBut places _ _ = ⊥
 
--- Time goes on: since a moment that has been, a stop may leave what it might have left before, or a fresh image.
-pub record GoesOn (old_moment new_moment : Moment) (old_been new_been : Moment → Type 0) (old_since new_since : Moment → Image → Type 0) (fresh : Image → Type 0) : Type 0 where
+-- Time continues: since a moment that has been, a stop may leave what it might have left before, or a fresh image.
+pub record GoesOn (old_moment new_moment : Moment) (old_been new_been : Moment → Type 0)
+    (old_since new_since : Moment → Image → Type 0) (fresh : Image → Type 0) : Type 0 where
   pub begins : old_been old_moment
   pub past : (t : Moment) → old_been t → new_been t
   pub keeps : (t : Moment) (c : Image) → old_been t → old_since t c → new_since t c
   pub nothing_else : (t : Moment) (c : Image) → old_been t → new_since t c → old_since t c ⊎ fresh c
-  -- the same of what it may leave now
+  -- the same for what a stop may leave now
   pub now : (c : Image) → new_since new_moment c → old_since old_moment c ⊎ fresh c
 
 -- no image is fresh

@@ -14,21 +14,21 @@ inner_of fuse = fuse.inner
 abbrev pub calls_left : {D : Type 0} → Fuse D → ℕ
 calls_left fuse = fuse.calls_left
 
--- So many calls: passed on where as many are left, and then a fault is the inner disk's; else refused. Where none is left the inner disk
--- is not called.
+-- This number of calls. If at least that many are left, they are passed on, and then a fault is the inner disk's; else the
+-- run is refused. If none is left, the inner disk is not called.
 pub record Burns {D T E : Type 0} (calls : ℕ) (facts : Ghosts D) (old new : Fuse D) (result : Result T E) : Type 0 where
   pub spent : calls_left new ≡ calls_left old - calls
   pub passed : calls ≤ calls_left old → OnErr result (CountRose facts (inner_of old) (inner_of new))
   pub refused : calls_left old < calls → IsErr result
   pub untouched : calls_left old ≡ 0 → inner_of new ≡ inner_of old
 
--- A run of writes, passed on as one run: of all blocks where as many calls are left, and then its answer is the inner disk's; else of
--- the first blocks, one for each call that is left.
+-- A run of writes, passed on as one run. If enough calls are left, it is a run of all blocks, and its answer is the inner
+-- disk's. Else it is a run of the first blocks, one for each call that is left.
 pub record PassesWrites {D T E : Type 0} (facts : Ghosts D) (old new : Fuse D) (first : ℕ) (from : Image) (result : Result T E) : Type 0 where
   pub whole : 0 < length from → length from ≤ calls_left old → IsWriteRun facts (inner_of old) (inner_of new) first from result
   pub part : 0 < calls_left old → calls_left old < length from → (made : Result T E) × IsWriteRun facts (inner_of old) (inner_of new) first (take (calls_left old) from) made
 
--- The same of a run of reads into `out`. The blocks of `out` past those that were read stay as they were.
+-- A run of reads into `out`, in the same way. The blocks of `out` past those that were read stay as they were.
 pub record PassesReads {D T E : Type 0} (facts : Ghosts D) (old new : Fuse D) (first : ℕ) (before out : Image) (result : Result T E) : Type 0 where
   pub whole : 0 < length before → length before ≤ calls_left old → IsReadRun facts (inner_of old) (inner_of new) first (length before) out result
   pub part : 0 < calls_left old → calls_left old < length before

@@ -27,7 +27,7 @@ run h (e ∷ es) = run (after h e) es
 abbrev pub MayLeave : Held → Image → Type 0
 MayLeave h c = SameBut (Contains h.touched) h.base c
 
--- the moments of a disk with these events: as many as they are, and the first
+-- the moments of a disk with these events: the number of the events, and each number below it
 abbrev pub BeenIn : List Event → Moment → Type 0
 BeenIn events (At t) = t ≤ length events
 BeenIn events (Both x y) = ⊥

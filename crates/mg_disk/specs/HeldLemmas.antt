@@ -1,4 +1,4 @@
--- Lemmas on that replay: what one event more adds to what a stop may leave, and the laws of the trait that follow.
+-- Lemmas on that replay: how one event more changes what a stop may leave, and the laws of the trait that follow.
 use Rattle.std.specs.Prelude.{◌≡◌, ◌≢◌, ◌⊎◌, ◌<◌, ◌≤◌, ℕ, List, [], ◌∷◌, ◌++◌, length, slice_set, Contains, Some}
 use Rattle.std.proofs.Common.{refl, inl, inr, ⊎_elim, sym, ap, subst, ◌∙◌, arith}
 use Rattle.std.proofs.Math.Nat.{eq-or-lt_of_le}
@@ -138,6 +138,6 @@ pub seen_stays : (first : Image) (events : List Event) (base now : Image) (touch
     → SameBut (Contains touched) base now → LeftIn first events (At (length events)) now
 seen_stays first events base now touched is pending = since first events (length events) now (omega arith) (subst (λ x. MayLeave x now) (sym is) pending)
 
--- a new disk stands at its image
+-- a new disk settled at its image
 pub settled_new : (first : Image) (events : List Event) (now : Image) → events ≡ [] → first ≡ now → OnlySeen (Some now) (LeftIn first events (At (length events)))
 settled_new first events now none same c left = ap (λ x. Some x) (sym same) ∙ settled first events first first [] (ap (run (start first)) none) refl refl c left

@@ -44,7 +44,7 @@ pub record IsFresh (disk : MemDisk) (room : ℕ) (fails : List ℕ) : Type 0 whe
   pub fails_are : fails_of disk ≡ fails
   pub counts : counts_of disk ≡ record { reads = 0; writes = 0; syncs = 0 }
 
--- one call of a kind more
+-- one more read, write or sync
 abbrev pub one_read : Counts → Counts
 one_read made = record made { reads = made.reads + 1 }
 
@@ -62,7 +62,7 @@ pub record Numbered {T E : Type 0} (old new : MemDisk) (made : Counts) (result :
   pub same_room : room_of new ≡ room_of old
   pub same_fails : fails_of new ≡ fails_of old
 
--- so many calls of a kind more
+-- n more reads or writes
 abbrev pub more_reads : Counts → ℕ → Counts
 more_reads made n = record made { reads = made.reads + n }
 
@@ -73,7 +73,7 @@ more_writes made n = record made { writes = made.writes + n }
 abbrev pub FailsAt : MemDisk → ℕ → Type 0
 FailsAt disk number = (room_of disk ≤ number) ⊎ Contains (fails_of disk) number
 
--- Of a run of calls this is the first that fails, and the last that is made; it is recorded where it is not past the room.
+-- Of a run of calls this is the first that fails, and the last that is made; it is recorded if it is not past the room.
 pub record FailsFirst (old new : MemDisk) (made : ℕ → Counts) (calls k : ℕ) : Type 0 where
   pub one : k < calls
   pub fails : FailsAt old (calls_made old + k)
@@ -81,15 +81,15 @@ pub record FailsFirst (old new : MemDisk) (made : ℕ → Counts) (calls k : ℕ
   pub recorded : calls_made old + k < room_of old → counts_of new ≡ made (k + 1)
   pub past : room_of old ≤ calls_made old + k → counts_of new ≡ made k
 
--- So many calls of one kind, one after the other: each has a number of its own, and the run ends with the first that fails.
+-- Several calls of one kind, one after the other: each has a number of its own, and the run ends with the first that fails.
 pub record NumberedRun {T E : Type 0} (calls : ℕ) (old new : MemDisk) (made : ℕ → Counts) (result : Result T E) : Type 0 where
   pub all : OnOk result ((counts_of new ≡ made calls) × ((j : ℕ) → j < calls → FailsAt old (calls_made old + j) → ⊥))
   pub first : OnErr result ((k : ℕ) × FailsFirst old new made calls k)
   pub same_room : room_of new ≡ room_of old
   pub same_fails : fails_of new ≡ fails_of old
 
--- A run of writes that ended with block k of `from`, which failed: what was written before it stays, its own place holds gates, or past
--- the room what it held, and every other block is as it was.
+-- A run of writes that ended with block k of `from`, whose call failed. The blocks before it are written. Its own place
+-- holds gates, or, past the room, what it held before. Every other block is as it was.
 pub record IsCutAt (old new : MemDisk) (first : ℕ) (from : Image) (k : ℕ) : Type 0 where
   pub before : (j : ℕ) → j < k → block_at (content_of new) (first + j) ≡ block_at from j
   pub gates : calls_made old + k < room_of old → block_at (content_of new) (first + k) ≡ gates_block

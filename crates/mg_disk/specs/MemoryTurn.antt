@@ -1,4 +1,4 @@
--- What becomes of a call of a `MemDisk`, by its number.
+-- The result of a call of a `MemDisk`, by its number.
 use Rattle.std.specs.Prelude.{◌<◌, ◌≤◌, ℕ, List, Contains}
 use Rattle.mg_disk.specs.declared.memory.Turn.{Turn}
 use Rattle.mg_disk.specs.declared.memory.Turn.TheVariants.{Passes, Fails, Past}

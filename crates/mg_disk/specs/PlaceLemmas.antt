@@ -46,7 +46,7 @@ same_after p q places s d c first then a b = record {
 pub same_still : (places : ℕ → Type 0) (i : ℕ) (s d c : Image) → places i → SameBut places s d → SameBut (only_place i) d c → SameBut places s c
 same_still places i s d c at_i a b = same_after places (only_place i) places s d c (λ k at. at) (λ k is. subst places (sym is) at_i) a b
 
--- an image has the first n of these blocks, one behind the other
+-- an image has the first n of these blocks, next to each other
 abbrev pub HasFirst : ℕ → Image → ℕ → Image → Type 0
 HasFirst first blocks n image = (k : ℕ) → k < n → block_at image (first + k) ≡ block_at blocks k
 

@@ -1,4 +1,4 @@
--- How what a stop may leave is followed over a run of calls of a disk, one short line a call.
+-- How a proof follows what a stop may leave over a run of calls of a disk, one short line for each call.
 use Rattle.std.specs.Prelude.{◌≡◌, ◌⊎◌, ℕ, Some}
 use Rattle.std.proofs.Common.{refl, inl, inr, ⊎_elim, sym, subst, ◌∙◌}
 use Rattle.mg_disk.specs.Disk.{Image, SameBut, no_image, only_place, TornAt}
@@ -12,7 +12,7 @@ pub record Tracks {D : Type 0} (facts : Ghosts D) (old new : D) (P Q : Image →
   pub now : (c : Image) → facts.left_since new (facts.moment new) c → Q c
 
 module _ {D : Type 0} (facts : Ghosts D) where
-  -- no call, no time
+  -- a run of no calls takes no time
   pub time_none : (disk : D) (P : Image → Type 0) → facts.has_been disk (facts.moment disk) → TimeGoes facts disk disk P
   time_none disk P been = record {
     begins = been;
@@ -62,7 +62,7 @@ module _ {D : Type 0} (facts : Ghosts D) where
   quiet old mid new P Q so_far call =
       more old mid new P Q no_image Q so_far call (λ c none. absurd none) (λ c left. ⊎_elim (so_far.now c) (λ none. absurd none) left)
 
-  -- what may be left now is known better, as after a good sync
+  -- more is known of what may be left now, as after a good sync
   pub better : (old new : D) (P Q Q' : Image → Type 0) → Tracks facts old new P Q → ((c : Image) → facts.left_since new (facts.moment new) c → Q' c) → Tracks facts old new P Q'
   better old new P Q Q' so_far here = record { leaves = so_far.leaves; now = here }
 
@@ -91,7 +91,7 @@ module _ {D : Type 0} (facts : Ghosts D) where
     time = time_then old mid new no_image P a.time call (λ c none. absurd none);
   }
 
-  -- after calls that write nothing, nothing is pending where nothing was
+  -- after calls that write nothing, nothing is pending if nothing was before
   pub still_seen : (mid new : D) → NothingPending facts mid → facts.seen new ≡ facts.seen mid → TimeGoes facts mid new no_image → NothingPending facts new
   still_seen mid new only same call = λ c left. same ∙ ⊎_elim (only c) (λ none. absurd none) (call.now c left)
 
@@ -99,7 +99,7 @@ module _ {D : Type 0} (facts : Ghosts D) where
   pub nothing_none : (disk : D) → facts.has_been disk (facts.moment disk) → WritesNothing facts disk disk
   nothing_none disk been = record { same = refl; stops = time_none disk no_image been }
 
-  -- nor do two runs that write nothing
+  -- two runs that write nothing, one after the other, write nothing
   pub nothing_then : (old mid new : D) → WritesNothing facts old mid → WritesNothing facts mid new → WritesNothing facts old new
   nothing_then old mid new a b = record { same = b.same ∙ a.same; stops = time_then old mid new no_image no_image a.stops b.stops (λ c none. none) }
 
@@ -110,9 +110,9 @@ some_inj s c is = cc
 pub only_image : {D : Type 0} (facts : Ghosts D) (disk : D) (s c : Image) → StandsAt facts disk s → facts.left_since disk (facts.moment disk) c → c ≡ s
 only_image facts disk s c at left = some_inj s c (sym at.told ∙ at.settled c left)
 
--- The three steps of a run that writes only at some places of an image s, where an image that differs there alone has P.
+-- The three steps of a run that writes only at some places of an image s, if an image that differs there alone has P.
 module _ {D : Type 0} (facts : Ghosts D) (places : ℕ → Type 0) (s : Image) where
-  -- a disk that stands at s, before the first call
+  -- a disk that is settled at s, before the first call
   pub stands : (old : D) (P : Image → Type 0) → facts.has_been old (facts.moment old) → StandsAt facts old s → ((c : Image) → SameBut places s c → P c) → Tracks facts old old P (SameBut places s)
   stands old P been at sub = begun facts old P (SameBut places s) been (λ c left. same_as places s c (only_image facts old s c at left)) sub
 
@@ -130,6 +130,6 @@ module _ {D : Type 0} (facts : Ghosts D) (places : ℕ → Type 0) (s : Image) w
       → places i → ((c : Image) → SameBut places s c → P c) → Tracks facts old new P (SameBut places s)
   torn old mid new i P so_far call at_i sub = torn_at old mid new (only_place i) P so_far call (λ k is. subst places (sym is) at_i) sub
 
-  -- after a good sync it stands at s
+  -- after a good sync the disk is settled at s
   pub settles : (old new : D) (P Q : Image → Type 0) → Tracks facts old new P Q → StandsAt facts new s → Tracks facts old new P (SameBut places s)
   settles old new P Q so_far at = better facts old new P Q (SameBut places s) so_far (λ c left. same_as places s c (only_image facts new s c at left))

@@ -1,4 +1,4 @@
--- What the layers above say of a disk, each in one word. The trait's members come as one value, `D.Disk` in a clause.
+-- What the layers above say of a disk, each in one word. The trait's members are one value, `D.Disk` in a clause.
 use Rattle.std.specs.Prelude.{◌≡◌, OnErr, Result, Some}
 use Rattle.mg_faults.specs.Faults.{CountGoesOn, Rose}
 use Rattle.mg_disk.specs.Disk.{Image, GoesOn, no_image, OnlySeen}
@@ -8,15 +8,16 @@ use Rattle.mg_disk.specs.declared.disk.Disk.{Ghosts}
 abbrev pub NothingPending : {D : Type 0} → Ghosts D → D → Type 0
 NothingPending facts disk = OnlySeen (facts.seen disk) (facts.left_since disk (facts.moment disk))
 
--- the disk stands at this image: reads give it, and a stop now leaves it and no other
+-- the disk is settled at this image: reads give it, and a stop now leaves it and no other
 pub record StandsAt {D : Type 0} (facts : Ghosts D) (disk : D) (image : Image) : Type 0 where
   pub told : facts.seen disk ≡ Some image
   pub settled : NothingPending facts disk
 
--- time went on from old to new, and these images are fresh
+-- time continued from old to new, and these images are fresh
 abbrev pub TimeGoes : {D : Type 0} → Ghosts D → D → D → (Image → Type 0) → Type 0
 TimeGoes facts old new fresh =
-    GoesOn (facts.moment old) (facts.moment new) (facts.has_been old) (facts.has_been new) (facts.left_since old) (facts.left_since new) fresh
+    GoesOn (facts.moment old) (facts.moment new) (facts.has_been old) (facts.has_been new)
+    (facts.left_since old) (facts.left_since new) fresh
 
 -- at each moment since old, each image that a stop may leave has P
 pub record Leaves {D : Type 0} (facts : Ghosts D) (old new : D) (P : Image → Type 0) : Type 0 where
@@ -29,22 +30,22 @@ pub record WritesNothing {D : Type 0} (facts : Ghosts D) (old new : D) : Type 0 
   pub same : facts.seen new ≡ facts.seen old
   pub stops : TimeGoes facts old new no_image
 
--- the count of faults has not fallen, and where it stood at its last value it still does
+-- the count of faults has not fallen, and if it was at its last value it still is
 abbrev pub CountGoes : {D : Type 0} → Ghosts D → D → D → Type 0
 CountGoes facts old new = CountGoesOn (facts.faults old) (facts.faults new) (facts.is_spent old) (facts.is_spent new)
 
--- the count of faults rose, or stands at its last value at the end
+-- the count of faults rose, or is at its last value at the end
 abbrev pub CountRose : {D : Type 0} → Ghosts D → D → D → Type 0
 CountRose facts old new = Rose (facts.faults old) (facts.faults new) (facts.is_spent new)
 
--- What is said of every run of calls, whatever they read or write: the count of faults went on, there are as many blocks, and
--- where the run failed the count rose.
+-- The facts of every run of calls, whatever they read or write: the count of faults has not fallen, the number of blocks is
+-- the same, and if the run failed the count rose.
 pub record DiskCallsBy {D : Type 0} (facts : Ghosts D) (old new : D) (failed : Type 0) : Type 0 where
   pub count : CountGoes facts old new
   pub blocks : facts.block_count new ≡ facts.block_count old
   pub cause : failed → CountRose facts old new
 
--- the same where each error is a call of the disk that failed
+-- the same facts when each error is a call of the disk that failed
 pub record DiskCalls {D T E : Type 0} (facts : Ghosts D) (old new : D) (result : Result T E) : Type 0 where
   pub count : CountGoes facts old new
   pub blocks : facts.block_count new ≡ facts.block_count old

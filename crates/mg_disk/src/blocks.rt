@@ -6,7 +6,7 @@ ghost use Rattle.mg_disk.specs.Blocks.{zeros_of, IsGated};
 use crate::{BLOCK_SIZE, Block, GATE_OPEN};
 use std::alloc::{AllocError, Global};
 
-/// That many blocks of zeros, in a vector that has room for no more.
+/// `blocks` blocks of zeros, in a vector that has room for no more.
 pub(crate) fn zeros(alloc: Global, blocks: u64) -> Result<Vec<Block>, AllocError>
     ensures zeros { IfOk result (λ content. content.items ≡ zeros_of blocks) }
     ensures count { IfOk result (λ content. vec_len content ≡ blocks) }
@@ -19,7 +19,7 @@ pub(crate) fn zeros(alloc: Global, blocks: u64) -> Result<Vec<Block>, AllocError
     Ok(content)
 }
 
-/// Puts gates at these places.
+/// Writes gates at these places.
 pub(crate) fn put_gates(content: &mut Vec<Block>, places: &[u64])
     requires { (k : ℕ) → Contains places.now k → k < vec_len content.old }
     ensures gates { IsGated places.now content.old.items content.new.items }
@@ -31,7 +31,7 @@ pub(crate) fn put_gates(content: &mut Vec<Block>, places: &[u64])
     }
 }
 
-/// Copies the blocks at these places, which are all that differ.
+/// Copies the blocks at these places, the only places that differ.
 pub(crate) fn copy_at(places: &[u64], from: &Vec<Block>, to: &mut Vec<Block>)
     requires in_range { (k : ℕ) → Contains places.now k → k < vec_len from.now }
     requires differ { SameBut (Contains places.now) to.old.items from.now.items }

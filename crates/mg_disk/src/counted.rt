@@ -4,7 +4,7 @@ ghost use Rattle.mg_faults.specs.Faults.{CountGoesOn, Rose, is_last};
 
 use mg_faults::{Failed, FaultCount};
 
-/// Hands an outcome on, and raises the count where it is a fault.
+/// Returns the outcome unchanged, and raises the count if it is a fault.
 pub(crate) fn counted(outcome: Result<(), Failed>, count: &mut FaultCount) -> Result<(), Failed>
     ensures same { result ≡ outcome }
     ensures quiet { OnOk result (count.new ≡ count.old) }

@@ -9,24 +9,24 @@ use mg_faults::Failed;
 /// The bytes of a block.
 pub const BLOCK_SIZE: usize = 4096;
 
-/// What byte 0 of a gate holds where it is open: the worst byte that a write which was not safe yet may leave.
+/// Byte 0 of an open gate: the worst byte that a write which was not synced yet may leave.
 pub const GATE_OPEN: u8 = 0xA5;
 
 /// A block.
 pub type Block = [u8; BLOCK_SIZE];
 
-/// How many blocks are read and written together, 128 KiB, where one disk is copied to another.
+/// How many blocks are read and written together, 128 KiB, when one disk is copied to another.
 pub const COPY_BLOCKS: usize = 32;
 
-/// A disk of fixed blocks. Any call may fail; what was written is safe from a stop once a later sync answered Ok.
+/// A disk of fixed blocks. Any call may fail. What was written survives a stop once a later sync answered Ok.
 ///
-/// What reads give, and what a stop may leave, are told by some disks and not by others. Where they are not told, the
-/// clauses on them say nothing; those on the count of faults hold of every disk.
+/// Some disks tell what reads give and what a stop may leave, and others do not. For a disk that does not, the clauses on
+/// them say nothing. The clauses on the count of faults hold for every disk.
 pub trait Disk {
     /// How many blocks it has. This never changes.
     ghost block_count: { Self → ℕ };
 
-    /// What reads give now, where the disk tells it.
+    /// What reads give now, if the disk tells it.
     ghost seen: { Self → Option Image };
 
     /// Whether the disk tells which images a stop may leave.
@@ -38,28 +38,28 @@ pub trait Disk {
     /// The moments up to now.
     ghost has_been: { Self → Moment → Type 0 };
 
-    /// A stop at some moment since that one may leave this image: none, where the disk does not tell, and none since a
-    /// moment of a form that the disk does not name.
+    /// A stop at some moment since that one may leave this image. There is no such image if the disk does not tell of stops,
+    /// nor since a moment of a form that the disk does not name.
     ghost left_since: { Self → Moment → Image → Type 0 };
 
     /// The count of faults.
     ghost faults: { Self → ℕ };
 
-    /// The count stands at its last value.
+    /// The count is at its last value.
     ghost is_spent: { Self → Bool };
 
     /// How many blocks it has.
     fn blocks(&self) -> u64
         ensures count { result ≡ block_count self.now };
 
-    /// Tells that this count has 64 bits. It does nothing when it runs.
+    /// States that this count has 64 bits, for proofs. It does nothing when it runs.
     fn keeps_count(&self)
         ensures { block_count self.now < 2 ^ 64 }
     {
         let _count = self.blocks();
     }
 
-    /// Gives block `i`. A read that fails leaves any bytes in `out`.
+    /// Reads block `i`. A read that fails leaves any bytes in `out`.
     fn read(&mut self, i: u64, out: &mut Block) -> Result<(), Failed>
         requires in_range { i < block_count self.old }
         ensures block { OnOk result (ForSome (seen self.old) (λ image. out.new ≡ block_at image i)) }
@@ -71,7 +71,7 @@ pub trait Disk {
         ensures count { CountGoesOn (faults self.old) (faults self.new) (is_spent self.old) (is_spent self.new) }
         ensures cause { OnErr result (Rose (faults self.old) (faults self.new) (is_spent self.new)) };
 
-    /// Puts a block at `i`. Until a good sync a stop may leave any bytes there, also after a write that failed.
+    /// Writes a block at `i`. Until a good sync a stop may leave any bytes there, also after a write that failed.
     fn write(&mut self, i: u64, from: &Block) -> Result<(), Failed>
         requires in_range { i < block_count self.old }
         ensures written { OnOk result (seen self.new ≡ option_map (λ image. slice_set image i from.now) (seen self.old)) }
@@ -83,10 +83,10 @@ pub trait Disk {
         ensures count { CountGoesOn (faults self.old) (faults self.new) (is_spent self.old) (is_spent self.new) }
         ensures cause { OnErr result (Rose (faults self.old) (faults self.new) (is_spent self.new)) };
 
-    /// Gives blocks one behind the other, the first of them block `first`, as many as `out` has room for. A run that fails
-    /// leaves any bytes in `out`.
+    /// Reads blocks that are next to each other, the first of them block `first`, as many as `out` has room for. A run that
+    /// fails leaves any bytes in `out`.
     ///
-    /// Where a disk has no faster way, this is a call of `read` a block.
+    /// If a disk has no faster way, this is one call of `read` for each block.
     fn read_blocks(&mut self, first: u64, out: &mut [Block]) -> Result<(), Failed>
         requires in_range { first + length out.old ≤ block_count self.old }
         ensures read { OnOk result (ForSome (seen self.old) (HasBlocks first out.new)) }
@@ -109,10 +109,10 @@ pub trait Disk {
         Ok(())
     }
 
-    /// Puts blocks one behind the other, the first of them at `first`. Until a good sync a stop may leave any bytes at each of
-    /// these places, also after a run that failed, which may have put some of the blocks.
+    /// Writes blocks next to each other, the first of them at `first`. Until a good sync a stop may leave any bytes at each
+    /// of these places, also after a run that failed. Such a run may have written some of the blocks.
     ///
-    /// Where a disk has no faster way, this is a call of `write` a block.
+    /// If a disk has no faster way, this is one call of `write` for each block.
     fn write_blocks(&mut self, first: u64, from: &[Block]) -> Result<(), Failed>
         requires in_range { first + length from.now ≤ block_count self.old }
         ensures written { OnOk result (ForSome (seen self.new) (HasBlocks first from.now)) }
@@ -151,16 +151,17 @@ pub trait Disk {
     /// What a stop may leave now, it may leave since any earlier moment.
     ghost counts_now: { (disk : Self) (t : Moment) (c : Image) → has_been disk t → left_since disk (moment disk) c → left_since disk t c };
 
-    /// What reads give is one of the images that a stop may leave now. So a disk that tells of stops tells its reads.
+    /// What reads give is one of the images that a stop may leave now. So a disk that tells of stops also tells what reads
+    /// give.
     ghost seen_may_stay: { (disk : Self) → IsTrue (tells_stops disk) → IsSomeAnd (seen disk) (left_since disk (moment disk)) };
 
-    /// Where the disk does not tell of stops, no image may be left.
+    /// If the disk does not tell of stops, no image may be left.
     ghost only_told: { (disk : Self) (t : Moment) (c : Image) → left_since disk t c → IsTrue (tells_stops disk) };
 
-    /// What reads give has that many blocks.
+    /// What reads give has `block_count` blocks.
     ghost seen_count: { (disk : Self) → ForSome (seen disk) (λ image. length image ≡ block_count disk) };
 
-    /// What reads give are bytes, since a [`Block`] has room for no other numbers. An image is lists of numbers of any
-    /// size, so what is spelled in one is in range only for this.
+    /// What reads give are bytes, since a [`Block`] has room for no other numbers. An image is lists of numbers of any size,
+    /// so only this law keeps the numbers of an image in range.
     ghost seen_bytes: { (disk : Self) → ForSome (seen disk) AreBytes };
 }

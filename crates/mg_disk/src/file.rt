@@ -1,4 +1,4 @@
-//! A disk in a file: the trusted edge, which tells nothing of its content.
+//! A disk in a file. It is the trusted edge: no clause speaks of its content.
 ghost use Rattle.std.specs.Prelude.{◌≡◌, ◌<◌, ◌≤◌, ◌^◌, false, None, IfOk, OnErr, OnOk, length};
 ghost use Rattle.std.proofs.Common.{rules};
 ghost use Rattle.mg_faults.specs.Faults.{CountGoesOn, Rose, is_last};
@@ -15,21 +15,22 @@ use std::time::Duration;
 use std::{slice, thread};
 
 /// How many blocks a [`FileDisk`] has.
-pub const FILE_BLOCKS: u64 = 70_000;
+const FILE_BLOCKS: u64 = 70_000;
 
-/// A file that a run holds, so that no other one changes it meanwhile.
+/// A file that a run can hold. No other run then changes it.
 pub trait OneHolder {
-    /// Takes the file for this run alone, until it is closed. An error comes where another run has it (`WouldBlock`), and where the
-    /// system keeps no locks on it; neither waits.
+    /// Locks the file for this run alone, until it is closed. An error comes if another run has it (`WouldBlock`), and if
+    /// the system keeps no locks on it. Neither waits.
     fn hold(&self) -> io::Result<()>;
 
-    /// Takes the file for this run and others that only read it. An error comes where a run has it for itself alone (`WouldBlock`),
-    /// and where the system keeps no locks on it; neither waits.
+    /// Locks the file for this run and others that only read it. An error comes if another run has it for itself alone
+    /// (`WouldBlock`), and if the system keeps no locks on it. Neither waits.
     fn share(&self) -> io::Result<()>;
 }
 
 impl OneHolder for File {
-    /// The lock is the advisory one on the whole file, `flock` of the system, exclusive: it keeps out those that ask for one.
+    /// The lock is the advisory one on the whole file, `flock` of the system, exclusive: it keeps out those that take such a
+    /// lock.
     fn hold(&self) -> io::Result<()> {
         Ok(self.try_lock()?)
     }
@@ -40,17 +41,18 @@ impl OneHolder for File {
     }
 }
 
-/// How many times a run asks again for a lock that another run has, and how many milliseconds it waits before each time: 0.3 s in all.
+/// How many times a run tries again to get a lock that another run has, and how many milliseconds it waits before each time:
+/// 0.3 s in all.
 const RETRIES: u32 = 30;
 
 const PAUSE: u64 = 10;
 
-/// Which bits of a file's mode tell its kind, and those of a pipe with a name.
+/// Which bits of a file's mode show its kind, and those of a pipe with a name.
 const KIND_BITS: u32 = 0o170000;
 
 const PIPE: u32 = 0o010000;
 
-/// The permissions of a file that is made, unless others are asked for: its owner reads and writes it, and nobody else.
+/// The permissions of a file that is made, if no others are set: its owner reads and writes it, and nobody else.
 const PRIVATE: u32 = 0o600;
 
 /// What the file of a [`FileDisk`] was when it was opened.
@@ -58,21 +60,21 @@ const PRIVATE: u32 = 0o600;
 pub struct Found {
     /// Whether there was no file, so that an empty one was made.
     pub is_new: bool,
-    /// How many bytes it had, where it is a regular file; a device has no length of its own.
+    /// How many bytes it had, if it is a regular file. A device has no length of its own.
     pub bytes: Option<u64>,
 }
 
-/// A disk of [`FILE_BLOCKS`] blocks in a file, opened at the first read, write or sync. Past the end of the file it reads zeros.
+/// A disk of 70,000 blocks in a file, opened at the first read, write or sync. Past the end of the file it reads zeros.
 ///
-/// A file that may be written is made empty where there is none, and is held for this run alone ([`OneHolder`]). One that is only
-/// read is shared with others that read it, and reads as zeros where there is none. A file that another run holds for 0.3 s counts as
-/// one that cannot be opened; until then the lock is asked for every 10 ms, since a file system on a network may free it only a moment
-/// after the run that held it has ended. A pipe cannot be opened either.
+/// A file that may be written is made empty if there is none, and is held for this run alone ([`OneHolder`]). A file that is
+/// only read is shared with others that read it, and reads as zeros if there is none. If another run holds the file, this
+/// run tries again every 10 ms, since a file system on a network may free a file only a moment after the run that held it
+/// has ended. After 0.3 s the file counts as one that can't be opened. A pipe can't be opened either.
 ///
-/// A call fails where the file cannot be opened, where the system answers an error, and where it takes less than the
-/// whole of what is written, a block or a run of them; the next call tries again. A sync is `sync_data` of the file: one that answers Ok
-/// has brought the file's bytes to the medium, and of what else is kept of it all that reading them back takes, as its
-/// size, but not such things as the time of its last change.
+/// A call fails if the file can't be opened, if the system answers an error, and if the system takes less than the whole of
+/// what is written, a block or a run of them. The next call tries again. A sync is `sync_data` of the file. After an Ok the
+/// file's bytes are on the medium, and also all that reading them back takes, such as the file's size. The time of its last
+/// change need not be there.
 #[derive(Drop)]
 pub struct FileDisk<'a, R: Files + Clock, W: Watch = Unwatched>
 where
@@ -80,7 +82,7 @@ where
 {
     rt: &'a R,
     path: &'a str,
-    // Whether the file may be written, and is made where there is none.
+    // Whether the file may be written, and is made if there is none.
     writes: bool,
     // The permissions of a file that is made, and the blocks that a file that may be written has at least.
     mode: u32,
@@ -104,7 +106,7 @@ where
         FileDisk::watched(rt, path, Unwatched)
     }
 
-    /// The disk in the file at `path`, to be read alone: the file is opened for reading and not made where there is none, and
+    /// The disk in the file at `path`, for reading alone: the file is opened for reading and not made if there is none, and
     /// every write fails. It is not touched yet, and no memory is taken.
     pub fn reader(rt: &'a R, path: &'a str) -> FileDisk<'a, R>
         ensures { ⟦<FileDisk<'a, R> as Disk>⟧.faults result ≡ 0 }
@@ -117,7 +119,7 @@ impl<'a, R: Files + Clock, W: Watch> FileDisk<'a, R, W>
 where
     R::File: FileExt + OneHolder,
 {
-    /// As [`FileDisk::new`], and `watch` is told of what its calls do.
+    /// As [`FileDisk::new`]; `watch` gets a call for what its calls do.
     pub fn watched(rt: &'a R, path: &'a str, watch: W) -> FileDisk<'a, R, W>
         ensures { ⟦<FileDisk<'a, R, W> as Disk>⟧.faults result ≡ 0 }
     {
@@ -136,7 +138,7 @@ where
         }
     }
 
-    /// As [`FileDisk::reader`], and `watch` is told of what its calls do.
+    /// As [`FileDisk::reader`]; `watch` gets a call for what its calls do.
     pub fn watched_reader(rt: &'a R, path: &'a str, watch: W) -> FileDisk<'a, R, W>
         ensures { ⟦<FileDisk<'a, R, W> as Disk>⟧.faults result ≡ 0 }
     {
@@ -155,38 +157,39 @@ where
         }
     }
 
-    /// A file that is made gets these permissions, less those that the process takes from each file that it makes. Without this call its
-    /// owner reads and writes it, and nobody else (0600). Nothing changes of a file that is open.
+    /// A file that is made gets these permissions, less those that the process takes from each file that it makes. Without
+    /// this call its owner reads and writes it, and nobody else (0600). A file that is open does not change.
     pub fn set_mode(&mut self, mode: u32)
         ensures { self.new.count ≡ self.old.count }
     {
         self.mode = mode;
     }
 
-    /// The file is given so many blocks when it is opened to be written, where it is shorter. What is added takes no room on the
-    /// medium and reads as zeros, as it did past the end of the file. Nothing changes of a file that is open.
+    /// When the file is opened to be written and is shorter than `blocks` blocks, it is extended to that length. What is
+    /// added takes no room on the medium and reads as zeros, as it did past the end of the file. A file that is open does
+    /// not change.
     pub fn set_length(&mut self, blocks: u64)
         ensures { self.new.count ≡ self.old.count }
     {
         self.least = blocks;
     }
 
-    /// What the file was when it was opened; none where it was not opened, or is only read and there is none.
+    /// What the file was when it was opened; None if it was not opened, or if it is only read and there is none.
     pub fn found(&self) -> Option<Found> {
         self.found
     }
 
-    /// Why the first call failed of those that did; none while none did.
+    /// Why the first failed call failed; None if no call failed so far.
     pub fn fault(&self) -> Option<&FileFault> {
         self.fault.as_ref()
     }
 
-    /// The lowest block that a read found behind the end of the file, or cut by it; none where no read came so far.
+    /// The lowest block that a read found past the end of the file, or cut by it; None if no read did so far.
     pub fn end(&self) -> Option<u64> {
         self.end
     }
 
-    /// The file, opened and held where it is not yet. The caller puts it back. None where it is only read and there is none.
+    /// The file, opened and held if it is not yet. The caller gives it back. None if it is only read and there is none.
     fn take_file(&mut self) -> io::Result<Option<R::File>>
         ensures { self.new.count ≡ self.old.count }
     {
@@ -219,7 +222,7 @@ where
         };
     }
 
-    /// A read of blocks that ended so.
+    /// The end of a read of blocks with this outcome.
     fn read_ended(
         &mut self,
         outcome: io::Result<usize>,
@@ -248,7 +251,7 @@ where
         }
     }
 
-    /// A write or a sync that ended so.
+    /// The end of a write or a sync with this outcome.
     fn write_ended(
         &mut self,
         outcome: io::Result<()>,
@@ -289,8 +292,8 @@ where
     }
 }
 
-/// The file, opened to be read and written, and held for this run alone. Where there is none it is made, with these permissions. It
-/// has at least so many blocks then.
+/// The file, opened to be read and written, and held for this run alone. If there is none it is made, with these
+/// permissions. It then has at least `least` blocks.
 fn held<R: Files + Clock>(rt: &R, path: &str, mode: u32, least: u64) -> io::Result<(R::File, Found)>
 where
     R::File: OneHolder,
@@ -323,7 +326,7 @@ fn open_or_make<R: Files>(rt: &R, path: &str, mode: u32) -> io::Result<(R::File,
     }
 }
 
-/// The file, opened to be read and shared with others that read it; none where there is none.
+/// The file, opened to be read and shared with others that read it; None if there is none.
 fn shared<R: Files + Clock>(rt: &R, path: &str) -> io::Result<Option<(R::File, Found)>>
 where
     R::File: OneHolder,
@@ -343,8 +346,8 @@ where
     Ok(Some((file, Found { is_new, bytes })))
 }
 
-/// Holds the file for this run alone, or shares it with others that read it. Where another run has the lock it is asked for again every
-/// 10 ms, for 0.3 s in all; the error is `WouldBlock` where that run has it still.
+/// Holds the file for this run alone, or shares it with others that read it. If another run has the lock, it is tried again
+/// every 10 ms, for 0.3 s in all. If that run has it still, the error is `WouldBlock`.
 fn lock<C: Clock, F: OneHolder>(clock: &C, file: &F, is_alone: bool) -> io::Result<()> {
     for _ in 0..RETRIES {
         match ask(file, is_alone) {
@@ -358,12 +361,12 @@ fn lock<C: Clock, F: OneHolder>(clock: &C, file: &F, is_alone: bool) -> io::Resu
     ask(file, is_alone)
 }
 
-/// Asks for the lock once.
+/// Tries to get the lock once.
 fn ask<F: OneHolder>(file: &F, is_alone: bool) -> io::Result<()> {
     if is_alone { file.hold() } else { file.share() }
 }
 
-/// How many bytes a regular file has; none of a device. An error comes for a pipe, which has no places to read and write at.
+/// How many bytes a regular file has; None for a device. An error comes for a pipe, which has no places to read and write at.
 fn length_of(metadata: &Metadata) -> io::Result<Option<u64>> {
     if metadata.is_file() {
         return Ok(Some(metadata.len()));
@@ -374,7 +377,7 @@ fn length_of(metadata: &Metadata) -> io::Result<Option<u64>> {
     Ok(None)
 }
 
-/// Reads the bytes at an offset. Where the file ends within them, the rest is zeros. Gives how many bytes the file had.
+/// Reads the bytes at an offset. If the file ends within them, the rest is zeros. Returns how many bytes the file had.
 fn read_whole<F: FileExt>(file: &F, offset: u64, out: &mut [u8]) -> io::Result<usize>
     requires { offset < 2 ^ 60 }
 {
@@ -443,7 +446,7 @@ where
         self.write_blocks(i, slice::from_ref(from))
     }
 
-    /// One call of the system for all of them, where it gives as much as it is asked for.
+    /// One call of the system for all of them, if it reads as much as it should.
     fn read_blocks(&mut self, first: u64, out: &mut [Block]) -> Result<(), Failed> {
         let outcome = match self.take_file() {
             Ok(Some(file)) => {

@@ -6,7 +6,7 @@ use crate::counted::counted;
 use crate::{Block, Disk, Failed};
 use mg_faults::FaultCount;
 
-/// A disk that passes a number of calls of read, write and sync on, and fails each one after.
+/// A disk that passes a number of calls of read, write and sync on, and fails each call after them.
 ///
 /// Its count of faults is its own: 0 at first, raised by each call that answers [`Failed`], whether it passed or not.
 #[derive(Drop)]
@@ -34,7 +34,7 @@ impl<D: Disk> Fuse<D> {
         }
     }
 
-    /// The disk as its calls left it.
+    /// The disk in the state that its calls left.
     pub fn into_inner(self) -> D
         ensures { result ≡ inner_of self }
     {
@@ -102,7 +102,8 @@ impl<D: Disk> Disk for Fuse<D> {
         counted(outcome, &mut self.count)
     }
 
-    /// A block is a call, and is spent whatever comes of the run. Where fewer calls are left, as many blocks are read, and it fails.
+    /// Each block is a call, and is spent whatever the run answers. If fewer calls are left, as many blocks are read, and
+    /// the run fails.
     fn read_blocks(&mut self, first: u64, out: &mut [Block]) -> Result<(), Failed>
         requires in_range { first + length out.old ≤ ⟦<Fuse<D> as Disk>⟧.block_count self.old }
         ensures meets { IsReadRun ⟦<Fuse<D> as Disk>⟧ self.old self.new first (length out.old) out.new result }
@@ -123,7 +124,8 @@ impl<D: Disk> Disk for Fuse<D> {
         counted(outcome, &mut self.count)
     }
 
-    /// A block is a call, and is spent whatever comes of the run. Where fewer calls are left, as many blocks are written, and it fails.
+    /// Each block is a call, and is spent whatever the run answers. If fewer calls are left, as many blocks are written, and
+    /// the run fails.
     fn write_blocks(&mut self, first: u64, from: &[Block]) -> Result<(), Failed>
         requires in_range { first + length from.now ≤ ⟦<Fuse<D> as Disk>⟧.block_count self.old }
         ensures meets { IsWriteRun ⟦<Fuse<D> as Disk>⟧ self.old self.new first from.now result }
@@ -156,7 +158,7 @@ impl<D: Disk> Disk for Fuse<D> {
     }
 }
 
-/// One call fewer is left. It fails where none was.
+/// Spends one call. It fails if none is left.
 fn spend(calls_left: &mut u64) -> Result<(), Failed>
     ensures blown { IsErr result ↔ (calls_left.old ≡ 0) }
     ensures spent { calls_left.new ≡ calls_left.old - 1 }
@@ -168,7 +170,7 @@ fn spend(calls_left: &mut u64) -> Result<(), Failed>
     Ok(())
 }
 
-/// So many calls fewer are left. Gives how many of them were.
+/// Spends `calls` calls, or all that are left if these are fewer. Returns how many were spent.
 fn spend_run(calls_left: &mut u64, calls: usize) -> usize
     ensures passing { result ≡ min calls_left.old calls }
     ensures spent { calls_left.new ≡ calls_left.old - calls }

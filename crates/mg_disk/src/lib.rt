@@ -1,14 +1,14 @@
 //! Disks: what a disk promises, also across a stop of the machine, and four that keep the promise.
 //!
-//! A layer above takes any `D: Disk`. It learns what reads give, which images a stop may leave since a moment, and that
-//! an answer [`Failed`] comes only where the disk's count of faults rose. [`MemDisk`] stands for a disk in tests, with
-//! calls that fail and stops at will, [`Fuse`] lets a disk die after some calls, [`ScratchDisk`] is a disk for one
-//! session alone, and [`FileDisk`] is the file that a volume is kept in.
+//! A layer above takes any `D: Disk`. Its clauses say what reads give, which images a stop may leave since a moment, and
+//! that an answer [`Failed`] comes only if the disk's count of faults rose. [`MemDisk`] is a disk for tests, with calls that
+//! fail and stops at will. [`Fuse`] lets a disk die after some calls. [`ScratchDisk`] is a disk for one session alone.
+//! [`FileDisk`] is the file that a volume is kept in.
 //!
-//! [`write_firmly`] is the step that clients are chains of: a write and a sync.
+//! [`write_firmly`] is a write and then a sync. The layers above write in such steps.
 //!
-//! `specs/Disk.antt` has the words of the trait, `specs/Stops.antt` what the layers above say of a disk in one word,
-//! and `specs/Runs.antt` the steps by which what a stop may leave is followed over a run of calls.
+//! `specs/Disk.antt` has the words of the trait, `specs/Stops.antt` what the layers above say of a disk in one word, and
+//! `specs/Runs.antt` the steps by which a proof follows what a stop may leave over a run of calls.
 #![tactic(auto)]
 
 mod blocks;
@@ -22,7 +22,7 @@ mod syncing;
 mod watching;
 
 pub use disk::{BLOCK_SIZE, Block, COPY_BLOCKS, Disk, GATE_OPEN};
-pub use file::{FILE_BLOCKS, FileDisk, Found, OneHolder};
+pub use file::{FileDisk, Found, OneHolder};
 pub use fuse::Fuse;
 pub use memory::{Counts, Left, MemDisk};
 pub use mg_faults::Failed;

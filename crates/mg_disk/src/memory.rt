@@ -1,4 +1,4 @@
-//! A disk in memory, for tests: calls fail where the test says, and it shows what a stop may leave.
+//! A disk in memory, for tests: calls fail when the test says, and it shows what a stop may leave.
 ghost use Rattle.std.specs.Prelude.{◌≡◌, ◌+◌, ◌<◌, ◌≤◌, ◌++◌, ◌∷◌, [], ℕ, true, refl, Some, vec_len, vec_capacity, Contains, length, slice_set, IfOk, IsErr, OnErr};
 ghost use Rattle.mg_faults.specs.Faults.{CountGoesOn, Rose, is_last};
 ghost use Rattle.mg_disk.specs.Disk.{SameBut, At, AreBytes};
@@ -13,7 +13,7 @@ use mg_faults::FaultCount;
 use std::alloc::{AllocError, Global};
 
 /// How many calls were made. Calls past the room are not among them.
-#[derive(Clone, Copy, Debug, Default, PartialEq, Eq)]
+#[derive(Clone, Copy, Default, PartialEq, Eq)]
 pub struct Counts {
     pub reads: u64,
     pub writes: u64,
@@ -21,7 +21,7 @@ pub struct Counts {
 }
 
 /// What a stop is to leave of the blocks that were written since the last good sync.
-#[derive(Clone, Copy, Debug, PartialEq, Eq)]
+#[derive(Clone, Copy, PartialEq, Eq)]
 pub enum Left {
     /// What they held at that sync.
     Old,
@@ -34,13 +34,13 @@ pub enum Left {
 /// A step of what a stop may leave.
 #[derive(Drop)]
 enum Event {
-    /// Block, and what was put there.
+    /// The block, and what was written there.
     Wrote(u64, Block),
     /// A good sync.
     Synced,
 }
 
-/// What becomes of a call.
+/// The result of a call.
 enum Turn {
     Passes,
     /// Its number is one that fails.
@@ -51,9 +51,9 @@ enum Turn {
 
 /// A disk in memory whose calls of read, write and sync are numbered from 0, and fail by their number.
 ///
-/// A call fails exactly where its number is among `fails`, or is `room` or more. A write that fails by its number leaves
-/// [`GATE_OPEN`] throughout its block, and counts as written since the last good sync. A call past the room changes
-/// nothing but the count of faults.
+/// A call fails exactly if its number is among `fails`, or is `room` or more. A write that fails by its number leaves
+/// [`GATE_OPEN`] throughout its block, and counts as written since the last good sync. A call past the room changes nothing
+/// but the count of faults.
 #[derive(Drop)]
 pub struct MemDisk {
     /// What it held at first.
@@ -87,7 +87,7 @@ impl MemDisk {
     ghost use Rattle.mg_disk.specs.Memory.{counts_of, calls_made, room_of, fails_of, content_of, one_write, one_sync, IsFresh, IsLeft};
     ghost use Rattle.mg_disk.specs.MemoryTurn.{IsTurn};
 
-    /// A disk of that many blocks of zeros. All its memory is taken here, with room for a record of `room` calls.
+    /// A disk of `blocks` blocks of zeros. All its memory is taken here, with room for a record of `room` calls.
     pub fn new(
         alloc: Global,
         blocks: u64,
@@ -129,7 +129,8 @@ impl MemDisk {
         })
     }
 
-    /// A new disk as a stop now may leave this one, with the same room and no call that fails by its number.
+    /// A new disk with an image that a stop now may leave of this one, with the same room and no call that fails by its
+    /// number.
     pub fn stopped(&self, alloc: Global, left: Left) -> Result<MemDisk, AllocError>
         ensures may_be_left { IfOk result (λ disk. ⟦<MemDisk as Disk>⟧.left_since self.now (⟦<MemDisk as Disk>⟧.moment self.now) (content_of disk)) }
         ensures left { IfOk result (λ disk. IsLeft left self.now (content_of disk)) }
@@ -315,7 +316,8 @@ impl Disk for MemDisk {
         Ok(())
     }
 
-    /// Each block is a call, with a number of its own. A run that fails keeps the blocks before the one that failed, and writes none after it.
+    /// Each block is a call, with a number of its own. A run that fails keeps the blocks before the block whose call failed,
+    /// and writes none after it.
     fn write_blocks(&mut self, first: u64, from: &[Block]) -> Result<(), Failed>
         requires in_range { first + length from.now ≤ ⟦<MemDisk as Disk>⟧.block_count self.old }
         ensures meets { IsWriteRun ⟦<MemDisk as Disk>⟧ self.old self.new first from.now result }

@@ -8,7 +8,7 @@ use crate::blocks::zeros;
 use crate::{Block, Disk, Failed};
 use std::alloc::{AllocError, Global};
 
-/// Blocks in memory, for what need not outlive the session. No call of it fails.
+/// Blocks in memory, for what need not outlive the session. None of its calls fails.
 ///
 /// It tells what reads give, and nothing of stops, since a stop leaves nothing of it.
 #[derive(Drop)]
@@ -18,7 +18,7 @@ pub struct ScratchDisk {
 }
 
 impl ScratchDisk {
-    /// A disk of that many blocks of zeros.
+    /// A disk of `blocks` blocks of zeros.
     pub fn new(alloc: Global, blocks: u64) -> Result<ScratchDisk, AllocError>
         ensures zeros { IfOk result (λ disk. ⟦<ScratchDisk as Disk>⟧.seen disk ≡ Some (zeros_of blocks)) }
         ensures blocks { IfOk result (λ disk. ⟦<ScratchDisk as Disk>⟧.block_count disk ≡ blocks) }

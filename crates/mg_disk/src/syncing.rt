@@ -6,7 +6,7 @@ ghost use Rattle.mg_disk.specs.Stops.{DiskCalls, Leaves, NothingPending};
 
 use crate::{Block, Disk, Failed};
 
-/// Writes a block and makes sure of it.
+/// Writes a block and syncs the disk.
 pub fn write_firmly<D: Disk>(disk: &mut D, i: u64, from: &Block) -> Result<(), Failed>
     requires within_disk { i < D.block_count disk.old }
     ensures any_moment { NothingPending D.Disk disk.old → ForSome (D.seen disk.old) (λ image. Leaves D.Disk disk.old disk.new (SameBut (only_place i) image)) }

@@ -1,13 +1,13 @@
-// What a disk in a file tells as it goes.
+// What a disk in a file reports during its calls.
 use std::fmt;
 use std::fmt::Formatter;
 use std::io::{self, ErrorKind};
 
-/// Why a call of a [`FileDisk`](crate::FileDisk) failed: the error of the system, in its words, or that another run holds the
-/// file; and the block at which the call began, where it had one.
+/// Why a call of a [`FileDisk`](crate::FileDisk) failed: the error of the system, in its words, or that another run holds
+/// the file; and the block at which the call began, if it had one.
 #[derive(Drop)]
 pub struct FileFault {
-    /// The error of the system. Its kind is `WouldBlock` where another run holds the file.
+    /// The error of the system. Its kind is `WouldBlock` if another run holds the file.
     pub error: io::Error,
     /// The first block that was to be read or written; none for a sync.
     pub block: Option<u64>,
@@ -25,7 +25,7 @@ impl fmt::Display for FileFault {
     }
 }
 
-/// What wants to know of the calls of a [`FileDisk`](crate::FileDisk) while a command runs. It changes no answer.
+/// What gets a call for each call of a [`FileDisk`](crate::FileDisk) while a command runs. It changes no answer.
 pub trait Watch {
     /// A read failed.
     fn read_failed(&mut self, fault: &FileFault);
@@ -33,7 +33,7 @@ pub trait Watch {
     /// A write or a sync failed.
     fn write_failed(&mut self, fault: &FileFault);
 
-    /// Blocks were written, so many, the first of them this one.
+    /// `count` blocks were written, the first of them `first`.
     fn wrote(&mut self, first: u64, count: usize);
 
     /// What was written is on the medium.

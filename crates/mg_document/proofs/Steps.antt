@@ -1,5 +1,5 @@
 -- The bytes that replies give, with one reply more.
-use Rattle.std.proofs.Common.{◌≡◌, ℕ, ◌+◌, ◌-◌, ◌<◌, suc, List, [], ◌∷◌, ◌++◌, Some, None, Ok, Err, ap, sym, ◌∙◌, arith}
+use Rattle.std.proofs.Common.{◌≡◌, ℕ, ◌+◌, ◌-◌, ◌<◌, suc, List, [], ◌∷◌, ◌++◌, Some, None, Err, ap, sym, ◌∙◌, arith}
 use Rattle.mg_document.specs.declared.faults.ReplyFault.TheVariants.{At}
 use Rattle.mg_document.specs.declared.faults.ReplyKind.TheVariants.{Missing, NoWord}
 use Rattle.mg_document.specs.Replies.{bytes_behind, with_told, word_told}
@@ -31,6 +31,3 @@ pub behind-missing : (before : List ℕ) (k count : ℕ) (replies : List (List �
 behind-missing before k count replies below are =
     ap (λ c. bytes_behind before (k + 2) c replies) (left_more count k below)
     ∙ ap (bytes_behind before (k + 2) (suc (count - (k + 1)))) are
-
-pub behind-end : (before : List ℕ) (n count : ℕ) (replies : List (List ℕ)) → bytes_behind before n (count - count) replies ≡ Ok before
-behind-end before n count replies = let e : count - count ≡ 0 = omega arith in ap (λ c. bytes_behind before n c replies) e

@@ -10,7 +10,7 @@ abbrev pub kind_name : ReplyKind → List ℕ
 kind_name NoWord = codes "NoWord"
 kind_name Missing = codes "Missing"
 
--- the line of a fault; want of memory has none
+-- the line of a fault; it is empty if there was not enough memory
 abbrev pub fault_line : ReplyFault → List ℕ
 fault_line Memory = []
 fault_line (At reply kind) = codes "reply " ++ decimal reply ++ codes ": " ++ kind_name kind ++ 10 ∷ []

@@ -32,7 +32,8 @@ with_told n (Some word) f = f word
 abbrev pub bytes_behind : List ℕ → ℕ → ℕ → List (List ℕ) → Result (List ℕ) ReplyFault
 bytes_behind before n zero replies = Ok before
 bytes_behind before n (suc count) [] = Err (At n Missing)
-bytes_behind before n (suc count) (reply ∷ replies) = with_told n (word_told reply) (λ word. bytes_behind (before ++ word_bytes word) (n + 1) count replies)
+bytes_behind before n (suc count) (reply ∷ replies) =
+    with_told n (word_told reply) (λ word. bytes_behind (before ++ word_bytes word) (n + 1) count replies)
 
 -- the first n bytes
 abbrev pub first_bytes : ℕ → Result (List ℕ) ReplyFault → Result (List ℕ) ReplyFault

@@ -10,7 +10,7 @@ use std::alloc::{AllocError, Global};
 pub const BYTE_LIMIT: u64 = OBJECT_PAGE_LIMIT * PAGE_SIZE - 8;
 
 /// The number of words that `bytes` bytes fill. They may fill the last one in part.
-pub fn words_for(bytes: u64) -> u64
+pub(crate) fn words_for(bytes: u64) -> u64
     ensures { result ≡ words_for bytes }
 {
     let begun = if bytes % 8 == 0 { 0 } else { 1 };

@@ -1,4 +1,4 @@
--- The lines that load words are read as the calls that do.
+-- A line that loads a word is read as the call `load`.
 use Rattle.std.proofs.Common.{◌≡◌, ℕ, suc, zero, ◌+◌, ◌*◌, ◌^◌, ◌<◌, ◌≤◌, ◌==◌, nat_lt, Bool, true, false, List, [], ◌∷◌, ◌++◌, length, filter, Some, None, if◌then◌else◌, codes, refl, ap, ◌∙◌, arith, append_assoc, length-append}
 use Rattle.std.specs.Fmt.{decimal}
 use Rattle.std.specs.List.{cons_option, filter_map}
@@ -64,7 +64,7 @@ spaced-misses cuts low space [] are = tt
 spaced-misses cuts low space (t ∷ ts) are =
     (space, misses-append cuts t (spaced ts) (high-misses cuts low t are.0.1) (spaced-misses cuts low space ts are.1))
 
--- a number is no note and no call word that stands alone
+-- a number is no note, and no call word that begins a line without a thread's number
 no_note : (xs : List ℕ) → Digits xs → is_note xs ≡ false
 no_note [] h = refl
 no_note (b ∷ xs) h = let low : 48 ≤ b = h.0.0 in grind (arith, nat_tests)

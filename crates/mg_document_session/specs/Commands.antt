@@ -22,13 +22,16 @@ bytes_of word = if same_bytes word (codes "bytes") then Some Bytes else None
 -- `put THREAD ADDRESS`
 abbrev pub put_of : List ℕ → List ℕ → List ℕ → Option Command
 put_of word thread address =
-    if same_bytes word (codes "put") then and_then (number_of thread) (λ t. and_then (number_of address) (λ a. if is_place a then Some (Put t a) else None)) else None
+    if same_bytes word (codes "put")
+    then and_then (number_of thread) (λ t. and_then (number_of address) (λ a. if is_place a then Some (Put t a) else None))
+    else None
 
 -- `get THREAD ADDRESS BYTES`
 abbrev pub get_of : List ℕ → List ℕ → List ℕ → List ℕ → Option Command
 get_of word thread address bytes =
     if same_bytes word (codes "get")
-    then and_then (number_of thread) (λ t. and_then (number_of address) (λ a. and_then (number_of bytes) (λ n. if is_place a && is_few n then Some (Get t a n) else None)))
+    then and_then (number_of thread) (λ t. and_then (number_of address)
+    (λ a. and_then (number_of bytes) (λ n. if is_place a && is_few n then Some (Get t a n) else None)))
     else None
 
 -- the command that the words after the program's name spell, if they spell one
@@ -42,7 +45,7 @@ command_of words = None
 abbrev pub words_of : List (String Global) → List (List ℕ)
 words_of words = map (λ (word : String Global). string_bytes word) words
 
--- the words of a command are stored and loaded where objects may be, and are no more than an object holds
+-- the words of a command are stored and loaded at addresses that objects may have, and are no more than an object holds
 abbrev pub HasPlace : Command → Type 0
 HasPlace (Put thread address) = address < 2 ^ 52
 HasPlace (Get thread address bytes) = (address < 2 ^ 52) × (bytes ≤ byte_limit)

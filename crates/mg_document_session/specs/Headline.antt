@@ -64,14 +64,22 @@ LeavesSource (Get thread address bytes) source source' = source' ≡ source
 LeavesSource Bytes source source' = Unit {0}
 
 -- What a command keeps: `out` takes what the input became, and `err` its fault.
-pub record Keeps {S O E : Type 0} (from : sources.Ghosts S) (to : sinks.Ghosts O) (aside : sinks.Ghosts E) (command : Command) (result : Status) (source source' : S) (out out' : O) (err err' : E) : Type 0 where
+pub record Keeps {S O E : Type 0} (from : sources.Ghosts S) (to : sinks.Ghosts O) (aside : sinks.Ghosts E) (command : Command)
+    (result : Status) (source source' : S) (out out' : O) (err err' : E) : Type 0 where
   -- At the end `out` took what the input became, and nothing else was written. The machine reads lines as the calls of the command.
-  pub done : result ≡ status.Done → OfInput command (from.left source) (from.left source') (λ input. PutsText command input (became command input) (to.taken out) (to.taken out')) × (err' ≡ err)
+  pub done : result ≡ status.Done
+      → OfInput command (from.left source) (from.left source')
+      (λ input. PutsText command input (became command input) (to.taken out) (to.taken out')) × (err' ≡ err)
   -- At a fault `err` took its line, and nothing else was written.
-  pub fault : result ≡ status.Fault → OfInput command (from.left source) (from.left source') (λ input. PutsFault (became command input) (aside.taken err) (aside.taken err')) × (out' ≡ out)
+  pub fault : result ≡ status.Fault
+      → OfInput command (from.left source) (from.left source')
+      (λ input. PutsFault (became command input) (aside.taken err) (aside.taken err')) × (out' ≡ out)
   -- A sink that failed took a first part of its text. It fails only if its count of faults rose.
-  pub sink : result ≡ status.Sink → OfInput command (from.left source) (from.left source') (λ input. PutsPart (became command input) (to.taken out) (to.taken out') (aside.taken err) (aside.taken err'))
-  pub sink_failed : result ≡ status.Sink → Rose (to.faults out) (to.faults out') (to.is_spent out') ⊎ Rose (aside.faults err) (aside.faults err') (aside.is_spent err')
+  pub sink : result ≡ status.Sink
+      → OfInput command (from.left source) (from.left source')
+      (λ input. PutsPart (became command input) (to.taken out) (to.taken out') (aside.taken err) (aside.taken err'))
+  pub sink_failed : result ≡ status.Sink → Rose (to.faults out) (to.faults out') (to.is_spent out')
+      ⊎ Rose (aside.faults err) (aside.faults err') (aside.is_spent err')
   -- If there was not enough memory, the source failed or the input is too long, nothing was written.
   pub nothing : (result ≡ status.Memory) ⊎ ((result ≡ status.Source) ⊎ (result ≡ status.TooLong)) → (out' ≡ out) × (err' ≡ err)
   -- The source failed only if its count of faults rose.
@@ -88,4 +96,5 @@ pub record Keeps {S O E : Type 0} (from : sources.Ghosts S) (to : sinks.Ghosts O
 -- the bytes that were stored.
 abbrev pub BringsBack : Status → Option (List ℕ) → Option (List ℕ) → Option (List ℕ) → Type 0
 BringsBack result left taken taken' =
-    IfSome left (λ input. (trip : Trip) (more : List ℕ) → input ≡ replies trip ++ more → (result ≢ status.Fault) × (result ≡ status.Done → Appends taken taken' trip.bytes))
+    IfSome left (λ input. (trip : Trip) (more : List ℕ) → input ≡ replies trip ++ more
+    → (result ≢ status.Fault) × (result ≡ status.Done → Appends taken taken' trip.bytes))

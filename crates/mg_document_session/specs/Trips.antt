@@ -42,12 +42,13 @@ pub record Trip : Type 0 where
 
 -- the replies to the loads
 abbrev pub replies : Trip → List ℕ
-replies trip = text (after trip.state (put_calls trip.thread trip.address trip.bytes)) (get_calls trip.reader trip.address (length trip.bytes))
+replies trip =
+    text (after trip.state (put_calls trip.thread trip.address trip.bytes)) (get_calls trip.reader trip.address (length trip.bytes))
 
 -- the replies give what was stored, whatever follows them
 abbrev pub ComesBack : (List ℕ → Result (List ℕ) ReplyFault) → Type 0
 ComesBack told = (trip : Trip) (more : List ℕ) → told (replies trip ++ more) ≡ Ok trip.bytes
 
--- the lines that load a document are read as the calls that do
+-- the lines that load a document are read as the calls that load it
 abbrev pub ReadAsLoads : Type 0
 ReadAsLoads = (thread address bytes : ℕ) → thread < 2 ^ 64 → address < 2 ^ 52 → bytes ≤ byte_limit → lines (get_text thread address bytes) ≡ get_calls thread address bytes

@@ -39,8 +39,10 @@ pub fn top<S: Source, O: Sink, E: Sink>(
 ) -> Status
     ensures command { IfSome (command_of (words_of words.now)) (λ command. Keeps S.Source O.Sink E.Sink command result
         source.old source.new out.old out.new err.old err.new) }
-    ensures back { command_of (words_of words.now) ≡ Some Command.Bytes → BringsBack result (S.left source.old) (O.taken out.old) (O.taken out.new) }
-    ensures usage { command_of (words_of words.now) ≡ None → UsageKeeps E.Sink result source.old source.new out.old out.new err.old err.new }
+    ensures back { command_of (words_of words.now) ≡ Some Command.Bytes
+        → BringsBack result (S.left source.old) (O.taken out.old) (O.taken out.new) }
+    ensures usage { command_of (words_of words.now) ≡ None
+        → UsageKeeps E.Sink result source.old source.new out.old out.new err.old err.new }
     ensures not_spelled { result ≡ Status.Usage → command_of (words_of words.now) ≡ None }
 {
     match read_words(words) {

@@ -7,7 +7,7 @@ use mg_model::limits::{PAGE_END, PAGE_SIZE};
 use mg_text::{is_word, read_number};
 
 /// What the program is asked to do.
-#[derive(Clone, Copy, Debug, PartialEq, Eq)]
+#[derive(Clone, Copy, PartialEq, Eq)]
 pub enum Command {
     /// Write the calls by which this thread stores the input as a document, from this address on.
     Put(u64, u64),
@@ -19,8 +19,8 @@ pub enum Command {
 
 /// The command that these words spell, which follow the program's name. None exactly if they spell none.
 ///
-/// They are `put THREAD ADDRESS`, `get THREAD ADDRESS BYTES` or `bytes`. The numbers are as in lines of calls; ADDRESS is a multiple
-/// of 8 below `2^52`, where objects end, and BYTES at most [`BYTE_LIMIT`].
+/// They are `put THREAD ADDRESS`, `get THREAD ADDRESS BYTES` or `bytes`. The numbers are as in lines of calls. ADDRESS is a
+/// multiple of 8 below `2^52`, the end of all objects, and BYTES at most [`BYTE_LIMIT`].
 pub fn read_words(words: &[String]) -> Option<Command>
     ensures command { result ≡ command_of (words_of words.now) }
     ensures place { IfSome result HasPlace }

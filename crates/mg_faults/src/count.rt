@@ -5,7 +5,7 @@ ghost use Rattle.mg_faults.specs.Faults.{Rose, CountGoesOn, is_last};
 use std::marker::Model;
 
 /// A count of faults in 64 bits. It never falls, and stays at its last value once it has reached it.
-#[derive(Debug, Drop)]
+#[derive(Drop)]
 pub struct FaultCount {
     count: u64,
 }

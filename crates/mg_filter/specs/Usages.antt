@@ -12,7 +12,8 @@ abbrev pub usage_line : List ℕ
 usage_line = codes "usage" ++ 10 ∷ []
 
 -- What is kept if the words spell no command: `err` takes the line, and source and `out` are left alone.
-pub record UsageKeeps {S O E : Type 0} (aside : sinks.Ghosts E) (result : Status) (source source' : S) (out out' : O) (err err' : E) : Type 0 where
+pub record UsageKeeps {S O E : Type 0} (aside : sinks.Ghosts E) (result : Status)
+    (source source' : S) (out out' : O) (err err' : E) : Type 0 where
   pub which : (result ≡ status.Usage) ⊎ (result ≡ status.Sink)
   pub line : result ≡ status.Usage → Appends (aside.taken err) (aside.taken err') usage_line
   pub prefix : AppendsPrefix (aside.taken err) (aside.taken err') usage_line

@@ -1,4 +1,4 @@
--- What is taken of a source. One that does not tell its content has None for it.
+-- What is taken of a source. A source that does not tell its content has None for it.
 use Rattle.std.specs.Prelude.{ℕ, ◌+◌, ◌<◌, ◌≤◌, ◌≡◌, List, [], length, Option, Some, IfSome, IsSomeAnd}
 
 -- the source was read to its end, and this holds of what it had

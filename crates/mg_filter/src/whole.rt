@@ -7,7 +7,7 @@ use mg_io::{PIECE, Source};
 use std::alloc::Global;
 
 /// Why a source was not read to its end.
-#[derive(Clone, Copy, Debug, PartialEq, Eq)]
+#[derive(Clone, Copy, PartialEq, Eq)]
 pub enum Unread {
     /// There was not enough memory.
     Memory,

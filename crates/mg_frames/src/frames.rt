@@ -25,7 +25,7 @@ impl Model for Frames {
 }
 
 impl Frames {
-    /// So many free frames, 65,536 at most. All memory that they will need is taken here.
+    /// `frames` free frames, at most 65,536. All memory that they will need is taken here.
     pub fn new(alloc: Global, frames: u64) -> Result<Frames, AllocError>
         requires { frames ≤ 65536 }
         ensures { IfOk result (λ made. made ≡ replicate frames 0) }
@@ -34,7 +34,7 @@ impl Frames {
         Ok(Frames { pages })
     }
 
-    /// Frames that hold these pages, 0 for a free one, 65,536 at most: none where a page stands twice. All memory that they
+    /// Frames that hold these pages, 0 for a free one, 65,536 at most: none if a page occurs twice. All memory that they
     /// will need is taken here.
     pub fn of(alloc: Global, pages: Vec<u64>) -> Result<Option<Frames>, AllocError>
         requires { length pages.items ≤ 65536 }

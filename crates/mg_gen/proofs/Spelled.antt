@@ -52,7 +52,7 @@ no_note : (xs : List ℕ) → High xs → is_note xs ≡ false
 no_note [] h = refl
 no_note (b ∷ xs) h = let low : 45 ≤ b = h.0 in grind (arith, nat_tests)
 
--- a number is none of the words that stand alone
+-- a number is none of the words that begin a line without a thread's number
 no_lone_word : (xs : List ℕ) → Digits xs → is_among xs lone_words ≡ false
 no_lone_word [] h = refl
 no_lone_word (b ∷ xs) h =

@@ -1,4 +1,4 @@
--- The calls that the lines of a generated run ask for, and the numbers that they are drawn from.
+-- The calls that the lines of a generated run make, and the numbers that they are drawn from.
 use Rattle.std.specs.Prelude.{◌≡◌, ℕ, ◌+◌, ◌-◌, ◌*◌, ◌/◌, ◌%◌, ◌^◌, ◌==◌, nat_lt, [], ◌∷◌, if◌then◌else◌, Some, None, map}
 use Rattle.mg_model.specs.declared.calls.Call.{Call}
 use Rattle.mg_model.specs.declared.calls.Call.TheVariants as call
@@ -20,7 +20,7 @@ address_of x = run_object_base (1 + x / 2 ^ 9 % 4) + 8 * (x / 2 ^ 11 % 8192)
 abbrev pub value_of : ℕ → ℕ
 value_of x = x / 2 ^ 24 % 65536
 
--- the generator's state behind k + 1 steps
+-- the generator's state after k + 1 steps
 abbrev pub generator_state : ℕ → ℕ → ℕ
 generator_state number k = (number + (k + 1) * 0x9e3779b97f4a7c15) % 2 ^ 64
 
@@ -60,11 +60,11 @@ prepared_line k =
 abbrev pub drawn_line : ℕ → Line
 drawn_line x = kind_line (kind_of x) (thread_of x) (address_of x) (value_of x)
 
--- what line k asks for
+-- the call that line k makes, and its thread
 abbrev pub line_asked : ℕ → ℕ → Line
 line_asked number k = if nat_lt k 44 then prepared_line k else drawn_line (drawn_word number k)
 
--- every line spells the call that it asks for, and so is answered; none is Bad
+-- every line spells the call that is named for it, and so is answered; none is Bad
 abbrev pub LinesAreCalls : Type 0
 LinesAreCalls = (number k : ℕ) → line_of (line_text number k) ≡ Some (line_asked number k)
 

@@ -1,4 +1,4 @@
--- The lines of a generated run: what the line of a place k, from 0, is in the run of a number.
+-- The lines of a generated run: the line of a place k, from 0, in the run of a number.
 use Rattle.std.specs.Prelude.{ℕ, ◌+◌, ◌-◌, ◌*◌, ◌/◌, ◌%◌, ◌^◌, ◌==◌, nat_lt, List, [], ◌∷◌, ◌++◌, if◌then◌else◌, codes, bit_xor, replicate}
 use Rattle.std.specs.Fmt.{decimal}
 use Rattle.mg_model.specs.Draw.{password_drawn}
@@ -11,8 +11,8 @@ use Rattle.mg_model.specs.Tariff.{usual_tariff}
 abbrev pub run_settings : Settings
 run_settings = record { frames = 4096; seed = replicate 32 0; credits = 2 ^ 40; tariff = usual_tariff 4096 }
 
--- Its root object has one page, and the four objects that the run makes lie behind it, 16 pages each: the first address of object j,
--- from 1 to 4.
+-- Its root object has one page. The four objects that the run makes come after it, 16 pages each: the first address of
+-- object j, from 1 to 4.
 abbrev pub run_object_base : ℕ → ℕ
 run_object_base j = root_base + 4096 + (j - 1) * (16 * 4096)
 
@@ -20,7 +20,7 @@ run_object_base j = root_base + 4096 + (j - 1) * (16 * 4096)
 unfoldable pub run_password : ℕ → ℕ
 run_password k = password_drawn run_settings.seed k
 
--- a call of a thread: its number, the call word, and the arguments behind it, with single spaces
+-- a call of a thread: its number, the call word, and then the arguments, with single spaces
 abbrev pub call_text : ℕ → List ℕ → List (List ℕ) → List ℕ
 call_text thread word args = decimal thread ++ spaced (word ∷ args)
 
@@ -28,8 +28,8 @@ call_text thread word args = decimal thread ++ spaced (word ∷ args)
 abbrev pub stored : ℕ → ℕ → List ℕ
 stored a value = call_text 1 (codes "store") (hex_text a ∷ hex_text value ∷ [])
 
--- The root object's page is the capability list of thread 1, whose first entry is the root itself: entry j names object j. Base and
--- password of each of the four are stored one after the other, m from 0 to 7.
+-- The root object's page is the capability list of thread 1, whose first entry is the root itself: entry j names object j.
+-- Base and password of each of the four are stored one after the other, m from 0 to 7.
 abbrev pub entry_text : ℕ → List ℕ
 entry_text m = stored (root_base + 8 * (4 + m)) (if m % 2 == 0 then run_object_base (1 + m / 2) else run_password (2 + m / 2))
 
@@ -41,7 +41,7 @@ shifted_in shift a = bit_xor a (a / 2 ^ shift)
 abbrev pub mixed : ℕ → ℕ → ℕ → ℕ
 mixed shift factor a = shifted_in shift a * factor % 2 ^ 64
 
--- The word x that a line is drawn from is that of the generator SplitMix64, k + 1 steps behind the run's number.
+-- The word x that a line is drawn from is that of the generator SplitMix64, k + 1 steps after the run's number.
 unfoldable pub drawn_word : ℕ → ℕ → ℕ
 drawn_word number k =
     shifted_in 31 (mixed 27 0x94d049bb133111eb (mixed 30 0xbf58476d1ce4e5b9 ((number + (k + 1) * 0x9e3779b97f4a7c15) % 2 ^ 64)))

@@ -9,7 +9,7 @@ use Rattle.mg_model.specs.Print.{refusal_text, spaced}
 use Rattle.mg_model.specs.Turn.{refusal_number}
 use Rattle.mg_gen.specs.Summary.{refusals, summary_text}
 
--- the row in which a reply is counted: that of its refusal's number, and 0 where it is ok
+-- the row in which a reply is counted: that of its refusal's number, and 0 if it is ok
 abbrev pub row_of : Reply → ℕ
 row_of (reply.No word) = refusal_number word
 row_of _ = 0
@@ -22,7 +22,7 @@ tally_of replies = map (λ row. count_by (λ answer. row_of answer == row) repli
 abbrev pub CountsAddUp : Type 0
 CountsAddUp = (replies : List Reply) → sum (tally_of replies) ≡ length replies
 
--- a word and how many replies it stands for, as a line
+-- a word and how many replies it counts, as a line
 abbrev pub count_line : List ℕ → ℕ → List ℕ
 count_line word n = word ++ spaced (decimal n ∷ []) ++ 10 ∷ []
 
@@ -31,11 +31,11 @@ abbrev pub count_lines : List (List ℕ) → List ℕ → List ℕ
 count_lines (word ∷ words) (n ∷ counts) = count_line word n ++ count_lines words counts
 count_lines _ _ = []
 
--- what the lines begin with: `ok`, and each refusal's word
+-- the first words of the lines: `ok`, and each refusal's word
 abbrev pub row_words : List (List ℕ)
 row_words = codes "ok" ∷ map refusal_text refusals
 
--- each refusal's word stands in the row that it is counted in
+-- the row of each refusal's word is the row that counts it
 abbrev pub WordsAreInRows : Type 0
 WordsAreInRows = (word : Refusal) → slice_index_or row_words (refusal_number word) [] ≡ refusal_text word
 
@@ -43,6 +43,6 @@ WordsAreInRows = (word : Refusal) → slice_index_or row_words (refusal_number w
 abbrev pub tally_text : List ℕ → List ℕ
 tally_text counts = count_lines row_words counts
 
--- the lines of the counts of some replies are what is told of them
+-- the lines of the counts of some replies are the summary of these replies
 abbrev pub CountsAreTold : Type 0
 CountsAreTold = (replies : List Reply) → tally_text (tally_of replies) ≡ summary_text replies

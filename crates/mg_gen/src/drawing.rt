@@ -24,39 +24,39 @@ fn state(number: u64, k: u64) -> u64
 }
 
 /// The exclusive or of a word and of the same word shifted to the right.
-fn shifted(shift: u32, a: u64) -> u64
+fn shifted(shift: u32, word: u64) -> u64
     requires { shift < 64 }
-    ensures { result ≡ shifted_in shift a }
+    ensures { result ≡ shifted_in shift word }
 {
-    a ^ (a >> shift)
+    word ^ (word >> shift)
 }
 
 /// The kind of the line that is drawn from a word, below 16.
-pub fn kind(x: u64) -> u64
-    ensures { result ≡ kind_of x }
+pub fn kind(word: u64) -> u64
+    ensures { result ≡ kind_of word }
 {
-    (x >> 5) % 16
+    (word >> 5) % 16
 }
 
 /// Its thread, from 1 to 32.
-pub fn thread(x: u64) -> u64
-    ensures { result ≡ thread_of x }
+pub fn thread(word: u64) -> u64
+    ensures { result ≡ thread_of word }
 {
-    1 + x % 32
+    1 + word % 32
 }
 
 /// Its address: that of a word in one of the four objects.
-pub fn address(x: u64) -> u64
-    ensures { result ≡ address_of x }
+pub fn address(word: u64) -> u64
+    ensures { result ≡ address_of word }
 {
-    run_object_base(1 + (x >> 9) % 4) + 8 * ((x >> 11) % 8192)
+    run_object_base(1 + (word >> 9) % 4) + 8 * ((word >> 11) % 8192)
 }
 
 /// Its value, below 65,536.
-pub fn value(x: u64) -> u64
-    ensures { result ≡ value_of x }
+pub fn value(word: u64) -> u64
+    ensures { result ≡ value_of word }
 {
-    (x >> 24) % 65536
+    (word >> 24) % 65536
 }
 
 /// The first address of object j.

@@ -2,7 +2,7 @@
 ghost use Rattle.mg_gen.specs.Asked.{LinesAreCalls, PasswordsAreDrawn};
 ghost use Rattle.mg_gen.specs.Tallies.{CountsAddUp, CountsAreTold, WordsAreInRows};
 
-/// Each line of each run spells a call, the one that the definition names beside it: each is answered, and none is Bad.
+/// Each line of each run spells the call that the definition names beside it. So each is answered, and none is Bad.
 pub fn lines_are_calls()
     ensures { LinesAreCalls }
 {}
@@ -12,8 +12,8 @@ pub fn passwords_are_drawn()
     ensures { PasswordsAreDrawn }
 {}
 
-/// The counts of a tally add up to the number of the replies that were counted, and each refusal's word is printed beside its
-/// count. So what a tally prints is what is told of the replies.
+/// The counts of a tally add up to the number of the replies that were counted, and each refusal's word is printed beside
+/// its count. So a tally prints the summary of the replies.
 pub fn counts_add_up()
     ensures sum { CountsAddUp }
     ensures words { WordsAreInRows }

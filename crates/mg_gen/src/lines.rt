@@ -11,7 +11,7 @@ use arrayvec::ArrayVec;
 use mg_model::limits::ROOT_BASE;
 use mg_text::{push_number, push_text, push_word};
 
-/// From which place on the lines are drawn.
+/// The first place whose line is drawn.
 const DRAWN_FROM: u64 = 44;
 
 /// Writes line `k` of the run of a number, with its newline, into an empty buffer. The longest lines, the stores among the
@@ -96,41 +96,41 @@ fn password_number(k: u64) -> u64
 }
 
 /// A store of thread 1.
-fn push_store(a: u64, value: u64, out: &mut ArrayVec<u8, 256>)
+fn push_store(address: u64, value: u64, out: &mut ArrayVec<u8, 256>)
     requires empty { out.old.items ≡ [] }
-    ensures text { out.new.items ≡ stored a value }
+    ensures text { out.new.items ≡ stored address value }
     ensures short { array_vec_len out.new ≤ 200 }
 {
     push_call(1, b"store", out);
-    push_word(out, a);
+    push_word(out, address);
     push_word(out, value);
 }
 
 /// The line that is drawn from a word.
-fn push_drawn(x: u64, out: &mut ArrayVec<u8, 256>)
+fn push_drawn(word: u64, out: &mut ArrayVec<u8, 256>)
     requires empty { out.old.items ≡ [] }
-    ensures text { out.new.items ≡ drawn_text x }
+    ensures text { out.new.items ≡ drawn_text word }
     ensures short { array_vec_len out.new ≤ 200 }
 {
-    push_kind(kind(x), thread(x), address(x), value(x), out);
+    push_kind(kind(word), thread(word), address(word), value(word), out);
 }
 
 /// The line of a kind.
-fn push_kind(kind: u64, thread: u64, a: u64, value: u64, out: &mut ArrayVec<u8, 256>)
+fn push_kind(kind: u64, thread: u64, address: u64, value: u64, out: &mut ArrayVec<u8, 256>)
     requires empty { out.old.items ≡ [] }
-    ensures text { out.new.items ≡ kind_text kind thread a value }
+    ensures text { out.new.items ≡ kind_text kind thread address value }
     ensures short { array_vec_len out.new ≤ 200 }
 {
     if kind < 6 {
         push_call(thread, b"load", out);
-        push_word(out, a);
+        push_word(out, address);
     } else if kind < 11 {
         push_call(thread, b"store", out);
-        push_word(out, a);
+        push_word(out, address);
         push_number(out, value);
     } else if kind == 11 {
         push_call(thread, b"info", out);
-        push_word(out, a);
+        push_word(out, address);
     } else if kind == 12 {
         push_call(thread, b"balance", out);
         push_number(out, 1);
@@ -141,7 +141,7 @@ fn push_kind(kind: u64, thread: u64, a: u64, value: u64, out: &mut ArrayVec<u8, 
         push_text(out, b"next");
     } else {
         push_call(thread, b"pwadd", out);
-        push_word(out, a);
+        push_word(out, address);
         push_text(out, b" R");
     }
 }

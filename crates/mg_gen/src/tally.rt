@@ -38,8 +38,8 @@ const REFUSALS: [Refusal; 22] = [
     Refusal::Past,
 ];
 
-/// How many replies were ok, and how many were refused with each word. A count stands still at a u64's last value.
-#[derive(Debug, Drop)]
+/// How many replies were ok, and how many were refused with each word. A count at a u64's last value stays there.
+#[derive(Drop)]
 pub struct Tally {
     counts: [u64; ROWS],
 }
@@ -53,7 +53,7 @@ impl Model for Tally {
 }
 
 impl Tally {
-    /// Of no replies.
+    /// The counts of no replies.
     #[tactic(auto, unfolding(crate::specs::Tallies::tally_of))]
     pub fn new() -> Self
         ensures { result ≡ tally_of [] }
@@ -61,7 +61,7 @@ impl Tally {
         Tally { counts: [0; ROWS] }
     }
 
-    /// Counts one reply more. Of fewer than `2^64 - 1` replies the counts are exact.
+    /// Counts one reply more. The counts are exact for fewer than `2^64 - 1` replies.
     pub fn count(&mut self, reply: &Reply)
         ensures { (replies : List Reply) → self.old ≡ tally_of replies → length replies < 2 ^ 64 - 1 → self.new ≡ tally_of (replies ++ reply.now ∷ []) }
     {
@@ -102,15 +102,15 @@ fn push_counts(counts: &[u64; ROWS], out: &mut ArrayVec<u8, 1024>)
 }
 
 /// The line of a word and its count.
-fn push_row(word: &[u8], n: u64, out: &mut ArrayVec<u8, 1024>)
+fn push_row(word: &[u8], count: u64, out: &mut ArrayVec<u8, 1024>)
     requires at_most_10_bytes { length word.now ≤ 10 }
     requires at_most_992_bytes { array_vec_len out.old ≤ 992 }
-    ensures text { out.new.items ≡ out.old.items ++ count_line word.now n }
+    ensures text { out.new.items ≡ out.old.items ++ count_line word.now count }
     ensures short { array_vec_len out.new ≤ array_vec_len out.old + 32 }
 {
     let mut digits = itoa::Buffer::new();
     let _ = out.try_extend_from_slice(word);
     out.push(b' ');
-    let _ = out.try_extend_from_slice(digits.format(n).as_bytes());
+    let _ = out.try_extend_from_slice(digits.format(count).as_bytes());
     out.push(b'\n');
 }

@@ -19,7 +19,7 @@ no-falls pairs up i j d order under =
     (λ le. let e : i ≡ j = omega arith in let P : ℕ → Type 0 = λ n. (get_or pairs i d).0 ≤ (get_or pairs n d).0 in subst P e (omega arith))
     (cases_lt i j)
 
--- where two pairs of a number stand, they are one
+-- when two pairs of a number are there, they are one
 one-pair : (pairs : List (ℕ × ℕ)) → Ascends pairs → (a b : ℕ) (x y : ℕ × ℕ) → b < length pairs → get_or pairs a x ≡ x → get_or pairs b y ≡ y → x.0 ≡ y.0 → a < b → ⊥
 one-pair pairs up a b x y under at_a at_b same before =
     let rises : (get_or pairs a x).0 < (get_or pairs b x).0 = up a b x before under in
@@ -27,7 +27,7 @@ one-pair pairs up a b x y under at_a at_b same before =
     let second : (get_or pairs b x).0 ≡ y.0 = ap (λ (p : ℕ × ℕ). p.0) (get_or_default pairs b x y under ∙ at_b) in
     omega arith
 
--- a number stands in one place
+-- a number is in one place
 pub one-place : (numbers : List ℕ) (pairs : List (ℕ × ℕ)) → Ascends pairs → IsExact numbers pairs → (number f g : ℕ) → IsBound numbers (number, f) → IsBound numbers (number, g) → f ≡ g
 one-place numbers pairs up exact number f g at_f at_g =
     ⊎_elim (λ l. absurd (one-pair pairs up u.0 w.0 (number, f) (number, g) w.1 u.2 w.2 refl l))
@@ -69,7 +69,7 @@ place-not-found numbers pairs number some exact none =
     none-there (λ entry. entry == number) numbers
     (λ k under. ne_eqb (get_or numbers k 0) number (λ is. let there = (exact (number, k)).1 (some, under, is) in none there.0 (number, k) there.1 (ap (λ (p : ℕ × ℕ). p.0) there.2)))
 
--- numbers before a place are below a number, and those from there on are above it, where it does not stand at that place
+-- numbers before a place are below a number, and those from there on are above it, if it is not at that place
 pub nowhere-else :
     (pairs : List (ℕ × ℕ)) (number i : ℕ) → Ascends pairs → AllWithin (λ (pair : ℕ × ℕ). pair.0 < number) pairs 0 i → AllWithin (λ (pair : ℕ × ℕ). number ≤ pair.0) pairs i (length pairs)
     → ((d : ℕ × ℕ) → i < length pairs → (get_or pairs i d).0 ≢ number) → (k : ℕ) (d : ℕ × ℕ) → k < length pairs → (get_or pairs k d).0 ≢ number
@@ -134,7 +134,7 @@ unbound-not : (numbers : List ℕ) (number : ℕ) → list_any (λ entry. entry 
 unbound-not numbers number none pair bound is =
     false≢true (sym (any-not (λ entry. entry == number) numbers none pair.1 bound.1) ∙ eq-eqb (get_or numbers pair.1 0) number (bound.2 ∙ is))
 
--- a number that is put into a place
+-- a number that is entered in a place
 pub put-places :
     (numbers : List ℕ) (pairs : List (ℕ × ℕ)) (space more low place number i : ℕ) → IsIndexed numbers pairs space low → space ≤ more → i ≤ length pairs
     → AllWithin (λ (pair : ℕ × ℕ). pair.0 < number) pairs 0 i → AllWithin (λ (pair : ℕ × ℕ). number ≤ pair.0) pairs i (length pairs)
@@ -221,7 +221,7 @@ none-free numbers low none is =
     ap (λ x. x == 0) (sym (ap (λ m. get_or numbers m 0) e) ∙ sym (get_or-drop low numbers (k - low) 0))
     ∙ any-not (λ entry. entry == 0) (drop low numbers) (nowhere_any (λ entry. entry == 0) (drop low numbers) is) (k - low) (omega arith)) (cases_lt k low))
 
--- once the lowest free place is bound, the bound is behind it
+-- once the lowest free place is bound, the bound is after it
 pub bound-above :
     (was numbers : List ℕ) (pairs : List (ℕ × ℕ)) (space low place number : ℕ) → IsIndexed numbers pairs space low → position (λ entry. entry == 0) was ≡ Some place → numbers ≡ slice_set was place number → number ≢ 0 → IsIndexed numbers pairs space (place + 1)
 bound-above was numbers pairs space low place number now is put some =

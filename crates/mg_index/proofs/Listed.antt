@@ -12,7 +12,7 @@ use Rattle.mg_model.specs.Tests.{all_distinct}
 use Rattle.mg_index.specs.Words.{numbers_in}
 use Rattle.mg_index.specs.Pairs.{Ascends, HasTwice, IsExact, IsSortedTable, free_count, times}
 
--- the bound numbers of the places below n stand there with their places, and nothing else
+-- the bound numbers of the places below n are there with their places, and nothing else
 pub record IsListed (numbers : List ℕ) (n : ℕ) (pairs : List (ℕ × ℕ)) : Type 0 where
   pub had : (pair : ℕ × ℕ) → Contains pairs pair → (pair.0 ≢ 0) × (pair.1 < n) × (slice_index numbers pair.1 ≡ pair.0)
   pub has : (pair : ℕ × ℕ) → pair.0 ≢ 0 → pair.1 < n → slice_index numbers pair.1 ≡ pair.0 → Contains pairs pair
@@ -140,7 +140,7 @@ times-once number (x ∷ xs) distinct = ⊎_elim here (other (times-once number 
         let c : cond {A = ℕ} (number == x) 1 0 ≡ 0 = ap (λ (t : Bool). cond {A = ℕ} t 1 0) is in
         omega (arith, more, rest)
 
--- numbers that stand once each, in order, rise
+-- numbers that occur once each, in order, rise
 rises-once : (numbers : List ℕ) (i j : ℕ) → i < j → j < length numbers → ((number : ℕ) → times number numbers ≤ 1) → get_or numbers i 0 ≢ get_or numbers j 0
 rises-once numbers i j before under once is =
     let number = get_or numbers i 0 in
@@ -181,7 +181,7 @@ sorted-table numbers pairs sorted space exact bound moved order room =
       room = room;
     }
 
--- a number that stands in two pairs is not distinct
+-- a number that is in two pairs is not distinct
 pub twice-not : (numbers : List ℕ) (pairs : List (ℕ × ℕ)) (space : ℕ) → IsSortedTable numbers pairs space → HasTwice pairs → all_distinct (numbers_in numbers) ≡ false
 twice-not numbers pairs space table twice = ⊎_elim (λ distinct. absurd (never distinct)) (λ is. is) (cases_Bool (all_distinct (numbers_in numbers)))
   where

@@ -6,11 +6,11 @@ use Rattle.std.proofs.lemmas.Bool.{cases_eq, cases_lt}
 use Rattle.std.proofs.lemmas.List.{append-nil, drop_all, get_or-drop, get_or-take, get_or_append_left, get_or-append_right, get_or_default, length-take-le, take_all}
 use Rattle.std.proofs.lemmas.List.Edits.{get_or-insert_above, get_or-insert_at, get_or-insert_below, length-insert}
 
--- what stands at a place is contained
+-- what is at a place is contained
 pub contains-at : {X : Type 0} (xs : List X) (k : ℕ) (d x : X) → k < length xs → get_or xs k d ≡ x → Contains xs x
 contains-at xs k d x below is = (k, below, get_or_default xs k x d below ∙ is)
 
--- an element that is put in
+-- an element that is added
 pub insert-has : {X : Type 0} (xs : List X) (i : ℕ) (y : X) → i ≤ length xs → Contains (insert xs i y) y
 insert-has xs i y within = contains-at (insert xs i y) i y y (let l = length-insert xs i y within in omega arith) (get_or-insert_at xs i y y within)
 
@@ -45,7 +45,7 @@ insert-cases xs i y x within there = go (place i there.0)
         let b = there.1 in
         inl (contains-at xs k x x (omega (arith, l)) (sym (get_or-insert_above xs i y x k a within) ∙ sym (ap (λ k. get_or (insert xs i y) k x) e) ∙ there.2))
 
--- an element put between those that come before it and those that come behind
+-- an element added between those that come before it and those that come after
 pub insert-pairs :
     {X : Type 0} (R : X → X → Type 0) (xs : List X) (i : ℕ) (y : X) → i ≤ length xs → AllPairs R xs
     → ((k : ℕ) (d : X) → k < i → R (get_or xs k d) y) → ((k : ℕ) (d : X) → i ≤ k → k < length xs → R y (get_or xs k d)) → AllPairs R (insert xs i y)
@@ -112,7 +112,7 @@ cut-pairs {X} R xs i j order within each a b d before under = ⊎_elim (λ u. �
     second : i ≤ a → R (get_or (remove_range xs i j) a d) (get_or (remove_range xs i j) b d)
     second u = both _ _ _ _ (cut-above xs i j a d order within u) (cut-above xs i j b d order within (omega (arith, l))) (each (j + (a - i)) (j + (b - i)) d (omega (arith, l)) (omega (arith, l)))
 
--- what stands outside the part stays, and nothing else
+-- what is outside the part stays, and nothing else
 pub cut-keeps : {X : Type 0} (xs : List X) (i j k : ℕ) (x : X) → i ≤ j → j ≤ length xs → k < length xs → get_or xs k x ≡ x → (k < i) ⊎ (j ≤ k) → Contains (remove_range xs i j) x
 cut-keeps {X} xs i j k x order within under is outside = ⊎_elim low high outside
   where

@@ -1,4 +1,4 @@
--- No number stands twice in a table after a number is bound, or some are released.
+-- No number occurs twice in a table after a number is bound, or some are released.
 use Rattle.std.specs.Prelude.{◌≡◌, ◌≢◌, ◌⊎◌, ◌==◌, ℕ, zero, suc, true, false, not, List, [], ◌∷◌, map, replicate, slice_set}
 use Rattle.std.specs.List.{list_any}
 use Rattle.std.proofs.Common.{refl, sym, ap, ◌∙◌, ⊎_elim}
@@ -62,7 +62,7 @@ still_unbound (y ∷ ys) (suc i) number x other some none = ⊎_elim (free (λ r
         ap (list_any (λ z. x == z)) (bound-number (slice_set ys i number) y is)
         ∙ or_from (x == y) (list_any (λ z. x == z) (numbers_in (slice_set ys i number))) parts.0 (again parts.1)
 
--- a number that is not there may be put anywhere
+-- a number that is not there may be entered anywhere
 distinct_put : (xs : List ℕ) (i number : ℕ) → number ≢ 0 → list_any (λ y. number == y) xs ≡ false → all_distinct (numbers_in xs) ≡ true → all_distinct (numbers_in (slice_set xs i number)) ≡ true
 distinct_put [] i number some none is = refl
 distinct_put (y ∷ ys) zero number some none is =

@@ -13,7 +13,7 @@ IsBound numbers pair = (pair.0 ≢ 0) × (pair.1 < length numbers) × (slice_ind
 abbrev pub Ascends : List (ℕ × ℕ) → Type 0
 Ascends pairs = AllPairs (λ (a b : ℕ × ℕ). a.0 < b.0) pairs
 
--- a pair stands there exactly where that place holds that number
+-- a pair is there exactly if that place holds that number
 abbrev pub IsExact : List ℕ → List (ℕ × ℕ) → Type 0
 IsExact numbers pairs = (pair : ℕ × ℕ) → Contains pairs pair ↔ IsBound numbers pair
 
@@ -24,11 +24,11 @@ free_count numbers = count_by (λ number. number == 0) numbers
 abbrev pub NoneFree : List ℕ → ℕ → Type 0
 NoneFree numbers low = (place : ℕ) → place < low → slice_index numbers place ≢ 0
 
--- a number stands in two pairs, one behind the other
+-- a number is in two pairs, one after another
 abbrev pub HasTwice : List (ℕ × ℕ) → Type 0
 HasTwice pairs = (k : ℕ) × (k + 1 < length pairs) × ((slice_index_or pairs k (0, 0)).0 ≡ (slice_index_or pairs (k + 1) (0, 0)).0)
 
--- how often a number stands in a list
+-- how often a number is in a list
 abbrev pub times : ℕ → List ℕ → ℕ
 times number numbers = count_by (λ x. number == x) numbers
 
@@ -55,7 +55,7 @@ pub record IsIndexed (numbers : List ℕ) (pairs : List (ℕ × ℕ)) (space low
 abbrev pub freed : List ℕ → List (ℕ × ℕ) → List ℕ
 freed numbers pairs = fold (λ (left : List ℕ) (pair : ℕ × ℕ). slice_set left pair.1 0) numbers pairs
 
--- the pairs of the numbers in a range stand from one place to before another
+-- the pairs of the numbers in a range are from one place to before another
 pub record IsPart (pairs : List (ℕ × ℕ)) (first count from to : ℕ) : Type 0 where
   pub before : AllWithin (λ (pair : ℕ × ℕ). pair.0 < first) pairs 0 from
   pub behind_first : AllWithin (λ (pair : ℕ × ℕ). first ≤ pair.0) pairs from (length pairs)

@@ -33,7 +33,7 @@ impl Model for Index {
 }
 
 impl Index {
-    /// So many free places, 65,536 at most. All memory that they will need is taken here.
+    /// `places` free places, at most 65,536. All memory that they will need is taken here.
     pub fn new(alloc: Global, places: u64) -> Result<Index, AllocError>
         requires { places ≤ 65536 }
         ensures { IfOk result (λ all. all ≡ replicate places 0) }
@@ -47,7 +47,7 @@ impl Index {
         })
     }
 
-    /// These numbers in their places, 0 for a free one, in at most 65,536 places: none where a number stands twice. All
+    /// These numbers in their places, 0 for a free one, in at most 65,536 places: none if a number occurs twice. All
     /// memory that they will need is taken here.
     pub fn of(alloc: Global, numbers: Vec<u64>) -> Result<Option<Index>, AllocError>
         requires { length numbers.items ≤ 65536 }
@@ -110,7 +110,7 @@ impl Index {
         self.numbers[place as usize]
     }
 
-    /// Puts a number that has no place, and is not 0, into a place that is free.
+    /// Enters a number that has no place, and is not 0, in a place that is free.
     pub fn put(&mut self, place: u64, number: u64)
         requires place { place < length self.old }
         requires number { number ≢ 0 }
@@ -124,7 +124,7 @@ impl Index {
         self.numbers[place as usize] = number;
     }
 
-    /// Puts a number that has no place, and is not 0, into the lowest free place, and gives that place.
+    /// Enters a number that has no place, and is not 0, in the lowest free place, and gives that place.
     pub fn add(&mut self, number: u64) -> u64
         requires number { number ≢ 0 }
         requires unbound { list_any (λ entry. entry == number) self.old ≡ false }

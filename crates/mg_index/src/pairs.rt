@@ -85,7 +85,7 @@ fn is_below(number: u64, first: u64, count: u64) -> bool
     number < first || number - first < count
 }
 
-/// Frees the places of these pairs, and gives the lowest of them, or `low` where that is lower.
+/// Frees the places of these pairs, and gives the lowest of them, or `low` if that is lower.
 pub(crate) fn free_places(numbers: &mut [u64], pairs: &[(u64, u64)], low: u64) -> u64
     requires { All (λ pair. pair.1 < length numbers.old) pairs.now }
     ensures freed { numbers.new ≡ freed numbers.old pairs.now }

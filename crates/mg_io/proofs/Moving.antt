@@ -1,11 +1,11 @@
--- What a copy to the front of a buffer, and a put of a part, do to the bytes that are told.
+-- What a copy to the front of a buffer, and a `put` of a part, do to the bytes that are told.
 use Rattle.std.specs.Prelude.{◌≡◌, ℕ, ◌+◌, ◌-◌, ◌<◌, ◌≤◌, min, List, [], ◌++◌, length, take, drop, Option}
 use Rattle.std.specs.Io.KnownBytes.{Appends}
 use Rattle.std.proofs.Common.{sym, ap, subst, ◌∙◌, append_assoc, arith, take-append-drop, drop-drop, length-append, length-drop, take_all, drop_of_length-le}
 use Rattle.std.proofs.Math.Seq.{take-append_seam}
 use Rattle.mg_io.specs.Known.{Appends-then}
 
--- the first bytes that are left, copied to the front of a buffer, are what is given
+-- the first bytes that are left, copied to the front of a buffer, are the bytes that the call gives
 pub copied-gives : (at n : ℕ) (items bytes copied after : List ℕ) → drop at items ≡ bytes → copied ≡ take n bytes →
     length copied ≡ n → bytes ≡ take n (copied ++ after) ++ drop (at + n) items
 copied-gives at n items bytes copied after is_left is_front counts =
@@ -14,7 +14,7 @@ copied-gives at n items bytes copied after is_left is_front counts =
     let left : drop (at + n) items ≡ drop n bytes = sym (drop-drop n at items) ∙ ap (λ v. drop n v) is_left in
     sym (take-append-drop n bytes) ∙ ap (λ v. v ++ drop n bytes) (sym given) ∙ ap (λ v. take n (copied ++ after) ++ v) (sym left)
 
--- where nothing is given, nothing is left
+-- if nothing is given, nothing is left
 pub none-left : (at n piece room : ℕ) (items bytes : List ℕ) → drop at items ≡ bytes → n ≡ min piece (min (length bytes) room) →
     0 < piece → 0 < room → n ≡ 0 → drop (at + n) items ≡ []
 none-left at n piece room items bytes is_left counts some roomy none =
@@ -36,7 +36,7 @@ IsPartly-more old now new text rest n before more = record {
   taken = Appends-then old now new before.put (take n rest) before.taken more;
 }
 
--- one put more
+-- one `put` more
 pub IsPartly-next : (old now new : Option (List ℕ)) (text rest : List ℕ) (n m : ℕ) → IsPartly old now text rest →
     Appends now new (take n rest) → length rest - n ≤ m → IsPartly old new text (take m (drop n rest))
 IsPartly-next old now new text rest n m before more fits =

@@ -1,4 +1,4 @@
--- What takes and puts do to the bytes left and the bytes taken, where those are told, and how this adds up over a run of calls.
+-- What takes and puts do to the bytes left and the bytes taken, if those are told, and how this adds up over a run of calls.
 use Rattle.std.specs.Prelude.{◌≡◌, ℕ, List, [], ◌++◌, Option, Some, None}
 use Rattle.std.specs.Io.KnownBytes.{Appends, Keeps, Consumes}
 use Rattle.std.proofs.Common.{refl, sym, ap, ◌∙◌, append_assoc, append-nil}

@@ -1,17 +1,17 @@
 //! Bytes that come from outside, and bytes that go there.
 //!
-//! A [`Source`] gives its bytes in pieces and a [`Sink`] takes them in pieces; either may fail at any call. The layer
-//! above learns which bytes moved, at each call and over a run of calls, where the object tells them, and that a
-//! failed call moved none and raised the object's count of faults. [`put_all`] puts a whole text.
+//! A [`Source`] gives its bytes in pieces and a [`Sink`] takes them in pieces; either may fail at any call. If the object
+//! tells its bytes, the clauses say which bytes moved, at each call and over a run of calls. A failed call moved none and
+//! raised the object's count of faults. [`put_all`] writes a whole text.
 //!
-//! The forms in memory tell everything and fail where they are told to. [`ReaderSource`] and [`WriterSink`] stand over
-//! std's readers and writers, and tell what those tell: all of it in memory, nothing of a real file or stream.
+//! The forms in memory tell everything, and fail at the calls that their caller names. [`ReaderSource`] and [`WriterSink`]
+//! are over std's readers and writers. They tell what those tell: all of it in memory, nothing of a real file or stream.
 //!
-//! The definitions stand in `specs/Known.antt` (bytes that move) and `specs/Memory.antt` (the forms in memory); those
-//! of the count of faults are passed on from `mg_faults`.
+//! The definitions are in `specs/Known.antt` (bytes that move) and `specs/Memory.antt` (the forms in memory). Those of the
+//! count of faults are `mg_faults`'s.
 #![tactic(auto)]
 
-/// The most bytes that who reads an input whole takes at once.
+/// The most bytes that a program which reads an input whole takes at once.
 pub const PIECE: usize = 4096;
 
 mod mem_sink;

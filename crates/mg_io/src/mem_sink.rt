@@ -11,11 +11,11 @@ use mg_faults::{Failed, FaultCount};
 use std::alloc::{AllocError, Global};
 use std::marker::Model;
 
-/// A sink that keeps in memory what it takes, up to a room that it holds from the start, and fails at the puts that
-/// it was told.
+/// A sink that keeps in memory what it takes, up to a room that it holds from the start. It fails at the puts whose numbers
+/// it was given.
 ///
-/// The puts are numbered from 0, those that fail too; the number stands still at the last value of a `u64`.
-#[derive(Debug, Drop)]
+/// The puts are numbered from 0, also those that fail. After the last value of a `u64` the number stays the same.
+#[derive(Drop)]
 pub struct MemSink {
     bytes: Vec<u8>,
     room: usize,
@@ -46,7 +46,7 @@ impl MemSink {
     ///
     /// # Errors
     ///
-    /// `AllocError` where `room` bytes of memory can't be had.
+    /// `AllocError` if `room` bytes of memory can't be had.
     pub fn new(alloc: Global, room: usize, fails: Vec<u64>) -> Result<MemSink, AllocError>
         ensures state { IfOk result (λ sink. sink ≡ record {
           bytes = [];
@@ -97,10 +97,10 @@ impl Sink for MemSink {
     ///
     /// # Errors
     ///
-    /// `Failed` exactly where this put's number is among those that were told, or where `from` is not empty and
-    /// `room` bytes were taken before.
+    /// `Failed` exactly if this put's number is among those that were given, or if `from` is not empty and `room` bytes were
+    /// taken before.
     fn put(&mut self, from: &[u8]) -> Result<usize, Failed>
-        // As every sink.
+        // The clauses of every sink.
         ensures bound { WritesAtMost result from.now }
         ensures takes_some { IfOk result (λ n. 0 < length from.now → 0 < n) }
         ensures bytes { WriteAppends (Some self.old.bytes) (Some self.new.bytes) result from.now }

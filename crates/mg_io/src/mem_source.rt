@@ -1,4 +1,4 @@
-// A source whose bytes lie in memory.
+// A source whose bytes are in memory.
 ghost use Rattle.std.specs.Prelude.{◌≡◌, ◌<◌, ◌↔◌, ◌++◌, [], Some, false, length, min, take, drop, IfOk, OnErr, IsErr, Contains};
 ghost use Rattle.std.specs.Io.{ReadsAtMost};
 ghost use Rattle.std.specs.Io.KnownBytes.{ReadConsumes};
@@ -10,10 +10,10 @@ use super::traits::Source;
 use mg_faults::{Failed, FaultCount};
 use std::marker::Model;
 
-/// A source that gives bytes of memory, a few at a time, and fails at the takes that it was told.
+/// A source that gives bytes of memory, a few at a time, and fails at the takes whose numbers it was given.
 ///
-/// The takes are numbered from 0, those that fail too; the number stands still at the last value of a `u64`.
-#[derive(Debug, Drop)]
+/// The takes are numbered from 0, also those that fail. After the last value of a `u64` the number stays the same.
+#[derive(Drop)]
 pub struct MemSource {
     bytes: Vec<u8>,
     at: usize,
@@ -79,15 +79,15 @@ impl Source for MemSource {
 
     ghost is_spent = { λ s. is_last s.faults };
 
-    /// Gives as many bytes as there are, up to a piece and the room of `into`, whose other bytes stay.
+    /// Moves as many bytes as there are, up to a piece and the room of `into`, whose other bytes stay.
     ///
     /// # Errors
     ///
-    /// `Failed` exactly where this take's number is among those that were told. `into` then stays as it was.
+    /// `Failed` exactly if this take's number is among those that were given. `into` is then unchanged.
     fn take(&mut self, into: &mut [u8]) -> Result<usize, Failed>
         requires { 0 < length into.old }
 
-        // As every source.
+        // The clauses of every source.
         ensures bound { ReadsAtMost result into.new }
         ensures bytes { ReadConsumes (Some self.old.bytes) (Some self.new.bytes) result into.new }
         ensures end { IfOk result (λ n. (n ≡ 0) ↔ (self.old.bytes ≡ [])) }

@@ -6,11 +6,12 @@ use std::rt::Files;
 /// A folder that is always there. Nothing can be read from it or written to it.
 const FOLDER: &str = "/";
 
-/// Makes sure that no file which is opened while the answer is kept gets the number of a standard stream, 0 to 2. The system gives
-/// the lowest number that is free, so where the caller has closed its standard output, replies would else go into the next file
-/// that is opened. Such a number is taken for a folder here, so that each call on that stream is an error.
+/// While its result is kept, no file that is opened gets the number of a standard stream, 0 to 2. The system gives the
+/// lowest number that is free. So if the caller has closed its standard output, replies would otherwise go into the next
+/// file that is opened. This function opens a folder under each of these numbers that is free, so that each call on that
+/// stream is an error.
 ///
-/// An error comes where the folder can't be opened.
+/// An error comes if the folder can't be opened.
 pub fn standard_numbers<R: Files>(rt: &R) -> io::Result<(R::File, R::File, R::File)> {
     let first = OpenOptions::new().read(true).open(rt, FOLDER)?;
     let second = OpenOptions::new().read(true).open(rt, FOLDER)?;

@@ -3,7 +3,7 @@ ghost use Rattle.std.specs.Prelude.{◌≡◌, ◌↔◌, IsTrue, Contains};
 ghost use Rattle.mg_io.specs.Memory.{next_number};
 
 /// The numbers of the calls that are to fail, and how many calls were made.
-#[derive(Debug, Drop)]
+#[derive(Drop)]
 pub(crate) struct Plan {
     pub(crate) fails: Vec<u64>,
     pub(crate) calls: u64,
@@ -18,7 +18,7 @@ impl Plan {
         Plan { fails, calls: 0 }
     }
 
-    /// Counts one call more, and answers whether it is to fail.
+    /// Counts one call more, and returns whether it is to fail.
     pub(crate) fn fails_now(&mut self) -> bool
         ensures due { IsTrue result ↔ Contains self.old.fails.items self.old.calls }
         ensures calls { self.new.calls ≡ next_number self.old.calls }

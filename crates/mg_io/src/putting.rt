@@ -1,4 +1,4 @@
-// To put a whole text.
+// Writing a whole text.
 ghost use Rattle.std.specs.Prelude.{◌≡◌, length, IsOk, OnOk, OnErr};
 ghost use Rattle.std.specs.Io.KnownBytes.{Appends};
 ghost use Rattle.mg_faults.specs.Faults.{HasCause};
@@ -7,13 +7,11 @@ ghost use Rattle.mg_io.specs.Known.{AppendsPrefix};
 use super::traits::Sink;
 use mg_faults::Failed;
 
-/// Puts all of `from`, in as many puts as the sink asks for: none where `from` is empty, one where the sink takes it
-/// whole.
+/// Writes all of `from`, in as many puts as the sink needs: none if `from` is empty, one if the sink takes it whole.
 ///
 /// # Errors
 ///
-/// `Failed` where a put fails. The sink then took a prefix of `from`, which may be empty or whole, and no other put
-/// was tried.
+/// `Failed` if a put fails. The sink then took a prefix of `from`, which may be empty or whole, and no other put was tried.
 pub fn put_all<K: Sink>(sink: &mut K, from: &[u8]) -> Result<(), Failed>
     ensures ok { OnOk result (Appends (K.taken sink.old) (K.taken sink.new) from.now) }
     ensures err { OnErr result (AppendsPrefix (K.taken sink.old) (K.taken sink.new) from.now) }

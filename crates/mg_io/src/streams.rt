@@ -8,7 +8,7 @@ use std::io::{self, ErrorKind, Read, Write};
 
 /// A source over a reader. It tells what the reader tells: the bytes left of a reader in memory, nothing of a file or
 /// a stream.
-#[derive(Debug, Drop)]
+#[derive(Drop)]
 pub struct ReaderSource<R> {
     reader: R,
     faults: FaultCount,
@@ -29,7 +29,7 @@ impl<R: Read> ReaderSource<R> {
         }
     }
 
-    /// The first error of the reader; none while there was none.
+    /// The first error of the reader; None if there was none.
     pub fn error(&self) -> Option<&io::Error> {
         self.error.as_ref()
     }
@@ -58,9 +58,9 @@ impl<R: Read> Source for ReaderSource<R> {
 /// A sink over a writer. It tells what the writer tells: the bytes that a writer in memory holds, nothing of a file or
 /// a stream.
 ///
-/// It never flushes. So what a put took has gone to the system only where the writer keeps nothing back, as std's
-/// `Stdout`, which writes at once and whose `flush` does nothing.
-#[derive(Debug, Drop)]
+/// It never flushes. So the bytes of a put have gone to the system only if the writer keeps nothing back, as std's `Stdout`,
+/// which writes at once and whose `flush` does nothing.
+#[derive(Drop)]
 pub struct WriterSink<W> {
     writer: W,
     faults: FaultCount,
@@ -68,7 +68,7 @@ pub struct WriterSink<W> {
 }
 
 impl<W: Write> WriterSink<W> {
-    /// A sink that puts into the writer, after what that holds already, with a count of faults of 0.
+    /// A sink that writes into the writer, after what that holds already, with a count of faults of 0.
     pub fn new(writer: W) -> WriterSink<W>
         ensures taken { ⟦<WriterSink<W> as Sink>⟧.taken result ≡ W.contents writer }
         ensures count { ⟦<WriterSink<W> as Sink>⟧.faults result ≡ 0 }
@@ -81,7 +81,7 @@ impl<W: Write> WriterSink<W> {
         }
     }
 
-    /// The first error of the writer; none while there was none. A write that took nothing is told as `WriteZero`.
+    /// The first error of the writer; None if there was none. For a write that took nothing it is `WriteZero`.
     pub fn error(&self) -> Option<&io::Error> {
         self.error.as_ref()
     }

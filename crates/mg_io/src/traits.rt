@@ -8,22 +8,22 @@ use mg_faults::Failed;
 
 /// Bytes that come from outside.
 pub trait Source {
-    /// The bytes left, where the object tells them.
+    /// The bytes left, if the object tells them.
     ghost left: { Self → Option (List ℕ) };
 
     /// How many takes have failed. It never falls.
     ghost faults: { Self → ℕ };
 
-    /// Whether that count stands at its last value. Once it does, it stays there.
+    /// Whether that count is at its last value. Once it is, it stays there.
     ghost is_spent: { Self → Bool };
 
-    /// Moves the first bytes that are left to the front of `into`, and answers how many: at least one unless none is
-    /// left. 0 is the end of input.
+    /// Moves the first bytes that are left to the front of `into`, and returns how many: at least one, unless none is left.
+    /// 0 is the end of input.
     ///
     /// # Errors
     ///
-    /// `Failed` where the outside fails. The take then moved no byte, and the count of faults rose or stands at its
-    /// last value; `into` may hold anything.
+    /// `Failed` if the outside fails. The take then moved no byte, and the count of faults rose or is at its last value;
+    /// `into` may hold anything.
     fn take(&mut self, into: &mut [u8]) -> Result<usize, Failed>
         requires { 0 < length into.old }
         ensures bound { ReadsAtMost result into.new }
@@ -35,21 +35,20 @@ pub trait Source {
 
 /// Bytes that go outside.
 pub trait Sink {
-    /// The bytes taken so far, where the object tells them.
+    /// The bytes taken so far, if the object tells them.
     ghost taken: { Self → Option (List ℕ) };
 
     /// How many puts have failed. It never falls.
     ghost faults: { Self → ℕ };
 
-    /// Whether that count stands at its last value. Once it does, it stays there.
+    /// Whether that count is at its last value. Once it is, it stays there.
     ghost is_spent: { Self → Bool };
 
-    /// Takes some first bytes of `from`, and answers how many: at least one unless `from` is empty.
+    /// Takes some first bytes of `from`, and returns how many: at least one, unless `from` is empty.
     ///
     /// # Errors
     ///
-    /// `Failed` where the outside fails. The put then took no byte, and the count of faults rose or stands at its
-    /// last value.
+    /// `Failed` if the outside fails. The put then took no byte, and the count of faults rose or is at its last value.
     fn put(&mut self, from: &[u8]) -> Result<usize, Failed>
         ensures bound { WritesAtMost result from.now }
         ensures takes_some { IfOk result (λ n. 0 < length from.now → 0 < n) }

@@ -7,10 +7,7 @@ use Rattle.std.proofs.lemmas.List.{ext_get_or, get_or_past, get_or-set_other, ge
 use Rattle.std.proofs.lemmas.Simd.{get_or-put_chunk_above, get_or-put_chunk_at, get_or-put_chunk_below, put_chunk_is}
 use Rattle.std.specs.Simd.Lanes.{put_chunk}
 use Rattle.mg_disk.specs.Disk.{HasBlocks, Image, InRange, SameBut, SeenBut, block_at}
-use Rattle.mg_disk.specs.PlaceLemmas.{same_after, same_as}
-use Rattle.mg_disk.specs.Runs.{leaves_quiet, leaves_then, leaves_yet, only_image}
-use Rattle.mg_disk.specs.Stops.{Leaves, NothingPending, WritesNothing}
-use Rattle.mg_disk.specs.declared.disk.Disk.{Ghosts}
+use Rattle.mg_disk.specs.PlaceLemmas.{same_after}
 use Rattle.mg_journal.proofs.ApplySteps.{filled_more, named_place}
 use Rattle.mg_journal.specs.Applied.{AreInRow, HasBodies, HasRun, filled, nth_body, nth_home}
 use Rattle.mg_journal.specs.Contents.{names}
@@ -20,7 +17,7 @@ use Rattle.mg_model.specs.Layout.{globals_block}
 use Rattle.mg_model.specs.Replay.{written}
 use borrow.Rule.Slice.PartMut.{put_mid}
 
--- a part that is put into a list of blocks
+-- a part that is written into a list of blocks
 module _ (low high : ℕ) (old part : Image) (ordered : low ≤ high) (within : high ≤ length old) (long : length part ≡ high - low) where
   abbrev put : Image
   put = put_mid low (high - low) old part
@@ -111,7 +108,7 @@ module _ (places : List (ℕ × ℕ)) (a : Image) (first : ℕ) where
         let next : n + 1 ≡ suc n = omega arith in
         subst Written next (one_more n (omega arith) (row n (omega arith)) (has n (omega arith)) (all_of n (omega arith) (λ j less. row j (omega arith)) (λ j less. has j (omega arith))))
 
-  -- they are, where the new image has the run and is otherwise as it was
+  -- they are, if the new image has the run and is otherwise as it was
   row_written : (n : ℕ) (memory run new : Image) → first + n ≤ length places → AreInRow places first n → HasRun places first n memory run → length run ≡ n
       → HasBodies globals_block places memory a → ((k : ℕ) → k < length places → nth_body places k < globals_block)
       → SameBut (InRange home n) (so_far 0) new → HasBlocks home run new → new ≡ so_far n
@@ -170,20 +167,8 @@ row_applied n places first count memory row (Some a) mid (Some b) all inside in_
         (subst (λ c. SameBut (InRange (nth_home places first) c) (written a (filled a (take first places))) b) long
         (subst (λ o. SeenBut (InRange (nth_home places first) (length row)) o (Some b)) so_far same))
 
--- What reads give after one call more, whatever it answers: still the image as it was told first but at these places.
+-- What reads give after one more call, whatever it answers: still the image as it was told first but at these places.
 pub torn_more : (P : Image → ℕ → Type 0) (these : ℕ → Type 0) (told mid new : Option Image) → ((a : Image) (k : ℕ) → these k → P a k) → ForSome told (λ a. IsSomeAnd mid (SameBut (P a) a)) → SeenBut these mid new → ForSome told (λ a. IsSomeAnd new (SameBut (P a) a))
 torn_more P these told None new among so_far one a is = absurd (so_far a is)
 torn_more P these told (Some b) None among so_far one a is = absurd one
 torn_more P these told (Some b) (Some c) among so_far one a is = same_after (P a) these (P a) a b c (λ k at. at) (among a) (so_far a is) one
-
--- calls that write nothing leave the image
-pub leaves_same : {D : Type 0} (facts : Ghosts D) (old mid : D) (places : ℕ → Type 0) (image : Image) → facts.has_been old (facts.moment old) → NothingPending facts old → facts.seen old ≡ Some image → WritesNothing facts old mid → Leaves facts old mid (SameBut places image)
-leaves_same facts old mid places image been settled told nothing =
-    leaves_quiet facts old old mid (SameBut places image)
-    (leaves_yet facts old (SameBut places image) been (λ c left. same_as places image c (only_image facts old image c (record { told = told; settled = settled }) left))) nothing.stops
-
--- what a stop may leave since a call that wrote nothing, it may leave since before
-pub leaves_behind : {D : Type 0} (facts : Ghosts D) (old mid new : D) (places : ℕ → Type 0) (image : Image) → facts.has_been old (facts.moment old) → NothingPending facts old → facts.seen old ≡ Some image → WritesNothing facts old mid
-    → Leaves facts mid new (SameBut places image) → Leaves facts old new (SameBut places image)
-leaves_behind facts old mid new places image been settled told nothing then =
-    leaves_then facts old mid new (SameBut places image) (SameBut places image) (leaves_same facts old mid places image been settled told nothing) then (λ c same. same)

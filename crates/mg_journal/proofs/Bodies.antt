@@ -21,7 +21,7 @@ places_from-last image s j (suc n) =
     ap (λ places. (home_of image s j, segment_body s j) ∷ places)
     (places_from-last image s (j + 1) n ∙ ap (λ k. places_from image s (j + 1) n ++ (home_of image s k, segment_body s k) ∷ []) at)
 
--- homes fit where the places are places
+-- homes fit if the places are places
 pub homes_are-fit : (total : ℕ) (image : Image) (s j n : ℕ) → All (IsPlace total) (places_from image s j n) → homes_fit total (writes_from image s j n) ≡ true
 homes_are-fit total image s j zero all = refl
 homes_are-fit total image s j (suc n) all =
@@ -34,7 +34,7 @@ homes_are-fit total image s j (suc n) all =
 abbrev pub is_home : ℕ → ℕ → Bool
 is_home total home = nat_le globals_block home && nat_lt home total
 
--- they do not where one of them is within the journal or past the volume
+-- they do not if one of them is within the journal or past the volume
 pub homes_are-unfit : (total : ℕ) (image : Image) (s j n k : ℕ) → k < n → is_home total (home_of image s (j + k)) ≡ false → homes_fit total (writes_from image s j n) ≡ false
 homes_are-unfit total image s j zero k below out = absurd (omega arith)
 homes_are-unfit total image s j (suc n) zero below out =

@@ -40,14 +40,14 @@ closed_more s total a b c few up_to one = record {
         ⊎_elim (λ is. ap (λ i. is_open i t) is ∙ up_to.shut t low)
         (λ gate. same_gate b c t (gate.1.others (segment_gate t) (λ is. omega arith)) ∙ up_to.shut t low) one.may
 
--- the gates behind it are as they were
+-- the gates after it are as they were
 behind_open : (s n : ℕ) (b c : Image) → AreOpen s n b → MayCloseOne s b c → AreOpen (s + 1) n c
 behind_open s n b c are may t low high =
     ⊎_elim (λ is. ap (λ i. is_open i t) is ∙ are t (omega arith) high)
     (λ gate. same_gate b c t (gate.1.others (segment_gate t) (λ is. omega arith)) ∙ are t (omega arith) high) may
 
 module _ {D : Type 0} (facts : Ghosts D) (s n : ℕ) where
-  -- gate s is open where those from it on are
+  -- gate s is open if those from it on are
   pub open_now : (old now : D) → is_some (facts.seen now) ≡ is_some (facts.seen old) → ForSome (facts.seen old) (λ image. IsSomeAnd (facts.seen now) (AreOpen s n)) → nat_lt s n ≡ true
       → ForSome (facts.seen now) (λ image. is_open image s ≡ true)
   open_now old now tells are low image told =

@@ -45,7 +45,7 @@ no_writes P (Some a) = record { count = refl; others = λ k out. refl }
 pub new_itself : (total : ℕ) (a : Image) → NewContents total a [] a
 new_itself total a = no_writes InJournal (replay a total)
 
--- where no call was made
+-- when no call was made
 pub yet_same : {D : Type 0} (facts : Ghosts D) (total : ℕ) (disk : D) (a : Image) → facts.has_been disk (facts.moment disk) → facts.seen disk ≡ Some a → NothingPending facts disk → Leaves facts disk disk (SameContents total a)
 yet_same facts total disk a been told pending =
     leaves_yet facts disk (SameContents total a) been

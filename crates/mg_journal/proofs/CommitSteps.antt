@@ -42,7 +42,7 @@ new_then total writes a b c first second =
 pub either_then : (total : ℕ) (writes : List (ℕ × List ℕ)) (a b c : Image) → SameContents total a b → OldOrNew total writes b c → OldOrNew total writes a c
 either_then total writes a b c first second = ⊎_elim (λ old. inl (contents_then total a b c first old)) (λ new. inr (new_then total writes a b c first new)) second
 
--- a commit into segment n, where no segment from there on is open
+-- a commit into segment n, if no segment from there on is open
 module _ (total n : ℕ) (writes : List (ℕ × List ℕ)) (a : Image) (place : n < segment_count) (shut : (s : ℕ) → n ≤ s → s < segment_count → is_open a s ≡ false) where
   bodies_same : (c : Image) → SameBut (IsBehind n) a c → SameContents total a c
   bodies_same c same =

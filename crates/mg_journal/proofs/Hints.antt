@@ -1,4 +1,4 @@
--- Blocks in an order, and a table that tells where each may be.
+-- Blocks in an order, and a table that says where each may be.
 use Rattle.std.specs.Prelude.{◌≡◌, ◌≢◌, ◌==◌, ◌+◌, ◌-◌, ◌≤◌, ◌<◌, ◌%◌, nat_lt, ℕ, zero, List, [], ◌∷◌, ◌++◌, AllPairs, length, position, replicate, slice_index_or, slice_set, Some, None}
 use Rattle.std.specs.List.{position_or_len}
 use Rattle.std.proofs.Common.{refl, sym, ap, subst, cond, ◌∙◌, ⊎_elim, arith, length-append}
@@ -44,7 +44,7 @@ module _ (homes hints : List ℕ) (held : AreHinted homes hints) (block : ℕ) w
       (λ j less. ne_eqb (slice_index_or homes j 0) block (λ same. held.once j k 0 less below (same ∙ sym is)))
       (λ _. eq-eqb (slice_index_or homes k 0) block is))
 
-  -- a block more behind the others
+  -- a block more after the others
   module _ (new : position (λ home. home == block) homes ≡ None) where
     other : (k d : ℕ) → k < length homes → slice_index_or homes k d ≢ block
     other k d below is = none-some k (sym new ∙ hinted-at k below (get_or_default homes k 0 d below ∙ is))

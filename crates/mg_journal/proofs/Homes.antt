@@ -1,17 +1,17 @@
 -- What changes at the homes of open segments do to the contents, and what closing the gates does once the homes are written.
-use Rattle.std.specs.Prelude.{◌≡◌, ◌≢◌, ◌⊎◌, ◌+◌, ◌-◌, ◌≤◌, ◌<◌, ◌==◌, ◌&&◌, nat_le, nat_lt, ℕ, zero, suc, true, false, List, [], ◌∷◌, ◌++◌, length, Some}
+use Rattle.std.specs.Prelude.{◌≡◌, ◌≢◌, ◌⊎◌, ◌+◌, ◌-◌, ◌≤◌, ◌<◌, ◌==◌, ◌&&◌, nat_le, nat_lt, ℕ, zero, suc, true, false, List, [], ◌∷◌, ◌++◌, Some}
 use Rattle.std.proofs.Common.{refl, sym, ap, subst, ◌∙◌, ⊎_elim, inl, inr, arith}
 use Rattle.std.proofs.lemmas.Bool.{and_parts, both_ways, cases_Bool, cases_eq, cases_lt, eqb-true, leb-true, or_cases, or_left, or_right}
 use Rattle.std.proofs.lemmas.List.{ext_get_or}
 use Rattle.mg_disk.specs.Disk.{Image, SameBut, block_at, only_place}
 use Rattle.mg_model.specs.Layout.{body_limit, globals_block, segment_count, segment_gate}
 use Rattle.mg_model.specs.Replay.{body_count, homes_fit, is_open, replay, segment_fits, segments_fit, writes_of, writes_since, written}
-use Rattle.mg_journal.specs.Contents.{ClosedBelow, InJournal, SameContents, bodies_of, names}
-use Rattle.mg_journal.specs.JournalLemmas.{open_writes, replay-some, replayed-fits, replayed-is, same_gate, same_wider, seen_both}
+use Rattle.mg_journal.specs.Contents.{ClosedBelow, InJournal, bodies_of, names}
+use Rattle.mg_journal.specs.JournalLemmas.{open_writes, replay-some, replayed-fits, replayed-is, same_gate, same_wider}
 use Rattle.mg_journal.specs.SegmentLemmas.{IsAlike, all-write, alike-gates, alike-whole, each-fits, fits-closed, fits-each, fits-open, writes-closed, writes-open, writes_since-none, writes_since-split}
 use Rattle.mg_journal.specs.WrittenLemmas.{last_change_nothing, written_elsewhere, written_over, written_same}
 
--- a home that fits lies behind the journal
+-- a home that fits lies after the journal
 pub fit-behind : (total : ℕ) (writes : List (ℕ × List ℕ)) (k : ℕ) → homes_fit total writes ≡ true → names writes k ≡ true → globals_block ≤ k
 fit-behind total [] k fit named = absurd (both_ways false refl named)
 fit-behind total ((i, x) ∷ writes) k fit named =
@@ -75,17 +75,6 @@ homes_written total a r is =
     homes_torn total a r r is
     (let P : Image → Type 0 = λ i. SameBut (λ k. names (open_writes a) k ≡ true) a i in subst P (sym (replayed-is total a r is)) (written_elsewhere (open_writes a) a))
 
--- So it is where each home that an open segment names holds the contents.
-pub homes_hold : (total : ℕ) (a r : Image) → replay a total ≡ Some r → ((k : ℕ) → names (open_writes a) k ≡ true → block_at a k ≡ block_at r k) → replay a total ≡ Some a
-homes_hold total a r is hold =
-    is ∙ ap (λ i. Some i) (ext_get_or [] r a (ap length (replayed-is total a r is) ∙ changed.count) (λ k below. ⊎_elim (λ named. sym (hold k named)) (elsewhere k) (cases_Bool (names (open_writes a) k))))
-  where
-    changed : SameBut (λ k. names (open_writes a) k ≡ true) a (written a (open_writes a))
-    changed = written_elsewhere (open_writes a) a
-
-    elsewhere : (k : ℕ) → names (open_writes a) k ≡ false → block_at r k ≡ block_at a k
-    elsewhere k never = ap (λ i. block_at i k) (replayed-is total a r is) ∙ changed.others k (both_ways (names (open_writes a) k) never)
-
 -- an image that is its own replay, changed within the journal so that the last of its writes are left
 still_written : (a b : Image) (first last : List (ℕ × List ℕ)) → written a (first ++ last) ≡ a → ((k : ℕ) → names last k ≡ true → globals_block ≤ k) → SameBut InJournal a b → written b last ≡ b
 still_written a b first last is behind same =
@@ -103,7 +92,7 @@ still_written a b first last is behind same =
         ∙ ap (λ i. block_at i k) (last_change_nothing a first last is)
         ∙ sym (same.others k (λ p. let high = p.1 in let low = behind k named in omega arith))
 
--- Closing gates first to last leaves an image its own replay, whatever stands in the closed segments.
+-- Closing gates first to last leaves an image its own replay, whatever is in the closed segments.
 pub closing : (total : ℕ) (a b : Image) (m : ℕ) → m ≤ segment_count → replay a total ≡ Some a → ClosedBelow m a b → replay b total ≡ Some b
 closing total a b m few is below =
     replay-some total b fits ∙ ap (λ w. Some (written b w)) writes
@@ -175,7 +164,3 @@ first_gate_torn total a b s few before opened is same = ⊎_elim still shut (cas
         replay-some total b (fits-each total b 0 segment_count (λ t low high. (alike opened' t).fits ∙ each-fits total a 0 segment_count t fit low high))
         ∙ ap (λ w. Some (written b w)) (all-write a b 0 segment_count (λ t low high. (alike opened' t).writes (each-fits total a 0 segment_count t fit low high)))
         ∙ ap (λ i. Some i) (still_written a b [] (open_writes a) (sym (replayed-is total a a is)) (λ k named. since-behind total a 0 segment_count k fit named) journal)
-
--- The contents are the same in images that differ within the journal alone and are their own replays.
-pub own_replays : (total : ℕ) (a b : Image) → replay a total ≡ Some a → replay b total ≡ Some b → SameBut InJournal a b → SameContents total a b
-own_replays total a b is is' same = seen_both InJournal (replay a total) (replay b total) a b is is' same

@@ -13,12 +13,12 @@ use Rattle.mg_journal.specs.Looked.{Fits, Placed}
 use Rattle.mg_journal.specs.Newest.{is_for, newest_at}
 use Rattle.mg_journal.specs.Places.{places_from, places_of, places_since}
 
--- what stands in block i after these writes, where x stood there
+-- what is in block i after these writes, if x was there
 abbrev pub value_at : List (ℕ × List ℕ) → ℕ → List ℕ → List ℕ
 value_at [] i x = x
 value_at ((home, bytes) ∷ writes) i x = value_at writes i (if home == i then bytes else x)
 
--- the block that holds block i, where the other one held it before
+-- the block that holds block i, if the other block held it before
 abbrev pub held_from : List (ℕ × ℕ) → ℕ → ℕ → ℕ
 held_from [] i other = other
 held_from ((home, body) ∷ places) i other = held_from places i (if home == i then body else other)

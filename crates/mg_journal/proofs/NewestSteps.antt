@@ -25,7 +25,7 @@ use Rattle.mg_journal.specs.SegmentLemmas.{alike-whole, each-fits, fits-closed, 
 use Rattle.mg_journal.specs.Standing.{AllClosed, HoldsOpen, IsLate, open_count, open_since}
 use Rattle.mg_journal.specs.WrittenLemmas.{written_elsewhere}
 
--- a block is named where one of the places belongs to it
+-- a block is named if one of the places belongs to it
 named_is : (a : Image) (places : List (ℕ × ℕ)) (k : ℕ) → names (filled a places) k ≡ is_some (find (is_for k) places)
 named_is a [] k = refl
 named_is a (place ∷ places) k = ap (λ t. (place.0 == k) || t) (named_is a places k) ∙ by_test (place.0 == k) (find (is_for k) places)
@@ -107,7 +107,7 @@ places-split a from (suc m) n =
     ∙ sym (append_assoc (places_of a from) (places_since a (from + 1) m) (places_since a (from + 1 + m) n))
     ∙ ap (λ s. (places_of a from ++ places_since a (from + 1) m) ++ places_since a s n) place
 
--- where no segment behind s is open
+-- when no segment after s is open
 places-up_to : (i : Image) (s n count : ℕ) → s + suc n ≡ count → ((t : ℕ) → s < t → t < count → is_open i t ≡ false) → places_since i 0 count ≡ places_since i 0 s ++ places_of i s
 places-up_to i s n count is closed =
     let from : 0 + s ≡ s = omega arith in
@@ -137,7 +137,7 @@ from_writes i s j (suc n) =
     let e : segment_body s (j + 1) ≡ segment_body s j + 1 = omega arith in
     ap (λ p. (home_of i s j, segment_body s j) ∷ p) (from_writes i s (j + 1) n ∙ ap (λ f. lying f (writes_from i s (j + 1) n)) e)
 
--- where no segment is open the table is empty
+-- when no segment is open the table is empty
 pub closed_holds : (total : ℕ) (image : Image) → AllClosed image → HoldsOpen total 0 [] image
 closed_holds total image closed = record {
   gates = λ s below. closed s below ∙ sym (le-ltb s 0 (omega arith));
@@ -224,7 +224,7 @@ some_open a n s (suc k) gates low high = ⊎_elim (here (some_open a n (s + 1) k
 pub counted : (total n : ℕ) (table : List (ℕ × ℕ)) (a : Image) → HoldsOpen total n table a → n ≤ segment_count → open_count a ≡ n
 counted total n table a holds few = let is = some_open a n 0 segment_count (λ t low high. holds.gates t (omega arith)) (omega arith) (omega arith) in omega arith
 
--- a commit into segment m: m is the one that was next, on the image as it was, or all were open and m is the first
+-- a commit into segment m: m was next, on the image as it was, or all were open and m is the first
 pub is_late : (total n m : ℕ) (writes : List (ℕ × List ℕ)) (a b : Image) → open_count a ≡ n → open_count b ≡ m + 1 → (n < segment_count → (m ≡ n) × IsNext total m writes a b) → (n ≡ segment_count → m ≡ 0) → m < segment_count → IsLate a b
 is_late total n m writes a b before after kept fresh place = record {
   more = λ some.

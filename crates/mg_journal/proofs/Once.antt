@@ -1,10 +1,9 @@
 -- A write more among writes that go each to another block.
-use Rattle.std.specs.Prelude.{◌≡◌, ◌==◌, ◌&&◌, ◌||◌, ℕ, zero, suc, true, false, not, List, [], ◌∷◌, ◌++◌, position, slice_set, Some, None}
+use Rattle.std.specs.Prelude.{◌≡◌, ◌==◌, ◌&&◌, ◌||◌, ℕ, zero, suc, true, false, not, List, [], ◌∷◌, ◌++◌, slice_set, Some, None}
 use Rattle.std.proofs.Common.{refl, sym, ap, ◌∙◌, ⊎_elim}
-use Rattle.std.proofs.lemmas.Bool.{and_from, and_parts, both_ways, cases_Bool, eq-eqb, eqb-true, ne_eqb, not_from_false, not-true, or_from, or_parts}
-use Rattle.std.proofs.lemmas.List.Quantifiers.{position-Some}
+use Rattle.std.proofs.lemmas.Bool.{and_from, and_parts, both_ways, cases_Bool, eq-eqb, ne_eqb, not_from_false, not-true, or_from, or_parts}
 use Rattle.mg_journal.specs.Contents.{names}
-use Rattle.mg_journal.specs.Staged.{are_once, goes_to, home_at, waiting}
+use Rattle.mg_journal.specs.Staged.{are_once, home_at, waiting}
 
 -- other bytes for a block that waits
 names-set : (ws : List (ℕ × List ℕ)) (k : ℕ) (y : List ℕ) (b : ℕ) → names (slice_set ws k (home_at ws k, y)) b ≡ names ws b
@@ -17,12 +16,7 @@ once_set [] k y = refl
 once_set ((i, x) ∷ ws) zero y = refl
 once_set ((i, x) ∷ ws) (suc k) y = ap (λ t. not t && are_once (slice_set ws k (home_at ws k, y))) (names-set ws k y i) ∙ ap (λ t. not (names ws i) && t) (once_set ws k y)
 
-pub once_put : (ws : List (ℕ × List ℕ)) (b k : ℕ) (y : List ℕ) → position (goes_to b) ws ≡ Some k → are_once ws ≡ true → are_once (slice_set ws k (b, y)) ≡ true
-once_put ws b k y is once =
-    let home : home_at ws k ≡ b = eqb-true (home_at ws k) b (position-Some (goes_to b) ws k (0, []) is).1 in
-    ap (λ h. are_once (slice_set ws k (h, y))) (sym home) ∙ once_set ws k y ∙ once
-
--- a write behind the others, to a block for which nothing waits
+-- a write after the others, to a block for which nothing waits
 none_list : (x : List ℕ) → Some x ≡ None → ⊥
 none_list x is = cc
 

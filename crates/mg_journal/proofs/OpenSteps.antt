@@ -10,7 +10,7 @@ use Rattle.mg_journal.proofs.CommitRuns.{same_itself, yet_same}
 use Rattle.mg_journal.specs.Contents.{SameContents}
 use Rattle.mg_journal.proofs.RecoverSteps.{came_back}
 
--- an error stays the same where it is handed on with another type of value
+-- an error stays the same if it is handed on with another type of value
 pub same_error : {T U E : Type 0} (x y : E) → ◌≡◌ {A = Result T E} (Err x) (Err y) → ◌≡◌ {A = Result U E} (Err x) (Err y)
 same_error x y is = cc
 
@@ -23,7 +23,7 @@ module _ (n total : ℕ) (same : n ≡ total) where
   pub contents_from : (told mid now : Option Image) → mid ≡ told → is_some now ≡ is_some mid → ForSome mid (λ a. IsSomeAnd now (SameContents n a)) → ForSome now (λ b. IsSomeAnd told (λ a. SameContents total a b))
   contents_from told mid now still tells each = came_back (SameContents total) told now (tells ∙ ap is_some still) (contents_kept told mid now still each)
 
--- where reads give what they gave
+-- when reads give what they gave
 pub contents_still : (total : ℕ) (told now : Option Image) → now ≡ told → ForSome told (λ a. IsSomeAnd now (SameContents total a))
 contents_still total told now still a is = subst (λ o. IsSomeAnd o (SameContents total a)) (sym (still ∙ is)) (same_itself total a)
 

@@ -1,4 +1,4 @@
--- Writes whose homes and bytes stand in two lists.
+-- Writes whose homes and bytes are in two lists.
 use Rattle.std.specs.Prelude.{◌≡◌, ◌+◌, ◌-◌, ◌≤◌, ◌<◌, ◌==◌, ◌*◌, nat_lt, ℕ, zero, suc, true, not, List, [], ◌∷◌, ◌++◌, length, position, slice_index_or, slice_set, Some, None}
 use Rattle.std.specs.List.{position_or_len}
 use Rattle.std.proofs.Common.{refl, sym, ap, cond, ◌∙◌, ⊎_elim, arith, length-append}
@@ -63,7 +63,7 @@ pairs_more (first ∷ homes) blocks j home x long =
     ap (λ block. (first, block) ∷ paired (homes ++ home ∷ []) (blocks ++ x ∷ []) (j + 1)) (get_or_append_left blocks (x ∷ []) [] j (omega arith))
     ∙ ap (λ rest. (first, block_at blocks j) ∷ rest) (pairs_more homes blocks (j + 1) home x (omega arith))
 
--- an index and what lies behind it, from what is in the index
+-- an index and what lies after it, from what is in the index
 pub held_from : (homes : List ℕ) (blocks : Image) → length homes ≤ body_limit → are_once (paired homes blocks 1) ≡ true → length blocks ≡ length homes + 1
     → number_at (block_at blocks 0) 0 ≡ length homes → ((j : ℕ) → j < length homes → number_at (block_at blocks 0) (8 + 8 * j) ≡ slice_index_or homes j 0) → AreHeld homes blocks
 held_from homes blocks few once long count each =
@@ -83,7 +83,7 @@ module _ (homes : List ℕ) (blocks : Image) (held : AreHeld homes blocks) where
   pub long_held : length blocks ≡ length homes + 1
   long_held = let n = pairs_count homes blocks 1 in let m = held.run.long in omega arith
 
-  -- the home and the bytes of one of them, where they stand
+  -- the home and the bytes of one of them, where they are
   pub home_held : (k d : ℕ) → k < length (paired homes blocks 1) → slice_index_or homes k d ≡ home_at (paired homes blocks 1) k
   home_held k d below =
       let n = pairs_count homes blocks 1 in
@@ -152,7 +152,3 @@ module _ (homes : List ℕ) (blocks : Image) (held : AreHeld homes blocks) where
         earlier j below =
             let n = pairs_count homes blocks 1 in
             others j below ∙ held.run.homes j (omega arith) ∙ pairs_home homes blocks 1 j ∙ sym (get_or_append_left homes (home ∷ []) 0 j below)
-
--- none
-pub held_none : (blocks : Image) → length blocks ≡ 1 → number_at (block_at blocks 0) 0 ≡ 0 → AreHeld [] blocks
-held_none blocks one count = held_from [] blocks (omega arith) refl one count (λ j below. absurd (omega arith))

@@ -1,4 +1,4 @@
--- Lemmas on the phases of a commit: what stands in a segment once its index and its bodies are written.
+-- Lemmas on the phases of a commit: what is in a segment once its index and its bodies are written.
 use Rattle.std.specs.Prelude.{◌≡◌, ◌+◌, ◌*◌, ◌≤◌, ◌<◌, ℕ, zero, suc, List, [], ◌∷◌, length, is_some, IsSomeAnd, Option, Some, None}
 use Rattle.std.specs.Option.{ForSome}
 use Rattle.std.proofs.Common.{refl, sym, ap, subst, ◌∙◌, arith}

@@ -27,7 +27,7 @@ pub some_weaker : {T : Type 0} (P Q : T → Type 0) (told : Option T) → ((x : 
 some_weaker P Q None sub is = is
 some_weaker P Q (Some x) sub is = sub x is
 
--- what holds of a changed image, where it is told
+-- what holds of a changed image, if it is told
 pub of_changed : (change : Image → Image) (told now : Option Image) (P : Image → Type 0) → now ≡ option_map change told → ((a : Image) → told ≡ Some a → P (change a)) → ForSome now P
 of_changed change None now P is each b told = absurd (let e : ◌≡◌ {A = Option Image} None (Some b) = sym is ∙ told in cc)
 of_changed change (Some a) now P is each b told = subst P (let e : ◌≡◌ {A = Option Image} (Some (change a)) (Some b) = sym is ∙ told in cc) (each a refl)

@@ -7,7 +7,7 @@ use Rattle.std.proofs.Common.{refl, sym, ap, subst, ◌∙◌, inl, inr, ⊎_eli
 use Rattle.std.proofs.lemmas.Bool.{cases_eq, cases_lt, and_parts, eq-eqb, leb-true, ltb-true, ne_eqb}
 use Rattle.std.proofs.lemmas.List.{append-nil, get_or-take, length-take-le, reverse-append, take-append-drop, take_more}
 use Rattle.std.proofs.lemmas.List.Edits.{get_or-insert_above, get_or-insert_at, get_or-insert_below, length-insert}
-use Rattle.std.proofs.lemmas.List.Elements.{All-append, All-cons, All-drop, All-head, All-tail, All-take}
+use Rattle.std.proofs.lemmas.List.Elements.{All-head, All-tail}
 use Rattle.std.proofs.lemmas.List.Folds.{find-append, find_past}
 use Rattle.mg_model.specs.Layout.{globals_block}
 use Rattle.mg_model.specs.Replay.{homes_fit}
@@ -37,7 +37,7 @@ found-at i (place ∷ table) (suc at) d under below is =
     ap (λ t. if t then Some place else find (is_for i) table) (ne_eqb place.0 i (λ e. let b = below 0 place (omega arith) (omega arith) in omega arith))
     ∙ found-at i table at d (omega arith) (λ k d low high. below (suc k) d (omega arith) (omega arith)) is
 
--- where the first places belong to blocks below i, and the rest to others
+-- when the first places belong to blocks below i, and the rest to others
 pub found-none : (i : ℕ) (table : List (ℕ × ℕ)) (at : ℕ) → Ascends table → AllWithin (λ (place : ℕ × ℕ). place.0 < i) table 0 at → AllWithin (λ (place : ℕ × ℕ). i ≤ place.0) table at (length table)
     → ((d : ℕ × ℕ) → at < length table → (get_or table at d).0 ≢ i) → find (is_for i) table ≡ None
 found-none i table at up below above other = none-for i table here
@@ -70,7 +70,7 @@ set-puts place table at d under below is i = ⊎_elim here there (cases_eq place
         find_past (is_for i) table at place d (ne_eqb (get_or table at d).0 i (λ e. other (sym is ∙ e))) (ne_eqb place.0 i other)
         ∙ ap (λ t. if t then Some place else find (is_for i) table) (sym (ne_eqb place.0 i other))
 
--- a place put in before those of higher blocks
+-- a place entered before those of higher blocks
 module _ (place : ℕ × ℕ) (table : List (ℕ × ℕ)) (at : ℕ) (within : at ≤ length table) (below : AllWithin (λ (p : ℕ × ℕ). p.0 < place.0) table 0 at) where
   none-before : find (is_for place.0) (take at table) ≡ None
   none-before =
@@ -133,17 +133,14 @@ module _ (place : ℕ × ℕ) (table : List (ℕ × ℕ)) (at : ℕ) (within : a
       go (inr hj) (inr nj) (inr hi) (inl ei) = let l = long in let a = middle i ei in let b = high j (omega arith) in let r = over (j - 1) (omega arith) (omega arith) in omega arith
       go (inr hj) (inr nj) (inr hi) (inr ni) = let l = long in let a = high i (omega arith) in let b = high j (omega arith) in let r = up (i - 1) (j - 1) d (omega arith) (omega arith) in omega arith
 
-pub insert-fit : (P : ℕ × ℕ → Type 0) (table : List (ℕ × ℕ)) (at : ℕ) (place : ℕ × ℕ) → All P table → P place → All P (insert table at place)
-insert-fit P table at place all here = All-append P (take at table) (place ∷ drop at table) (All-take P at table all) (All-cons P place (drop at table) here (All-drop P at table all))
-
--- a place more, behind those that a table has the last of
+-- a place more, after those that a table has the last of
 pub last-more : (places old new : List (ℕ × ℕ)) (place : ℕ × ℕ) → HasLast places old → Puts old place new → HasLast (places ++ place ∷ []) new
 last-more places old new place last puts i =
     puts i
     ∙ ap (λ o. if place.0 == i then Some place else o) (last i)
     ∙ sym (ap (find (is_for i)) (reverse-append places (place ∷ [])))
 
--- where there are no more places
+-- when there are no more places
 pub takes-none : (more table : List (ℕ × ℕ)) → more ≡ [] → TakesIn more table table
 takes-none more table none places last i = last i ∙ ap (λ p. find (is_for i) (reverse p)) (sym (append-nil places) ∙ ap (λ m. places ++ m) (sym none))
 

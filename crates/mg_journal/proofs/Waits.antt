@@ -57,7 +57,7 @@ module _ (writes : List (ℕ × List ℕ)) (block : ℕ) where
         ∙ set-set writes place (home_at writes place, bytes) (home_at writes place, f bytes)
         ∙ staged-there (f bytes)
 
-  -- nothing waits only where no write goes there
+  -- nothing waits only if no write goes there
   pub none_waits : waiting writes block ≡ None → position (goes_to block) writes ≡ None
   none_waits none = at (position (goes_to block) writes) refl
     where

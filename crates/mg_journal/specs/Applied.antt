@@ -17,10 +17,10 @@ nth_body places k = (slice_index_or places k (0, 0)).1
 abbrev pub HasBodies : ℕ → List (ℕ × ℕ) → Image → Image → Type 0
 HasBodies n places memory image = (k : ℕ) → k < length places → nth_body places k < n → block_at memory (nth_body places k) ≡ block_at image (nth_body places k)
 
--- from place k on so many homes follow one another
+-- this many homes, from place k on, follow one another
 abbrev pub AreInRow : List (ℕ × ℕ) → ℕ → ℕ → Type 0
 AreInRow places k n = (j : ℕ) → j < n → nth_home places (k + j) ≡ nth_home places k + j
 
--- the run has the bodies of so many places from place k on, one behind the other
+-- the run has the bodies of this many places, from place k on, one after another
 abbrev pub HasRun : List (ℕ × ℕ) → ℕ → ℕ → Image → Image → Type 0
 HasRun places k n memory run = (j : ℕ) → j < n → block_at run j ≡ block_at memory (nth_body places (k + j))

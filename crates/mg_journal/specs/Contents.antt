@@ -37,7 +37,7 @@ bodies_of image s = writes_from image s 0 (body_count image s)
 abbrev pub bodies_fit : ℕ → Image → ℕ → Bool
 bodies_fit total image s = nat_le (body_count image s) body_limit && homes_fit total (bodies_of image s)
 
--- b is a with every segment before m closed, whatever else stands in these
+-- b is a with every segment before m closed, whatever else is in these
 pub record ClosedBelow (m : ℕ) (a b : Image) : Type 0 where
   pub journal : SameBut InJournal a b
   pub shut : (s : ℕ) → s < m → is_open b s ≡ false

@@ -10,7 +10,7 @@ pub record Store : Type 0 where
   pub opened : ℕ
   pub table : List (ℕ × ℕ)
 
--- what every value keeps, wherever it stands
+-- what every value keeps, on every disk
 pub record IsKept (store : Store) : Type 0 where
   pub few : store.opened ≤ segment_count
   pub room : length store.table ≤ body_limit * store.opened

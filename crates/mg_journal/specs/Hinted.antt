@@ -1,4 +1,4 @@
--- Blocks in an order, and a table that tells where each may be.
+-- Blocks in an order, and a table that says where each may be.
 use Rattle.std.specs.Prelude.{◌≡◌, ◌≢◌, ◌≤◌, ◌<◌, ◌%◌, ℕ, List, AllPairs, length, slice_index_or}
 use Rattle.mg_model.specs.Layout.{body_limit}
 
@@ -6,7 +6,7 @@ use Rattle.mg_model.specs.Layout.{body_limit}
 abbrev pub hint_of : List ℕ → ℕ → ℕ
 hint_of hints block = slice_index_or hints (block % 256) 0
 
--- these blocks, no more than a commit takes and none twice, have a table of hints in which none tells of a place behind the last,
+-- these blocks, no more than a commit takes and none twice, have a table of hints in which none names a place after the last,
 -- and each block has one
 pub record AreHinted (homes : List ℕ) (hints : List ℕ) : Type 0 where
   pub few : length homes ≤ body_limit

@@ -34,7 +34,7 @@ some_is a b is = cc
 none_some : (a : Image) → None ≡ Some a → ⊥
 none_some a is = cc
 
--- where a replay gives an image, each segment fits
+-- when a replay gives an image, each segment fits
 pub replayed-fits : (total : ℕ) (a r : Image) → replay a total ≡ Some r → segments_fit total a 0 segment_count ≡ true
 replayed-fits total a r is =
     ⊎_elim (λ fit. fit) (λ unfit. absurd (none_some r (sym (replay-none total a unfit) ∙ is))) (cases_Bool (segments_fit total a 0 segment_count))
@@ -42,7 +42,7 @@ replayed-fits total a r is =
 pub replayed-is : (total : ℕ) (a r : Image) → replay a total ≡ Some r → r ≡ written a (open_writes a)
 replayed-is total a r is = sym (some_is (written a (open_writes a)) r (sym (replay-some total a (replayed-fits total a r is)) ∙ is))
 
--- where a replay takes the same from each segment
+-- when a replay takes the same from each segment
 contents_alike : (total : ℕ) (a b : Image) → ((s : ℕ) → s < segment_count → IsAlike total a b s)
     → (segments_fit total a 0 segment_count ≡ true → SameBut InJournal (written a (open_writes a)) (written b (open_writes a))) → SameContents total a b
 contents_alike total a b alike same = ⊎_elim fitting unfit (cases_Bool (segments_fit total a 0 segment_count))
@@ -62,7 +62,7 @@ contents_alike total a b alike same = ⊎_elim fitting unfit (cases_Bool (segmen
 pub same_gate : (a b : Image) (s : ℕ) → block_at b (segment_gate s) ≡ block_at a (segment_gate s) → is_open b s ≡ is_open a s
 same_gate a b s same = ap (λ (block : List ℕ). slice_index block 0 == gate_open) same
 
--- where no segment behind s is open
+-- when no segment after s is open
 pub up_to : (i : Image) (s n count : ℕ) → s + suc n ≡ count → ((t : ℕ) → s < t → t < count → is_open i t ≡ false) → writes_since i 0 count ≡ writes_since i 0 s ++ writes_of i s
 up_to i s n count is closed =
     let from : 0 + s ≡ s = omega arith in
@@ -97,7 +97,7 @@ closed_segments total a b same = contents_alike total a b alike (λ fit. written
         (λ k p. let few = p.0.few in let above = p.0.above in let below = p.0.below in (omega arith, omega arith))
         (written_same w (InClosed a) a b same)
 
--- Any bytes in the gate of a written segment give the old contents or the new, where no later segment is open.
+-- Any bytes in the gate of a written segment give the old contents or the new, if no later segment is open.
 module _ (total : ℕ) (a b : Image) (s : ℕ) (few : s < segment_count) (shut : is_open a s ≡ false) (last : (t : ℕ) → s < t → t < segment_count → is_open a t ≡ false)
     (fit : bodies_fit total a s ≡ true) (same : SameBut (only_place (segment_gate s)) a b) where
   elsewhere : (t : ℕ) → t ≢ s → (k : ℕ) → segment_gate t ≤ k → k < segment_gate (t + 1) → block_at b k ≡ block_at a k

@@ -1,4 +1,4 @@
--- Definitions, in the order in which one reads them: the contents, what the journal stands by, and what waits.
+-- Definitions, in the order in which one reads them: the contents, what the journal relies on, and what waits.
 pub mod Contents
 pub mod Places
 pub mod Newest

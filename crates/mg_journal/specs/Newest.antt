@@ -17,7 +17,7 @@ Ascends table = AllPairs (λ (a b : ℕ × ℕ). a.0 < b.0) table
 abbrev pub HasLast : List (ℕ × ℕ) → List (ℕ × ℕ) → Type 0
 HasLast places table = (i : ℕ) → find (is_for i) table ≡ find (is_for i) (reverse places)
 
--- where the old table has the last of some places, the new one has it of these and more behind them
+-- when the old table has the last of some places, the new one has it of these and more after them
 abbrev pub TakesIn : List (ℕ × ℕ) → List (ℕ × ℕ) → List (ℕ × ℕ) → Type 0
 TakesIn more old new = (places : List (ℕ × ℕ)) → HasLast places old → HasLast (places ++ more) new
 

@@ -19,7 +19,7 @@ pub record Settles (total : ℕ) (places : List (ℕ × ℕ)) (image : Image) : 
 abbrev pub AreOpen : ℕ → ℕ → Image → Type 0
 AreOpen s n image = (t : ℕ) → s ≤ t → t < n → is_open image t ≡ true
 
--- while a gate is closed: nothing has changed, or any bytes stand in that gate, which was open
+-- while a gate is closed: nothing has changed, or any bytes are in that gate, which was open
 abbrev pub MayCloseOne : ℕ → Image → Image → Type 0
 MayCloseOne s a c = (c ≡ a) ⊎ ((is_open a s ≡ true) × SameBut (only_place (segment_gate s)) a c)
 

@@ -41,7 +41,7 @@ same-bodies a b s same j (suc n) few =
     let rest : writes_from b s (j + 1) n ≡ writes_from a s (j + 1) n = same-bodies a b s same (j + 1) n (omega arith) in
     cc
 
--- where the index and the bodies are the same
+-- when the index and the bodies are the same
 module _ (total : ℕ) (a b : Image) (s : ℕ) (same : (k : ℕ) → segment_gate s < k → k < segment_gate (s + 1) → block_of b k ≡ block_of a k) where
   pub same-count : body_count b s ≡ body_count a s
   same-count = ap (λ block. number_at block 0) (same (segment_index s) (omega arith) (omega arith))
@@ -74,7 +74,7 @@ module _ (total : ℕ) (a b : Image) (s : ℕ) (same : (k : ℕ) → segment_gat
             ∙ sym (writes-open a s is);
       }
 
--- where the whole segment is the same
+-- when the whole segment is the same
 pub alike-whole : (total : ℕ) (a b : Image) (s : ℕ) → ((k : ℕ) → segment_gate s ≤ k → k < segment_gate (s + 1) → block_of b k ≡ block_of a k) → IsAlike total a b s
 alike-whole total a b s same =
     alike-gates total a b s (λ k low high. same k (omega arith) high) (ap (λ block. slice_index block 0 == gate_open) (same (segment_gate s) (omega arith) (omega arith)))
@@ -104,7 +104,7 @@ fits-each total a from zero each = refl
 fits-each total a from (suc n) each =
     and_from (segment_fits total a from) (segments_fit total a (from + 1) n) (each from (omega arith) (omega arith)) (fits-each total a (from + 1) n (λ s low high. each s (omega arith) (omega arith)))
 
--- the first m segments, and those behind them
+-- the first m segments, and those after them
 pub writes_since-split : (a : Image) (from m n : ℕ) → writes_since a from (m + n) ≡ writes_since a from m ++ writes_since a (from + m) n
 writes_since-split a from zero n = let here : writes_since a from (zero + n) ≡ writes_since a from n = ap (writes_since a from) (omega arith) in let there : writes_since a (from + zero) n ≡ writes_since a from n = ap (λ s. writes_since a s n) (omega arith) in here ∙ sym there
 writes_since-split a from (suc m) n =

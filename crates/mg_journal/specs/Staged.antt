@@ -15,7 +15,7 @@ are_once ((i, block) ∷ writes) = not (names writes i) && are_once writes
 abbrev pub goes_to : ℕ → ℕ × List ℕ → Bool
 goes_to block write = write.0 == block
 
--- a write more, in place of the one to that block or behind the others
+-- a write more, in place of the one to that block or after the others
 abbrev pub staged : List (ℕ × List ℕ) → ℕ → List ℕ → List (ℕ × List ℕ)
 staged writes block bytes = option_map_or (λ k. slice_set writes k (block, bytes)) (position (goes_to block) writes) (writes ++ (block, bytes) ∷ [])
 
@@ -30,12 +30,12 @@ home_at writes j = (slice_index_or writes j (0, [])).0
 abbrev pub bytes_of : List (ℕ × List ℕ) → ℕ → List ℕ
 bytes_of writes j = (slice_index_or writes j (0, [])).1
 
--- writes to these blocks of what lies at place j and behind
+-- writes to these blocks of what lies at place j and after
 abbrev pub paired : List ℕ → Image → ℕ → List (ℕ × List ℕ)
 paired [] blocks j = []
 paired (home ∷ homes) blocks j = (home, block_at blocks j) ∷ paired homes blocks (j + 1)
 
--- the first of these blocks is the index of a segment that holds these writes, and those behind it are what they put
+-- the first of these blocks is the index of a segment that holds these writes, and those after it are what they write
 pub record IsRunOf (writes : List (ℕ × List ℕ)) (run : Image) : Type 0 where
   pub long : length run ≡ length writes + 1
   pub count : number_at (block_at run 0) 0 ≡ length writes

@@ -23,13 +23,13 @@ is_live store = store.live
 abbrev pub AllClosed : Image → Type 0
 AllClosed image = (s : ℕ) → s < segment_count → is_open image s ≡ false
 
--- the first segments are open, so many of them and no other, the journal can be replayed, and the table has the newest body of
+-- the first `opened` segments are open and no others, the journal can be replayed, and the table has the newest body of
 -- each block that they name
 pub record HoldsOpen (total opened : ℕ) (table : List (ℕ × ℕ)) (image : Image) : Type 0 where
   pub gates : (s : ℕ) → s < segment_count → is_open image s ≡ nat_lt s opened
   pub fits : Fits (record { total = total; table = table }) image
 
--- a store fits an image where the open segments are the ones that it holds
+-- a store fits an image if the open segments are those that it holds
 unfoldable pub IsFitting : Store → Image → Type 0
 IsFitting store image = HoldsOpen store.total store.opened store.table image
 
@@ -52,13 +52,13 @@ open_since image s (suc n) = (if is_open image s then 1 else 0) + open_since ima
 abbrev pub open_count : Image → ℕ
 open_count image = open_since image 0 segment_count
 
--- what a commit of some writes does: where a segment was closed, one more is open and no block behind the journal has changed;
--- where all were open, one is
+-- what a commit of some writes does: if a segment was closed, one more is open and no block after the journal has changed;
+-- when all were open, one is
 pub record IsLate (a b : Image) : Type 0 where
   pub more : open_count a < segment_count → (open_count b ≡ open_count a + 1) × SameBut InJournal a b
   pub again : open_count a ≡ segment_count → open_count b ≡ 1
 
--- where a store fits, the journal can be replayed
+-- when a store fits, the journal can be replayed
 pub fitting_replays : (store : Store) (image : Image) → IsFitting store image → (r : Image) × (replay image (total_of store) ≡ Some r)
 unfolding IsFitting
 fitting_replays store image fits = (written image (open_writes image), replay-some store.total image fits.fits.fit)

@@ -7,7 +7,7 @@ use Rattle.mg_disk.specs.Disk.{Image, SameBut, block_at}
 use Rattle.mg_model.specs.Replay.{written}
 use Rattle.mg_journal.specs.Contents.{names}
 
--- the same everywhere is the same
+-- images that differ at no place are equal
 pub all_same : (P : ℕ → Type 0) (a b : Image) → SameBut P a b → ((k : ℕ) → P k → ⊥) → b ≡ a
 all_same P a b same none = ext_get_or [] b a same.count (λ k below. same.others k (none k))
 
@@ -55,11 +55,7 @@ pub written_over : (writes : List (ℕ × List ℕ)) (a b : Image) → SameBut (
 written_over writes a b same =
     all_same (λ k. (names writes k ≡ true) × (names writes k ≡ false)) (written a writes) (written b writes) (written_same writes (λ k. names writes k ≡ true) a b same) (λ k p. both_ways (names writes k) p.1 p.0)
 
--- what is there already
-pub written_twice : (writes : List (ℕ × List ℕ)) (a : Image) → written (written a writes) writes ≡ written a writes
-written_twice writes a = written_over writes a (written a writes) (written_elsewhere writes a)
-
--- where all writes change nothing, the last of them change nothing
+-- when all writes change nothing, the last of them change nothing
 pub last_change_nothing : (a : Image) (first last : List (ℕ × List ℕ)) → written a (first ++ last) ≡ a → written a last ≡ a
 last_change_nothing a first last is =
     ext_get_or [] (written a last) a (written_elsewhere last a).count (λ k below. ⊎_elim (there k) (elsewhere k) (cases_Bool (names last k)))

@@ -46,7 +46,7 @@ impl Buffers {
         })
     }
 
-    /// Writes the bodies at these places to their homes, in order, and makes sure of them: also where there are none, so that
+    /// Writes the bodies at these places to their homes, in order, and syncs them: also if there are none, so that
     /// nothing is pending afterwards.
     pub(crate) fn write<D: Disk>(
         &mut self,
@@ -70,7 +70,7 @@ impl Buffers {
     }
 }
 
-// Makes it so many blocks long, where it is shorter. It takes no memory.
+// Makes it `count` blocks long, if it is shorter. It takes no memory.
 fn grow(blocks: &mut Vec<Block>, count: usize)
     requires room { count ≤ vec_capacity blocks.old }
     ensures long { count ≤ length blocks.new.items }
@@ -82,7 +82,7 @@ fn grow(blocks: &mut Vec<Block>, count: usize)
     }
 }
 
-// The blocks from the first body to the last that these places have from one block on and before another; no blocks where they have
+// The blocks from the first body to the last that these places have from one block on and before another; no blocks if they have
 // none there.
 fn span_of(places: &[(u64, u64)], from: u64, to: u64) -> (u64, u64)
     ensures all { (k : ℕ) → k < length places.now → from ≤ nth_body places.now k → nth_body places.now k < to → (result.0 ≤ nth_body places.now k) × (nth_body places.now k < result.1) }
@@ -164,7 +164,7 @@ fn count_row(places: &[(u64, u64)], first: usize, most: usize) -> usize
     most
 }
 
-// Puts the bodies of so many places from place `first` on one behind the other. One that stands alone stays where it is.
+// Copies the bodies of `count` places, from place `first` on, next to each other. A single one stays where it is.
 fn gather(places: &[(u64, u64)], first: usize, count: usize, journal: &[Block], run: &mut [Block])
     requires there { first + count ≤ length places.now }
     requires room { count ≤ length run.old }
@@ -179,7 +179,7 @@ fn gather(places: &[(u64, u64)], first: usize, count: usize, journal: &[Block], 
     }
 }
 
-// The bodies of so many places from place `first` on one behind the other: in the run, or where one that stands alone was read.
+// The bodies of `count` places, from place `first` on, next to each other: in the run, or where a single one was read.
 fn row_among<'a>(
     places: &[(u64, u64)],
     first: usize,
@@ -203,7 +203,7 @@ fn row_among<'a>(
     }
 }
 
-// Writes the bodies at these places to their homes, in order, those that follow one another in one call, and makes sure of them.
+// Writes the bodies at these places to their homes, in order, those that follow one another in one call, and syncs them.
 fn apply<D: Disk>(
     disk: &mut D,
     places: &[(u64, u64)],

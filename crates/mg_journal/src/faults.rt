@@ -6,7 +6,7 @@ use thiserror::Error;
 #[derive(Debug, Drop, Error)]
 pub enum ViewFault {
     /// They are not spelled as they should be. Of a journal: an open segment has more than 160 bodies, or one that belongs to no
-    /// block behind the journal.
+    /// block after the journal.
     #[error("damaged contents")]
     Damaged,
     /// A call of the disk failed.

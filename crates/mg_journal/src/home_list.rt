@@ -13,7 +13,7 @@ const HINTS: usize = 256;
 #[derive(Drop)]
 pub(crate) struct Homes {
     homes: Vec<u64>,
-    // 256 of them, by the lowest eight bits of a block's number: 0 where no block has these bits, else one more than the place of
+    // 256 of them, by the lowest eight bits of a block's number: 0 if no block has these bits, else one more than the place of
     // the last block that has them.
     hints: Vec<u8>,
 }
@@ -70,7 +70,7 @@ impl Homes {
         place_among(&self.homes, block)
     }
 
-    /// Puts a block behind the others. It takes no memory.
+    /// Adds a block after the others. It takes no memory.
     pub(crate) fn push(&mut self, block: u64)
         requires fewer_than_160 { length self.old < body_limit }
         requires new { position (λ home. home == block) self.old ≡ None }

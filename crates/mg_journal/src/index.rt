@@ -13,7 +13,7 @@ pub(crate) fn clear_index(index: &mut Block)
     put_number(index, 0, 0);
 }
 
-/// Makes the index of so many bodies that of one more, which belongs to this block.
+/// Makes the index of `bodies` bodies the index of one more, which belongs to this block.
 pub(crate) fn add_home(index: &mut Block, bodies: usize, home: u64)
     requires fewer_than_160 { bodies < body_limit }
     ensures count { number_at index.new 0 ≡ bodies + 1 }

@@ -4,13 +4,13 @@
 //! old contents or the new, and after Ok the new. The contents of an image are its blocks after replay (`replay` of
 //! `mg_model`), the segments' own blocks left aside. [`Store::open`] recovers what a stop left of a commit: the contents
 //! stay at each moment of it, and after Ok no segment is open. [`View::look`] finds where the newest body of each block lies,
-//! and writes nothing; who has read through the view hands it on to [`Store::recover`].
+//! and writes nothing; whoever has read through the view passes it to [`Store::recover`].
 //!
 //! A commit fills the next of eight segments, and homes wait: the store's view says where the newest body of each block
 //! lies. A commit that finds all eight open makes a checkpoint first, which writes the homes and closes the gates.
 //!
-//! `specs/Contents.antt` and `specs/Standing.antt` have the words of the contracts. What changes inside the journal do to
-//! the contents is told by `specs/Facts.antt` (closed segments, and the gate of a written one) and `proofs/Homes.antt`
+//! `specs/Contents.antt` and `specs/Standing.antt` have the words of the contracts. What a change inside the journal does to
+//! the contents is in `specs/Facts.antt` (closed segments, and the gate of a written one) and `proofs/Homes.antt`
 //! (homes of open segments, and the closing of gates), for any segment and with no disk in them.
 #![tactic(auto)]
 
@@ -31,4 +31,4 @@ mod writes;
 pub use faults::ViewFault;
 pub use store::Store;
 pub use view::View;
-pub use writes::{MOST_WRITES, Writes};
+pub use writes::Writes;

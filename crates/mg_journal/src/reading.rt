@@ -16,15 +16,15 @@ use mg_disk::{BLOCK_SIZE, Block, Disk};
 use mg_faults::Failed;
 use mg_layout::{BODY_LIMIT, GLOBALS_BLOCK, number_at};
 
-// Whether a body may belong to this block: it lies behind the journal and on the volume.
+// Whether a body may belong to this block: it lies after the journal and on the volume.
 fn is_home(block: u64, total: u64) -> bool
     ensures { result ≡ (nat_le globals_block block && nat_lt block total) }
 {
     block >= GLOBALS_BLOCK && block < total
 }
 
-// Puts the places of the bodies of a segment with this index into the table, in order. False where the index does not fit: it
-// has more than 160 bodies, or one that belongs to no block behind the journal.
+// Enters the places of the bodies of a segment with this index into the table, in order. False if the index does not fit: it
+// has more than 160 bodies, or one that belongs to no block after the journal.
 fn add_bodies(index: &Block, segment: u64, total: u64, table: &mut Table) -> bool
     requires segment { segment < segment_count }
     requires fits_in_table { length table.old + body_limit ≤ place_limit }
@@ -61,7 +61,7 @@ fn is_open<D: Disk>(disk: &mut D, segment: u64) -> Result<bool, Failed>
     Ok(is_opened(&gate))
 }
 
-// Puts the places of the bodies of a segment into the table, whether it is open or not.
+// Enters the places of the bodies of a segment into the table, whether it is open or not.
 fn look_index<D: Disk>(
     disk: &mut D,
     segment: u64,
@@ -92,9 +92,9 @@ fn look_index<D: Disk>(
     }
 }
 
-/// Puts the places of the bodies of a segment into the table, which has none where it is closed.
+/// Enters the places of the bodies of a segment into the table, which has none if it is closed.
 ///
-/// [`ViewFault::Damaged`] comes exactly where it is open and does not fit, [`ViewFault::Disk`] only where a read failed.
+/// [`ViewFault::Damaged`] comes exactly if it is open and does not fit, [`ViewFault::Disk`] only if a read failed.
 pub(crate) fn look_segment<D: Disk>(
     disk: &mut D,
     segment: u64,

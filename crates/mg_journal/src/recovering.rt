@@ -14,7 +14,7 @@ use crate::view::View;
 use mg_disk::{BLOCK_SIZE, Disk};
 use mg_faults::Failed;
 
-// Closes a segment's gate, which is open, and makes sure of it.
+// Closes a segment's gate, which is open, and syncs it.
 fn close_open<D: Disk>(disk: &mut D, segment: u64) -> Result<(), Failed>
     requires place { segment < segment_count }
     requires within_disk { globals_block ≤ D.block_count disk.old }
@@ -30,7 +30,7 @@ fn close_open<D: Disk>(disk: &mut D, segment: u64) -> Result<(), Failed>
     write_firmly(disk, gate_of(segment), &closed_gate())
 }
 
-// Closes a segment's gate where it is open, and makes sure of it. It is read, unless it is known to be open.
+// Closes a segment's gate if it is open, and syncs it. It is read, unless it is known to be open.
 fn close_gate<D: Disk>(disk: &mut D, segment: u64, is_known: bool) -> Result<(), Failed>
     requires place { segment < segment_count }
     requires within_disk { globals_block ≤ D.block_count disk.old }
@@ -74,8 +74,8 @@ fn close_gates<D: Disk>(disk: &mut D, opened: u64) -> Result<(), Failed>
     Ok(())
 }
 
-/// Recovers a disk that this view fits. Each home is written once, from its newest body, in the order of blocks, and is made
-/// sure of; then the gates are closed, first to last. The bodies are read from the journal, and so are the gates, but for the first
+/// Recovers a disk that this view fits. Each home is written once, from its newest body, in the order of blocks, and is
+/// synced; then the gates are closed, first to last. The bodies are read from the journal, and so are the gates, but for the first
 /// `opened` ones, which are open.
 pub(crate) fn recover<D: Disk>(disk: &mut D, view: &mut View, opened: u64) -> Result<(), Failed>
     requires journal { globals_block ≤ view.old.total }

@@ -11,7 +11,7 @@ use crate::writes::Writes;
 use mg_disk::Disk;
 use mg_faults::Failed;
 
-/// Writes the index and the bodies of a segment, which lie behind it, in one run, and makes sure of them.
+/// Writes the index and the bodies of a segment, which lie after it, in one run, and syncs them.
 pub(crate) fn write_segment<D: Disk>(
     disk: &mut D,
     segment: u64,

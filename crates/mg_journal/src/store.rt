@@ -45,12 +45,12 @@ impl Model for Store {
 
 impl Store {
     /// Opens the journal of a volume of `total` blocks, whatever a stop left of a commit: each home that open segments name is
-    /// written once, from its newest body, and made sure of, and then the gates are closed first to last, with a sync after
-    /// each. The contents stay, whatever the answer: those of what reads give, and where nothing was pending those of what a
+    /// written once, from its newest body, and synced, and then the gates are closed first to last, with a sync after
+    /// each. The contents stay, whatever the answer: those of what reads give, and if nothing was pending those of what a
     /// stop leaves at any moment. After Ok nothing is pending, and no segment is open.
     ///
-    /// [`ViewFault::Damaged`] comes where the journal cannot be replayed, and then nothing was written,
-    /// [`ViewFault::Disk`] only where a call of the disk failed, and [`ViewFault::Memory`] where there was not enough
+    /// [`ViewFault::Damaged`] comes if the journal cannot be replayed, and then nothing was written,
+    /// [`ViewFault::Disk`] only if a call of the disk failed, and [`ViewFault::Memory`] if there was not enough
     /// memory.
     pub fn open<D: Disk>(alloc: Global, disk: &mut D, total: u64) -> Result<Store, ViewFault>
         requires journal { globals_block ≤ total }
@@ -78,7 +78,7 @@ impl Store {
     }
 
     /// Opens the journal of a disk that this view fits, as [`Store::open`] does once it has looked through the journal. It
-    /// takes no memory. [`Failed`] comes only where a call of the disk failed.
+    /// takes no memory. [`Failed`] comes only if a call of the disk failed.
     pub fn recover<D: Disk>(disk: &mut D, mut view: View) -> Result<Store, Failed>
         requires journal { globals_block ≤ view.total }
         requires within_disk { view.total ≤ D.block_count disk.old }
@@ -114,9 +114,9 @@ impl Store {
     }
 
     /// Writes these blocks, so that a stop at any moment leaves the old contents or the new: into the next of the journal's
-    /// eight segments, with two syncs, while homes wait. Where all eight are open it makes a checkpoint first, which writes
-    /// the homes and closes the gates. With nothing in `w` no call is made. After [`Failed`], which comes only where a call of the disk failed, it is not live: the disk has the old
-    /// contents or the new.
+    /// eight segments, with two syncs, while homes wait. If all eight are open it makes a checkpoint first, which writes
+    /// the homes and closes the gates. With nothing in `w` no call is made. After [`Failed`], which comes only if a call of
+    /// the disk failed, it is not live: the disk has the old contents or the new.
     pub fn commit<D: Disk>(&mut self, disk: &mut D, w: &Writes) -> Result<(), Failed>
         requires live { is_live self.old ≡ true }
         requires stands { Stands D.Disk self.old disk.old }
@@ -155,7 +155,7 @@ impl Store {
         self.view.read(disk, i, out)
     }
 
-    // Writes these blocks into the next segment, after a checkpoint where none is left.
+    // Writes these blocks into the next segment, after a checkpoint if none is left.
     fn commit_segment<D: Disk>(&mut self, disk: &mut D, writes: &Writes) -> Result<(), Failed>
         requires stands { Stands D.Disk self.old disk.old }
         requires homes { homes_fit (total_of self.old) writes.now ≡ true }
@@ -175,7 +175,7 @@ impl Store {
         Ok(())
     }
 
-    // Makes a checkpoint where all segments are open.
+    // Makes a checkpoint if all segments are open.
     fn make_room<D: Disk>(&mut self, disk: &mut D) -> Result<(), Failed>
         requires stands { Stands D.Disk self.old disk.old }
         ensures any_moment { ForSome (D.seen disk.old) (λ image. Leaves D.Disk disk.old disk.new (SameContents (total_of self.old) image)) }
@@ -197,9 +197,9 @@ impl Store {
         }
     }
 
-    /// Writes the newest body of each block that an open segment names to its home, once, and makes sure of it, and then closes
+    /// Writes the newest body of each block that an open segment names to its home, once, and syncs it, and then closes
     /// the gates first to last, with a sync after each, so that no segment is open. The contents stay, whatever the answer. After
-    /// [`Failed`], which comes only where a call of the disk failed, it is not live.
+    /// [`Failed`], which comes only if a call of the disk failed, it is not live.
     pub fn checkpoint<D: Disk>(&mut self, disk: &mut D) -> Result<(), Failed>
         requires live { is_live self.old ≡ true }
         requires stands { Stands D.Disk self.old disk.old }

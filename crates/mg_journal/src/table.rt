@@ -62,7 +62,7 @@ impl Table {
         }
     }
 
-    /// Puts a place in, instead of the one that its block has if there is one. It takes no memory.
+    /// Enters a place, instead of the place that its block has, if it has one. It takes no memory.
     pub(crate) fn put(&mut self, place: (u64, u64))
         requires fits_in_table { length self.old < place_limit }
         ensures puts { Puts self.old place self.new }
@@ -78,7 +78,7 @@ impl Table {
         }
     }
 
-    /// Puts the places of these writes in, whose bodies lie from this block on.
+    /// Enters the places of these writes, whose bodies lie from this block on.
     pub(crate) fn add(&mut self, first: u64, writes: &Writes)
         requires fits_in_table { length self.old + length writes.now ≤ place_limit }
         requires within { first + length writes.now ≤ globals_block }

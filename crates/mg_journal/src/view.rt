@@ -22,7 +22,7 @@ use mg_faults::Failed;
 use std::alloc::Global;
 use std::marker::Model;
 
-/// The contents of a disk, seen through its journal: where a block was written to an open segment it is read there.
+/// The contents of a disk, seen through its journal: if a block was written to an open segment it is read there.
 #[derive(Drop)]
 pub struct View {
     total: u64,
@@ -48,8 +48,8 @@ impl View {
     /// Looks through the journal of a disk for a volume of `total` blocks. It only reads: each gate once, and each index of
     /// an open segment once.
     ///
-    /// [`ViewFault::Damaged`] comes exactly where the journal cannot be replayed, [`ViewFault::Disk`] only where a call of
-    /// the disk failed.
+    /// [`ViewFault::Damaged`] comes exactly if the journal cannot be replayed, [`ViewFault::Disk`] only if a call of
+    /// the disk failed. [`ViewFault::Memory`] comes if out of memory. All memory is taken before the first call of the disk.
     pub fn look<D: Disk>(alloc: Global, disk: &mut D, total: u64) -> Result<View, ViewFault>
         requires journal { globals_block ≤ total }
         requires within_disk { total ≤ D.block_count disk.old }
@@ -81,8 +81,8 @@ impl View {
         })
     }
 
-    /// Writes the newest body of each block that the open segments have to its home, in the order of blocks, and makes sure of them:
-    /// also where there are none, so that nothing is pending afterwards.
+    /// Writes the newest body of each block that the open segments have to its home, in the order of blocks, and syncs them:
+    /// also if there are none, so that nothing is pending afterwards.
     pub(crate) fn write_homes<D: Disk>(&mut self, disk: &mut D) -> Result<(), Failed>
         requires journal { globals_block ≤ self.old.total }
         requires within_disk { self.old.total ≤ D.block_count disk.old }
@@ -109,7 +109,7 @@ impl View {
         self.table.add(first, writes);
     }
 
-    /// No segment is open any more.
+    /// Holds that no segment is open any more.
     pub(crate) fn clear(&mut self)
         ensures none { self.new.table ≡ [] }
         ensures total { self.new.total ≡ self.old.total }
@@ -140,7 +140,7 @@ impl View {
     {
         disk.read(self.place_of(i), out)
     }
-    /// Gives blocks of the contents one behind the other, the first of them block `first`, as many as `out` has room for. They
+    /// Gives blocks of the contents one after another, the first of them block `first`, as many as `out` has room for. They
     /// are read together, and then those again that an open segment has, there. A read that fails leaves any bytes in `out`.
     pub fn read_blocks<D: Disk>(
         &self,
@@ -164,7 +164,7 @@ impl View {
         Ok(())
     }
 
-    // Reads block `i` again where an open segment has it. `block` is the one at its home.
+    // Reads block `i` again if an open segment has it. `block` has the bytes at its home.
     fn read_newer<D: Disk>(&self, disk: &mut D, i: u64, block: &mut Block) -> Result<(), Failed>
         requires place { i < self.now.total }
         requires within_disk { self.now.total ≤ D.block_count disk.old }

@@ -13,14 +13,14 @@ use std::alloc::{AllocError, Global};
 use std::marker::Model;
 
 /// How many writes a commit takes at most.
-pub const MOST_WRITES: usize = BODY_LIMIT as usize;
+pub(crate) const MOST_WRITES: usize = BODY_LIMIT as usize;
 
 /// Up to 160 blocks that wait for a commit, each with what will be written there. No block is there twice.
 #[derive(Drop)]
 pub struct Writes {
     // The blocks that are to be written.
     homes: Homes,
-    // The index of a segment that has these homes, and behind it what will be written at each.
+    // The index of a segment that has these homes, and after it what will be written at each.
     blocks: Vec<Block>,
 }
 
@@ -74,7 +74,7 @@ impl Writes {
         self.homes.at(k)
     }
 
-    /// What write `k` puts there, numbered as for [`Writes::home`].
+    /// What write `k` writes there, numbered as for [`Writes::home`].
     pub fn body(&self, k: usize) -> &Block
         requires there { k < length self.now }
         ensures body { result.now ≡ bytes_of self.now k }
@@ -82,7 +82,7 @@ impl Writes {
         &self.blocks[k + 1]
     }
 
-    /// The index of a segment that holds these writes, and behind it what they put, in their order.
+    /// The index of a segment that holds these writes, and after it what they write, in their order.
     pub(crate) fn run(&self) -> &[Block]
         ensures run { IsRunOf self.now result.now }
     {
@@ -111,7 +111,7 @@ impl Writes {
         }
     }
 
-    /// Stages a write of a block that begins with these bytes and goes on as `rest` does, in place of the write to that block
+    /// Stages a write of a block that begins with these bytes and continues as `rest` does, in place of the write to that block
     /// if there is one. It takes no memory.
     #[tactic(auto, using(crate::proofs::Waits::waits_none))]
     pub fn stage_over(&mut self, block: u64, first: &[u8], rest: &Block)
@@ -132,7 +132,7 @@ impl Writes {
         }
     }
 
-    /// Puts a word at a byte offset, 0 to 4,088, into what waits for this block, and says whether anything does.
+    /// Writes a word at a byte offset, 0 to 4,088, into what waits for this block, and says whether anything does.
     pub fn put(&mut self, block: u64, at: usize, word: u64) -> bool
         requires within { at + 8 ≤ block_size }
         ensures waits { result ≡ is_some (waiting self.old block) }
@@ -148,7 +148,7 @@ impl Writes {
         }
     }
 
-    // Puts other bytes into the k-th write.
+    // Writes other bytes into the k-th write.
     fn replace(&mut self, k: usize, from: &Block)
         requires there { k < length self.old }
         ensures { self.new ≡ slice_set self.old k (home_at self.old k, from.now) }
@@ -156,7 +156,7 @@ impl Writes {
         self.blocks[k + 1] = *from;
     }
 
-    // Puts a word at an offset into the k-th write.
+    // Writes a word at an offset into the k-th write.
     fn put_into(&mut self, k: usize, at: usize, word: u64)
         requires there { k < length self.old }
         requires within { at + 8 ≤ block_size }
@@ -166,7 +166,7 @@ impl Writes {
         put_number(&mut self.blocks[k + 1], at, word);
     }
 
-    // Puts other bytes over the first ones of the k-th write.
+    // Writes other bytes over the first ones of the k-th write.
     fn put_first_into(&mut self, k: usize, first: &[u8])
         requires there { k < length self.old }
         requires within { length first.now ≤ block_size }
@@ -175,7 +175,7 @@ impl Writes {
         put_first(&mut self.blocks[k + 1], first);
     }
 
-    // Stages a write behind the others.
+    // Stages a write after the others.
     fn add(&mut self, block: u64, from: &Block)
         requires fewer_than_160 { length self.old < body_limit }
         requires new { waiting self.old block ≡ None }
@@ -196,7 +196,7 @@ impl Writes {
     }
 }
 
-// Puts other bytes over the first ones of a block.
+// Writes other bytes over the first ones of a block.
 fn put_first(block: &mut Block, first: &[u8])
     requires { length first.now ≤ block_size }
     ensures { block.new ≡ first.now ++ drop (length first.now) block.old }

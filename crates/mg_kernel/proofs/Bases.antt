@@ -1,4 +1,4 @@
--- The rows that are held tell the bases of the state's objects.
+-- The rows that are held give the bases of the state's objects.
 use Rattle.std.specs.Prelude.{ℕ, ◌≡◌, ◌==◌, find, is_some, option_map, Option, Some, None}
 use Rattle.std.proofs.Common.{refl, sym, ap, ◌∙◌}
 use Rattle.mg_calls_dom.specs.KnownLemmas.{find-rows}

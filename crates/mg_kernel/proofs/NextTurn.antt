@@ -58,7 +58,7 @@ picked-numbered : (threads : List Thread) (cursor : ℕ) (first : Option Thread)
 picked-numbered threads cursor None thread is picks = found-numbered (λ (x : Thread). is_ready x.row.state && nat_lt 0 x.number) threads thread picks
 picked-numbered threads cursor (Some other) thread is picks = found-numbered (λ (x : Thread). is_ready x.row.state && nat_lt cursor x.number) threads thread (is ∙ picks)
 
--- so the one that is picked is held
+-- so the thread that is picked is held
 pub picked-held : (v : VolumeHeld) (n : ℕ) → ((image : Image) → Some n ≡ option_map (λ (thread : Thread). thread.number) (picked (now_of v image))) → option_map (λ (thread : Thread). thread.row) (find (λ (thread : Thread). thread.number == n) (threads_in v)) ≡ None → ⊥
 picked-held v n numbered none =
     let state = now_of v [] in

@@ -1,4 +1,4 @@
--- What a call that asks for no right keeps and costs.
+-- What a call that needs no right keeps and costs.
 use Rattle.std.specs.Prelude.{◌≡◌, ◌&&◌, ℕ, Bool, true, false, List, [], Option, Ok}
 use Rattle.std.specs.Option.{ForSome}
 use Rattle.std.proofs.Common.{refl, sym, ap, arith, subst, ◌∙◌}
@@ -59,7 +59,7 @@ module _ (state new : State) (t : ℕ) (seats seats' : List (Option Seat)) (repl
   unasked-backed (call.Balance account password) asks keeps ends same all = same_backed state new seats seats' keeps ends all
   unasked-backed other asks keeps ends same all = cc
 
--- where it disturbs nothing it ends no seat
+-- when it disturbs nothing it ends no seat
 ok-false : (v : Bool) → (v && true) ≡ false → v ≡ false
 ok-false true is = is
 ok-false false is = refl
@@ -91,7 +91,7 @@ module _ (state : State) (t : ℕ) (seats seats' : List (Option Seat)) (reply : 
         most = omega arith;
       }
 
--- what it keeps in all; the disk is not asked for anything
+-- what it keeps in all; no call of the disk is made
 pub unasked-serves :
     {D E : Type 0} (facts : Ghosts D) (old new : VolumeHeld) (seats seats' : List (Option Seat)) (disk : D) (steps : ℕ) (reply : Reply) (t : ℕ) (made : Call) → asks_nothing made ≡ true → facts.has_been disk (facts.moment disk) → IsSoundOn facts old disk
     → CallsKeepBacked (λ state t made. (thread_call state t made).0) → ForSome (facts.seen disk) (λ image. AllBacked (now_of old image) seats) → CallStages (Answers (λ state. thread_call state t made)) 3 old new reply → EndsUnasked t made seats seats' reply

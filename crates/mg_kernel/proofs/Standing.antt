@@ -34,7 +34,7 @@ module _ {D : Type 0} (facts : Ghosts D) where
     backed = backed;
   }
 
-  -- where nothing is staged
+  -- when nothing is staged
   pub stands-opened : (k : Kernel) (disk : D) → held.StandsOn facts k.volume disk → ForSome (facts.seen disk) AreBytes → IsFormedBy k.volume → held.staged_of k.volume ≡ 0
       → ForSome (facts.seen disk) (λ image. held.is_sound (held.now_of k.volume image) ≡ true) → ForSome (facts.seen disk) (λ image. AllBacked (held.now_of k.volume image) k.cache) → StandsOn facts k disk
   stands-opened k disk stands bytes formed none sound backed =
@@ -45,7 +45,7 @@ module _ {D : Type 0} (facts : Ghosts D) where
   unfolding now_of seats_in
   backed-of k disk is = is.backed
 
-  -- and stays so where the state stays, though it is told of another image
+  -- and stays so if the state stays, though it is told of another image
   pub backed-kept : (old new : VolumeHeld) (seats : List (Option Seat)) (before after : D) → ForSome (facts.seen before) (λ image. AllBacked (held.now_of old image) seats)
       → ForSome (facts.seen before) (λ image. Holds (held.now_of old image) new (facts.seen after)) → ForSome (facts.seen after) (λ _. IsSome (facts.seen before)) → ForSome (facts.seen after) (λ image. AllBacked (held.now_of new image) seats)
   backed-kept old new seats before after backed done told = λ image now. by_before (facts.seen before) refl image now (told image now)
@@ -58,7 +58,7 @@ module _ {D : Type 0} (facts : Ghosts D) where
           subst (λ i. AllBacked (held.now_of new i) seats) same (subst (λ s. AllBacked s seats) (sym holds.now) (backed first is))
       by_before None is image now some = cc
 
-  -- what the volume's calls ask for
+  -- what the volume's calls require
   pub sound-of : (k : Kernel) (disk : D) → StandsOn facts k disk → IsSoundOn facts k.volume disk
   unfolding IsSpelledBy total_of
   sound-of k disk is = record {

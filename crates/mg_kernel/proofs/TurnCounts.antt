@@ -1,4 +1,4 @@
--- What turns keep and cost, by their fetch and their call, and what the lines keep that ask for one.
+-- What turns keep and cost, by their fetch and their call, and what the lines that need a turn keep.
 use Rattle.std.specs.Prelude.{ℕ, ◌≡◌, ◌≤◌, ◌+◌, ◌*◌, ◌==◌, ◌&&◌, Bool, true, false, not, List, [], ◌∷◌, find, is_some, if◌then◌else◌, Option, Some, None}
 use Rattle.std.specs.Option.{option_map_or}
 use Rattle.std.proofs.Common.{arith, refl, sym, ap, subst, ◌∙◌}
@@ -29,7 +29,7 @@ use Rattle.mg_script.specs.Turns.{turn_call}
 
 -- A fetch and a call
 
--- the most that is searched for one access is within the most for it and others behind it
+-- the most that is searched for one access is within the most for it and others after it
 served-known : (o : Option Key) (kept : Key → Bool) → option_map_or (λ key. kept key && has_seat [] key) o false ≡ true → option_map_or kept o false ≡ true
 served-known None kept served = served
 served-known (Some key) kept served = (and_parts (kept key) true served).0
@@ -88,7 +88,7 @@ module _ (state : State) (t : ℕ) (thread : ThreadRow) (asked : IsSearchedAsCal
       let first = first-limit kept state fetch made in
       omega arith
 
--- A line that asks for a turn
+-- A line that needs a turn
 
 -- a thread that has a row is found under its number
 pub row-found : (state : State) (t : ℕ) (thread : ThreadRow) → row_of state t ≡ Some thread → thread_of state t ≡ Some (record { number = t; row = thread })
@@ -113,7 +113,7 @@ turn-ok state t thread found ready =
     ap (λ o. is_ok (if is_some o then turn state t else (state, No NoThread)).1) found
     ∙ ap (λ v. is_ok (row state ((not v, NotReady) ∷ []) (turn_state state t, Turned (after_of (turn_state state t) t))).1) ready
 
--- where a line is answered ok and disturbs nothing, its turn is calm
+-- when a line is answered ok and disturbs nothing, its turn is calm
 calm-turn : (ok disturbing calm : Bool) → ok ≡ true → disturbing ≡ not calm → (ok && disturbing) ≡ false → calm ≡ true
 calm-turn ok disturbing true is not quiet = refl
 calm-turn ok disturbing false is not quiet = absurd (false≢true (cc))
@@ -153,7 +153,7 @@ module _ (state : State) (t : ℕ) (thread : Thread) (found : thread_of state t 
   pub turn-within : (kept : Key → Bool) (steps steps' : ℕ) → steps' ≤ steps + turn_limit kept state thread → steps' ≤ steps + line_limit kept state turns
   turn-within kept steps steps' few = limit-line state turns thread turn-accesses turn-words kept steps steps' few
 
--- `turn` where no turn is made
+-- `turn` if no turn is made
 pub no-turn : (state : State) (t : ℕ) (kept : Key → Bool) (steps : ℕ) → turning state t ≡ None → KeepsLine state (record { thread = t; call = call.Turn }) kept kept steps steps
 no-turn state t kept steps none =
     still-line state (record { thread = t; call = call.Turn }) kept steps (ap (λ o. option_map_or (λ x. turn_accesses state x) o []) none) (ap (λ o. option_map_or (λ x. turn_words state x) o 0) none)

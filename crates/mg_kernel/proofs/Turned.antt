@@ -87,7 +87,7 @@ no-row o row some none = cc
 pub row-gone : (v : VolumeHeld) (t : ℕ) → lives_held v t ≡ true → option_map (λ (thread : Thread). thread.row) (find (λ (thread : Thread). thread.number == t) (threads_in v)) ≡ None → ⊥
 row-gone v t lives none = let has = living-row v t lives in no-row (option_map (λ (thread : Thread). thread.row) (find (λ (thread : Thread). thread.number == t) (threads_in v))) has.0 has.1 none
 
--- two changes that make one row of the one that is found
+-- two changes that turn the row that is found into one row
 pub changes-alike : (f g : ThreadRow → ThreadRow) (o : Option Thread) (row : ThreadRow) → option_map (λ (thread : Thread). thread.row) o ≡ Some row → f row ≡ g row → IfSome o (λ thread. f thread.row ≡ g thread.row)
 changes-alike f g None row found same = cc
 changes-alike f g (Some thread) row found same = subst (λ r. f r ≡ g r) (sym (same_Some thread.row row found)) same
@@ -102,14 +102,14 @@ is-ready Ready is = refl
 is-ready Stopped is = cc
 is-ready (Faulted kind) is = cc
 
--- a thread is Ready where its row says so
+-- a thread is Ready if its row says so
 pub ready-row : (state : State) (t : ℕ) (row : ThreadRow) → row_of state t ≡ Some row → thread_is_ready state t ≡ true → row.state ≡ Ready
 ready-row state t row there ready = is-ready row.state (sym (ap (λ (o : Option ThreadRow). option_map_or (λ (r : ThreadRow). is_ready r.state) o false) there) ∙ ready)
 
 pub row-ready : (state : State) (t : ℕ) (row : ThreadRow) (v : ThrState) → row_of state t ≡ Some row → row.state ≡ v → thread_is_ready state t ≡ is_ready v
 row-ready state t row v there is = ap (λ (o : Option ThreadRow). option_map_or (λ (r : ThreadRow). is_ready r.state) o false) there ∙ ap is_ready is
 
--- the effect that a turn begins with is the one that it asks for
+-- the effect that a turn begins with is what it needs
 pub asked-by : (state : State) (t : ℕ) (row : ThreadRow) (fetched : Option ℕ) (asked : Effect) (made : Call) → fetched ≡ fetched_word state t row → ((state : State) (t : ℕ) → turned_on state t row fetched ≡ finished state t (advanced row) asked)
     → made_by row asked ≡ begun row fetched → HasFrames row asked → made ≡ made_by row asked → IsSpelledBy asked made → IsAsked state t row asked
 asked-by state t row fetched asked made is turns begins frames makes spelled = record {
@@ -119,7 +119,7 @@ asked-by state t row fetched asked made is turns begins frames makes spelled = r
   frames = frames;
 }
 
--- The turn of a thread, from the state before it, that behind its call, and that behind its row.
+-- The turn of a thread, from the state before it, that after its call, and that after its row.
 module _ (state middle next : State) (t : ℕ) (row : ThreadRow) (asked : Effect) (made : Call) (reply : Reply) (formed : IsWellFormed state) (there : row_of state t ≡ Some row) (ready : row.state ≡ Ready) (asks : IsAsked state t row asked)
     (makes : made ≡ made_by row asked) (answer : thread_call state t made ≡ (middle, reply)) (goes : next ≡ with_thread middle t (λ r. resumed asked reply r)) where
   called : thread_call state t (turn_call state t row) ≡ (middle, reply)
@@ -200,7 +200,7 @@ module _ (t : ℕ) (change : ThreadRow → ThreadRow) where
       after ∙ ap (λ (r : ThreadRow). as_after r.state) made
       ∙ sym (ap (λ s. after_of s t) is ∙ ap (λ (o : Option ThreadRow). option_map_or (λ (r : ThreadRow). as_after r.state) o ended.Ended) (row-with state.threads row there))
 
-  -- where the thread does not live, nothing changes
+  -- when the thread does not live, nothing changes
   pub no-change : (v : VolumeHeld) (image : Image) → find (λ (thread : Thread). thread.number == t) (threads_in v) ≡ None → now_of v image ≡ with_thread (now_of v image) t change
   no-change v image none =
       let state = now_of v image in

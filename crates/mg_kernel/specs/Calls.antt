@@ -44,7 +44,7 @@ of_living t made = record {
 abbrev pub turn_limit : (Key → Bool) → State → Thread → ℕ
 turn_limit kept state thread = turn_words state thread + searches_limit kept state (turn_accesses state thread)
 
--- A turn was made. Where it is calm, keys are kept by the rules of its accesses.
+-- A turn was made. If it is calm, keys are kept by the rules of its accesses.
 pub record KeepsTurn (state : State) (thread : Thread) (kept kept' : Key → Bool) (steps steps' : ℕ) : Type 0 where
   pub keys : is_calm_turn state (Some thread) ≡ true → KeepsKeys state (turn_accesses state thread) kept kept'
   pub least : steps + turn_words state thread ≤ steps'
@@ -54,14 +54,14 @@ pub record KeepsTurn (state : State) (thread : Thread) (kept kept' : Key → Boo
 abbrev pub IsRowOf : VolumeHeld → ℕ → ThreadRow → Type 0
 IsRowOf v t row = option_map (λ (thread : Thread). thread.row) (find (λ (thread : Thread). thread.number == t) (threads_in v)) ≡ Some row
 
--- what the turn of a thread with this row asks for, by the word that was fetched, and the call that it makes
+-- what the turn of a thread with this row needs, by the word that was fetched, and the call that it makes
 pub record Asks (row : ThreadRow) (fetched : Option ℕ) (effect : Effect) (made : Call) : Type 0 where
   pub turn : (state : State) (t : ℕ) → turned_on state t row fetched ≡ finished state t (advanced row) effect
   pub frames : HasFrames row effect
   pub call : made_by row effect ≡ begun row fetched
   pub value : made ≡ made_by row effect
 
--- What the turn of a Ready thread keeps, one fact a field. Nothing is staged where a call of the disk failed.
+-- What the turn of a Ready thread keeps, one fact a field. Nothing is staged if a call of the disk failed.
 pub record TurnServes {D E : Type 0} (facts : Ghosts D) (t : ℕ) (result : Result After E) (old new : VolumeHeld) (seats seats' : List (Option Seat)) (before after : D) (steps steps' : ℕ) : Type 0 where
   pub state : OnOk result (ForSome (facts.seen before) (λ image. turn_state (now_of old image) t ≡ now_of new image))
   pub left : IfOk result (λ left. ForSome (facts.seen before) (λ image. left ≡ after_of (now_of new image) t))

@@ -53,7 +53,7 @@ seats_in k = k.cache
 unfoldable pub keeps_key : Kernel → Key → Bool
 keeps_key k key = is_kept k.cache key
 
--- whether the key of an access of a thread to an address with a right is kept; the rows that are held tell the object
+-- whether the key of an access of a thread to an address with a right is kept; the rows that are held give the object
 unfoldable pub knows : Kernel → ℕ → ℕ → Right → Bool
 knows k t address right = rows_know (held.objects_in k.volume) k.cache t address right
 
@@ -65,12 +65,12 @@ pub record StandsOn {D : Type 0} (facts : Ghosts D) (k : Kernel) (disk : D) : Ty
   pub fits : ForSome (facts.seen disk) (λ image. IsSpelledBy k image)
   pub backed : ForSome (facts.seen disk) (λ image. AllBacked (now_of k image) (seats_in k))
 
--- where nothing is staged the kernel's state is the one that is kept
+-- when nothing is staged the kernel's state is what is kept
 pub now_kept : (k : Kernel) (image : Image) → IsSpelledBy k image → staged_of k ≡ 0 → volume image ≡ Is (now_of k image)
 unfolding IsSpelledBy staged_of now_of
 now_kept k image is none = laws.now_kept k.volume image is.fitting none
 
--- where the seats stay, each key stays kept
+-- when the seats stay, each key stays kept
 pub same_keys : (a b : Kernel) → seats_in b ≡ seats_in a → (key : Key) → keeps_key b key ≡ keeps_key a key
 unfolding seats_in keeps_key
 same_keys a b same key = ap (λ seats. is_kept seats key) same

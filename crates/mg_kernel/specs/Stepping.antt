@@ -1,4 +1,4 @@
--- What a kernel tells of lines that it stepped, beside what it says and keeps.
+-- What a kernel says of lines that it stepped, beside what it says and keeps.
 use Rattle.std.specs.Prelude.{ℕ, ◌≤◌, ◌+◌, List, []}
 use Rattle.mg_disk.specs.Disk.{Image}
 use Rattle.mg_kernel.specs.declared.kernel.Kernel.{Kernel}

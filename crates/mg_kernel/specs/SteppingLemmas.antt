@@ -1,4 +1,4 @@
--- What a line adds to a session: the keys that are kept behind it, and what it cost.
+-- What a line adds to a session: the keys that are kept after it, and what it cost.
 use Rattle.std.specs.Prelude.{ℕ, ◌≡◌, ◌≤◌, ◌+◌, Bool, List, [], ◌∷◌, ◌++◌, Option}
 use Rattle.std.proofs.Common.{refl, sym, ap, ◌∙◌, arith, subst}
 use Rattle.mg_disk.specs.Disk.{Image}
@@ -24,7 +24,7 @@ pub record GoesOn : Type 0 where
   pub events : EventsGoOn events
   pub costs : CostsGoOn cost
 
--- each key is kept that would be warm behind a line more
+-- each key is kept that would be warm after a line more
 pub warm-more : GoesOn → (s now : State) (ls : List Line) (line : Line) (kept kept' : Key → Bool) (n n' : ℕ) → KeepsWarm (events [] s ls) kept → now ≡ after s ls
     → KeepsLine now line kept kept' n n' → KeepsWarm (events [] s (ls ++ line ∷ [])) kept'
 warm-more laws s now ls line kept kept' n n' warm is keeps =
@@ -68,7 +68,7 @@ pub stopped_line : GoesOn → (k k' : Kernel) (image : Image) (line : Line) (n' 
 stopped_line laws k k' image line n' n'' few old first ls n now st =
     spent-line laws (now_of old first) (now_of k image) ls line (λ key. keeps_key k key) n n' n'' st.warm (sym now) st.spent few
 
--- a commit leaves what was told of the lines
+-- a commit leaves what was said of the lines
 pub stepped_same : (k k' : Kernel) → seats_in k' ≡ seats_in k → (old : Kernel) (first : Image) (ls : List Line) (n n' : ℕ) → IsStepped old first ls n n' k → IsStepped old first ls n n' k'
 stepped_same k k' seats old first ls n n' st = record { warm = warm-same (events [] (now_of old first) ls) k k' seats st.warm; spent = st.spent }
 

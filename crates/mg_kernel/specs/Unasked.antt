@@ -1,4 +1,4 @@
--- Calls of a thread that ask for no right: those of the bank, those on the thread's own frames, those that end or resume a
+-- Calls of a thread that need no right: those of the bank, those on the thread's own frames, those that end or resume a
 -- thread, and `create`.
 use Rattle.std.specs.Prelude.{◌≡◌, ℕ, Bool, true, false, List, Option}
 use Rattle.mg_model.specs.declared.calls.Call.{Call}
@@ -22,7 +22,7 @@ asks_nothing (call.Pay account password to amount) = true
 asks_nothing (call.Balance account password) = true
 asks_nothing other = false
 
--- which seats of the validation cache it ends: where a thread has fewer slots than before, or ends, all of that thread
+-- which seats of the validation cache it ends: if a thread has fewer slots than before, or ends, all of that thread
 abbrev pub EndsUnasked : ℕ → Call → List (Option Seat) → List (Option Seat) → Reply → Type 0
 EndsUnasked t (call.Apddel index) old new reply = Drops (by_thread t) old new reply
 EndsUnasked t call.Ret old new reply = Drops (by_thread t) old new reply

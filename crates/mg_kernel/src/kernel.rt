@@ -42,13 +42,16 @@ impl Kernel {
     /// [`OpenFault::Not`], [`OpenFault::Old`] and [`OpenFault::Damaged`] come exactly if the image that reads give is no
     /// volume, an older one, or a damaged one, and then nothing is written, on every disk; [`OpenFault::Disk`] comes only if
     /// a call of the disk failed. If that image is no sound volume, nothing is written, whatever the answer.
+    ///
+    /// [`OpenFault::Memory`] comes if out of memory: as in [`Volume::open`], or for the validation cache, once the volume is open.
     pub fn open<D: Disk>(alloc: Global, disk: &mut D) -> Result<Kernel, OpenFault>
         ensures opens { IfOk result (λ k. ForSome (D.seen disk.old) (λ image. Opens (volume image) k (D.seen disk.new))) }
         ensures stands { IfOk result (λ k. StandsOn D.Disk k disk.new) }
         ensures staged { IfOk result (λ k. staged_of k ≡ 0) }
         ensures none { IfOk result (λ k. seats_in k ≡ replicate seat_count None) }
         ensures live { IfOk result (λ k. IsTrue (is_live k)) }
-        ensures any_moment { NothingPending D.Disk disk.old → ForSome (D.seen disk.old) (λ image. Leaves D.Disk disk.old disk.new (λ c. volume c ≡ volume image)) }
+        ensures any_moment { NothingPending D.Disk disk.old
+            → ForSome (D.seen disk.old) (λ image. Leaves D.Disk disk.old disk.new (λ c. volume c ≡ volume image)) }
         ensures not { result ≡ Err OpenFault.Not → ForSome (D.seen disk.old) (λ image. volume image ≡ NotVolume) }
         ensures old { result ≡ Err OpenFault.Old → ForSome (D.seen disk.old) (λ image. volume image ≡ OldVolume) }
         ensures damaged { result ≡ Err OpenFault.Damaged → ForSome (D.seen disk.old) (λ image. volume image ≡ Damaged) }
@@ -111,29 +114,37 @@ impl Kernel {
     pub fn probe<D: Disk, L: Ledger>(
         &mut self,
         disk: &mut D,
-        t: u64,
-        a: u64,
-        r: Right,
+        thread: u64,
+        address: u64,
+        right: Right,
         steps: &mut Steps<L>,
     ) -> Result<Option<u64>, Failed>
         requires live { IsTrue (is_live self.old) }
         requires at_most_30_staged { staged_of self.old ≤ 30 }
         requires stands { StandsOn D.Disk self.old disk.old }
-        ensures base { IfOk result (λ base. ForSome (D.seen disk.old) (λ image. base ≡ (if allowed (now_of self.old image) t a r then option_map (λ object. object.row.base) (at (now_of self.old image).objects a) else None))) }
+        ensures base { IfOk result (λ base. ForSome (D.seen disk.old) (λ image. base ≡ (if allowed (now_of self.old image) thread address right then option_map (λ object. object.row.base) (at (now_of self.old image).objects address) else None))) }
         ensures same { ForSome (D.seen disk.old) (λ image. now_of self.new image ≡ now_of self.old image) }
         ensures stands { StandsOn D.Disk self.new disk.new }
         ensures writes { WritesNothing D.Disk disk.old disk.new }
         ensures live { is_live self.new ≡ is_live self.old }
         ensures staged { staged_of self.new ≡ staged_of self.old }
         ensures counted { CountsAlike (words_in self.old) (words_in self.new) steps.old steps.new }
-        ensures keeps { OnOk result (ForSome (D.seen disk.old) (λ image. Validates (now_of self.old image) (record { thread = t; address = a; right = r }) (λ key. keeps_key self.old key) (λ key. keeps_key self.new key) (steps.new - steps.old))) }
-        ensures limit { ForSome (D.seen disk.old) (λ image. steps.new ≤ steps.old + access_limit (λ key. keeps_key self.old key) (now_of self.old image) (record { thread = t; address = a; right = r })) }
-        ensures known { knows self.old t a r ≡ true → (disk.new ≡ disk.old) × (steps.new ≡ steps.old) }
+        ensures keeps { OnOk result (ForSome (D.seen disk.old) (λ image. Validates (now_of self.old image) (record { thread = thread; address = address; right = right }) (λ key. keeps_key self.old key) (λ key. keeps_key self.new key) (steps.new - steps.old))) }
+        ensures limit { ForSome (D.seen disk.old) (λ image. steps.new ≤ steps.old + access_limit (λ key. keeps_key self.old key) (now_of self.old image) (record { thread = thread; address = address; right = right })) }
+        ensures known { knows self.old thread address right ≡ true → (disk.new ≡ disk.old) × (steps.new ≡ steps.old) }
         ensures none { IfOk result (λ base. base ≡ None → seats_in self.new ≡ seats_in self.old) }
         ensures failed { OnErr result (seats_in self.new ≡ seats_in self.old) }
         ensures calls { DiskCalls D.Disk disk.old disk.new result }
     {
-        validate(&mut self.volume, &mut self.cache, disk, t, a, r, steps)
+        validate(
+            &mut self.volume,
+            &mut self.cache,
+            disk,
+            thread,
+            address,
+            right,
+            steps,
+        )
     }
 
     /// Makes the state durable. What is kept of rights stays. With nothing staged no call of the disk is made. After
@@ -170,10 +181,10 @@ impl Kernel {
     }
 
     /// Whether a thread lives. It reads no disk, and nothing changes.
-    pub fn lives(&self, t: u64) -> bool
-        ensures { (image : Image) → result ≡ is_thread (now_of self.now image) t }
+    pub fn lives(&self, thread: u64) -> bool
+        ensures { (image : Image) → result ≡ is_thread (now_of self.now image) thread }
     {
-        match self.volume.frame(t) {
+        match self.volume.frame(thread) {
             Some(_) => true,
             None => false,
         }

@@ -180,7 +180,7 @@ fn go_on(volume: &mut Volume, thread: u64, effect: &Effect, reply: &Reply) -> Af
     }
 }
 
-// The same of a thread that lives, if its row may change in more than its pc, its registers and its state.
+// As [`go_on`], for a thread that lives and whose row may change in more than its pc, its registers and its state.
 fn go_on_whole(volume: &mut Volume, thread: u64, effect: &Effect, reply: &Reply) -> After
     requires place { HasPlace effect.now }
     requires fewer_than_160_staged { staged_of volume.old < body_limit }

@@ -20,11 +20,12 @@ use Rattle.mg_model.specs.State.{Object, ObjectRow, State, Thread}
 abbrev pub KeepsSlots : List Slot → List Slot → Type 0
 KeepsSlots old new = (slot : Slot) → Contains old slot → Contains new slot
 
--- what an object with this base held it holds still
+-- what an object with this base held, it still holds
 abbrev pub KeepsHeld : State → State → ℕ → Type 0
 KeepsHeld old new base = (password : ℕ) (right : Right) → held_at old base password right ≡ true → held_at new base password right ≡ true
 
--- what a step keeps for a seat: the slots of the thread, the entries of the list, what opens the list, and what gives the right
+-- what a step keeps for a seat: the slots of the thread, the entries of the list, the password that opens the list, and the
+-- password that gives the right
 pub record KeepsParts (old new : State) (seat : Seat) : Type 0 where
   pub slots : KeepsSlots (domain_of old seat.thread) (domain_of new seat.thread)
   pub entries : entries_at new seat.via ≡ entries_at old seat.via
@@ -43,7 +44,7 @@ backed_from old new seat keeps backed = record {
   held = keeps.held backed.entry.1 seat.right backed.held;
 }
 
--- a row of the table: where it is refused nothing changes
+-- a row of the table: if it is refused nothing changes
 pub unless_refused-backed : (ended : Seat → Bool) (state : State) (refused : Option Refusal) (done : Answer) → (refused ≡ None → KeepsBacked ended state done.0) → KeepsBacked ended state (unless_refused refused state done).0
 unless_refused-backed ended state None done keeps = keeps refl
 unless_refused-backed ended state (Some word) done keeps = λ seat stays backed. backed
@@ -52,18 +53,18 @@ unless_refused-backed ended state (Some word) done keeps = λ seat stays backed.
 pub same-backed : (ended : Seat → Bool) (state : State) → KeepsBacked ended state state
 same-backed ended state = λ seat stays backed. backed
 
--- one step that ends none, and then another, or the other way round
+-- one step that ends no seat and then another step, or the two in the other order
 pub first-backed : (ended : Seat → Bool) (old mid new : State) → KeepsBacked by_none old mid → KeepsBacked ended mid new → KeepsBacked ended old new
 first-backed ended old mid new first second = λ seat stays backed. second seat stays (first seat refl backed)
 
 pub last-backed : (ended : Seat → Bool) (old mid new : State) → KeepsBacked ended old mid → KeepsBacked by_none mid new → KeepsBacked ended old new
 last-backed ended old mid new first second = λ seat stays backed. second seat refl (first seat stays backed)
 
--- a step that ends none ends none of these
+-- a step that ends no seat ends none of these
 pub none-backed : (ended : Seat → Bool) (old new : State) → KeepsBacked by_none old new → KeepsBacked ended old new
 none-backed ended old new keeps = λ seat stays backed. keeps seat refl backed
 
--- a word from the 512th on is no part of a capability list
+-- a word from word 512 on is no part of a capability list
 entries_from-set : (words : List ℕ) (i value j n : ℕ) → 2 * (j + n) + 2 ≤ i → entries_from (slice_set words i value) j n ≡ entries_from words j n
 entries_from-set words i value j zero high = refl
 entries_from-set words i value j (suc n) high =
@@ -123,7 +124,7 @@ rewritten-base x change object same = cond_both (eqb object.row.base x) _ _ (λ 
 rewritten-words : (x : ℕ) (change : ObjectRow → ObjectRow) (object : Object) → (rewritten x change object).words ≡ object.words
 rewritten-words x change object = cond_both (eqb object.row.base x) _ _ (λ (o : Object). o.words ≡ object.words) (λ _. refl) (λ _. refl)
 
--- a change of the row with base x takes no password away that the object with this base holds
+-- a change of the row with base x takes away no password that the object with this base holds
 abbrev pub TakesNone : ℕ → ℕ → (ObjectRow → ObjectRow) → ℕ → Type 0
 TakesNone period x change base = x ≡ base → (row : ObjectRow) (password : ℕ) (right : Right) → holds period row password right ≡ true → holds period (change row) password right ≡ true
 
@@ -145,7 +146,7 @@ with_row-entries state new x base change objects same =
     (λ o. ap (λ (b : ℕ). eqb b base) (rewritten-base x change o same))
     (λ o _. ap entries_of (rewritten-words x change o))
 
--- a change of the row with base x, which keeps its base, keeps a seat that it takes no password from
+-- a change of the row with base x that keeps its base keeps a seat if it takes no password away from the seat's list or object
 pub with_row-backed : (state new : State) (x : ℕ) (change : ObjectRow → ObjectRow) (seat : Seat) → new.objects ≡ with_row x change state.objects → new.counters.period ≡ state.counters.period → new.threads ≡ state.threads → ((row : ObjectRow) → (change row).base ≡ row.base) → TakesNone state.counters.period x change seat.via → TakesNone state.counters.period x change seat.base → IsBacked state seat → IsBacked new seat
 with_row-backed state new x change seat objects period threads same via base =
     backed_from state new seat (record {
@@ -155,7 +156,7 @@ with_row-backed state new x change seat objects period threads same via base =
       held = with_row-held state new x seat.base change objects period same base;
     })
 
--- where the list and the object are found as before, the period and the threads are as they were, a seat is kept
+-- a seat is kept if its list and its object are found as before, and the period and the threads are as they were
 pub found-backed : (old new : State) (seat : Seat) → new.counters.period ≡ old.counters.period → new.threads ≡ old.threads → based_at new.objects seat.via ≡ based_at old.objects seat.via → based_at new.objects seat.base ≡ based_at old.objects seat.base → IsBacked old seat → IsBacked new seat
 found-backed old new seat period threads via base =
     let held : (at : ℕ) → based_at new.objects at ≡ based_at old.objects at → KeepsHeld old new at = λ at same password right there.
@@ -169,7 +170,7 @@ found-backed old new seat period threads via base =
       held = held seat.base base;
     })
 
--- what a seat rests on: the objects, the period, and the slots of the thread's present frame
+-- a seat rests on the objects, the period, and the slots of the thread's present frame
 pub rests-backed : (old new : State) (seat : Seat) → new.objects ≡ old.objects → new.counters.period ≡ old.counters.period → KeepsSlots (domain_of old seat.thread) (domain_of new seat.thread) → IsBacked old seat → IsBacked new seat
 rests-backed old new seat objects period slots =
     let held : (at : ℕ) → KeepsHeld old new at = λ at password right there.

@@ -1,4 +1,5 @@
--- A seat that is backed is an access that is allowed, and the other way round. A list is found by the words of its first page.
+-- A seat that is backed is an access that is allowed, and the other way round. An address in the first page of a list finds
+-- the list.
 use Rattle.std.proofs.Common.{ℕ, ◌+◌, ◌*◌, ◌<◌, ◌≤◌, ◌≡◌, ◌≢◌, ◌||◌, ◌&&◌, Bool, true, false, eqb, leb, ltb, if◌then◌else◌, List, [], ◌∷◌, get_or, Option, Some, None, refl, sym, ap, ◌∙◌, subst, inl, inr, arith, AllPairs, Contains}
 use Rattle.std.proofs.lemmas.Bool.{and_from, and_parts, cases_lt, cond-true, eq-eqb, eqb-true, false≢true, leb-true, le-leb, lt-ltb, ltb-true, or_left}
 use Rattle.std.proofs.lemmas.List.Elements.{All-contains, at_from_Contains}
@@ -34,7 +35,7 @@ at-based state address object formed there = own-based state object formed (find
 held-found : (state : State) (base password : ℕ) (right : Right) (object : Object) → based_at state.objects base ≡ Some object → held_at state base password right ≡ holds state.counters.period object.row password right
 held-found state base password right object found = ap (λ (o : Option Object). option_map_or (λ (x : Object). holds state.counters.period x.row password right) o false) found
 
--- what a slot gives, where its password opens the list: the entries of the list
+-- what a slot gives if its password opens the list: the entries of the list
 opened_of : (o : Option Object) (test : Object → Bool) → option_map_or test o false ≡ true → option_map_or (λ (x : Object). if test x then entries_of x.words else []) o [] ≡ option_map_or (λ (x : Object). entries_of x.words) o []
 opened_of None test never = absurd (false≢true never)
 opened_of (Some x) test opens = cond-true _ _ _ opens
@@ -42,7 +43,7 @@ opened_of (Some x) test opens = cond-true _ _ _ opens
 entries-opened : (state : State) (slot : Slot) → held_at state slot.base slot.password R ≡ true → entries_under state.objects state.counters.period slot ≡ entries_at state slot.base
 entries-opened state slot opened = opened_of (based_at state.objects slot.base) (λ (x : Object). holds state.counters.period x.row slot.password R) opened
 
--- and where it gives any, its password opens the list
+-- if a slot gives any entry, its password opens the list
 opens_of : (o : Option Object) (test : Object → Bool) (entry : ℕ × ℕ) → Contains (option_map_or (λ (x : Object). if test x then entries_of x.words else []) o []) entry → option_map_or test o false ≡ true
 opens_of None test entry among = let within = among.1 in absurd (omega arith)
 opens_of (Some x) test entry among = by_test (test x) among
@@ -105,7 +106,7 @@ allowed-backed state t address right object formed there may =
     let slot : Slot = any.1 in
     (slot.base, opening-backs state t address right object slot formed there (any.0, any.2, any.3) any.4)
 
--- two objects that have one address are one
+-- two objects that have one address are the same object
 same_object : (state : State) (x y : Object) (address : ℕ) → IsWellFormed state → Contains state.objects x → Contains state.objects y → covers x.row address ≡ true → covers y.row address ≡ true → x.row.base ≡ y.row.base
 same_object state x y address formed among also first second =
     let i = at_from_Contains state.objects x among in
@@ -139,7 +140,7 @@ held-some : (state : State) (base password : ℕ) (right : Right) (o : Option Ob
 held-some state base password right None is held = absurd (false≢true (sym (ap (λ (o : Option Object). option_map_or (λ (x : Object). holds state.counters.period x.row password right) o false) is) ∙ held))
 held-some state base password right (Some object) is held = (object, is)
 
--- the list of a seat whose first page has an address is the object that has it
+-- if the first page of a seat's list has an address, the list is the object that has the address
 word-via : (state : State) (seat : Seat) (address : ℕ) (object : Object) → IsWellFormed state → IsBacked state seat → by_word address seat ≡ true → at state.objects address ≡ Some object → seat.via ≡ object.row.base
 word-via state seat address object formed backed within there =
     let some = held-some state seat.via backed.slot.password R (based_at state.objects seat.via) refl backed.opened in

@@ -1,4 +1,4 @@
--- The calls on words and objects keep seats backed, but for those that they end.
+-- The calls on words and objects keep seats backed, except those that they end.
 use Rattle.std.proofs.Common.{ℕ, ◌+◌, ◌*◌, ◌≤◌, ◌≡◌, ◌≢◌, true, false, not, cond, eqb, ltb, List, [], ◌∷◌, ◌++◌, length, filter, Option, Some, None, refl, sym, ap, ◌∙◌, inl, inr, arith, All}
 use Rattle.std.proofs.lemmas.Bool.{cond_both, cond-false, eqb-false, eqb-true, false≢true, ltb-false, ne_eqb, or_left, or_parts}
 use Rattle.std.proofs.lemmas.List.Folds.{list_any-append}
@@ -25,7 +25,7 @@ use Rattle.mg_model.specs.WellFormed.{IsObject, IsWellFormed}
 pub store-backed : (state : State) (t a value : ℕ) → KeepsBacked (by_word a) state (store state t a value).0
 store-backed state t a value = unless_refused-backed (by_word a) state _ (record state { objects = with_word state.objects a value }, _) (λ _. with_word-backed state a value)
 
--- a change of a row that leaves its base and its passwords
+-- a change of a row that keeps its base and its passwords
 leaves-backed : (state : State) (x : ℕ) (change : ObjectRow → ObjectRow) → ((row : ObjectRow) → (change row).base ≡ row.base) → ((row : ObjectRow) → (change row).passwords ≡ row.passwords) → KeepsBacked by_none state (with_row_at state x change)
 leaves-backed state x change base passwords seat stays =
     let none : (at : ℕ) → TakesNone state.counters.period (row_at state x).base change at = λ at same row password right there.
@@ -51,7 +51,7 @@ entry-backed state t b off =
     (λ row. cond_both (is_entry row address) _ _ (λ (r : ObjectRow). r.base ≡ row.base) (λ _. refl) (λ _. refl))
     (λ row. cond_both (is_entry row address) _ _ (λ (r : ObjectRow). r.passwords ≡ row.passwords) (λ _. refl) (λ _. refl)))
 
--- a password more takes none away
+-- one password more takes none away
 pub pwadd-backed : (state : State) (t b rights : ℕ) (until : Option ℕ) → KeepsBacked by_none state (pwadd state t b rights until).0
 pwadd-backed state t b rights until =
     let new : Pw = record { password = next_password state; rights = rights; until = unwrap_or until never } in
@@ -95,7 +95,7 @@ delete-backed state t b =
     let new : State = record state { objects = without_object base state.objects } in
     unless_refused-backed (by_via base) state _ (new, _) (λ _. gone-backed state base)
 
--- one object more: another base finds what it found
+-- one object more: a search for another base finds the same object as before
 find-with_object : (new : Object) (base : ℕ) (objects : List Object) → new.row.base ≢ base → based_at (with_object new objects) base ≡ based_at objects base
 find-with_object new base [] other = cond-false _ _ _ (ne_eqb _ _ other)
 find-with_object new base (object ∷ objects) other =

@@ -1,4 +1,4 @@
--- A thread's calls, its turns and all lines keep seats backed, but for those that they end.
+-- A thread's calls, its turns and all lines keep seats backed, except those that they end.
 use Rattle.std.proofs.Common.{ℕ, List, [], ◌∷◌, ◌+◌, ◌%◌, if◌then◌else◌, ◌≤◌, ◌≡◌, ◌&&◌, Bool, true, false, not, cond, eqb, ltb, Contains, Option, Some, None, refl, sym, ap, ◌∙◌, subst}
 use Rattle.std.proofs.lemmas.Bool.{cond_both, cond-true, not-false}
 use Rattle.std.proofs.lemmas.Option.{same_Some}
@@ -62,11 +62,11 @@ call-backed state t (call.Pay account password to amount) formed = pay-backed st
 call-backed state t (call.Balance account password) formed = unless_refused-backed by_none state _ (state, _) (λ _. same-backed by_none state)
 call-backed state t _ formed = same-backed _ state
 
--- which seats a call ends is told by the objects
+-- the objects decide which seats a call ends
 same_ended : (old new : State) (t : ℕ) (made : Call) → new.objects ≡ old.objects → ended_by_call new t made ≡ ended_by_call old t made
 same_ended old new t made same = ap (λ objects. let state : State = record old { objects = objects } in ended_by_call state t made) same
 
--- a fault ends none
+-- a fault ends no seat
 faulted-backed : (state : State) (t : ℕ) (kind : Fault) → KeepsBacked by_none state (faulted state t kind)
 faulted-backed state t kind = frames-backed state t (λ thread. record thread { state = Faulted kind }) (λ row is. refl)
 
@@ -170,7 +170,7 @@ picked_among : (threads : List Thread) (c : ℕ) (first : Option Thread) (thread
 picked_among threads c None thread is picks = (find-hit (λ (x : Thread). is_ready x.row.state && ltb 0 x.number) threads thread picks).among
 picked_among threads c (Some other) thread is picks = (find-hit (λ (x : Thread). is_ready x.row.state && ltb c x.number) threads thread (is ∙ picks)).among
 
--- so it is the one that its number finds
+-- so its number finds it
 picked_is : (state : State) (thread : Thread) → IsWellFormed state → Contains state.threads thread → thread_of state thread.number ≡ Some thread
 picked_is state thread formed among =
     find_at_place thread.number state.threads among.0 thread formed.threads.ordered among.1 (ap (λ (x : Thread). x.number) among.2)

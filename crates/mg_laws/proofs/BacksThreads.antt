@@ -1,4 +1,4 @@
--- The calls on domains, threads and accounts keep seats backed, but for those that they end.
+-- The calls on domains, threads and accounts keep seats backed, except those that they end.
 use Rattle.std.proofs.Common.{ℕ, suc, ◌+◌, ◌-◌, ◌<◌, ◌≡◌, ◌≢◌, not, eqb, List, [], ◌∷◌, ◌++◌, drop, filter, length, take, Option, Some, None, refl, sym, ap, ◌∙◌, subst, arith, All, Contains}
 use Rattle.std.proofs.lemmas.Bool.{cond_both, eqb-false, eqb-true, ne_eqb}
 use Rattle.std.proofs.lemmas.List.Elements.{Contains-append_left}
@@ -23,7 +23,7 @@ use Rattle.mg_model.specs.State.{CallFrame, State, Thread, ThreadRow}
 use Rattle.mg_model.specs.Threads.{birth_of, born, end_thread, make_thread, new_thread, resume, with_new_thread}
 use Rattle.mg_model.specs.WellFormed.{IsWellFormed}
 
--- A change of a thread's row keeps the slots of each thread, where it keeps those of the row that the number finds.
+-- A change of a thread's row keeps the slots of each thread if it keeps those of the row that the number finds.
 slots-with_thread : (state : State) (t u : ℕ) (change : ThreadRow → ThreadRow) → ((row : ThreadRow) → u ≡ t → row_of state t ≡ Some row → KeepsSlots (last_slots row.frames) (last_slots (change row).frames)) → KeepsSlots (domain_of state u) (domain_of (with_thread state t change) u)
 slots-with_thread state t u change keeps =
     subst (λ (o : Option Thread). KeepsSlots (domain_of state u) (slots_of o))
@@ -46,12 +46,12 @@ slots-with_thread state t u change keeps =
 threads-backed : (state : State) (t : ℕ) (change : ThreadRow → ThreadRow) (seat : Seat) → ((row : ThreadRow) → seat.thread ≡ t → row_of state t ≡ Some row → KeepsSlots (last_slots row.frames) (last_slots (change row).frames)) → IsBacked state seat → IsBacked (with_thread state t change) seat
 threads-backed state t change seat keeps = rests-backed state (with_thread state t change) seat refl refl (slots-with_thread state t seat.thread change keeps)
 
--- a change of a thread's row that leaves its frames ends none
+-- a change of a thread's row that keeps its frames ends no seat
 pub frames-backed : (state : State) (t : ℕ) (change : ThreadRow → ThreadRow) → ((row : ThreadRow) → row_of state t ≡ Some row → (change row).frames ≡ row.frames) → KeepsBacked by_none state (with_thread state t change)
 frames-backed state t change same seat _ =
     threads-backed state t change seat (λ row _ is slot there. subst (λ (frames : List CallFrame). Contains (last_slots frames) slot) (sym (same row is)) there)
 
--- any change of it ends the seats of the thread alone
+-- any change of it ends only seats of the thread
 pub by_thread-backed : (state : State) (t : ℕ) (change : ThreadRow → ThreadRow) → KeepsBacked (by_thread t) state (with_thread state t change)
 by_thread-backed state t change seat other = threads-backed state t change seat (λ row same. absurd (eqb-false _ _ other same))
 
@@ -71,20 +71,20 @@ apddel-backed state t index =
     let change : ThreadRow → ThreadRow = λ thread. record thread { frames = with_last_slots thread.frames (take index slots ++ drop (suc index) slots) } in
     unless_refused-backed (by_thread t) state _ (with_thread state t change, _) (λ _. by_thread-backed state t change)
 
--- a frame below the last has no say
+-- frames below the last frame do not matter
 last_slots-cons : (frame : CallFrame) (frames : List CallFrame) → 0 < length frames → last_slots (frame ∷ frames) ≡ last_slots frames
 last_slots-cons frame frames some =
     let place : suc (length frames) - 1 ≡ suc (length frames - 1) = omega arith in
     ap (λ (k : ℕ). option_map_or (λ (f : CallFrame). f.slots) (slice_get (frame ∷ frames) k) []) place
 
--- the slots that are put into the last frame, where there is one
+-- the slots that are stored in the last frame, if there is one
 last_slots-put : (frame : CallFrame) (frames : List CallFrame) (slots : List Slot) → last_slots (with_last_slots (frame ∷ frames) slots) ≡ slots
 last_slots-put frame [] slots = refl
 last_slots-put frame (next ∷ frames) slots =
     let long : length (with_last_slots (next ∷ frames) slots) ≡ suc (length frames) = length-with_last_slots (next ∷ frames) slots in
     last_slots-cons frame (with_last_slots (next ∷ frames) slots) (omega arith) ∙ last_slots-put next frames slots
 
--- a slot more takes none away
+-- one slot more takes none away
 more_slots : (frames : List CallFrame) (new : Slot) → KeepsSlots (last_slots frames) (last_slots (with_last_slots frames (last_slots frames ++ new ∷ [])))
 more_slots [] new = λ slot there. there
 more_slots (frame ∷ frames) new = λ slot there.
@@ -103,7 +103,7 @@ resume-backed state t i =
     let change : ThreadRow → ThreadRow = λ thread. record thread { state = Ready } in
     unless_refused-backed by_none state _ (with_thread state i change, _) (λ _. frames-backed state i change (λ row is. refl))
 
--- a thread less: the slots of the others
+-- one thread less: the slots of the others
 pub end-backed : (state : State) (t i : ℕ) → KeepsBacked (by_thread i) state (end_thread state t i).0
 end-backed state t i =
     let new : State = record state { threads = filter (λ (thread : Thread). not (eqb thread.number i)) state.threads } in
@@ -133,7 +133,7 @@ thread-backed state t pc formed =
     (sym (find-with_new_thread seat.thread made state.threads other)) there)
     backed)
 
--- accounts have no say
+-- accounts do not matter
 pub account-backed : (state : State) (account password amount : ℕ) → KeepsBacked by_none state (open_account state account password amount).0
 account-backed state account password amount =
     let new : State = record (drawn state) { accounts = taken_from state.accounts account amount ++ record { password = next_password state; balance = amount; owed = 0 } ∷ [] } in
@@ -144,6 +144,6 @@ pay-backed state account password to amount =
     let new : State = record state { accounts = given_to (taken_from state.accounts account amount) to amount } in
     unless_refused-backed by_none state _ (new, _) (λ _ seat _. rests-backed state new seat refl refl (λ slot there. there))
 
--- a collection of rent ends each: passwords end with the period
+-- a collection of rent ends every seat: passwords end with the period
 pub rent-backed : (state : State) → KeepsBacked by_each state (rent state).0
 rent-backed state seat never = absurd (cc)

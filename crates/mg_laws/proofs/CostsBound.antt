@@ -33,7 +33,7 @@ warm-stays past event kept kept' warm keeps = record {
 
 -- The limit of a line
 
--- what is warm is served
+-- a warm access is served without a search
 warm-served : (past : List Event) (kept : Key → Bool) (state : State) → KeepsWarm past kept → (before : List Access) (access : Access)
     → is_warm past state before access ≡ true → is_served kept state before access ≡ true
 warm-served past kept state warm before access is = by_key (key_of state access) is

@@ -1,4 +1,4 @@
--- The cursor may be moved before a turn or behind it.
+-- The cursor may be moved before a turn or after it.
 use Rattle.std.proofs.Common.{ℕ, suc, ◌+◌, ◌-◌, ◌*◌, ◌++◌, ◌≡◌, Bool, true, false, cond, eqb, not, [], ◌∷◌, filter, length, Option, Some, None, refl, ap, ◌∙◌}
 use Rattle.std.proofs.lemmas.Bool.{cond_both}
 use Rattle.std.specs.Prelude.{drop, nat_lt, take, unwrap_or}

@@ -1,4 +1,4 @@
--- What a search through a list finds, and what it finds where the list was changed.
+-- What a search through a list finds, and what it finds after a change of the list.
 use Rattle.std.proofs.Common.{ℕ, zero, suc, ◌<◌, ◌≡◌, ◌≢◌, Bool, true, false, cond, eqb, List, [], ◌∷◌, get_or, length, map, filter, Option, Some, None, refl, sym, ap, ◌∙◌, arith, All, AllPairs, Contains}
 use Rattle.std.proofs.lemmas.Bool.{cond_both, cond-false, cond-true, eq-eqb, false≢true, ne_eqb}
 use Rattle.std.proofs.lemmas.List.Elements.{All-head, All-tail}
@@ -20,12 +20,12 @@ find-hit test (y ∷ xs) x is =
     (λ _ later. let hit = find-hit test xs x later in record { among = (suc hit.among.0, (let within = hit.among.1 in omega arith), hit.among.2); passes = hit.passes })
     is
 
--- nothing is found where none passes
+-- nothing is found if no element passes
 pub find-none : {X : Type 0} (test : X → Bool) (xs : List X) → All (λ x. test x ≡ false) xs → find test xs ≡ None
 find-none test [] all = refl
 find-none test (x ∷ xs) all = cond-false _ _ _ (All-head (λ y. test y ≡ false) x xs all) ∙ find-none test xs (All-tail (λ y. test y ≡ false) x xs all)
 
--- where each element has a key of its own, the one at a place is found by its key
+-- if each element has a key of its own, the element at a place is found by its key
 pub find_by_key : {X : Type 0} (key : X → ℕ) (xs : List X) (k : ℕ) (d : X) → AllPairs (λ x y. key x ≢ key y) xs → k < length xs → find (λ x. eqb (key x) (key (get_or xs k d))) xs ≡ Some (get_or xs k d)
 find_by_key key [] k d apart within = absurd (omega arith)
 find_by_key key (x ∷ xs) zero d apart within = cond-true _ _ _ (eq-eqb (key x) (key x) refl)
@@ -55,7 +55,7 @@ find-filter test kept keeps (x ∷ xs) =
     fails true passes goes = absurd (false≢true (sym goes ∙ keeps x passes))
     fails false passes goes = refl
 
--- What is read off the element that is found, where a change of each element leaves it.
+-- What is read from the element that is found, if a change of each element leaves it.
 pub read-map : {X Y : Type 0} (test : X → Bool) (f : X → X) (g : X → Y) (d : Y) (xs : List X) → ((x : X) → test (f x) ≡ test x) → ((x : X) → test x ≡ true → g (f x) ≡ g x) → option_map_or g (find test (map f xs)) d ≡ option_map_or g (find test xs) d
 read-map test f g d xs same leaves = ap (λ o. option_map_or g o d) (find-map test f same xs) ∙ by_found (find test xs) refl
   where
@@ -63,7 +63,7 @@ read-map test f g d xs same leaves = ap (λ o. option_map_or g o d) (find-map te
     by_found None is = refl
     by_found (Some x) is = leaves x (find-hit test xs x is).passes
 
--- a test on it that stays passed
+-- a test on that element that still passes
 pub pass-map : {X : Type 0} (test : X → Bool) (f : X → X) (g h : X → Bool) (xs : List X) → ((x : X) → test (f x) ≡ test x) → ((x : X) → test x ≡ true → g x ≡ true → h (f x) ≡ true) → option_map_or g (find test xs) false ≡ true → option_map_or h (find test (map f xs)) false ≡ true
 pass-map test f g h xs same stays passes = ap (λ o. option_map_or h o false) (find-map test f same xs) ∙ by_found (find test xs) refl passes
   where

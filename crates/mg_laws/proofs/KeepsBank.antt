@@ -19,7 +19,7 @@ use Rattle.mg_laws.proofs.Passed.{unrefused}
 use Rattle.mg_model.specs.State.{Object, State}
 use Rattle.mg_model.specs.WellFormed.{AreAccounts, AreObjects, IsAccount, IsWellFormed}
 
--- objects stay as they are where there are as many accounts, or more
+-- objects stay as they are if there are as many accounts as before, or more
 objects-more : (frames before after : ℕ) (objects : List Object) → before ≤ after → AreObjects frames before objects → AreObjects frames after objects
 objects-more frames before after objects more formed = record {
   few = formed.few;

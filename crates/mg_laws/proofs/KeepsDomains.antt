@@ -10,7 +10,7 @@ use Rattle.mg_model.specs.declared.rights.Right.TheVariants.{P}
 use Rattle.mg_model.specs.declared.slots.Slot.{Slot}
 use Rattle.mg_model.specs.Abbreviations.{entered_slots, first_back}
 use Rattle.mg_model.specs.Access.{allowed, at, covers, domain_of, last_slots, thread_of}
-use Rattle.mg_model.specs.Domains.{apdadd, apddel, apdlist, frames_of, kept_from, last_back, pdx, ret, with_last_slots, with_slots, with_thread}
+use Rattle.mg_model.specs.Domains.{apdadd, apddel, frames_of, kept_from, last_back, pdx, ret, with_last_slots, with_slots, with_thread}
 use Rattle.mg_laws.proofs.Keeps.{unless_refused-keeps}
 use Rattle.mg_laws.proofs.KeepsRows.{frames_of-row, thread-formed, with_thread-keeps}
 use Rattle.mg_model.specs.ObjectCalls.{is_aligned, is_entry, no_row, row_at}
@@ -22,7 +22,7 @@ use Rattle.mg_model.specs.WellFormed.{IsObject, IsWellFormed}
 pub aligned_from : (address : ℕ) → not (is_aligned address) ≡ false → address % 8 ≡ 0
 aligned_from address is = eqb-true _ _ (not-false _ is)
 
--- what is found passes on what all have
+-- a fact of all elements holds for the element that is found
 pub find-All : {X : Type 0} (Q : X → Type 0) (test : X → Bool) (xs : List X) (x : X) → All Q xs → find test xs ≡ Some x → Q x
 find-All Q test [] x all is = absurd (cc)
 find-All Q test (y ∷ xs) x all is =
@@ -111,9 +111,6 @@ apddel-keeps state t index formed =
       each = All-append IsSlot (take index slots) (drop (suc index) slots) (All-take IsSlot index slots are.each) (All-drop IsSlot (suc index) slots are.each);
     }))
 
-pub apdlist-keeps : (state : State) (t : ℕ) → IsWellFormed state → IsWellFormed (apdlist state t).0
-apdlist-keeps state t formed = formed
-
 -- the slots of a frame that a `pdx` makes
 All-kept_from : (mask j : ℕ) (slots : List Slot) → All IsSlot slots → All IsSlot (kept_from mask j slots)
 All-kept_from mask j [] all = all
@@ -139,7 +136,7 @@ entered_slots-formed state t a mask formed =
     (All-kept_from mask 0 (domain_of state t) (domain_of-formed state t formed).each)
     (extension_of_object state.objects a (at state.objects a) formed.objects.each refl)
 
--- a frame more
+-- one frame more
 entered-keeps : (state : State) (t a : ℕ) (slots : List Slot) → IsWellFormed state → IsWord a → a % 8 ≡ 0 → AreSlots slots → length (frames_of state t) < 16 →
     IsWellFormed (with_thread state t (λ thread. record thread { pc = a; frames = thread.frames ++ record { back = thread.pc; slots = slots } ∷ [] }))
 entered-keeps state t a slots formed word aligned are room =
@@ -176,7 +173,7 @@ pdx-keeps state t a mask formed word =
     (record { few = ltb-false _ _ to_end.0; each = entered_slots-formed state t a mask formed })
     (leb-false _ _ to_slots.0))
 
--- where a frame returns to is the address of a word
+-- the address that a frame returns to is that of a word
 pub record IsAddress (n : ℕ) : Type 0 where
   pub word : IsWord n
   pub aligned : n % 8 ≡ 0
@@ -190,7 +187,7 @@ back_of_frame frames n (Some frame) all is =
 pub last_back-formed : (frames : List CallFrame) → All IsCallFrame frames → IsAddress (last_back frames)
 last_back-formed frames all = back_of_frame frames (length frames - 1) (slice_get frames (length frames - 1)) all refl
 
--- a frame less
+-- one frame less
 returned-keeps : (state : State) (t : ℕ) → IsWellFormed state → 1 < length (frames_of state t) →
     IsWellFormed (with_thread state t (λ thread. record thread { pc = last_back thread.frames; frames = take (length thread.frames - 1) thread.frames }))
 returned-keeps state t formed more =

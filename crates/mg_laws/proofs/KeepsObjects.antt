@@ -84,7 +84,7 @@ given_until period (Some until) past =
     let below = leb-false never until parts.1 in
     (omega arith, omega arith)
 
--- a password more
+-- one password more
 password-added : (state : State) (b rights : ℕ) (until : Option ℕ) → IsWellFormed state → IsRights rights → is_past state.counters.period until ≡ false → length (row_at state b).passwords < 32 → all_drawn state ≡ false
     → IsWellFormed (with_row_at (drawn state) b (λ object. record object { passwords = object.passwords ++ record { password = next_password state; rights = rights; until = unwrap_or until never } ∷ [] }))
 password-added state b rights until formed some past room left =
@@ -143,7 +143,7 @@ pwdel-keeps state t b password formed =
       paid = paid.paid;
     })))
 
--- an entry more, at the end, that is none of the others
+-- one entry more, at the end, that is none of the others
 entry-added : (accounts address : ℕ) (row : ObjectRow) → IsPaidRow accounts row → IsEntryOf row.base row.pages address → length row.entries < 16 → is_entry row address ≡ false → IsPaidRow accounts (record row { entries = row.entries ++ address ∷ [] })
 entry-added accounts address row paid inside room new =
     let few = length_push row.entries address in
@@ -224,7 +224,7 @@ ext-keeps state t b clist password formed base word =
       paid = paid.paid;
     })))
 
--- another account pays, one that is there
+-- another account pays, which is there
 recharged : (state : State) (b account : ℕ) → IsWellFormed state → 1 ≤ account → account ≤ length state.accounts → IsWellFormed (with_row_at state b (λ object. record object { account = account }))
 recharged state b account formed some there =
     let change = λ (object : ObjectRow). record object { account = account } in

@@ -1,4 +1,4 @@
--- A change of one thread's row keeps the state well formed where the row stays one, with its birth and its creator.
+-- A change of one thread's row keeps the state well formed if the row stays a row of a thread, with its birth and its creator.
 use Rattle.std.proofs.Common.{ℕ, zero, suc, ◌<◌, ◌≤◌, ◌≡◌, ◌≢◌, cond, eqb, List, [], ◌∷◌, length, get_or, map, Option, Some, None, refl, sym, ap, ◌∙◌, subst, arith}
 use Rattle.std.proofs.lemmas.Bool.{cond_both, cond-true, cond-false, eq-eqb, eqb-true, ne_eqb}
 use Rattle.std.proofs.lemmas.List.{get_or-map, length-map}
@@ -34,7 +34,7 @@ AllPairs-map R f xs pairs i j d below within =
     let before : i < length xs = omega arith in
     rw (get_or-map f xs i d d before, get_or-map f xs j d d inside) (pairs i j d below inside)
 
--- in the order of the numbers, the thread at a place is the one that its number finds
+-- in the order of the numbers, the thread at a place is the thread that its number finds
 pub find_at_place : (t : ℕ) (threads : List Thread) (k : ℕ) (d : Thread) → AllPairs IsBelow threads → k < length threads → (get_or threads k d).number ≡ t →
     find (λ (thread : Thread). eqb thread.number t) threads ≡ Some (get_or threads k d)
 find_at_place t [] k d pairs within same = absurd (omega arith)
@@ -45,7 +45,7 @@ find_at_place t (x ∷ xs) (suc k) d pairs within same =
     let other : x.number ≢ t = omega arith in
     cond-false _ _ _ (ne_eqb _ _ other) ∙ find_at_place t xs k d (AllPairs-tail IsBelow x xs pairs) inside same
 
--- what a number finds stands at a place, and has the number
+-- the thread that a number finds is at a place, and has the number
 pub record IsFound (t : ℕ) (threads : List Thread) (thread : Thread) : Type 0 where
   pub place : ℕ
   pub within : place < length threads
@@ -88,7 +88,7 @@ row-formed state t row formed is =
     let w = thread_with_row (thread_of state t) row is in
     subst IsThreadRow w.2 (thread-formed state.counters.births state.threads t w.0 formed.threads w.1).row
 
--- the change keeps the row that the thread has
+-- the change keeps the row of the thread in its rules
 abbrev pub KeepsRowOf : State → ℕ → (ThreadRow → ThreadRow) → Type 0
 KeepsRowOf state t change = (row : ThreadRow) → row_of state t ≡ Some row → IsThreadRow row → KeepsRow row (change row)
 

@@ -87,7 +87,7 @@ distinct-with_new_thread new (x ∷ xs) distinct before =
     (All-with_new_thread (HasOtherBirth x) new xs (omega arith) (AllPairs-head HasOtherBirth x xs distinct))
     (distinct-with_new_thread new xs (AllPairs-tail HasOtherBirth x xs distinct) (All-tail (λ (thread : Thread). thread.row.birth < new.row.birth) x xs before)))
 
--- another number finds what it found
+-- a search for another number finds the same thread as before
 pub find-with_new_thread : (t : ℕ) (new : Thread) (threads : List Thread) → new.number ≢ t →
     find (λ (thread : Thread). eqb thread.number t) (with_new_thread new threads) ≡ find (λ (thread : Thread). eqb thread.number t) threads
 find-with_new_thread t new [] other = cond-false _ _ _ (ne_eqb _ _ other)

@@ -1,4 +1,4 @@
--- What an edit of the accounts keeps: each is well formed, and what one gives another gets.
+-- What an edit of the accounts keeps: each is well formed, and what one account gives another gets.
 use Rattle.std.proofs.Common.{◌≡◌, ℕ, zero, suc, ◌+◌, ◌-◌, ◌≤◌, ◌==◌, Bool, true, false, List, [], ◌∷◌, length, get_or, sum_by, All, Option, Some, None, is_some, refl, ap, subst, arith}
 use Rattle.std.proofs.lemmas.List.{length-set}
 use Rattle.std.proofs.lemmas.List.Elements.{All-set}
@@ -16,12 +16,12 @@ account_of-there accounts zero some within = absurd (omega arith)
 account_of-there [] (suc place) some within = absurd (omega arith)
 account_of-there (row ∷ accounts) (suc place) some within = ap is_some (slice_get-get_or (row ∷ accounts) place row (omega arith))
 
--- where a test passes there is a value
+-- if a test on a value passes, there is a value
 tested : {X : Type 0} (test : X → Bool) (o : Option X) → option_map_or test o false ≡ true → (x : X) × (o ≡ Some x)
 tested test None passes = absurd (cc)
 tested test (Some x) passes = (x, refl)
 
--- what opens an account opens one that is there
+-- an account that a password opens is there
 pub opens-row : (accounts : List AccRow) (number password : ℕ) → opens accounts number password ≡ true → (row : AccRow) × (account_of accounts number ≡ Some row)
 opens-row accounts number password opened = tested (λ (row : AccRow). row.password == password) (account_of accounts number) opened
 
@@ -35,7 +35,7 @@ opens-number accounts number password opened =
 abbrev pub total : List AccRow → ℕ
 total accounts = sum_by (λ (row : AccRow). row.balance) accounts
 
--- accounts after an edit that took so much from them and gave them so much
+-- accounts after an edit that took some credits from them and gave them some
 pub record IsEdited (period : ℕ) (accounts after : List AccRow) (taken given : ℕ) : Type 0 where
   pub long : length after ≡ length accounts
   pub each : All (IsAccount period) after

@@ -1,4 +1,4 @@
--- What an edit of the objects keeps: each is well formed, they lie in order and apart, and they fit.
+-- What an edit of the objects keeps: each is well formed, they are in order and apart, and they fit.
 use Rattle.std.proofs.Common.{◌≡◌, ℕ, suc, ◌+◌, ◌/◌, ◌<◌, ◌≤◌, ◌-◌, ◌==◌, nat_lt, if◌then◌else◌, true, not, List, [], ◌∷◌, map, length, slice_set, All, AllPairs, refl, ap, inl, inr, arith}
 use Rattle.std.proofs.lemmas.Bool.{cond_both, eqb-true, ltb-false, ltb-true}
 use Rattle.std.proofs.lemmas.List.{length-map, length-set}
@@ -39,7 +39,7 @@ used-with_object new (object ∷ objects) =
     (λ _. omega (arith, used-cons new (object ∷ objects)))
     (λ _. omega (arith, used-cons object (with_object new objects), used-cons object objects, used-with_object new objects))
 
--- where the new object lies apart from each, it comes before those with a higher base
+-- if the new object is apart from each, it comes before those with a higher base
 before_higher : (new object : Object) → IsObject new → IsObject object → IsApart (page_of new.row) new.row.pages object → new.row.base < object.row.base → IsBefore new object
 before_higher new object formed other apart higher =
     let some = other.row.place.some in
@@ -101,7 +101,7 @@ before_kept x y u v first second before =
     let c = first.pages in
     omega arith
 
--- each object changed, but for its place
+-- each object changed, except for its place
 pub AreObjects-map : (frames accounts : ℕ) (change : Object → Object) (objects : List Object) → ((object : Object) → HasPlaceOf (change object).row object.row) → All (λ object. IsObject (change object)) objects → All (λ object. (change object).row.account ≤ accounts) objects → AreObjects frames accounts objects → AreObjects frames accounts (map change objects)
 AreObjects-map frames accounts change objects placed each paid formed =
     let few = formed.few in
@@ -114,7 +114,7 @@ AreObjects-map frames accounts change objects placed each paid formed =
       fit = omega (arith, sum_by-change (λ (object : Object). object.row.pages) change (λ object. (placed object).pages) objects);
     }
 
--- a row that is well formed and paid by an account that is there
+-- a row that is well formed, and that an account which is there pays for
 pub record IsPaidRow (accounts : ℕ) (row : ObjectRow) : Type 0 where
   pub formed : IsObjectRow row
   pub paid : row.account ≤ accounts
@@ -129,7 +129,7 @@ rewritten-placed base change places object =
     (λ _. places object.row)
     (λ _. record { base = refl; pages = refl })
 
--- an object that is well formed, and paid by an account that is there
+-- an object that is well formed, and that an account which is there pays for
 record IsPaid (accounts : ℕ) (object : Object) : Type 0 where
   formed : IsObject object
   paid : object.row.account ≤ accounts

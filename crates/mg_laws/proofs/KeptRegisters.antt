@@ -1,4 +1,4 @@
--- What an instruction does to a thread's row keeps it one: registers stay words, and the pc the address of a word.
+-- An instruction keeps a thread's row in its rules: registers stay words, and the pc the address of a word.
 use Rattle.std.proofs.Common.{ℕ, ◌+◌, ◌/◌, ◌%◌, ◌^◌, ◌<◌, ◌≡◌, Bool, true, false, eqb, ltb, List, [], ◌∷◌, length, get_or, Option, Some, refl, sym, ◌∙◌, subst, arith, All, length-set, ⊎_elim}
 use Rattle.std.proofs.lemmas.Bool.{cases_lt, cond_both}
 use Rattle.std.proofs.lemmas.List.{get_or_past}
@@ -28,9 +28,6 @@ register-word row k is = word-in_list row.regs k is.registers
 
 pub kept_same : (row : ThreadRow) → IsThreadRow row → KeepsRow row row
 kept_same row is = record { row = is; birth = refl; creator = refl }
-
-pub kept_then : (row next last : ThreadRow) → KeepsRow row next → KeepsRow next last → KeepsRow row last
-kept_then row next last kept then = record { row = then.row; birth = then.birth ∙ kept.birth; creator = then.creator ∙ kept.creator }
 
 pub kept_register : (row next : ThreadRow) (k value : ℕ) → KeepsRow row next → IsWord value → KeepsRow row (with_register next k value)
 kept_register row next k value kept word =

@@ -1,4 +1,4 @@
--- The row that an address names is that of one object alone, so a change of it keeps the objects well formed.
+-- The row that an address names belongs to one object alone, so a change of it keeps the objects well formed.
 use Rattle.std.proofs.Common.{◌≡◌, ◌≢◌, ℕ, List, [], ◌∷◌, length, All, AllPairs, Option, Some, refl, sym, subst, arith}
 use Rattle.std.proofs.lemmas.Bool.{cond_both}
 use Rattle.std.proofs.lemmas.List.Elements.{All-cons, All-head, All-nil, All-tail, All-weaker}
@@ -10,11 +10,11 @@ use Rattle.mg_model.specs.ObjectCalls.{no_row, row_at, with_row_at}
 use Rattle.mg_model.specs.State.{Object, ObjectRow, State}
 use Rattle.mg_model.specs.WellFormed.{AreObjects, IsBefore, IsObject, IsWellFormed}
 
--- the row of an object, where there is one
+-- the row of an object, if there is one
 abbrev row_in : Option Object → ObjectRow
 row_in found = option_map_or (λ (object : Object). object.row) found no_row
 
--- what all rows keep, and the row of no object too, holds of the one that is found
+-- what holds for all rows, and for the row of no object, holds for the row that is found
 found-holds : (P : ObjectRow → Type 0) (objects : List Object) (address : ℕ) → P no_row → All (λ (object : Object). P object.row) objects → P (row_in (at objects address))
 found-holds P [] address none all = none
 found-holds P (object ∷ objects) address none all =
@@ -22,7 +22,7 @@ found-holds P (object ∷ objects) address none all =
     (λ _. All-head (λ (object : Object). P object.row) object objects all)
     (λ _. found-holds P objects address none (All-tail (λ (object : Object). P object.row) object objects all))
 
--- no object behind this one has its base
+-- no object after this one has its base
 pub other_base : (object other : Object) → IsObject object → IsBefore object other → object.row.base ≢ other.row.base
 other_base object other formed before same = let some = formed.row.place.some in absurd (omega arith)
 
@@ -47,7 +47,7 @@ only_found (object ∷ objects) address each pairs =
 pub row_at-only : (state : State) (address : ℕ) → IsWellFormed state → All (IsOnly (row_at state address)) state.objects
 row_at-only state address formed = only_found state.objects address formed.objects.each formed.objects.apart
 
--- A change that keeps the places needs only this: it keeps that row well formed.
+-- For a change that keeps the places it is enough to keep that row well formed.
 pub AreObjects-with_row_at : (state : State) (address : ℕ) (change : ObjectRow → ObjectRow) → IsWellFormed state → ((row : ObjectRow) → HasPlaceOf (change row) row) → (IsPaidRow (length state.accounts) (row_at state address) → IsPaidRow (length state.accounts) (change (row_at state address))) → AreObjects state.settings.frames (length state.accounts) (with_row_at state address change).objects
 AreObjects-with_row_at state address change formed places keeps =
     let accounts = length state.accounts in

@@ -24,7 +24,7 @@ one_or_none true (Some key) P none one = one key refl
 by_taken : (state : State) (access : Access) (P : List Key → Type 0) → P [] → ((key : Key) → taken state access ≡ key ∷ [] → P (key ∷ [])) → P (taken state access)
 by_taken state access P none one = one_or_none (is_allowed state access) (key_of state access) P none one
 
--- the one key that took a seat leaves the seat to a key: it is that key, or has another seat
+-- if one key took a seat and the seat is left to a key, then it is that key, or has another seat
 own_or_other : (x key : Key) (P : Type 0) → has_seat (x ∷ []) key ≡ true → (x ≡ key → P) → (is_elsewhere (x ∷ []) key ≡ true → P) → P
 own_or_other x key P leaves own other =
     by_test (is_key x key) refl (not (eqb (seat_of x) (seat_of key))) refl (and_parts (is_key x key || not (eqb (seat_of x) (seat_of key))) true leaves).0
@@ -72,13 +72,13 @@ searches-keep_keys state kept (access ∷ more) kept' words (middle, first, rest
           last_is_kept (taken_by state more) (taken state access) middle kept' later.stays later.comes (λ other there. validates-comes state access kept middle first v other there) key is;
     }
 
--- the keys of an access more
+-- the keys of one access more
 taken_by-push : (state : State) (before : List Access) (access : Access) → taken_by state (before ++ access ∷ []) ≡ taken state access ++ taken_by state before
 taken_by-push state [] access = sym (append-nil (taken state access))
 taken_by-push state (x ∷ before) access =
     ap (λ v. v ++ taken state x) (taken_by-push state before access) ∙ append_assoc (taken state access) (taken_by state before) (taken state x)
 
--- behind these accesses of a line each key is kept that was kept before it and whose seat no other took
+-- after these accesses of a line each key is kept that was kept before it and whose seat no other key took
 abbrev StillKeeps : State → (Key → Bool) → List Access → (Key → Bool) → Type 0
 StillKeeps state kept before now = (key : Key) → kept key ≡ true → has_seat (taken_by state before) key ≡ true → now key ≡ true
 
@@ -97,7 +97,7 @@ served-known state kept now before access still served = by_key (key_of state ac
     by_key None is = is
     by_key (Some key) is = let both = and_parts (kept key) (has_seat (taken_by state before) key) is in still key both.0 both.1
 
--- what is searched for one access is nothing, or no more than a whole search
+-- for one access no word is searched, or at most a whole search
 one-few : (known served : Bool) (words : ℕ) → (served ≡ true → known ≡ true) → words ≤ cond known 0 search_limit → words ≤ search_limit * cond served 0 1
 one-few true true words implies few = few
 one-few true false words implies few = omega arith
@@ -119,7 +119,7 @@ searches-keep_rules state kept made kept' words searches = record {
   few = searches-few state kept kept [] made kept' words (λ key was _. was) searches;
 }
 
--- the same rule, where the same keys are kept
+-- the same rule, if the same keys are kept
 same_kept : (state : State) (access : Access) (kept now kept' : Key → Bool) (words : ℕ) → ((key : Key) → now key ≡ kept key) → Validates state access now kept' words → Validates state access kept kept' words
 same_kept state access kept now kept' words same v = record {
   own = v.own;
@@ -137,9 +137,10 @@ searches-go_on state kept [] middle words access kept' more (same, none) v =
 searches-go_on state kept (x ∷ made) middle words access kept' more (now, first, rest, sum, w, searches) v =
     (now, first, rest + more, omega arith, w, searches-go_on state now made middle rest access kept' more searches v)
 
--- An access, and more behind it
+-- An access, and more after it
 
--- an access that is served behind others and behind one more was served behind those, by the keys kept behind that one
+-- an access that is served after one access and others is also served after the others alone, by the keys that are kept
+-- after that one access
 served-later : (state : State) (access : Access) (kept middle : Key → Bool) (first : ℕ) → Validates state access kept middle first → (before : List Access) (later : Access) → is_served kept state (access ∷ before) later ≡ true
     → is_served middle state before later ≡ true
 served-later state access kept middle first v before later served = by_key (key_of state later) served
@@ -151,7 +152,7 @@ served-later state access kept middle first v before later served = by_key (key_
         let seats = has_seat-append key (taken_by state before) (taken state access) both.1 in
         and_from (middle key) (has_seat (taken_by state before) key) (validates-stays state access kept middle first v key both.0 seats.1) seats.0
 
--- fewer fail a test that each passes which passes the other
+-- if each access that passes one test passes another, fewer accesses fail the other test
 fewer-fail : (access : Access) (test other : List Access → Access → Bool) → ((before : List Access) (later : Access) → test (access ∷ before) later ≡ true → other before later ≡ true) → (before more : List Access)
     → failing other before more ≤ failing test (access ∷ before) more
 fewer-fail access test other passes before [] = omega arith

@@ -60,7 +60,7 @@ none-elsewhere key (x ∷ xs) none =
     (λ other rest. and_from (not (eqb (seat_of x) (seat_of key))) (is_elsewhere xs key) (not_from_false (eqb (seat_of x) (seat_of key)) other) (none-elsewhere key xs rest))
     none
 
--- they leave it to the key
+-- such keys leave the seat to the key
 pub elsewhere-has_seat : (key : Key) (keys : List Key) → is_elsewhere keys key ≡ true → has_seat keys key ≡ true
 elsewhere-has_seat key [] all = refl
 elsewhere-has_seat key (x ∷ xs) all =
@@ -75,7 +75,7 @@ has_seat-append key new old all =
 pub first-append : (seat : ℕ) (new old : List Key) → first_at seat (new ++ old) ≡ option_or (first_at seat new) (first_at seat old)
 first-append seat new old = find-append (λ key. eqb (seat_of key) seat) new old
 
--- a key that has its seat now, before keys that leave it to it
+-- a key that has its seat now, before keys that leave the seat to it
 pub seat-first : (key : Key) (new old : List Key) → has_seat new key ≡ true → first_at (seat_of key) old ≡ Some key → first_at (seat_of key) (new ++ old) ≡ Some key
 seat-first key [] old leaves is = is
 seat-first key (x ∷ xs) old leaves is =
@@ -92,7 +92,7 @@ seat-first key (x ∷ xs) old leaves is =
         left false true same either = absurd (false≢true either)
         left false false same either = absurd (false≢true same)
 
--- what stands before the key that has a seat leaves the seat to it
+-- the keys before the key that has a seat leave the seat to it
 pub record Splits (keys : List Key) (key : Key) : Type 0 where
   pub after : List Key
   pub before : List Key
@@ -119,7 +119,7 @@ pub splits-first : (key : Key) (after before : List Key) → has_seat after key 
 splits-first key after before leaves =
     seat-first key after (key ∷ before) leaves (cond_both (eqb (seat_of key) (seat_of key)) (Some key) (first_at (seat_of key) before) (λ o. o ≡ Some key) (λ _. refl) (λ other. absurd (false≢true (sym other ∙ eq-eqb (seat_of key) (seat_of key) refl))))
 
--- Of new keys and old ones the last with a seat is kept, where new ones come and old ones stay.
+-- Of new keys and old keys the last with a seat is kept, if new keys come and old keys stay.
 pub last_is_kept : (new old : List Key) (kept kept' : Key → Bool) → ((key : Key) → kept key ≡ true → has_seat new key ≡ true → kept' key ≡ true)
     → ((key : Key) → first_at (seat_of key) new ≡ Some key → kept' key ≡ true) → ((key : Key) → first_at (seat_of key) old ≡ Some key → kept key ≡ true)
     → (key : Key) → first_at (seat_of key) (new ++ old) ≡ Some key → kept' key ≡ true

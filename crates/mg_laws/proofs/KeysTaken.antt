@@ -1,4 +1,4 @@
--- A key is recent exactly where an earlier line took it, nothing disturbed since, and no other key took its seat since.
+-- A key is recent exactly if an earlier line took it, nothing disturbed since, and no other key took its seat since.
 use Rattle.std.proofs.Common.{◌≡◌, true, List, [], ◌∷◌, ◌++◌, Option, Some, None, refl, sym, ap, ◌∙◌, All, append_assoc}
 use Rattle.std.proofs.lemmas.Bool.{cond-false, cond_both}
 use Rattle.std.proofs.lemmas.List.Elements.{All-cons, All-head, All-nil, All-tail}
@@ -18,7 +18,7 @@ recent-last past key is = last_is key (first_at (seat_of key) (recent past)) is
 pub last-recent : (past : List Event) (key : Key) → IsLast past key → is_recent past key ≡ true
 last-recent past key is = is_last key (first_at (seat_of key) (recent past)) is
 
--- the line took it last
+-- the line took the key last
 taken-here : (event : Event) (past : List Event) (key : Key) → DisturbsNothing event → first_at (seat_of key) (taken_in event) ≡ Some key → WasTaken (event ∷ past) key
 taken-here event past key quiet first =
     let s = first-splits key (taken_in event) first in record {
@@ -35,7 +35,7 @@ taken-here event past key quiet first =
       seats = All-nil (λ other. has_seat (taken_in other) key ≡ true);
     }
 
--- an earlier one did, and this line left it
+-- an earlier line did, and this line left it
 taken-earlier : (event : Event) (past : List Event) (key : Key) → DisturbsNothing event → has_seat (taken_in event) key ≡ true → WasTaken past key → WasTaken (event ∷ past) key
 taken-earlier event past key quiet leaves w = record {
   later = event ∷ w.later;

@@ -17,7 +17,7 @@ use Rattle.mg_model.specs.WellFormed.{HasRanges, IsInRange}
 use Rattle.mg_model.specs.Words.{and_then, below_word, hex_part, is_newline, letter_weight, number_of, numbers_of, rights_of, same_bytes, split_at, value_of_digits, words}
 use Rattle.mg_model.specs.StepwiseLemmas.{rights_from, rights_of-from}
 
--- what follows of an option holds of what follows of its value
+-- a fact of each result for a value holds for the result of an option
 and_then-some : {X Y : Type 0} (Q : Y → Type 0) (o : Option X) (f : X → Option Y) → ((x : X) → o ≡ Some x → ForSome (f x) Q) → ForSome (and_then o f) Q
 and_then-some Q None f each = λ y none. absurd (cc)
 and_then-some Q (Some x) f each = each x refl
@@ -78,7 +78,7 @@ rights_of-rights (b ∷ bytes) =
     (λ _ other none. absurd (cc))
     (λ other. rights_from-rights (0 + weight) bytes (letter_weight-bits b 0 (omega arith) weight found (eqb-false _ _ other)))))
 
--- a call of so many numbers
+-- a call of n numbers
 form0-ranges : (made : Call) → HasRanges made → (args : List (List ℕ)) → HasRanges (form0 made args)
 form0-ranges made ranges [] = ranges
 form0-ranges made ranges (word ∷ more) = tt

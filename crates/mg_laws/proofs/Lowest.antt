@@ -1,4 +1,4 @@
--- The lowest free pages: they are there, they meet no object, and no lower pages meet none.
+-- The lowest free pages: they exist, they meet no object, and no lower pages meet none.
 use Rattle.std.proofs.Common.{◌≡◌, ℕ, ◌+◌, ◌*◌, ◌<◌, ◌≤◌, ◌⊎◌, nat_le, Bool, true, min, List, [], ◌∷◌, map, filter, length, All, AllPairs, subst, inl, inr, arith}
 use Rattle.std.proofs.lemmas.Bool.{cases_lt, cond_both, le-leb, leb-true, or_cases, or_left, or_right}
 use Rattle.std.proofs.lemmas.List.Elements.{All-cons, All-filter, All-head, All-nil, All-tail, All-weaker, filter_passes}
@@ -12,7 +12,7 @@ use Rattle.mg_model.specs.Objects.{is_free, least, lowest_free, page_behind, pag
 use Rattle.mg_model.specs.State.{Object}
 use Rattle.mg_model.specs.WellFormed.{AreObjects, IsBefore, IsObject}
 
--- so many pages from this one on lie before the object or behind it
+-- the n pages from this one on are before the object or after it
 abbrev pub IsApart : ℕ → ℕ → Object → Type 0
 IsApart page n object = (page + n ≤ page_of object.row) ⊎ (page_behind object.row ≤ page)
 
@@ -30,7 +30,7 @@ apart-is_apart page n object apart =
       | inr behind ↦ or_right (nat_le (page + n) (page_of object.row)) (nat_le (page_behind object.row) page) (le-leb (page_behind object.row) page behind)
     ]
 
--- pages are free where they lie apart from each object
+-- pages are free if they are apart from each object
 pub is_free-true : (objects : List Object) (n page : ℕ) → is_free objects n page ≡ true → All (IsApart page n) objects
 is_free-true objects n page free =
     All-weaker (λ object. is_apart page n object ≡ true) (IsApart page n) (is_apart-true page n) objects (AllPass-from_list_all (λ object. is_apart page n object) objects free)
@@ -39,7 +39,7 @@ pub apart-is_free : (objects : List Object) (n page : ℕ) → All (IsApart page
 apart-is_free objects n page apart =
     list_all-from_AllPass (λ object. is_apart page n object) objects (All-weaker (IsApart page n) (λ object. is_apart page n object ≡ true) (apart-is_apart page n) objects apart)
 
--- the less of two numbers is one of them
+-- the smaller of two numbers is one of them
 min-holds : (P : ℕ → Type 0) (n m : ℕ) → P n → P m → P (min n m)
 min-holds P n m first second =
     elim (cases_lt n m) [
@@ -47,7 +47,7 @@ min-holds P n m first second =
       | inr more ↦ (let e : m ≡ min n m = omega arith in subst P e second)
     ]
 
--- what holds of each number holds of the least
+-- what holds for each number holds for the least
 pub least-holds : (P : ℕ → Type 0) (n : ℕ) (ms : List ℕ) → P n → All P ms → P (least n ms)
 least-holds P n [] first all = first
 least-holds P n (m ∷ ms) first all = least-holds P (min n m) ms (min-holds P n m first (All-head P m ms all)) (All-tail P m ms all)
@@ -112,8 +112,8 @@ lowest_free-least objects n page low free =
     let up = found.1.holds (apart-is_free objects n found.0 apart) in
     omega arith
 
--- Going up from a page that lies before all objects, the first gap that is wide enough is not far: each object and the
--- gap before it take less than its pages and 1024.
+-- Going up from a page before all objects, the first gap that is wide enough is not far: each object and the gap before it
+-- take less than the object's pages and 1024.
 some_free : (n p : ℕ) (objects : List Object) → n ≤ 1024 → AllPairs IsBefore objects → All (λ (object : Object). p ≤ page_of object.row) objects → (c : ℕ) × (p ≤ c) × (c ≤ p + used objects + 1024 * length objects) × All (IsApart c n) objects
 some_free n p [] few pairs above = (p, omega arith, omega arith, All-nil (IsApart p n))
 some_free n p (object ∷ objects) few pairs above =
@@ -130,7 +130,7 @@ some_free n p (object ∷ objects) few pairs above =
           (found.0, omega arith, omega arith, All-cons (IsApart found.0 n) object objects (inr low) found.3)
     ]
 
--- what the candidates below the end keep
+-- what holds for the candidates below the end
 lowest_free-holds : (objects : List Object) (n : ℕ) → All IsObject objects → lowest_free objects n < page_end → (first_page ≤ lowest_free objects n) × (is_free objects n (lowest_free objects n) ≡ true)
 lowest_free-holds objects n each below =
     let P = λ (d : ℕ). d < page_end → (first_page ≤ d) × (is_free objects n d ≡ true) in
@@ -156,11 +156,3 @@ lowest_free-exists frames accounts objects n formed fit some few =
     let end : lowest_free objects n + n ≤ page_end = omega arith in
     let holds : (first_page ≤ lowest_free objects n) × (is_free objects n (lowest_free objects n) ≡ true) = lowest_free-holds objects n formed.each (omega arith) in
     record { low = holds.0; high = end; free = holds.1; least = lowest_free-least objects n }
-
--- pages that are the lowest are those
-pub lowest_free-only : (frames accounts : ℕ) (objects : List Object) (n page : ℕ) → AreObjects frames accounts objects → frames ≤ 65536 → 1 ≤ n → n ≤ 1024 → IsLowest objects n page → lowest_free objects n ≡ page
-lowest_free-only frames accounts objects n page formed fit some few lowest =
-    let there = lowest_free-exists frames accounts objects n formed fit some few in
-    let up = there.least page lowest.low lowest.free in
-    let down = lowest.least (lowest_free objects n) there.low there.free in
-    omega arith

@@ -1,4 +1,5 @@
--- The pages that a new object takes, in words of addresses: no object covers one there, and no lower pages are so.
+-- The pages that a new object takes, by addresses: no object covers an address there, and each lower place has an address
+-- that an object covers.
 use Rattle.std.proofs.Common.{◌≡◌, ℕ, ◌+◌, ◌*◌, ◌<◌, ◌≤◌, nat_le, nat_lt, true, false, List, [], ◌∷◌, get_or, length, All, Some, None, refl, sym, ◌∙◌, inl, inr, arith}
 use Rattle.std.proofs.lemmas.Bool.{and_from, and_left, and_right, cases_lt, cond_both, false≢true, le-leb, le-ltb, lt-leb, lt-ltb}
 use Rattle.std.proofs.lemmas.List.Elements.{All-cons, All-head, All-nil, All-tail}
@@ -30,7 +31,7 @@ at-none (object ∷ objects) address none =
     (λ misses rest. All-cons (Misses address) object objects misses (at-none objects address rest))
     none
 
--- pages that lie apart from an object have none of its addresses
+-- pages that are apart from an object have none of its addresses
 apart-misses : (page n address : ℕ) (object : Object) → 4096 * page ≤ address → address < 4096 * (page + n) → IsObject object → IsApart page n object → Misses address object
 apart-misses page n address object low high formed apart =
     let aligned = formed.row.place.aligned in
@@ -42,7 +43,7 @@ apart-misses page n address object low high formed apart =
 covered : (object : Object) (address : ℕ) → object.row.base ≤ address → address < object.row.base + 4096 * object.row.pages → covers object.row address ≡ true
 covered object address low high = and_from (nat_le object.row.base address) (nat_lt address (object.row.base + 4096 * object.row.pages)) (le-leb object.row.base address low) (lt-ltb address (object.row.base + 4096 * object.row.pages) high)
 
--- and pages that have none lie apart: else the higher of the two first addresses is in both
+-- pages that have none of its addresses are apart from it: else the higher of the two first addresses is in both
 misses-apart : (page n : ℕ) (object : Object) → 1 ≤ n → IsObject object → ((address : ℕ) → 4096 * page ≤ address → address < 4096 * (page + n) → Misses address object) → IsApart page n object
 misses-apart page n object some formed misses =
     let aligned = formed.row.place.aligned in

@@ -25,7 +25,7 @@ same_ready (Some thread) = refl
 ready_is : (state : State) (n : ℕ) → thread_is_ready state n ≡ ready_in state.threads n
 ready_is state n = same_ready (thread_of state n)
 
--- what all numbers keep, the number of a Ready thread keeps
+-- what holds for all numbers holds for the number of a Ready thread
 ready-holds : (P : ℕ → Type 0) (threads : List Thread) (n : ℕ) → All (λ (thread : Thread). P thread.number) threads → ready_in threads n ≡ true → P n
 ready-holds P [] n all ready = absurd (false≢true ready)
 ready-holds P (x ∷ xs) n all ready =
@@ -34,7 +34,7 @@ ready-holds P (x ∷ xs) n all ready =
     (λ _ rest. ready-holds P xs n (All-tail (λ (thread : Thread). P thread.number) x xs all) rest)
     ready
 
--- a Ready one among these is the first of them or one of the others
+-- a Ready thread among these is the first of them or one of the others
 ready-cases : (x : Thread) (xs : List Thread) (n : ℕ) (P : Type 0) → ((x.number ≡ n) → is_ready x.row.state ≡ true → P) → (ready_in xs n ≡ true → P) → ready_in (x ∷ xs) n ≡ true → P
 ready-cases x xs n P first others ready =
     cond_both (eqb x.number n) (Some x) (find (λ (thread : Thread). eqb thread.number n) xs) (λ o. ready_of o ≡ true → P)
@@ -42,7 +42,7 @@ ready-cases x xs n P first others ready =
     (λ _ rest. others rest)
     ready
 
--- what was found above a number: the least that is Ready there, or none is
+-- the result of a search above a number: the least that is Ready there, or there is none
 record IsLeastReady (threads : List Thread) (c number : ℕ) : Type 0 where
   ready : ready_in threads number ≡ true
   above : c < number

@@ -1,4 +1,4 @@
--- The values of each reply to a thread are numbers of 64 bits, so that they fit its registers.
+-- The values of each reply to a thread are numbers of 64 bits, so they fit its registers.
 use Rattle.std.proofs.Common.{ℕ, zero, suc, ◌+◌, ◌-◌, ◌*◌, ◌/◌, ◌^◌, ◌<◌, ◌≤◌, ◌≡◌, not, cond, eqb, leb, ◌||◌, List, [], ◌∷◌, length, get_or, filter, map, min, is_some, Option, Some, None, refl, ap, subst, arith, All}
 use Rattle.std.proofs.lemmas.Bool.{and_parts, cond_both, leb-false, leb-true, or_parts}
 use Rattle.std.proofs.lemmas.List.Elements.{All-cons, All-nil}
@@ -72,7 +72,7 @@ word_of_object objects a (Some object) all is =
 pub word_at-word : (state : State) (a : ℕ) → IsWellFormed state → IsWord (word_at state.objects a)
 word_at-word state a formed = word_of_object state.objects a (at state.objects a) formed.objects.each refl
 
--- a row as far as its numbers go
+-- the numbers of a row
 pub record IsSmallRow (row : ObjectRow) : Type 0 where
   pub end : row.base + 4096 * row.pages ≤ 2 ^ 52
   pub account : row.account ≤ 1024

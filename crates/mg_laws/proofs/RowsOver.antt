@@ -1,4 +1,4 @@
--- A thread's row may be put before a call of the thread or behind it.
+-- A thread's row may be replaced before a call of the thread or after it.
 use Rattle.std.proofs.Common.{ℕ, suc, ◌+◌, ◌*◌, ◌++◌, ◌<◌, ◌≡◌, ◌≢◌, Bool, true, false, cond, eqb, ltb, not, List, [], ◌∷◌, filter, get_or, length, map, is_some, Option, Some, None, refl, sym, ap, ◌∙◌, subst, arith}
 use Rattle.std.proofs.lemmas.Bool.{cond_both, cond-false, eqb-true, ne_eqb}
 use Rattle.std.proofs.lemmas.List.{length-map}
@@ -93,7 +93,7 @@ module _ (state : State) (t : ℕ) (old row : ThreadRow) (formed : IsWellFormed 
   abbrev over : ThreadRow → ThreadRow
   over = with_frames_of row
 
-  -- the state with the row put
+  -- the state with the row replaced
   abbrev W : State → State
   W s = with_thread s t over
 
@@ -118,7 +118,7 @@ module _ (state : State) (t : ℕ) (old row : ThreadRow) (formed : IsWellFormed 
       by_found None = refl
       by_found (Some x) = refl
 
-  -- a part of the row that is as it was
+  -- a part of the row that did not change
   same_part : (part : ThreadRow → ℕ) → ((frames : ThreadRow) → part (over frames) ≡ part row) → part row ≡ part old → (u : ℕ) → option_map_or (λ (x : Thread). part x.row) (thread_of put u) 0 ≡ option_map_or (λ (x : Thread). part x.row) (thread_of state u) 0
   same_part part rests same u = ap (λ o. option_map_or (λ (x : Thread). part x.row) o 0) (found_over u) ∙ by_found (thread_of state u) refl
     where
@@ -150,12 +150,12 @@ module _ (state : State) (t : ℕ) (old row : ThreadRow) (formed : IsWellFormed 
   same_creator : (u : ℕ) → creator_of put u ≡ creator_of state u
   same_creator u = same_part (λ (r : ThreadRow). r.creator) (λ other. refl) is.creator u
 
-  -- a row of the table, by what is done where nothing refuses it
+  -- a row of the table, by its effect when nothing refuses it
   row-over : (refused : Option Refusal) (after : Answer) → unless_refused refused put (W after.0, after.1) ≡ (W (unless_refused refused state after).0, (unless_refused refused state after).1)
   row-over None after = refl
   row-over (Some word) after = refl
 
-  -- the same where what is done is equal to that
+  -- the same for an effect that is equal to that effect
   row-like : (refused : Option Refusal) (before new : State) (said : Reply) → before ≡ W new → unless_refused refused put (before, said) ≡ (W (unless_refused refused state (new, said)).0, (unless_refused refused state (new, said)).1)
   row-like None before new said same = ap (λ s. (s, said)) same
   row-like (Some word) before new said same = refl
@@ -237,7 +237,7 @@ above t f (y ∷ ys) larger =
     ap (λ z. z ∷ map (changed t f) ys) (cond-false (eqb y.number t) (record y { row = f y.row }) y (ne_eqb _ _ other))
     ∙ ap (λ zs. y ∷ zs) (above t f ys (λ k d within. larger (suc k) d (omega arith)))
 
--- where numbers differ, the row that is put is the one over the thread's own
+-- if numbers differ, the new row is the given row over the thread's own
 put-over : (t : ℕ) (old row : ThreadRow) (threads : List Thread) → AllPairs IsBelow threads → option_map_or (λ (x : Thread). Some x.row) (find (λ (x : Thread). eqb x.number t) threads) None ≡ Some old → row.frames ≡ old.frames
     → map (changed t (λ _. row)) threads ≡ map (changed t (with_frames_of row)) threads
 put-over t old row [] apart there same = refl

@@ -1,4 +1,4 @@
--- A line that is no turn is answered whatever the state of any thread is.
+-- A line that is no turn gets the same answer whatever the state of any thread is.
 use Rattle.std.proofs.Common.{ℕ, ◌+◌, ◌-◌, ◌*◌, ◌≡◌, Bool, true, false, cond, eqb, List, [], ◌∷◌, length, map, is_some, Option, Some, None, refl, ap, ◌∙◌}
 use Rattle.std.proofs.lemmas.Bool.{cond_both}
 use Rattle.std.proofs.lemmas.List.{length-map}
@@ -29,7 +29,7 @@ either_way : {X A : Type 0} {x y u v : X} (g : X → A) (b : Bool) → g x ≡ g
 either_way g true first second = first
 either_way g false first second = second
 
--- the answer of a row is a function of what refuses it and of its reply
+-- the answer of a row is a function of its refusals and of its reply
 same_answer : (refused : Option Refusal) (s new : State) (done other : Answer) → done.1 ≡ other.1 → (unless_refused refused s done).1 ≡ (unless_refused refused new other).1
 same_answer None s new done other same = same
 same_answer (Some word) s new done other same = refl

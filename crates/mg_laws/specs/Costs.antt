@@ -8,7 +8,7 @@ use Rattle.mg_model.specs.State.{State}
 use Rattle.mg_model.specs.Step.{after}
 use Rattle.mg_model.specs.Warmth.{Event, events, is_disturbing, line_cost}
 
--- a run of accesses, from the keys that are kept before it to those behind it, with so many words searched
+-- a run of accesses, from the keys that are kept before it to those kept after it, with this number of words searched
 abbrev pub Search : Type 1
 Search = State → (Key → Bool) → List Access → (Key → Bool) → ℕ → Type 0
 
@@ -17,32 +17,32 @@ abbrev pub SearchesKeepRules : Search → Type 0
 SearchesKeepRules searches =
     (state : State) (kept : Key → Bool) (made : List Access) (kept' : Key → Bool) (words : ℕ) → searches state kept made kept' words → KeepsRules state made kept kept' words
 
--- an access more behind those that were made
+-- one access more after those that were made
 abbrev pub SearchesGoOn : Search → Type 0
 SearchesGoOn searches =
     (state : State) (kept : Key → Bool) (made : List Access) (middle : Key → Bool) (words : ℕ) (access : Access) (kept' : Key → Bool) (more : ℕ)
     → searches state kept made middle words → Validates state access middle kept' more → searches state kept (made ++ access ∷ []) kept' (words + more)
 
--- what is searched for accesses, at most, where these keys are kept before them
+-- the most words that are searched for accesses, if these keys are kept before them
 abbrev pub Limit : Type 0
 Limit = (Key → Bool) → State → List Access → ℕ
 
--- an access, and more behind it: what is searched for those is within the limit of all
+-- an access, and more after it: if the words searched for those are within their limit, all are within the limit of all
 abbrev pub LimitGoesOn : Limit → Type 0
 LimitGoesOn limit =
     (state : State) (access : Access) (more : List Access) (kept middle : Key → Bool) (first rest : ℕ) → Validates state access kept middle first → rest ≤ limit middle state more → first + rest ≤ limit kept state (access ∷ more)
 
--- and where those keep the rules of a line, all do
+-- if those keep the rules of a line, all do
 abbrev pub RulesGoOn : Type 0
 RulesGoOn =
     (state : State) (access : Access) (more : List Access) (kept middle kept' : Key → Bool) (first rest : ℕ)
     → Validates state access kept middle first → KeepsRules state more middle kept' rest → KeepsRules state (access ∷ more) kept kept' (first + rest)
 
--- where each line stays within its limit and keeps its keys, the counter rises by no more than this
+-- if each line stays within its limit and keeps its keys, the counter rises by at most this
 abbrev pub BoundedByCost : (State → List Line → ℕ) → Type 0
 BoundedByCost bound = (kept : Key → Bool) (state : State) (lines : List Line) (steps steps' : ℕ) → Follows kept state lines steps steps' → steps' ≤ steps + bound state lines
 
--- what is kept behind earlier lines of a session
+-- what is kept after earlier lines of a session
 abbrev pub Warm : Type 1
 Warm = List Event → (Key → Bool) → Type 0
 
@@ -50,17 +50,17 @@ Warm = List Event → (Key → Bool) → Type 0
 abbrev pub BeginsWarm : Warm → Type 0
 BeginsWarm warm = (kept : Key → Bool) → warm [] kept
 
--- a line that keeps its keys, or that disturbs, leaves each key kept that would be warm behind it
+-- after a line that keeps its keys, or that disturbs, each key is kept that would be warm after it
 abbrev pub StaysWarm : Warm → Type 0
 StaysWarm warm =
     (past : List Event) (event : Event) (kept kept' : Key → Bool) → warm past kept
     → (is_disturbing event.state event.line ≡ false → KeepsKeys event.state (accesses event.state event.line) kept kept') → warm (event ∷ past) kept'
 
--- where each key is kept that would be warm, the limit of a line is within its cost
+-- if each key is kept that would be warm, the limit of a line is within its cost
 abbrev pub LimitsWithinCost : ((Key → Bool) → State → Line → ℕ) → Type 0
 LimitsWithinCost limit = (past : List Event) (kept : Key → Bool) (state : State) (line : Line) → KeepsWarm past kept → limit kept state line ≤ line_cost past state line
 
--- the events of a line more
+-- the events of one line more
 abbrev pub EventsGoOn : (List Event → State → List Line → List Event) → Type 0
 EventsGoOn those =
     (past : List Event) (state : State) (lines : List Line) (line : Line) → those past state (lines ++ line ∷ []) ≡ record { state = after state lines; line = line } ∷ those past state lines
@@ -70,7 +70,7 @@ abbrev pub CostsAddUp : (List Event → State → List Line → ℕ) → Type 0
 CostsAddUp costs =
     (past : List Event) (state : State) (lines more : List Line) → costs past state (lines ++ more) ≡ costs past state lines + costs (events past state lines) (after state lines) more
 
--- a line more costs what it costs behind those of its session
+-- one line more costs what it costs after those of its session
 abbrev pub CostsGoOn : (State → List Line → ℕ) → Type 0
 CostsGoOn costs = (state : State) (lines : List Line) (line : Line) → costs state (lines ++ line ∷ []) ≡ costs state lines + line_cost (events [] state lines) (after state lines) line
 

@@ -35,8 +35,8 @@ RunsKeepWellFormed run = (state : State) (lines : List Line) → IsWellFormed st
 abbrev pub RefusedLeaves : (State → Line → Answer) → Type 0
 RefusedLeaves steps = (state : State) (line : Line) (word : Refusal) → (steps state line).1 ≡ No word → (steps state line).0 ≡ state
 
--- Which access is allowed rests on the objects, the period and the slots of the thread's last frame alone: no other part
--- of the state, no thread's number and nothing of an earlier access has a say.
+-- Which access is allowed rests on the objects, the period and the slots of the thread's last frame alone. No other part of
+-- the state, no thread's number and no earlier access matters.
 abbrev pub RestsOnDomain : (State → ℕ → ℕ → Right → Bool) → Type 0
 RestsOnDomain may =
     (one other : State) (t u address : ℕ) (right : Right) → one.objects ≡ other.objects → one.counters.period ≡ other.counters.period → domain_of one t ≡ domain_of other u →
@@ -51,7 +51,7 @@ is_turn call.Turn = true
 is_turn call.Next = true
 is_turn _ = false
 
--- a line that is no turn is answered whatever the state of any thread is
+-- a line that is no turn gets the same answer whatever the state of any thread is
 abbrev pub AnswersWhateverState : (State → Line → Answer) → Type 0
 AnswersWhateverState steps = (state : State) (line : Line) (t : ℕ) (kind : ThrState) → is_turn line.call ≡ false → (steps (as_state state t kind) line).1 ≡ (steps state line).1
 
@@ -62,22 +62,22 @@ pub record IsLowest (objects : List Object) (n page : ℕ) : Type 0 where
   pub free : is_free objects n page ≡ true
   pub least : (other : ℕ) → first_page ≤ other → is_free objects n other ≡ true → page ≤ other
 
--- among objects that fit into 65,536 frames there is room for one more, and these are the lowest pages where it meets none
+-- among objects that fit into 65,536 frames there is room for one more, and these are the lowest pages at which it meets none
 abbrev pub FindsLowest : (List Object → ℕ → ℕ) → Type 0
 FindsLowest find = (frames accounts : ℕ) (objects : List Object) (n : ℕ) → AreObjects frames accounts objects → frames ≤ 65536 → 1 ≤ n → n ≤ 1024 → IsLowest objects n (find objects n)
 
--- no address of the n pages from this one on lies in an object
+-- no address of the n pages from this one on is in an object
 abbrev pub MeetsNone : List Object → ℕ → ℕ → Type 0
 MeetsNone objects n page = (address : ℕ) → 4096 * page ≤ address → address < 4096 * (page + n) → at objects address ≡ None
 
--- the lowest n pages of which no address lies in an object
+-- the lowest n pages of which no address is in an object
 pub record IsLowestOf (objects : List Object) (n page : ℕ) : Type 0 where
   pub low : first_page ≤ page
   pub high : page + n ≤ page_end
   pub free : MeetsNone objects n page
   pub least : (other : ℕ) → first_page ≤ other → MeetsNone objects n other → page ≤ other
 
--- the same in words of addresses, in each state that is well formed
+-- the same by addresses, in each state that is well formed
 abbrev pub TakesLowest : (List Object → ℕ → ℕ) → Type 0
 TakesLowest lowest = (state : State) (n : ℕ) → IsWellFormed state → 1 ≤ n → n ≤ 1024 → IsLowestOf state.objects n (lowest state.objects n)
 
@@ -91,7 +91,7 @@ pub record IsLeastFree (state : State) (number : ℕ) : Type 0 where
 abbrev pub TakesLeastNumber : (List Thread → ℕ) → Type 0
 TakesLeastNumber free = (state : State) → IsWellFormed state → IsLeastFree state (free state.threads)
 
--- The thread that runs next: a Ready one. Where it is above the cursor it is the least Ready one there; else no Ready one is
+-- The thread that runs next: a Ready one. If it is above the cursor, it is the least Ready one there. Else no Ready one is
 -- above the cursor, and it is the least of all.
 pub record IsNextReady (state : State) (number : ℕ) : Type 0 where
   pub ready : thread_is_ready state number ≡ true

@@ -63,6 +63,6 @@ unfolding fresh_until
 until-block settings zero i image low high inside t = absurd (omega arith)
 until-block settings (suc n) i image low high inside t = until_step settings n i image high inside t (λ lower. until-block settings n i image low lower inside t)
 
--- every block that is written lies at frame 0 or before it
+-- every block that is written is frame 0 or before it
 pub written-low : (frames i : ℕ) → IsTrue (is_written frames i) → i ≤ first_frame frames
 written-low frames i t = grind (arith, nat_tests)

@@ -1,4 +1,4 @@
--- What images spell that are no volume.
+-- Images that are no volume, and what they spell.
 use Rattle.std.specs.Prelude.{◌≡◌, ◌⊎◌, Bool, ℕ, zero, suc, ◌+◌, ◌<◌, ◌≤◌, ◌&&◌, nat_le, true, false, List, if◌then◌else◌, length, Some, None}
 use Rattle.std.specs.Option.{option_map_or}
 use Rattle.std.specs.Cmp.Lexicographic.{same_text}
@@ -28,7 +28,7 @@ later_version image opened begins later =
     volume-opened image opened
     ∙ ap (volume_behind image) (super_read-bad bytes begins (omega arith) (and_right (are_settings (super_fields bytes)) (same_bytes (super_bytes (super_fields bytes)) bytes) (later_super bytes later)))
 
--- an open segment that says that it has too many bodies
+-- an open segment with a count above its limit of bodies
 full_segment : (total : ℕ) (image : List (List ℕ)) (s : ℕ) → is_open image s ≡ true → body_limit < body_count image s → segment_fits total image s ≡ false
 full_segment total image s opened over =
     ap (λ t. if t then (nat_le (body_count image s) body_limit && homes_fit total (writes_of image s)) else true) opened

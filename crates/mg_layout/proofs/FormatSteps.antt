@@ -1,5 +1,5 @@
--- How making a volume goes on, from the gate closed to the gate open.
-use Rattle.std.specs.Prelude.{◌≡◌, ◌≢◌, ℕ, ◌+◌, ◌<◌, ◌≤◌, IsTrue, List, [], ◌∷◌, drop, if◌then◌else◌, false, Bool, length, option_map, replicate, slice_index, slice_set, Option, Some, None}
+-- The steps of making a volume, from the gate closed to the gate open.
+use Rattle.std.specs.Prelude.{◌≡◌, ◌≢◌, ℕ, ◌+◌, ◌<◌, ◌≤◌, IsTrue, List, [], ◌∷◌, drop, if◌then◌else◌, Bool, length, option_map, replicate, slice_index, slice_set, Option, Some, None}
 use Rattle.std.proofs.Common.{refl, inl, inr, sym, ap, subst, ◌∙◌, ⊎_elim, arith}
 use Rattle.std.proofs.lemmas.Bool.{cases_eq, cases_lt}
 use Rattle.std.proofs.lemmas.Bool.Decides.{nat_tests}
@@ -21,11 +21,6 @@ use Rattle.mg_layout.specs.FreshImage.{IsFreshImage, gate_bytes}
 use Rattle.mg_layout.proofs.FreshVolume.{fresh_volume}
 use Rattle.mg_layout.specs.MayFormat.{IsNoState, MayFormat, ReadsFresh, opened}
 
--- what options of images become
-pub map_if : (o : Option Image) (b : Bool) (f : Image → Image) → b ≡ false → o ≡ option_map (λ image. if b then f image else image) o
-map_if None b f is = refl
-map_if (Some image) b f is = ap (λ t. Some (if t then f image else image)) (sym is)
-
 pub map_none : (settings : Settings) (o : Option Image) → o ≡ option_map (fresh_until settings 0) o
 map_none settings None = refl
 map_none settings (Some image) = ap (λ i. Some i) (sym (until-none settings image))
@@ -37,7 +32,7 @@ map_more settings n (Some image) = ap (λ i. Some i) (sym (until-more settings n
 not_volume : (c : Image) → volume c ≡ NotVolume → IsNoState (volume c)
 not_volume c is = let P : VolumeRead → Type 0 = λ v. IsNoState v in subst P (sym is) (tt {0})
 
--- The gate is closed: a stop leaves no volume, or what is behind the gate.
+-- The gate is closed: a stop leaves no volume, or the volume that the blocks after the gate spell.
 pub opened_is : (image : Image) → 1 ≤ length image → block_of (opened image) gate_block ≡ gate_open ∷ drop 1 (block_of image gate_block)
 opened_is image some = get_or-set_same image gate_block (gate_open ∷ drop 1 (block_of image gate_block)) [] (omega arith)
 
@@ -62,12 +57,12 @@ close_may settings image c same = ⊎_elim opens closed (cases_eq (gate_byte c) 
             (same.count ∙ sym count_opened)
             (λ k low. same.others k (λ e. omega arith) ∙ sym (get_or-set_other image gate_block k (gate_open ∷ drop 1 (block_of image gate_block)) [] (λ e. omega arith)))))
 
--- The blocks behind it are written: it is no volume while the gate stays closed.
+-- The blocks after it are written: the image is no volume while the gate stays closed.
 pub behind_may : (s c : Image) → gate_byte s ≢ gate_open → SameBut (λ i. 1 ≤ i) s c → IsNoState (volume c)
 behind_may s c closed same =
     not_volume c (volume-closed c (λ e. closed (ap (λ (block : List ℕ). slice_index block 0) (sym (same.others gate_block (λ low. omega arith))) ∙ e)))
 
--- the image with the gate closed, and then with everything behind it
+-- the image with the gate closed, and then with every block after it
 abbrev pub with_closed : Image → Image
 with_closed image = slice_set image gate_block (replicate 4096 0)
 

@@ -37,7 +37,7 @@ module _ (settings : Settings) (state : State) where
   unfolding block_bytes
   at_table = refl
 
-  -- a block behind the first of the frame table
+  -- a block after the first of the frame table
   behind_table : (i : ℕ) → table_block ≢ i → table_block ≤ i → block_bytes settings state i ≡ (if i == first_frame settings.frames then frame_bytes state else replicate 4096 0)
   unfolding block_bytes
   behind_table i other behind =

@@ -79,7 +79,7 @@ module _ (settings : Settings) (image : List (List ℕ)) (keeps : IsSettings set
   abbrev treasury : AccRow
   treasury = record { password = password_drawn settings.seed 1; balance = settings.credits; owed = 0 }
 
-  -- account n stands at row n - 1; of row 0 on, 64 rows a block
+  -- account n is at row n - 1; of row 0 on, 64 rows a block
   accounts_block : block_of image first_account_block ≡ account_bytes treasury ++ replicate 4032 0
   accounts_block = row_block first_account_block (omega arith) (omega arith) ∙ at_accounts settings (fresh settings) ∙ accounts_are
     where

@@ -4,7 +4,7 @@ use Rattle.mg_disk.specs.Disk.{Image}
 use Rattle.mg_model.specs.Settings.{Settings}
 use Rattle.mg_layout.specs.FreshImage.{fresh_bytes, is_written}
 
--- block i of a fresh volume, where it is one of those behind the gate that are written
+-- the image with block i of a fresh volume, if i is one of the blocks after the gate that are written
 abbrev pub with_block : Settings → ℕ → Image → Image
 with_block settings i image = if is_written settings.frames i then slice_set image i (fresh_bytes settings i) else image
 

@@ -22,14 +22,14 @@ threads_bytes state = padded_to 4096 (flat_map (λ (thread : Thread). thread_byt
 abbrev pub objects_bytes : State → List ℕ
 objects_bytes state = padded_to 4096 (flat_map (λ (object : Object). object_bytes object.row) state.objects)
 
--- the frame table names the first page of each object, and the frame has its words: right where each has one page
+-- the frame table names the first page of each object, and the frame has its words: right if each object has one page
 abbrev pub table_bytes : State → List ℕ
 table_bytes state = padded_to 4096 (words_bytes (map (λ (object : Object). page_of object.row) state.objects))
 
 abbrev pub frame_bytes : State → List ℕ
 frame_bytes state = padded_to 4096 (flat_map (λ (object : Object). words_bytes object.words) state.objects)
 
--- block i of a volume in this state, where it has one thread, one object of one page, and few accounts
+-- block i of a volume in this state, if the state has one thread, one object of one page, and few accounts
 unfoldable pub block_bytes : Settings → State → ℕ → List ℕ
 block_bytes settings state i =
     if i == gate_block then gate_bytes
@@ -46,13 +46,13 @@ block_bytes settings state i =
 abbrev pub fresh_bytes : Settings → ℕ → List ℕ
 fresh_bytes settings i = block_bytes settings (fresh settings) i
 
--- the blocks that are written where a volume is made: the gate and the superblock, the gates of the segments, and
--- everything from the globals to frame 0
+-- the blocks that are written when a volume is made: the gate and the superblock, the gates of the segments, and everything
+-- from the globals to frame 0
 abbrev pub is_written : ℕ → ℕ → Bool
 is_written frames i = nat_le i super_block || (i % segment_size == segment_gate 0 && nat_lt i globals_block) || (nat_le globals_block i && nat_le i (first_frame frames))
 
--- An image of a fresh volume. It may have more blocks; the segments' indexes and bodies, the other frames, and the
--- gate's bytes behind the first are whatever they are.
+-- An image of a fresh volume. It may have more blocks. The segments' indexes and bodies, the other frames, and the gate's
+-- bytes after the first may be anything.
 pub record IsFreshImage (settings : Settings) (image : List (List ℕ)) : Type 0 where
   pub long : total_blocks settings.frames ≤ length image
   pub opened : slice_index (block_of image gate_block) 0 ≡ gate_open

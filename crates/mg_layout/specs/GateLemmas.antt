@@ -1,4 +1,5 @@
--- An image that differs from another one in its gate alone: no volume, or what the blocks after the gate spell.
+-- An image that differs from another one in its gate alone: it is no volume, or spells the same as the other's blocks after
+-- the gate.
 use Rattle.std.specs.Prelude.{◌≡◌, ◌⊎◌, ℕ, ◌≤◌, List, [], ◌∷◌, drop, length, slice_index}
 use Rattle.std.proofs.Common.{inl, inr, sym, ap, ◌∙◌, ⊎_elim, arith}
 use Rattle.std.proofs.lemmas.Bool.{cases_eq, cases_lt}

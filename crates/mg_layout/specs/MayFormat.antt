@@ -14,26 +14,26 @@ abbrev pub IsNoState : VolumeRead → Type 0
 IsNoState (Is state) = ⊥
 IsNoState _ = Unit {0}
 
--- this image with its gate open: what its blocks spell, whatever the gate says
+-- this image with its gate open; it spells what the blocks say, whatever the gate was
 abbrev pub opened : Image → Image
 opened image = slice_set image gate_block (gate_open ∷ drop 1 (block_of image gate_block))
 
--- no volume, what the blocks behind the gate spelled before, or the fresh state
+-- no volume, what the blocks after the gate spelled before, or the fresh state
 abbrev pub MayFormat : Image → Settings → Image → Type 0
 MayFormat image settings c = IsNoState (volume c) ⊎ ((volume c ≡ volume (opened image)) ⊎ (volume c ≡ Is (fresh settings)))
 
--- what reads give is told as it was before, and spells the fresh state
+-- what reads give is told if it was told before, and then it spells the fresh state
 abbrev pub ReadsFresh : Settings → Option Image → Option Image → Type 0
 ReadsFresh settings None new = new ≡ None
 ReadsFresh settings (Some image) new = IsSomeAnd new (λ c. volume c ≡ Is (fresh settings))
 
--- the disk is found too small exactly where the need exceeds what it has, and both are told
+-- the call answers that the disk is too small exactly if the need exceeds what the disk has, and the answer names both
 abbrev pub TellsSmall : {T : Type 0} → ℕ → ℕ → Result T FormatFault → Type 0
 TellsSmall need have (Ok x) = need ≤ have
 TellsSmall need have (Err fault.Disk) = need ≤ have
 TellsSmall need have (Err (fault.TooSmall n h)) = (n ≡ need) × (h ≡ have) × (have < need)
 
--- where the disk is too small, no call was made on it
+-- if the disk is too small, no call was made on it
 abbrev pub IsUntouchedSmall : {T D : Type 0} → D → D → Result T FormatFault → Type 0
 IsUntouchedSmall old new (Err (fault.TooSmall n h)) = new ≡ old
 IsUntouchedSmall old new _ = Unit {0}

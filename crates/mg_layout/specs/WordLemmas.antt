@@ -1,4 +1,4 @@
--- A lemma: a number that is put into a block leaves those beside it.
+-- A lemma: a number that is written into a block leaves the bytes beside it.
 use Rattle.std.specs.Prelude.{◌≡◌, ◌⊎◌, ◌+◌, ◌≤◌, ℕ, List, drop, length, take}
 use Rattle.std.specs.Int.{from_le_bytes, w64}
 use Rattle.std.proofs.Common.{sym, ap, ◌∙◌, ⊎_elim, arith}

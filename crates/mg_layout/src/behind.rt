@@ -1,4 +1,4 @@
-// The blocks behind the gate, as they are written where a volume is made.
+// The blocks after the gate, as they are written when a volume is made.
 ghost use Rattle.std.specs.Prelude.{◌≡◌, ◌≤◌, ◌<◌, ◌+◌, OnErr, OnOk, option_map};
 ghost use Rattle.std.specs.Option.{ForSome};
 ghost use Rattle.mg_disk.specs.Disk.{SameBut, TornAt, only_place};
@@ -14,38 +14,38 @@ use mg_faults::Failed;
 use mg_model::Params;
 use mg_model::layout::{FIRST_SEGMENT, GLOBALS_BLOCK, SEGMENT_SIZE, SUPER_BLOCK};
 
-/// Writes the blocks behind the gate and makes sure of them.
-pub(crate) fn write_behind<D: Disk>(disk: &mut D, p: &Params) -> Result<(), Failed>
-    requires within_disk { total_blocks p.now.frames ≤ D.block_count disk.old }
+/// Writes the blocks after the gate, and syncs the disk.
+pub(crate) fn write_behind<D: Disk>(disk: &mut D, params: &Params) -> Result<(), Failed>
+    requires within_disk { total_blocks params.now.frames ≤ D.block_count disk.old }
     ensures any_moment { NothingPending D.Disk disk.old → ForSome (D.seen disk.old) (λ image. Leaves D.Disk disk.old disk.new (SameBut (λ i. 1 ≤ i) image)) }
-    ensures written { OnOk result (D.seen disk.new ≡ option_map (fresh_until p.now (first_frame p.now.frames)) (D.seen disk.old)) }
+    ensures written { OnOk result (D.seen disk.new ≡ option_map (fresh_until params.now (first_frame params.now.frames)) (D.seen disk.old)) }
     ensures settled { OnOk result (NothingPending D.Disk disk.new) }
     ensures calls { DiskCalls D.Disk disk.old disk.new result }
 {
-    let last = Geometry::of(p.frames()).first_frame;
+    let last = Geometry::of(params.frames()).first_frame;
     for i in 0..last {
-        write_fresh(disk, p, i + 1)?;
+        write_fresh(disk, params, i + 1)?;
     }
     disk.sync()
 }
 
-// Writes a block of a fresh volume, where it is one of those that are written.
-fn write_fresh<D: Disk>(disk: &mut D, p: &Params, i: u64) -> Result<(), Failed>
-    requires within_disk { total_blocks p.now.frames ≤ D.block_count disk.old }
-    requires in_range { i < total_blocks p.now.frames }
+// Writes a block of a fresh volume, if it is one of those that are written.
+fn write_fresh<D: Disk>(disk: &mut D, params: &Params, i: u64) -> Result<(), Failed>
+    requires within_disk { total_blocks params.now.frames ≤ D.block_count disk.old }
+    requires in_range { i < total_blocks params.now.frames }
     ensures stops { TimeGoes D.Disk disk.old disk.new (TornAt (only_place i) (D.left_since disk.old (D.moment disk.old))) }
-    ensures written { OnOk result (D.seen disk.new ≡ option_map (with_block p.now i) (D.seen disk.old)) }
+    ensures written { OnOk result (D.seen disk.new ≡ option_map (with_block params.now i) (D.seen disk.old)) }
     ensures calls { DiskCalls D.Disk disk.old disk.new result }
 {
-    if !is_written(p.frames(), i) {
+    if !is_written(params.frames(), i) {
         return Ok(());
     }
     let mut block = [0; BLOCK_SIZE];
-    fresh_block(p, i, &mut block);
+    fresh_block(params, i, &mut block);
     disk.write(i, &block)
 }
 
-/// Whether block `i` is one of those that are written where a volume is made.
+/// Whether block `i` is one of those that are written when a volume is made.
 pub(crate) fn is_written(frames: u64, i: u64) -> bool
     requires at_least_16_frames { 16 ≤ frames }
     requires at_most_65536_frames { frames ≤ 65536 }

@@ -7,16 +7,16 @@ ghost use Rattle.mg_model.specs.Layout.{block_size};
 use mg_disk::Block;
 
 /// The number in the 8 bytes at this place.
-pub fn number_at(b: &[u8], at: usize) -> u64
-    requires { at + 8 ≤ length b.now }
-    ensures { result ≡ number_at b.now at }
+pub fn number_at(bytes: &[u8], at: usize) -> u64
+    requires { at + 8 ≤ length bytes.now }
+    ensures { result ≡ number_at bytes.now at }
 {
-    let mut bytes = [0; 8];
-    bytes.copy_from_slice(&b[at..at + 8]);
-    u64::from_le_bytes(bytes)
+    let mut word = [0; 8];
+    word.copy_from_slice(&bytes[at..at + 8]);
+    u64::from_le_bytes(word)
 }
 
-/// Puts a number in the 8 bytes at this place of a block.
+/// Writes a number into the 8 bytes at this place of a block.
 pub fn put_number(out: &mut Block, at: usize, number: u64)
     requires { at + 8 ≤ block_size }
     ensures put { out.new ≡ splice out.old at (at + 8) (word_bytes number) }
@@ -28,8 +28,8 @@ pub fn put_number(out: &mut Block, at: usize, number: u64)
 }
 
 /// Whether they are all zeros.
-pub fn are_zeros(b: &[u8]) -> bool
-    ensures { result ≡ are_zeros b.now }
+pub fn are_zeros(bytes: &[u8]) -> bool
+    ensures { result ≡ are_zeros bytes.now }
 {
-    b.iter().all(|byte| *byte == 0)
+    bytes.iter().all(|byte| *byte == 0)
 }

@@ -6,7 +6,7 @@ ghost use Rattle.mg_model.specs.Ranges.{IsWord};
 
 use std::marker::Model;
 
-/// The first bytes of `N`. Behind them there are zeros.
+/// The first bytes of `N`. After them there are zeros.
 #[derive(Drop)]
 pub struct Filling<const N: usize> {
     bytes: [u8; N],
@@ -75,13 +75,13 @@ impl<const N: usize> Filling<N> {
         }
     }
 
-    /// So many zeros too.
-    pub fn skip(&mut self, n: usize)
-        requires { length self.old + n ≤ N }
-        ensures value { self.new ≡ self.old ++ replicate n 0 }
-        ensures long { length self.new ≡ length self.old + n }
+    /// `count` zeros too.
+    pub fn skip(&mut self, count: usize)
+        requires { length self.old + count ≤ N }
+        ensures value { self.new ≡ self.old ++ replicate count 0 }
+        ensures long { length self.new ≡ length self.old + count }
     {
-        self.count += n;
+        self.count += count;
     }
 
     /// All the bytes.
@@ -92,7 +92,7 @@ impl<const N: usize> Filling<N> {
     }
 }
 
-// Puts bytes in place of those from this place on.
+// Writes bytes over those from this place on.
 fn put_part(all: &mut [u8], at: usize, bytes: &[u8])
     requires { at + length bytes.now ≤ length all.old }
     ensures { all.new ≡ splice all.old at (at + length bytes.now) bytes.now }

@@ -1,4 +1,4 @@
-// How a volume is made, so that a stop at any moment leaves what the blocks behind the gate spelled, no volume, or the fresh one.
+// Making a volume. A stop at any moment leaves what the blocks after the gate spelled, no volume, or the fresh volume.
 ghost use Rattle.std.specs.Prelude.{◌≡◌, ◌≤◌, OnOk};
 ghost use Rattle.std.specs.Option.{ForSome};
 ghost use Rattle.mg_disk.specs.Disk.{Image};
@@ -23,48 +23,47 @@ pub enum FormatFault {
     /// The volume needs more blocks than the disk has. No call was made on the disk.
     #[error("the volume needs {need} blocks, and the disk has {have}")]
     TooSmall { need: u64, have: u64 },
-    /// A call of the disk failed. What the disk holds is no volume, what the blocks behind the gate spelled, or the fresh
-    /// one.
+    /// A call of the disk failed. The disk holds no volume, what the blocks after the gate spelled, or the fresh volume.
     #[error("a call of the disk failed")]
     Disk,
 }
 
 /// Makes a fresh volume with these settings. It reads nothing.
 ///
-/// The gate is closed first, then everything behind it is written, and then the gate is opened, with a sync after each:
-/// so a stop at any moment leaves no volume, what the blocks behind the gate spelled before, or the fresh one.
-pub fn format<D: Disk>(disk: &mut D, p: &Params) -> Result<(), FormatFault>
-    ensures any_moment { NothingPending D.Disk disk.old → ForSome (D.seen disk.old) (λ image. Leaves D.Disk disk.old disk.new (MayFormat image p.now)) }
-    ensures made { OnOk result (ReadsFresh p.now (D.seen disk.old) (D.seen disk.new)) }
+/// The gate is closed first, then every block after it is written, and then the gate is opened, with a sync after each. So a
+/// stop at any moment leaves no volume, what the blocks after the gate spelled before, or the fresh volume.
+pub fn format<D: Disk>(disk: &mut D, params: &Params) -> Result<(), FormatFault>
+    ensures any_moment { NothingPending D.Disk disk.old → ForSome (D.seen disk.old) (λ image. Leaves D.Disk disk.old disk.new (MayFormat image params.now)) }
+    ensures made { OnOk result (ReadsFresh params.now (D.seen disk.old) (D.seen disk.new)) }
     ensures settled { OnOk result (NothingPending D.Disk disk.new) }
-    ensures left { OnOk result ((c : Image) → D.left_since disk.new (D.moment disk.new) c → volume c ≡ Is (fresh p.now)) }
-    ensures small { TellsSmall (total_blocks p.now.frames) (D.block_count disk.old) result }
+    ensures left { OnOk result ((c : Image) → D.left_since disk.new (D.moment disk.new) c → volume c ≡ Is (fresh params.now)) }
+    ensures small { TellsSmall (total_blocks params.now.frames) (D.block_count disk.old) result }
     ensures no_call { IsUntouchedSmall disk.old disk.new result }
     ensures calls { DiskCallsBy D.Disk disk.old disk.new (result ≡ Err FormatFault.Disk) }
 {
-    let need = Geometry::of(p.frames()).total;
+    let need = Geometry::of(params.frames()).total;
     let have = disk.blocks();
     if have < need {
         return Err(FormatFault::TooSmall { need, have });
     }
-    match make(disk, p) {
+    match make(disk, params) {
         Ok(()) => Ok(()),
         Err(Failed) => Err(FormatFault::Disk),
     }
 }
 
-// Closes the gate, writes the blocks behind it, and opens it.
-fn make<D: Disk>(disk: &mut D, p: &Params) -> Result<(), Failed>
-    requires within_disk { total_blocks p.now.frames ≤ D.block_count disk.old }
-    ensures any_moment { NothingPending D.Disk disk.old → ForSome (D.seen disk.old) (λ image. Leaves D.Disk disk.old disk.new (MayFormat image p.now)) }
-    ensures made { OnOk result (ReadsFresh p.now (D.seen disk.old) (D.seen disk.new)) }
+// Closes the gate, writes the blocks after it, and opens it.
+fn make<D: Disk>(disk: &mut D, params: &Params) -> Result<(), Failed>
+    requires within_disk { total_blocks params.now.frames ≤ D.block_count disk.old }
+    ensures any_moment { NothingPending D.Disk disk.old → ForSome (D.seen disk.old) (λ image. Leaves D.Disk disk.old disk.new (MayFormat image params.now)) }
+    ensures made { OnOk result (ReadsFresh params.now (D.seen disk.old) (D.seen disk.new)) }
     ensures settled { OnOk result (NothingPending D.Disk disk.new) }
     ensures calls { DiskCalls D.Disk disk.old disk.new result }
 {
-    p.keep_rules();
+    params.keep_rules();
     let mut gate = [0; BLOCK_SIZE];
     write_firmly(disk, GATE_BLOCK, &gate)?;
-    write_behind(disk, p)?;
-    fresh_block(p, GATE_BLOCK, &mut gate);
+    write_behind(disk, params)?;
+    fresh_block(params, GATE_BLOCK, &mut gate);
     write_firmly(disk, GATE_BLOCK, &gate)
 }

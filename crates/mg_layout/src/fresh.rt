@@ -19,28 +19,28 @@ use mg_model::{Params, draw};
 /// The page of that address.
 const ROOT_PAGE: u64 = 0x0010_0000;
 
-/// Spells block `i` of a fresh volume. Of the blocks that no row, frame or gate fills it gives zeros.
-pub fn fresh_block(p: &Params, i: u64, out: &mut Block)
-    requires { i < total_blocks p.now.frames }
-    ensures { out.new ≡ fresh_bytes p.now i }
+/// Writes the bytes of block `i` of a fresh volume. A block that no row, frame or gate fills is zeros.
+pub fn fresh_block(params: &Params, i: u64, out: &mut Block)
+    requires { i < total_blocks params.now.frames }
+    ensures { out.new ≡ fresh_bytes params.now i }
 {
-    let geometry = Geometry::of(p.frames());
+    let geometry = Geometry::of(params.frames());
     if i == GATE_BLOCK {
         *out = gate();
     } else if i == SUPER_BLOCK {
-        write_super(p, out);
+        write_super(params, out);
     } else if i == GLOBALS_BLOCK {
         *out = globals();
     } else if i == FIRST_ACCOUNT_BLOCK {
-        *out = treasury(p);
+        *out = treasury(params);
     } else if i == FIRST_THREAD_BLOCK {
-        *out = first_thread(p);
+        *out = first_thread(params);
     } else if i == FIRST_OBJECT_BLOCK {
-        *out = root_row(p);
+        *out = root_row(params);
     } else if i == TABLE_BLOCK {
         *out = table();
     } else if i == geometry.first_frame {
-        *out = root_page(p);
+        *out = root_page(params);
     } else {
         *out = [0; BLOCK_SIZE];
     }
@@ -65,32 +65,32 @@ fn globals() -> Block
 }
 
 // Account 1 has all credits.
-fn treasury(p: &Params) -> Block
-    ensures { result ≡ accounts_bytes (fresh p.now) }
+fn treasury(params: &Params) -> Block
+    ensures { result ≡ accounts_bytes (fresh params.now) }
 {
     let mut filling = Filling::new();
-    filling.add_words(&[1, draw(&p.seed(), 1), p.credits(), 0]);
+    filling.add_words(&[1, draw(&params.seed(), 1), params.credits(), 0]);
     filling.whole()
 }
 
 // Thread 1 is stopped at 0, and its one frame has one slot: the root under its own password.
-fn first_thread(p: &Params) -> Block
-    ensures { result ≡ threads_bytes (fresh p.now) }
+fn first_thread(params: &Params) -> Block
+    ensures { result ≡ threads_bytes (fresh params.now) }
 {
     let mut filling = Filling::new();
     filling.add_words(&[1, 1, 0, 0, 1, 1, 0, 0]);
     filling.add_words(&[0; 8]);
-    filling.add_words(&[0, 1, ROOT_BASE, draw(&p.seed(), 0)]);
+    filling.add_words(&[0, 1, ROOT_BASE, draw(&params.seed(), 0)]);
     filling.whole()
 }
 
 // The root object has one page, paid by account 1, and one password that never ends.
-fn root_row(p: &Params) -> Block
-    ensures { result ≡ objects_bytes (fresh p.now) }
+fn root_row(params: &Params) -> Block
+    ensures { result ≡ objects_bytes (fresh params.now) }
 {
     let mut filling = Filling::new();
     filling.add_words(&[1, ROOT_BASE, 1, 1, 1, 0, 0, 0, 0, 0]);
-    filling.add_words(&[draw(&p.seed(), 0)]);
+    filling.add_words(&[draw(&params.seed(), 0)]);
     filling.add_words(&[0; 31]);
     filling.add(&[ALL_RIGHTS]);
     filling.add(&[0; 31]);
@@ -109,10 +109,10 @@ fn table() -> Block
 }
 
 // The root's page is a capability list with one entry, for the root itself.
-fn root_page(p: &Params) -> Block
-    ensures { result ≡ frame_bytes (fresh p.now) }
+fn root_page(params: &Params) -> Block
+    ensures { result ≡ frame_bytes (fresh params.now) }
 {
     let mut filling = Filling::new();
-    filling.add_words(&[1, 0, ROOT_BASE, draw(&p.seed(), 0)]);
+    filling.add_words(&[1, 0, ROOT_BASE, draw(&params.seed(), 0)]);
     filling.whole()
 }

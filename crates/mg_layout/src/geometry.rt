@@ -1,4 +1,4 @@
-// Where the parts of a volume lie.
+// The places of the parts of a volume.
 ghost use Rattle.std.specs.Prelude.{◌≡◌, ◌≤◌};
 ghost use Rattle.mg_model.specs.Layout.{first_frame, table_blocks, total_blocks};
 
@@ -8,8 +8,8 @@ use mg_model::layout::TABLE_BLOCK;
 /// How many words a block has. The frame table has an entry in each.
 pub const BLOCK_WORDS: u64 = BLOCK_SIZE as u64 / 8;
 
-/// What lies at different places on volumes of different sizes, in blocks.
-#[derive(Clone, Copy, Debug, PartialEq, Eq)]
+/// The places and sizes that depend on the number of frames, in blocks.
+#[derive(Clone, Copy, PartialEq, Eq)]
 pub struct Geometry {
     /// How many blocks a volume needs.
     pub total: u64,
@@ -20,7 +20,7 @@ pub struct Geometry {
 }
 
 impl Geometry {
-    /// The places of a volume of so many frames, from 16 to 65,536.
+    /// The places of a volume with this number of frames, from 16 to 65,536.
     pub fn of(frames: u64) -> Geometry
         requires at_least_16_frames { 16 ≤ frames }
         requires at_most_65536_frames { frames ≤ 65536 }

@@ -1,13 +1,13 @@
-//! Where everything lies on a volume, its superblock, and how a volume is made.
+//! The places of everything on a volume, its superblock, and how a volume is made.
 //!
-//! A layer above learns where the parts of a volume lie ([`Geometry`]), reads and writes the superblock, and makes a
-//! volume with [`format`]. At each moment of `format` a stop leaves what the blocks behind the gate spelled before, no
-//! volume, or the fresh one.
+//! A layer above gets the places of the parts of a volume ([`Geometry`]), reads and writes the superblock, and makes a
+//! volume with [`format`]. At each moment of `format` a stop leaves what the blocks after the gate spelled before, no
+//! volume, or the fresh volume.
 //!
-//! All bytes of a volume are read and written with what stands here: [`number_at`], [`put_number`], [`are_zeros`], and
-//! [`Filling`], bytes that are filled from the first on.
+//! All bytes of a volume are read and written with these: [`number_at`], [`put_number`], [`are_zeros`], and [`Filling`],
+//! bytes that are filled from the first on.
 //!
-//! What an image spells is defined in `mg_model`: `Layout` (where everything lies), `Spelling` (rows as bytes), `Replay`
+//! What an image spells is defined in `mg_model`: `Layout` (the places of everything), `Spelling` (rows as bytes), `Replay`
 //! and `Volume`. Here `specs/FreshImage.antt` has the blocks of a fresh volume, and `specs/MayFormat.antt` what a stop may
 //! leave while one is made.
 #![tactic(auto)]

@@ -16,7 +16,7 @@ use mg_model::{Params, Tariff};
 pub const MAGIC: [u8; 8] = *b"MUNGIVOL";
 
 /// What a superblock spells.
-#[derive(Clone, Copy, Debug, PartialEq, Eq)]
+#[derive(Clone, Copy, PartialEq, Eq)]
 pub enum Super {
     /// No volume: it does not begin with the eight bytes.
     Not,
@@ -29,15 +29,15 @@ pub enum Super {
 }
 
 /// Spells the superblock of a volume with these settings. It is read back.
-pub fn write_super(p: &Params, out: &mut Block)
-    ensures spelled { out.new ≡ super_bytes p.now }
-    ensures read_back { super_read out.new ≡ Spells p.now }
+pub fn write_super(params: &Params, out: &mut Block)
+    ensures spelled { out.new ≡ super_bytes params.now }
+    ensures read_back { super_read out.new ≡ Spells params.now }
 {
-    let steps = p.tariff().steps();
+    let steps = params.tariff().steps();
     let mut filling = Filling::new();
     filling.add(&MAGIC);
-    filling.add_words(&[VERSION, p.frames(), p.credits()]);
-    filling.add(&p.seed());
+    filling.add_words(&[VERSION, params.frames(), params.credits()]);
+    filling.add(&params.seed());
     filling.add_words(&[
         steps[0].0, steps[0].1, steps[1].0, steps[1].1, steps[2].0, steps[2].1, steps[3].0,
         steps[3].1,
@@ -46,19 +46,19 @@ pub fn write_super(p: &Params, out: &mut Block)
 }
 
 /// What a superblock spells.
-pub fn read_super(b: &Block) -> Super
-    ensures { IsSuper result (super_read b.now) }
+pub fn read_super(block: &Block) -> Super
+    ensures { IsSuper result (super_read block.now) }
 {
-    if MAGIC[..] != b[..8] {
+    if MAGIC[..] != block[..8] {
         return Super::Not;
     }
-    if number_at(b, 8) < VERSION {
+    if number_at(block, 8) < VERSION {
         return Super::Old;
     }
-    match fields(b) {
-        Some(p) => {
-            if is_spelling(&p, b) {
-                Super::Is(p)
+    match fields(block) {
+        Some(params) => {
+            if is_spelling(&params, block) {
+                Super::Is(params)
             } else {
                 Super::Damaged
             }
@@ -68,39 +68,44 @@ pub fn read_super(b: &Block) -> Super
 }
 
 // Whether a superblock with these settings has these bytes.
-fn is_spelling(p: &Params, b: &Block) -> bool
-    ensures { result ≡ same_bytes (super_bytes p.now) b.now }
+fn is_spelling(params: &Params, block: &Block) -> bool
+    ensures { result ≡ same_bytes (super_bytes params.now) block.now }
 {
     let mut spelled = [0; BLOCK_SIZE];
-    write_super(p, &mut spelled);
-    spelled == *b
+    write_super(params, &mut spelled);
+    spelled == *block
 }
 
-// The fields of a superblock, where they keep their rules.
-fn fields(b: &Block) -> Option<Params>
-    ensures { result ≡ (if are_settings (super_fields b.now) then Some (super_fields b.now) else None) }
+// The fields of a superblock, if they keep their rules.
+fn fields(block: &Block) -> Option<Params>
+    ensures { result ≡ (if are_settings (super_fields block.now) then Some (super_fields block.now) else None) }
 {
-    match tariff_in(b) {
-        Some(tariff) => Params::new(number_at(b, 16), seed_in(b), number_at(b, 24), tariff),
+    match tariff_in(block) {
+        Some(tariff) => Params::new(
+            number_at(block, 16),
+            seed_in(block),
+            number_at(block, 24),
+            tariff,
+        ),
         None => None,
     }
 }
 
-fn tariff_in(b: &Block) -> Option<Tariff>
-    ensures { result ≡ (if is_tariff (steps_at b.now 64 4) then Some (steps_at b.now 64 4) else None) }
+fn tariff_in(block: &Block) -> Option<Tariff>
+    ensures { result ≡ (if is_tariff (steps_at block.now 64 4) then Some (steps_at block.now 64 4) else None) }
 {
     Tariff::new([
-        (number_at(b, 64), number_at(b, 72)),
-        (number_at(b, 80), number_at(b, 88)),
-        (number_at(b, 96), number_at(b, 104)),
-        (number_at(b, 112), number_at(b, 120)),
+        (number_at(block, 64), number_at(block, 72)),
+        (number_at(block, 80), number_at(block, 88)),
+        (number_at(block, 96), number_at(block, 104)),
+        (number_at(block, 112), number_at(block, 120)),
     ])
 }
 
-fn seed_in(b: &Block) -> [u8; 32]
-    ensures { result ≡ bytes_at b.now 32 32 }
+fn seed_in(block: &Block) -> [u8; 32]
+    ensures { result ≡ bytes_at block.now 32 32 }
 {
     let mut seed = [0; 32];
-    seed.copy_from_slice(&b[32..64]);
+    seed.copy_from_slice(&block[32..64]);
     seed
 }

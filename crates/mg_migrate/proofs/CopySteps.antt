@@ -1,4 +1,4 @@
--- How the copying of contents goes on, from the gate closed to the gate open.
+-- How the copying of contents proceeds, from the gate closed to the gate open.
 use Rattle.std.specs.Prelude.{◌≡◌, ◌≢◌, ℕ, ◌+◌, ◌-◌, ◌<◌, ◌≤◌, IsTrue, List, length, slice_index, Option, Some, None, IsSomeAnd}
 use Rattle.std.specs.Option.{ForSome}
 use Rattle.std.proofs.Common.{refl, inl, inr, sym, ap, subst, ◌∙◌, ⊎_elim, arith}
@@ -29,7 +29,7 @@ seen_then places (Some s) (Some c) image same is =
     let P : Image → Type 0 = λ x. SameBut places x c in
     record { c = c; is = refl; same = subst P (some_inj s image is) same }
 
--- the blocks before this one, of so many, are those of the contents
+-- the blocks before this one, of n, are those of the contents
 abbrev pub AreBefore : ℕ → ℕ → Image → Image → Type 0
 AreBefore n next contents c = (i : ℕ) → 1 ≤ i → i < n → i < next → block_of c i ≡ block_of contents i
 
@@ -52,11 +52,11 @@ of_contents of (Some s) P told r is = told s refl r is
 pub synced : {D : Type 0} (facts : Ghosts D) (P : Image → Type 0) (first at mid new : D) → mid ≡ at → Tracks facts first at P P → TimeGoes facts mid new no_image → Leaves facts first new P
 synced facts P first at mid new is tracks call = (quiet facts first mid new P P (subst (λ d. Tracks facts first d P P) (sym is) tracks) call).leaves
 
--- The gate is closed: a stop leaves no volume, or what is behind the gate.
+-- The gate is closed: a stop leaves no volume, or what is after the gate.
 pub close_may : (n : ℕ) (image r c : Image) → SameBut (only_place gate_block) image c → MayCopy n image r c
 close_may n image r c same = ⊎_elim (λ none. inl none) (λ before. inr (inl before)) (gate_alone image c same)
 
--- The blocks behind it are copied: it is no volume while the gate stays closed.
+-- The blocks after it are copied: it is no volume while the gate stays closed.
 zero_closed : (c : Image) → gate_byte c ≡ 0 → IsClosed c
 zero_closed c zero =
     let gate : gate_byte c ≢ gate_open = λ opens. let both : 0 ≡ gate_open = sym zero ∙ opens in omega arith in
@@ -77,7 +77,7 @@ was_told places (Some s) new P same some = (s, refl)
 was_told places None (Some c) P same some = absurd same
 was_told places None None P same some = absurd some
 
--- While the blocks behind it are copied a stop leaves the gate closed too.
+-- While the blocks after it are copied a stop leaves the gate closed too.
 pub stands_closed : {D : Type 0} (facts : Ghosts D) (mid new : D) → ((t : Moment) (c : Image) → facts.left_since new t c → IsTrue (facts.tells_stops new))
     → (IsTrue (facts.tells_stops new) → IsSomeAnd (facts.seen new) (facts.left_since new (facts.moment new))) → SeenBut (λ k. 1 ≤ k) (facts.seen mid) (facts.seen new)
     → ForSome (facts.seen mid) (λ s. gate_byte s ≡ 0) → NothingPending facts mid → ForSome (facts.seen mid) (λ s. Leaves facts mid new (SameBut (λ k. 1 ≤ k) s)) → StandsClosed facts new

@@ -23,7 +23,7 @@ numbers_at-front xs ys k zero within = refl
 numbers_at-front xs ys k (suc n) within =
     ap (λ v. v ∷ numbers_at (xs ++ ys) (k + 8) n) (number_at-front xs ys k (omega arith)) ∙ ap (λ v. number_at xs k ∷ v) (numbers_at-front xs ys (k + 8) n (omega arith))
 
--- what lies behind the first n bytes
+-- what lies after the first n bytes
 pub get_or-behind : (xs ys : List ℕ) (n k d : ℕ) → length xs ≡ n → get_or (xs ++ ys) (n + k) d ≡ get_or ys k d
 get_or-behind xs ys n k d long = ap (λ m. get_or (xs ++ ys) (m + k) d) (sym long) ∙ get_or-append-add xs ys k d
 
@@ -55,7 +55,7 @@ same_bytes-tells (x ∷ xs) (y ∷ ys) h =
     let rest : xs ≡ ys = same_bytes-tells xs ys parts.1 in
     cc
 
--- zeros behind bytes change nothing
+-- zeros after bytes change nothing
 pub are_zeros-behind : (xs : List ℕ) (n : ℕ) → are_zeros (xs ++ replicate n 0) ≡ are_zeros xs
 are_zeros-behind xs n = list_all-append (λ b. b == 0) xs (replicate n 0) ∙ ap (λ t. are_zeros xs && t) (are_zeros-replicate n) ∙ and-true (are_zeros xs)
 

@@ -1,4 +1,4 @@
--- What a copy of a lifted volume spells, and what is told of the old one.
+-- What a copy of a lifted volume spells, and what is said of the old one.
 use Rattle.std.specs.Prelude.{◌≡◌, ◌⊎◌, ℕ, ◌<◌, ◌≤◌, option_map, Option, Some, None}
 use Rattle.std.proofs.Common.{refl, sym, ap, subst, ◌∙◌, inl, inr, ⊎_elim, arith}
 use Rattle.mg_check.specs.Reads.{contents}
@@ -111,7 +111,7 @@ left-lifts P (Some before) (Some image) c is told = subst P (cc) is
 gate-may : (v : Volume1Read) (image c : Image) → (volume c ≡ NotVolume) ⊎ (volume c ≡ volume (opened image)) → MayMigrate image v c
 gate-may v image c may = ⊎_elim (λ none. inl (no_state c none)) (λ before. inr (inl before)) may
 
--- where no call was made, nothing but the image itself may be left
+-- when no call was made, nothing but the image itself may be left
 pub untouched_may : {D : Type 0} (facts : Ghosts D) (v : Volume1Read) (image : Image) (disk : D) → facts.has_been disk (facts.moment disk) → facts.seen disk ≡ Some image → NothingPending facts disk
     → Leaves facts disk disk (MayMigrate image v)
 untouched_may facts v image disk been told settled =

@@ -52,7 +52,7 @@ module _ (b : List ℕ) (long : length b ≡ 512) where
       ∙ take-append-drop 80 b
 
   module _ (some : are_zeros b ≡ false) where
-    -- where the row may be moved, it is read alike
+    -- when the row may be moved, it is read alike
     pub widened-read : may_widen b ≡ true → object_read (widened b) ≡ lift_read (object1_read b)
     widened-read may =
         let both = and_parts (nat_le (number_at b 32) 16 && nat_le (number_at b 40) 16) (are_zeros (drop 352 b)) may in
@@ -66,7 +66,7 @@ module _ (b : List ℕ) (long : length b ≡ 512) where
         (ap are_zeros whole ∙ some)
         ∙ ap (λ v. lift_read (object1_read v)) whole
 
-    -- where it may not, it spells nothing
+    -- when it may not, it spells nothing
     not_ruled : is_object1_row (object1_fields b) ≡ false → object1_read b ≡ None
     not_ruled f = read1-live-as b (object1_fields b) false (same_bytes (object1_bytes (object1_fields b)) b) some refl f refl
 
@@ -194,7 +194,7 @@ pub length-lifted_row : (b : List ℕ) → length (lifted_row b) ≡ 1024
 unfolding lifted_row
 length-lifted_row b = length-of-lifted b (object1_read b) refl
 
--- what becomes of a row, from what is read
+-- what a row turns into, from what is read
 some-spelled : (o : Option ObjectRow) (read : Read ObjectRow) → Some o ≡ lift_read read → option_map_or (λ (row : ObjectRow). object_bytes row) o (replicate 1024 0) ≡ row_lifted read
 some-spelled o None is = absurd (cc)
 some-spelled o (Some None) is = let same : o ≡ None = same_Some _ _ is in ap (λ (v : Option ObjectRow). option_map_or (λ (row : ObjectRow). object_bytes row) v (replicate 1024 0)) same

@@ -29,7 +29,7 @@ to_this settings = refl
 pub to_first : (settings : Settings) → slice_set (super_bytes settings) 8 1 ≡ super1_bytes settings
 to_first settings = refl
 
--- the fields lie behind it
+-- the fields lie after it
 bytes_at-set : (bytes : List ℕ) (v k n : ℕ) → 8 < k → bytes_at (slice_set bytes 8 v) k n ≡ bytes_at bytes k n
 bytes_at-set bytes v k n behind = ap (take n) (drop-set-lt k bytes 8 v behind)
 

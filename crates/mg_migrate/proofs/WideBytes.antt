@@ -1,4 +1,4 @@
--- A row of version 1 is spelled exactly where its bytes spell the lifted row, once they are moved.
+-- A row of version 1 is spelled exactly if its bytes spell the lifted row, once they are moved.
 use Rattle.std.specs.Prelude.{◌≡◌, ℕ, zero, suc, ◌+◌, ◌≤◌, ◌==◌, ◌&&◌, Bool, true, false, List, [], ◌∷◌, ◌++◌, if◌then◌else◌, is_some, length, map, min, replicate, Some, None}
 use Rattle.std.specs.Option.{option_map_or}
 use Rattle.std.proofs.Common.{refl, sym, ap, ◌∙◌, arith}
@@ -199,7 +199,7 @@ length-passwords1 bytes = length-passwords1_at bytes 0 (min (number_at bytes 32)
 pub length-entries1 : (bytes : List ℕ) → length (object1_fields bytes).entries ≡ min (number_at bytes 40) 17
 length-entries1 bytes = length-numbers_at bytes 224 (min (number_at bytes 40) 17)
 
--- a row whose counts are within their limits, with zeros behind its columns
+-- a row whose counts are within their limits, with zeros after its columns
 module _ (h p g e : List ℕ) (n : ℕ) (long : AreLong h p g e) where
   abbrev old : List ℕ
   old = narrow h p g e (replicate 160 0)

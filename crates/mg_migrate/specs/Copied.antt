@@ -8,21 +8,21 @@ use Rattle.mg_model.specs.Layout.{gate_open}
 use Rattle.mg_model.specs.Replay.{block_of}
 use Rattle.mg_model.specs.Volume.{NotVolume, gate_byte, volume}
 
--- the blocks behind the gate, up to so many with it, are those of the contents
+-- the blocks after the gate and below n are those of the contents
 abbrev pub AreCopied : ℕ → Image → Image → Type 0
 AreCopied n contents c = (i : ℕ) → 1 ≤ i → i < n → block_of c i ≡ block_of contents i
 
--- so many blocks from the first one on are those of the contents
+-- this many blocks from the first one on are those of the contents
 abbrev pub AreSame : ℕ → ℕ → Image → Image → Type 0
 AreSame first count contents c = (i : ℕ) → InRange first count i → block_of c i ≡ block_of contents i
 
--- its gate is open, and the blocks behind it, up to so many with it, are those of the contents
+-- its gate is open, and the blocks after it and below n are those of the contents
 pub record IsCopy (n : ℕ) (contents c : Image) : Type 0 where
   pub long : n ≤ length c
   pub opened : gate_byte c ≡ gate_open
   pub blocks : AreCopied n contents c
 
--- no volume, what the blocks behind the gate spelled before, or a copy
+-- no volume, what the blocks after the gate spelled before, or a copy
 abbrev pub MayCopy : ℕ → Image → Image → Image → Type 0
 MayCopy n image contents c = (volume c ≡ NotVolume) ⊎ ((volume c ≡ volume (opened image)) ⊎ IsCopy n contents c)
 

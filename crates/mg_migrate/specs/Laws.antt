@@ -31,11 +31,11 @@ pub record KeepsPlaces (settings : Settings) (replayed : List (List ℕ)) : Type
 abbrev pub LiftedKeepsPlaces : Type 0
 LiftedKeepsPlaces = (settings : Settings) (replayed : List (List ℕ)) → KeepsPlaces settings replayed
 
--- a lifted image spells the lifted state, and is damaged where there is none
+-- a lifted image spells the lifted state, and is damaged if there is none
 abbrev pub LiftedIsLift : Type 0
 LiftedIsLift = (settings : Settings) (replayed : List (List ℕ)) → replayed_volume settings (lifted settings replayed) ≡ lift_volume (replayed1_volume settings replayed)
 
--- so does each image that has the lifted blocks, where the settings are those of a volume of version 1
+-- so does each image that has the lifted blocks, if the settings are those of a volume of version 1
 abbrev pub LiftedIsVolume : Type 0
 LiftedIsVolume =
     (settings : Settings) (image replayed c : List (List ℕ)) → super1_read (block_of image super_block) ≡ Spells1 settings → IsLifted settings replayed c

@@ -9,18 +9,18 @@ version1 = 1
 abbrev pub object1_size : ℕ
 object1_size = 512
 
--- the frame table, and the frames behind it
+-- the frame table, and the frames after it
 abbrev pub table1_block : ℕ
 table1_block = 2083
 
 abbrev pub first_frame1 : ℕ → ℕ
 first_frame1 frames = table1_block + table_blocks frames
 
--- how many blocks a volume of so many frames needs
+-- how many blocks a volume with this number of frames needs
 abbrev pub total1_blocks : ℕ → ℕ
 total1_blocks frames = first_frame1 frames + frames
 
--- an object's columns behind its words, which are those of this version: sixteen passwords, their rights in a byte each, and
+-- an object's columns after its words, which are those of this version: sixteen passwords, their rights in a byte each, and
 -- the entries; zeros from `object1_end` on
 abbrev pub object1_rights : ℕ
 object1_rights = 208

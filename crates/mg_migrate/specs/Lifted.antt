@@ -28,7 +28,8 @@ object1_bytes_in block k = bytes_at block (object1_size * k) object1_size
 unfoldable pub lifted_objects : List ℕ → ℕ → List ℕ
 lifted_objects block half =
     lifted_row (object1_bytes_in block (4 * half))
-    ++ (lifted_row (object1_bytes_in block (4 * half + 1)) ++ (lifted_row (object1_bytes_in block (4 * half + 2)) ++ lifted_row (object1_bytes_in block (4 * half + 3))))
+    ++ (lifted_row (object1_bytes_in block (4 * half + 1))
+    ++ (lifted_row (object1_bytes_in block (4 * half + 2)) ++ lifted_row (object1_bytes_in block (4 * half + 3))))
 
 -- how far the frame table and the frames move up
 abbrev pub table_shift : ℕ
@@ -41,7 +42,8 @@ lifted_block settings image i =
     if i == super_block then super_bytes settings
     else if nat_lt i globals_block then replicate 4096 0
     else if nat_lt i first_object_block then block_of image i
-    else if nat_lt i table_block then lifted_objects (block_of image (first_object_block + (i - first_object_block) / 2)) ((i - first_object_block) % 2)
+    else if nat_lt i table_block
+    then lifted_objects (block_of image (first_object_block + (i - first_object_block) / 2)) ((i - first_object_block) % 2)
     else block_of image (i - table_shift)
 
 unfoldable pub lifted : Settings → List (List ℕ) → List (List ℕ)
@@ -54,7 +56,7 @@ pub record IsReplayed1 (settings : Settings) (image replayed : List (List ℕ)) 
   pub long : total1_blocks settings.frames ≤ length image
   pub is : replay image (total1_blocks settings.frames) ≡ Some replayed
 
--- An image whose gate is open has the lifted blocks behind it, and maybe more blocks.
+-- An image whose gate is open has the lifted blocks after it, and maybe more blocks.
 pub record IsLifted (settings : Settings) (replayed c : List (List ℕ)) : Type 0 where
   pub long : total_blocks settings.frames ≤ length c
   pub opened : gate_byte c ≡ gate_open

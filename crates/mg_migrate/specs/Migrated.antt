@@ -1,4 +1,4 @@
--- What is told of a migration: by its answer, and of what a stop may leave on the new disk.
+-- What is said of a migration: by its answer, and of what a stop may leave on the new disk.
 use Rattle.std.specs.Prelude.{◌≡◌, ◌⊎◌, ℕ, ◌<◌, ◌≤◌, Result, Ok, Err}
 use Rattle.mg_check.specs.declared.examining.Summary.{Summary}
 use Rattle.mg_check.specs.Summaries.{summary_of}
@@ -22,7 +22,7 @@ IsState1 _ P = ⊥
 abbrev pub needed : State → ℕ
 needed state = total_blocks state.settings.frames
 
--- the old image is a volume of version 1, and a disk with so many blocks has room for it
+-- the old image is a volume of version 1, and a disk with this number of blocks has room for it
 abbrev pub Fits1 : ℕ → Volume1Read → Type 0
 Fits1 have old = IsState1 old (λ state. needed state ≤ have)
 
@@ -43,7 +43,7 @@ Tells1 (Err fault.NewDisk) have old = Fits1 have old
 abbrev pub IsLiftOf : Volume1Read → Image → Type 0
 IsLiftOf old c = IsState1 old (λ state. volume c ≡ Is (lift state))
 
--- Behind an open gate it has the blocks of the old image, once that one's journal is replayed, each lifted and in its place: so rows
+-- After an open gate it has the blocks of the old image, once that one's journal is replayed, each lifted and in its place: so rows
 -- and frames keep their numbers.
 pub record HasLifted (old c : Image) : Type 0 where
   pub settings : Settings
@@ -51,7 +51,7 @@ pub record HasLifted (old c : Image) : Type 0 where
   pub is : IsReplayed1 settings old replayed
   pub lifted : IsLifted settings replayed c
 
--- no state, what the blocks behind the gate of the new disk spelled before, or the old state with passwords that never end
+-- no state, what the blocks after the gate of the new disk spelled before, or the old state with passwords that never end
 abbrev pub MayMigrate : Image → Volume1Read → Image → Type 0
 MayMigrate image old c = IsNoState (volume c) ⊎ ((volume c ≡ volume (opened image)) ⊎ IsLiftOf old c)
 
@@ -63,6 +63,6 @@ IsUntouched old new (Err fault.OldDisk) = Unit {0}
 IsUntouched old new (Err fault.NewDisk) = Unit {0}
 IsUntouched old new _ = new ≡ old
 
--- No call was made on the new disk, whatever the answer is, where the old image is no volume of version 1 that fits there.
+-- No call was made on the new disk, whatever the answer is, if the old image is no volume of version 1 that fits there.
 abbrev pub StandsBack : {D : Type 0} → ℕ → Volume1Read → D → D → Type 0
 StandsBack have before old new = (Fits1 have before → ⊥) → new ≡ old

@@ -35,7 +35,7 @@ pub record IsOldRead (seen : LiftedView) (rows : VolumeRows) (image : Image) : T
   pub fits : Fits seen.placed image
   pub told : replayed_volume seen.settings (lifted seen.settings replayed) ≡ Is (state_in rows (lifted seen.settings replayed))
 
--- What a fault tells of the image: no fault of the new disk comes.
+-- What a fault says of the image: no fault of the new disk comes.
 abbrev pub TellsOld : {T : Type 0} → Result T MigrateFault → Volume1Read → Type 0
 TellsOld (Ok read) old = Unit {0}
 TellsOld (Err fault.OldDisk) old = Unit {0}

@@ -15,7 +15,8 @@ use Rattle.mg_migrate.specs.Layout1.{object1_end, object1_entries, object1_right
 -- the superblock: it differs in its version alone
 abbrev pub super1_bytes : Settings → List ℕ
 super1_bytes settings =
-    magic ++ padded_to (block_size - 8) (words_bytes (version1 ∷ settings.frames ∷ settings.credits ∷ []) ++ (settings.seed ++ words_bytes (step_words settings.tariff)))
+    magic ++ padded_to (block_size - 8)
+    (words_bytes (version1 ∷ settings.frames ∷ settings.credits ∷ []) ++ (settings.seed ++ words_bytes (step_words settings.tariff)))
 
 -- What a superblock spells to who looks for version 1: none, one of an older version, one of a newer version, a damaged one, or
 -- the settings of a volume.
@@ -43,11 +44,12 @@ object1_bytes row =
     ++ (padded_to (object1_end - object1_entries) (words_bytes row.entries)
     ++ replicate (object1_size - object1_end) 0)))
 
--- the password rows that begin at place k, so many of them
+-- this many password rows, from place k on
 abbrev pub passwords1_at : List ℕ → ℕ → ℕ → List Pw
 passwords1_at bytes k zero = []
 passwords1_at bytes k (suc n) =
-    record { password = number_at bytes (80 + 8 * k); rights = slice_index bytes (object1_rights + k); until = 0 } ∷ passwords1_at bytes (k + 1) n
+    record { password = number_at bytes (80 + 8 * k); rights = slice_index bytes (object1_rights + k); until = 0 }
+    ∷ passwords1_at bytes (k + 1) n
 
 -- the fields; of a count past its limit one more is read, which no rule lets pass
 abbrev pub object1_fields : List ℕ → ObjectRow
@@ -72,7 +74,8 @@ abbrev pub is_object1_row : ObjectRow → Bool
 is_object1_row row = nat_le (length row.passwords) password1_limit && is_object_row (lift_row row)
 
 abbrev pub object1_read : List ℕ → Read ObjectRow
-object1_read bytes = free_or bytes (live_if (is_object1_row (object1_fields bytes)) (object1_bytes (object1_fields bytes)) bytes (object1_fields bytes))
+object1_read bytes =
+    free_or bytes (live_if (is_object1_row (object1_fields bytes)) (object1_bytes (object1_fields bytes)) bytes (object1_fields bytes))
 
 -- what is read of a row, lifted
 abbrev pub lift_read : Read ObjectRow → Read ObjectRow

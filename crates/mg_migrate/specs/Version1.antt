@@ -37,13 +37,20 @@ rows1_of image frames =
     and_then (live_rows (λ i. thread_read (block_of image (first_thread_block + i))) 0 thread_limit) (λ threads.
     and_then (live_rows (λ i. object1_read (object1_row_bytes image i)) 0 object_limit) (λ objects.
     if are_zeros (drop frames (whole_table1 image frames))
-    then Some record { counters = counters; accounts = accounts; threads = threads; objects = objects; table = take frames (whole_table1 image frames) }
+    then Some record {
+      counters = counters;
+      accounts = accounts;
+      threads = threads;
+      objects = objects;
+      table = take frames (whole_table1 image frames);
+    }
     else None))))
 
 -- the words of a page: those of the frame that holds it, or zeros
 abbrev pub page1_words : List (List ℕ) → ℕ → List ℕ → ℕ → List ℕ
 page1_words image frames table page =
-    option_map_or (λ frame. block_words (block_of image (first_frame1 frames + frame))) (position (λ entry. entry == page) table) (replicate 512 0)
+    option_map_or (λ frame. block_words (block_of image (first_frame1 frames + frame)))
+    (position (λ entry. entry == page) table) (replicate 512 0)
 
 abbrev pub pages1_words : List (List ℕ) → ℕ → List ℕ → ℕ → ℕ → List ℕ
 pages1_words image frames table page zero = []
@@ -54,7 +61,8 @@ object1_spelled image frames table row = record { row = row; words = pages1_word
 
 abbrev pub objects1_spelled : List (List ℕ) → ℕ → List ℕ → List (ℕ × ObjectRow) → List Object
 objects1_spelled image frames table [] = []
-objects1_spelled image frames table ((place, row) ∷ rows) = with_object (object1_spelled image frames table row) (objects1_spelled image frames table rows)
+objects1_spelled image frames table ((place, row) ∷ rows) =
+    with_object (object1_spelled image frames table row) (objects1_spelled image frames table rows)
 
 abbrev pub state1_spelled : List (List ℕ) → Settings → Rows → State
 state1_spelled image settings rows = record {
@@ -67,7 +75,8 @@ state1_spelled image settings rows = record {
 
 -- what a replayed image spells under these settings: damage or a state
 abbrev pub replayed1_volume : Settings → List (List ℕ) → VolumeRead
-replayed1_volume settings image = option_map_or (λ rows. fitting rows (state1_spelled image settings rows)) (rows1_of image settings.frames) Damaged
+replayed1_volume settings image =
+    option_map_or (λ rows. fitting rows (state1_spelled image settings rows)) (rows1_of image settings.frames) Damaged
 
 -- an image has at least as many blocks as its frames need, and its journal can be replayed
 abbrev pub settled1_volume : List (List ℕ) → Settings → VolumeRead

@@ -4,7 +4,7 @@ use Rattle.mg_model.specs.Bytes.{are_zeros, bytes_at, number_at, padded_to, word
 use Rattle.mg_model.specs.Limits.{entry_point_limit, never}
 use Rattle.mg_migrate.specs.Layout1.{object1_end, password1_limit}
 
--- no more passwords and entries than a row may have, and zeros behind the columns
+-- no more passwords and entries than a row may have, and zeros after the columns
 abbrev pub may_widen : List ℕ → Bool
 may_widen bytes = nat_le (number_at bytes 32) password1_limit && nat_le (number_at bytes 40) entry_point_limit && are_zeros (drop object1_end bytes)
 

@@ -1,4 +1,4 @@
-// The contents of a volume copied to another disk, so that a stop at any moment leaves no volume, what the blocks behind the gate of
+// The contents of a volume copied to another disk, so that a stop at any moment leaves no volume, what the blocks after the gate of
 // that disk spelled, or the copy.
 ghost use Rattle.std.specs.Prelude.{◌≡◌, ◌≢◌, ◌+◌, ◌^◌, ◌≤◌, ◌<◌, OnOk, length};
 ghost use Rattle.std.specs.Option.{ForSome};
@@ -17,17 +17,17 @@ use mg_layout::{GATE_BLOCK, GATE_OPEN};
 /// Which disk failed while contents were copied.
 #[derive(Debug, Drop)]
 pub(crate) enum CopyFault {
-    /// The one that they are read from. The gate of the other one is closed, and a stop leaves it so.
+    /// The disk that they are read from. The gate of the other disk is closed, and a stop leaves it so.
     From,
-    /// The one that they are written to.
+    /// The disk that they are written to.
     To,
 }
 
 /// Copies all blocks of the contents but the gate to the same places of a disk, in order, some of them at a time.
 ///
-/// The gate is closed first, then the blocks behind it are copied, and then the gate is opened, with a sync after each.
+/// The gate is closed first, then the blocks after it are copied, and then the gate is opened, with a sync after each.
 ///
-/// The caller gives the count of blocks, since [`Contents`] tell it to proofs alone.
+/// The caller gives the count of blocks, since [`Contents`] have it for proofs alone.
 pub(crate) fn copy<C: Contents, D: Disk, E: Disk>(
     view: &C,
     total: u64,
@@ -51,7 +51,7 @@ pub(crate) fn copy<C: Contents, D: Disk, E: Disk>(
     write_gate(new, GATE_OPEN)
 }
 
-// Writes a gate with this byte in front, and zeros behind it, and makes sure of it.
+// Writes a gate with this byte in front, and zeros after it, and syncs it.
 fn write_gate<D: Disk>(new: &mut D, first: u8) -> Result<(), CopyFault>
     requires at_least_1_blocks { 1 ≤ D.block_count new.old }
     ensures any_moment { NothingPending D.Disk new.old → ForSome (D.seen new.old) (λ image. Leaves D.Disk new.old new.new (SameBut (only_place gate_block) image)) }
@@ -69,7 +69,7 @@ fn write_gate<D: Disk>(new: &mut D, first: u8) -> Result<(), CopyFault>
     }
 }
 
-// Copies the blocks behind the gate and makes sure of them.
+// Copies the blocks after the gate and syncs them.
 fn copy_behind<C: Contents, D: Disk, E: Disk>(
     view: &C,
     total: u64,

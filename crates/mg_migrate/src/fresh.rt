@@ -13,29 +13,29 @@ use mg_model::{Params, draw};
 pub(crate) const TABLE1_BLOCK: u64 = 2083;
 
 /// Spells block `i` of a fresh volume of version 1. Nothing but tests has a use for one.
-pub fn fresh_block1(p: &Params, i: u64, out: &mut Block)
-    requires { i < total1_blocks p.now.frames }
-    ensures { out.new ≡ fresh1_bytes p.now i }
+pub fn fresh_block1(params: &Params, i: u64, out: &mut Block)
+    requires { i < total1_blocks params.now.frames }
+    ensures { out.new ≡ fresh1_bytes params.now i }
 {
-    p.keep_rules();
+    params.keep_rules();
     if i == SUPER_BLOCK {
-        write_super1(p, out);
+        write_super1(params, out);
     } else if i == FIRST_OBJECT_BLOCK {
-        *out = root_row(p);
+        *out = root_row(params);
     } else if i < TABLE1_BLOCK {
-        fresh_block(p, i, out);
+        fresh_block(params, i, out);
     } else {
-        fresh_block(p, i + (TABLE_BLOCK - TABLE1_BLOCK), out);
+        fresh_block(params, i + (TABLE_BLOCK - TABLE1_BLOCK), out);
     }
 }
 
 // The root object has one page, paid by account 1, and one password.
-fn root_row(p: &Params) -> Block
-    ensures { result ≡ objects1_bytes p.now }
+fn root_row(params: &Params) -> Block
+    ensures { result ≡ objects1_bytes params.now }
 {
     let mut filling = Filling::new();
     filling.add_words(&[1, ROOT_BASE, 1, 1, 1, 0, 0, 0, 0, 0]);
-    filling.add_words(&[draw(&p.seed(), 0)]);
+    filling.add_words(&[draw(&params.seed(), 0)]);
     filling.add_words(&[0; 15]);
     filling.add(&[ALL_RIGHTS]);
     filling.add(&[0; 15]);

@@ -53,12 +53,12 @@ impl Lifting {
 }
 
 // Spells block `i` in front of the globals: the superblock, or a block of the gate and the closed journal.
-fn write_front(p: &Params, i: u64, out: &mut Block)
+fn write_front(params: &Params, i: u64, out: &mut Block)
     requires { i < globals_block }
-    ensures { (r : Image) → out.new ≡ lifted_block p.now r i }
+    ensures { (r : Image) → out.new ≡ lifted_block params.now r i }
 {
     if i == SUPER_BLOCK {
-        write_super(p, out);
+        write_super(params, out);
     } else {
         *out = [0; BLOCK_SIZE];
     }

@@ -18,17 +18,17 @@ use thiserror::Error;
 /// Why a volume was not migrated.
 #[derive(Debug, Drop, Error)]
 pub enum MigrateFault {
-    /// A call of the old disk failed. Where the copying had begun, the old disk holds a volume of version 1 that fits on the new one, and
+    /// A call of the old disk failed. If the copying had begun, the old disk holds a volume of version 1 that fits on the new one, and
     /// the gate of the new one is closed, which a stop leaves so; else no call was made on it.
     #[error("a call of the old disk failed")]
     OldDisk,
-    /// The old disk holds no volume: its gate is closed, or no superblock is behind it. No call was made on the new disk.
+    /// The old disk holds no volume: its gate is closed, or no superblock is after it. No call was made on the new disk.
     #[error("no volume")]
     Not,
     /// It holds a volume of a version before 1. No call was made on the new disk.
     #[error("a volume of an older version")]
     Old,
-    /// It holds a volume of a version behind 1. No call was made on the new disk.
+    /// It holds a volume of a version later than 1. No call was made on the new disk.
     #[error("a volume of a newer version")]
     New,
     /// It holds a volume of version 1 that is not spelled as that version says. No call was made on the new disk.
@@ -40,7 +40,7 @@ pub enum MigrateFault {
     /// There was not enough memory. No call was made on the new disk.
     #[error("there was not enough memory")]
     Memory,
-    /// A call of the new disk failed. What it holds is no volume, what the blocks behind its gate spelled, or the new one.
+    /// A call of the new disk failed. What it holds is no volume, what the blocks after its gate spelled, or the new one.
     #[error("a call of the new disk failed")]
     NewDisk,
 }
@@ -49,14 +49,14 @@ pub enum MigrateFault {
 /// what its journal has not written home. Its passwords never end, and all else of its state is as it was. The old disk is only
 /// read. Memory does not grow with the frames: 32 blocks are copied at a time.
 ///
-/// The gate of the new disk is closed first, then everything behind it is written, and then the gate is opened, with a sync after
-/// each: so a stop at any moment leaves there no volume, what the blocks behind its gate spelled before, or the new one.
+/// The gate of the new disk is closed first, then everything after it is written, and then the gate is opened, with a sync after
+/// each: so a stop at any moment leaves there no volume, what the blocks after its gate spelled before, or the new one.
 ///
-/// The answer tells of the new volume what `check` does. [`MigrateFault::Not`], [`MigrateFault::Old`], [`MigrateFault::New`] and
-/// [`MigrateFault::Damaged`] come exactly where the old image is none, and [`MigrateFault::TooSmall`] exactly where it is a volume
-/// that needs more blocks than the new disk has, unless memory was wanting or a call of the old disk failed before that was known.
-/// [`MigrateFault::OldDisk`] and [`MigrateFault::NewDisk`] come only where a call of that disk failed. Whatever the answer is, no call is
-/// made on the new disk where the old image is no volume of version 1, or needs more blocks than the new disk has.
+/// The answer says of the new volume what `check` does. [`MigrateFault::Not`], [`MigrateFault::Old`], [`MigrateFault::New`] and
+/// [`MigrateFault::Damaged`] come exactly if the old image is none, and [`MigrateFault::TooSmall`] exactly if it is a volume
+/// that needs more blocks than the new disk has, unless there was not enough memory or a call of the old disk failed before that was known.
+/// [`MigrateFault::OldDisk`] and [`MigrateFault::NewDisk`] come only if a call of that disk failed. Whatever the answer is, no call is
+/// made on the new disk if the old image is no volume of version 1, or needs more blocks than the new disk has.
 pub fn migrate<D: Disk, E: Disk>(
     alloc: Global,
     new: &mut D,

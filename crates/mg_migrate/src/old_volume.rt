@@ -68,29 +68,33 @@ fn read_settings<E: Disk>(old: &mut E) -> Result<Params, MigrateFault>
 }
 
 // How many blocks the volume needs: the objects of version 1 take half as many as those of today.
-fn total1(p: &Params) -> u64
-    ensures { result ≡ total1_blocks p.now.frames }
+fn total1(params: &Params) -> u64
+    ensures { result ≡ total1_blocks params.now.frames }
 {
-    Geometry::of(p.frames()).total - (TABLE_BLOCK - TABLE1_BLOCK)
+    Geometry::of(params.frames()).total - (TABLE_BLOCK - TABLE1_BLOCK)
 }
 
 // Looks through the journal of a volume with these settings.
-fn look_through<E: Disk>(alloc: Global, old: &mut E, p: &Params) -> Result<Lifting, MigrateFault>
-    requires has { ForSome (E.seen old.old) (HasSettings1 p.now) }
+fn look_through<E: Disk>(
+    alloc: Global,
+    old: &mut E,
+    params: &Params,
+) -> Result<Lifting, MigrateFault>
+    requires has { ForSome (E.seen old.old) (HasSettings1 params.now) }
     ensures told { IfOk result (λ seen. ForSome (E.seen old.old) (IsSeen1 seen)) }
-    ensures settings { IfOk result (λ seen. seen.settings ≡ p.now) }
+    ensures settings { IfOk result (λ seen. seen.settings ≡ params.now) }
     ensures within_disk { IfOk result (λ seen. seen.placed.total ≤ E.block_count old.old) }
     ensures none { ForSome (E.seen old.old) (λ image. TellsOld result (volume1 image)) }
     ensures no_new { result ≢ Err MigrateFault.NewDisk }
     ensures cause { result ≡ Err MigrateFault.OldDisk → CountRose E.Disk old.old old.new }
     ensures reads { OnlyRead E.Disk old.old old.new }
 {
-    let total = total1(p);
+    let total = total1(params);
     if old.blocks() < total {
         return Err(MigrateFault::Damaged);
     }
     match View::look(alloc, old, total) {
-        Ok(view) => Ok(Lifting::new(view, p)),
+        Ok(view) => Ok(Lifting::new(view, params)),
         Err(ViewFault::Damaged) => Err(MigrateFault::Damaged),
         Err(ViewFault::Disk) => Err(MigrateFault::OldDisk),
         Err(ViewFault::Memory) => Err(MigrateFault::Memory),
@@ -102,20 +106,20 @@ fn read_lifted<E: Disk>(
     alloc: Global,
     seen: &Lifting,
     old: &mut E,
-    p: &Params,
+    params: &Params,
 ) -> Result<VolumeRows, MigrateFault>
-    requires settings { seen.now.settings ≡ p.now }
+    requires settings { seen.now.settings ≡ params.now }
     requires within_disk { seen.now.placed.total ≤ E.block_count old.old }
     requires seen { ForSome (E.seen old.old) (IsSeen1 seen.now) }
     ensures told { IfOk result (λ rows. ForSome (E.seen old.old) (IsOldRead seen.now rows)) }
-    ensures params { IfOk result (λ rows. rows.params ≡ p.now) }
+    ensures params { IfOk result (λ rows. rows.params ≡ params.now) }
     ensures kept { IfOk result AreKept }
     ensures none { ForSome (E.seen old.old) (λ image. TellsOld result (volume1 image)) }
     ensures no_new { result ≢ Err MigrateFault.NewDisk }
     ensures cause { result ≡ Err MigrateFault.OldDisk → CountRose E.Disk old.old old.new }
     ensures reads { OnlyRead E.Disk old.old old.new }
 {
-    match read_rows(alloc, seen, old, p) {
+    match read_rows(alloc, seen, old, params) {
         Ok(rows) => Ok(rows),
         Err(ViewFault::Damaged) => Err(MigrateFault::Damaged),
         Err(ViewFault::Disk) => Err(MigrateFault::OldDisk),

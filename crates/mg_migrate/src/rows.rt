@@ -90,65 +90,65 @@ fn object1_in(block: &Block, k: u64) -> Option<Spelled<ObjRow>>
 }
 
 // What 512 bytes spell of an object.
-fn read_row(b: &[u8]) -> Option<Spelled<ObjRow>>
-    requires { length b.now ≡ 512 }
-    ensures { as_read result ≡ lift_read (object1_read b.now) }
+fn read_row(bytes: &[u8]) -> Option<Spelled<ObjRow>>
+    requires { length bytes.now ≡ 512 }
+    ensures { as_read result ≡ lift_read (object1_read bytes.now) }
 {
-    if are_zeros(b) {
+    if are_zeros(bytes) {
         return Some(Spelled::Free);
     }
-    if may_widen(b) {
-        read_object(&widened(b))
+    if may_widen(bytes) {
+        read_object(&widened(bytes))
     } else {
         None
     }
 }
 
-// Whether the counts are within their limits, and zeros behind the columns.
-fn may_widen(b: &[u8]) -> bool
-    requires { length b.now ≡ 512 }
-    ensures { result ≡ may_widen b.now }
+// Whether the counts are within their limits, and zeros after the columns.
+fn may_widen(bytes: &[u8]) -> bool
+    requires { length bytes.now ≡ 512 }
+    ensures { result ≡ may_widen bytes.now }
 {
-    number_at(b, 32) <= PASSWORD_LIMIT && number_at(b, 40) <= ENTRY_LIMIT && ends(b)
+    number_at(bytes, 32) <= PASSWORD_LIMIT && number_at(bytes, 40) <= ENTRY_LIMIT && ends(bytes)
 }
 
-// Whether there are zeros behind the columns.
-fn ends(b: &[u8]) -> bool
-    requires { length b.now ≡ 512 }
-    ensures { result ≡ are_zeros (drop 352 b.now) }
+// Whether there are zeros after the columns.
+fn ends(bytes: &[u8]) -> bool
+    requires { length bytes.now ≡ 512 }
+    ensures { result ≡ are_zeros (drop 352 bytes.now) }
 {
-    are_zeros(&b[352..])
+    are_zeros(&bytes[352..])
 }
 
 // The bytes where this version has them.
-fn widened(b: &[u8]) -> [u8; ROW]
-    requires long { length b.now ≡ 512 }
-    requires at_most_16_entries { number_at b.now 32 ≤ 16 }
-    ensures value { result ≡ widened b.now }
+fn widened(bytes: &[u8]) -> [u8; ROW]
+    requires long { length bytes.now ≡ 512 }
+    requires at_most_16_entries { number_at bytes.now 32 ≤ 16 }
+    ensures value { result ≡ widened bytes.now }
     ensures long { length result ≡ 1024 }
 {
     let mut filling = Filling::new();
-    add_part(b, 0, 80, &mut filling);
-    add_part(b, 80, 128, &mut filling);
+    add_part(bytes, 0, 80, &mut filling);
+    add_part(bytes, 80, 128, &mut filling);
     filling.skip(128);
-    add_part(b, 208, 16, &mut filling);
+    add_part(bytes, 208, 16, &mut filling);
     filling.skip(16);
-    add_part(b, 224, 128, &mut filling);
-    add_untils(number_at(b, 32), &mut filling);
+    add_part(bytes, 224, 128, &mut filling);
+    add_untils(number_at(bytes, 32), &mut filling);
     filling.whole()
 }
 
-// So many bytes from a place on.
-fn add_part(b: &[u8], at: usize, n: usize, filling: &mut Filling<ROW>)
-    requires within { at + n ≤ length b.now }
-    requires fits_in_row { length filling.old + n ≤ 1024 }
-    ensures value { filling.new ≡ filling.old ++ bytes_at b.now at n }
-    ensures long { length filling.new ≡ length filling.old + n }
+// `count` bytes from a place on.
+fn add_part(bytes: &[u8], at: usize, count: usize, filling: &mut Filling<ROW>)
+    requires within { at + count ≤ length bytes.now }
+    requires fits_in_row { length filling.old + count ≤ 1024 }
+    ensures value { filling.new ≡ filling.old ++ bytes_at bytes.now at count }
+    ensures long { length filling.new ≡ length filling.old + count }
 {
-    filling.add(&b[at..at + n]);
+    filling.add(&bytes[at..at + count]);
 }
 
-// The untils of so many passwords that never end.
+// The untils of `count` passwords that never end.
 fn add_untils(count: u64, filling: &mut Filling<ROW>)
     requires count_at_most_16 { count ≤ 16 }
     requires fits_in_row { length filling.old + 256 ≤ 1024 }

@@ -10,7 +10,7 @@ use mg_disk::Block;
 use mg_layout::{MAGIC, Super, number_at, read_super, write_super};
 use mg_model::Params;
 
-/// Where its version stands.
+/// Where its version is.
 const VERSION_AT: usize = 8;
 
 /// The version that is read here.
@@ -19,8 +19,8 @@ const OLD_VERSION: u8 = 1;
 /// The version of the layout that is written today.
 const VERSION: u8 = 2;
 
-/// What a superblock spells to who looks for a volume of version 1.
-#[derive(Clone, Copy, Debug, PartialEq, Eq)]
+/// What a superblock spells, read as that of a volume of version 1.
+#[derive(Clone, Copy, PartialEq, Eq)]
 pub(crate) enum Super1 {
     /// No volume: it does not begin with the eight bytes.
     Not,
@@ -34,32 +34,32 @@ pub(crate) enum Super1 {
     Is(Params),
 }
 
-/// What a superblock spells to who looks for a volume of version 1.
-pub(crate) fn read_super1(b: &Block) -> Super1
-    ensures { IsSuper1 result (super1_read b.now) }
+/// Reads a superblock as that of a volume of version 1.
+pub(crate) fn read_super1(block: &Block) -> Super1
+    ensures { IsSuper1 result (super1_read block.now) }
 {
-    if MAGIC[..] != b[..8] {
+    if MAGIC[..] != block[..8] {
         return Super1::Not;
     }
-    let version = number_at(&b[..], VERSION_AT);
+    let version = number_at(&block[..], VERSION_AT);
     if version < OLD_VERSION as u64 {
         return Super1::Old;
     }
     if version > OLD_VERSION as u64 {
         return Super1::New;
     }
-    match settings_in(b) {
+    match settings_in(block) {
         Some(p) => Super1::Is(p),
         None => Super1::Damaged,
     }
 }
 
-// The settings in a superblock of version 1: those that are there once the version is the one of today.
-fn settings_in(b: &Block) -> Option<Params>
-    requires { number_at b.now 8 ≡ 1 }
-    ensures { result ≡ (if are_settings (super_fields b.now) && same_bytes (super1_bytes (super_fields b.now)) b.now then Some (super_fields b.now) else None) }
+// The settings in a superblock of version 1: what it spells once its version is replaced by today's.
+fn settings_in(block: &Block) -> Option<Params>
+    requires { number_at block.now 8 ≡ 1 }
+    ensures { result ≡ (if are_settings (super_fields block.now) && same_bytes (super1_bytes (super_fields block.now)) block.now then Some (super_fields block.now) else None) }
 {
-    let mut now = *b;
+    let mut now = *block;
     now[VERSION_AT] = VERSION;
     match read_super(&now) {
         Super::Is(p) => Some(p),
@@ -70,9 +70,9 @@ fn settings_in(b: &Block) -> Option<Params>
 }
 
 /// Spells the superblock of a volume of version 1 with these settings.
-pub(crate) fn write_super1(p: &Params, out: &mut Block)
-    ensures { out.new ≡ super1_bytes p.now }
+pub(crate) fn write_super1(params: &Params, out: &mut Block)
+    ensures { out.new ≡ super1_bytes params.now }
 {
-    write_super(p, out);
+    write_super(params, out);
     out[VERSION_AT] = OLD_VERSION;
 }

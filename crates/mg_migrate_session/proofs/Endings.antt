@@ -1,4 +1,4 @@
--- What the command keeps where a line tells of the old image, and where nothing is put.
+-- What the command keeps when a line says what the old image is, and when nothing is printed.
 use Rattle.std.specs.Prelude.{ℕ, ◌≡◌, ◌⊎◌, ◌<◌, ◌≤◌, nat_lt, List, Bool, true, false, if◌then◌else◌}
 use Rattle.std.specs.Io.KnownBytes.{Appends}
 use Rattle.std.specs.Option.{ForSome}
@@ -63,7 +63,7 @@ disk_no_memory s disk h = cc
 disk_no_none : (s : Status) → s ≡ status.Disk → (s ≡ status.NoVolume) ⊎ (s ≡ status.TooSmall) → ⊥
 disk_no_none s disk h = ⊎_elim (λ (e : s ≡ status.NoVolume). cc) (λ (e : s ≡ status.TooSmall). cc) h
 
--- what the old image spells is told by this status and this line
+-- what the old image spells is shown by this status and this line
 pub record IsTold {D : Type 0} (d : disks.Ghosts D) (end : Status) (line : List ℕ) (new new' : D) (v : Volume1Read) : Type 0 where
   pub ends : migrate_status (d.block_count new) v ≡ end
   pub puts : migrate_line (d.block_count new) v ≡ line
@@ -116,7 +116,7 @@ small_state1 d need have new (Is1 state) P (needs, has, few) = λ room. absurd (
 module _ {D E K : Type 0} (d : disks.Ghosts D) (e : disks.Ghosts E) (to : sinks.Ghosts K) (result : Status) (new new' : D) (old old' : E) (sink sink' : K)
     (moments : NothingPending d new → ForSome (d.seen new) (λ image. ForSome (e.seen old) (λ before. Leaves d new new' (MayMigrate image (volume1 before)))))
     (back : ForSome (e.seen old) (λ before. StandsBack (d.block_count new) (volume1 before) new new')) (kept : WritesNothing e old old') where
-  -- A line tells of the old image, or the sink failed.
+  -- A line says what the old image is, or the sink failed.
   pub told_keeps : (end : Status) (line : List ℕ) → HasPut end → GoesWith end line → ForSome (e.seen old) (λ before. IsTold d end line new new' (volume1 before))
       → ForSome (e.seen old) (λ before. IfState1 (volume1 before) (λ state. needed state ≤ d.block_count new → HasPlaces d before new new'))
       → ((end ≡ status.NoVolume) ⊎ (end ≡ status.TooSmall) → new' ≡ new) → (result ≡ end) ⊎ (result ≡ status.Sink) → (result ≡ end → Appends (to.taken sink) (to.taken sink') line)
@@ -151,7 +151,7 @@ module _ {D E K : Type 0} (d : disks.Ghosts D) (e : disks.Ghosts E) (to : sinks.
       no_disk : result ≡ status.Disk → ⊥
       no_disk h = ⊎_elim (λ as_told. put_no_disk end has_put (sym as_told ∙ h)) (λ failed. sink_no_disk result failed h) ends
 
-  -- Memory was wanting.
+  -- There was not enough memory.
   pub memory_keeps : result ≡ status.Memory → new' ≡ new → sink' ≡ sink → MigrateKeeps result (disk_use d new new') (disk_use e old old') (sink_use to sink sink')
   memory_keeps memory untouched same = record {
     ends = λ before is. inr (inl memory);

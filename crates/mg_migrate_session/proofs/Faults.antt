@@ -1,4 +1,4 @@
--- What the command keeps where the volume was not migrated.
+-- What the command keeps when the volume was not migrated.
 use Rattle.std.specs.Prelude.{ℕ, ◌≡◌, ◌⊎◌, List, Result, Err}
 use Rattle.std.specs.Io.KnownBytes.{Appends}
 use Rattle.std.specs.Option.{ForSome}
@@ -22,7 +22,7 @@ use Rattle.mg_serve.specs.Sessions.{disk_use, sink_use}
 use Rattle.mg_serve.specs.declared.status.Status.{Status}
 use Rattle.mg_serve.specs.declared.status.Status.TheVariants as status
 
--- what is told of the image, as it is this kind of none
+-- what is said of the image, as it is this kind of none
 of_kind : {D : Type 0} (d : disks.Ghosts D) (line : List ℕ) (new new' : D) (v kind : Volume1Read) → IsTold d status.NoVolume line new new' kind → v ≡ kind → IsTold d status.NoVolume line new new' v
 of_kind d line new new' v kind told is = subst (λ w. IsTold d status.NoVolume line new new' w) (sym is) told
 

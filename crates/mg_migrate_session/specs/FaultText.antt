@@ -1,4 +1,4 @@
--- What a fault of a migration tells, and how the command ends with it.
+-- What a fault of a migration says, and how the command ends with it.
 use Rattle.std.specs.Prelude.{ℕ, ◌≡◌, ◌⊎◌, List, [], ◌∷◌, ◌++◌, codes}
 use Rattle.mg_migrate.specs.declared.migrating.MigrateFault.{MigrateFault}
 use Rattle.mg_migrate.specs.declared.migrating.MigrateFault.TheVariants as fault
@@ -18,7 +18,7 @@ fault_line (fault.TooSmall need have) = small_line need have
 fault_line fault.Memory = []
 fault_line fault.NewDisk = []
 
--- it tells nothing of the old image
+-- it says nothing of the old image
 abbrev pub TellsNothingOld : MigrateFault → Type 0
 TellsNothingOld fault.OldDisk = Unit {0}
 TellsNothingOld fault.Not = ⊥

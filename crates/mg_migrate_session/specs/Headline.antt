@@ -22,8 +22,8 @@ use Rattle.mg_serve.specs.declared.status.Status.TheVariants as status
 
 -- The line, and the status with it
 
--- the line of what the old image spells: which kind of none, that the new disk, with so many blocks, is too small for the volume, or
--- what `check` tells of the state with passwords that never end
+-- the line of what the old image spells: which kind of none, that the new disk, with this number of blocks, is too small for the volume, or
+-- what `check` reports of the state with passwords that never end
 abbrev pub migrate_line : ℕ → Volume1Read → List ℕ
 migrate_line have NotVolume1 = check_line NotVolume
 migrate_line have OldVolume1 = check_line OldVolume
@@ -44,11 +44,11 @@ GoesWith status.NoVolume line =
 GoesWith status.TooSmall line = (sizes : ℕ × ℕ) × (line ≡ small_line sizes.0 sizes.1)
 GoesWith _ line = ⊥
 
--- the line was put
+-- the line was printed
 abbrev pub HasPut : Status → Type 0
 HasPut result = (result ≡ status.Done) ⊎ ((result ≡ status.NoVolume) ⊎ (result ≡ status.TooSmall))
 
--- memory was wanting, or a call failed
+-- there was not enough memory, or a call failed
 abbrev pub HasFailed : Status → Type 0
 HasFailed result = (result ≡ status.Memory) ⊎ ((result ≡ status.Disk) ⊎ (result ≡ status.Sink))
 
@@ -65,7 +65,7 @@ pub record HasPlaces {D : Type 0} (facts : disks.Ghosts D) (before : Image) (new
   pub reads : ReadsNow (HasLifted before) (facts.seen new) (facts.seen new')
   pub left : (c : Image) → facts.left_since new' (facts.moment new') c → HasLifted before c
 
--- the new disk once what the old image spells was told: no call was made on it where that is no volume or the disk is too small
+-- the new disk once what the old image spells was told: no call was made on it if that is no volume or the disk is too small
 abbrev pub StandsAfter : {D : Type 0} → disks.Ghosts D → Volume1Read → D → D → Type 0
 StandsAfter facts (Is1 state) new new' =
     (facts.block_count new < needed state → new' ≡ new) × (needed state ≤ facts.block_count new → IsMigrated facts (Is1 state) new new')
@@ -73,29 +73,29 @@ StandsAfter facts _ new new' = new' ≡ new
 
 -- `VOLUME migrate OLD`
 
--- a promise on the state of the old image, where that is a volume of version 1
+-- a promise on the state of the old image, if that is a volume of version 1
 abbrev pub IfState1 : Volume1Read → (State → Type 0) → Type 0
 IfState1 (Is1 state) P = P state
 IfState1 _ P = Unit {0}
 
--- what holds of what reads of the old disk gave, where it is told
+-- what holds of what reads of the old disk gave, if it is told
 abbrev pub OfBefore : {E : Type 0} → DiskUse E → (Image → Type 0) → Type 0
 OfBefore from P = ForSome (from.facts.seen from.old) P
 
 -- What `migrate` keeps, from the old disk to the new one.
 pub record MigrateKeeps {D E K : Type 0} (result : Status) (to : DiskUse D) (from : DiskUse E) (o : SinkUse K) : Type 0 where
-  -- It ends as the old image says, or memory was wanting, or a call failed; and that on every disk.
+  -- It ends as the old image says, or there was not enough memory, or a call failed; and that on every disk.
   pub ends : OfBefore from (λ before. (result ≡ migrate_status (blocks_of to) (volume1 before)) ⊎ HasFailed result)
   pub which : HasPut result ⊎ HasFailed result
-  -- At 0, 2 and 8 the line of the old image was put, and at each status a prefix of it.
+  -- At 0, 2 and 8 the line of the old image was printed, and at each status a prefix of it.
   pub line : HasPut result → OfBefore from (λ before. Puts o (migrate_line (blocks_of to) (volume1 before)))
   pub prefix : OfBefore from (λ before. PutsPrefix o (migrate_line (blocks_of to) (volume1 before)))
-  -- Of an old disk that does not tell its reads too, what was put at 0, 2 and 8 is a line of that status.
+  -- Of an old disk that does not tell its reads too, what was printed at 0, 2 and 8 is a line of that status.
   pub some_line : HasPut result → (line : List ℕ) × GoesWith result line × Puts o line
-  -- At each moment a stop leaves on the new disk no state, what the blocks behind its gate spelled, or the migrated one.
+  -- At each moment a stop leaves on the new disk no state, what the blocks after its gate spelled, or the migrated one.
   pub moments : NothingPending to.facts to.old → ForSome (to.facts.seen to.old) (λ image.
       OfBefore from (λ before. AlwaysLeft to (MayMigrate image (volume1 before))))
-  -- At the end the migrated state stands, also where its line could not be put; no call was made on the new disk where none was told.
+  -- At the end the migrated state stands, also if its line could not be printed; no call was made on the new disk if none was told.
   pub stands : HasPut result ⊎ (result ≡ status.Sink) →
       OfBefore from (λ before. StandsAfter to.facts (volume1 before) to.old to.new)
   -- There rows and frames keep their numbers.
@@ -104,25 +104,25 @@ pub record MigrateKeeps {D E K : Type 0} (result : Status) (to : DiskUse D) (fro
   pub untouched : (result ≡ status.NoVolume) ⊎ ((result ≡ status.TooSmall) ⊎ (result ≡ status.Memory)) → to.new ≡ to.old
   -- Nothing is ever written on the old disk.
   pub old_kept : WritesNothing from.facts from.old from.new
-  -- Where memory was wanting, or a disk failed, nothing was put; a disk and the sink failed only where their counts rose.
+  -- If there was not enough memory, or a disk failed, nothing was printed; a disk and the sink failed only if their counts rose.
   pub memory : result ≡ status.Memory → o.new ≡ o.old
   pub disk_failed : result ≡ status.Disk → (DiskRose to ⊎ DiskRose from) × (o.new ≡ o.old)
-  -- No call was made on the new disk, at any status, where the old image is no volume of version 1 that fits there.
+  -- No call was made on the new disk, at any status, if the old image is no volume of version 1 that fits there.
   pub stands_back : OfBefore from (λ before. StandsBack (blocks_of to) (volume1 before) to.old to.new)
-  -- Where the old disk failed alone, no call was made on the new one, or the copying of a volume that fits had begun, and the gate of the
+  -- If the old disk failed alone, no call was made on the new one, or the copying of a volume that fits had begun, and the gate of the
   -- new one is closed.
   pub closed : result ≡ status.Disk → (DiskRose to → ⊥) →
       (to.new ≡ to.old) ⊎ (StandsClosed to.facts to.new × OfBefore from (λ before. Fits1 (blocks_of to) (volume1 before)))
   pub sink_failed : result ≡ status.Sink → SinkRose o
-  -- Of a volume that the new disk is large enough for, where no call failed, all is done, or memory was wanting.
+  -- Of a volume that the new disk is large enough for, if no call failed, all is done, or there was not enough memory.
   pub complete : OfBefore from (λ before. IfState1 (volume1 before) (λ state. needed state ≤ blocks_of to → (DiskRose to → ⊥)
       → (DiskRose from → ⊥) → (SinkRose o → ⊥) → IsDoneOrMemory result))
 
--- What is kept where the words spell no migration.
+-- What is kept if the words spell no migration.
 pub record NoMigrateKeeps {D E K : Type 0} (to : sinks.Ghosts K) (result : Status) (new new' : D) (old old' : E)
     (sink sink' : K) : Type 0 where
   pub which : (result ≡ status.Usage) ⊎ (result ≡ status.Sink)
-  -- The line `usage` was put, or a prefix of it where the sink failed, which is only where its count rose.
+  -- The line `usage` was printed, or a prefix of it if the sink failed, which is only if its count rose.
   pub usage_text : result ≡ status.Usage → Appends (to.taken sink) (to.taken sink') usage_line
   pub usage_prefix : AppendsPrefix (to.taken sink) (to.taken sink') usage_line
   pub sink_failed : result ≡ status.Sink → Rose (to.faults sink) (to.faults sink') (to.is_spent sink')

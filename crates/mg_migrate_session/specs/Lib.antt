@@ -1,5 +1,5 @@
--- What the words ask for, and what is kept.
+-- What the words spell, and what is kept.
 pub mod Commands
 pub mod Headline
--- What a fault tells.
+-- What a fault says.
 pub mod FaultText

@@ -1,4 +1,4 @@
-// What is put of a volume that was not migrated.
+// What is printed of a volume that was not migrated.
 ghost use Rattle.std.specs.Prelude.{◌≡◌, ◌⊎◌};
 ghost use Rattle.std.specs.Io.KnownBytes.{Appends};
 ghost use Rattle.mg_faults.specs.Faults.{Rose};
@@ -11,7 +11,7 @@ use mg_io::{Sink, put_all};
 use mg_migrate::MigrateFault;
 use mg_volume_session::{Status, put_small};
 
-/// Puts the line of a fault of the migration; of a fault of a disk and of a want of memory nothing is put.
+/// Prints the line of a fault of the migration; for a fault of a disk, and without enough memory, nothing is printed.
 pub(crate) fn put_fault<K: Sink>(fault: MigrateFault, sink: &mut K) -> Status
     ensures ends { EndsUnmigratedBy fault result }
     ensures put { HasPut result → Appends (K.taken sink.old) (K.taken sink.new) (fault_line fault) }
@@ -31,7 +31,7 @@ pub(crate) fn put_fault<K: Sink>(fault: MigrateFault, sink: &mut K) -> Status
     }
 }
 
-/// Puts the line of a disk without a volume of version 1.
+/// Prints the line of a disk without a volume of version 1.
 fn put_line<K: Sink>(line: &[u8], sink: &mut K) -> Status
     ensures ends { (result ≡ Status.NoVolume) ⊎ (result ≡ Status.Sink) }
     ensures put { HasPut result → Appends (K.taken sink.old) (K.taken sink.new) line.now }
@@ -44,7 +44,7 @@ fn put_line<K: Sink>(line: &[u8], sink: &mut K) -> Status
     }
 }
 
-/// Puts the line of a new disk that is too small.
+/// Prints the line of a new disk that is too small.
 fn put_sizes<K: Sink>(need: u64, have: u64, sink: &mut K) -> Status
     ensures ends { (result ≡ Status.TooSmall) ⊎ (result ≡ Status.Sink) }
     ensures put { HasPut result → Appends (K.taken sink.old) (K.taken sink.new) (small_line need have) }

@@ -1,10 +1,10 @@
 //! The command `migrate`: from the words `VOLUME migrate OLD` to the exit status.
 //!
-//! [`top_migrate`] copies the volume of version 1 on one disk to another one, as `mg_migrate` does, and puts the line of what became
-//! of it. What the layer above learns stands on it, for every two disks and sink.
+//! [`top_migrate`] copies the volume of version 1 on one disk to another one, as `mg_migrate` does, and prints the line of what came
+//! of it. What the layer above learns is in its contract, for every two disks and sink.
 //!
-//! The definitions stand in `specs/`: `Commands` (what the words spell), `Headline` (what is kept, in one record) and `Told`
-//! (what a fault tells).
+//! The definitions are in `specs/`: `Commands` (what the words spell), `Headline` (what is kept, in one record) and `Told`
+//! (what a fault says).
 #![tactic(auto)]
 
 mod fault_line;

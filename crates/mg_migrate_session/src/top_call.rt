@@ -13,17 +13,17 @@ use mg_migrate::migrate;
 use mg_volume_session::{Status, put_summary, put_usage};
 use std::alloc::Global;
 
-/// All that the program does to migrate a volume. The words, which are those behind its name, are `VOLUME migrate OLD`.
+/// All that the program does to migrate a volume. The words, which are those after its name, are `VOLUME migrate OLD`.
 ///
 /// The volume of version 1 on the old disk becomes one of this version on the new one, with passwords that never end and all else as
-/// it was, each row and each frame under its number, and the line is put that `check` puts of it. A stop at any moment leaves on the
-/// new disk no volume, what the blocks behind its gate spelled before, or the migrated one. The old disk is only read.
+/// it was, each row and each frame under its number, and the line is printed that `check` prints of it. A stop at any moment leaves on the
+/// new disk no volume, what the blocks after its gate spelled before, or the migrated one. The old disk is only read.
 ///
-/// [`Status::NoVolume`] comes with the line `open not`, `open old`, `open new` or `open damaged`, exactly where the old disk holds no
-/// volume, one of a version before 1, one behind 1, or one that is not spelled as version 1 does; [`Status::TooSmall`] with `small
-/// NEED HAVE`, exactly where it holds a volume that needs more blocks than the new disk has. No call is then made on the new
-/// disk, nor at [`Status::Memory`]. [`Status::Disk`] comes only where a call of a disk failed, with nothing put, and [`Status::Sink`] only
-/// where the sink failed; these three come in place of another status. Where the old disk alone failed once the copying had begun, the
+/// [`Status::NoVolume`] comes with the line `open not`, `open old`, `open new` or `open damaged`, exactly if the old disk holds no
+/// volume, one of a version before 1, one after 1, or one that is not spelled as version 1 does; [`Status::TooSmall`] with `small
+/// NEED HAVE`, exactly if it holds a volume that needs more blocks than the new disk has. No call is then made on the new
+/// disk, nor at [`Status::Memory`]. [`Status::Disk`] comes only if a call of a disk failed, with nothing printed, and [`Status::Sink`] only
+/// if the sink failed; these three come in place of another status. If the old disk alone failed once the copying had begun, the
 /// gate of the new disk is closed, and a stop leaves it so.
 ///
 /// Other words get the line `usage` and [`Status::Usage`]; the disks are then left alone.
@@ -46,7 +46,7 @@ pub fn top_migrate<D: Disk, E: Disk, K: Sink>(
     }
 }
 
-/// Migrates the volume, and puts the line of what became of it.
+/// Migrates the volume, and prints the line of what came of it.
 fn migrate_and_tell<D: Disk, E: Disk, K: Sink>(
     alloc: Global,
     new: &mut D,

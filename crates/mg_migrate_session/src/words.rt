@@ -3,7 +3,7 @@ ghost use Rattle.std.specs.Prelude.{◌≡◌};
 ghost use Rattle.mg_migrate_session.specs.Commands.{is_migrate, migrate_words};
 ghost use Rattle.mg_volume_session.specs.ByCommand.{words_of};
 
-/// Whether the words, which are those behind the program's name, are `VOLUME migrate OLD`, and VOLUME and OLD differ.
+/// Whether the words, which are those after the program's name, are `VOLUME migrate OLD`, and VOLUME and OLD differ.
 pub fn is_migrate(words: &[String]) -> bool
     ensures { result ≡ is_migrate (words_of words.now) }
 {

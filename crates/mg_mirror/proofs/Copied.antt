@@ -1,4 +1,4 @@
--- How a copy goes on: block 0 closed, the blocks after it, block 0.
+-- How a copy proceeds: block 0 closed, the blocks after it, block 0.
 use Rattle.std.specs.Prelude.{◌≡◌, ◌<◌, ◌≤◌, ◌+◌, ◌-◌, [], ℕ, List, Bool, false, is_some, length, option_map, slice_index, slice_set, take, Option, Some, None, Result, Ok, Err, IfOk, IsTrue, OnErr}
 use Rattle.std.specs.Option.{ForSome}
 use Rattle.std.proofs.Common.{refl, inl, inr, sym, ap, subst, ◌∙◌, ⊎_elim, arith}
@@ -71,7 +71,7 @@ same_blocks first count blocks x c is read put i at =
     let P : ℕ → Type 0 = λ j. block_at c j ≡ block_at x j in
     subst P place (put (i - first) inside ∙ sym (read (i - first) inside))
 
--- the blocks from a place on before this one, of so many, are those of x
+-- the blocks from a place on and before this one, of a given number of blocks, are those of x
 abbrev pub AreBefore : ℕ → ℕ → ℕ → Image → Image → Type 0
 AreBefore start n next x c = (i : ℕ) → start ≤ i → i < n → i < next → block_at c i ≡ block_at x i
 

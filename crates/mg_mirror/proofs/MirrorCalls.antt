@@ -24,14 +24,14 @@ module _ {D E : Type 0} (d : Ghosts D) (e : Ghosts E) (n : ℕ) where
   abbrev pub LeftOf : Option Side → D → E → Image → Type 0
   LeftOf alone left right c = LeftSince n alone (d.tells_stops left && e.tells_stops right) (d.left_since left) (e.left_since right) (moment_of alone (d.moment left) (e.moment right)) c
 
-  -- time goes on for a mirror, from these sides to those
+  -- time passes for a mirror, from these sides to those
   abbrev pub Goes : Option Side → Option Side → D → D → E → E → (Image → Type 0) → Type 0
   Goes alone alone' left left' right right' H =
       GoesOn (moment_of alone (d.moment left) (e.moment right)) (moment_of alone' (d.moment left') (e.moment right')) (Been alone (d.has_been left) (e.has_been right)) (Been alone' (d.has_been left') (e.has_been right'))
       (LeftSince n alone (d.tells_stops left && e.tells_stops right) (d.left_since left) (e.left_since right))
       (LeftSince n alone' (d.tells_stops left' && e.tells_stops right') (d.left_since left') (e.left_since right')) H
 
-  -- the two sides went on, and the same are in use
+  -- time passed for the two sides, and the same are in use
   pub goes_along : (alone : Option Side) (left left' : D) (right right' : E) (F G H : Image → Type 0) → d.tells_stops left' ≡ d.tells_stops left → e.tells_stops right' ≡ e.tells_stops right
       → TimeGoes d left left' F → TimeGoes e right right' G → Cuts n (d.tells_stops left && e.tells_stops right) F H → Cuts n (d.tells_stops left && e.tells_stops right) G H
       → Goes alone alone left left' right right' H
@@ -186,7 +186,7 @@ module _ (n first : ℕ) (blocks : Image) where
       by_cases l (Some y) l' None same on_l on_r put put' = absurd on_r
       by_cases l None l' (Some y') same on_l on_r put put' = absurd on_r
 
--- what reads give differs at these places alone where it does of a side in use
+-- what reads give differs at these places alone if it does of a side in use
 module _ (n : ℕ) (places : ℕ → Type 0) where
   pub but_left : (alone alone' : Option Side) (l r l' r' : Option Image) → alone ≢ Some Right → alone' ≢ Some Right → SeenBut places l l' → IsToldAs r r' → SeenBut places (seen_of n alone l r) (seen_of n alone' l' r')
   but_left None None l r l' r' used still same like = cut_but n places l r l' r' same like

@@ -5,11 +5,11 @@ use Rattle.mg_disk.specs.Disk.{Image, InRange, SameBut, block_at, only_place}
 use Rattle.mg_disk.specs.Stops.{Leaves, NothingPending, WritesNothing, CountGoes, CountRose}
 use Rattle.mg_disk.specs.declared.disk.Disk.{Ghosts}
 
--- the second has the first n blocks of the first, where both are told
+-- the second has the first n blocks of the first, if both are told
 abbrev pub IsCopied : ℕ → Option Image → Option Image → Type 0
 IsCopied n from to = ForSome from (λ x. ForSome to (λ y. take n y ≡ take n x))
 
--- an image has so many blocks of this one, from the first one on
+-- an image has this many blocks of this one, from the first one on
 abbrev pub AreSame : ℕ → ℕ → Image → Image → Type 0
 AreSame first count x c = (i : ℕ) → InRange first count i → block_at c i ≡ block_at x i
 
@@ -26,7 +26,7 @@ first_byte image = slice_index (block_at image 0) 0
 abbrev pub MayCopy : ℕ → Image → Image → Image → Type 0
 MayCopy n image x c = SameBut (only_place 0) (take n image) (take n c) ⊎ ((first_byte c ≡ 0) ⊎ SameBut (only_place 0) (take n x) (take n c))
 
--- At each moment while the first n blocks of what a disk tells are copied to this one, which nothing was pending on, a stop leaves that.
+-- At each moment while the first n blocks of what a disk gives are copied to this one, which nothing was pending on, a stop leaves that.
 abbrev pub LeavesCopy : {E : Type 0} → Ghosts E → ℕ → Option Image → E → E → Type 0
 LeavesCopy e n from to to' = NothingPending e to → ForSome (e.seen to) (λ image. ForSome from (λ x. Leaves e to to' (MayCopy n image x)))
 
@@ -40,14 +40,14 @@ pub record CopySteps {D E : Type 0} (d : Ghosts D) (e : Ghosts E) (from from' : 
   pub from_count : CountGoes d from from'
   pub to_count : CountGoes e to to'
 
--- The same with what they answer: Ok says whether the other disk took all of it, and an error that the one that is read failed.
+-- The same with what they answer: Ok says whether the other disk took all of it, and an error says that the disk that is read failed.
 pub record CopyCalls {D E F : Type 0} (d : Ghosts D) (e : Ghosts E) (from from' : D) (to to' : E) (result : Result Bool F) : Type 0 where
   pub steps : CopySteps d e from from' to to'
   pub to_cause : IfOk result (λ good. good ≡ false → CountRose e to to')
   pub cause : OnErr result (CountRose d from from')
 
--- A disk's first n blocks were copied to another disk, and nothing was written on the one that is read. Ok says whether the copy
--- stands, and false that the other disk failed; an error, that the one that is read did.
+-- A disk's first n blocks were copied to another disk, and nothing was written on the disk that is read. Ok says whether the copy
+-- is complete, and false that the other disk failed; an error, that the disk that is read did.
 pub record Copies {D E F : Type 0} (d : Ghosts D) (e : Ghosts E) (n : ℕ) (from from' : D) (to to' : E) (result : Result Bool F) : Type 0 where
   pub copied : IfOk result (λ good. IsTrue good → IsCopied n (d.seen from) (e.seen to'))
   pub settled : IfOk result (λ good. IsTrue good → NothingPending e to')

@@ -4,13 +4,13 @@ use Rattle.mg_disk.specs.Disk.{Image, Moment, At, Both, Alone}
 use Rattle.mg_mirror.specs.declared.mirror.Side.{Side}
 use Rattle.mg_mirror.specs.declared.mirror.Side.TheVariants.{Left, Right}
 
--- what the first tells, where the second tells too, cut to n blocks
+-- what the first gives, if both are told, cut to n blocks
 abbrev pub told_cut : ℕ → Option Image → Option Image → Option Image
 told_cut n (Some x) (Some y) = Some (take n x)
 told_cut n (Some x) None = None
 told_cut n None o = None
 
--- what reads give: what the left tells while it is in use
+-- what reads give: what the left gives while it is in use
 abbrev pub seen_of : ℕ → Option Side → Option Image → Option Image → Option Image
 seen_of n None l r = told_cut n l r
 seen_of n (Some Left) l r = told_cut n l r
@@ -48,6 +48,6 @@ Since n None l r (Alone x) c = ⊥
 Since n (Some Left) l r (Alone x) c = CutOf n (l x) c
 Since n (Some Right) l r (Alone x) c = CutOf n (r x) c
 
--- the same, where both sides tell it
+-- the same, if both sides are told
 abbrev pub LeftSince : ℕ → Option Side → Bool → (Moment → Image → Type 0) → (Moment → Image → Type 0) → Moment → Image → Type 0
 LeftSince n alone told l r t c = IsTrue told × Since n alone l r t c

@@ -59,7 +59,7 @@ told_but places None None same = tt
 told_but places (Some x) None same = same
 told_but places None (Some y) same = same
 
--- a write of the first is a write of what it tells, cut
+-- a write of the first is a write of what it gives, cut
 pub cut_set : (n i : ℕ) (b : List ℕ) (l r l' r' : Option Image) → i < n → l' ≡ option_map (λ image. slice_set image i b) l → IsToldAs r r'
     → told_cut n l' r' ≡ option_map (λ image. slice_set image i b) (told_cut n l r)
 cut_set n i b l r l' r' inside is like = ap (λ o. told_cut n o r') is ∙ by_cases l r r' like
@@ -96,7 +96,7 @@ cut_but n places (Some x) r None r' same like = absurd same
 cut_but n places None r None r' same like = tt
 cut_but n places None r (Some x') r' same like = absurd same
 
--- a side that stands at what it tells, while the other tells too
+-- a side that is at what it gives, while both are told
 pub only_cut : (n : ℕ) (l r : Option Image) (images : Image → Type 0) (c : Image) → OnlySeen l images → (y : Image) → r ≡ Some y → CutOf n images c → told_cut n l r ≡ Some c
 only_cut n l r images c only y told left =
     ap (λ o. told_cut n o r) (only left.whole left.is_one) ∙ ap (λ o. told_cut n (Some left.whole) o) told ∙ ap (λ x. Some x) (sym left.cut)

@@ -1,4 +1,4 @@
--- Time goes on for a mirror where it goes on for its sides.
+-- Time passes for a mirror when it passes for its sides.
 use Rattle.std.specs.Prelude.{◌≡◌, ◌⊎◌, ℕ, Bool, IsTrue, take, Option, Some, None, IsSomeAnd}
 use Rattle.std.proofs.Common.{refl, sym, ◌∙◌, subst, inl, inr, ⊎_elim}
 use Rattle.mg_disk.specs.Disk.{Image, Moment, At, Both, Alone, GoesOn, no_image, TornAt, OnlySeen}

@@ -1,7 +1,7 @@
 -- What a mirror says of the counts of its sides since opening began.
 use Rattle.std.specs.Prelude.{ℕ, ◌<◌, Bool, IsTrue}
 
--- a count rose from this number, unless it stands at its last value
+-- a count rose from this number, unless it is at its last value
 abbrev pub RoseFrom : ℕ → ℕ → Bool → Type 0
 RoseFrom from count spent = (IsTrue spent → ⊥) → from < count
 

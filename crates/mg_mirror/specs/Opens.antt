@@ -10,16 +10,17 @@ use Rattle.mg_mirror.specs.declared.mirror.Opened as counts
 use Rattle.mg_mirror.specs.declared.mirror.Side.{Side}
 use Rattle.mg_mirror.specs.declared.mirror.Side.TheVariants.{Left, Right}
 
--- A mirror of two disks that is opened from the one on a side; or both disks as they are, where that one failed.
+-- A mirror of two disks that is opened from the one on a side; or both disks as they are, if that one failed.
 pub record Opens {D E K : Type 0} (d : Ghosts D) (e : Ghosts E) (k : counts.Ghosts K D E) (facts : Ghosts (Mirror D E K d e k)) (from : Side) (left : D) (right : E)
     (result : Result (Mirror D E K d e k) (MirrorFailed D E)) : Type 0 where
-  -- Its reads are told exactly where those of both disks are, whether or not stops are: they give the first blocks of that disk.
+  -- Its reads are told exactly if those of both disks are, whether or not stops are: they give the first blocks of that disk.
   pub left_reads : from ≡ Left → IfOk result (λ m. facts.seen m ≡ told_cut (facts.block_count m) (d.seen left) (e.seen right))
   pub right_reads : from ≡ Right → IfOk result (λ m. facts.seen m ≡ told_cut (facts.block_count m) (e.seen right) (d.seen left))
-  -- Where nothing was pending on that disk, nothing is on the mirror.
+  -- If nothing was pending on that disk, nothing is on the mirror.
   pub left_settled : from ≡ Left → IfOk result (λ m. NothingPending d left → NothingPending facts m)
   pub right_settled : from ≡ Right → IfOk result (λ m. NothingPending e right → NothingPending facts m)
-  -- No call of the mirror failed yet. It has as many blocks as the smaller disk, and tells of stops where both disks do.
+  -- No call of the mirror failed yet. It has as many blocks as the smaller disk. What a stop leaves of it is told exactly if that is
+  -- told of both disks.
   pub no_faults : IfOk result (λ m. facts.faults m ≡ 0)
   pub blocks : IfOk result (λ m. facts.block_count m ≡ min (d.block_count left) (e.block_count right))
   pub tells : IfOk result (λ m. facts.tells_stops m ≡ (d.tells_stops left && e.tells_stops right))
@@ -37,6 +38,6 @@ pub record Opens {D E K : Type 0} (d : Ghosts D) (e : Ghosts E) (k : counts.Ghos
   pub left_copy : from ≡ Right → IfOk result (λ m. LeavesCopy d (min (d.block_count left) (e.block_count right)) (e.seen right) left m.left)
   pub right_torn : from ≡ Left → IfErr result (λ disks. LeavesCopy e (min (d.block_count left) (e.block_count right)) (d.seen left) right disks.right)
   pub left_torn : from ≡ Right → IfErr result (λ disks. LeavesCopy d (min (d.block_count left) (e.block_count right)) (e.seen right) left disks.left)
-  -- Opening fails only where the count of that disk rose.
+  -- Opening fails only if the count of that disk rose.
   pub left_cause : from ≡ Left → IfErr result (λ disks. CountRose d left disks.left)
   pub right_cause : from ≡ Right → IfErr result (λ disks. CountRose e right disks.right)

@@ -1,5 +1,5 @@
 // A copy of one disk's first blocks on another. Block 0 of the other disk is closed first and written last, so that a stop within
-// the copy leaves nothing there that is taken for a volume.
+// the copy leaves nothing there that counts as a volume.
 ghost use Rattle.std.specs.Prelude.{◌≡◌, ◌+◌, ◌≤◌, IfOk, IsTrue, OnOk, length};
 ghost use Rattle.std.specs.Option.{ForSome};
 ghost use Rattle.mg_disk.specs.Disk.{HasBlocks, InRange, SameBut, SeenBut, TornAt, only_place};
@@ -31,8 +31,8 @@ pub(crate) fn copy_side<D: Disk, E: Disk>(
     }
 }
 
-/// Copies the first blocks of `from` to `to` and makes sure of them, or says that `to` failed, whose count then rose. It fails where
-/// `from` does. The first of these blocks are `first`, which were read already; where there are none, block 0 is read here.
+/// Copies the first blocks of `from` to `to` and syncs them, or says that `to` failed, whose count then rose. It fails if
+/// `from` does. The first of these blocks are `first`, which were read already; if there are none, block 0 is read here.
 fn copy_blocks<D: Disk, E: Disk>(
     from: &mut D,
     to: &mut E,
@@ -79,7 +79,7 @@ fn copy_gated<D: Disk, E: Disk>(
     Ok(write_firmly(to, 0, &first[0]).is_ok())
 }
 
-/// Writes zeros over block 0 and makes sure of them.
+/// Writes zeros over block 0 and syncs them.
 fn close<E: Disk>(to: &mut E) -> Result<(), Failed>
     requires some { 1 ≤ E.block_count to.old }
     ensures any_moment { NothingPending E.Disk to.old → ForSome (E.seen to.old) (λ image. Leaves E.Disk to.old to.new (SameBut (only_place 0) image)) }
@@ -94,7 +94,7 @@ fn close<E: Disk>(to: &mut E) -> Result<(), Failed>
     write_firmly(to, 0, &gate)
 }
 
-/// Copies the blocks after block 0 and makes sure of them, or says that `to` failed.
+/// Copies the blocks after block 0 and syncs them, or says that `to` failed.
 fn copy_after<D: Disk, E: Disk>(
     from: &mut D,
     to: &mut E,
@@ -121,7 +121,7 @@ fn copy_after<D: Disk, E: Disk>(
     Ok(to.sync().is_ok())
 }
 
-/// Copies the blocks from `start` on, or says that `to` failed. Nothing is made sure of.
+/// Copies the blocks from `start` on, or says that `to` failed. Nothing is synced.
 fn copy_rest<D: Disk, E: Disk>(
     from: &mut D,
     to: &mut E,

@@ -18,13 +18,13 @@ use mg_faults::FaultCount;
 use std::marker::{Brand, PhantomData};
 
 /// A side of a mirror.
-#[derive(Clone, Copy, Debug, PartialEq, Eq)]
+#[derive(Clone, Copy, PartialEq, Eq)]
 pub enum Side {
     Left,
     Right,
 }
 
-/// What is known of the two disks from before: the counts of faults as opening began, and a disk that stood outside once the mirror was
+/// What is known of the two disks from before: the counts of faults as opening began, and a disk that was outside once the mirror was
 /// opened. A run picks them.
 pub trait Opened<D, E> {
     /// The count of the left disk.
@@ -33,10 +33,10 @@ pub trait Opened<D, E> {
     /// The count of the right disk.
     ghost right_faults: { ℕ };
 
-    /// The left disk, where the right one is known to have stood alone since it was this one.
+    /// The left disk, if the right one is known to have stood alone since it was this one.
     ghost left_out: { Option D };
 
-    /// The right disk, where the left one is known to have stood alone since it was this one.
+    /// The right disk, if the left one is known to have stood alone since it was this one.
     ghost right_out: { Option E };
 }
 
@@ -50,9 +50,9 @@ impl<D, E> Opened<D, E> for Brand {
     ghost right_out = { None };
 }
 
-/// One disk of two. A side whose write or sync fails is dropped, and the mirror goes on with the other.
-/// A side is dropped only where its count of faults rose since opening began, or stands at its last value, and the
-/// mirror's own count is above 0 only where that holds of both sides. No call reaches a side that was dropped.
+/// One disk of two. A side whose write or sync fails is dropped, and the mirror continues with the other.
+/// A side is dropped only if its count of faults rose since opening began, or is at its last value, and the
+/// mirror's own count is above 0 only if that holds of both sides. No call reaches a side that was dropped.
 #[derive(Drop)]
 pub struct Mirror<D: Disk, E: Disk, K: Opened<D, E> = Brand> {
     left: D,
@@ -85,9 +85,9 @@ impl<D: Disk, E: Disk, K: Opened<D, E>> Mirror<D, E, K> {
 
     /// Opens a mirror with what the disk on the side `from` has, whose first blocks are read and written to the other. Block 0 of the
     /// other one is closed with zeros first and written last, with a sync after each step, so that a stop within the copy leaves no
-    /// mixture of both behind a block 0 that tells of a volume.
+    /// mixture of both after a block 0 of a volume.
     ///
-    /// It fails where `from` does; where the other fails, the mirror stands alone on `from`. Its reads are told where those of both
+    /// It fails if `from` does; if the other fails, the mirror stands alone on `from`. Its reads are told if those of both
     /// disks are. `K` has the counts of both disks.
     pub fn open(left: D, right: E, from: Side) -> Result<Mirror<D, E, K>, MirrorFailed<D, E>>
         requires left_faults { D.faults left ≡ K.left_faults }
@@ -99,7 +99,7 @@ impl<D: Disk, E: Disk, K: Opened<D, E>> Mirror<D, E, K> {
         Mirror::open_behind(left, right, from, &[])
     }
 
-    /// Opens a mirror as [`Mirror::open`] does, where the first blocks of the disk on the side `from` were read already. These are
+    /// Opens a mirror as [`Mirror::open`] does, if the first blocks of the disk on the side `from` were read already. These are
     /// written to the other one and not read again. `K` has the counts of both disks as they were then, or before.
     pub fn open_behind(
         left: D,
@@ -134,7 +134,7 @@ impl<D: Disk, E: Disk, K: Opened<D, E>> Mirror<D, E, K> {
         })
     }
 
-    /// The same mirror, of which more is known: a side that stands alone, and the other disk. It stays so.
+    /// The same mirror, with more known of it: a side that stands alone, and the other disk. What is known stays so.
     pub fn known<J: Opened<D, E>>(self) -> Mirror<D, E, J>
         requires left_faults { J.left_faults ≡ K.left_faults }
         requires right_faults { J.right_faults ≡ K.right_faults }
@@ -156,7 +156,7 @@ impl<D: Disk, E: Disk, K: Opened<D, E>> Mirror<D, E, K> {
         }
     }
 
-    /// Both disks, as they are. Where the mirror's own count is above 0, the counts of both rose since opening began.
+    /// Both disks, as they are. If the mirror's own count is above 0, the counts of both rose since opening began.
     pub fn sides(self) -> (D, E)
         ensures left { result.0 ≡ self.left }
         ensures right { result.1 ≡ self.right }
@@ -169,7 +169,7 @@ impl<D: Disk, E: Disk, K: Opened<D, E>> Mirror<D, E, K> {
         (self.left, self.right)
     }
 
-    /// The one side in use, or none while both are. It is one only where the count of the other rose since opening began.
+    /// The one side in use, or none while both are. It is one only if the count of the other rose since opening began.
     pub fn alone(&self) -> Option<Side>
         ensures alone { result ≡ self.now.alone }
         ensures right_cause { result ≡ Some Side.Left → RoseFrom K.right_faults (E.faults self.now.right) (E.is_spent self.now.right) }
@@ -305,7 +305,7 @@ impl<D: Disk, E: Disk, K: Opened<D, E>> Disk for Mirror<D, E, K> {
         }
     }
 
-    /// The left side gives all of them, or the right one where a call of the left one failed in them.
+    /// The left side gives all of them, or the right one if a call of the left one failed in them.
     fn read_blocks(&mut self, first: u64, out: &mut [Block]) -> Result<(), Failed>
         requires in_range { first + length out.old ≤ ⟦<Mirror<D, E, K> as Disk>⟧.block_count self.old }
         ensures read { OnOk result (ForSome (⟦<Mirror<D, E, K> as Disk>⟧.seen self.old) (HasBlocks first out.new)) }
@@ -347,7 +347,7 @@ impl<D: Disk, E: Disk, K: Opened<D, E>> Disk for Mirror<D, E, K> {
         }
     }
 
-    /// Each side in use puts all of them.
+    /// Each side in use writes all of them.
     fn write_blocks(&mut self, first: u64, from: &[Block]) -> Result<(), Failed>
         requires in_range { first + length from.now ≤ ⟦<Mirror<D, E, K> as Disk>⟧.block_count self.old }
         ensures written { OnOk result (ForSome (⟦<Mirror<D, E, K> as Disk>⟧.seen self.new) (HasBlocks first from.now)) }

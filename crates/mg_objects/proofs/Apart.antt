@@ -38,7 +38,7 @@ bases-rise objects rows apart i j d before under =
     let s = row_i.place.some in
     omega arith
 
--- an object that meets none is put between them
+-- an object that meets none is added between them
 pub into-apart : (new : ℕ × ObjectRow) (xs : List (ℕ × ObjectRow)) → IsObjectRow new.1 → AreRows xs → MeetsNone new.1 xs → AreApart xs → AreApart (into_place new xs)
 into-apart new [] row rows meets apart = AllPairs-cons IsBefore new [] (λ k d under. absurd (omega arith)) apart
 into-apart new (o ∷ xs) row rows meets apart =
@@ -71,7 +71,7 @@ into-apart new (o ∷ xs) row rows meets apart =
         let Q : List (ℕ × ObjectRow) → Type 0 = AreApart in
         subst Q (sym (into-later new o xs f)) (AllPairs-cons IsBefore o (into_place new xs) (into-all (IsBefore o) new xs before behind) rest)
 
--- they are, where each ends before the next begins
+-- they are, if each ends before the next begins
 pub apart-next : (objects : List (ℕ × ObjectRow)) → ((k : ℕ) (d : ℕ × ObjectRow) → k + 1 < length objects → IsBefore (get_or objects k d) (get_or objects (k + 1) d)) → AreApart objects
 apart-next [] next = AllPairs-nil IsBefore
 apart-next (o ∷ []) next = AllPairs-cons IsBefore o [] (λ k d under. absurd (omega arith)) (AllPairs-nil IsBefore)
@@ -130,7 +130,7 @@ one-covers objects a x y rows apart in_x in_y cov_x cov_y =
         let q = w.0 in
         omega arith
 
--- so one that has it is the one that is found
+-- so an object that has it is what is found
 pub covers-only : (objects : List (ℕ × ObjectRow)) (a k : ℕ) (d : ℕ × ObjectRow) → AreRows objects → AreApart objects → k < length objects → covers (get_or objects k d).1 a ≡ true
     → find (λ (o : ℕ × ObjectRow). covers o.1 a) objects ≡ Some (get_or objects k d)
 covers-only objects a k d rows apart within is =
@@ -138,7 +138,7 @@ covers-only objects a k d rows apart within is =
     let there : Contains objects x = contains-at objects k d x within refl in
     find-only (λ (o : ℕ × ObjectRow). covers o.1 a) objects x there is (λ y in_y t. one-covers objects a x y rows apart there in_y is t)
 
--- the object that covers an address is the last that does not begin behind it
+-- the object that covers an address is the last that does not begin after it
 not-covered : (row : ObjectRow) (a : ℕ) → (covers row a ≡ true → ⊥) → covers row a ≡ false
 not-covered row a never = ⊎_elim (λ t. absurd (never t)) (λ f. f) (cases_Bool (covers row a))
 

@@ -11,7 +11,7 @@ use Rattle.mg_objects.specs.Held.{by_base, into_place, live_from, objects_in, wi
 use Rattle.mg_objects.proofs.Lists.{filter-all, map-same}
 use Rattle.mg_objects.proofs.Rows.{into-first, into-later}
 
--- two objects may be put in one after the other in either order
+-- two objects may be added one after the other in either order
 commute : (a b : ℕ × ObjectRow) → a.1.base ≢ b.1.base → (xs : List (ℕ × ObjectRow)) → into_place a (into_place b xs) ≡ into_place b (into_place a xs)
 commute a b other [] = ⊎_elim low high (cases_lt a.1.base b.1.base)
   where

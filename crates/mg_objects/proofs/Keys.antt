@@ -25,7 +25,7 @@ use Rattle.mg_objects.proofs.Rows.{held-full, held-had, held-has, held-none}
 pub some-none : {X : Type 0} (x : X) → Some x ≡ None → ⊥
 some-none x is = cc
 
--- where a row is there, its place is one of the table
+-- when a row is there, its place is one of the table
 pub within-table : (rows : List (Option ObjectRow)) (k : ℕ) (row : ObjectRow) → slice_index_or rows k None ≡ Some row → k < length rows
 within-table rows k row is = ⊎_elim (λ l. l) (λ past. absurd (some-none row (sym is ∙ get_or_past rows k None past))) (cases_lt k (length rows))
 
@@ -59,7 +59,7 @@ without-one base x other = ⊎_elim (λ inside. absurd (never inside)) (λ out. 
         let high = ltb-true x (base + 1) both.1 in
         other (omega arith)
 
--- what stands at a rank, in the list of pairs and in the table
+-- what is at a rank, in the list of pairs and in the table
 pub listed_rank :
     (rows : List (Option ObjectRow)) (pairs : List (ℕ × ℕ)) → map key_of (objects_in rows) ≡ pairs → (i : ℕ) (d : ℕ × ObjectRow) → i < length (objects_in rows)
     → (get_or pairs i (0, 0) ≡ key_of (get_or (objects_in rows) i d)) × (slice_index_or rows (get_or (objects_in rows) i d).0 None ≡ Some (get_or (objects_in rows) i d).1)
@@ -185,7 +185,7 @@ module _ (rows : List (Option ObjectRow)) (bases : List ℕ) (held : AreHeld row
   pub row_at : (k base : ℕ) → base ≢ 0 → k < length bases → slice_index bases k ≡ base → (row : ObjectRow) × (slice_index_or rows k None ≡ Some row) × (row.base ≡ base)
   row_at = row_there rows bases held.bases_are held.rows_are
 
-  -- where two rows have one base, they are one
+  -- when two rows have one base, they are one
   pub one_base : HaveOwnBases rows
   one_base j k r row at_j at_k same = go (held-has rows j r at_j) (held-has rows k row at_k)
     where

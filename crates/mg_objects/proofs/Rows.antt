@@ -9,7 +9,7 @@ use Rattle.mg_model.specs.State.{ObjectRow}
 use Rattle.mg_objects.specs.Held.{by_base, into_place, live_from, objects_in}
 use Rattle.mg_objects.proofs.Lists.{contains-behind, contains-cases, contains-here, contains-none}
 
--- an object is put before the first with a larger base
+-- an object is added before the first with a larger base
 pub into-first : (new o : ℕ × ObjectRow) (xs : List (ℕ × ObjectRow)) → nat_lt new.1.base o.1.base ≡ true → into_place new (o ∷ xs) ≡ new ∷ o ∷ xs
 into-first new o xs t = ap (λ b. if b then new ∷ o ∷ xs else o ∷ into_place new xs) t
 
@@ -80,14 +80,11 @@ live-none i (suc n) = live-none (i + 1) n
 pub held-none : (n : ℕ) → objects_in (replicate n None) ≡ []
 held-none n = ap by_base (live-none 0 n)
 
--- a free place behind the others
+-- a free place after the others
 live-behind : {R : Type 0} (i : ℕ) (rows : List (Option R)) → live_from i (rows ++ None ∷ []) ≡ live_from i rows
 live-behind i [] = refl
 live-behind i (None ∷ rows) = live-behind (i + 1) rows
 live-behind i (Some row ∷ rows) = ap (λ xs. (i, row) ∷ xs) (live-behind (i + 1) rows)
-
-pub held-behind : (old new : List (Option ObjectRow)) → new ≡ old ++ None ∷ [] → objects_in new ≡ objects_in old
-held-behind old new more = ap objects_in more ∙ ap by_base (live-behind 0 old)
 
 -- how many there are
 live-few : (i : ℕ) (rows : List (Option ObjectRow)) → length (live_from i rows) ≤ length rows

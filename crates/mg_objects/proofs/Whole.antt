@@ -1,4 +1,4 @@
--- A table, and the free places behind it.
+-- A table, and the free places after it.
 use Rattle.std.specs.Prelude.{◌≡◌, ◌+◌, ◌-◌, ◌<◌, ◌≤◌, ◌==◌, ℕ, zero, suc, true, false, All, List, [], ◌∷◌, ◌++◌, Option, None, Some, length, map, position, replicate, slice_index, slice_set}
 use Rattle.std.proofs.Common.{refl, sym, ap, ◌∙◌, ⊎_elim, arith, get_or, get_or-set_other, get_or-set_same, length-set}
 use Rattle.std.proofs.lemmas.Bool.{cases_eq, cases_lt, eq-eqb, false≢true}
@@ -19,7 +19,7 @@ whole-long rows short =
     let l = length-replicate {A = Option ObjectRow} (4096 - length rows) None in
     omega arith
 
--- the same stands in each place
+-- the same is in each place
 free-at : (n k : ℕ) → get_or (replicate {A = Option ObjectRow} n None) k None ≡ None
 free-at zero k = refl
 free-at (suc n) zero = refl
@@ -57,7 +57,7 @@ whole-set rows place row short under =
     ∙ sym (ap (λ n. get_or (slice_set (whole rows) place row) n None) same ∙ get_or-set_same (whole rows) place row None (omega arith)))
     (λ other. get_or-set_other rows place k row None other ∙ sym (whole-at rows k) ∙ sym (get_or-set_other (whole rows) place k row None other)) (cases_eq k place))
 
--- a row behind the others
+-- a row after the others
 pub whole-push : (rows new : List (Option ObjectRow)) (place : ℕ) (row : Option ObjectRow) → place < 4096 → place ≡ length rows → new ≡ rows ++ row ∷ [] → whole new ≡ slice_set (whole rows) place row
 whole-push rows new place row low last more =
     ap whole more
@@ -98,7 +98,7 @@ bases-behind (row ∷ rows) n = ap (λ xs. base_of row ∷ xs) (bases-behind row
 pub whole-bases : (rows : List (Option ObjectRow)) (bases : List ℕ) (n : ℕ) → n ≡ length rows → bases ≡ map base_of rows ++ replicate (4096 - n) 0 → bases ≡ map base_of (whole rows)
 whole-bases rows bases n is are = are ∙ ap (λ m. map base_of rows ++ replicate (4096 - m) 0) is ∙ sym (bases-behind rows (4096 - length rows))
 
--- the lowest free place is one of the table, or the first behind it
+-- the lowest free place is one of the table, or the first after it
 pub lowest-within : (rows : List (Option ObjectRow)) (bases : List ℕ) → AreHeld (whole rows) bases → (place : ℕ) → position (λ entry. entry == 0) bases ≡ Some place → place ≤ length rows
 lowest-within rows bases held place lowest = ⊎_elim (λ past. absurd (never past)) (λ within. within) (cases_lt (length rows) place)
   where
@@ -116,7 +116,7 @@ lowest-within rows bases held place lowest = ⊎_elim (λ past. absurd (never pa
         ∙ ap base_of (whole-at rows (length rows) ∙ get_or_past rows (length rows) None (omega arith)) in
         false≢true (sym (at.2 (length rows) past) ∙ eq-eqb (slice_index bases (length rows)) 0 free)
 
--- numbers with one zero more behind them
+-- numbers with one zero more after them
 pub zeros-more : (old now new : List ℕ) (n : ℕ) → length old ≤ n → now ≡ old ++ replicate (n - length old) 0 → new ≡ now ++ 0 ∷ [] → new ≡ old ++ replicate (n + 1 - length old) 0
 zeros-more old now new n past are more =
     more

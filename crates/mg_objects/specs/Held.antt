@@ -6,7 +6,7 @@ use Rattle.mg_model.specs.Objects.{page_behind, page_of}
 use Rattle.mg_model.specs.Ranges.{IsObjectRow}
 use Rattle.mg_model.specs.State.{ObjectRow}
 
--- the rows that are there, each with its place, where the first place is i
+-- the rows that are there, each with its place, counted from i
 abbrev pub live_from : {R : Type 0} → ℕ → List (Option R) → List (ℕ × R)
 live_from i [] = []
 live_from i (None ∷ rows) = live_from (i + 1) rows
@@ -25,7 +25,7 @@ by_base (o ∷ objects) = into_place o (by_base objects)
 abbrev pub objects_in : List (Option ObjectRow) → List (ℕ × ObjectRow)
 objects_in rows = by_base (live_from 0 rows)
 
--- no page of the first is one of the second or behind it
+-- no page of the first is one of the second or after it
 abbrev pub IsBefore : ℕ × ObjectRow → ℕ × ObjectRow → Type 0
 IsBefore a b = page_behind a.1 ≤ page_of b.1
 
@@ -33,7 +33,7 @@ IsBefore a b = page_behind a.1 ≤ page_of b.1
 abbrev pub AreApart : List (ℕ × ObjectRow) → Type 0
 AreApart objects = AllPairs IsBefore objects
 
--- the base of a row, 0 where there is none
+-- the base of a row, 0 if there is none
 abbrev pub base_of : Option ObjectRow → ℕ
 base_of None = 0
 base_of (Some row) = row.base
@@ -49,11 +49,11 @@ pub record AreHeld (rows : List (Option ObjectRow)) (bases : List ℕ) : Type 0 
   pub rows_are : All (λ (row : Option ObjectRow). ForSome row IsObjectRow) rows
   pub apart : AreApart (objects_in rows)
 
--- the table with free places behind it, 4,096 in all
+-- the table with free places after it, 4,096 in all
 abbrev pub whole : List (Option ObjectRow) → List (Option ObjectRow)
 whole rows = rows ++ replicate (4096 - length rows) None
 
--- a table without places behind the last that ever had a row, the room that it has, and the bases in all places
+-- a table without places after the last that ever had a row, the room that it has, and the bases in all places
 pub record AreShort (rows : List (Option ObjectRow)) (space : ℕ) (bases : List ℕ) : Type 0 where
   pub short : length rows ≤ 4096
   pub room : 4096 ≤ space
@@ -63,7 +63,7 @@ pub record AreShort (rows : List (Option ObjectRow)) (space : ℕ) (bases : List
 abbrev pub MeetsNone : ObjectRow → List (ℕ × ObjectRow) → Type 0
 MeetsNone row objects = All (λ (o : ℕ × ObjectRow). (page_behind row ≤ page_of o.1) ⊎ (page_behind o.1 ≤ page_of row)) objects
 
--- the objects with another row for the one that has its base
+-- the objects with another row for the object that has its base
 abbrev pub with_row : ObjectRow → List (ℕ × ObjectRow) → List (ℕ × ObjectRow)
 with_row row objects = map (λ (o : ℕ × ObjectRow). if o.1.base == row.base then (o.0, row) else o) objects
 

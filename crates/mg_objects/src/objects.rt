@@ -15,14 +15,14 @@ use std::alloc::{AllocError, Global};
 use std::marker::Model;
 
 /// How many objects a volume has room for.
-pub const MOST_OBJECTS: u64 = OBJECT_LIMIT as u64;
+pub(crate) const MOST_OBJECTS: u64 = OBJECT_LIMIT as u64;
 
 /// The objects of a volume, no two of which share a page.
 #[derive(Drop)]
 pub struct Objects {
     // The rows by place, up to the last that ever had one, in room for 4,096.
     rows: Vec<Option<ObjRow>>,
-    // The base of each row, 0 where there is none.
+    // The base of each row, 0 if there is none.
     bases: Index,
 }
 
@@ -49,7 +49,7 @@ impl Objects {
         Ok(Objects { rows, bases })
     }
 
-    /// The objects of a table of at most 4,096 places, which has room for 4,096 and is kept as it is. There are none where
+    /// The objects of a table of at most 4,096 places, which has room for 4,096 and is kept as it is. There are none if
     /// two of its rows share a page. All memory that they will need beside it is taken here.
     pub fn of(alloc: Global, table: Vec<Option<ObjRow>>) -> Result<Option<Objects>, AllocError>
         requires at_most_4096_rows { length table.items ≤ object_limit }
@@ -69,7 +69,7 @@ impl Objects {
         }
     }
 
-    /// Tells that there are 4,096 objects at most, that no two share a page, and that each has a place of its own. It does
+    /// States that there are at most 4,096 objects, that no two share a page, and that each has a place of its own. It does
     /// nothing when it runs.
     pub fn keep_rules(&self)
         ensures at_most_4096 { length self.now ≤ object_limit }
@@ -99,7 +99,7 @@ impl Objects {
         *self.nth_ref(i)
     }
 
-    /// As [`Objects::nth`], and lends the row.
+    /// As [`Objects::nth`], but borrows the row.
     pub fn nth_ref(&self, i: usize) -> &ObjRow
         requires { i < length self.now }
         ensures { HoldsAt (λ o. result.now ≡ o.1) self.now i }
@@ -136,7 +136,7 @@ impl Objects {
         self.get_ref(base).copied()
     }
 
-    /// As [`Objects::get`], and lends the row.
+    /// As [`Objects::get`], but borrows the row.
     pub fn get_ref(&self, base: u64) -> Option<&ObjRow>
         ensures { option_copied result ≡ option_map (λ o. o.1) (find (λ o. o.1.base == base) self.now) }
     {
@@ -147,64 +147,58 @@ impl Objects {
         }
     }
 
-    /// The object that has this address.
-    pub fn covering(&self, a: u64) -> Option<ObjRow>
-        ensures { result ≡ option_map (λ o. o.1) (find (λ o. covers o.1 a) self.now) }
+    /// The object that has this address. It halves what is left at each step.
+    pub fn covering(&self, address: u64) -> Option<ObjRow>
+        ensures { result ≡ option_map (λ o. o.1) (find (λ o. covers o.1 address) self.now) }
     {
-        self.covering_ref(a).copied()
+        self.covering_behind(address, self.count_up_to(address))
+            .copied()
     }
 
-    /// As [`Objects::covering`], and lends the row. It halves what is left at each step.
-    pub fn covering_ref(&self, a: u64) -> Option<&ObjRow>
-        ensures { option_copied result ≡ option_map (λ o. o.1) (find (λ o. covers o.1 a) self.now) }
-    {
-        self.covering_behind(a, self.count_up_to(a))
-    }
-
-    /// As [`Objects::covering_ref`]. The object of rank `near`, where there is one, is looked at first, so that calls on one object take as
-    /// long among many as alone. The rank of the one that is found is there then.
-    pub fn covering_near(&self, a: u64, near: &mut usize) -> Option<&ObjRow>
-        ensures { option_copied result ≡ option_map (λ o. o.1) (find (λ o. covers o.1 a) self.now) }
+    /// As [`Objects::covering`], but borrows the row. The object of rank `near`, if there is one, is looked at first, so that calls on one
+    /// object take as long among many as alone. `near` is then the rank of the object that is found.
+    pub fn covering_near(&self, address: u64, near: &mut usize) -> Option<&ObjRow>
+        ensures { option_copied result ≡ option_map (λ o. o.1) (find (λ o. covers o.1 address) self.now) }
     {
         self.keep_rules();
         if *near < self.len() {
             let last = self.nth_ref(*near);
-            if last.covers(a) {
+            if last.covers(address) {
                 return Some(last);
             }
         }
-        let count = self.count_up_to(a);
+        let count = self.count_up_to(address);
         if count > 0 {
             *near = count - 1;
         }
-        self.covering_behind(a, count)
+        self.covering_behind(address, count)
     }
 
-    // The object that has this address, of which so many objects begin at it or before it.
-    fn covering_behind(&self, a: u64, count: usize) -> Option<&ObjRow>
+    // The object that has this address, of which `count` objects begin at it or before it.
+    fn covering_behind(&self, address: u64, count: usize) -> Option<&ObjRow>
         requires within { count ≤ length self.now }
-        requires below { AllWithin (λ o. o.1.base ≤ a) self.now 0 count }
-        requires above { AllWithin (λ o. a < o.1.base) self.now count (length self.now) }
-        ensures { option_copied result ≡ option_map (λ o. o.1) (find (λ o. covers o.1 a) self.now) }
+        requires below { AllWithin (λ o. o.1.base ≤ address) self.now 0 count }
+        requires above { AllWithin (λ o. address < o.1.base) self.now count (length self.now) }
+        ensures { option_copied result ≡ option_map (λ o. o.1) (find (λ o. covers o.1 address) self.now) }
     {
         self.keep_rules();
         if count == 0 {
             return None;
         }
         let row = self.nth_ref(count - 1);
-        if row.covers(a) { Some(row) } else { None }
+        if row.covers(address) { Some(row) } else { None }
     }
 
     /// One object more, in the lowest place that is free. It shares no page with another.
-    pub fn insert(&mut self, r: ObjRow)
+    pub fn insert(&mut self, row: ObjRow)
         requires fewer_than_4096 { length self.old < object_limit }
-        requires apart { MeetsNone r self.old }
-        ensures { (place : ℕ) × (IsLowestFree place self.old) × (self.new ≡ into_place (place, r) self.old) }
+        requires apart { MeetsNone row self.old }
+        ensures { (place : ℕ) × (IsLowestFree place self.old) × (self.new ≡ into_place (place, row) self.old) }
     {
-        let _place = self.put(r);
+        let _place = self.put(row);
     }
 
-    /// As [`Objects::insert`], and gives the place.
+    /// As [`Objects::insert`], and returns the place.
     pub fn put(&mut self, row: ObjRow) -> u64
         requires fewer_than_4096 { length self.old < object_limit }
         requires apart { MeetsNone row self.old }
@@ -225,7 +219,7 @@ impl Objects {
         let _gone = self.take(base);
     }
 
-    /// As [`Objects::remove`], and gives the place that is free then, and the row.
+    /// As [`Objects::remove`], and returns the place that is then free, and the row.
     pub fn take(&mut self, base: u64) -> (u64, ObjRow)
         requires { list_any (λ o. o.1.base == base) self.old ≡ true }
         ensures objects { self.new ≡ filter (λ o. not (o.1.base == base)) self.old }
@@ -237,16 +231,16 @@ impl Objects {
         gone
     }
 
-    /// Another row for the object with its base, which has as many pages. It stands in the same place.
-    pub fn update(&mut self, r: ObjRow)
-        requires there { list_any (λ o. o.1.base == r.base) self.old ≡ true }
-        requires pages { All (λ o. o.1.base ≡ r.base → o.1.pages ≡ r.pages) self.old }
-        ensures { self.new ≡ with_row r self.old }
+    /// Another row for the object with its base, which has as many pages. It stays in its place.
+    pub fn update(&mut self, row: ObjRow)
+        requires there { list_any (λ o. o.1.base == row.base) self.old ≡ true }
+        requires pages { All (λ o. o.1.base ≡ row.base → o.1.pages ≡ row.pages) self.old }
+        ensures { self.new ≡ with_row row self.old }
     {
-        let _place = self.replace(r);
+        let _place = self.replace(row);
     }
 
-    /// As [`Objects::update`], and gives the place.
+    /// As [`Objects::update`], and returns the place.
     pub fn replace(&mut self, row: ObjRow) -> u64
         requires there { list_any (λ o. o.1.base == row.base) self.old ≡ true }
         requires pages { All (λ o. o.1.base ≡ row.base → o.1.pages ≡ row.pages) self.old }
@@ -258,7 +252,7 @@ impl Objects {
         kept
     }
 
-    // Tells that the place of the object with this base has that object. It does nothing when it runs.
+    // States that the place of the object with this base has that object. It does nothing when it runs.
     fn keep_places(&self, base: u64)
         ensures { (place : ℕ) → Some place ≡ option_map (λ o. o.0) (find (λ o. o.1.base == base) self.now)
             → option_map (λ o. o.1) (find (λ o. o.0 == place) self.now) ≡ option_map (λ o. o.1) (find (λ o. o.1.base == base) self.now) }
@@ -282,11 +276,11 @@ impl Objects {
     }
 
     // How many objects begin at this address or before it.
-    fn count_up_to(&self, a: u64) -> usize
+    fn count_up_to(&self, address: u64) -> usize
         ensures within { result ≤ length self.now }
-        ensures below { AllWithin (λ o. o.1.base ≤ a) self.now 0 result }
-        ensures above { AllWithin (λ o. a < o.1.base) self.now result (length self.now) }
+        ensures below { AllWithin (λ o. o.1.base ≤ address) self.now 0 result }
+        ensures above { AllWithin (λ o. address < o.1.base) self.now result (length self.now) }
     {
-        self.bases.pairs().partition_point(|pair| pair.0 <= a)
+        self.bases.pairs().partition_point(|pair| pair.0 <= address)
     }
 }

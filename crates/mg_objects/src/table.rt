@@ -11,7 +11,7 @@ use mg_model::ObjRow;
 use mg_model::limits::PAGE_SIZE;
 use std::alloc::{AllocError, Global};
 
-/// The base of the row in each of 4,096 places, 0 where there is none.
+/// The base of the row in each of 4,096 places, 0 if there is none.
 pub(crate) fn bases_of(alloc: Global, table: &[Option<ObjRow>]) -> Result<Vec<u64>, AllocError>
     requires { length table.now ≤ object_limit }
     ensures bases { IfOk result (λ bases. bases.items ≡ map base_of (whole table.now)) }
@@ -35,7 +35,7 @@ fn list_bases(table: &[Option<ObjRow>], bases: &mut Vec<u64>) -> Result<(), Allo
     Ok(())
 }
 
-// Puts zeros behind the numbers, until there are so many.
+// Adds zeros after the numbers, until there are `places` numbers.
 fn pad(numbers: &mut Vec<u64>, places: u64) -> Result<(), AllocError>
     requires { length numbers.old.items ≤ places }
     ensures { IfOk result (λ _. numbers.new.items ≡ numbers.old.items ++ replicate (places - length numbers.old.items) 0) }
@@ -46,7 +46,7 @@ fn pad(numbers: &mut Vec<u64>, places: u64) -> Result<(), AllocError>
     Ok(())
 }
 
-/// Puts a row into a place of the table, or behind its last place.
+/// Writes a row into a place of the table, or after its last place.
 pub(crate) fn put_row(table: &mut Vec<Option<ObjRow>>, place: u64, row: ObjRow)
     requires within { place ≤ length table.old.items }
     requires place { place < object_limit }
@@ -66,7 +66,7 @@ pub(crate) fn put_row(table: &mut Vec<Option<ObjRow>>, place: u64, row: ObjRow)
     }
 }
 
-// The base of a row, 0 where there is none.
+// The base of a row, 0 if there is none.
 fn base_of(row: &Option<ObjRow>) -> u64
     ensures base { result ≡ base_of row.now }
     ensures kept { ForSome row.now IsObjectRow }
@@ -77,7 +77,7 @@ fn base_of(row: &Option<ObjRow>) -> u64
     }
 }
 
-/// The row of this rank in the order of the bases, 0 for the first, where the pairs are those of all bases and places.
+/// The row of this rank in the order of the bases, 0 for the first, if the pairs are those of all bases and places.
 pub(crate) fn row_of<'a>(table: &'a [Option<ObjRow>], pairs: &[(u64, u64)], i: usize) -> &'a ObjRow
     requires at_most_4096_rows { length table.now ≤ object_limit }
     requires listed { map key_of (objects_in table.now) ≡ pairs.now }
@@ -91,7 +91,7 @@ pub(crate) fn row_of<'a>(table: &'a [Option<ObjRow>], pairs: &[(u64, u64)], i: u
     }
 }
 
-/// Whether no two of the objects share a page, where the pairs are those of all bases and places.
+/// Whether no two of the objects share a page, if the pairs are those of all bases and places.
 pub(crate) fn are_apart(table: &[Option<ObjRow>], pairs: &[(u64, u64)]) -> bool
     requires at_most_4096_rows { length table.now ≤ object_limit }
     requires listed { map key_of (objects_in table.now) ≡ pairs.now }

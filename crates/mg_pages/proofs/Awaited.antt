@@ -1,4 +1,4 @@
--- The blocks that an image will have, where a journal fits it.
+-- The blocks that an image will have, if a journal fits it.
 use Rattle.std.specs.Prelude.{◌≡◌, ◌<◌, ℕ, true, List, [], length, Option, Some, None}
 use Rattle.std.specs.Option.{option_map_or}
 use Rattle.std.proofs.Common.{sym, ap, ◌∙◌, arith}

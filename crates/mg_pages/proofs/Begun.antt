@@ -1,4 +1,4 @@
--- A page is bound to a free frame, and a word is put into it.
+-- A page is bound to a free frame, and a word is written into it.
 use Rattle.std.specs.Prelude.{◌≡◌, ◌≢◌, ◌+◌, ◌/◌, ◌≤◌, ◌<◌, ◌==◌, ℕ, false, List, [], length, replicate, slice_set, Some}
 use Rattle.std.specs.List.{list_any, position}
 use Rattle.std.proofs.Common.{refl, sym, ap, ◌∙◌, ⊎_elim, inl, inr, arith, get_or}

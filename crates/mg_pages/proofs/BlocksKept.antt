@@ -32,7 +32,7 @@ module _ (told : Option Image) (first : ℕ) where
 pub read-block : (store : Store) (image : Image) (block : ℕ) (bytes : List ℕ) → IsFitting store image → ForSome (replay image (total_of store)) (λ r. bytes ≡ block_at r block) → bytes ≡ block_at (replayed (total_of store) image) block
 read-block store image block bytes fits read = read (replayed (total_of store) image) (fits-replayed store image fits)
 
--- the branch of a match on an option that a test has told
+-- the branch of a match on an option, by a test of it
 pub there : {X : Type 0} (o : Option X) (none : Type 0) (some : X → Type 0) → true ≡ is_some o → MatchOption o none some → (x : X) × (o ≡ Some x) × some x
 there None none some is match = absurd (false≢true (sym is))
 there (Some x) none some is match = (x, refl, match)

@@ -1,4 +1,4 @@
--- A word is put into the block of a page that has a frame.
+-- A word is written into the block of a page that has a frame.
 use Rattle.std.specs.Prelude.{◌≡◌, ◌≢◌, ◌+◌, ◌≤◌, ◌<◌, ◌==◌, ℕ, List, [], length, slice_set, Some}
 use Rattle.std.specs.List.{position}
 use Rattle.std.proofs.Common.{refl, sym, ap, ◌∙◌, inr, arith, get_or}

@@ -26,7 +26,7 @@ new-coming : (store : Store) (writes : List (ℕ × List ℕ)) (image c : Image)
 new-coming store writes image c fits new =
     subst (λ (o : Option Image). SeenBut InJournal (option_map (λ r. written r writes) o) (replay c store.total)) (fits-replayed store image fits) new
 
--- so the blocks behind the journal are those that were coming
+-- so the blocks after the journal are those that were coming
 same-behind : (store : Store) (r now : Image) → journal.IsFitting store now → HasContents store.total r now → SameBut InJournal r (replayed store.total now)
 same-behind store r now fits has = subst (λ (o : Option Image). SeenBut InJournal (Some r) o) (fits-replayed store now fits) has
 

@@ -14,7 +14,7 @@ use Rattle.mg_pages.specs.declared.pages.Pages.{Pages}
 use Rattle.mg_pages.specs.Meaning.{Keeps, StandsOn, coming, frame_count, is_staged, page_now, staged_of, table_in}
 use Rattle.mg_pages.specs.Parts.{KeepsMore, coming_of}
 
--- what is coming, and the words of a page, where the fields are told
+-- what is coming, and the words of a page, if the fields are told
 module _ (q : Pages) (store : Store) (frames : List ℕ) (writes : List (ℕ × List ℕ)) (same_store : q.blocks.store ≡ store) (same_frames : q.frames ≡ frames) (same_writes : q.blocks.writes ≡ writes) where
   pub coming-as : (image : Image) → coming q image ≡ coming_of store writes image
   unfolding coming

@@ -21,7 +21,7 @@ pub kept-read : (first : ℕ) (r : Image) (block : ℕ) (is : List ℕ) (old new
 kept-read first r block is old new read keeps are i bytes found low =
     ⊎_elim (λ this. this.1 ∙ read ∙ ap (block_at r) (sym this.0)) (λ was. are i bytes was low) (keeps i bytes found)
 
--- what some writes have of a block is kept before what is kept behind them
+-- what some writes have of a block is kept before what is kept after them
 other-way : (i k : ℕ) → (k == i) ≡ false → nat_eq i k ≡ false
 other-way i k not_same = ⊎_elim (λ same. absurd (both_ways (k == i) not_same (eq-eqb k i (sym (eqb-true i k same))))) (λ is. is) (cases_Bool (nat_eq i k))
 
@@ -66,7 +66,7 @@ same-behind ws old new same i =
     ⊎_elim (λ none. kept-behind ws new i none ∙ same i ∙ sym (kept-behind ws old i none))
     (λ goes. kept-before ws new i goes.0 goes.1 ∙ sym (kept-before ws old i goes.0 goes.1)) (goes-or-not ws i)
 
--- the block of write k has what write k puts there
+-- the block of write k has what write k writes there
 named-at : (ws : List (ℕ × List ℕ)) (k : ℕ) → k < length ws → names ws (home_at ws k) ≡ true
 named-at [] k below = absurd (omega arith)
 named-at ((i, x) ∷ ws) zero below = or_left (i == i) (names ws i) (eq-eqb i i refl)
@@ -119,7 +119,7 @@ module _ (first : ℕ) (r : Image) (last writes : List (ℕ × List ℕ)) where
         (λ this. inl (this.1 ∙ are (home_at last k) (bytes_of last k) (kept-before last base (home_at last k) (bytes_of last k) (waiting-at last k once below)) low ∙ ap (block_at r) (sym this.0)))
         (λ other. ⊎_elim (λ is. inl is) (λ named. inr (rest-named i other.0 named)) (so_far i bytes other.1 from free)) (keeps i bytes found)
 
-    -- it is not asked for
+    -- no other is sought
     pub kept-less : (old : List (ℕ × List ℕ)) → ((i : ℕ) → first ≤ i → waiting writes i ≡ None → i ≢ home_at last k) → AreKeptUpTo (drop k last) writes first r old → AreKeptUpTo (drop (k + 1) last) writes first r old
     kept-less old apart so_far i bytes found from free =
         ⊎_elim (λ is. inl is) (λ named. inr (rest-named i (apart i from free) named)) (so_far i bytes found from free)

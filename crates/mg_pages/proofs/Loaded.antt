@@ -28,7 +28,7 @@ bound-free xs x is = rw (eq-eqb x 0 is) refl
 bound-page : (xs : List ℕ) (x : ℕ) → x ≢ 0 → bound_pages (x ∷ xs) ≡ x ∷ bound_pages xs
 bound-page xs x some = rw (ne_eqb x 0 some) refl
 
--- a page that stands in a place is one of those that are bound
+-- a page that is in a place is one of those that are bound
 page-any : (xs : List ℕ) (i page : ℕ) → page ≢ 0 → get_or xs i 0 ≡ page → list_any (λ y. page == y) (bound_pages xs) ≡ true
 page-any [] i page some is = absurd (some (sym is))
 page-any (x ∷ xs) zero page some is =
@@ -51,7 +51,7 @@ twice x xs j page distinct some at_x at_j =
     let parts = distinct-parts (bound_pages xs) x (sym (ap all_distinct (bound-page xs x (λ none. some (sym at_x ∙ none)))) ∙ distinct) in
     both_ways (list_any (λ y. x == y) (bound_pages xs)) parts.0 (page-any xs j x (λ none. some (sym at_x ∙ none)) (at_j ∙ sym at_x))
 
--- no page stands in two places
+-- no page is in two places
 one-place : (xs : List ℕ) (i j page : ℕ) → all_distinct (bound_pages xs) ≡ true → page ≢ 0 → get_or xs i 0 ≡ page → get_or xs j 0 ≡ page → i ≡ j
 one-place [] i j page distinct some at_i at_j = absurd (some (sym at_i))
 one-place (x ∷ xs) zero zero page distinct some at_i at_j = refl
@@ -102,7 +102,7 @@ module _ (table : List ℕ) (i : ℕ) where
       by true e = absurd (some (sym e))
       by false e = e
 
--- the entry behind the first ones has a page, or one of them
+-- the entry after the first ones has a page, or one of them
 behind-first : (table : List ℕ) (page i : ℕ) → i < length table → list_any (λ entry. entry == page) (take (suc i) table) ≡ true
     → (list_any (λ entry. entry == page) (take i table) ≡ true) ⊎ ((list_any (λ entry. entry == page) (take i table) ≡ false) × (get_or table i 0 ≡ page))
 behind-first table page i within is =
@@ -113,7 +113,7 @@ behind-first table page i within is =
     by true e = inl refl
     by false e = inr (refl, eqb-true (get_or table i 0) page e)
 
--- so a page that one of the first entries has stands there
+-- so a page that one of the first entries has is there
 earlier-entry : (table : List ℕ) (page i : ℕ) → i ≤ length table → list_any (λ entry. entry == page) (take i table) ≡ true → (j : ℕ) × (j < i) × (get_or table j 0 ≡ page)
 earlier-entry table page zero few is = absurd (cc)
 earlier-entry table page (suc i) few is =
@@ -156,7 +156,7 @@ entry-loaded table frames i page tall page_is free loaded m before below =
         ⊎_elim (λ is. absurd (both_ways (list_any (λ entry. entry == page) frames) (nowhere_any (λ entry. entry == page) frames none) (seen-bound table frames page i some (omega arith) tall loaded is))) (λ no. no)
         (cases_Bool (list_any (λ entry. entry == page) (take i table)))
 
--- where no page stands twice, each entry is the first of its page
+-- when no page occurs twice, each entry is the first of its page
 only-entry : (table : List ℕ) (i : ℕ) → i < length table → all_distinct (bound_pages table) ≡ true → first_entry table i ≡ get_or table i 0
 only-entry table i within distinct = ⊎_elim again (λ none. ap (λ t. if t then 0 else get_or table i 0) none) (cases_Bool (list_any (λ entry. entry == get_or table i 0) (take i table)))
   where
@@ -213,6 +213,6 @@ module _ (r : Image) (frames now : List ℕ) (k : ℕ) (long : length now ≡ le
   pub loaded-first : HoldFirstEntries (table_of r (length frames)) now
   loaded-first i within = loaded table tall entries i (omega arith) within
 
-  -- and the whole table, where no page stands twice
+  -- and the whole table, if no page occurs twice
   pub loaded-table : all_distinct (bound_pages (table_of r (length frames))) ≡ true → now ≡ table_of r (length frames)
   loaded-table distinct = let e = tall in ext_get_or 0 now table (long ∙ sym tall) (λ i within. loaded-first i within ∙ only-entry table i (omega arith) distinct)

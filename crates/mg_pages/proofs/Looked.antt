@@ -1,4 +1,4 @@
--- What is kept of a block once a cache has moved, taken out or put an entry.
+-- What is kept of a block once a cache has moved, removed or added an entry.
 use Rattle.std.specs.Prelude.{◌≡◌, ◌≢◌, ◌⊎◌, ◌-◌, ℕ, zero, suc, true, false, cond, List, [], ◌∷◌, take, Option, Some, None, IsSome, is_some, nat_eq}
 use Rattle.std.specs.Map.{lookup, lookup_entry, remove_entry, set_value}
 use Rattle.std.specs.Option.{option_map_or}
@@ -101,7 +101,7 @@ look-taken (suc n) ((x, c) ∷ es) i b is = ⊎_elim here (there (look-taken n e
     there : (lookup (nat_eq i) (take n es) ≡ Some b → lookup (nat_eq i) es ≡ Some b) → nat_eq i x ≡ false → lookup (nat_eq i) ((x, c) ∷ es) ≡ Some b
     there rest at = look-there i x c es at ∙ rest (sym (look-there i x c (take n es) at) ∙ is)
 
--- a block is put
+-- a block is added
 module _ (c : LruCache ℕ (List ℕ)) (k : ℕ) (bytes : List ℕ) where
   some_same : (x y : List ℕ) → Some x ≡ Some y → x ≡ y
   some_same x y is = cc
@@ -137,7 +137,7 @@ module _ (c : LruCache ℕ (List ℕ)) (k : ℕ) (bytes : List ℕ) where
   pub look-put : KeepsThis k bytes c.entries (put_entries nat_eq c k bytes)
   look-put = put-cases (lookup_entry (nat_eq k) c.entries) refl
 
-  -- where the put is refused, nothing was kept of it
+  -- when adding it is refused, nothing was kept of it
   pub look-refused : lookup (nat_eq k) c.entries ≡ None → KeepsThis k bytes c.entries c.entries
   look-refused none i b found = inr ((λ same. none_some b (sym none ∙ ap (λ n. lookup (nat_eq n) c.entries) (sym same) ∙ found)), found)
 

@@ -11,7 +11,7 @@ use Rattle.mg_pages.specs.Kept.{kept_at}
 use Rattle.mg_pages.specs.Parts.{coming_of}
 use Rattle.mg_pages.specs.Meaning.{HasTable, IsSpelledBy, coming, frame_count, kept_in, replayed, table_in, total_of}
 
--- the frames of entries in which no page stands twice are these entries
+-- the frames of entries in which no page occurs twice are these entries
 pub made-frames : (entries frames : List ℕ) (made : Option (List ℕ)) → made ≡ (if all_distinct (bound_pages entries) then Some entries else None) → made ≡ Some frames → all_distinct (bound_pages entries) ≡ true → frames ≡ entries
 made-frames entries frames made is some distinct =
     let e = ap (λ b. if b then Some entries else None) distinct in
@@ -20,7 +20,7 @@ made-frames entries frames made is some distinct =
 none-some : (bytes : List ℕ) → None ≡ Some bytes → ⊥
 none-some bytes found = cc
 
--- a table that is spelled where nothing is staged
+-- a table that is spelled if nothing is staged
 spells : (store s : Store) (entries fs : List ℕ) (ws : List (ℕ × List ℕ)) (image : Image) → s ≡ store → fs ≡ entries → ws ≡ [] → HasTable entries (replayed store.total image) → HasTable fs (coming_of s ws image)
 spells store s entries fs ws image same_store same_frames none has = rw (same_store, same_frames, none) has
 

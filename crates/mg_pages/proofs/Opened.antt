@@ -33,7 +33,7 @@ pub same-shape : (p q : Pages) → q.blocks.store ≡ p.blocks.store → length 
 unfolding total_of frame_count is_live
 same-shape p q store many = record { total = ap (λ (s : Store). s.total) store; frames = many; live = ap (λ s. journal.is_live s) store }
 
--- the journal stands where the pages do
+-- the journal stands on the disk on which the pages do
 pub stands-store : {D : Type 0} (facts : Ghosts D) (disk : D) (p : Pages) → StandsOn facts p disk → journal.Stands facts p.blocks.store disk
 unfolding total_of IsSpelledBy
 stands-store facts disk p stands =

@@ -14,7 +14,7 @@ page-in image n table page f is = ap (λ place. option_map_or (λ frame. block_w
 pub page-none : (image : Image) (n : ℕ) (table : List ℕ) (page : ℕ) → position (λ entry. entry == page) table ≡ None → page_words image n table page ≡ replicate 512 0
 page-none image n table page is = ap (λ place. option_map_or (λ frame. block_words (block_at image (first_frame n + frame))) place (replicate 512 0)) is
 
--- a page that stands where it stood, its block as it was
+-- a page in the frame where it was, with its block as it was
 pub page-same : (r r' : Image) (n : ℕ) (table table' : List ℕ) (page : ℕ) → position (λ entry. entry == page) table' ≡ position (λ entry. entry == page) table
     → ((k : ℕ) → position (λ entry. entry == page) table ≡ Some k → block_at r' (first_frame n + k) ≡ block_at r (first_frame n + k))
     → page_words r' n table' page ≡ page_words r n table page

@@ -1,4 +1,4 @@
--- Where pages stand in the frame table once one is bound.
+-- Where pages are in the frame table once one is bound.
 use Rattle.std.specs.Prelude.{◌≡◌, ◌⊎◌, ◌<◌, ◌==◌, ℕ, zero, suc, Bool, true, false, List, [], ◌∷◌, length, option_map, slice_set, Some}
 use Rattle.std.specs.List.{list_any, position}
 use Rattle.std.proofs.Common.{refl, ap, ◌∙◌, ⊎_elim, inl, inr, arith, get_or}

@@ -1,4 +1,4 @@
--- A word is put into a block that is staged.
+-- A word is written into a block that is staged.
 use Rattle.std.specs.Prelude.{◌≡◌, ◌≤◌, ◌<◌, ◌==◌, ℕ, true, false, List, [], ◌∷◌, length, IfSome, MatchOption, Option, Some, None}
 use Rattle.std.proofs.Common.{refl, sym, ap, ◌∙◌, ⊎_elim, inl, arith}
 use Rattle.std.proofs.lemmas.Bool.{cases_Bool, eq-eqb, or_left, or_right}
@@ -63,7 +63,7 @@ restages p q block old bytes low high is blocks frames count =
       spelled = spelled-more p q block bytes blocks frames low high;
     }
 
--- the pages after a word was put
+-- the pages after a word was written
 pub put-pages : (p q : Pages) (block : ℕ) (f : List ℕ → List ℕ) → globals_block ≤ block → block < table_block → q.frames ≡ p.frames → q.count ≡ p.count → (o : Option (List ℕ)) → waiting p.blocks.writes block ≡ o
     → MatchOption o (q.blocks ≡ p.blocks) (λ bytes. q.blocks ≡ with_writes p.blocks (staged p.blocks.writes block (f bytes))) → MatchOption o (q ≡ p) (λ bytes. Restages block (f bytes) p q)
 put-pages p q block f low high frames count None is same = same-pages p q same frames count

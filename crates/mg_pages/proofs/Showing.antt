@@ -1,4 +1,4 @@
--- A cache that shows other values than it has is searched, ordered and written to as the one that has them.
+-- A cache that shows other values than it has is searched, ordered and written to as a cache that has them.
 use Rattle.std.specs.Prelude.{◌≡◌, ◌-◌, ℕ, Bool, true, false, cond, List, [], ◌∷◌, take, Option, Some, None, option_map, nat_eq}
 use Rattle.std.specs.Map.{lookup, lookup_entry, remove_entry, set_value}
 use Rattle.std.specs.Option.{option_map_or}
@@ -8,7 +8,7 @@ use Rattle.lru.specs.LruCache.{LruCache, lru_cache, promoted, put_entries}
 use Rattle.mg_pages.proofs.Looked.{look-put, look-set}
 use Rattle.mg_pages.specs.Kept.{KeepsThis, kept_at, shown}
 
--- what is done in both arms is done behind the test
+-- what is done in both arms is done after the test
 within : {X Y : Type 0} (g : X → Y) (t : Bool) (a b : X) → cond t (g a) (g b) ≡ g (cond t a b)
 within g true a b = refl
 within g false a b = refl
@@ -46,7 +46,7 @@ module _ {V : Type 0} (f : V → List ℕ) where
         ∙ ap (λ o. option_map_or (λ (e : ℕ × List ℕ). e ∷ shown f (remove_entry test es)) o (shown f es)) (entry-shown es)
         ∙ front (lookup_entry test es) (remove_entry test es) es
 
-  -- a value that is put
+  -- a value that is added
   placed : (o : Option (ℕ × V)) (v : V) (rest es : List (ℕ × V))
       → option_map_or (λ (e : ℕ × List ℕ). (e.0, f v) ∷ shown f rest) (option_map one o) (shown f es) ≡ shown f (option_map_or (λ (e : ℕ × V). (e.0, v) ∷ rest) o es)
   placed None v rest es = refl
@@ -62,14 +62,14 @@ module _ {V : Type 0} (f : V → List ℕ) where
       (take-map one (c.cap - 1) c.entries)
       ∙ placed (lookup_entry (nat_eq k) c.entries) v (remove_entry (nat_eq k) c.entries) ((k, v) ∷ take (c.cap - 1) c.entries)
 
-  -- what is kept of a block, by what a search of the cache told
+  -- what is kept of a block, by what a search of the cache found
   pub kept-found : (es : List (ℕ × V)) (k : ℕ) (v : V) → Some v ≡ lookup (nat_eq k) es → kept_at (shown f es) k ≡ Some (f v)
   kept-found es k v found = lookup-shown (nat_eq k) es ∙ ap (option_map f) (sym found)
 
   pub kept-none : (es : List (ℕ × V)) (k : ℕ) → None ≡ lookup (nat_eq k) es → kept_at (shown f es) k ≡ None
   kept-none es k none = lookup-shown (nat_eq k) es ∙ ap (option_map f) (sym none)
 
-  -- a value that is written over, and one that is put
+  -- a value that is written over, and one that is added
   pub written-shown : (es : List (ℕ × V)) (k : ℕ) (old new : V) → Some old ≡ lookup (nat_eq k) es
       → KeepsThis k (f new) (shown f es) (shown f (set_value (nat_eq k) (promoted (nat_eq k) es) new))
   written-shown es k old new found =

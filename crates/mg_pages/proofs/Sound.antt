@@ -10,7 +10,7 @@ use Rattle.mg_model.specs.Volume.{bound_pages}
 use Rattle.mg_pages.proofs.Staging.{fit-staged, length-again, length-staged, once-staged, place-named}
 use Rattle.mg_pages.specs.Held.{IsSound}
 
--- a write more, where there is room
+-- a write more, if there is room
 pub room-staged : (writes : List (ℕ × List ℕ)) (block : ℕ) → (names writes block ≡ true) ⊎ (length writes < body_limit) → IsSome (position (goes_to block) writes) ⊎ (length writes < body_limit)
 room-staged writes block room = ⊎_elim (λ named. inl (place-named writes block named)) (λ few. inr few) room
 

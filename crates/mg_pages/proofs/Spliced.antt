@@ -1,4 +1,4 @@
--- A word that is put in place of 8 bytes of a block.
+-- A word that is written in place of 8 bytes of a block.
 use Rattle.std.specs.Prelude.{◌≡◌, ◌≢◌, ◌+◌, ◌-◌, ◌*◌, ◌<◌, ◌^◌, ℕ, List, ◌++◌, drop, length, slice_set, take}
 use Rattle.std.specs.Int.{from_le_bytes, w64}
 use Rattle.std.specs.List.{splice}

@@ -13,7 +13,7 @@ use Rattle.mg_journal.specs.WrittenLemmas.{written_elsewhere}
 use Rattle.mg_model.specs.Layout.{globals_block}
 use Rattle.mg_model.specs.Replay.{homes_fit, written}
 
--- a write more, told by the first of those that wait
+-- one more write, by the first of those that wait
 pub staged-here : (i b : ℕ) (x y : List ℕ) (ws : List (ℕ × List ℕ)) → (i == b) ≡ true → staged ((i, x) ∷ ws) b y ≡ (b, y) ∷ ws
 staged-here i b x y ws is =
     ap (λ place. option_map_or (λ k. slice_set ((i, x) ∷ ws) k (b, y)) place (((i, x) ∷ ws) ++ (b, y) ∷ [])) (position-here (goes_to b) (i, x) ws is)
@@ -138,7 +138,7 @@ length-again ((i, x) ∷ ws) b y named = ⊎_elim here (there (length-again ws b
         let e = ap (λ w. length w) (staged-there i b x y ws not_same) in
         omega arith
 
--- a write is replaced where one goes to that block
+-- a write is replaced if one goes to that block
 pub place-named : (ws : List (ℕ × List ℕ)) (b : ℕ) → names ws b ≡ true → IsSome (position (goes_to b) ws)
 place-named [] b named = absurd (both_ways false refl named)
 place-named ((i, x) ∷ ws) b named = ⊎_elim here (there (place-named ws b)) (cases_Bool (i == b))
@@ -155,7 +155,7 @@ place-named ((i, x) ∷ ws) b named = ⊎_elim here (there (place-named ws b)) (
         let named_there : names ws b ≡ true = sym (ap (λ t. t || names ws b) not_same) ∙ named in
         rw (position-there (goes_to b) (i, x) ws not_same) (some_suc (position (goes_to b) ws) (rest named_there))
 
--- what waits for a block is what stands there once all is written
+-- what waits for a block is what is there once all is written
 pub some_list : (x y : List ℕ) → Some x ≡ Some y → x ≡ y
 some_list x y is = cc
 

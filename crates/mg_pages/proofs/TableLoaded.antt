@@ -15,7 +15,7 @@ use Rattle.mg_pages.specs.declared.blocks.Blocks.{Blocks}
 use Rattle.mg_pages.specs.declared.pages.Pages.{Pages}
 use Rattle.mg_pages.specs.Meaning.{IsBare, SpellsTable, StandsOn, frame_count, kept_in, replayed, staged_of, total_of}
 
--- the pages that the table has stand on the disk, where nothing was staged
+-- the pages that the table has stand on the disk, if nothing was staged
 pub stands-loaded : {D : Type 0} (facts : Ghosts D) (p q : Pages) (frames : List ℕ) (disk disk' : D) → q.blocks ≡ p.blocks → q.frames ≡ frames → length frames ≡ length p.frames
     → ForSome (facts.seen disk) (λ image. all_distinct (bound_pages (table_of (replayed p.blocks.store.total image) (length p.frames))) ≡ true → frames ≡ table_of (replayed p.blocks.store.total image) (length p.frames))
     → journal.Stands facts p.blocks.store disk' → facts.seen disk' ≡ facts.seen disk → ((now : Image) → facts.seen disk' ≡ Some now → length now ≡ facts.block_count disk')

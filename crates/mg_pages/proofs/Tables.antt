@@ -39,7 +39,7 @@ spelled-new p q image store many step keeps is =
 pub holds-apart : (frames : List ℕ) (n : ℕ) (r r' : Image) → ((k : ℕ) → k < n → block_at r' (table_block + k) ≡ block_at r (table_block + k)) → HoldsTable frames n r → HoldsTable frames n r'
 holds-apart frames n r r' same holds k few j below = ap (λ bytes. number_at bytes (8 * j)) (same k few) ∙ holds k few j below
 
--- one entry is another, and its block is told
+-- one entry is another, and its block is given
 pub holds-bound : (frames entries : List ℕ) (n : ℕ) (r r' : Image) (f page : ℕ) → HoldsEntries (slice_set frames f page) (f / 512) entries → block_at r' (table_block + f / 512) ≡ entries
     → ((k : ℕ) → k < n → k ≢ f / 512 → block_at r' (table_block + k) ≡ block_at r (table_block + k)) → HoldsTable frames n r → HoldsTable (slice_set frames f page) n r'
 holds-bound frames entries n r r' f page hold here same holds k few j below =

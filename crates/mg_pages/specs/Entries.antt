@@ -8,6 +8,6 @@ use Rattle.mg_model.specs.Layout.{table_block}
 abbrev pub HoldsEntries : List ℕ → ℕ → List ℕ → Type 0
 HoldsEntries frames k bytes = (j : ℕ) → j < 512 → number_at bytes (8 * j) ≡ slice_index frames (512 * k + j)
 
--- so many blocks of the image are the frame table
+-- this many blocks of the image are the frame table
 abbrev pub HoldsTable : List ℕ → ℕ → Image → Type 0
 HoldsTable frames n image = (k : ℕ) → k < n → HoldsEntries frames k (block_at image (table_block + k))

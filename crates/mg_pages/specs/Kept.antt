@@ -16,7 +16,7 @@ kept_at kept i = lookup (nat_eq i) kept
 abbrev pub AreKept : ℕ → Image → List (ℕ × List ℕ) → Type 0
 AreKept first r kept = (i : ℕ) (bytes : List ℕ) → kept_at kept i ≡ Some bytes → first ≤ i → bytes ≡ block_at r i
 
--- it is, where no write goes to the block
+-- it is, if no write goes to the block
 abbrev pub AreKeptBut : List (ℕ × List ℕ) → ℕ → Image → List (ℕ × List ℕ) → Type 0
 AreKeptBut writes first r kept = (i : ℕ) (bytes : List ℕ) → kept_at kept i ≡ Some bytes → first ≤ i → waiting writes i ≡ None → bytes ≡ block_at r i
 

@@ -8,13 +8,13 @@ use Rattle.mg_model.specs.Bytes.{number_at}
 abbrev pub AreFreeFrom : ℕ → List ℕ → Type 0
 AreFreeFrom first frames = (i : ℕ) → first ≤ i → slice_index frames i ≡ 0
 
--- the frames after an entry was taken: past the last frame, and where the page is 0 or is bound already, nothing is bound
+-- the frames after an entry was taken: past the last frame, and if the page is 0 or is bound already, nothing is bound
 abbrev pub entry_bound : List ℕ → ℕ → ℕ → List ℕ
 entry_bound frames frame page =
     if nat_le (length frames) frame then frames
     else (if page == 0 then frames else option_map_or (λ bound. frames) (position (λ entry. entry == page) frames) (slice_set frames frame page))
 
--- the page of an entry of a table, and none where an entry before it has the same page
+-- the page of an entry of a table, and none if an entry before it has the same page
 abbrev pub first_entry : List ℕ → ℕ → ℕ
 first_entry table i = if list_any (λ entry. entry == slice_index table i) (take i table) then 0 else slice_index table i
 

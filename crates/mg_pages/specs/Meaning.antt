@@ -97,7 +97,7 @@ pub record SameShape (old new : Pages) : Type 0 where
   pub frames : frame_count new ≡ frame_count old
   pub live : is_live new ≡ is_live old
 
--- what every value keeps, wherever it stands
+-- what every value keeps, on every disk
 pub record IsKept (p : Pages) : Type 0 where
   pub some : 16 ≤ frame_count p
   pub few : frame_count p ≤ 65536
@@ -113,7 +113,7 @@ pub record Keeps (old new : Pages) : Type 0 where
   pub staged : staged_of new ≡ staged_of old
   pub each : (block : ℕ) → is_staged new block ≡ is_staged old block
 
--- what was staged still is, and so many blocks more at most
+-- what was staged still is, and at most `most` more blocks are
 pub record StagesMore (most : ℕ) (old new : Pages) : Type 0 where
   pub least : staged_of old ≤ staged_of new
   pub staged : staged_of new ≤ staged_of old + most
@@ -150,12 +150,13 @@ pub record CountsNone (old new : Pages) (before now : ℕ) : Type 0 where
   pub words : words_in new ≡ words_in old
   pub ticks : now ≡ before
 
--- these entries, one a frame, are the frame table that a replayed image spells, and nothing stands behind its last entry
+-- these entries, one a frame, are the frame table that a replayed image spells, and nothing follows its last entry
 pub record HasTable (entries : List ℕ) (r : Image) : Type 0 where
   pub table : table_of r (length entries) ≡ entries
   pub past : are_zeros (drop (length entries) (whole_table r (length entries))) ≡ true
 
--- the frame table of a replayed image, of so many frames, is one of a volume: no page stands there twice, and nothing behind its last entry
+-- the frame table of a replayed image, with this number of frames, is one of a volume: no page occurs twice, and nothing follows its
+-- last entry
 pub record SpellsTable (frames : ℕ) (r : Image) : Type 0 where
   pub past : are_zeros (drop frames (whole_table r frames)) ≡ true
   pub distinct : all_distinct (bound_pages (table_of r frames)) ≡ true

@@ -40,7 +40,7 @@ pub record Begins (page : ℕ) (old_frames new_frames : List ℕ) (old_writes ne
   pub hold : HoldsEntries new_frames (frame / 512) entries
   pub more : new_writes ≡ staged (staged old_writes (first_frame (length old_frames) + frame) block) (table_block + frame / 512) entries
 
--- a word is put into the block of a page that has a frame, where the disk tells the block
+-- a word is written into the block of a page that has a frame, if what the block holds is told
 pub record ChangesWord (told : Option Image) (store : Store) (kept : List (ℕ × List ℕ)) (page index value : ℕ) (frames : List ℕ) (old new : List (ℕ × List ℕ)) : Type 0 where
   pub frame : ℕ
   pub holds : position (λ entry. entry == page) frames ≡ Some frame

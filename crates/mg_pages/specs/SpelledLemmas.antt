@@ -34,7 +34,7 @@ pub size_of : (p : Pages) (image : Image) → IsSpelledBy p image → total_of p
 unfolding total_of frame_count table_in
 size_of p image is = p.sound.size
 
--- what is coming spells the frame table, and no page stands there twice
+-- what is coming spells the frame table, and no page is there twice
 pub table_spelled : (p : Pages) (image : Image) → IsSpelledBy p image → table_of (coming p image) (frame_count p) ≡ table_in p
 table_spelled p image is = (spelled p image is).table
 
@@ -45,7 +45,7 @@ pub no_page_twice : (p : Pages) (image : Image) → IsSpelledBy p image → all_
 unfolding total_of frame_count table_in
 no_page_twice p image is = p.sound.distinct
 
--- pages whose journal stands on a disk stand there, where what it tells spells them
+-- pages whose journal stands on a disk stand there, if what its reads give spells them
 pub stands_spelled : {D : Type 0} (facts : Ghosts D) (store : Store) (p : Pages) (disk : D) → store_of p ≡ store → journal.Stands facts store disk → ForSome (facts.seen disk) (IsSpelledBy p) → StandsOn facts p disk
 unfolding total_of store_of
 stands_spelled facts store p disk is stands spells =

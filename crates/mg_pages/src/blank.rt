@@ -5,7 +5,7 @@ ghost use Rattle.mg_model.specs.Layout.{block_size};
 use mg_disk::{BLOCK_SIZE, Block};
 use std::marker::Model;
 
-/// A block of zeros that is only read. It is cheaper to copy it than to clear a block and copy that.
+/// A block of zeros that is only read. Copying it is faster than clearing a block and copying that.
 #[derive(Drop)]
 pub(crate) struct Blank {
     bytes: Block,

@@ -30,7 +30,7 @@ pub(crate) struct Blocks {
     store: Store,
     writes: Writes,
     kept: Kept,
-    // The zeros behind the bytes that a block begins with.
+    // The zeros after the bytes that a block begins with.
     blank: Blank,
 }
 
@@ -74,7 +74,7 @@ impl Blocks {
         self.writes.stage(block, from);
     }
 
-    /// Stages a block that begins with these bytes and has zeros behind them, in place of what was staged of it.
+    /// Stages a block that begins with these bytes and has zeros after them, in place of what was staged of it.
     pub(crate) fn stage_start(&mut self, block: u64, start: &[u8])
         requires there_or_fewer_than_160 { IsSome (position (goes_to block) self.old.writes) ⊎ (length self.old.writes < body_limit) }
         requires within { length start.now ≤ block_size }
@@ -83,7 +83,7 @@ impl Blocks {
         self.writes.stage_over(block, start, self.blank.zeros());
     }
 
-    /// Puts a word at a byte offset into a block, if it is staged, and says whether it is.
+    /// Writes a word at a byte offset into a block, if it is staged, and says whether it is.
     pub(crate) fn put(&mut self, block: u64, at: usize, word: u64) -> bool
         requires within { at + 8 ≤ block_size }
         ensures waits { result ≡ is_some (waiting self.old.writes block) }
@@ -280,7 +280,7 @@ impl Blocks {
     }
 }
 
-// Puts a word into a block in place, if it is staged, and says whether it is.
+// Writes a word into a block in place, if it is staged, and says whether it is.
 fn put_staged(writes: &mut Writes, block: u64, index: u64, value: u64) -> bool
     requires { index < 512 }
     ensures waits { result ≡ is_some (waiting writes.old block) }

@@ -16,11 +16,11 @@ use std::num::NonZeroUsize;
 /// How many blocks are kept at most.
 const MOST_KEPT: usize = 256;
 
-/// How many sets the blocks make by their numbers, one behind the other.
+/// How many sets the blocks make by their numbers, one after another.
 const SETS: usize = 256;
 
 /// Up to 256 blocks of the contents, those that were used last. One that is read is kept, and so is one that is written while there
-/// is room. In a full cache one that is written and not kept is kept from its second write on, where no other such block of its set
+/// is room. In a full cache one that is written and not kept is kept from its second write on, if no other such block of its set
 /// came between: blocks that are written once, as by a copy, push none out, and no bytes are copied for them.
 #[derive(Drop)]
 pub(crate) struct Cache {
@@ -28,7 +28,7 @@ pub(crate) struct Cache {
     blocks: LruCache<u64, Box<Block>>,
     // The box of the block that went out last. It takes the next one that comes.
     spare: Option<Box<Block>>,
-    // Of each set of blocks the one that was written last while it was not kept; 0, which is no frame's, where none was.
+    // Of each set the block that was written last while it was not kept; 0, which is no frame's block, if there is none.
     written: [u64; SETS],
     alloc: Global,
 }
@@ -86,7 +86,7 @@ impl Cache {
         }
     }
 
-    /// Keeps a block in place of what was kept of it. Where memory is refused, nothing is kept of it.
+    /// Keeps a block in place of what was kept of it. If memory is refused, nothing is kept of it.
     pub(crate) fn put(&mut self, block: u64, bytes: &Block)
         ensures { KeepsThis block bytes.now self.old self.new }
     {
@@ -95,7 +95,7 @@ impl Cache {
         }
     }
 
-    // Puts bytes in place of what is kept of a block, and says whether anything is.
+    // Writes bytes in place of what is kept of a block, and says whether anything is.
     fn replace(&mut self, block: u64, bytes: &Block) -> bool
         ensures put { result ≡ true → KeepsThis block bytes.now self.old self.new }
         ensures same { result ≡ false → self.new ≡ self.old }
@@ -110,7 +110,7 @@ impl Cache {
         }
     }
 
-    // Keeps a block of which nothing is kept. Where memory is refused, nothing is then either.
+    // Keeps a block of which nothing is kept. If memory is refused, nothing is then either.
     fn add(&mut self, block: u64, bytes: &Block)
         requires none { kept_at self.old block ≡ None }
         ensures { KeepsThis block bytes.now self.old self.new }
@@ -125,7 +125,7 @@ impl Cache {
         }
     }
 
-    // A box with these bytes: the spare one, if there is one. None where memory is refused.
+    // A box with these bytes: the spare one, if there is one. None if memory is refused.
     fn boxed(&mut self, bytes: &Block) -> Option<Box<Block>>
         ensures holds { IfSome result (λ boxed. boxed.value ≡ bytes.now) }
         ensures same { self.new ≡ self.old }
@@ -142,8 +142,8 @@ impl Cache {
         }
     }
 
-    /// Puts what was written to a block in place of what was kept of it. Where nothing was, it is kept if there is room for it or it
-    /// was written before. Where memory is refused, nothing is kept of it.
+    /// Stores what was written to a block in place of what was kept of it. If nothing was, it is kept if there is room for it or it
+    /// was written before. If memory is refused, nothing is kept of it.
     pub(crate) fn renew(&mut self, block: u64, bytes: &Block)
         ensures { KeepsThis block bytes.now self.old self.new }
     {

@@ -17,7 +17,7 @@ use mg_disk::Disk;
 use mg_faults::Failed;
 use mg_frames::Frames;
 
-/// The word at an index of a page as it will be, 0 where no frame holds the page.
+/// The word at an index of a page as it will be, 0 if no frame holds the page.
 pub(crate) fn page_word<D: Disk>(
     blocks: &mut Blocks,
     frames: &Frames,

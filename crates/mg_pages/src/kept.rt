@@ -78,7 +78,7 @@ impl Kept {
     }
 
     /// Takes over what a commit wrote, so that nothing is staged. What the commit before wrote, and this one not, goes into the cache
-    /// where it is a block from `first` on.
+    /// if it is a block from `first` on.
     pub(crate) fn take(&mut self, writes: &mut Writes, first: u64)
         ensures kept { (total : ℕ) (r : Image) → homes_fit total writes.old ≡ true → total ≤ length r → AreKept first r self.old → AreKept first (written r writes.old) self.new }
         ensures empty { writes.new ≡ [] }

@@ -1,4 +1,4 @@
-//! The pages of a volume: words that stand in frames of the disk, and changes that wait for a commit.
+//! The pages of a volume: words that are in frames of the disk, and changes that wait for a commit.
 //!
 //! A layer above reads and writes words of pages by the page's number, stages whole blocks before the frame table, and
 //! commits what is staged: at each moment of a commit a stop leaves the old contents or the new. Which frame holds a page

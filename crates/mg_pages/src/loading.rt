@@ -19,7 +19,7 @@ use mg_faults::Failed;
 use mg_frames::Frames;
 use mg_layout::{BLOCK_WORDS, Geometry, TABLE_BLOCK};
 
-// Binds a page to a frame, which is free. Past the last frame, and where the page is 0 or is bound already, nothing is done.
+// Binds a page to a frame, which is free. Past the last frame, and if the page is 0 or is bound already, nothing is done.
 fn bind_entry(frames: &mut Frames, frame: u64, page: u64)
     requires free { AreFreeFrom frame frames.old }
     ensures { frames.new ≡ entry_bound frames.old frame page }

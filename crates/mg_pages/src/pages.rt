@@ -44,7 +44,7 @@ impl Pages {
     ghost use Rattle.mg_pages.specs.Meaning.{BindsOnly, CountsNone, CountsOne, HasTable, IsBare, IsKept, Keeps, Releases, Restages, SameShape, SetsWord, SpellsTable, StagesMore, StandsOn, Unbinds, IsSpelledBy, coming, frame_count, is_bound, is_live, is_staged, page_now, replayed, staged_of, store_of, table_in, total_of, waiting_in, words_in};
 
     /// The pages of a volume with this journal and these entries of its frame table, one a frame, 16 to 65,536 of them: the
-    /// page that the frame holds, or 0. No page stands there twice. All memory that they will need is taken here.
+    /// page that the frame holds, or 0. No page occurs twice. All memory that they will need is taken here.
     pub fn open(alloc: Global, store: Store, entries: Vec<u64>) -> Result<Pages, AllocError>
         requires at_least_16_entries { 16 ≤ length entries.items }
         requires at_most_65536_entries { length entries.items ≤ 65536 }
@@ -76,23 +76,23 @@ impl Pages {
     /// The pages of a volume with this journal, and with the places of a volume of 16 to 65,536 frames ([`Geometry::of`]). No page
     /// is bound: [`Pages::load_table`] binds those of the frame table. All memory that they will need is taken here.
     ///
-    /// Where the entries of the frame table are at hand already, [`Pages::open`] makes the same in one step, and the table is read
+    /// If the entries of the frame table are at hand already, [`Pages::open`] makes the same in one step, and the table is read
     /// once.
-    pub fn new(alloc: Global, store: Store, g: Geometry) -> Result<Pages, AllocError>
-        requires at_least_16_frames { 16 ≤ g.total - g.first_frame }
-        requires at_most_65536_frames { g.total - g.first_frame ≤ 65536 }
-        requires places { g.total ≡ total_blocks (g.total - g.first_frame) }
-        requires total { journal.total_of store ≡ g.total }
+    pub fn new(alloc: Global, store: Store, geometry: Geometry) -> Result<Pages, AllocError>
+        requires at_least_16_frames { 16 ≤ geometry.total - geometry.first_frame }
+        requires at_most_65536_frames { geometry.total - geometry.first_frame ≤ 65536 }
+        requires places { geometry.total ≡ total_blocks (geometry.total - geometry.first_frame) }
+        requires total { journal.total_of store ≡ geometry.total }
         ensures store { IfOk result (λ p. store_of p ≡ store) }
         ensures total { IfOk result (λ p. total_of p ≡ journal.total_of store) }
-        ensures frames { IfOk result (λ p. frame_count p ≡ g.total - g.first_frame) }
+        ensures frames { IfOk result (λ p. frame_count p ≡ geometry.total - geometry.first_frame) }
         ensures unbound { IfOk result (λ p. are_zeros (table_in p) ≡ true) }
         ensures live { IfOk result (λ p. is_live p ≡ journal.is_live store) }
         ensures bare { IfOk result IsBare }
         ensures words { IfOk result (λ p. words_in p ≡ 0) }
         ensures coming { IfOk result (λ p. (image : List (List ℕ)) → coming p image ≡ replayed (journal.total_of store) image) }
     {
-        let frames = Frames::new(alloc, g.total - g.first_frame)?;
+        let frames = Frames::new(alloc, geometry.total - geometry.first_frame)?;
         let blocks = Blocks::open(alloc, store)?;
         Ok(Pages {
             blocks,
@@ -102,8 +102,8 @@ impl Pages {
     }
 
     /// Binds the pages that the frame table of the disk's contents has, one an entry, to frames of which none is bound. An entry
-    /// whose page an earlier one has is passed over, so where no page stands twice, as in a volume, the whole table is bound.
-    /// [`Failed`] comes only where a call of the disk failed; some pages may be bound then, and nothing else has changed. Where the
+    /// whose page an earlier one has is passed over, so if no page occurs twice, as in a volume, the whole table is bound.
+    /// [`Failed`] comes only if a call of the disk failed; some pages may be bound then, and nothing else has changed. If the
     /// table is one of a volume, and nothing was staged since [`Pages::new`], the pages stand on the disk after Ok.
     pub fn load_table<D: Disk>(&mut self, disk: &mut D) -> Result<(), Failed>
         requires unbound { are_zeros (table_in self.old) ≡ true }
@@ -121,12 +121,12 @@ impl Pages {
     {
         let frames = &mut self.frames;
         let loaded = load_pages(&self.blocks, frames, disk);
-        // It tells that no page has two frames.
+        // This says that no page has two frames.
         frames.len();
         loaded
     }
 
-    /// The page that a frame holds, 0 where it is free.
+    /// The page that a frame holds, 0 if it is free.
     pub fn page_at(&self, frame: u64) -> u64
         requires { frame < frame_count self.now }
         ensures { result ≡ slice_index (table_in self.now) frame }
@@ -148,7 +148,7 @@ impl Pages {
     }
 
     /// The word at an index of a page, below 512: the staged one, else that of the volume, else 0. Page 0 is no page: its words are
-    /// 0, and neither the disk nor the table is asked for them. [`Failed`] comes only where a call of the disk failed, and changes
+    /// 0, and neither the disk nor the table is read for them. [`Failed`] comes only if a call of the disk failed, and changes
     /// nothing. Ok counts one word, here and in `steps`.
     pub fn word<D: Disk, L: Ledger>(
         &mut self,
@@ -175,7 +175,7 @@ impl Pages {
         self.page_word(disk, page, index, steps)
     }
 
-    /// The same of a page, which is not 0, as each that lies in an object: it is not tested here.
+    /// As [`Pages::word`], for a page that is not 0, as is each page in an object: this is not tested here.
     pub fn page_word<D: Disk, L: Ledger>(
         &mut self,
         disk: &mut D,
@@ -203,8 +203,8 @@ impl Pages {
         }
     }
 
-    /// Puts a word at an index of a page, below 512. The first store to a page binds the lowest free frame, which begins
-    /// with zeros. [`Failed`] comes only where a call of the disk failed, and changes nothing. Ok counts one word, here and
+    /// Writes a word at an index of a page, below 512. The first store to a page binds the lowest free frame, which begins
+    /// with zeros. [`Failed`] comes only if a call of the disk failed, and changes nothing. Ok counts one word, here and
     /// in `steps`.
     pub fn set_word<D: Disk, L: Ledger>(
         &mut self,
@@ -255,7 +255,7 @@ impl Pages {
         self.blocks.stage(block, from);
     }
 
-    /// Stages a block between the journal and the frame table that begins with these bytes and has zeros behind them.
+    /// Stages a block between the journal and the frame table that begins with these bytes and has zeros after them.
     pub fn stage_start(&mut self, block: u64, start: &[u8])
         requires low { globals_block ≤ block }
         requires high { block < table_block }
@@ -272,7 +272,7 @@ impl Pages {
         self.blocks.stage_start(block, start);
     }
 
-    /// Puts a word at a byte offset, 0 to 4,088, into a block between the journal and the frame table, if it is staged, and says
+    /// Writes a word at a byte offset, 0 to 4,088, into a block between the journal and the frame table, if it is staged, and says
     /// whether it is.
     pub fn put(&mut self, block: u64, at: usize, word: u64) -> bool
         requires low { globals_block ≤ block }
@@ -285,9 +285,9 @@ impl Pages {
         self.blocks.put(block, at, word)
     }
 
-    /// Makes what is staged durable. It opens one of the journal's eight segments more, and writes no home; where all eight are open,
+    /// Makes what is staged durable. It opens one of the journal's eight segments more, and writes no home; if all eight are open,
     /// their homes are written first, and one is open then. With nothing staged no call is made, and the answer is Ok. After
-    /// [`Failed`], which comes only where a call of the disk failed, the pages are not live: the disk has the old contents or the new.
+    /// [`Failed`], which comes only if a call of the disk failed, the pages are not live: the disk has the old contents or the new.
     pub fn commit<D: Disk>(&mut self, disk: &mut D) -> Result<(), Failed>
         requires live { is_live self.old ≡ true }
         requires stands { StandsOn D.Disk self.old disk.old }
@@ -310,7 +310,7 @@ impl Pages {
         self.blocks.commit(disk, first_block(self.frames.len()))
     }
 
-    /// Tells that there are 16 to 65,536 frames, and that no page has two of them. It does nothing when it runs.
+    /// States that there are 16 to 65,536 frames, and that no page has two of them. It does nothing when it runs.
     pub fn keep_rules(&self)
         ensures { IsKept self.now }
     {

@@ -17,7 +17,7 @@ use mg_faults::Failed;
 use mg_frames::Frames;
 use mg_layout::{BLOCK_WORDS, TABLE_BLOCK};
 
-/// Puts a word at an index of a page. [`Failed`] comes from a read, before anything is changed.
+/// Writes a word at an index of a page. [`Failed`] comes from a read, before anything is changed.
 pub(crate) fn store_word<D: Disk>(
     blocks: &mut Blocks,
     frames: &mut Frames,

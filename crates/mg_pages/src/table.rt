@@ -7,7 +7,7 @@ use crate::words::put_word;
 use mg_disk::{BLOCK_SIZE, Block};
 use mg_layout::{BLOCK_WORDS, Geometry, TABLE_BLOCK};
 
-/// The block of a frame, on a volume of so many frames.
+/// The block of a frame, on a volume with this number of frames.
 pub(crate) fn frame_block(frames: u64, frame: u64) -> u64
     requires at_least_16_frames { 16 ≤ frames }
     requires at_most_65536_frames { frames ≤ 65536 }
@@ -17,7 +17,7 @@ pub(crate) fn frame_block(frames: u64, frame: u64) -> u64
     Geometry::of(frames).first_frame + frame
 }
 
-/// The block of the first frame, on a volume of so many frames.
+/// The block of the first frame, on a volume with this number of frames.
 pub(crate) fn first_block(frames: u64) -> u64
     requires at_least_16_frames { 16 ≤ frames }
     requires at_most_65536_frames { frames ≤ 65536 }

@@ -15,7 +15,7 @@ pub(crate) fn word_at(block: &Block, index: u64) -> u64
     number_at(block, 8 * index as usize)
 }
 
-/// Puts a word at an index of a block, below 512.
+/// Writes a word at an index of a block, below 512.
 pub(crate) fn put_word(block: &mut Block, index: u64, word: u64)
     requires { index < 512 }
     ensures word { number_at block.new (8 * index) ≡ word }

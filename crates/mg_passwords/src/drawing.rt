@@ -23,7 +23,7 @@ impl Model for Draws {
 }
 
 impl Draws {
-    /// The passwords of a seed behind the first so many, at most `2^32`.
+    /// The passwords of a seed after the first `count`, at most `2^32`.
     pub fn new(seed: [u8; 32], count: u64) -> Draws
         requires { count ≤ 2 ^ 32 }
         ensures { result ≡ (seed, count) }

@@ -10,32 +10,32 @@ use mg_model::{ObjRow, Pw, Refusal, Right};
 
 /// Whether an object holds this password with this right at this period: a row of it has the password and the right, and an
 /// until above the period.
-pub fn holds(r: &ObjRow, p: u64, x: Right, period: u64) -> bool
-    ensures { result ≡ held period r.now p x }
+pub fn holds(row: &ObjRow, password: u64, right: Right, period: u64) -> bool
+    ensures { result ≡ held period row.now password right }
 {
-    r.holds(p, x, period)
+    row.holds(password, right, period)
 }
 
 /// One password row more, the last. An object that has 32 is refused (Limit), and stays.
-pub fn add(r: &mut ObjRow, p: Pw) -> Result<(), Refusal>
-    ensures refused { result ≡ (if nat_le password_limit (length r.old.passwords) then Err Refusal.Limit else Ok tt) }
-    ensures list { r.new ≡ (if nat_le password_limit (length r.old.passwords) then r.old else record r.old { passwords = r.old.passwords ++ p ∷ [] }) }
+pub fn add(row: &mut ObjRow, password: Pw) -> Result<(), Refusal>
+    ensures refused { result ≡ (if nat_le password_limit (length row.old.passwords) then Err Refusal.Limit else Ok tt) }
+    ensures list { row.new ≡ (if nat_le password_limit (length row.old.passwords) then row.old else record row.old { passwords = row.old.passwords ++ password ∷ [] }) }
 {
-    if r.passwords().len() >= PASSWORD_LIMIT {
+    if row.passwords().len() >= PASSWORD_LIMIT {
         return Err(Refusal::Limit);
     }
-    r.add_password(p);
+    row.add_password(password);
     Ok(())
 }
 
-/// Every row with this password goes, be it current or not. An object without one is refused (NoPassword), and stays.
-pub fn remove(r: &mut ObjRow, p: u64) -> Result<(), Refusal>
-    ensures refused { result ≡ (if list_any (λ pw. has_password p pw) r.old.passwords then Ok tt else Err Refusal.NoPassword) }
-    ensures list { r.new ≡ record r.old { passwords = filter (λ pw. not (has_password p pw)) r.old.passwords } }
+/// Every row with this password goes, whether it is current or not. An object without one is refused (NoPassword), and stays.
+pub fn remove(row: &mut ObjRow, password: u64) -> Result<(), Refusal>
+    ensures refused { result ≡ (if list_any (λ pw. has_password password pw) row.old.passwords then Ok tt else Err Refusal.NoPassword) }
+    ensures list { row.new ≡ record row.old { passwords = filter (λ pw. not (has_password password pw)) row.old.passwords } }
 {
-    if !r.has_password(p) {
+    if !row.has_password(password) {
         return Err(Refusal::NoPassword);
     }
-    r.remove_passwords(p);
+    row.remove_passwords(password);
     Ok(())
 }

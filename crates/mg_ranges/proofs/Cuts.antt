@@ -25,7 +25,7 @@ left-count taken gaps leave = let c = gaps-count first_page taken in let e = ap 
 pub same-gaps : (taken gaps others : List (ℕ × ℕ)) → others ≡ gaps → AreGapsOf taken gaps → AreGapsOf taken others
 same-gaps taken gaps others is leave = record { taken = leave.taken; are = is ∙ leave.are }
 
--- what stands in a place
+-- what is in a place
 abbrev pub nth : List (ℕ × ℕ) → ℕ → ℕ × ℕ
 nth gaps k = get_or gaps k (0, 0)
 
@@ -168,7 +168,7 @@ module _ (before behind : List (ℕ × ℕ)) (first pages : ℕ) (lie : LieFrom 
       stop_is : stop ≡ begin
       left : x ≡ ahead ++ back
 
-    -- with what is free behind it
+    -- with what is free after it
     behind-joined :
         (stop : ℕ) (x : List (ℕ × ℕ))
         → WithBehind i (first + pages) stop old x
@@ -287,7 +287,7 @@ module _ (before behind : List (ℕ × ℕ)) (first pages : ℕ) (lie : LieFrom 
           };
         }
 
-    -- what was free behind it is one place less, or the same
+    -- what was free after it is one place less, or the same
     pub joined-high :
         (stop : ℕ) (x : List (ℕ × ℕ))
         → WithBehind i (first + pages) stop old x

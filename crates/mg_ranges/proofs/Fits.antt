@@ -1,4 +1,4 @@
--- The first gap with so many pages begins at the lowest page from which on so many are free.
+-- The first gap with at least n pages begins at the lowest page from which on n pages are free.
 use Rattle.std.specs.Prelude.{◌≡◌, ◌+◌, ◌-◌, ◌<◌, ◌≤◌, ◌⊎◌, ◌||◌, ℕ, Bool, true, false, List, [], ◌++◌, ◌∷◌, Option, None, Some, find, nat_le}
 use Rattle.std.specs.List.{list_all}
 use Rattle.std.proofs.Common.{refl, sym, ap, ◌∙◌, inl, inr, ⊎_elim, arith}
@@ -7,14 +7,14 @@ use Rattle.mg_model.specs.Limits.{page_end}
 use Rattle.mg_ranges.specs.Gaps.{LieFrom, gaps_from, piece}
 use Rattle.mg_ranges.proofs.Spans.{piece-none, piece-some}
 
--- whether so many pages from one on are none of a range, and of no range
+-- whether this many pages from one on are none of a range, and of no range
 abbrev is_beside : ℕ → ℕ → ℕ × ℕ → Bool
 is_beside n page span = nat_le (page + n) span.0 || nat_le (span.0 + span.1) page
 
 abbrev pub are_beside : ℕ → ℕ → List (ℕ × ℕ) → Bool
 are_beside n page spans = list_all (λ span. is_beside n page span) spans
 
--- the first gap that has so many pages
+-- the first gap that has at least n pages
 abbrev pub fits : ℕ → ℕ × ℕ → Bool
 fits n gap = nat_le n gap.1
 

@@ -16,7 +16,7 @@ pub remove-at : {X : Type 0} (xs : List X) (x : X) (ys : List X) (i : ℕ) → l
 remove-at xs x ys i is =
     ap (λ p. p ++ drop (suc i) (xs ++ x ∷ ys)) (take_at xs (x ∷ ys) i is) ∙ ap (λ n. xs ++ drop (suc n) (xs ++ x ∷ ys)) (sym is) ∙ ap (λ q. xs ++ q) (drop-past xs x ys)
 
--- a part put between two others
+-- a part added between two others
 pub put-at : {X : Type 0} (xs ys zs : List X) (i : ℕ) → length xs ≡ i → (take i (xs ++ zs) ++ ys) ++ drop i (xs ++ zs) ≡ xs ++ (ys ++ zs)
 put-at xs ys zs i is = ap (λ p. (p ++ ys) ++ drop i (xs ++ zs)) (take_at xs zs i is) ∙ ap (λ q. (xs ++ ys) ++ q) (drop_at xs zs i is) ∙ append_assoc xs ys zs
 

@@ -1,4 +1,4 @@
--- The first gap with so many pages begins at the lowest free page of the definition, and there is one.
+-- The first gap with at least n pages begins at the lowest free page of the definition, and there is one.
 use Rattle.std.specs.Prelude.{◌≡◌, ◌+◌, ◌*◌, ◌&&◌, ◌≤◌, ◌⊎◌, ◌||◌, ℕ, Bool, true, false, List, [], ◌∷◌, All, None, Some, find, filter, length, map, min, nat_le, sum_by}
 use Rattle.std.proofs.Common.{refl, sym, ap, ◌∙◌, inl, inr, subst, ⊎_elim, arith}
 use Rattle.std.proofs.lemmas.Bool.{cases_Bool, cases_lt, cond-false, cond-true, leb-false, leb-true, or_cases}
@@ -68,7 +68,7 @@ among-low (object ∷ objects) at page lie is =
     let low = lie.0 in
     ⊎_elim (λ e. omega arith) (λ later. let l = among-low objects (page_behind object.row) page lie.2 later in omega arith) is
 
--- what the first gap with so many pages is
+-- what the first gap with at least n pages is
 pub fit-is : (n : ℕ) (taken gaps : List (ℕ × ℕ)) (gap : ℕ × ℕ) → 1 ≤ n → AreGapsOf taken gaps → find (fits n) gaps ≡ Some gap → IsLowest n first_page taken gap.0
 fit-is n taken gaps gap some leave is = fit-lowest n first_page taken gap some leave.taken.apart (sym (ap (find (fits n)) leave.are) ∙ is)
 

@@ -1,4 +1,4 @@
--- Ranges that lie one behind the other, and the gaps between them.
+-- Ranges that lie one after another, and the gaps between them.
 use Rattle.std.specs.Prelude.{◌≡◌, ◌+◌, ◌-◌, ◌<◌, ◌≤◌, ℕ, zero, suc, Bool, List, [], ◌++◌, ◌∷◌, All, drop, if◌then◌else◌, length, sum_by, take}
 use Rattle.std.proofs.Common.{refl, sym, ap, ◌∙◌, subst, ⊎_elim, arith, append_assoc, length-append}
 use Rattle.std.proofs.lemmas.Bool.{cases_lt, le-ltb, lt-ltb}
@@ -35,7 +35,7 @@ pairs-piece a b gaps above up =
     ⊎_elim (λ some. subst (λ p. Ascends (p ++ gaps)) (sym (piece-some a b some)) (AllPairs-cons (λ (x y : ℕ × ℕ). x.0 < y.0) (a, b - a) gaps above up))
     (λ none. subst (λ p. Ascends (p ++ gaps)) (sym (piece-none a b none)) up) (cases_lt a b)
 
--- where ranges end from a page on and where they begin, and the gaps before that end and behind that begin
+-- where ranges end from a page on and where they begin, and the gaps before that end and after that begin
 abbrev pub end_of : ℕ → List (ℕ × ℕ) → ℕ
 end_of page [] = page
 end_of page (span ∷ spans) = end_of (span.0 + span.1) spans
@@ -91,7 +91,7 @@ pub lie-without : (page : ℕ) (before : List (ℕ × ℕ)) (span : ℕ × ℕ) 
 lie-without page [] span behind lie = let low = lie.0 in lie-lower page (span.0 + span.1) behind (omega arith) lie.2
 lie-without page (first ∷ before) span behind lie = (lie.0, lie.1, lie-without (first.0 + first.1) before span behind lie.2)
 
--- the gaps before an end end before it, those behind a begin begin behind it
+-- the gaps before an end end before it, those after a begin begin after it
 pub up_to-before : (page : ℕ) (before behind : List (ℕ × ℕ)) → LieFrom page (before ++ behind) → All (λ (gap : ℕ × ℕ). gap.0 + gap.1 < end_of page before) (up_to page before)
 up_to-before page [] behind lie = All-nil (λ (gap : ℕ × ℕ). gap.0 + gap.1 < page)
 up_to-before page (span ∷ before) behind lie =
@@ -149,7 +149,7 @@ gaps-sum page (span ∷ spans) lie =
     let rest = gaps-sum (span.0 + span.1) spans lie.2 in
     omega arith
 
--- a range put into a list of gaps
+-- a range added to a list of gaps
 pub length-put : (n a b : ℕ) (gaps : List (ℕ × ℕ)) → length (take n gaps ++ piece a b ++ drop n gaps) ≤ length gaps + 1
 length-put n a b gaps =
     let all = ap length (take-append-drop n gaps) in

@@ -8,7 +8,7 @@ use Rattle.mg_model.specs.State.{Object}
 abbrev pub piece : ℕ → ℕ → List (ℕ × ℕ)
 piece from to = if nat_lt from to then (from, to - from) ∷ [] else []
 
--- what ranges leave free from a page on: what lies before the first, between each and the next, and behind the last
+-- what ranges leave free from a page on: what lies before the first, between each and the next, and after the last
 abbrev pub gaps_from : ℕ → List (ℕ × ℕ) → List (ℕ × ℕ)
 gaps_from page [] = piece page page_end
 gaps_from page (span ∷ spans) = piece page span.0 ++ gaps_from (span.0 + span.1) spans
@@ -16,7 +16,7 @@ gaps_from page (span ∷ spans) = piece page span.0 ++ gaps_from (span.0 + span.
 abbrev pub gaps_of : List (ℕ × ℕ) → List (ℕ × ℕ)
 gaps_of spans = gaps_from first_page spans
 
--- ranges that lie one behind the other, from a page on, each with a page at least
+-- ranges that lie one after another, from a page on, each with a page at least
 abbrev pub LieFrom : ℕ → List (ℕ × ℕ) → Type 0
 LieFrom page [] = page ≤ page_end
 LieFrom page (span ∷ spans) = (page ≤ span.0) × (1 ≤ span.1) × LieFrom (span.0 + span.1) spans

@@ -3,7 +3,7 @@ use Rattle.std.specs.Prelude.{◌<◌, ◌≤◌, ◌++◌, ◌∷◌, ℕ, List
 use Rattle.std.specs.List.{AllPairs}
 use Rattle.mg_ranges.specs.Gaps.{AreGapsOf, AreTaken}
 
--- each gap begins behind those before it
+-- each gap begins after those before it
 abbrev pub Ascends : List (ℕ × ℕ) → Type 0
 Ascends gaps = AllPairs (λ (a b : ℕ × ℕ). a.0 < b.0) gaps
 

@@ -6,7 +6,7 @@ ghost use Rattle.mg_model.specs.Limits.{page_end};
 ghost use Rattle.mg_ranges.specs.Gaps.{piece};
 ghost use Rattle.mg_ranges.specs.Kept.{Ascends};
 
-/// The first gap with so many pages.
+/// The first gap with at least `pages` pages.
 pub(crate) fn first_fit(gaps: &[(u64, u64)], pages: u64) -> Option<&(u64, u64)>
     ensures { option_copied result ≡ find (λ gap. nat_le pages gap.1) gaps.now }
 {
@@ -23,7 +23,7 @@ pub(crate) fn count_to(gaps: &[(u64, u64)], page: u64) -> usize
     gaps.partition_point(|gap| gap.0 <= page)
 }
 
-/// Puts the range from one page to before another into this place, unless it has no page. There is room for one more.
+/// Adds the range from one page to before another in this place, unless it has no page. There is room for one more.
 pub(crate) fn put_piece(gaps: &mut Vec<(u64, u64)>, at: usize, from: u64, to: u64)
     requires place { at ≤ length gaps.old.items }
     requires has_capacity { length gaps.old.items < vec_capacity gaps.old }
@@ -36,7 +36,7 @@ pub(crate) fn put_piece(gaps: &mut Vec<(u64, u64)>, at: usize, from: u64, to: u6
     }
 }
 
-/// Takes the gap in this place out, if it begins at this page, and gives the page right behind it, else the page itself.
+/// Takes the gap in this place out, if it begins at this page, and gives the page right after it, else the page itself.
 pub(crate) fn join_behind(gaps: &mut Vec<(u64, u64)>, at: usize, page: u64) -> u64
     requires high { All (λ gap. gap.0 + gap.1 ≤ page_end) gaps.old.items }
     ensures joined { at < length gaps.old.items → (slice_index_or gaps.old.items at (0, 0)).0 ≡ page → (result ≡ page + (slice_index_or gaps.old.items at (0, 0)).1) × (gaps.new.items ≡ remove gaps.old.items at) }

@@ -8,4 +8,4 @@
 mod gaps;
 mod ranges;
 
-pub use ranges::{MOST_RANGES, Ranges};
+pub use ranges::Ranges;

@@ -11,10 +11,7 @@ use mg_model::limits::{FIRST_PAGE, OBJECT_LIMIT, PAGE_END};
 use std::alloc::{AllocError, Global};
 use std::marker::Model;
 
-/// How many ranges may be taken: one an object.
-pub const MOST_RANGES: u64 = OBJECT_LIMIT as u64;
-
-/// How many gaps they leave at most.
+/// How many gaps the ranges leave at most: one more than the ranges, of which an object takes one.
 const MOST_GAPS: usize = OBJECT_LIMIT + 1;
 
 /// The free pages of a volume.
@@ -68,7 +65,7 @@ impl Ranges {
         &self.gaps
     }
 
-    /// The lowest page from which on so many pages, 1 to 1024, are free. At most 65,536 pages are taken.
+    /// The lowest page from which on `pages` pages, 1 to 1024, are free. At most 65,536 pages are taken.
     pub fn first(&self, pages: u64) -> u64
         requires at_least_1_page { 1 ≤ pages }
         requires at_most_1024_pages { pages ≤ 1024 }
@@ -95,7 +92,7 @@ impl Ranges {
         put_piece(&mut self.gaps, at, gap.0, first);
     }
 
-    /// Gives a range back that was taken. What is free before it and behind it is one gap with it.
+    /// Gives a range back that was taken. What is free before it and after it is one gap with it.
     pub fn give(&mut self, first: u64, pages: u64)
         requires { CanGive first pages self.old }
         ensures { (before behind : List (ℕ × ℕ)) → AreGapsOf (before ++ (first, pages) ∷ behind) self.old → AreGapsOf (before ++ behind) self.new }

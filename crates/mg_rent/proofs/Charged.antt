@@ -16,7 +16,7 @@ use Rattle.mg_model.specs.State.{Object}
 use Rattle.mg_rent.specs.Charging.{ArePagesOf, OweAtMost, charged_at, paid_at}
 use Rattle.mg_rent.proofs.Mixed.{length-mixed, mixed, mixed-all, mixed-at, mixed-set}
 
--- an object of so many pages for each number from k on, which pays for it
+-- an object for each number from k on, of as many pages as the list says, which pays for it
 abbrev pub bare_from : ℕ → List ℕ → List Object
 bare_from k [] = []
 bare_from k (pages ∷ more) = record { row = record { base = 0; pages = pages; account = k; passwords = []; entries = []; extension = None }; words = [] } ∷ bare_from (k + 1) more
@@ -177,7 +177,7 @@ due-few rate pages few low =
     let product = mul-le rate pages step_limit 65536 low few in
     omega arith
 
--- where the pages that are kept are those of before
+-- when the pages that are kept are those of before
 pub kept-at : (kept now : List ℕ) (pages n : ℕ) → now ≡ kept → pages ≡ pages_at now n → pages ≡ pages_at kept n
 kept-at kept now pages n same is = is ∙ ap (λ (those : List ℕ). pages_at those n) same
 
@@ -228,25 +228,24 @@ balance-le accounts number row is =
     let moved = with_account-credits accounts number row (record row { balance = 0 }) (account_of-row accounts number row is) in
     omega arith
 
--- where all that is due could be added, the account is charged that
-module _ (accounts : List AccRow) (number due some : ℕ) (row : AccRow) where
-  owed-all : account_of accounts number ≡ Some row → (row.owed + due < 2 ^ 64 → some ≡ due) → owed_by accounts number + due < 2 ^ 64 → some ≡ due
-  owed-all is all few =
+-- when all that is due could be added, the account is charged that
+module _ (accounts : List AccRow) (number due : ℕ) (row : AccRow) where
+  owed-all : account_of accounts number ≡ Some row → owed_by accounts number + due < 2 ^ 64 → row.owed + due < 2 ^ 64
+  owed-all is few =
       let owed = ap (λ (o : Option AccRow). option_map_or (λ (r : AccRow). r.owed) o 0) is in
-      all (omega arith)
+      omega arith
 
-  pub charged-where : (new : AccRow) → account_of accounts number ≡ Some row → new ≡ charged row some → (row.owed + due < 2 ^ 64 → some ≡ due) → owed_by accounts number + due < 2 ^ 64 → with_account accounts number new ≡ charged_at accounts number due
-  charged-where new is new_is all few =
-      ap (with_account accounts number) (new_is ∙ ap (charged row) (owed-all is all few)) ∙ sym (ap (λ (o : Option AccRow). option_map_or (λ (r : AccRow). with_account accounts number (charged r due)) o accounts) is)
+  pub charged-where : (new : AccRow) (pays : ℕ) → account_of accounts number ≡ Some row → (row.owed + due < 2 ^ 64 → ◌≡◌ {A = AccRow × ℕ} (new, pays) (charged row due, paid row due)) → owed_by accounts number + due < 2 ^ 64 → with_account accounts number new ≡ charged_at accounts number due
+  charged-where new pays is all few =
+      ap (λ (both : AccRow × ℕ). with_account accounts number both.0) (all (owed-all is few)) ∙ sym (ap (λ (o : Option AccRow). option_map_or (λ (r : AccRow). with_account accounts number (charged r due)) o accounts) is)
 
-  pub paid-where : account_of accounts number ≡ Some row → (row.owed + due < 2 ^ 64 → some ≡ due) → owed_by accounts number + due < 2 ^ 64 → paid row some ≡ paid_at accounts number due
-  paid-where is all few = ap (paid row) (owed-all is all few) ∙ sym (ap (λ (o : Option AccRow). option_map_or (λ (r : AccRow). paid r due) o 0) is)
+  pub paid-where : (new : AccRow) (pays : ℕ) → account_of accounts number ≡ Some row → (row.owed + due < 2 ^ 64 → ◌≡◌ {A = AccRow × ℕ} (new, pays) (charged row due, paid row due)) → owed_by accounts number + due < 2 ^ 64 → pays ≡ paid_at accounts number due
+  paid-where new pays is all few = ap (λ (both : AccRow × ℕ). both.1) (all (owed-all is few)) ∙ sym (ap (λ (o : Option AccRow). option_map_or (λ (r : AccRow). paid r due) o 0) is)
 
--- who pays has as much less
-pub charge-moves : (accounts : List AccRow) (number due : ℕ) (row new : AccRow) → account_of accounts number ≡ Some row → new ≡ charged row due → credits_of (with_account accounts number new) + paid row due ≡ credits_of accounts
-charge-moves accounts number due row new is new_is =
+-- an account that pays has as much less
+pub charge-moves : (accounts : List AccRow) (number pays : ℕ) (row new : AccRow) → account_of accounts number ≡ Some row → new.balance + pays ≡ row.balance → credits_of (with_account accounts number new) + pays ≡ credits_of accounts
+charge-moves accounts number pays row new is balance =
     let moved = with_account-credits accounts number row new (account_of-row accounts number row is) in
-    let balance : new.balance ≡ (charged row due).balance = ap (λ (r : AccRow). r.balance) new_is in
     omega arith
 
 pub give-moves : (accounts : List AccRow) (number amount : ℕ) (row : AccRow) → account_of accounts number ≡ Some row → credits_of (with_account accounts number (record row { balance = row.balance + amount })) ≡ credits_of accounts + amount

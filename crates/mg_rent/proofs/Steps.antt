@@ -15,7 +15,7 @@ rate-next before [] i d pages within = absurd (omega arith)
 rate-next before (step ∷ steps) zero d pages within = refl
 rate-next before (step ∷ steps) (suc i) d pages within = rate-next before steps i d pages (omega arith)
 
--- the tests of the rates behind another
+-- the tests of the rates after another
 passed : (rise a b c d : Bool) → (rise && (a && b && c && d)) ≡ true → (a ≡ true) × (b ≡ true) × (c ≡ true) × (d ≡ true)
 passed rise a b c d is =
     let parts = and_parts rise (a && b && c && d) is in
@@ -50,7 +50,7 @@ tariff-steps tariff is =
     each (suc (suc (suc zero))) within a b c d = d
     each (suc (suc (suc (suc k)))) within a b c d = absurd (omega arith)
 
--- the rate behind one step more
+-- the rate after one step more
 pub step-taken : (before rate : ℕ) (steps : List (ℕ × ℕ)) (i : ℕ) (d : ℕ × ℕ) (pages all : ℕ) → i < length steps → rate ≡ cond (nat_le (get_or steps i d).0 pages) (get_or steps i d).1 before → rate_from before (drop i steps) pages ≡ all → rate_from rate (drop (i + 1) steps) pages ≡ all
 step-taken before rate steps i d pages all within is so_far =
     let e : i + 1 ≡ suc i = omega arith in

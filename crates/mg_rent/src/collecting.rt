@@ -24,23 +24,23 @@ pub fn may_collect(period: u64) -> Result<(), Refusal>
 }
 
 /// Collects the rent of a period at the rate of the tariff for this number of pages in use, as [`charge_all`] does, and gives the
-/// sum of what was paid. In the last period it is refused ([`may_collect`]), and the bank stays. There is a treasury, no account
-/// owes more than the period times `2^36`, and none pays for more than 65,536 pages.
-pub fn collect(b: &mut Bank, t: &Tariff, used: u64, period: u64) -> Result<u64, Refusal>
-    requires treasury { 1 ≤ length b.old.accounts }
+/// sum of what was paid. In the last period, `2^24 - 1`, it is refused (Calendar), and the bank stays. There is a treasury, no
+/// account owes more than the period times `2^36`, and none pays for more than 65,536 pages.
+pub fn collect(bank: &mut Bank, tariff: &Tariff, used: u64, period: u64) -> Result<u64, Refusal>
+    requires treasury { 1 ≤ length bank.old.accounts }
     requires period { period ≤ period_limit }
-    requires owed { OweAtMost (debt_limit period) b.old.accounts }
-    requires pages { (n : ℕ) → pages_at b.old.pages n ≤ 65536 }
+    requires owed { OweAtMost (debt_limit period) bank.old.accounts }
+    requires pages { (n : ℕ) → pages_at bank.old.pages n ≤ 65536 }
     ensures refusal { MatchResult result (λ _. (period == period_limit) ≡ false) (λ word. (word ≡ Calendar) × ((period == period_limit) ≡ true)) }
-    ensures accounts { OnOk result ((objects : List Object) → ArePagesOf objects b.old.pages → b.new.accounts ≡ given_to (all_charged objects (rate_of t.now used) 1 b.old.accounts) 1 (all_paid objects (rate_of t.now used) 1 b.old.accounts)) }
-    ensures paid { IfOk result (λ paid. (objects : List Object) → ArePagesOf objects b.old.pages → paid ≡ all_paid objects (rate_of t.now used) 1 b.old.accounts) }
-    ensures debts { OnOk result (OweAtMost (debt_limit (period + 1)) b.new.accounts) }
-    ensures sum { credits_of b.new.accounts ≡ credits_of b.old.accounts }
-    ensures pages { b.new.pages ≡ b.old.pages }
-    ensures stays { OnErr result (b.new ≡ b.old) }
+    ensures accounts { OnOk result ((objects : List Object) → ArePagesOf objects bank.old.pages → bank.new.accounts ≡ given_to (all_charged objects (rate_of tariff.now used) 1 bank.old.accounts) 1 (all_paid objects (rate_of tariff.now used) 1 bank.old.accounts)) }
+    ensures paid { IfOk result (λ paid. (objects : List Object) → ArePagesOf objects bank.old.pages → paid ≡ all_paid objects (rate_of tariff.now used) 1 bank.old.accounts) }
+    ensures debts { OnOk result (OweAtMost (debt_limit (period + 1)) bank.new.accounts) }
+    ensures sum { credits_of bank.new.accounts ≡ credits_of bank.old.accounts }
+    ensures pages { bank.new.pages ≡ bank.old.pages }
+    ensures stays { OnErr result (bank.new ≡ bank.old) }
 {
     may_collect(period)?;
-    Ok(charge_all(b, rate(t, used)))
+    Ok(charge_all(bank, rate(tariff, used)))
 }
 
 /// Charges all accounts at this rate for each page, and gives the sum of what was paid. Each account is charged, from
@@ -48,25 +48,25 @@ pub fn collect(b: &mut Bank, t: &Tariff, used: u64, period: u64) -> Result<u64, 
 /// the rest. Then account 1, the treasury, receives the sum. There is a treasury, the rate is at most `2^20`, and none pays for
 /// more than 65,536 pages. No object is looked at: the time is in the number of accounts.
 ///
-/// The sums are exact where no account owes more than `2^60`, as in every state that is well formed. Whatever accounts owe, no
+/// The sums are exact if no account owes more than `2^60`, as in every state that is well formed. Whatever accounts owe, no
 /// credit comes or goes.
-pub fn charge_all(b: &mut Bank, rate: u64) -> u64
-    requires treasury { 1 ≤ length b.old.accounts }
+pub fn charge_all(bank: &mut Bank, rate: u64) -> u64
+    requires treasury { 1 ≤ length bank.old.accounts }
     requires rate { rate ≤ step_limit }
-    requires pages { (n : ℕ) → pages_at b.old.pages n ≤ 65536 }
-    ensures accounts { OweAtMost (2 ^ 60) b.old.accounts → (objects : List Object) → ArePagesOf objects b.old.pages → b.new.accounts ≡ given_to (all_charged objects rate 1 b.old.accounts) 1 (all_paid objects rate 1 b.old.accounts) }
-    ensures paid { OweAtMost (2 ^ 60) b.old.accounts → (objects : List Object) → ArePagesOf objects b.old.pages → result ≡ all_paid objects rate 1 b.old.accounts }
-    ensures debts { OweAtMost (2 ^ 60) b.old.accounts → (period : ℕ) → OweAtMost (debt_limit period) b.old.accounts → OweAtMost (debt_limit (period + 1)) b.new.accounts }
-    ensures count { length b.new.accounts ≡ length b.old.accounts }
-    ensures sum { credits_of b.new.accounts ≡ credits_of b.old.accounts }
-    ensures pages { b.new.pages ≡ b.old.pages }
+    requires pages { (n : ℕ) → pages_at bank.old.pages n ≤ 65536 }
+    ensures accounts { OweAtMost (2 ^ 60) bank.old.accounts → (objects : List Object) → ArePagesOf objects bank.old.pages → bank.new.accounts ≡ given_to (all_charged objects rate 1 bank.old.accounts) 1 (all_paid objects rate 1 bank.old.accounts) }
+    ensures paid { OweAtMost (2 ^ 60) bank.old.accounts → (objects : List Object) → ArePagesOf objects bank.old.pages → result ≡ all_paid objects rate 1 bank.old.accounts }
+    ensures debts { OweAtMost (2 ^ 60) bank.old.accounts → (period : ℕ) → OweAtMost (debt_limit period) bank.old.accounts → OweAtMost (debt_limit (period + 1)) bank.new.accounts }
+    ensures count { length bank.new.accounts ≡ length bank.old.accounts }
+    ensures sum { credits_of bank.new.accounts ≡ credits_of bank.old.accounts }
+    ensures pages { bank.new.pages ≡ bank.old.pages }
 {
-    let count = b.len();
+    let count = bank.len();
     let mut sum = 0;
     for i in 0..count {
-        let pages = b.pages(i + 1);
-        sum += charge(b, i + 1, rate * pages);
+        let pages = bank.pages(i + 1);
+        sum += charge(bank, i + 1, rate * pages);
     }
-    give(b, 1, sum);
+    give(bank, 1, sum);
     sum
 }

@@ -1,4 +1,4 @@
--- What is put into a part of a block is there, and the parts beside it are as they were.
+-- What is written into a part of a block is there, and the parts beside it are as they were.
 use Rattle.std.specs.Prelude.{◌≡◌, ◌⊎◌, ◌+◌, ◌≤◌, ℕ, List, ◌++◌, drop, length, take}
 use Rattle.std.proofs.Common.{sym, ap, ◌∙◌, ⊎_elim, arith}
 use Rattle.std.proofs.lemmas.List.{drop-take, drop_at, length-take, take_at}

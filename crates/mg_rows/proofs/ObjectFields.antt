@@ -17,7 +17,7 @@ use Rattle.mg_model.specs.Tests.{is_object_row}
 use Rattle.mg_rows.proofs.ObjectKeeps.{object-keeps}
 use Rattle.mg_rows.proofs.ObjectRows.{length-words}
 
--- numbers that are filled up are read where they begin
+-- numbers that are filled up are read from the place where they begin
 numbers-padded : (before behind ns : List ℕ) (at n : ℕ) → length before ≡ at → All IsWord ns → numbers_at (before ++ (padded_to n (words_bytes ns) ++ behind)) (at + 0) (length ns) ≡ ns
 numbers-padded before behind ns at n long fit =
     numbers_at-behind before (padded_to n (words_bytes ns) ++ behind) at 0 (length ns) long
@@ -74,7 +74,7 @@ rows-read bytes rest k (row ∷ rows) e1 e2 e3 =
     ap (λ (v : List Pw). record { password = number_at bytes (80 + 8 * k); rights = slice_index bytes (336 + k); until = number_at bytes (496 + 8 * k) } ∷ v) others
     ∙ ap (λ (v : Pw). v ∷ rows) (pw-same (number_at bytes (80 + 8 * k)) (slice_index bytes (336 + k)) (number_at bytes (496 + 8 * k)) row password rights until)
 
--- where each part of an object's bytes is read
+-- the place from which each part of an object's bytes is read
 passwords-part : (a ns rest : List ℕ) → length a ≡ 80 → All IsWord ns → numbers_at (a ++ (padded_to 256 (words_bytes ns) ++ rest)) 80 (length ns) ≡ ns
 passwords-part a ns rest long fit = numbers-padded a rest ns 80 256 long fit
 

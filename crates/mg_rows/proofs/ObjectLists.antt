@@ -19,7 +19,7 @@ pub length-numbers_at : (bytes : List ℕ) (o n : ℕ) → length (numbers_at by
 length-numbers_at bytes o zero = refl
 length-numbers_at bytes o (suc n) = ap suc (length-numbers_at bytes (o + 8) n)
 
--- the first n, and those behind them
+-- the first n, and those after them
 passwords-split : (bytes : List ℕ) (k n m : ℕ) → passwords_at bytes k (n + m) ≡ passwords_at bytes k n ++ passwords_at bytes (k + n) m
 passwords-split bytes k zero m = let e : k + 0 ≡ k = omega arith in let f : 0 + m ≡ m = omega arith in ap (passwords_at bytes k) f ∙ ap (λ j. passwords_at bytes j m) (sym e)
 passwords-split bytes k (suc n) m =
@@ -43,7 +43,7 @@ passwords-more bytes n = let e : 0 + n ≡ n = omega arith in passwords-split by
 pub numbers-more : (bytes : List ℕ) (o n : ℕ) → numbers_at bytes o (n + 1) ≡ numbers_at bytes o n ++ number_at bytes (o + 8 * n) ∷ []
 numbers-more bytes o n = numbers-split bytes o n 1
 
--- the one at a place, with those before it and behind it
+-- the item at a place, with those before it and after it
 passwords-around : (bytes : List ℕ) (n k : ℕ) → k < n → passwords_at bytes 0 n ≡ passwords_at bytes 0 k ++ password_at bytes k ∷ passwords_at bytes (k + 1) (n - (k + 1))
 passwords-around bytes n k below =
     let e : n ≡ k + suc (n - (k + 1)) = omega arith in
@@ -62,7 +62,7 @@ all-fails test xs x ys fails = list_all-append test xs (x ∷ ys) ∙ and_right 
 pub all-more : {X : Type 0} (test : X → Bool) (xs : List X) (x : X) → list_all test xs ≡ true → test x ≡ true → list_all test (xs ++ x ∷ []) ≡ true
 all-more test xs x all here = list_all-append test xs (x ∷ []) ∙ and_from (list_all test xs) (test x && true) all (and_from (test x) true here refl)
 
--- a list in which an item stands twice
+-- a list in which an item is twice
 here : (y : ℕ) (xs : List ℕ) (x : ℕ) (ys : List ℕ) → (y == x) ≡ true → all_distinct (y ∷ (xs ++ x ∷ ys)) ≡ false
 here y xs x ys e =
     let found : list_any (λ z. y == z) (xs ++ x ∷ ys) ≡ true =
@@ -82,7 +82,7 @@ distinct-more (y ∷ xs) x distinct none =
     ap not (list_any-append (λ z. y == z) xs (x ∷ [])) ∙ ap (λ b. not (list_any (λ z. y == z) xs || (b || false))) others.0 ∙ ap (λ b. not (b || false)) (not-true (list_any (λ z. y == z) xs) parts.0) in
     and_from (not (list_any (λ z. y == z) (xs ++ x ∷ []))) (all_distinct (xs ++ x ∷ [])) front (distinct-more xs x parts.1 others.1)
 
--- what is answered of the password rows
+-- the answer for the password rows
 module _ {R : Type 0} (bytes : List ℕ) (row : R) (count : ℕ) (is : count ≡ number_at bytes 32) where
   some_if-false : (test : Bool) → test ≡ false → None ≡ some_if test row
   some_if-false test fails = sym (ap (λ b. some_if b row) fails)
@@ -108,7 +108,7 @@ module _ {R : Type 0} (bytes : List ℕ) (row : R) (count : ℕ) (is : count ≡
       let long : length (passwords_in bytes) ≡ min (number_at bytes 32) 33 = length-passwords_at bytes 0 (min (number_at bytes 32) 33) in
       (same, and_from (nat_le (length (passwords_in bytes)) 32) (list_all is_password (passwords_in bytes)) (le-leb (length (passwords_in bytes)) 32 (omega arith)) (ap (list_all is_password) (sym same) ∙ all))
 
--- what an answer with a test tells
+-- what follows from an answer with a test
 pub none_tells : {X : Type 0} (test : Bool) (x : X) → None ≡ some_if test x → test ≡ false
 none_tells false x is = refl
 none_tells true x is = absurd (cc)
@@ -141,7 +141,7 @@ pub next-test : (filled row : ObjectRow) (es : List ℕ) (a given : ℕ) (answer
 next-test filled row es a given answer was same is =
     is ∙ ap (λ (f : ObjectRow). is_entry_of f.base f.pages given && not (is_entry f given)) was ∙ ap (is_next row es) same
 
--- what is answered of the entries
+-- the answer for the entries
 module _ {R : Type 0} (bytes : List ℕ) (result : R) (row : ObjectRow) (count : ℕ) (is : count ≡ number_at bytes 40) where
   no_entries : are_entries row.base row.pages (entries_in bytes) ≡ false → None ≡ some_if (are_entries row.base row.pages (entries_in bytes)) result
   no_entries fails = sym (ap (λ b. some_if b result) fails)

@@ -1,4 +1,4 @@
--- An object's row as bytes, and what is read of them.
+-- An object's row as bytes, and what is read from them.
 use Rattle.std.proofs.Common.{◌≡◌, ◌*◌, ◌-◌, ◌++◌, [], ◌∷◌, ℕ, List, length, map, replicate, sym, ap, ◌∙◌, append_assoc}
 use Rattle.std.proofs.lemmas.List.{length-map}
 use Rattle.mg_model.specs.declared.slots.Pw.{Pw}
@@ -19,7 +19,7 @@ head-spelled row new mid old ext entries passwords base pages account e_old e_mi
     ∙ ap (λ m. m ++ words_bytes ext) (e_mid ∙ ap (λ o. o ++ words_bytes words) e_old ∙ ap words_bytes same)
     ∙ ap (λ v. words_bytes (1 ∷ row.base ∷ row.pages ∷ row.account ∷ length row.passwords ∷ length row.entries ∷ []) ++ words_bytes v) x)
 
--- what is added, and what fills it up
+-- what is added, and the zeros that fill it up
 pub padded : (new mid old part : List ℕ) (n used : ℕ) → mid ≡ old ++ part → length part ≡ used → new ≡ mid ++ replicate (n - used) 0 → new ≡ old ++ padded_to n part
 padded new mid old part n used e_mid long e_new =
     e_new ∙ ap (λ m. m ++ replicate (n - used) 0) e_mid ∙ append_assoc old part (replicate (n - used) 0) ∙ ap (λ k. old ++ (part ++ replicate (n - k) 0)) (sym long)
@@ -57,6 +57,6 @@ object-spelled row s1 s2 s3 s4 s5 es ps rs us e_ps e_rs e_es e_us e1 e2 e3 e4 e5
     (e4 ∙ ap (λ (v : List ℕ). s3 ++ padded_to 128 (words_bytes v)) e_es)
     (e5 ∙ ap (λ (v : List Pw). s4 ++ padded_to 256 (words_bytes (map (λ (pw : Pw). pw.until) v))) e_us)
 
--- a block of so many bytes that is filled up
+-- a block of n bytes that is filled up
 pub filled-up : (whole part : List ℕ) (n used left : ℕ) → whole ≡ padded_to n part → length part ≡ used → n - used ≡ left → whole ≡ part ++ replicate left 0
 filled-up whole part n used left is long rest = is ∙ ap (λ k. part ++ replicate (n - k) 0) long ∙ ap (λ k. part ++ replicate k 0) rest

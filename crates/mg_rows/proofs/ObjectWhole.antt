@@ -1,4 +1,4 @@
--- An object's parts make its fields, and their rules its rule.
+-- An object's parts make its fields, and the parts' rules its rule.
 use Rattle.std.proofs.Common.{◌≡◌, ◌&&◌, ℕ, List, [], Bool, true, false, Some, None, Option, if◌then◌else◌, sym, ap, subst, ◌∙◌}
 use Rattle.std.proofs.lemmas.Bool.{and_from, and_left, and_right}
 use Rattle.mg_model.specs.Abbreviations.{extension_at}
@@ -76,7 +76,7 @@ module _ (bytes : List ℕ) where
           ∙ ap (λ t. some_if (t && t_3 && t_4) fields) (sym (some_tells t_2 opened_row opened read_2).0)
           ∙ ap (λ t. some_if (t && t_2 && t_3 && t_4) fields) (sym (some_tells t_1 (placed_row bytes) placed read_1).0)
 
--- what a reader answers
+-- the answer of a reader
 module _ (bytes : List ℕ) (some : are_zeros bytes ≡ false) where
   pub fields_fail : None ≡ some_if (is_object_row (object_fields bytes)) (object_fields bytes) → object_read bytes ≡ None
   fields_fail read =

@@ -1,4 +1,4 @@
--- What is read from bytes is in its ranges, and is written so.
+-- A row that is read from bytes is in its ranges, and writing it gives those bytes.
 use Rattle.std.specs.Prelude.{◌≡◌, ◌+◌, ◌*◌, ◌<◌, ◌==◌, ◌&&◌, ℕ, zero, suc, Bool, true, not, All, List, [], ◌∷◌, drop, get_or, length, min, slice_index, Option, Some, None}
 use Rattle.std.specs.List.{list_all}
 use Rattle.std.specs.Option.{ForSome, option_map_or}

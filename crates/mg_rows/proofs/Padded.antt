@@ -1,4 +1,4 @@
--- What is filled up twice.
+-- A list that is filled up twice.
 use Rattle.std.specs.Prelude.{◌≡◌, ◌≤◌, ◌+◌, ◌-◌, ℕ, List, ◌++◌, length, replicate}
 use Rattle.std.proofs.Common.{ap, ◌∙◌, arith, append_assoc}
 use Rattle.std.proofs.lemmas.List.{replicate-append-replicate}

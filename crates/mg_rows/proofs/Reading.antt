@@ -1,4 +1,4 @@
--- What a reader answers where a row is not spelled, and what it answers where one was written.
+-- What a reader answers if no row is spelled, and what it answers if one was written.
 use Rattle.std.proofs.Common.{◌≡◌, ◌&&◌, ℕ, List, Bool, true, false, IsTrue, if◌then◌else◌, Some, None, refl, ap, subst, ◌∙◌, arith}
 use Rattle.std.specs.Int.{from_le_bytes, to_le_bytes, w64}
 use Rattle.std.proofs.lemmas.Bool.{and_right}

@@ -17,7 +17,7 @@ use Rattle.mg_model.specs.Words.{same_bytes}
 use Rattle.mg_rows.proofs.ThreadRows.{thread_same}
 use Rattle.mg_rows.specs.ThreadParts.{begins, with_frames}
 
--- what is answered where a rule holds, and nothing elsewhere
+-- the answer if a rule holds, and None otherwise
 pub record Are {R : Type 0} (rule : Bool) (row found : R) : Type 0 where
   pub kept : rule ≡ true
   pub same : row ≡ found
@@ -144,7 +144,7 @@ module _ (bytes : List ℕ) where
       ∙ list_all-append is_call_frame (frames_at bytes 128 n) (frame_at bytes o ∷ [])
       ∙ and_from (list_all is_call_frame (frames_at bytes 128 n)) (is_call_frame (frame_at bytes o) && true) kept (and_from (is_call_frame (frame_at bytes o)) true here refl)
 
-  -- the rule of a thread, where the count is in its range
+  -- the rule of a thread, if the count is in its range
   rules-join : (x f l z : Bool) → (x && true && (f && l) && z) ≡ (x && f && z && (f && l))
   rules-join false f l z = refl
   rules-join true false l z = refl
@@ -279,7 +279,7 @@ module _ (bytes : List ℕ) where
       ∙ ap (λ (r : ThreadRow). with_registers r (numbers_at bytes 64 8)) e_row
       ∙ thread_same (record { birth = birth; creator = creator; pc = pc; state = state; regs = numbers_at bytes 64 8; frames = first ∷ [] }) (with_frames bytes 1) e_birth e_creator e_pc e_state refl (ap (λ f. f ∷ []) e_first)
 
-  -- what is answered with the other frames
+  -- the answer with the other frames
   pub fields-found : (n : ℕ) (result : Option ThreadRow) → n ≡ number_at bytes 40 → 1 ≤ n → n ≤ 16 → begins bytes ≡ true
       → result ≡ (if list_all is_call_frame (frames_at bytes 128 n) then Some (with_frames bytes n) else None)
       → result ≡ (if is_thread_row (thread_fields bytes) then Some (thread_fields bytes) else None)

@@ -1,4 +1,4 @@
--- A thread's row as bytes, and what is read of them.
+-- A thread's row as bytes, and what is read from them.
 use Rattle.std.proofs.Common.{◌≡◌, ◌≤◌, ◌<◌, ◌+◌, ◌*◌, ◌-◌, ◌++◌, [], ◌∷◌, ℕ, zero, suc, min, get_or, take, List, length, flat_map, replicate, All, Some, refl, sym, ap, ◌∙◌, arith, append_assoc, add_assoc, length-append}
 use Rattle.std.proofs.lemmas.Grind.{flat_map-append}
 use Rattle.std.proofs.lemmas.List.{append-nil, take_more}
@@ -129,7 +129,7 @@ thread_same a b birth creator pc state registers frames =
     ∙ ap (λ v. record { birth = b.birth; creator = b.creator; pc = b.pc; state = b.state; regs = b.regs; frames = v }) frames
 
 module _ (row : ThreadRow) (is : IsThreadRow row) where
-  -- the head, the registers, and the frames with zeros behind them
+  -- the head, the registers, and the frames with zeros after them
   abbrev head : List ℕ
   head = padded_to 64 (words_bytes (head_words row))
 

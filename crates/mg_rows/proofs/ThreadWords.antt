@@ -16,7 +16,7 @@ pc_put row pc = refl
 pub state_put : (row : ThreadRow) (state : ThrState) → with_word 32 (state_number state) (thread_bytes row) ≡ thread_bytes (record row { state = state })
 state_put row state = refl
 
--- behind the first bytes
+-- after the first bytes
 behind : (xs ys bytes : List ℕ) (n m i j : ℕ) → n ≡ length xs + i → m ≡ length xs + j → splice (xs ++ ys) n m bytes ≡ xs ++ splice ys i j bytes
 behind [] ys bytes n m i j is to = ap (λ k. splice ys k m bytes) (let e : n ≡ i = omega arith in e) ∙ ap (λ k. splice ys i k bytes) (let e : m ≡ j = omega arith in e)
 behind (x ∷ xs) ys bytes n m i j is to =

@@ -1,4 +1,4 @@
--- How a reader's answer stands for what is read.
+-- A reader's answer as what the definitions read.
 use Rattle.std.specs.Prelude.{ℕ, List, [], ◌∷◌, if◌then◌else◌, is_some, Option, Some, None}
 use Rattle.std.specs.Option.{option_map_or}
 use Rattle.mg_model.specs.declared.slots.Slot.{Slot}

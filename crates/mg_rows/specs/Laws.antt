@@ -1,4 +1,4 @@
--- What it means that rows are spelled in one way alone.
+-- The meaning of 'rows are spelled in one way alone'.
 use Rattle.std.specs.Prelude.{◌≡◌, ◌<◌, ℕ, All, List, Option, Some, None}
 use Rattle.mg_model.specs.declared.accounts.AccRow.{AccRow}
 use Rattle.mg_model.specs.Ranges.{IsWord}
@@ -18,8 +18,8 @@ pub record IsAccountRow (row : AccRow) : Type 0 where
   pub balance : IsWord row.balance
   pub owed : IsWord row.owed
 
--- Bytes spell a row exactly where that row is in its ranges and has these bytes: a row in its ranges is read from what is
--- written of it, and what is read from bytes is a row in its ranges that is written so.
+-- Bytes spell a row exactly when that row is in its ranges and has these bytes. So a row in its ranges is read back from its
+-- bytes. A row that is read from bytes is in its ranges, and writing it gives those bytes.
 pub record IsSpelledInOneWay {R : Type 0} (read : List ℕ → Option R) (write : R → List ℕ) (IsInRange : R → Type 0) : Type 0 where
   pub written : (row : R) → IsInRange row → read (write row) ≡ Some row
   pub same : (bytes : List ℕ) (row : R) → read bytes ≡ Some row → write row ≡ bytes

@@ -9,11 +9,11 @@ use Rattle.mg_model.specs.Spelling.{passwords_at}
 use Rattle.mg_model.specs.State.{ObjectRow}
 use Rattle.mg_model.specs.Tests.{all_distinct, is_entry_of, is_password, is_place}
 
--- a value, where a test lets it pass
+-- a value, if it passes a test
 abbrev pub some_if : {X : Type 0} → Bool → X → Option X
 some_if test x = if test then Some x else None
 
--- where it lies and who pays for it
+-- its place, and the account that pays for it
 abbrev pub placed_row : List ℕ → ObjectRow
 placed_row bytes = record { base = number_at bytes 8; pages = number_at bytes 16; account = number_at bytes 24; passwords = []; entries = []; extension = None }
 

@@ -10,7 +10,7 @@ use Rattle.mg_model.specs.State.{ThreadRow}
 abbrev pub head_words : ThreadRow → List ℕ
 head_words row = 1 ∷ row.birth ∷ row.creator ∷ row.pc ∷ state_number row.state ∷ length row.frames ∷ []
 
--- the thread that these bytes spell, with so many frames
+-- the thread that these bytes spell, with n frames
 abbrev pub with_frames : List ℕ → ℕ → ThreadRow
 with_frames bytes n = record {
   birth = number_at bytes 8;
@@ -21,7 +21,7 @@ with_frames bytes n = record {
   frames = frames_at bytes 128 n;
 }
 
--- whether all but the later frames keeps its rule
+-- whether all parts but the later frames keep their rules
 abbrev pub begins : List ℕ → Bool
 begins bytes =
     nat_lt (number_at bytes 16) (number_at bytes 8)
@@ -29,6 +29,6 @@ begins bytes =
     && is_call_frame (frame_at bytes 128)
     && (frame_at bytes 128).back == 0
 
--- bytes with this word put at this place
+-- bytes with this word written at this place
 abbrev pub with_word : ℕ → ℕ → List ℕ → List ℕ
 with_word at word bytes = splice bytes at (at + 8) (word_bytes word)

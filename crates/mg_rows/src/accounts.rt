@@ -11,20 +11,20 @@ use mg_model::AccRow;
 use mg_model::layout::ACCOUNT_SIZE;
 
 /// What 64 bytes spell of an account.
-pub fn read_account(b: &[u8]) -> Option<Spelled<AccRow>>
-    requires { length b.now ≡ 64 }
-    ensures { as_read result ≡ account_read b.now }
+pub fn read_account(bytes: &[u8]) -> Option<Spelled<AccRow>>
+    requires { length bytes.now ≡ 64 }
+    ensures { as_read result ≡ account_read bytes.now }
 {
-    if are_zeros(b) {
+    if are_zeros(bytes) {
         return Some(Spelled::Free);
     }
     let row = AccRow {
-        password: number_at(b, 8),
-        balance: number_at(b, 16),
-        owed: number_at(b, 24),
+        password: number_at(bytes, 8),
+        balance: number_at(bytes, 16),
+        owed: number_at(bytes, 24),
     };
     let spelled = spelling(&row);
-    if spelled[..] == b[..] {
+    if spelled[..] == bytes[..] {
         Some(Spelled::Row(row))
     } else {
         None
@@ -32,12 +32,12 @@ pub fn read_account(b: &[u8]) -> Option<Spelled<AccRow>>
 }
 
 /// Spells an account, or a free row, in 64 bytes. It is read back.
-pub fn write_account(r: Option<&AccRow>, out: &mut [u8])
+pub fn write_account(row: Option<&AccRow>, out: &mut [u8])
     requires { length out.old ≡ 64 }
-    ensures spelled { out.new ≡ option_map_or (λ row. account_bytes row.now) r.entry (replicate 64 0) }
-    ensures read_back { account_read out.new ≡ Some (option_map_or (λ row. Some row.now) r.entry None) }
+    ensures spelled { out.new ≡ option_map_or (λ row. account_bytes row.now) row.entry (replicate 64 0) }
+    ensures read_back { account_read out.new ≡ Some (option_map_or (λ row. Some row.now) row.entry None) }
 {
-    match r {
+    match row {
         Some(row) => copy_to(&spelling(row), out),
         None => copy_to(&[0; ACCOUNT_SIZE], out),
     }

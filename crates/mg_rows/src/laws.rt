@@ -7,7 +7,7 @@ ghost use Rattle.mg_rows.specs.Laws.{IsAccountRow, IsSpelledInOneWay, live};
 ghost use Rattle.mg_model.specs.State.{ThreadRow};
 ghost use Rattle.mg_rows.specs.ThreadParts.{with_word};
 
-/// A row is spelled where some row in its ranges has these bytes, and nowhere else.
+/// Bytes spell a row exactly when that row is in its ranges and has these bytes.
 pub fn rows_are_spelled_in_one_way()
     ensures accounts { IsSpelledInOneWay (λ bytes. live (account_read bytes)) account_bytes IsAccountRow }
     ensures threads { IsSpelledInOneWay (λ bytes. live (thread_read bytes)) thread_bytes IsThreadRow }

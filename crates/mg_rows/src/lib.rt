@@ -1,14 +1,14 @@
 //! Rows as bytes: accounts, threads, objects and the globals, read and written.
 //!
-//! A layer above learns what some bytes spell: nothing, that a row is free ([`Spelled::Free`]), or a row. A row is spelled
-//! in one way alone, so a reader takes it exactly where its fields keep their rules and writing them gives the bytes back,
-//! and what was written is read as it was: [`rows_are_spelled_in_one_way`].
+//! A layer above gets what some bytes spell: nothing, that a row is free ([`Spelled::Free`]), or a row. A row is spelled in
+//! one way alone. So a reader accepts bytes exactly when their fields keep the rules and writing them gives the bytes back,
+//! and a row that was written is read as it was: [`rows_are_spelled_in_one_way`].
 //!
-//! Objects stand four in a block, and accounts 64: [`object_in`], [`account_in`], [`put_object`] and [`put_account`] name a row
-//! by its place there, so that no layer above counts bytes.
+//! A block has four objects or 64 accounts: [`object_in`], [`account_in`], [`put_object`] and [`put_account`] name a row by
+//! its place there, so that no layer above counts bytes.
 //!
-//! How each row is spelled is defined in `mg_model`, in `Spelling`; `specs/Answers.antt` says how a reader's answer stands
-//! for what is read there, and `specs/Blocks.antt` what a place of a block spells.
+//! How each row is spelled is defined in `mg_model`, in `Spelling`. `specs/Answers.antt` turns a reader's answer into what
+//! is read there, and `specs/Blocks.antt` has what a place of a block spells.
 #![tactic(auto)]
 
 mod accounts;

@@ -15,32 +15,32 @@ const PASSWORD_LIMIT: u64 = 32;
 
 const ENTRY_LIMIT: u64 = 16;
 
-/// The fields of an object's 1,024 bytes, where they keep their rules.
-pub(crate) fn fields(b: &[u8]) -> Option<ObjRow>
-    requires { length b.now ≡ 1024 }
-    ensures { result ≡ some_if (is_object_row (object_fields b.now)) (object_fields b.now) }
+/// The fields of an object's 1,024 bytes, if they keep their rules.
+pub(crate) fn fields(bytes: &[u8]) -> Option<ObjRow>
+    requires { length bytes.now ≡ 1024 }
+    ensures { result ≡ some_if (is_object_row (object_fields bytes.now)) (object_fields bytes.now) }
 {
-    let mut row = placed(b)?;
-    if !read_passwords(&mut row, b) {
+    let mut row = placed(bytes)?;
+    if !read_passwords(&mut row, bytes) {
         return None;
     }
-    if !read_entries(&mut row, b) {
+    if !read_entries(&mut row, bytes) {
         return None;
     }
-    if !read_extension(&mut row, b) {
+    if !read_extension(&mut row, bytes) {
         return None;
     }
     Some(row)
 }
 
-// Where it lies and who pays for it.
-fn placed(b: &[u8]) -> Option<ObjRow>
-    requires { length b.now ≡ 1024 }
-    ensures { result ≡ some_if (is_placed (placed_row b.now)) (placed_row b.now) }
+// Its place, and the account that pays for it.
+fn placed(bytes: &[u8]) -> Option<ObjRow>
+    requires { length bytes.now ≡ 1024 }
+    ensures { result ≡ some_if (is_placed (placed_row bytes.now)) (placed_row bytes.now) }
 {
-    let base = number_at(b, 8);
-    let pages = number_at(b, 16);
-    let account = number_at(b, 24);
+    let base = number_at(bytes, 8);
+    let pages = number_at(bytes, 16);
+    let account = number_at(bytes, 24);
     if is_place(base, pages) && account >= 1 && account <= 1024 {
         Some(ObjRow::new(base, pages, account))
     } else {
@@ -58,19 +58,19 @@ fn is_place(base: u64, pages: u64) -> bool
         && base / PAGE_SIZE + pages <= PAGE_END
 }
 
-// Its password rows, where these keep their rule.
-fn read_passwords(row: &mut ObjRow, b: &[u8]) -> bool
-    requires long { length b.now ≡ 1024 }
+// Its password rows, if these keep their rule.
+fn read_passwords(row: &mut ObjRow, bytes: &[u8]) -> bool
+    requires long { length bytes.now ≡ 1024 }
     requires bare { row.old.passwords ≡ [] }
-    ensures kept { result ≡ are_passwords (passwords_in b.now) }
-    ensures row { result ≡ true → row.new ≡ record row.old { passwords = passwords_in b.now } }
+    ensures kept { result ≡ are_passwords (passwords_in bytes.now) }
+    ensures row { result ≡ true → row.new ≡ record row.old { passwords = passwords_in bytes.now } }
 {
-    let count = number_at(b, 32);
+    let count = number_at(bytes, 32);
     if count > PASSWORD_LIMIT {
         return false;
     }
     for k in 0..count as usize {
-        match password_at(b, k) {
+        match password_at(bytes, k) {
             Some(pw) => row.add_password(pw),
             None => return false,
         }
@@ -79,34 +79,34 @@ fn read_passwords(row: &mut ObjRow, b: &[u8]) -> bool
 }
 
 // The password row at this place.
-fn password_at(b: &[u8], k: usize) -> Option<Pw>
-    requires long { length b.now ≡ 1024 }
+fn password_at(bytes: &[u8], k: usize) -> Option<Pw>
+    requires long { length bytes.now ≡ 1024 }
     requires within { k < 32 }
-    ensures { result ≡ some_if (is_password (password_at b.now k)) (password_at b.now k) }
+    ensures { result ≡ some_if (is_password (password_at bytes.now k)) (password_at bytes.now k) }
 {
-    let until = number_at(b, 496 + 8 * k);
+    let until = number_at(bytes, 496 + 8 * k);
     if until < 1 || until > Pw::NEVER {
         return None;
     }
-    match Rights::new(b[336 + k]) {
-        Some(rights) => Some(Pw::new(number_at(b, 80 + 8 * k), rights, until)),
+    match Rights::new(bytes[336 + k]) {
+        Some(rights) => Some(Pw::new(number_at(bytes, 80 + 8 * k), rights, until)),
         None => None,
     }
 }
 
-// Its entries, where these keep their rules.
-fn read_entries(row: &mut ObjRow, b: &[u8]) -> bool
-    requires long { length b.now ≡ 1024 }
+// Its entries, if these keep their rules.
+fn read_entries(row: &mut ObjRow, bytes: &[u8]) -> bool
+    requires long { length bytes.now ≡ 1024 }
     requires bare { row.old.entries ≡ [] }
-    ensures kept { result ≡ are_entries row.old.base row.old.pages (entries_in b.now) }
-    ensures row { result ≡ true → row.new ≡ record row.old { entries = entries_in b.now } }
+    ensures kept { result ≡ are_entries row.old.base row.old.pages (entries_in bytes.now) }
+    ensures row { result ≡ true → row.new ≡ record row.old { entries = entries_in bytes.now } }
 {
-    let count = number_at(b, 40);
+    let count = number_at(bytes, 40);
     if count > ENTRY_LIMIT {
         return false;
     }
     for k in 0..count as usize {
-        let address = number_at(b, 368 + 8 * k);
+        let address = number_at(bytes, 368 + 8 * k);
         if !may_be_entry(row, address) {
             return false;
         }
@@ -115,20 +115,20 @@ fn read_entries(row: &mut ObjRow, b: &[u8]) -> bool
     true
 }
 
-// Whether this may be one entry more.
+// Whether this address may be added as one entry more.
 fn may_be_entry(row: &ObjRow, address: u64) -> bool
     ensures { result ≡ (is_entry_of row.now.base row.now.pages address && not (is_entry row.now address)) }
 {
     address % 8 == 0 && row.covers(address) && !row.is_entry(address)
 }
 
-// Its extension, where that keeps its rule.
-fn read_extension(row: &mut ObjRow, b: &[u8]) -> bool
-    requires { length b.now ≡ 1024 }
-    ensures kept { result ≡ is_extension (extension_at b.now) }
-    ensures row { result ≡ true → row.new ≡ record row.old { extension = extension_at b.now } }
+// Its extension, if that keeps its rule.
+fn read_extension(row: &mut ObjRow, bytes: &[u8]) -> bool
+    requires { length bytes.now ≡ 1024 }
+    ensures kept { result ≡ is_extension (extension_at bytes.now) }
+    ensures row { result ≡ true → row.new ≡ record row.old { extension = extension_at bytes.now } }
 {
-    let ext = extension_at(b);
+    let ext = extension_at(bytes);
     if !is_extension(ext) {
         return false;
     }
@@ -136,14 +136,14 @@ fn read_extension(row: &mut ObjRow, b: &[u8]) -> bool
     true
 }
 
-fn extension_at(b: &[u8]) -> Option<Slot>
-    requires { length b.now ≡ 1024 }
-    ensures { result ≡ extension_at b.now }
+fn extension_at(bytes: &[u8]) -> Option<Slot>
+    requires { length bytes.now ≡ 1024 }
+    ensures { result ≡ extension_at bytes.now }
 {
-    if number_at(b, 48) == 1 {
+    if number_at(bytes, 48) == 1 {
         Some(Slot {
-            base: number_at(b, 56),
-            password: number_at(b, 64),
+            base: number_at(bytes, 56),
+            password: number_at(bytes, 64),
         })
     } else {
         None

@@ -15,28 +15,28 @@ use mg_model::layout::OBJECT_SIZE;
 use mg_model::{ObjRow, Pw, Slot};
 
 /// Spells an object, or a free row, in 1,024 bytes. It is read back.
-pub fn write_object(r: Option<&ObjRow>, out: &mut [u8])
+pub fn write_object(row: Option<&ObjRow>, out: &mut [u8])
     requires { length out.old ≡ 1024 }
-    ensures spelled { out.new ≡ option_map_or (λ row. object_bytes row.now) r.entry (replicate 1024 0) }
-    ensures read_back { object_read out.new ≡ Some (option_map_or (λ row. Some row.now) r.entry None) }
+    ensures spelled { out.new ≡ option_map_or (λ row. object_bytes row.now) row.entry (replicate 1024 0) }
+    ensures read_back { object_read out.new ≡ Some (option_map_or (λ row. Some row.now) row.entry None) }
 {
-    match r {
+    match row {
         Some(row) => copy_to(&spelling(row), out),
         None => copy_to(&[0; OBJECT_SIZE], out),
     }
 }
 
-/// What 1,024 bytes spell of an object: nothing where a field breaks its rule, or where the row is not spelled so.
-pub fn read_object(b: &[u8]) -> Option<Spelled<ObjRow>>
-    requires { length b.now ≡ 1024 }
-    ensures { as_read result ≡ object_read b.now }
+/// What 1,024 bytes spell of an object: nothing if a field breaks its rule, or if the row is not spelled so.
+pub fn read_object(bytes: &[u8]) -> Option<Spelled<ObjRow>>
+    requires { length bytes.now ≡ 1024 }
+    ensures { as_read result ≡ object_read bytes.now }
 {
-    if are_zeros(b) {
+    if are_zeros(bytes) {
         return Some(Spelled::Free);
     }
-    match fields(b) {
+    match fields(bytes) {
         Some(row) => {
-            if is_spelling(&row, b) {
+            if is_spelling(&row, bytes) {
                 Some(Spelled::Row(row))
             } else {
                 None
@@ -47,10 +47,10 @@ pub fn read_object(b: &[u8]) -> Option<Spelled<ObjRow>>
 }
 
 // Whether an object's row has these bytes.
-fn is_spelling(row: &ObjRow, b: &[u8]) -> bool
-    ensures { result ≡ same_bytes (object_bytes row.now) b.now }
+fn is_spelling(row: &ObjRow, bytes: &[u8]) -> bool
+    ensures { result ≡ same_bytes (object_bytes row.now) bytes.now }
 {
-    spelling(row)[..] == b[..]
+    spelling(row)[..] == bytes[..]
 }
 
 // The bytes of this object.

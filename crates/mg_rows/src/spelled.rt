@@ -1,7 +1,7 @@
 // What a reader of rows answers.
 
-/// What some bytes spell, where they spell something.
-#[derive(Clone, Copy, Debug, PartialEq, Eq)]
+/// What some bytes spell, if they spell something.
+#[derive(Clone, Copy, PartialEq, Eq)]
 pub enum Spelled<T> {
     /// No row: the bytes are all zeros.
     Free,

@@ -20,28 +20,28 @@ use mg_model::{Fault, Frame, Slot, ThrRow, ThrState};
 /// The bytes of a frame.
 const FRAME: usize = 144;
 
-/// Where the first frame begins in a thread's row.
+/// The byte of a thread's row at which the first frame begins.
 const FIRST_FRAME: usize = 128;
 
 /// How many frames a thread may have.
 const MOST_FRAMES: u64 = 16;
 
-/// How many bytes of its block a thread with at most [`MOST_START_FRAMES`] frames takes; behind them there are zeros.
+/// How many bytes of its block a thread with at most [`MOST_START_FRAMES`] frames takes; after them there are zeros.
 pub const THREAD_START: usize = 704;
 
-/// How many frames a thread has at most whose bytes all lie in the start of its block.
+/// The most frames of a thread whose bytes are all in the start of its block.
 pub const MOST_START_FRAMES: usize = 4;
 
 /// What a block spells of a thread.
-pub fn read_thread(b: &Block) -> Option<Spelled<ThrRow>>
-    ensures { as_read result ≡ thread_read b.now }
+pub fn read_thread(block: &Block) -> Option<Spelled<ThrRow>>
+    ensures { as_read result ≡ thread_read block.now }
 {
-    if are_zeros(b) {
+    if are_zeros(block) {
         return Some(Spelled::Free);
     }
-    match fields(b) {
+    match fields(block) {
         Some(row) => {
-            if is_spelling(&row, b) {
+            if is_spelling(&row, block) {
                 Some(Spelled::Row(row))
             } else {
                 None
@@ -52,25 +52,25 @@ pub fn read_thread(b: &Block) -> Option<Spelled<ThrRow>>
 }
 
 /// Spells a thread, or a free row, in a block. It is read back.
-pub fn write_thread(r: Option<&ThrRow>, out: &mut Block)
-    ensures spelled { out.new ≡ option_map_or (λ row. thread_bytes row.now) r.entry (replicate block_size 0) }
-    ensures read_back { thread_read out.new ≡ Some (option_map_or (λ row. Some row.now) r.entry None) }
+pub fn write_thread(row: Option<&ThrRow>, out: &mut Block)
+    ensures spelled { out.new ≡ option_map_or (λ row. thread_bytes row.now) row.entry (replicate block_size 0) }
+    ensures read_back { thread_read out.new ≡ Some (option_map_or (λ row. Some row.now) row.entry None) }
 {
-    *out = thread_block(r);
+    *out = thread_block(row);
 }
 
 /// The block that spells a thread, or a free row. It is read back.
-pub fn thread_block(r: Option<&ThrRow>) -> Block
-    ensures spelled { result ≡ option_map_or (λ row. thread_bytes row.now) r.entry (replicate block_size 0) }
-    ensures read_back { thread_read result ≡ Some (option_map_or (λ row. Some row.now) r.entry None) }
+pub fn thread_block(row: Option<&ThrRow>) -> Block
+    ensures spelled { result ≡ option_map_or (λ row. thread_bytes row.now) row.entry (replicate block_size 0) }
+    ensures read_back { thread_read result ≡ Some (option_map_or (λ row. Some row.now) row.entry None) }
 {
-    match r {
+    match row {
         Some(row) => spelling(row),
         None => [0; BLOCK_SIZE],
     }
 }
 
-/// What the block of a thread with at most 4 frames begins with. Behind it the block has zeros. It is read back.
+/// The bytes that the block of a thread with at most 4 frames begins with. After them the block has zeros. It is read back.
 pub fn thread_start(row: &ThrRow) -> [u8; THREAD_START]
     requires few { length row.now.frames ≤ 4 }
     ensures spelled { padded_to block_size result ≡ thread_bytes row.now }
@@ -84,10 +84,10 @@ pub fn thread_start(row: &ThrRow) -> [u8; THREAD_START]
 }
 
 // Whether this thread has these bytes.
-fn is_spelling(row: &ThrRow, b: &Block) -> bool
-    ensures { result ≡ same_bytes (thread_bytes row.now) b.now }
+fn is_spelling(row: &ThrRow, block: &Block) -> bool
+    ensures { result ≡ same_bytes (thread_bytes row.now) block.now }
 {
-    spelling(row) == *b
+    spelling(row) == *block
 }
 
 // The bytes of this thread.
@@ -144,7 +144,7 @@ fn add_frames<const N: usize>(frames: &[Frame], filling: &mut Filling<N>)
     }
 }
 
-// A frame, and zeros in place of the slots that it has not.
+// A frame, and zeros in place of the slots that it doesn't have.
 fn add_frame<const N: usize>(frame: &Frame, filling: &mut Filling<N>)
     requires { length filling.old + 144 ≤ N }
     ensures value { filling.new ≡ filling.old ++ frame_bytes frame.now }
@@ -166,38 +166,38 @@ fn add_slots<const N: usize>(slots: &[Slot], filling: &mut Filling<N>)
     }
 }
 
-// The fields of a thread, where they keep their rule.
-fn fields(b: &Block) -> Option<ThrRow>
-    ensures { result ≡ (if is_thread_row (thread_fields b.now) then Some (thread_fields b.now) else None) }
+// The fields of a thread, if they keep their rule.
+fn fields(block: &Block) -> Option<ThrRow>
+    ensures { result ≡ (if is_thread_row (thread_fields block.now) then Some (thread_fields block.now) else None) }
 {
-    let count = number_at(b, 40);
+    let count = number_at(block, 40);
     if count < 1 || count > MOST_FRAMES {
         return None;
     }
-    match begun(b) {
-        Some(row) => with_frames(row, b, count as usize),
+    match begun(block) {
+        Some(row) => with_frames(row, block, count as usize),
         None => None,
     }
 }
 
-// The thread with its first frame alone, where these keep their rules.
-fn begun(b: &Block) -> Option<ThrRow>
-    ensures { result ≡ (if begins b.now then Some (with_frames b.now 1) else None) }
+// The thread with its first frame alone, if these keep their rules.
+fn begun(block: &Block) -> Option<ThrRow>
+    ensures { result ≡ (if begins block.now then Some (with_frames block.now 1) else None) }
 {
-    let birth = number_at(b, 8);
-    let creator = number_at(b, 16);
-    let pc = number_at(b, 24);
+    let birth = number_at(block, 8);
+    let creator = number_at(block, 16);
+    let pc = number_at(block, 24);
     if creator >= birth || pc % 8 != 0 {
         return None;
     }
-    match frame_in(b, FIRST_FRAME) {
+    match frame_in(block, FIRST_FRAME) {
         Some(first) => {
             if !is_bottom(&first) {
                 return None;
             }
             let mut row = ThrRow::new(birth, creator, pc, first);
-            row.set_state(state_numbered(number_at(b, 32)));
-            set_registers(&mut row, b);
+            row.set_state(state_numbered(number_at(block, 32)));
+            set_registers(&mut row, block);
             Some(row)
         }
         None => None,
@@ -223,26 +223,26 @@ fn state_numbered(number: u64) -> ThrState
     }
 }
 
-fn set_registers(row: &mut ThrRow, b: &Block)
+fn set_registers(row: &mut ThrRow, block: &Block)
     requires { length row.old.regs ≡ 8 }
-    ensures { row.new ≡ record row.old { regs = numbers_at b.now 64 8 } }
+    ensures { row.new ≡ record row.old { regs = numbers_at block.now 64 8 } }
 {
     for place in 0..8 {
-        row.set_register(place, number_at(b, 64 + 8 * place));
+        row.set_register(place, number_at(block, 64 + 8 * place));
     }
 }
 
-// The thread with its other frames too, where they keep their rule.
-fn with_frames(begun: ThrRow, b: &Block, count: usize) -> Option<ThrRow>
-    requires begun { begun ≡ with_frames b.now 1 }
-    requires first { is_call_frame (frame_at b.now 128) ≡ true }
+// The thread with its other frames too, if they keep their rule.
+fn with_frames(begun: ThrRow, block: &Block, count: usize) -> Option<ThrRow>
+    requires begun { begun ≡ with_frames block.now 1 }
+    requires first { is_call_frame (frame_at block.now 128) ≡ true }
     requires count_at_least_1 { 1 ≤ count }
     requires count_at_most_16 { count ≤ 16 }
-    ensures { result ≡ (if list_all is_call_frame (frames_at b.now 128 count) then Some (with_frames b.now count) else None) }
+    ensures { result ≡ (if list_all is_call_frame (frames_at block.now 128 count) then Some (with_frames block.now count) else None) }
 {
     let mut row = begun;
     for place in 1..count {
-        match frame_in(b, FIRST_FRAME + FRAME * place) {
+        match frame_in(block, FIRST_FRAME + FRAME * place) {
             Some(frame) => row.push_frame(frame),
             None => return None,
         }
@@ -250,33 +250,33 @@ fn with_frames(begun: ThrRow, b: &Block, count: usize) -> Option<ThrRow>
     Some(row)
 }
 
-// The frame that begins at this place, where it keeps its rule.
-fn frame_in(b: &Block, at: usize) -> Option<Frame>
+// The frame that begins at this place, if it keeps its rule.
+fn frame_in(block: &Block, at: usize) -> Option<Frame>
     requires { at + 144 ≤ block_size }
-    ensures { result ≡ (if is_call_frame (frame_at b.now at) then Some (frame_at b.now at) else None) }
+    ensures { result ≡ (if is_call_frame (frame_at block.now at) then Some (frame_at block.now at) else None) }
 {
-    let back = number_at(b, at);
-    let count = number_at(b, at + 8);
+    let back = number_at(block, at);
+    let count = number_at(block, at + 8);
     if back % 8 != 0 || count > 8 {
         return None;
     }
     let mut frame = Frame::new(back);
-    add_slots_of(&mut frame, b, at + 16, count as usize);
+    add_slots_of(&mut frame, block, at + 16, count as usize);
     Some(frame)
 }
 
-// So many slots, from this place on, for a frame without any.
-fn add_slots_of(frame: &mut Frame, b: &Block, at: usize, count: usize)
+// Adds `count` slots, read from this place on, to a frame without any.
+fn add_slots_of(frame: &mut Frame, block: &Block, at: usize, count: usize)
     requires empty { frame.old.slots ≡ [] }
     requires count_at_most_8 { count ≤ 8 }
     requires within { at + 128 ≤ block_size }
-    ensures { frame.new ≡ record frame.old { slots = slots_at b.now at count } }
+    ensures { frame.new ≡ record frame.old { slots = slots_at block.now at count } }
 {
     for place in 0..count {
         let offset = at + 16 * place;
         frame.add(Slot {
-            base: number_at(b, offset),
-            password: number_at(b, offset + 8),
+            base: number_at(block, offset),
+            password: number_at(block, offset + 8),
         });
     }
 }

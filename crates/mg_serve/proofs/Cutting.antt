@@ -139,7 +139,7 @@ row_whole (suc n) = row_whole n
 behind_row : (bytes : List ℕ) → line_of (bytes ++ long_row) ≡ Some bad_line
 behind_row bytes = line_of-long (bytes ++ long_row) (omega (arith, length-append bytes long_row, length-replicate {A = ℕ} 257 120))
 
--- of the pieces with a row behind them, the last is bad and the others are as they were
+-- of the pieces with a row after them, the last is bad and the others are as they were
 rows : (pieces : List (List ℕ)) → length (filter_map line_of (onto_last pieces long_row)) ≡ length (filter_map line_of (all_but_last pieces)) + 1
 rows [] = ap (λ o. length (cons_option o [])) (behind_row [])
 rows (piece ∷ []) = ap (λ o. length (cons_option o [])) (behind_row piece)
@@ -150,11 +150,11 @@ rows (piece ∷ next ∷ pieces) = by_option (line_of piece) (rows (next ∷ pie
     by_option None h = h
     by_option (Some x) h = omega arith
 
--- so a row behind some bytes adds one line to those that are ended
+-- so a row after some bytes adds one line to those that are ended
 with_row : (bytes : List ℕ) → length (lines (bytes ++ long_row)) ≡ length (ended_lines bytes) + 1
 with_row bytes = ap (λ v. length (filter_map line_of v)) (split_at-more is_newline bytes long_row (row_whole 257)) ∙ rows (split_at is_newline bytes)
 
--- what stands before any other bytes are calls of ended lines
+-- what comes before any other bytes are calls of ended lines
 pub ended_lines-most : (bytes behind : List ℕ) (ls : List Line) → ((rest : List ℕ) → lines (bytes ++ rest) ≡ ls ++ lines (behind ++ rest)) → length ls ≤ length (ended_lines bytes)
 ended_lines-most bytes behind ls cuts =
     let all : length (lines (bytes ++ long_row)) ≡ length (ended_lines bytes) + 1 = with_row bytes in
@@ -173,7 +173,7 @@ lines-begin (piece ∷ next ∷ pieces) = by_option (line_of piece) (lines-begin
     by_option None (last, is) = (last, is)
     by_option (Some x) (last, is) = (last, ap (λ v. x ∷ v) is)
 
--- where lines are first ones of those of some bytes, and no more than are ended, they are first ones of the ended lines
+-- when lines are first ones of those of some bytes, and no more than are ended, they are first ones of the ended lines
 pub ended_lines-first : (bytes : List ℕ) (ls more : List Line) → lines bytes ≡ ls ++ more → length ls ≤ length (ended_lines bytes) → (later : List Line) × (ended_lines bytes ≡ ls ++ later)
 ended_lines-first bytes ls more are enough =
     let (last, is) = lines-begin (split_at is_newline bytes) in
@@ -183,7 +183,7 @@ ended_lines-first bytes ls more are enough =
       sym (take-append-drop (length ls) (ended_lines bytes)) ∙ ap (λ v. v ++ drop (length ls) (ended_lines bytes)) front,
     )
 
--- what stands before a part without a newline are the calls of the ended lines
+-- what comes before a part without a newline are the calls of the ended lines
 pub ended_lines-exact : (bytes part : List ℕ) (ls : List Line) → ((rest : List ℕ) → lines (bytes ++ rest) ≡ ls ++ lines (part ++ rest)) → list_any is_newline part ≡ false
     → length (ended_lines bytes) ≡ length ls
 ended_lines-exact bytes part ls cuts none =

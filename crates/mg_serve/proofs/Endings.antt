@@ -31,7 +31,7 @@ within_any : (limit : ℕ) (left : Option (List ℕ)) (P : Type 0) → P → IsW
 within_any limit None P holds = tt
 within_any limit (Some input) P holds = λ short. holds
 
--- where no call failed and the input is not too long, a session has a good end
+-- when no call failed and the input is not too long, a session has a good end
 pub session_complete : {T : Type 0} (r : Result T Ended) (limit : ℕ) (left left' : Option (List ℕ)) (OfDisk OfSource OfSink : Type 0)
     → (r ≡ Err ended.Disk → OfDisk) → (r ≡ Err ended.Source → OfSource) → (r ≡ Err ended.Sink → OfSink) → (status_of r ≡ status.TooLong → TakesMore limit left left')
     → (OfDisk → ⊥) → (OfSource → ⊥) → (OfSink → ⊥) → IsWithin limit left (IsOk r)
@@ -41,7 +41,7 @@ session_complete (Err ended.Source) limit left left' OfDisk OfSource OfSink d s 
 session_complete (Err ended.Sink) limit left left' OfDisk OfSource OfSink d s k more no_disk no_source no_sink = absurd (no_sink (k refl))
 session_complete (Err ended.TooLong) limit left left' OfDisk OfSource OfSink d s k more no_disk no_source no_sink = not_more limit left left' _ (more refl)
 
--- where no call failed, all is done, or memory was wanting
+-- when no call failed, all is done, or there was not enough memory
 done_or_memory : {T : Type 0} (r : Result T Ended) → IsOk r → IsDoneOrMemory (status_of r)
 done_or_memory (Ok x) h = inl refl
 done_or_memory (Err e) h = absurd (cc)
@@ -91,7 +91,7 @@ module _ {M D S K : Type 0} (is : machines.Ghosts M) (d : DiskUse D) (i : Source
   abbrev Early : Ended → Type 0
   Early e = Stops (Broken is facts batch) e entry left limit batch (limit + 4096) p left'
 
-  -- at a good end nothing more was to be put
+  -- at a good end nothing more was to be sent
   like_early : Finishes (Session is facts) entry left limit p left' → NothingPending facts p.disk → Early ended.Sink
   like_early f stands = finishes_stops is facts entry limit batch (limit + 4096) left left' p f (omega arith) stands
 
@@ -230,7 +230,7 @@ module _ {M D S K : Type 0} (is : machines.Ghosts M) (d : DiskUse D) (i : Source
   }
   session_ends (Err e) f w source_rose sink_rose = ends_early e w (λ h. source_rose (let s : e ≡ ended.Source = h in cc)) (λ h. sink_rose (let s : e ≡ ended.Sink = h in cc))
 
-  -- all done, where no call failed and the input is not too long
+  -- all done, when no call failed and the input is not too long
   pub session_done : {T : Type 0} (r : Result T Ended) → OnOk r (Finishes (Session is facts) entry left limit p left') → IfErr r Early
       → (r ≡ Err ended.Disk → DiskRose d) → (r ≡ Err ended.Source → SourceRose i) → (r ≡ Err ended.Sink → SinkRose o)
       → (DiskRose d → ⊥) → (SourceRose i → ⊥) → (SinkRose o → ⊥)

@@ -91,7 +91,7 @@ module _ {M D : Type 0} (Session : Entry M D → List Line → Point M D → Typ
     halts = Runs-halts e p g.ls q h.ls r g.steps h.halts;
   }
 
-  -- more may come behind what broke
+  -- more may come after what broke
   pub Breaks-more : (e : Ended) (p : Point M D) (part xs ys : List ℕ) (q : Point M D) → Breaks Session Broken e p part xs q → Breaks Session Broken e p part (xs ++ ys) q
   Breaks-more e p part xs ys q h = record {
     ls = h.ls;
@@ -116,7 +116,7 @@ module _ {M D : Type 0} (Session : Entry M D → List Line → Point M D → Typ
       subst (λ (v : List Line). Halts Session Broken e p v q) (sym (lines-last part whole ∙ ap (λ o. option_to_list o) none))
       (λ entry sofar a. subst (λ (v : List Line). (put : List ℕ) × Broken e entry v put q) (sym (append-nil sofar)) (h entry sofar a))
 
--- what a call keeps behind others that kept their counts
+-- what a call keeps after others that kept their counts
 pub keeps_then : {M D K T : Type 0} (is : machines.Ghosts M) (facts : Ghosts D) (to : sinks.Ghosts K) (m0 m1 m2 : M) (d0 d1 d2 : D) (k0 k1 k2 : K) (n0 n1 n2 : ℕ) (result : Result T Ended)
     → CountsAlike (is.words_in m0) (is.words_in m1) n0 n1 → facts.block_count d1 ≡ facts.block_count d0 → CountGoes facts d0 d1 → CountGoesOn (to.faults k0) (to.faults k1) (to.is_spent k0) (to.is_spent k1)
     → Keeps is facts to m1 d1 k1 n1 result m2 d2 k2 n2 → Keeps is facts to m0 d0 k0 n0 result m2 d2 k2 n2
@@ -133,7 +133,7 @@ keeps_then is facts to m0 m1 m2 d0 d1 d2 k0 k1 k2 n0 n1 n2 result counted blocks
   sink_cause = λ h. then_rose _ _ _ _ _ _ sink_count (keeps.sink_cause h);
 }
 
--- what a call kept is kept where the input ends the session behind it
+-- what a call kept is kept if the input ends the session after it
 pub on_end : {M D K T U : Type 0} {is : machines.Ghosts M} {facts : Ghosts D} {to : sinks.Ghosts K} {m m' : M} {d d' : D} {k k' : K} {n n' : ℕ} {x : T} → Keeps is facts to m d k n (Ok x) m' d' k' n' → Keeps {T = U} is facts to m d k n (Err ended.TooLong) m' d' k' n'
 on_end keeps = record {
   live = keeps.live;

@@ -1,4 +1,4 @@
--- Where the first of the bytes that pass a test stands.
+-- Where the first of the bytes that pass a test is.
 use Rattle.std.specs.Prelude.{ℕ, suc, ◌+◌, ◌<◌, ◌≤◌, ◌≡◌, ◌||◌, Bool, true, false, List, [], ◌∷◌, ◌++◌, drop, length, not, take}
 use Rattle.std.specs.List.{list_any, prefix_len}
 use Rattle.std.proofs.Common.{refl, sym, ap, subst, ◌∙◌, arith, cond}
@@ -16,7 +16,7 @@ fails true is = refl
 fails false is = cc
 
 module _ (cuts : ℕ → Bool) where
-  -- how many bytes stand before it
+  -- how many bytes are before it
   abbrev pub before : List ℕ → ℕ
   before xs = prefix_len (λ b. not (cuts b)) xs
 
@@ -31,7 +31,7 @@ module _ (cuts : ℕ → Bool) where
           let next : 1 + before xs ≡ suc (before xs) = omega arith in
           ap (λ k. list_any cuts (take k (x ∷ xs))) next ∙ ap (λ w. w || list_any cuts (take (before xs) xs)) is ∙ others
 
-  -- the bytes are these, the one, and those behind it
+  -- the bytes are these, the one, and those after it
   pub front-split : (xs : List ℕ) → before xs < length xs → (d : ℕ) × (cuts d ≡ true) × (xs ≡ (take (before xs) xs ++ d ∷ []) ++ drop (before xs + 1) xs)
   front-split [] few = absurd (omega arith)
   front-split (x ∷ xs) few = by_cut (cuts x) refl few (front-split xs)
@@ -51,11 +51,11 @@ module _ (cuts : ℕ → Bool) where
                 ∙ ap (λ k. (take (1 + before xs) (x ∷ xs) ++ found.0 ∷ []) ++ drop k (x ∷ xs)) behind,
           )
 
-  -- where all stand before it, there is none
+  -- when all are before it, there is none
   pub front-all : (xs : List ℕ) → length xs ≤ before xs → list_any cuts xs ≡ false
   front-all xs all = ap (list_any cuts) (sym (take_all (before xs) xs all)) ∙ front-whole xs
 
--- the bytes before a newline, and those behind it
+-- the bytes before a newline, and those after it
 pub newline-split : (xs : List ℕ) (n : ℕ) → n ≡ before is_newline xs → n < length xs → xs ≡ (take n xs ++ 10 ∷ []) ++ drop (n + 1) xs
 newline-split xs n is within =
     let (d, cut, split) = front-split is_newline xs (subst (λ k. k < length xs) is within) in

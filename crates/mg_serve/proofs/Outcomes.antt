@@ -56,7 +56,7 @@ ended_first input rest bytes ls is came enough are =
     let (later, first) = ended_lines-first bytes ls came.0 came.1 enough in
     (later, ap (λ v. ended_lines v) (came_are bytes rest input is) ∙ first ∙ ap (λ v. v ++ later) are)
 
--- a last line that no newline ended comes only where the source was read to its end
+-- a last line that no newline ended comes only if the source was read to its end
 cut_not : (e : Ended) (result : Status) (rest : List ℕ) → IsInside e × IsAtEnd (Some rest) → status_at e ≡ result → IsCut result rest → ⊥
 cut_not ended.Disk result rest (inside, at_end) same cut = ⊎_elim (λ left. left at_end) (λ fault. ⊎_elim (λ h. cc) (λ h. cc) fault) cut
 cut_not ended.Sink result rest (inside, at_end) same cut = ⊎_elim (λ left. left at_end) (λ fault. ⊎_elim (λ h. cc) (λ h. cc) fault) cut
@@ -242,7 +242,7 @@ module _ {M D : Type 0} (is : machines.Ghosts M) (facts : Ghosts D) (entry : Ent
             ((w.broken.told image seen).held c left ∙ ap (λ v. Is (is.kept entry.machine image v)) (sym (take_all (length w.ls) w.ls (omega arith)))),
       )
 
-  -- the lines that were stepped are so many first lines of the input
+  -- the lines that were stepped are first lines of the input
   first_are : (e : Ended) (input rest : List ℕ) (p : Point M D) (w : Stops (Broken is facts batch) e entry (Some input) limit batch most p (Some rest)) → take (length w.ls) (lines input) ≡ w.ls
   first_are e input rest p w =
       let cut : (more : List Line) × (lines input ≡ w.ls ++ more) = cut_of e input rest p w in
@@ -284,13 +284,13 @@ module _ {M D : Type 0} (is : machines.Ghosts M) (facts : Ghosts D) (entry : Ent
   stops_traces ended.TooLong (Some input) (Some rest) p w = λ image seen.
       traced ended.TooLong status.TooLong input rest p w image (λ h. cc) refl (λ h. absurd (cc)) (λ h. w.open_batch) (λ h. absurd (cc)) (λ h. (w.broken.told image seen).stepped)
 
--- where no reply waits, all that was stepped is answered
+-- when no reply waits, all that was stepped is answered
 all_done : (done waiting ls : List Line) (count : ℕ) → ls ≡ done ++ waiting → count ≡ length waiting → count ≡ 0 → done ≡ ls
 all_done front [] ls count split same zero_is = sym (append-nil front) ∙ sym split
 all_done front (line ∷ more) ls count split same zero_is = absurd (omega arith)
 
 module _ {M D : Type 0} (is : machines.Ghosts M) (facts : Ghosts D) (entry : Entry M D) (limit batch most : ℕ) where
-  -- what stands after a good end
+  -- what holds after a good end
   stood : (ls : List Line) (p : Point M D) (a : Session is facts entry ls p) → p.owed.count ≡ 0 → (image : Image) → facts.seen entry.disk ≡ Some image
       → (x : Image) × (facts.seen p.disk ≡ Some x) × (volume x ≡ Is (is.kept entry.machine image ls)) × (a.put ≡ is.said entry.machine image ls) × Leaves facts entry.disk p.disk (IsPrefix (is.kept entry.machine image) ls)
       × is.Stepped entry.machine image ls entry.steps p.steps p.machine
@@ -305,7 +305,7 @@ module _ {M D : Type 0} (is : machines.Ghosts M) (facts : Ghosts D) (entry : Ent
         subst (λ (v : List Line). is.Stepped entry.machine image v entry.steps p.steps p.machine) (sym a.split) st.stepped,
       )
 
-  -- what is said behind all lines
+  -- what is said after all lines
   said_behind : (ls : List Line) (p : Point M D) (a : Session is facts entry ls p) → p.owed.count ≡ 0 → p.owed ≡ no_replies → (image : Image) → facts.seen entry.disk ≡ Some image
       → (later : List Line) → (more : List ℕ) × (is.said entry.machine image (ls ++ later) ≡ a.put ++ more)
   said_behind ls p a none empty image seen later =

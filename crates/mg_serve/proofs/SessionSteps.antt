@@ -38,7 +38,7 @@ prefix_longer kept ls more c (k, few, spelled) = (
 pub no_lines : (kept : List Line → State) (ls : List Line) (c : Image) → volume c ≡ Is (kept []) → IsPrefix kept ls c
 no_lines kept ls c is = (0, omega arith, is)
 
--- the first ones of two lists of lines, where as many are answered
+-- the first ones of two lists of lines, if as many are answered
 first_lines : (n : ℕ) (done waiting ls : List Line) → ls ≡ done ++ waiting → n ≡ length done → take n ls ≡ done
 first_lines n done waiting ls split count = ap (λ v. take v ls) count ∙ ap (λ v. take (length done) v) split ∙ take-append_seam done waiting
 
@@ -60,7 +60,7 @@ commit_leaves kept done waiting x c now spelled is left = ⊎_elim
     ))
     left
 
--- where the answered lines are kept and no others, a fault of the disk leaves them so
+-- when the answered lines are kept and no others, a fault of the disk leaves them so
 held_yet : (alive : Bool) (low : ℕ) (kept : List Line → State) (ls : List Line) (c : Image) → low ≤ length ls → volume c ≡ Is (kept (take low ls)) → Held ended.Disk alive low kept ls c
 held_yet false low kept ls c few is = (low, omega arith, few, is)
 held_yet true low kept ls c few is = is
@@ -68,12 +68,12 @@ held_yet true low kept ls c few is = is
 between_prefix : (low : ℕ) (kept : List Line → State) (ls : List Line) (c : Image) → IsBetween low kept ls c → IsPrefix kept ls c
 between_prefix low kept ls c (k, least, few, spelled) = (k, few, spelled)
 
--- one line more behind others, and then more
+-- one line more after others, and then more
 line_then : (done waiting : List Line) (line : Line) (more : List Line) → (done ++ (waiting ++ line ∷ [])) ++ more ≡ (done ++ waiting) ++ (line ∷ more)
 line_then done waiting line more = ap (λ v. v ++ more) (sym (append_assoc done waiting (line ∷ []))) ∙ append_assoc (done ++ waiting) (line ∷ []) more
 
 module _ {D : Type 0} (facts : Ghosts D) where
-  -- an image that may be left where nothing is pending is the one that reads give
+  -- an image that may be left if nothing is pending is what reads give
   pub left_spells : (d : D) (image c : Image) (s : State) → NothingPending facts d → facts.seen d ≡ Some image → volume image ≡ Is s → facts.left_since d (facts.moment d) c → volume c ≡ Is s
   left_spells d image c s only seen spelled left = ap volume (some_image image c (sym seen ∙ only c left)) ∙ spelled
 
@@ -162,7 +162,7 @@ module _ {M D : Type 0} (is : machines.Ghosts M) (facts : Ghosts D) where
       (λ c left. between_prefix (length done) (is.kept entry.machine first) (done ++ waiting) c
       (commit_leaves (is.kept entry.machine first) done waiting st.image c (is.kept m st.image []) st.spelled (now_of entry first done waiting put (record { machine = m; disk = d; owed = o; taken = t; steps = n }) st) left))
 
-  -- the batch was committed, and all its replies were put
+  -- the batch was committed, and all its replies were sent
   pub Session-closes : (entry : Entry M D) (ls : List Line) (m m' : M) (d d' : D) (o o' : Waiting) (t t' : Option (List ℕ)) (n : ℕ)
       → Session is facts entry ls (record { machine = m; disk = d; owed = o; taken = t; steps = n })
       → ForSome (facts.seen d) (λ image. Leaves facts d d' (λ c. (volume c ≡ volume image) ⊎ (volume c ≡ Is (is.kept m image []))))
@@ -199,13 +199,13 @@ module _ {M D : Type 0} (is : machines.Ghosts M) (facts : Ghosts D) where
         };
   }
 
-  -- what is said behind the lines that were stepped
+  -- what is said after the lines that were stepped
   said_on : (entry : Entry M D) (first : Image) (ls done waiting : List Line) (put : List ℕ) (p : Point M D) (st : Stands is facts entry first done waiting put p) → ls ≡ done ++ waiting
       → (later : List Line) → is.said entry.machine first (ls ++ later) ≡ put ++ (p.owed.text ++ is.said p.machine st.image later)
   said_on entry first ls done waiting put p st split later =
       ap (λ v. is.said entry.machine first (v ++ later)) split ∙ st.says later ∙ append_assoc put p.owed.text (is.said p.machine st.image later)
 
-  -- the replies that were put are those to the answered lines
+  -- the replies that were sent are those to the answered lines
   whole_put : (entry : Entry M D) (first : Image) (ls done waiting : List Line) (put : List ℕ) → put ≡ is.said entry.machine first done → ls ≡ done ++ waiting → answered put ≡ length done
       → put ≡ is.said entry.machine first (take (answered put) ls)
   whole_put entry first ls done waiting put replies split count = replies ∙ ap (λ v. is.said entry.machine first v) (sym (first_lines (answered put) done waiting ls split count))
@@ -329,7 +329,7 @@ module _ {M D : Type 0} (is : machines.Ghosts M) (facts : Ghosts D) where
     },
   )
 
-  -- what is held where an open batch is left as it is
+  -- what is held if an open batch is left as it is
   open_held : (entry : Entry M D) (first : Image) (ls done waiting : List Line) (put : List ℕ) (p : Point M D) (c : Image) → Stands is facts entry first done waiting put p → ls ≡ done ++ waiting
       → answered put ≡ length done → NothingPending facts p.disk → facts.left_since p.disk (facts.moment p.disk) c → volume c ≡ Is (is.kept entry.machine first (take (answered put) ls))
   open_held entry first ls done waiting put p c st split answers only left =

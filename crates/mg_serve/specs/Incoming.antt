@@ -6,7 +6,7 @@ use Rattle.mg_model.specs.Lines.{lines}
 use Rattle.mg_serve.specs.declared.ended.Ended.{Ended}
 use Rattle.mg_serve.specs.Machines.{Entry, Halts, Point, Runs}
 
--- `bytes` came behind a part of a line, and the lines that they ended were stepped
+-- `bytes` came after a part of a line, and the lines that they ended were stepped
 pub record Goes {M D : Type 0} (Session : Entry M D → List Line → Point M D → Type 0) (old : Point M D) (part bytes : List ℕ) (new : Point M D) (part' : List ℕ) : Type 0 where
   pub ls : List Line
   pub cuts : (rest : List ℕ) → lines (part ++ (bytes ++ rest)) ≡ ls ++ lines (part' ++ rest)

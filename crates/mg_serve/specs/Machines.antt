@@ -1,6 +1,6 @@
--- A session of any machine that takes lines: where it began and where it stands, and what is said of the lines between.
+-- A session of any machine that takes lines: where it began and where it is, and what is said of the lines between.
 -- `Session` and `Broken` are any two words for this. The lines that are cut from the input and the lines that are stepped
--- are told apart, so nothing here depends on how the input is cut.
+-- are kept apart, so nothing here depends on how the input is cut.
 use Rattle.std.specs.Prelude.{ℕ, ◌≡◌, List, [], ◌∷◌, ◌++◌, Option, Some}
 use Rattle.mg_disk.specs.Disk.{Image}
 use Rattle.mg_model.specs.declared.calls.Line.{Line}
@@ -12,9 +12,9 @@ use Rattle.mg_serve.specs.declared.ended.Ended.{Ended}
 use Rattle.mg_serve.specs.declared.ended.Ended.TheVariants as ended
 use Rattle.mg_serve.specs.Waiting.{Waiting}
 
--- A machine is told by what it says to lines to come, and by the state that it keeps after them.
+-- A machine is described by what it says to lines to come, and by the state that it keeps after them.
 
--- a line was answered so: what was said from it on is its reply, and what is said behind it
+-- a line was answered so: what was said from it on is its reply, and what is said after it
 pub record Says (before after : List Line → List ℕ) (line : Line) (reply : Reply) : Type 0 where
   pub each : (ls : List Line) → before (line ∷ ls) ≡ reply_line reply ++ after ls
   pub none : after [] ≡ []
@@ -34,7 +34,7 @@ pub record Entry (M D : Type 0) : Type 0 where
   pub taken : Option (List ℕ)
   pub steps : ℕ
 
--- where it stands
+-- where it is
 pub record Point (M D : Type 0) : Type 0 where
   pub machine : M
   pub disk : D
@@ -59,7 +59,7 @@ module _ {M D : Type 0} (Session : Entry M D → List Line → Point M D → Typ
   Closes old new = (entry : Entry M D) (ls : List Line) → Session entry ls old → Session entry ls new
 
 module _ {M D : Type 0} (Session : Entry M D → List Line → Point M D → Type 0) (Broken : Ended → Entry M D → List Line → List ℕ → Point M D → Type 0) where
-  -- the session ended between them, with some bytes put since it began
+  -- the session ended between them, with some bytes sent since it began
   abbrev pub Halts : Ended → Point M D → List Line → Point M D → Type 0
   Halts e old ls new = (entry : Entry M D) (sofar : List Line) → Session entry sofar old → (put : List ℕ) × Broken e entry (sofar ++ ls) put new
 

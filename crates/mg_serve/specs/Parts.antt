@@ -39,7 +39,7 @@ SpellsAfter kept input told = IsSomeAnd told (λ image. volume image ≡ Is (kep
 abbrev pub IsPrefix : (List Line → State) → List Line → Image → Type 0
 IsPrefix kept ls c = (k : ℕ) × (k ≤ length ls) × (volume c ≡ Is (kept (take k ls)))
 
--- so many lines at least are answered
+-- at least this many lines are answered
 abbrev pub AreAnswered : Option (List ℕ) → Option (List ℕ) → ℕ → Type 0
 AreAnswered taken taken' k = IfSome taken (λ before. IsSomeAnd taken' (λ now. answered (drop (length before) now) ≤ k))
 
@@ -50,8 +50,9 @@ KeepsAnswered left_now kept left left' taken taken' = IfSome left (λ input. IsS
 
 -- At a stop now the volume has the state after the answered lines and no others.
 abbrev pub KeepsExactly : (Image → Type 0) → (List Line → State) → Option (List ℕ) → Option (List ℕ) → Option (List ℕ) → Type 0
-KeepsExactly left_now kept left taken taken' = IfSome left (λ input. IfSome taken (λ before. IsSomeAnd taken' (λ now. (c : Image) → left_now c →
-    volume c ≡ Is (kept (take (answered (drop (length before) now)) (lines input))))))
+KeepsExactly left_now kept left taken taken' =
+    IfSome left (λ input. IfSome taken (λ before. IsSomeAnd taken' (λ now.
+    (c : Image) → left_now c → volume c ≡ Is (kept (take (answered (drop (length before) now)) (lines input))))))
 
 -- Whatever a stop leaves now, it is one and the same state: that after some first lines, as above.
 abbrev pub KeepsOne : (Image → Type 0) → (List Line → State) → Option (List ℕ) → Option (List ℕ) → Option (List ℕ) → Option (List ℕ) → Type 0

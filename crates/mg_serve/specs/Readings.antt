@@ -38,7 +38,7 @@ Size ended.TooLong limit count = limit < count
 Size ended.Disk limit count = Unit {0}
 Size ended.Sink limit count = Unit {0}
 
--- how few lines are unanswered where the input alone ended it
+-- how few lines are unanswered when the input alone ended it
 abbrev pub Few : Ended → ℕ → ℕ → ℕ → Type 0
 Few ended.Source calls replies batch = calls < replies + batch
 Few ended.TooLong calls replies batch = calls < replies + batch

@@ -24,8 +24,8 @@ use Rattle.mg_serve.specs.Machines.{Entry, Point}
 use Rattle.mg_serve.specs.Parts.{IsPrefix, SpellsAfter}
 use Rattle.mg_serve.specs.Sessions.{Answers, DiskRose, DiskUse, Ends, EndsSession, Holds, HoldsExactly, IsCut, IsDoneOrMemory, IsWithin, OfInput, SinkRose, SinkUse, SourceRose, SourceUse, UnlessDisk, taken_of}
 
--- What each call within a session keeps, whatever comes of it: unless the disk failed the machine is live and stands on the disk;
--- the two counts of words rise by as much; and the disk and the sink failed only where their counts rose.
+-- What each call within a session keeps, however it ends: unless the disk failed the machine is live and stands on the disk;
+-- the two counts of words rise by as much; and the disk and the sink failed only if their counts rose.
 pub record Keeps {M D K T : Type 0} (is : machines.Ghosts M) (facts : disks.Ghosts D) (to : sinks.Ghosts K) (m : M) (disk : D) (sink : K) (steps : ℕ) (result : Result T Ended) (m' : M) (disk' : D) (sink' : K) (steps' : ℕ) : Type 0 where
   pub live : UnlessDisk result (IsTrue (is.is_live m'))
   pub stands : UnlessDisk result (is.StandsOn D facts m' disk')
@@ -34,16 +34,16 @@ pub record Keeps {M D K T : Type 0} (is : machines.Ghosts M) (facts : disks.Ghos
   pub sink_count : CountGoesOn (to.faults sink) (to.faults sink') (to.is_spent sink) (to.is_spent sink')
   pub sink_cause : result ≡ Err ended.Sink → Rose (to.faults sink) (to.faults sink') (to.is_spent sink')
 
--- the image spells the state after some first ones of the lines, and so many at least
+-- the image spells the state after some first lines, and after this many at least
 abbrev pub IsBetween : ℕ → (List Line → State) → List Line → Image → Type 0
 IsBetween low kept ls c = (k : ℕ) × (low ≤ k) × (k ≤ length ls) × (volume c ≡ Is (kept (take k ls)))
 
--- where reads were told: `done` is kept and answered, `waiting` was stepped since; `first` is the image at the entry
+-- when reads were told: `done` is kept and answered, `waiting` was stepped since; `first` is the image at the entry
 pub record Stands {M D : Type 0} (is : machines.Ghosts M) (facts : disks.Ghosts D) (entry : Entry M D) (first : Image) (done waiting : List Line) (put : List ℕ) (p : Point M D) : Type 0 where
   pub image : Image
   pub seen : facts.seen p.disk ≡ Some image
   pub spelled : volume image ≡ Is (is.kept entry.machine first done)
-  -- what comes is said and kept as it would be behind these lines
+  -- what comes is said and kept as it would be after these lines
   pub says : (ls : List Line) → is.said entry.machine first ((done ++ waiting) ++ ls) ≡ (put ++ p.owed.text) ++ is.said p.machine image ls
   pub keeps : (ls : List Line) → is.kept entry.machine first ((done ++ waiting) ++ ls) ≡ is.kept p.machine image ls
   pub replies : put ≡ is.said entry.machine first done
@@ -63,7 +63,7 @@ pub record Session {M D : Type 0} (is : machines.Ghosts M) (facts : disks.Ghosts
   pub count : p.owed.count ≡ length waiting
   pub told : ForSome (facts.seen entry.disk) (λ first. Stands is facts entry first done waiting put p)
 
--- what a stop may leave where a session ended so, with so many lines answered; a disk that failed in a commit leaves a
+-- what a stop may leave if a session ended so, with this many lines answered; a disk that failed in a commit leaves a
 -- machine that is not live
 abbrev pub Held : Ended → Bool → ℕ → (List Line → State) → List Line → Image → Type 0
 Held ended.Disk false low kept ls c = IsBetween low kept ls c
@@ -72,21 +72,21 @@ Held ended.Source alive low kept ls c = volume c ≡ Is (kept (take low ls))
 Held ended.TooLong alive low kept ls c = volume c ≡ Is (kept (take low ls))
 Held ended.Sink alive low kept ls c = volume c ≡ Is (kept ls)
 
--- whole replies were put, but where the sink failed
+-- whole replies were sent, unless the sink failed
 abbrev pub PutsWhole : Ended → (List Line → List ℕ) → List Line → List ℕ → Type 0
 PutsWhole ended.Disk said ls put = put ≡ said (take (answered put) ls)
 PutsWhole ended.Source said ls put = put ≡ said (take (answered put) ls)
 PutsWhole ended.TooLong said ls put = put ≡ said (take (answered put) ls)
 PutsWhole ended.Sink said ls put = Unit {0}
 
--- what else is told of the lines, of which so many are answered: the disk may have failed in the last of them
+-- what else is said of the lines, of which this many are answered: the disk may have failed in the last of them
 abbrev pub IsAfter : {M : Type 0} → machines.Ghosts M → Ended → ℕ → M → Image → List Line → ℕ → ℕ → M → Type 0
 IsAfter is ended.Disk count old first ls steps steps' new = is.Stepped old first ls steps steps' new ⊎ ((count < length ls) × is.StoppedIn old first ls steps steps' new)
 IsAfter is ended.Source count old first ls steps steps' new = is.Stepped old first ls steps steps' new
 IsAfter is ended.TooLong count old first ls steps steps' new = is.Stepped old first ls steps steps' new
 IsAfter is ended.Sink count old first ls steps steps' new = is.Stepped old first ls steps steps' new
 
--- where reads were told: what is left of a session that ended so
+-- when reads were told: what is left of a session that ended so
 pub record Remains {M D : Type 0} (is : machines.Ghosts M) (facts : disks.Ghosts D) (e : Ended) (entry : Entry M D) (first : Image) (ls : List Line) (put : List ℕ) (p : Point M D) : Type 0 where
   pub replies : (later : List Line) → (more : List ℕ) × (is.said entry.machine first (ls ++ later) ≡ put ++ more)
   pub whole : PutsWhole e (is.said entry.machine first) ls put
@@ -94,21 +94,21 @@ pub record Remains {M D : Type 0} (is : machines.Ghosts M) (facts : disks.Ghosts
   pub held : (c : Image) → facts.left_since p.disk (facts.moment p.disk) c → Held e (is.is_live p.machine) (answered put) (is.kept entry.machine first) ls c
   pub stepped : IsAfter is e (answered put) entry.machine first ls entry.steps p.steps p.machine
 
--- the session in batches of so many replies ended so, with so much put, and had stepped these lines
+-- the session in batches of `batch` replies ended so, with these bytes sent, and had stepped these lines
 pub record Broken {M D : Type 0} (is : machines.Ghosts M) (facts : disks.Ghosts D) (batch : ℕ) (e : Ended) (entry : Entry M D) (ls : List Line) (put : List ℕ) (p : Point M D) : Type 0 where
   pub sink : Appends entry.taken p.taken put
   pub fewer : answered put ≤ length ls
   pub near : length ls ≤ answered put + batch
   pub told : ForSome (facts.seen entry.disk) (λ first. Remains is facts e entry first ls put p)
 
--- so many first lines of the input were stepped, and so many are answered
+-- the first `stepped` lines of the input were stepped, and `count` of them are answered
 pub record IsTraced {M : Type 0} (is : machines.Ghosts M) (batch : ℕ) (result : Status) (old : M) (image : Image) (input rest : List ℕ) (taken taken' : Option (List ℕ)) (steps steps' : ℕ) (new : M) : Type 0 where
   pub stepped : ℕ
   pub count : ℕ
   -- they are among the lines of the bytes that came
   pub few : stepped ≤ length (lines input)
   pub came : (more : List Line) × (lines (taken_of input rest) ≡ take stepped (lines input) ++ more)
-  -- and where the last line was cut, among those that a newline ended
+  -- and if the last line was cut, among those that a newline ended
   pub ended : IsCut result rest → (more : List Line) × (ended_lines (taken_of input rest) ≡ take stepped (lines input) ++ more)
   pub answers : IfSome taken (λ before. IsSomeAnd taken' (λ now. answered (drop (length before) now) ≡ count))
   -- all answered lines are among them, and at most a batch more: none at the end
@@ -117,16 +117,16 @@ pub record IsTraced {M : Type 0} (is : machines.Ghosts M) (batch : ℕ) (result 
   pub done : result ≡ status.Done → (stepped ≡ length (lines input)) × (count ≡ stepped)
   pub source : result ≡ status.Source → stepped < count + batch
   pub too_long : result ≡ status.TooLong → stepped < count + batch
-  -- what the machine tells of them; the disk may have failed in the last
+  -- what the machine says of them; the disk may have failed in the last
   pub at_disk : result ≡ status.Disk → is.Stepped old image (take stepped (lines input)) steps steps' new ⊎ ((count < stepped) × is.StoppedIn old image (take stepped (lines input)) steps steps' new)
   pub after : result ≢ status.Disk → is.Stepped old image (take stepped (lines input)) steps steps' new
 
--- the same, where the source tells what it gives
+-- the same, if it is told what the source gives
 abbrev pub Traces : {M : Type 0} → machines.Ghosts M → ℕ → Status → M → Image → Option (List ℕ) → Option (List ℕ) → Option (List ℕ) → Option (List ℕ) → ℕ → ℕ → M → Type 0
 Traces is batch result old image left left' taken taken' steps steps' new =
     IfSome left (λ input. IsSomeAnd left' (λ rest. IsTraced is batch result old image input rest taken taken' steps steps' new))
 
--- What is kept as lines run on a machine that stands on a disk, in batches of so many replies.
+-- What is kept as lines run on a machine that stands on a disk, in batches of `batch` replies.
 pub record Serves {M D S K : Type 0} (is : machines.Ghosts M) (batch limit : ℕ) (result : Status) (m m' : M) (d : DiskUse D) (i : SourceUse S) (o : SinkUse K) (steps steps' : ℕ) : Type 0 where
   pub which : EndsSession result
   pub answers : ForSome (d.facts.seen d.old) (λ image. Answers (is.said m image) result i o)
@@ -135,7 +135,7 @@ pub record Serves {M D S K : Type 0} (is : machines.Ghosts M) (batch limit : ℕ
   pub holds_exactly : ForSome (d.facts.seen d.old) (λ image. HoldsExactly (is.kept m image) result d i o)
   pub traces : ForSome (d.facts.seen d.old) (λ image. Traces is batch result m image (i.facts.left i.old) (i.facts.left i.new) (o.facts.taken o.old) (o.facts.taken o.new) steps steps' m')
   pub ends : Ends batch limit result i o
-  -- The disk failed only where its count rose.
+  -- The disk failed only if its count rose.
   pub disk_failed : result ≡ status.Disk → DiskRose d
-  -- Where no call failed and the input is not too long, all is done, or memory was wanting.
+  -- If no call failed and the input is not too long, all is done, or there was not enough memory.
   pub complete : (DiskRose d → ⊥) → (SourceRose i → ⊥) → (SinkRose o → ⊥) → IsWithin limit (i.facts.left i.old) (IsDoneOrMemory result)

@@ -34,7 +34,7 @@ code_of status.Sink = 6
 code_of status.TooLong = 7
 code_of status.TooSmall = 8
 
--- done, or memory was wanting
+-- done, or there was not enough memory
 abbrev pub IsDoneOrMemory : Status → Type 0
 IsDoneOrMemory result = (result ≡ status.Done) ⊎ (result ≡ status.Memory)
 
@@ -63,7 +63,7 @@ UnlessDisk _ P = P
 
 -- The objects of a session
 
--- A disk: what it tells, and the disk as a call found it and as it left it.
+-- A disk: what is told of it, and the disk as a call found it and as it left it.
 pub record DiskUse (D : Type 0) : Type 1 where
   pub facts : disks.Ghosts D
   pub old : D
@@ -90,7 +90,7 @@ pub record SinkUse (K : Type 0) : Type 1 where
 abbrev pub sink_use : {K : Type 0} → sinks.Ghosts K → K → K → SinkUse K
 sink_use facts old new = record { facts = facts; old = old; new = new }
 
--- the count of faults rose, or stands at its last value
+-- the count of faults rose, or is at its last value
 abbrev pub DiskRose : {D : Type 0} → DiskUse D → Type 0
 DiskRose d = CountRose d.facts d.old d.new
 
@@ -119,7 +119,7 @@ left_at i = i.facts.left i.old
 abbrev pub left_now : {S : Type 0} → SourceUse S → Option (List ℕ)
 left_now i = i.facts.left i.new
 
--- what holds of the input, where it is told: the bytes that the source had left
+-- what holds of the input, if it is told: the bytes that the source had left
 abbrev pub OfInput : {S : Type 0} → SourceUse S → (List ℕ → Type 0) → Type 0
 OfInput i P = IfSome (left_at i) P
 
@@ -135,7 +135,7 @@ Puts o said = Appends (o.facts.taken o.old) (o.facts.taken o.new) said
 abbrev pub PutsPrefix : {K : Type 0} → SinkUse K → List ℕ → Type 0
 PutsPrefix o said = AppendsPrefix (o.facts.taken o.old) (o.facts.taken o.new) said
 
--- what holds of the number of answered lines, where it is told what the sink took: it is that of the newlines
+-- what holds of the number of answered lines, if it is told what the sink took: it is that of the newlines
 abbrev pub OfAnswered : {K : Type 0} → SinkUse K → (ℕ → Type 0) → Type 0
 OfAnswered o P = IfSome (o.facts.taken o.old) (λ before. IsSomeAnd (o.facts.taken o.new) (λ now.
     P (answered (drop (length before) now))))
@@ -146,15 +146,15 @@ OfAnswered o P = IfSome (o.facts.taken o.old) (λ before. IsSomeAnd (o.facts.tak
 abbrev pub input_limit : ℕ
 input_limit = 2 ^ 32
 
--- at most so many bytes were taken
+-- at most this many bytes were taken
 abbrev pub TakesAtMost : ℕ → Option (List ℕ) → Option (List ℕ) → Type 0
 TakesAtMost limit left left' = IfSome left (λ input. IsSomeAnd left' (λ rest. length input ≤ limit + length rest))
 
--- the input has no more than so many bytes, where it is told
+-- the input has no more than this many bytes, if it is told
 abbrev pub IsWithin : ℕ → Option (List ℕ) → Type 0 → Type 0
 IsWithin limit left promise = IfSome left (λ input. length input ≤ limit → promise)
 
--- where the input is no longer than a session may take
+-- when the input is no longer than a session may take
 abbrev pub IfShort : {S : Type 0} → SourceUse S → Type 0 → Type 0
 IfShort i promise = IsWithin input_limit (left_at i) promise
 
@@ -166,12 +166,12 @@ taken_of input rest = take (length input - length rest) input
 abbrev pub EndsTaking : Status → Type 0
 EndsTaking result = (result ≡ status.Source) ⊎ (result ≡ status.TooLong)
 
--- the last of the lines that were taken was cut: bytes are left behind it, or the session ended so
+-- the last of the lines that were taken was cut: bytes are left after it, or the session ended so
 abbrev pub IsCut : Status → List ℕ → Type 0
 IsCut result rest = (rest ≢ []) ⊎ EndsTaking result
 
--- A session: what is put
--- A machine is told by two functions of the lines that it takes: `said`, the text of its replies to them, and `kept`, the
+-- A session: what is sent
+-- A machine is described by two functions of the lines that it takes: `said`, the text of its replies to them, and `kept`, the
 -- state of its volume after them. For a kernel in the state `s` they are `text s` and `after s`.
 
 -- What the sink took of a session that ended with this status.
@@ -180,13 +180,13 @@ pub record Answers {S K : Type 0} (said : List Line → List ℕ) (result : Stat
   pub prefix : OfInput i (λ input. PutsPrefix o (said (lines input)))
   -- At the end the source was read whole, and the sink took the replies to all of it.
   pub done : result ≡ status.Done → OfInput i (λ input. (left_now i ≡ Some []) × Puts o (said (lines input)))
-  -- Where the disk or the source failed, or too much came, it is the replies to some first lines, each of them whole.
+  -- If the disk or the source failed, or too much came, it is the replies to some first lines, each of them whole.
   pub first_lines : (result ≡ status.Disk) ⊎ EndsTaking result →
       OfInput i (λ input. (k : ℕ) × (k ≤ length (lines input)) × Puts o (said (take k (lines input))))
 
 -- A session: what a stop leaves
 
--- among so many first lines of an input are all that are answered, and none that did not come
+-- among the first k lines of an input are all that are answered, and none that did not come
 pub record IsAnswered (input rest : List ℕ) (taken taken' : Option (List ℕ)) (k : ℕ) : Type 0 where
   pub all_answered : IfSome taken (λ before. IsSomeAnd taken' (λ now. answered (drop (length before) now) ≤ k))
   pub came : k ≤ length (lines (taken_of input rest))
@@ -195,7 +195,7 @@ pub record IsAnswered (input rest : List ℕ) (taken taken' : Option (List ℕ))
 abbrev pub AreHeld : {K : Type 0} → SinkUse K → List ℕ → List ℕ → ℕ → Type 0
 AreHeld o input rest k = IsAnswered input rest (o.facts.taken o.old) (o.facts.taken o.new) k
 
--- an image spells the state after so many first lines
+-- an image spells the state after this many first lines
 abbrev pub SpellsFirst : (List Line → State) → List ℕ → ℕ → Image → Type 0
 SpellsFirst kept input k c = volume c ≡ Is (kept (take k (lines input)))
 
@@ -209,7 +209,7 @@ pub record Holds {D S K : Type 0} (kept : List Line → State) (d : DiskUse D) (
 -- What a stop leaves once a session ended with this status, and not by the disk.
 pub record HoldsExactly {D S K : Type 0} (kept : List Line → State) (result : Status)
     (d : DiskUse D) (i : SourceUse S) (o : SinkUse K) : Type 0 where
-  -- Where the source failed, or gave too much, the answered lines are held and no others.
+  -- If the source failed, or gave too much, the answered lines are held and no others.
   pub held_taking : EndsTaking result →
       OfInput i (λ input. OfAnswered o (λ count. (c : Image) → MayLeave d c → SpellsFirst kept input count c))
   -- Where the sink failed it is one and the same state, after some first lines as at the end of every session.
@@ -218,18 +218,18 @@ pub record HoldsExactly {D S K : Type 0} (kept : List Line → State) (result : 
 
 -- A session: when each status comes
 
--- How a session in batches of so many replies ends, and how much of the input it takes, whatever reads tell.
+-- How a session in batches of `batch` replies ends, and how much of the input it takes, whatever reads tell.
 pub record Ends {S K : Type 0} (batch limit : ℕ) (result : Status) (i : SourceUse S) (o : SinkUse K) : Type 0 where
-  -- Where the source failed, or gave too much, fewer calls than a batch are unanswered of the lines that are ended among the first
+  -- If the source failed, or gave too much, fewer calls than a batch are unanswered of the lines that are ended among the first
   -- `limit` bytes taken.
   pub few : EndsTaking result →
       OfRest i (λ input rest. OfAnswered o (λ count. length (ended_lines (take limit (taken_of input rest))) < count + batch))
-  -- Memory is wanting only before anything was taken or put.
+  -- There is not enough memory only before anything was taken or sent.
   pub memory : result ≡ status.Memory → (i.new ≡ i.old) × (o.new ≡ o.old)
-  -- The source and the sink failed only where their counts rose.
+  -- The source and the sink failed only if their counts rose.
   pub source_failed : result ≡ status.Source → SourceRose i
   pub sink_failed : result ≡ status.Sink → SinkRose o
-  -- The input is too long exactly where more was taken than a session may, unless a call failed.
+  -- The input is too long exactly if more was taken than a session may, unless a call failed.
   pub too_long : result ≡ status.TooLong → OfRest i (λ input rest. limit + length rest < length input)
   pub within : (result ≡ status.Done) ⊎ (result ≡ status.Source) → TakesAtMost limit (left_at i) (left_now i)
   -- At each status no more is taken than that, and a piece.

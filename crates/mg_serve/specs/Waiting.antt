@@ -1,4 +1,4 @@
--- The replies that wait to be put.
+-- The replies that wait to be sent.
 use Rattle.std.specs.Prelude.{ℕ, List, []}
 
 -- their text, and how many they are

@@ -1,4 +1,4 @@
-// Lines are stepped in batches: a batch is committed, and then its replies are put.
+// Lines are stepped in batches: a batch is committed, and then its replies are sent.
 ghost use Rattle.std.specs.Prelude.{ℕ, ◌≡◌, ◌<◌, ◌≤◌, [], ◌∷◌, Err, IfErr, IsTrue, OnOk};
 ghost use Rattle.mg_disk.specs.Stops.{NothingPending};
 ghost use Rattle.mg_serve.specs.Machines.{Closes, FailsToClose, Halts, IsInside, Runs};
@@ -14,10 +14,10 @@ use mg_io::{Sink, put_all};
 use mg_model::{Line, Steps};
 use std::sync::ledger::Ledger;
 
-/// A batch closes above so many staged blocks, so that one line more has room.
+/// A batch closes above this number of staged blocks, so that one line more has room.
 pub const STAGED_LIMIT: usize = 28;
 
-/// The batch closes: its changes are committed, and then its replies are put in one call of `put_all`.
+/// The batch closes: its changes are committed, and then its replies are sent in one call of `put_all`.
 pub(crate) fn close<M: Machine, D: Disk, K: Sink>(
     machine: &mut M,
     disk: &mut D,
@@ -53,7 +53,7 @@ pub(crate) fn close<M: Machine, D: Disk, K: Sink>(
     }
 }
 
-/// One line is stepped, and its reply waits. The batch closes where it is full, or where more than 28 blocks are staged.
+/// One line is stepped, and its reply waits. The batch closes if it is full, or if more than 28 blocks are staged.
 pub(crate) fn take_line<M: Machine, D: Disk, K: Sink, L: Ledger>(
     machine: &mut M,
     disk: &mut D,

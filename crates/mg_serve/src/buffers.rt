@@ -1,4 +1,4 @@
-// The replies that wait to be put.
+// The replies that wait to be sent.
 ghost use Rattle.std.specs.Prelude.{◌≡◌, ◌+◌, ◌<◌, ◌≤◌, ◌++◌, IfOk, length, vec_capacity, vec_len};
 ghost use Rattle.mg_model.specs.Print.{reply_line};
 ghost use Rattle.mg_serve.specs.Waiting.{no_replies};
@@ -13,10 +13,10 @@ use std::marker::Model;
 /// How many replies may wait.
 pub const BATCH_LIMIT: u64 = 64;
 
-/// Room for so many lines of 256 bytes.
+/// Room for 64 lines of 256 bytes.
 const ROOM: usize = 64 * 256;
 
-/// Replies that were made and are not put yet, at most [`BATCH_LIMIT`] of them, each as its line. All memory for them is
+/// Replies that were made and are not sent yet, at most [`BATCH_LIMIT`] of them, each as its line. All memory for them is
 /// taken by [`Buffers::new`].
 #[derive(Drop)]
 pub struct Buffers {
@@ -42,7 +42,7 @@ impl Buffers {
     ///
     /// # Errors
     ///
-    /// `AllocError` where the memory can't be had.
+    /// `AllocError` if the memory can't be had.
     pub fn new(alloc: Global) -> Result<Buffers, AllocError>
         ensures { IfOk result (λ buffers. buffers ≡ no_replies) }
     {
@@ -53,7 +53,7 @@ impl Buffers {
         })
     }
 
-    /// One reply more waits, behind the others.
+    /// One reply more waits, after the others.
     pub fn add(&mut self, reply: &Reply)
         requires fewer_than_64_waiting { self.old.count < 64 }
         requires slots { HasFewSlots reply.now }
@@ -98,7 +98,7 @@ impl Buffers {
     }
 }
 
-/// Puts a text behind those that wait; there is room for it.
+/// Adds a text after those that wait; there is room for it.
 fn put(bytes: &mut Vec<u8>, text: &[u8])
     requires { vec_len bytes.old + length text.now ≤ vec_capacity bytes.old }
     ensures text { bytes.new.items ≡ bytes.old.items ++ text.now }

@@ -11,7 +11,7 @@ pub enum Ended {
     /// A take failed.
     #[error("a call of the source failed")]
     Source,
-    /// A put failed.
+    /// A `put` failed.
     #[error("a call of the sink failed")]
     Sink,
     /// More bytes came than a session may take.

@@ -101,7 +101,7 @@ pub(crate) fn take_bytes<M: Machine, D: Disk, K: Sink, L: Ledger>(
     }
 }
 
-// The bytes before the first newline and those behind it; None where there is none.
+// The bytes before the first newline and those after it; None if there is none.
 fn next_ended(bytes: &[u8]) -> Option<(&[u8], &[u8])>
     ensures none { IfNone result (list_any is_newline bytes.now ≡ false) }
     ensures line { IfSome result (λ p. list_any is_newline p.0.now ≡ false) }
@@ -115,7 +115,7 @@ fn next_ended(bytes: &[u8]) -> Option<(&[u8], &[u8])>
     }
 }
 
-// How many bytes stand before the first newline.
+// How many bytes are before the first newline.
 fn before_newline(bytes: &[u8]) -> usize
     ensures count { result ≡ prefix_len (λ b. not (is_newline b)) bytes.now }
     ensures within { result ≤ length bytes.now }

@@ -1,14 +1,15 @@
 //! The loop from bytes to replies, over any machine.
 //!
 //! A [`Machine`] steps a line and commits what lines changed. [`serve`] cuts the source's bytes at newlines, has a machine step
-//! each line, and puts the replies in their order, batch by batch: a batch is committed, and then its replies are put. [`run`]
-//! takes the memory for the replies and tells how the session ended.
+//! each line, and sends the replies in their order, batch by batch: a batch is committed, and then its replies are sent. [`run`]
+//! takes the memory for the replies and returns how the session ended.
 //!
-//! What the layer above learns stands on these two calls, for every machine, disk, source and sink, those that fail at any call
-//! among them: what the sink took, how much the source gave, what the disk holds and what a stop may leave of it at each moment,
-//! and when each status comes. A machine is told by two functions of the lines to come: what it says to them, and what it keeps.
+//! What the layer above learns is in the contracts of these two calls, for every machine, disk, source and sink, those that
+//! fail at any call among them: what the sink took, how much the source gave, what the disk holds and what a stop may leave of it
+//! at each moment, and when each status comes. A machine is described by two functions of the lines to come: what it says to
+//! them, and what it keeps.
 //!
-//! The definitions stand in `specs/`: `Sessions` (what a session keeps) and `Serving` (the record of the two calls); for the
+//! The definitions are in `specs/`: `Sessions` (what a session keeps) and `Serving` (the record of the two calls); for the
 //! functions inside `Machines` (lines between two points), `Waiting` (replies that wait), `Incoming` (bytes and the lines that they
 //! end) and `Readings` (the ends of a session).
 #![tactic(auto)]

@@ -18,8 +18,8 @@ use std::sync::ledger::Ledger;
 
 /// A machine that steps lines over a disk and commits what they changed.
 ///
-/// What it is, is told by two functions of the lines to come: the text of its replies to them, and the state of its volume
-/// after them. A session is told by these two alone.
+/// What it is, is given by two functions of the lines to come: the text of its replies to them, and the state of its volume
+/// after them. A session depends on these two alone.
 pub trait Machine {
     /// Whether it may be called. After a commit that failed it may not.
     ghost is_live: { Self → Bool };
@@ -33,17 +33,17 @@ pub trait Machine {
     /// It belongs to what the disk holds now.
     ghost StandsOn: { (D : Type 0) → Ghosts D → Self → D → Type 0 };
 
-    /// The text of its replies to these lines, where reads give this image.
+    /// The text of its replies to these lines, if reads give this image.
     ghost said: { Self → Image → List Line → List ℕ };
 
     /// The state of its volume after these lines.
     ghost kept: { Self → Image → List Line → State };
 
-    /// What else it tells of lines that were stepped: from this machine and image, these lines, with the counter of words
+    /// What else it says of lines that were stepped: from this machine and image, these lines, with the counter of words
     /// before them and now, to this machine.
     ghost Stepped: { Self → Image → List Line → ℕ → ℕ → Self → Type 0 };
 
-    /// The same where the last of the lines failed.
+    /// As `Stepped`, if the last of the lines failed.
     ghost StoppedIn: { Self → Image → List Line → ℕ → ℕ → Self → Type 0 };
 
     /// What holds of each machine that stands on a disk. Nothing is done.
@@ -62,7 +62,7 @@ pub trait Machine {
     ///
     /// # Errors
     ///
-    /// [`Failed`] comes only where a call of the disk failed; what the machine says and keeps is then lost to the session.
+    /// [`Failed`] comes only if a call of the disk failed; what the machine says and keeps is then lost to the session.
     fn step<D: Disk, L: Ledger>(
         &mut self,
         disk: &mut D,
@@ -90,7 +90,7 @@ pub trait Machine {
     ///
     /// # Errors
     ///
-    /// [`Failed`] comes only where a call of the disk failed; a stop then leaves the state of before or the new one, and the
+    /// [`Failed`] comes only if a call of the disk failed; a stop then leaves the state of before or the new one, and the
     /// machine is not live.
     fn commit<D: Disk>(&mut self, disk: &mut D) -> Result<(), Failed>
         requires live { IsTrue (is_live self.old) }

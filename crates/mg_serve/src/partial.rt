@@ -11,7 +11,7 @@ use mg_text::read_line;
 use std::marker::Model;
 
 /// The bytes of a line whose newline has not come yet. Of a line that is too long to be one, no more than its first 257
-/// bytes are kept, which tell as much as all of it.
+/// bytes are kept, which say as much as all of it.
 #[derive(Drop)]
 pub struct PartialLine {
     bytes: ArrayVec<u8, 257>,
@@ -39,7 +39,7 @@ impl PartialLine {
         }
     }
 
-    /// A byte of the line, which is no newline, came. Whatever comes behind it, the lines are the same.
+    /// A byte of the line, which is no newline, came. Whatever comes after it, the lines are the same.
     pub fn add(&mut self, b: u8)
         requires { is_newline b ≡ false }
         ensures same { (rest : List ℕ) → lines (self.old ++ b ∷ rest) ≡ lines (self.new ++ rest) }
@@ -48,7 +48,7 @@ impl PartialLine {
         let _ = self.bytes.try_push(b);
     }
 
-    /// Bytes of the line, none of which is a newline, came. Whatever comes behind them, the lines are the same.
+    /// Bytes of the line, none of which is a newline, came. Whatever comes after them, the lines are the same.
     pub fn add_all(&mut self, bytes: &[u8])
         requires { list_any is_newline bytes.now ≡ false }
         ensures same { (rest : List ℕ) → lines (self.old ++ (bytes.now ++ rest)) ≡ lines (self.new ++ rest) }
@@ -67,7 +67,7 @@ impl PartialLine {
         let _ = self.bytes.len();
     }
 
-    /// The rest of the line and its newline came: what the line spells. A line that came whole is read where it stands. The
+    /// The rest of the line and its newline came: what the line spells. A line that came whole is read where it is. The
     /// next line begins with nothing.
     pub fn finish_with(&mut self, bytes: &[u8]) -> Option<Line>
         requires { list_any is_newline bytes.now ≡ false }

@@ -15,13 +15,13 @@ use mg_io::{PIECE, Sink, Source};
 use mg_model::Steps;
 use std::sync::ledger::Ledger;
 
-/// Reads lines to the end of the source, and has a machine step them and put their replies, up to a limit on the bytes. What
+/// Reads lines to the end of the source, and has a machine step them and send their replies, up to a limit on the bytes. What
 /// waits in `owed` at first is dropped.
 ///
 /// # Errors
 ///
-/// [`Ended::Disk`], [`Ended::Source`] and [`Ended::Sink`] come only where a call of that object failed, and
-/// [`Ended::TooLong`] where more than `limit` bytes were taken. After a fault of the source and too long an input the open
+/// [`Ended::Disk`], [`Ended::Source`] and [`Ended::Sink`] come only if a call of that object failed, and
+/// [`Ended::TooLong`] if more than `limit` bytes were taken. After a fault of the source and too long an input the open
 /// batch is left as it is. The machine is then live and stands on the disk, except after [`Ended::Disk`].
 pub(crate) fn serve_lines<M: Machine, D: Disk, S: Source, K: Sink, L: Ledger>(
     machine: &mut M,

@@ -22,16 +22,16 @@ use std::sync::ledger::Ledger;
 /// The bytes that a session may take.
 const INPUT: u64 = 1 << 32;
 
-/// Reads lines to the end of the source, has a machine step them and puts its replies in batches of at most 64, up to a
+/// Reads lines to the end of the source, has a machine step them and sends its replies in batches of at most 64, up to a
 /// limit on the bytes. What waits in `owed` at first is dropped.
 ///
-/// A batch closes with `batch` replies, where more than 28 blocks are staged, or at the end of the input: it is committed,
-/// and then its replies are put in one call of `put_all`.
+/// A batch closes with `batch` replies, if more than 28 blocks are staged, or at the end of the input: it is committed,
+/// and then its replies are sent in one call of `put_all`.
 ///
 /// # Errors
 ///
-/// [`Ended::Disk`], [`Ended::Source`] and [`Ended::Sink`] come only where a call of that object failed, and
-/// [`Ended::TooLong`] where more than `limit` bytes were taken. After a failed step, a fault of the source and too long an
+/// [`Ended::Disk`], [`Ended::Source`] and [`Ended::Sink`] come only if a call of that object failed, and
+/// [`Ended::TooLong`] if more than `limit` bytes were taken. After a failed step, a fault of the source and too long an
 /// input the open batch is neither committed nor answered; after a failed commit its lines may have been kept or not; after
 /// a fault of the sink they were kept. The machine is then live, except after a failed commit, and stands on the disk, except
 /// after [`Ended::Disk`].
@@ -56,13 +56,13 @@ pub fn serve<M: Machine, D: Disk, S: Source, K: Sink, L: Ledger>(
         (source_use S.Source source.old source.new) (sink_use K.Sink sink.old sink.new) steps.old steps.new }
     ensures disk { DiskCallsBy D.Disk disk.old disk.new (result ≡ Err Ended.Disk) }
 
-    // Where no call failed and the input is not too long, all is done.
+    // If no call failed and the input is not too long, all is done.
     ensures complete { (CountRose D.Disk disk.old disk.new → ⊥)
         → (Rose (S.faults source.old) (S.faults source.new) (S.is_spent source.new) → ⊥)
         → (Rose (K.faults sink.old) (K.faults sink.new) (K.is_spent sink.new) → ⊥)
         → IsWithin limit (S.left source.old) (IsOk result) }
 
-    // Unless the disk failed the machine is live and stands on the disk, and after a good end it may serve again. Where the
+    // Unless the disk failed the machine is live and stands on the disk, and after a good end it may serve again. If the
     // disk failed and the machine is live, no commit failed, and the answered lines are held and no others.
     ensures live { UnlessDisk result (IsTrue (M.is_live machine.new)) }
     ensures stands { UnlessDisk result (M.StandsOn D D.Disk machine.new disk.new) }
@@ -78,8 +78,8 @@ pub fn serve<M: Machine, D: Disk, S: Source, K: Sink, L: Ledger>(
     serve_lines(machine, disk, source, sink, owed, batch, limit, steps)
 }
 
-/// Serves the source's lines to its end, in batches of so many replies, and tells how that ended. The memory for the replies
-/// is taken first; [`Status::Memory`], where it can't be had, leaves all as it was.
+/// Serves the source's lines to its end, in batches of `batch` replies, and returns how that ended. The memory for the replies
+/// is taken first; [`Status::Memory`], if it can't be had, leaves all as it was.
 pub fn run<M: Machine, D: Disk, S: Source, K: Sink, L: Ledger>(
     alloc: Global,
     machine: &mut M,

@@ -3,7 +3,7 @@ ghost use Rattle.std.specs.Prelude.{◌≡◌};
 ghost use Rattle.mg_serve.specs.Sessions.{code_of};
 
 /// How the program ends.
-#[derive(Clone, Copy, Debug, PartialEq, Eq)]
+#[derive(Clone, Copy, PartialEq, Eq)]
 pub enum Status {
     /// The command was carried out.
     Done,
@@ -11,7 +11,7 @@ pub enum Status {
     Usage,
     /// The disk holds no volume.
     NoVolume,
-    /// Memory was wanting.
+    /// There was not enough memory.
     Memory,
     /// A call of the disk failed.
     Disk,

@@ -78,7 +78,7 @@ paid-more objects i d row under is n =
     let e = ap (λ (r : ObjectRow). share r n) is in
     omega arith
 
--- another row of an object stands where the old one stood
+-- another row of an object is where the old one was
 other-based : (row : ObjectRow) (objects : List (ℕ × ObjectRow)) → All (λ (o : ℕ × ObjectRow). row.base < o.1.base) objects → with_row row objects ≡ objects
 other-based row [] above = refl
 other-based row (o ∷ objects) above =

@@ -1,4 +1,4 @@
--- The pages of objects: they lie one behind the other, and what a change of the objects makes of them.
+-- The pages of objects: they lie one after another, and what a change of the objects makes of them.
 use Rattle.std.specs.Prelude.{◌≡◌, ◌+◌, ◌*◌, ◌/◌, ◌<◌, ◌≤◌, ◌==◌, ℕ, suc, true, false, List, [], ◌++◌, ◌∷◌, All, Some, None, filter, find, if◌then◌else◌, length, map, nat_lt, not, sum_by, take}
 use Rattle.std.proofs.Common.{refl, sym, ap, ◌∙◌, subst, ⊎_elim, arith, get_or}
 use Rattle.std.proofs.lemmas.Bool.{cases_Bool, cond-false, cond-true, eqb-true, ne_eqb}
@@ -53,7 +53,7 @@ spans-placed (o ∷ rows) = ap (λ spans. (page_of o.1, o.1.pages) ∷ spans) (s
 pub same-spans : (objects : List Object) (rows : List (ℕ × ObjectRow)) → AreRowsOf objects rows → spans_of objects ≡ spans_in rows
 same-spans objects rows same = spans-rows objects ∙ ap (map (λ (row : ObjectRow). (page_of row, row.pages))) same ∙ sym (spans-placed rows)
 
--- a row in its place stands between others
+-- a row in its place is between others
 pub record Between (new : ℕ × ObjectRow) (without with_it : List (ℕ × ObjectRow)) : Type 0 where
   pub before : List (ℕ × ObjectRow)
   pub behind : List (ℕ × ObjectRow)
@@ -74,7 +74,7 @@ between-into new (o ∷ objects) = ⊎_elim here (later (between-into new object
     later rest is =
         subst (λ os. Between new (o ∷ objects) os) (sym (cond-false (nat_lt new.1.base o.1.base) (new ∷ o ∷ objects) (o ∷ into_place new objects) is)) (between-cons new o objects (into_place new objects) rest)
 
--- objects behind another have larger bases
+-- objects after another have larger bases
 pub bases-rise : (o : ℕ × ObjectRow) (objects : List (ℕ × ObjectRow)) → AreApart (o ∷ objects) → All (λ (x : ℕ × ObjectRow). IsObjectRow x.1) (o ∷ objects) → All (λ (x : ℕ × ObjectRow). o.1.base < x.1.base) objects
 bases-rise o objects apart rows =
     λ k d under.
@@ -128,7 +128,7 @@ between-without base gone (o ∷ objects) apart rows found = ⊎_elim here (late
         (sym (cond-true (not (o.1.base == base)) (o ∷ filter (λ (o : ℕ × ObjectRow). not (o.1.base == base)) objects) (filter (λ (o : ℕ × ObjectRow). not (o.1.base == base)) objects) (ap not is)))
         (between-cons gone o (filter (λ (o : ℕ × ObjectRow). not (o.1.base == base)) objects) objects (again (sym (cond-false (o.1.base == base) (Some o) (find (λ (o : ℕ × ObjectRow). o.1.base == base) objects) is) ∙ found)))
 
--- the pages of objects between which one stands
+-- the pages of objects between which one is
 pub spans-between : (new : ℕ × ObjectRow) (without with_it : List (ℕ × ObjectRow)) (b : Between new without with_it)
     → (spans_in without ≡ spans_in b.before ++ spans_in b.behind) × (spans_in with_it ≡ spans_in b.before ++ (page_of new.1, new.1.pages) ∷ spans_in b.behind)
 spans-between new without with_it b =

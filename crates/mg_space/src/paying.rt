@@ -13,7 +13,7 @@ pub(crate) fn add(bank: &mut Bank, row: &ObjRow)
     ensures pages { (n : ℕ) → pages_at bank.new.pages n ≡ pages_at bank.old.pages n + share row.now n }
     ensures accounts { bank.new.accounts ≡ bank.old.accounts }
 {
-    // It tells that the row keeps its ranges.
+    // This says that the row keeps its ranges.
     row.keep_rules();
     let account = row.account();
     let more = row.pages();
@@ -27,7 +27,7 @@ pub(crate) fn subtract(bank: &mut Bank, row: &ObjRow)
     ensures pages { (n : ℕ) → pages_at bank.old.pages n ≡ pages_at bank.new.pages n + share row.now n }
     ensures accounts { bank.new.accounts ≡ bank.old.accounts }
 {
-    // It tells that the row keeps its ranges.
+    // This says that the row keeps its ranges.
     row.keep_rules();
     let account = row.account();
     let less = row.pages();

@@ -43,7 +43,7 @@ impl Model for Space {
 }
 
 impl Space {
-    /// The objects of a table of at most 4,096 places, which has room for 4,096 and is kept as it is. There are none where
+    /// The objects of a table of at most 4,096 places, which has room for 4,096 and is kept as it is. There are none if
     /// two of its rows share a page. All memory that they, and the gaps between them, will need beside it is taken here.
     pub fn of(alloc: Global, table: Vec<Option<ObjRow>>) -> Result<Option<Space>, AllocError>
         requires at_most_4096_rows { length table.items ≤ object_limit }
@@ -97,11 +97,12 @@ impl Space {
         self.objects.get_ref(base)
     }
 
-    /// The object that has this address. That of rank `near` is looked at first, and the rank of the one that is found is there then.
-    pub fn covering_near(&self, a: u64, near: &mut usize) -> Option<&ObjRow>
-        ensures { option_copied result ≡ option_map (λ o. o.1) (find (λ o. covers o.1 a) self.now) }
+    /// The object that has this address. The object of rank `near` is looked at first, and `near` is then the rank of the
+    /// object that is found.
+    pub fn covering_near(&self, address: u64, near: &mut usize) -> Option<&ObjRow>
+        ensures { option_copied result ≡ option_map (λ o. o.1) (find (λ o. covers o.1 address) self.now) }
     {
-        self.objects.covering_near(a, near)
+        self.objects.covering_near(address, near)
     }
 
     /// How many pages all objects have.
@@ -120,7 +121,7 @@ impl Space {
         bill(bank, &self.objects);
     }
 
-    /// The lowest page from which on so many pages, 1 to 1024, meet no object. All objects have at most 65,536 pages.
+    /// The lowest page from which on `pages` pages, 1 to 1024, meet no object. All objects have at most 65,536 pages.
     pub fn first(&self, pages: u64) -> u64
         requires at_least_1_page { 1 ≤ pages }
         requires at_most_1024_pages { pages ≤ 1024 }
@@ -172,8 +173,8 @@ impl Space {
         gone
     }
 
-    /// Another row for the object with its base, which has as many pages, perhaps of another payer. It stands in the same
-    /// place, and gives that. The bank keeps for how many pages each account pays.
+    /// Another row for the object with its base, which has as many pages, perhaps of another payer. It is in the same
+    /// place, which is given back. The bank keeps for how many pages each account pays.
     pub fn update(&mut self, row: ObjRow, bank: &mut Bank) -> u64
         requires there { list_any (λ o. o.1.base == row.base) self.old ≡ true }
         requires pages { All (λ o. o.1.base ≡ row.base → o.1.pages ≡ row.pages) self.old }

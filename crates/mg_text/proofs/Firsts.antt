@@ -7,7 +7,7 @@ use Rattle.mg_model.specs.Words.{below_word, hex_part, is_blank, value_of_digits
 use Rattle.mg_text.specs.Fronts.{before_blank, first_number, from_blank}
 use Rattle.mg_text.specs.PieceLemmas.{pieces-found, pieces-lacking}
 
--- what is behind a number, as words
+-- what comes after a number, as words
 pub behind-words : {X : Type 0} (f : X → ℕ × List ℕ) (r : Option X) (behind : List ℕ) (o : Option ℕ) → option_map f r ≡ option_map {U = ℕ × List ℕ} (λ n. (n, behind)) o
     → option_map {U = ℕ × List (List ℕ)} (λ x. ((f x).0, words (f x).1)) r ≡ option_map (λ n. (n, words behind)) o
 behind-words f None behind None e = refl

@@ -1,4 +1,4 @@
--- The digits at the front of bytes, and the word that they stand in.
+-- The digits at the front of bytes, and the word that they are in.
 use Rattle.std.proofs.Common.{◌≡◌, ℕ, zero, suc, not, nat_lt, min, ◌⊎◌, ◌+◌, ◌*◌, ◌^◌, ◌<◌, ◌≤◌, ◌&&◌, nat_le, Bool, true, false, List, [], ◌∷◌, Option, Some, None, length, get_or, take, drop, if◌then◌else◌, option_map, refl, ap, sym, ◌∙◌, arith}
 use Rattle.std.proofs.lemmas.List.{drop_more, length-take-le, take_all}
 use Rattle.std.specs.Prelude.{is_some}
@@ -42,9 +42,6 @@ pub front-more : (base i d : ℕ) (xs : List ℕ) → i < length xs → Some d �
     → prefix_len (λ b. is_some (digit_of base b)) (drop i xs) ≡ 1 + prefix_len (λ b. is_some (digit_of base b)) (drop (i + 1) xs)
 front-more base i d xs h e = prefix_len-drop_yes (λ b. is_some (digit_of base b)) xs i 0 h (ap is_some (sym e))
 
-pub digit-small : (base b d : ℕ) → Some d ≡ digit_of base b → d < 16
-digit-small base b d e = grind (arith, nat_tests)
-
 -- more digits than are read
 pub front-long : (base most : ℕ) (xs : List ℕ) → most < prefix_len (λ b. is_some (digit_of base b)) xs → below_word (value_of_digits base most (digits_front base xs)) ≡ None
 front-long base most xs long =
@@ -55,7 +52,7 @@ front-long base most xs long =
         → below_word (if nat_le 1 (length (digits_front base xs)) && nat_le (length (digits_front base xs)) most then value_from base 0 (digits_front base xs) else None) ≡ None
     long_case v t h = grind (arith, nat_tests)
 
--- so many as are read at most have been read, and none or more stand there
+-- as many digits as are read at most have been read, and there are none, or more follow
 past_case : (base most i rest : ℕ) (xs : List ℕ) (v : Bool) → nat_lt most (prefix_len (λ b. is_some (digit_of base b)) xs) ≡ v
     → prefix_len (λ b. is_some (digit_of base b)) xs ≡ i + rest → min (length xs) most ≤ i → (i ≡ 0) ⊎ (0 < rest)
     → below_word (value_of_digits base most (digits_front base xs)) ≡ None
@@ -147,7 +144,7 @@ blank-later base most k xs rest count back some =
     ap (λ o. option_map (λ n. (n, from_blank xs)) o)
     (word-longer base most (prefix_len (λ b. not (is_blank b)) xs) xs (omega (arith, run-digits base xs, more, some)) (prefix_len-le-length (λ b. not (is_blank b)) xs))
 
--- the same of a word that is given alone
+-- the same lemmas for a word that is given alone
 pub word-no : (base most : ℕ) (xs : List ℕ) → None ≡ below_word (value_of_digits base most (digits_front base xs)) → below_word (value_of_digits base most xs) ≡ None
 word-no base most xs e =
     ap (λ ys. below_word (value_of_digits base most ys)) (sym (take_all (length xs) xs (omega arith)))

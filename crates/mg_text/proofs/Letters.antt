@@ -1,4 +1,4 @@
--- How the rights of letters go on.
+-- The rights of letters, one letter more.
 use Rattle.std.proofs.Common.{◌≡◌, ℕ, ◌+◌, ◌/◌, ◌%◌, ◌<◌, ◌==◌, true, false, List, [], ◌∷◌, Option, Some, None, length, get_or, drop, if◌then◌else◌, refl, ap, sym, ◌∙◌, add-one, arith, drop-cons, inl, inr, ◌≤◌, ◌↔◌, IsSome, IfSome}
 use Rattle.std.proofs.lemmas.List.{drop_all}
 use Rattle.std.proofs.lemmas.Bool.Decides.{nat_tests}

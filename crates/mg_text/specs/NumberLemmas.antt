@@ -20,7 +20,7 @@ pub decimal-digits : (n : ℕ) → n < 2 ^ 64 → Digits (decimal n)
 decimal-digits n fits =
     decimal_by_steps (λ m ds. Digits ds) (λ m h. ((omega arith, omega arith), tt)) (λ m ds h ih. digits-append ds ((48 + m % 10) ∷ []) ih ((omega arith, omega arith), tt)) n fits
 
--- the value of digits goes on
+-- the value of digits, one digit more
 value_from-append : (base n m : ℕ) (xs : List ℕ) (d : ℕ) → value_from base n xs ≡ Some m → value_from base n (xs ++ d ∷ []) ≡ and_then (digit_of base d) (λ v. Some (m * base + v))
 value_from-append base n m [] d e = ap (λ o. and_then o (λ k. and_then (digit_of base d) (λ v. Some (k * base + v)))) e
 value_from-append base n m (x ∷ xs) d e = by_digit (λ v. value_from-append base (n * base + v) m xs d) (digit_of base x) e

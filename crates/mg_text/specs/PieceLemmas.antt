@@ -6,7 +6,7 @@ use Rattle.mg_model.specs.Words.{is_some_word, onto_first, split_at}
 abbrev pieces : (ℕ → Bool) → List ℕ → List (List ℕ)
 pieces cuts bytes = filter is_some_word (split_at cuts bytes)
 
--- how many bytes stand before the first cut
+-- how many bytes are before the first cut
 abbrev before : (ℕ → Bool) → List ℕ → ℕ
 before cuts bytes = prefix_len (λ b. not (cuts b)) bytes
 
@@ -26,7 +26,7 @@ grown : (b y : ℕ) (w : List ℕ) (rest ps : List (List ℕ)) → filter is_som
 grown b y w rest [] e = cc
 grown b y w rest (p ∷ ps) e = cc
 
--- a piece goes on to the first cut
+-- a piece continues up to the first cut
 goes_case : (cuts : ℕ → Bool) (b y : ℕ) (ys : List ℕ) (v : Bool) → cuts y ≡ v
     → filter is_some_word (onto_first y (split_at cuts ys)) ≡ (y ∷ take (before cuts ys) ys) ∷ pieces cuts (drop (before cuts ys) ys)
     → filter is_some_word (onto_first b (split_at cuts (y ∷ ys))) ≡ (b ∷ take (before cuts (y ∷ ys)) (y ∷ ys)) ∷ pieces cuts (drop (before cuts (y ∷ ys)) (y ∷ ys))
@@ -51,7 +51,7 @@ pieces-first : (cuts : ℕ → Bool) (ys : List ℕ) → 0 < before cuts ys → 
 pieces-first cuts [] some = absurd (omega (arith, some))
 pieces-first cuts (y ∷ ys) some = first_case cuts y ys (cuts y) refl some
 
--- nothing stands between the cuts
+-- nothing is between the cuts
 none_case : (cuts : ℕ → Bool) (b : ℕ) (xs : List ℕ) (v : Bool) → cuts b ≡ v → (before cuts (drop (prefix_len cuts xs) xs) ≡ 0 → pieces cuts xs ≡ [])
     → before cuts (drop (prefix_len cuts (b ∷ xs)) (b ∷ xs)) ≡ 0 → pieces cuts (b ∷ xs) ≡ []
 none_case cuts b xs true e ih none =
@@ -64,7 +64,7 @@ pieces-none : (cuts : ℕ → Bool) (xs : List ℕ) → before cuts (drop (prefi
 pieces-none cuts [] none = refl
 pieces-none cuts (b ∷ xs) none = none_case cuts b xs (cuts b) refl (pieces-none cuts xs) none
 
--- the cuts at the front, the piece behind them, and the rest
+-- the cuts at the front, the piece after them, and the rest
 pub pieces-found : (cuts : ℕ → Bool) (xs rest word more : List ℕ) (n m : ℕ) → n ≡ prefix_len cuts xs → rest ≡ drop n xs → m ≡ before cuts rest
     → word ≡ take m rest → more ≡ drop m rest → 0 < m → pieces cuts xs ≡ word ∷ pieces cuts more
 pieces-found cuts xs rest word more n m skipped back run front after some =

@@ -1,4 +1,4 @@
-// Numbers behind a call word.
+// Numbers after a call word.
 ghost use Rattle.std.specs.Prelude.{◌≡◌};
 ghost use Rattle.mg_model.specs.Lines.{four, one, three, two};
 ghost use Rattle.mg_model.specs.Words.{numbers_of, words};

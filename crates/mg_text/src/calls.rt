@@ -10,7 +10,7 @@ use crate::rights::read_rights;
 use crate::words::{is_word, next_word};
 use mg_model::{Call, Rights};
 
-/// The call of a call word, and of the arguments in the bytes behind it; None where no call has the word.
+/// The call of a call word and of the arguments in the bytes after it; None if no call has the word.
 pub fn read_call(word: &[u8], args: &[u8]) -> Option<Call>
     ensures { result ≡ call_by call_table word.now (words args.now) }
 {
@@ -23,8 +23,8 @@ pub fn read_call(word: &[u8], args: &[u8]) -> Option<Call>
     }
 }
 
-/// The same, of the other calls on objects, and of those that follow in the table. It is not inlined, so that the two most
-/// frequent calls don't pay for what it needs.
+/// The call of a call word and its arguments, of the rows of the table after `load` and `store`; None if none of these has
+/// the word. It is not inlined, so that the two most frequent calls don't pay for what it needs.
 #[inline(never)]
 fn object_call(word: &[u8], args: &[u8]) -> Option<Call>
     ensures { result ≡ call_by (drop 2 call_table) word.now (words args.now) }
@@ -71,7 +71,8 @@ fn object_call(word: &[u8], args: &[u8]) -> Option<Call>
     }
 }
 
-/// The same, of the calls of protection domains and threads, and of those that follow in the table.
+/// The call of a call word and its arguments, of the rows from the calls of protection domains on; None if none of these has
+/// the word.
 fn domain_call(word: &[u8], args: &[u8]) -> Option<Call>
     ensures { result ≡ call_by (drop 10 call_table) word.now (words args.now) }
 {
@@ -103,7 +104,7 @@ fn domain_call(word: &[u8], args: &[u8]) -> Option<Call>
     }
 }
 
-/// The same, of the bank's calls.
+/// The call of a call word and its arguments, of the rows of the bank's calls; None if none of these has the word.
 fn bank_call(word: &[u8], args: &[u8]) -> Option<Call>
     ensures { result ≡ call_by (drop 20 call_table) word.now (words args.now) }
 {
@@ -149,12 +150,12 @@ fn alone(call: Call, args: &[u8]) -> Call
 }
 
 /// A mask is a number of 8 bits.
-fn pdx(a: u64, mask: u64) -> Call
-    ensures { result ≡ pdx_of a mask }
+fn pdx(address: u64, mask: u64) -> Call
+    ensures { result ≡ pdx_of address mask }
 {
     if mask <= 255 {
         Call::Pdx {
-            a,
+            a: address,
             mask: mask as u8,
         }
     } else {
@@ -185,7 +186,7 @@ fn read_pwadd(args: &[u8]) -> Call
     }
 }
 
-/// The call of its parts, where each was read.
+/// The call of its parts, if each was read.
 fn pwadd(base: Option<u64>, rights: Option<Rights>, until: Option<Option<u64>>) -> Call
     ensures { result ≡ pwadd_of base rights until }
 {

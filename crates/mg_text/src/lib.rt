@@ -1,8 +1,8 @@
 //! Lines to calls, and replies to bytes.
 //!
 //! A line of the input is read in one pass, with its words as slices of it, and a reply is written into a buffer of 256
-//! bytes; neither allocates. What the layer above learns is an equation for each call: what was read or written is what
-//! the definitions in `mg_model` say (`Words`, `Lines`, `Print`).
+//! bytes; neither allocates. A layer above has an equation for each call: what was read or written is what the definitions
+//! in `mg_model` say (`Words`, `Lines`, `Print`).
 #![tactic(auto)]
 
 mod args;

@@ -11,14 +11,14 @@ use mg_model::{Call, Line};
 /// The most bytes that a line may have.
 const LINE_LIMIT: usize = 256;
 
-/// A line of no form.
+/// A line that is no known call.
 const BAD: Line = Line {
     thread: 0,
     call: Call::Bad,
 };
 
-/// The call that a line spells, given without its newline; None where the line has no words or is a note. A line of more
-/// than 256 bytes is `Bad`, whatever it holds, and so is one of no form.
+/// The call that a line spells, given without its newline; None if the line has no words or is a note. A line of more than
+/// 256 bytes is `Bad`, whatever it holds, and so is a line that is no known call.
 pub fn read_line(bytes: &[u8]) -> Option<Line>
     ensures { result ≡ line_of bytes.now }
 {
@@ -43,7 +43,7 @@ fn note(word: &[u8]) -> bool
     }
 }
 
-/// The line of a first word, and of the words in the bytes behind it.
+/// The line of a first word and of the words in the bytes after it.
 fn spelled(first: &[u8], more: &[u8]) -> Line
     ensures { result ≡ spelled_line first.now (words more.now) }
 {
@@ -56,7 +56,7 @@ fn spelled(first: &[u8], more: &[u8]) -> Line
     }
 }
 
-/// The line of a thread, and of the words in the bytes behind its number.
+/// The line of a thread and of the words in the bytes after its number.
 fn thread_call(thread: u64, more: &[u8]) -> Line
     ensures { result ≡ thread_line thread (words more.now) }
 {
@@ -72,7 +72,7 @@ fn thread_call(thread: u64, more: &[u8]) -> Line
     }
 }
 
-/// The line of a call word, and of the words in the bytes behind it.
+/// The line of a call word and of the words in the bytes after it.
 fn call_by(thread: u64, word: &[u8], args: &[u8]) -> Line
     ensures { result ≡ call_line thread word.now (words args.now) }
 {
@@ -92,7 +92,7 @@ fn line_with(thread: u64, call: Call) -> Line
     }
 }
 
-/// Whether a call word stands alone on its line, behind no thread's number.
+/// Whether a call word begins its line, with no thread's number before it.
 fn stands_alone(word: &[u8]) -> bool
     ensures { result ≡ is_among word.now lone_words }
 {

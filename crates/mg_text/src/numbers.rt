@@ -6,44 +6,44 @@ ghost use Rattle.mg_text.specs.Fronts.{digits_front, first_number, number_before
 
 use crate::words::{at_blank, blanks};
 
-/// What a digit to base 10 or 16 stands for, a letter in either case; None of any other byte.
-pub fn digit(base: u8, b: u8) -> Option<u8>
+/// The value of a digit to base 10 or 16, a letter in either case; None for any other byte.
+pub fn digit(base: u8, byte: u8) -> Option<u8>
     requires { (base ≡ 10) ⊎ (base ≡ 16) }
-    ensures { result ≡ digit_of base b }
+    ensures { result ≡ digit_of base byte }
 {
-    let d = b.wrapping_sub(b'0');
+    let d = byte.wrapping_sub(b'0');
     if d < 10 {
         return Some(d);
     }
-    match b {
-        b'a'..=b'f' if base == 16 => Some(b - b'a' + 10),
-        b'A'..=b'F' if base == 16 => Some(b - b'A' + 10),
+    match byte {
+        b'a'..=b'f' if base == 16 => Some(byte - b'a' + 10),
+        b'A'..=b'F' if base == 16 => Some(byte - b'A' + 10),
         _ => None,
     }
 }
 
-/// The number that a word spells, below `2^64`: 1 to 20 decimal digits, or `0x` and 1 to 16 hexadecimal ones. None of any
+/// The number that a word spells, below `2^64`: 1 to 20 decimal digits, or `0x` and 1 to 16 hexadecimal ones. None for any
 /// other word.
-pub fn read_number(w: &[u8]) -> Option<u64>
-    ensures { result ≡ number_of w.now }
+pub fn read_number(word: &[u8]) -> Option<u64>
+    ensures { result ≡ number_of word.now }
 {
-    match after_prefix(w) {
+    match after_prefix(word) {
         Some(digits) => value(16, 16, digits),
-        None => value(10, 20, w),
+        None => value(10, 20, word),
     }
 }
 
-/// What stands behind `0x`, if the word begins so.
-fn after_prefix(w: &[u8]) -> Option<&[u8]>
-    ensures { option_map (λ s. s.now) result ≡ hex_part w.now }
+/// The bytes after `0x`, if the word begins so.
+fn after_prefix(word: &[u8]) -> Option<&[u8]>
+    ensures { option_map (λ s. s.now) result ≡ hex_part word.now }
 {
-    match w {
+    match word {
         [b'0', b'x', digits @ ..] => Some(digits),
         _ => None,
     }
 }
 
-/// The number that the first word of these bytes spells, and the bytes behind that word; None where there is no word or it
+/// The number that the first word of these bytes spells, and the bytes after that word; None if there is no word or it
 /// spells no number.
 pub fn next_number(bytes: &[u8]) -> Option<(u64, &[u8])>
     ensures { option_map {U = ℕ × List (List ℕ)} (λ p. (p.0, words p.1.now)) result ≡ first_number (words bytes.now) }
@@ -103,7 +103,7 @@ fn leading(base: u8, most: usize, bytes: &[u8]) -> Option<(u64, usize)>
     }
 }
 
-/// Whether a digit stands at a place; none stands behind the last byte.
+/// Whether a digit is at a place; past the last byte there is none.
 fn digit_at(base: u8, bytes: &[u8], at: usize) -> bool
     requires base { (base ≡ 10) ⊎ (base ≡ 16) }
     requires within { at ≤ length bytes.now }
@@ -112,14 +112,14 @@ fn digit_at(base: u8, bytes: &[u8], at: usize) -> bool
     at < bytes.len() && digit(base, bytes[at]).is_some()
 }
 
-/// A number with one digit more behind it, if that is below `2^64`.
-fn with_digit(n: u64, base: u8, d: u8) -> Option<u64>
+/// A number with one digit more after it, if that is below `2^64`.
+fn with_digit(number: u64, base: u8, digit: u8) -> Option<u64>
     requires base { (base ≡ 10) ⊎ (base ≡ 16) }
-    requires digit { d < 16 }
-    ensures { result ≡ below_word (Some (n * base + d)) }
+    requires digit { digit < 16 }
+    ensures { result ≡ below_word (Some (number * base + digit)) }
 {
-    if n < 1 << 60 {
-        return Some(n * base as u64 + d as u64);
+    if number < 1 << 60 {
+        return Some(number * base as u64 + digit as u64);
     }
-    n.checked_mul(base as u64)?.checked_add(d as u64)
+    number.checked_mul(base as u64)?.checked_add(digit as u64)
 }

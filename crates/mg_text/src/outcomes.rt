@@ -52,7 +52,7 @@ pub fn print_numbers(
     push_text(out, b"\n");
 }
 
-/// Three numbers in decimal, each behind a space.
+/// Three numbers in decimal, each after a space.
 fn push_three(out: &mut ArrayVec<u8, 256>, first: u64, second: u64, third: u64)
     requires { array_vec_len out.old ≤ 128 }
     ensures text { out.new.items ≡ out.old.items ++ spaced (decimal first ∷ decimal second ∷ decimal third ∷ []) }

@@ -23,40 +23,40 @@ static PAIRS: [u8; 512] = *b"\
 /// The line of a reply.
 pub(crate) type Buffer = ArrayVec<u8, 256>;
 
-/// Writes a reply as a line, with its newline, into an empty buffer. Slots are at most 8, so every line fits: the longest,
-/// that of 8 slots, has 157 bytes.
-pub fn print_reply(r: &Reply, out: &mut ArrayVec<u8, 256>)
+/// Writes a reply as a line, with its newline, into an empty buffer. There are at most 8 slots, so every line fits: the
+/// longest, that of 8 slots, has 157 bytes.
+pub fn print_reply(answer: &Reply, out: &mut ArrayVec<u8, 256>)
     requires empty { out.old.items ≡ [] }
-    requires slots { HasFewSlots r.now }
-    ensures { out.new.items ≡ reply_line r.now }
+    requires slots { HasFewSlots answer.now }
+    ensures { out.new.items ≡ reply_line answer.now }
 {
-    push_reply(r, out);
+    push_reply(answer, out);
     out.push(b'\n');
 }
 
 /// The line of a word that was read, with its newline: what `print_reply` writes of `Value`.
-pub fn value_line(w: u64) -> [u8; 22]
-    ensures { result ≡ reply_line (reply.Value w) }
+pub fn value_line(word: u64) -> [u8; 22]
+    ensures { result ≡ reply_line (reply.Value word) }
 {
     let mut line = *b"ok 0x................\n";
-    line[5..21].copy_from_slice(&hex_digits(w));
+    line[5..21].copy_from_slice(&hex_digits(word));
     line
 }
 
 /// Writes a reply without its newline.
-fn push_reply(r: &Reply, out: &mut Buffer)
+fn push_reply(answer: &Reply, out: &mut Buffer)
     requires empty { out.old.items ≡ [] }
-    requires slots { HasFewSlots r.now }
-    ensures text { out.new.items ≡ reply_text r.now }
+    requires slots { HasFewSlots answer.now }
+    ensures text { out.new.items ≡ reply_text answer.now }
     ensures short { array_vec_len out.new < 256 }
 {
-    if let Reply::No(refusal) = r {
+    if let Reply::No(refusal) = answer {
         push_text(out, b"no ");
         push_text(out, refusal_word(*refusal));
         return;
     }
     push_text(out, b"ok");
-    match r {
+    match answer {
         Reply::No(_) | Reply::Done => {}
         Reply::Value(w) => push_word(out, *w),
         Reply::Count(n) => push_number(out, *n),
@@ -145,7 +145,7 @@ fn after_words(state: After) -> &'static [u8]
     }
 }
 
-/// Writes a text behind what the buffer holds.
+/// Writes a text after what the buffer holds.
 pub fn push_text(out: &mut ArrayVec<u8, 256>, text: &[u8])
     requires { array_vec_len out.old + length text.now ≤ 256 }
     ensures text { out.new.items ≡ out.old.items ++ text.now }
@@ -163,22 +163,22 @@ fn push_after(out: &mut Buffer, state: After)
     push_text(out, after_words(state));
 }
 
-/// Writes a space and a word in hexadecimal behind what the buffer holds: `0x` and 16 digits.
-pub fn push_word(out: &mut ArrayVec<u8, 256>, w: u64)
+/// Writes a space and a word in hexadecimal after what the buffer holds: `0x` and 16 digits.
+pub fn push_word(out: &mut ArrayVec<u8, 256>, word: u64)
     requires { array_vec_len out.old ≤ 200 }
-    ensures text { out.new.items ≡ out.old.items ++ spaced (hex_text w ∷ []) }
+    ensures text { out.new.items ≡ out.old.items ++ spaced (hex_text word ∷ []) }
     ensures short { array_vec_len out.new ≤ array_vec_len out.old + 19 }
 {
     push_text(out, b" 0x");
-    push_text(out, &hex_digits(w));
+    push_text(out, &hex_digits(word));
 }
 
 /// The hexadecimal digits of a word.
-fn hex_digits(w: u64) -> [u8; 16]
-    ensures { result ≡ hex_digits 16 w }
+fn hex_digits(word: u64) -> [u8; 16]
+    ensures { result ≡ hex_digits 16 word }
 {
     let mut digits = [b'0'; 16];
-    let mut rest = w;
+    let mut rest = word;
     for i in 0..8 {
         put_pair(rest % 256, &mut digits, 14 - 2 * i);
         rest /= 256;
@@ -186,7 +186,7 @@ fn hex_digits(w: u64) -> [u8; 16]
     digits
 }
 
-/// Puts the two digits of a byte at a place.
+/// Writes the two digits of a byte at a place.
 #[inline]
 fn put_pair(byte: u64, digits: &mut [u8; 16], at: usize)
     requires byte { byte < 256 }
@@ -210,13 +210,13 @@ fn push_words(out: &mut Buffer, ws: &[u64])
     }
 }
 
-/// Writes a space and a number in decimal behind what the buffer holds.
-pub fn push_number(out: &mut ArrayVec<u8, 256>, n: u64)
+/// Writes a space and a number in decimal after what the buffer holds.
+pub fn push_number(out: &mut ArrayVec<u8, 256>, number: u64)
     requires { array_vec_len out.old ≤ 200 }
-    ensures text { out.new.items ≡ out.old.items ++ spaced (decimal n ∷ []) }
+    ensures text { out.new.items ≡ out.old.items ++ spaced (decimal number ∷ []) }
     ensures short { array_vec_len out.new ≤ array_vec_len out.old + 21 }
 {
     let mut digits = itoa::Buffer::new();
     out.push(b' ');
-    push_text(out, digits.format(n).as_bytes());
+    push_text(out, digits.format(number).as_bytes());
 }

@@ -5,13 +5,13 @@ ghost use Rattle.mg_model.specs.StepwiseLemmas.{IsBit};
 
 use mg_model::Rights;
 
-/// The rights that a word of one to six letters out of `RWXDPO` spells, in any order; None of any other word, and where a
+/// The rights that a word of one to six letters out of `RWXDPO` spells, in any order; None for any other word, and if a
 /// letter comes twice.
-pub fn read_rights(w: &[u8]) -> Option<Rights>
-    ensures { result ≡ rights_of w.now }
+pub fn read_rights(word: &[u8]) -> Option<Rights>
+    ensures { result ≡ rights_of word.now }
 {
     let mut bits = 0u8;
-    for b in w {
+    for b in word {
         let weight = letter_bit(*b)?;
         if has_bit(bits, weight) {
             return None;
@@ -30,11 +30,11 @@ fn has_bit(bits: u8, bit: u8) -> bool
 }
 
 /// The bit of a letter out of `RWXDPO`.
-fn letter_bit(b: u8) -> Option<u8>
-    ensures value { result ≡ letter_weight b }
+fn letter_bit(letter: u8) -> Option<u8>
+    ensures value { result ≡ letter_weight letter }
     ensures bit { IfSome result (λ n. IsBit n) }
 {
-    match b {
+    match letter {
         b'R' => Some(1),
         b'W' => Some(2),
         b'X' => Some(4),

@@ -3,7 +3,7 @@ ghost use Rattle.std.specs.Prelude.{◌≡◌, ◌==◌, ◌≤◌, ◌∷◌, [
 ghost use Rattle.std.specs.List.{prefix_len};
 ghost use Rattle.mg_model.specs.Words.{is_blank, same_bytes, words};
 
-/// The first word of these bytes and what stands behind it; None where they have no word.
+/// The first word of these bytes and what comes after it; None if they have no word.
 pub fn next_word(bytes: &[u8]) -> Option<(&[u8], &[u8])>
     ensures none { IfNone result (words bytes.now ≡ []) }
     ensures split { IfSome result (λ p. words bytes.now ≡ p.0.now ∷ words p.1.now) }
@@ -25,7 +25,7 @@ pub(crate) fn blanks(bytes: &[u8]) -> usize
     bytes.iter().take_while(|b| blank(**b)).count()
 }
 
-/// How many bytes stand before the first blank.
+/// How many bytes are before the first blank.
 fn letters(bytes: &[u8]) -> usize
     ensures count { result ≡ prefix_len (λ b. not (is_blank b)) bytes.now }
     ensures within { result ≤ length bytes.now }
@@ -33,10 +33,10 @@ fn letters(bytes: &[u8]) -> usize
     bytes.iter().take_while(|b| !blank(**b)).count()
 }
 
-fn blank(b: u8) -> bool
-    ensures { result ≡ is_blank b }
+fn blank(byte: u8) -> bool
+    ensures { result ≡ is_blank byte }
 {
-    b == b' ' || b == b'\t' || b == b'\r'
+    byte == b' ' || byte == b'\t' || byte == b'\r'
 }
 
 /// Whether these bytes begin with a blank, or there are none.

@@ -1,4 +1,4 @@
--- Seats that were dropped group by group, and the marks behind that.
+-- Seats that were dropped group by group, and the marks after that.
 use Rattle.std.specs.Prelude.{◌≡◌, ◌≢◌, ◌≤◌, ◌<◌, ◌+◌, ◌*◌, ◌/◌, ◌==◌, ℕ, Bool, true, false, List, [], ◌∷◌, ◌||◌, if◌then◌else◌, length, replicate, slice_index_or, slice_set, take, ◌++◌, nat_lt, Option, Some, None}
 use Rattle.std.proofs.Common.{refl, sym, ap, subst, ◌∙◌, arith}
 use Rattle.std.proofs.lemmas.Bool.{cond-true, cond-false, eqb-true, eqb-false, eq-eqb, ne_eqb, ltb-true, ltb-false}
@@ -16,15 +16,6 @@ pub record GroupDropped (from to row : ℕ) (ended : Seat → Bool) (old new : L
   pub behind : (place : ℕ) → to ≤ place → slice_index_or new place None ≡ slice_index_or old place None
   pub size : length new ≡ length old
   pub apart : left ≡ false → (place : ℕ) → from ≤ place → place < to → (seat : Seat) → slice_index_or new place None ≡ Some seat → is_in_row row seat ≡ false
-
-pub group_none : (from row : ℕ) (ended : Seat → Bool) (seats : List (Option Seat)) → GroupDropped from from row ended seats seats false
-group_none from row ended seats = record {
-  within = λ place low high. absurd (omega arith);
-  before = λ place low. refl;
-  behind = λ place high. refl;
-  size = refl;
-  apart = λ none place low high. absurd (omega arith);
-}
 
 -- a seat more
 pub group_more : (from i row : ℕ) (ended : Seat → Bool) (old new : List (Option Seat)) (left : Bool) (kept : Option Seat) (more : Bool)
@@ -72,21 +63,6 @@ group_more from i row ended old new left kept more done low inside is was apart 
             let same : place ≡ i = omega arith in
             apart none seat (sym here ∙ subst (λ p. slice_index_or (slice_set new i kept) p None ≡ Some seat) same found)
 
--- a group of 16 is done
-pub group_done : (group row : ℕ) (ended : Seat → Bool) (old new : List (Option Seat)) (left : Bool) → GroupDropped (16 * group) (16 * group + 16) row ended old new left → (place : ℕ) → slice_index_or new place None ≡ (if place / 16 == group then unless_ended ended (slice_index_or old place None) else slice_index_or old place None)
-group_done group row ended old new left done place = by_group (place / 16 == group) refl
-  where
-    by_group : (v : Bool) → (place / 16 == group) ≡ v → slice_index_or new place None ≡ (if v then unless_ended ended (slice_index_or old place None) else slice_index_or old place None)
-    by_group true is = let same : place / 16 ≡ group = eqb-true (place / 16) group is in done.within place (omega arith) (omega arith)
-    by_group false is = by_side (eqb-false (place / 16) group is) (nat_lt place (16 * group)) refl
-      where
-        by_side : place / 16 ≢ group → (v : Bool) → nat_lt place (16 * group) ≡ v → slice_index_or new place None ≡ slice_index_or old place None
-        by_side other true lower = let less : place < 16 * group = ltb-true place (16 * group) lower in done.before place less
-        by_side other false lower = let more : 16 * group ≤ place = ltb-false place (16 * group) lower in done.behind place (omega arith)
-
-pub group_apart : (group row : ℕ) (ended : Seat → Bool) (old new : List (Option Seat)) (left : Bool) → GroupDropped (16 * group) (16 * group + 16) row ended old new left → left ≡ false → (place : ℕ) → place / 16 ≡ group → (seat : Seat) → slice_index_or new place None ≡ Some seat → is_in_row row seat ≡ false
-group_apart group row ended old new left done none place same seat found = done.apart none place (omega arith) (omega arith) seat found
-
 -- these seats of the first groups are dropped, and all are marked
 pub record RowDropped (groups : ℕ) (ended : Seat → Bool) (old new : List (Option Seat)) (marks : List Bool) : Type 0 where
   pub before : (place : ℕ) → place / 16 < groups → slice_index_or new place None ≡ unless_ended ended (slice_index_or old place None)
@@ -94,15 +70,6 @@ pub record RowDropped (groups : ℕ) (ended : Seat → Bool) (old new : List (Op
   pub size : length new ≡ 256
   pub marks_size : length marks ≡ 3072
   pub marked : AreMarked new marks
-
-pub row_none : (ended : Seat → Bool) (seats : List (Option Seat)) (marks : List Bool) → length seats ≡ 256 → length marks ≡ 3072 → AreMarked seats marks → RowDropped 0 ended seats seats marks
-row_none ended seats marks size marks_size marked = record {
-  before = λ place low. absurd (omega arith);
-  behind = λ place high. refl;
-  size = size;
-  marks_size = marks_size;
-  marked = marked;
-}
 
 pub row_done : (ended : Seat → Bool) (old new : List (Option Seat)) (marks : List Bool) → length old ≡ 256 → RowDropped 16 ended old new marks → new ≡ without ended old
 row_done ended old new marks long done =
@@ -118,7 +85,7 @@ some_left ended (Some other) seat is = by_end (ended other) is
     by_end true left = cc
     by_end false left = left
 
--- where the mark of a group is not set, none of its seats is ended
+-- when the mark of a group is not set, none of its seats is ended
 pub row_skipped : (group row : ℕ) (ended : Seat → Bool) (old new : List (Option Seat)) (marks : List Bool)
     → RowDropped group ended old new marks
     → ((seat : Seat) → ended seat ≡ true → is_in_row row seat ≡ true)
@@ -151,7 +118,7 @@ row_skipped group row ended old new marks done in_row unset = record {
         let kept : slice_index_or new place None ≡ slice_index_or old place None = done.behind place above in
         stays place same (slice_index_or new place None) refl ∙ ap (unless_ended ended) kept
 
--- a group more is dropped, and its mark is set where one that is left has the row
+-- a group more is dropped, and its mark is set if one that is left has the row
 pub row_more : (group row : ℕ) (ended : Seat → Bool) (old new seats : List (Option Seat)) (marks : List Bool) (left : Bool)
     → RowDropped group ended old new marks
     → group < 16
@@ -240,7 +207,7 @@ none_at none n place = by_size (nat_lt place n) refl
     by_size true within = get_or-replicate n place none none (ltb-true place n within)
     by_size false past = get_or_past (replicate n none) place none (subst (λ k. k ≤ place) (sym (length-replicate n none)) (ltb-false place n past))
 
--- where no seat is kept, all are marked
+-- when no seat is kept, all are marked
 pub none_marked : (seats : List (Option Seat)) (marks : List Bool) → seats ≡ replicate 256 None → AreMarked seats marks
 none_marked seats marks is = record { kept = λ place seat found. by_place place seat found }
   where

@@ -5,7 +5,7 @@ use Rattle.mg_model.specs.declared.replies.Reply.TheVariants.{No}
 use Rattle.mg_model.specs.declared.seats.Seat.{Seat}
 use Rattle.mg_vcache.specs.Seats.{without}
 
--- these are dropped, and none where the call is refused
+-- these are dropped, and none if the call is refused
 abbrev pub Drops : (Seat → Bool) → List (Option Seat) → List (Option Seat) → Reply → Type 0
 Drops ended old new (No word) = new ≡ old
 Drops ended old new other = new ≡ without ended old

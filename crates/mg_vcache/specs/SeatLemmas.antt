@@ -28,16 +28,16 @@ left_one ended P Q keeps (Some seat) holds = by_end (ended seat) refl
     by_end true is = tt
     by_end false is = keeps seat is holds
 
--- a drop keeps what holds of each seat, where it is kept of those that are not dropped
+-- a drop keeps what holds of each seat, if it is kept of those that are not dropped
 pub each_without : (ended : Seat → Bool) (P Q : Seat → Type 0) → ((seat : Seat) → ended seat ≡ false → P seat → Q seat) → (seats : List (Option Seat)) → EachKept P seats → EachKept Q (without ended seats)
 each_without ended P Q keeps seats all =
     All-map (λ kept. IfSome kept Q) (λ kept. unless_ended ended kept) seats (All-weaker (λ kept. IfSome kept P) (λ kept. IfSome (unless_ended ended kept) Q) (λ kept holds. left_one ended P Q keeps kept holds) seats all)
 
--- where a step ends these seats alone, each is backed behind it once these are dropped
+-- when a step ends these seats alone, each is backed after it once these are dropped
 pub backed_without : (ended : Seat → Bool) (old new : State) (seats : List (Option Seat)) → KeepsBacked ended old new → AllBacked old seats → AllBacked new (without ended seats)
 backed_without ended old new seats keeps all = each_without ended (λ seat. IsBacked old seat) (λ seat. IsBacked new seat) keeps seats all
 
--- where it ends none, each is backed still
+-- when it ends none, each is backed still
 pub backed_still : (old new : State) (seats : List (Option Seat)) → KeepsBacked by_none old new → AllBacked old seats → AllBacked new seats
 backed_still old new seats keeps all = All-weaker (λ kept. IfSome kept (λ seat. IsBacked old seat)) (λ kept. IfSome kept (λ seat. IsBacked new seat)) (λ kept holds. still kept holds) seats all
   where
@@ -61,7 +61,7 @@ each_at P seats i all = by_place (nat_lt i (length seats)) refl
     by_place true is = all i None (ltb-true i (length seats) is)
     by_place false is = let past : length seats ≤ i = ltb-false i (length seats) is in subst (λ o. IfSome o P) (sym (get_or_past seats i None past)) tt
 
--- rights are told apart by their numbers
+-- rights are distinguished by their numbers
 right_at : ℕ → Right
 right_at zero = right.R
 right_at (suc zero) = right.W
@@ -100,7 +100,7 @@ kept_backed state seats key all kept = by_seat (slice_index_or seats (seat_of ke
               (subst (λ r. IsBacked state (record { thread = seat.thread; base = seat.base; right = r; via = seat.via })) same backed)),
         )
 
--- A call that drops seats, or none where it is refused: each seat that is left is backed, and one that is refused drops none.
+-- A call that drops seats, or none if it is refused: each seat that is left is backed, and one that is refused drops none.
 pub drops_backed : (ended : Seat → Bool) (state new : State) (seats seats' : List (Option Seat)) (reply : Reply) → KeepsBacked ended state new → Drops ended seats seats' reply → (IsRefusal reply → new ≡ state) → AllBacked state seats → AllBacked new seats'
 drops_backed ended state new seats seats' (No word) keeps drops same all = subst (λ s. AllBacked new s) (sym drops) (subst (λ s. AllBacked s seats) (sym (same tt)) all)
 drops_backed ended state new seats seats' other keeps drops same all = subst (λ s. AllBacked new s) (sym drops) (backed_without ended state new seats keeps all)

@@ -19,7 +19,7 @@ abbrev pub unless_ended : (Seat → Bool) → Option Seat → Option Seat
 unless_ended ended None = None
 unless_ended ended (Some seat) = if ended seat then None else Some seat
 
--- the seats without those that are ended: these are free, and each other one stands where it stood
+-- the seats without those that are ended: these are free, and each other seat is where it was
 abbrev pub without : (Seat → Bool) → List (Option Seat) → List (Option Seat)
 without ended seats = map (λ kept. unless_ended ended kept) seats
 

@@ -14,7 +14,7 @@ use mg_model::{Right, Seat};
 use std::alloc::{AllocError, Global};
 use std::marker::Model;
 
-/// 256 seats, in each of which one right may be kept. Marks tell where those of a list, an object or a thread may be, so that
+/// 256 seats, in each of which one right may be kept. Marks say where those of a list, an object or a thread may be, so that
 /// a drop reads few seats.
 #[derive(Drop)]
 pub struct VCache {

@@ -12,7 +12,7 @@ use Rattle.mg_model.specs.Bank.{account_of, given_to, taken_from, with_account}
 use Rattle.mg_volume.specs.RowLists.{ArePlaced, row_at}
 use Rattle.mg_volume.specs.StagesAccounts.{DifferWithin}
 
--- accounts with their places stand there
+-- accounts with their places are there
 account_at : (i j : ℕ) (rows : List AccRow) → row_at (i + j) (placed_from i rows) ≡ slice_get rows j
 account_at i j [] = refl
 account_at i zero (r ∷ rows) = grind (arith, nat_tests)
@@ -21,12 +21,12 @@ account_at i (suc j) (r ∷ rows) = let next : i + suc j ≡ i + 1 + j = omega a
 pub account_here : (j : ℕ) (rows : List AccRow) → row_at j (placed_from 0 rows) ≡ slice_get rows j
 account_here j rows = let same : j ≡ 0 + j = omega arith in ap (λ k. row_at k (placed_from 0 rows)) same ∙ account_at 0 j rows
 
--- one behind another
+-- one after another
 pub accounts_rise : (i high : ℕ) (rows : List AccRow) → i + length rows ≤ high → ArePlaced i high (placed_from i rows)
 accounts_rise i high [] few = tt
 accounts_rise i high (r ∷ rows) few = (omega arith, omega arith, accounts_rise (i + 1) high rows (omega arith))
 
--- the rows beside one that is put, and before one that joins
+-- the rows beside a row that is written, and before one that joins
 set_beside : (rows : List AccRow) (p i : ℕ) (row : AccRow) → i ≢ p → slice_get (slice_set rows p row) i ≡ slice_get rows i
 set_beside [] p i row other = refl
 set_beside (r ∷ rows) zero zero row other = absurd (other refl)

@@ -25,7 +25,7 @@ use Rattle.mg_volume.specs.RowLists.{tell, told}
 use Rattle.mg_volume.specs.Sound.{all_spelled}
 use Rattle.mg_volume.specs.StagesAccounts.{DifferWithin, HasAccounts, StagesAccounts}
 
--- Rows in blocks are the accounts of a list where each block that a test names has the rows of the list, and the other blocks had
+-- Rows in blocks are the accounts of a list if each block that a test names has the rows of the list, and the other blocks had
 -- them before.
 pub accounts_told : (f g : ℕ → Read AccRow) (named : ℕ → Bool) (old new : List AccRow) → live_rows f 0 account_limit ≡ Some (placed_from 0 old) → length new ≤ account_limit → DifferWithin named old new
     → ((i : ℕ) → i < account_limit → named (i / 64) ≡ true → g i ≡ Some (slice_get new i)) → ((i : ℕ) → i < account_limit → named (i / 64) ≡ false → g i ≡ f i)

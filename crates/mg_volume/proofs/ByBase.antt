@@ -18,7 +18,7 @@ pub always : {X : Type 0} (o : Option X) (P : Type 0) → P → IfSome o (λ x. 
 always None P p = tt
 always (Some x) P p = p
 
--- whatever the test tells
+-- whatever the test says
 abbrev pub objects_by : ObjectRow → Bool → List Object → List Object
 objects_by row there objects = if there then with_row row.base (λ old. row) objects else with_object (blank row) objects
 

@@ -1,4 +1,4 @@
--- A change of the row with a base puts one row, where only one row has the base.
+-- A change of the row with a base writes one row, if only one row has the base.
 use Rattle.std.specs.Prelude.{◌≡◌, ◌≢◌, ◌==◌, Bool, ℕ, true, false, All, List, [], ◌∷◌, find, if◌then◌else◌, map, IfSome, Some}
 use Rattle.std.proofs.Common.{refl, sym, ap, subst, ◌∙◌}
 use Rattle.std.proofs.lemmas.Bool.{eqb-true}

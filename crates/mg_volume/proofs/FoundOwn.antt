@@ -1,4 +1,4 @@
--- A row that is found is the one that its base finds.
+-- A row that is found is what its base finds.
 use Rattle.std.proofs.lemmas.Bool.Decides.{nat_tests}
 use Rattle.mg_volume.proofs.Found.{found_keeps}
 use Rattle.std.specs.Prelude.{◌≡◌, ◌≢◌, ◌==◌, Bool, List, [], ◌∷◌, find, Option, Some, None, IfSome}

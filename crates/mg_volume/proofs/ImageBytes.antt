@@ -39,7 +39,7 @@ numbers-words : (bytes : List ℕ) (offset n : ℕ) → IsBytes bytes → All Is
 numbers-words bytes offset zero are = All-nil IsWord
 numbers-words bytes offset (suc n) are = All-cons IsWord (number_at bytes offset) (numbers_at bytes (offset + 8) n) (number-word bytes offset are) (numbers-words bytes (offset + 8) n are)
 
--- a block of bytes, also past the end, where it is empty
+-- a block of bytes, also past the end, if it is empty
 block-bytes : (image : Image) (i : ℕ) → AreBytes image → IsBytes (block_of image i)
 block-bytes image i are =
     ⊎_elim (λ below. are i [] below) (λ past. subst IsBytes (sym (get_or_past image i [] past)) (All-nil (λ byte. byte < 256))) (cases_lt i (length image))

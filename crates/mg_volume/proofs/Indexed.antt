@@ -3,7 +3,7 @@ use Rattle.std.specs.Prelude.{◌≡◌, ◌<◌, ℕ, suc, Bool, true, false, L
 use Rattle.std.proofs.Common.{sym, ap, get_or, ◌∙◌, ⊎_elim, arith}
 use Rattle.std.proofs.lemmas.Bool.{cases_Bool}
 
--- what a search gives stands at an index, and passes
+-- what a search gives is at an index, and passes
 pub found_index : {X : Type 0} (p : X → Bool) (xs : List X) (x : X) → find p xs ≡ Some x → (i : ℕ) × (i < length xs) × ((d : X) → get_or xs i d ≡ x) × (p x ≡ true)
 found_index p [] x is = cc
 found_index {X} p (y ∷ ys) x is = ⊎_elim here (there (found_index p ys x)) (cases_Bool (p y))

@@ -39,7 +39,7 @@ pub distinct_bare : (os : List (ℕ × ObjectRow)) → DistinctBy (λ (y : ℕ �
 distinct_bare [] distinct = tt
 distinct_bare (o ∷ os) distinct = (All-map (λ (y : ObjectRow). y.base ≢ o.1.base) (λ (o : ℕ × ObjectRow). o.1) os distinct.0, distinct_bare os distinct.1)
 
--- what an update asks for
+-- what an update needs
 pub there_is : (v : VolumeHeld) (base : ℕ) → has_base base (objects_in v) ≡ true → list_any (λ (o : ℕ × ObjectRow). o.1.base == base) v.objects ≡ true
 unfolding objects_in
 there_is v base has = any_bare (λ (r : ObjectRow). r.base == base) v.objects ∙ has
@@ -129,7 +129,7 @@ module _ (row : ObjectRow) where
       first true is = ap (λ w. record { row = row; words = w }) (words (is refl))
       first false is = refl
 
-  -- where it stands in the order of the places
+  -- where it is in the order of the places
   row-differs : (p base : ℕ) (old : ObjectRow) (os : List (ℕ × ObjectRow)) → All (λ (y : ℕ × ObjectRow). y.1.base ≢ base) os → row_at p os ≡ Some old → old.base ≢ base
   row-differs p base old [] all there = cc
   row-differs p base old (o ∷ os) all there =
@@ -167,7 +167,7 @@ found-place : (o : Option (ℕ × ObjectRow)) (place : ℕ) → Some place ≡ o
 found-place None place is = cc
 found-place (Some x) place is = (x, refl, (let e : Some place ≡ Some x.0 = is in cc))
 
--- the volume with it, where its row has this place
+-- the volume with it, if its row has this place
 module _ (v : VolumeHeld) (row : ObjectRow) (place : ℕ) (kept : IsKept v) (change : MayChange (objects_in v) row) (is : Some place ≡ option_map (λ (o : ℕ × ObjectRow). o.0) (with_base row.base v.objects)) where
   found : (x : ℕ × ObjectRow) × (with_base row.base v.objects ≡ Some x) × (x.0 ≡ place)
   found = found-place (with_base row.base v.objects) place is

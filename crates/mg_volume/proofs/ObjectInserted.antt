@@ -99,7 +99,7 @@ module _ (v : VolumeHeld) (row : ObjectRow) (place : ℕ) (is : IsObjectRow row)
   absent : has_base row.base (objects_in v) ≡ false
   absent = no_base row.base (objects_in v) other-rows
 
-  -- it waits for a commit where the free row does
+  -- it waits for a commit if the free row does
   pub inserted_room : (is_object_staged v row.base ≡ true) ⊎ (pages.staged_of v.pages < 160) → (pages.is_staged v.pages (first_object_block + place / 4) ≡ true) ⊎ (pages.staged_of v.pages < 160)
   unfolding is_object_staged objects_in
   inserted_room room = ⊎_elim (λ staged. inl (ap (λ place. pages.is_staged v.pages (first_object_block + place / 4)) (at ∙ sym (place_new row.base v.objects absent)) ∙ staged)) (λ few. inr few) room

@@ -24,7 +24,7 @@ pub placed_distinct : {R : Type 0} (low high : ℕ) (rows : List (ℕ × R)) →
 placed_distinct low high [] placed = tt
 placed_distinct low high ((i, r) ∷ rows) placed = (placed-none (i + 1) high i rows placed.2 (omega arith), placed_distinct (i + 1) high rows placed.2)
 
--- what differs by a key differs by one that tells it
+-- what differs by a key differs by a key that determines it
 pub distinct_map : {X Y : Type 0} (f : X → Y) (key : X → ℕ) (key' : Y → ℕ) → ((x y : X) → key' (f y) ≡ key' (f x) → key y ≡ key x) → (xs : List X) → DistinctBy key xs → DistinctBy key' (map f xs)
 distinct_map f key key' tells [] distinct = tt
 distinct_map f key key' tells (x ∷ xs) distinct = (
@@ -82,7 +82,7 @@ set_row_is low high p row old ((i, r) ∷ rows) placed there =
     let same : p < i + 1 → map (put_at p row) rows ≡ rows = λ low. change-none (λ (y : ℕ × ObjectRow). y.0) (λ y. (p, row)) p rows (placed-none (i + 1) high p rows placed.2 low) in
     grind (arith, nat_tests, there, absent, same, set_row_is (i + 1) high p row old rows placed.2)
 
--- which keeps the order, where the base stays
+-- which keeps the order, if the base stays
 into-change : (g : ℕ × ObjectRow → ℕ × ObjectRow) (o : ℕ × ObjectRow) (os : List (ℕ × ObjectRow)) → (g o).1.base ≡ o.1.base → All (λ y. (g y).1.base ≡ y.1.base) os → into_place (g o) (map g os) ≡ map g (into_place o os)
 into-change g o [] here all = refl
 into-change g o (x ∷ os) here all =

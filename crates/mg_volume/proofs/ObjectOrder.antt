@@ -64,7 +64,7 @@ into-swaps : (a b : ℕ × ObjectRow) (os : List (ℕ × ObjectRow)) → a.1.bas
 into-swaps a b [] other = grind (arith, nat_tests, other)
 into-swaps a b (o ∷ os) other = grind (arith, nat_tests, other, into-swaps a b os other)
 
--- a row that is put at a place where none stood
+-- a row that is written at a place where none was
 pub set_order : (place : ℕ) (row : ObjectRow) (rows : List (ℕ × ObjectRow)) → row_at place rows ≡ None → All (λ (o : ℕ × ObjectRow). o.1.base ≢ row.base) rows → by_base (row_set place (Some row) rows) ≡ into_place (place, row) (by_base rows)
 set_order place row [] free others = refl
 set_order place row ((i, r) ∷ rows) free others =
@@ -72,7 +72,7 @@ set_order place row ((i, r) ∷ rows) free others =
     let rest : row_at place rows ≡ None → by_base (row_set place (Some row) rows) ≡ into_place (place, row) (by_base rows) = λ none. set_order place row rows none (All-tail (λ (o : ℕ × ObjectRow). o.1.base ≢ row.base) (i, r) rows others) in
     grind (arith, nat_tests, free, rest, into-swaps (i, r) (place, row) (by_base rows) differ)
 
--- no row stands at a place that no object has
+-- no row is at a place that no object has
 pub none_at : (place : ℕ) (os : List (ℕ × ObjectRow)) → is_taken os place ≡ false → row_at place os ≡ None
 none_at place [] free = refl
 none_at place ((i, r) ∷ os) free = grind (arith, free, none_at place os)

@@ -14,12 +14,12 @@ use Rattle.mg_model.specs.State.{ObjectRow}
 use Rattle.mg_volume.specs.RowLists.{DistinctBy}
 use Rattle.mg_volume.specs.Meaning.{rows_apart}
 
--- none goes where none has the key
+-- none goes if none has the key
 pub filter-all : {X : Type 0} (key : X → ℕ) (k : ℕ) (xs : List X) → All (λ y. key y ≢ k) xs → filter (λ y. not (key y == k)) xs ≡ xs
 filter-all key k [] absent = refl
 filter-all key k (x ∷ xs) absent = grind (arith, nat_tests, All-head (λ y. key y ≢ k) x xs absent, filter-all key k xs (All-tail (λ y. key y ≢ k) x xs absent))
 
--- where keys are distinct, one that goes by its index goes by its key
+-- when keys are distinct, one that goes by its index goes by its key
 pub remove_is : {X : Type 0} (key : X → ℕ) (k : ℕ) (xs : List X) (i : ℕ) (d : X) → DistinctBy key xs → i < length xs → key (get_or xs i d) ≡ k → remove xs i ≡ filter (λ y. not (key y == k)) xs
 remove_is key k [] i d distinct few is = absurd (omega arith)
 remove_is key k (x ∷ xs) zero d distinct few is = grind (arith, nat_tests, is, filter-all key k xs (All-weaker (λ y. key y ≢ key x) (λ y. key y ≢ k) (λ y other same. other (same ∙ sym is)) xs distinct.0))
@@ -31,7 +31,7 @@ pub filter_mapped : {X Y : Type 0} (f : X → Y) (p : Y → Bool) (xs : List X) 
 filter_mapped f p [] = refl
 filter_mapped f p (x ∷ xs) = grind (arith, filter_mapped f p xs)
 
--- what a test finds is found where only others go
+-- what a test finds is found if only others go
 pub find_kept : {X : Type 0} (q p : X → Bool) → ((x : X) → q x ≡ true → p x ≡ true) → (xs : List X) → find q (filter p xs) ≡ find q xs
 find_kept q p keeps [] = refl
 find_kept q p keeps (x ∷ xs) = grind (arith, keeps x, find_kept q p keeps xs)

@@ -72,7 +72,7 @@ goes v base gone os kept found rest =
       },
     )
 
--- the one that has a page is another one, where the page is none of those that go
+-- the object that has a page is another object, if the page is none of those that go
 other-has : (gone : ObjectRow) (page : ℕ) (y : ℕ × ObjectRow) → 1 ≤ gone.pages → is_page_in page gone ≡ false → IsOrApart gone y.1 → is_page_in page y.1 ≡ true → not (y.1.base == gone.base) ≡ true
 other-has gone page y some outside (inl same) inside = absurd (both_ways (is_page_in page gone) outside (ap (is_page_in page) (sym same) ∙ inside))
 other-has gone page y some outside (inr apart) inside =
@@ -84,7 +84,7 @@ apart-from : (gone row : ObjectRow) → row.base ≢ gone.base → IsOrApart gon
 apart-from gone row other (inl same) = absurd (other (ap (λ (r : ObjectRow). r.base) same))
 apart-from gone row other (inr apart) = apart
 
--- objects that lie apart from pages keep their words where only those pages change
+-- objects that lie apart from pages keep their words if only those pages change
 objects-kept : (r r' : Image) (frames : ℕ) (table table' : List ℕ) (gone : ObjectRow) (os : List (ℕ × ObjectRow)) → All (λ (y : ℕ × ObjectRow). IsObjectRow y.1) os
     → All (λ (y : ℕ × ObjectRow). (page_behind y.1 ≤ page_of gone) ⊎ (page_behind gone ≤ page_of y.1)) os
     → ((page : ℕ) → page ≢ 0 → (page < page_of gone) ⊎ (page_behind gone ≤ page) → page_words r' frames table' page ≡ page_words r frames table page)

@@ -8,7 +8,7 @@ use Rattle.mg_disk.specs.Stops.{Leaves, NothingPending, WritesNothing}
 use Rattle.mg_disk.specs.declared.disk.Disk.{Ghosts}
 use Rattle.mg_model.specs.Volume.{volume}
 
--- the volume is the one that it was
+-- the volume is what it was
 abbrev pub Still : Image → Image → Type 0
 Still image c = volume c ≡ volume image
 

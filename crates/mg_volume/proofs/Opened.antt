@@ -92,7 +92,7 @@ module _ (rows : VolumeRows) (kept : AreKept rows) where
   pub fits : (r : Image) → AreFit (rows_in rows) (state_in rows r)
   fits r = are-fit (rows_in rows) (state_in rows r) (kept.fit r)
 
-  -- no page stands twice in the frame table
+  -- no page occurs twice in the frame table
   pub distinct_is : all_distinct (bound_pages rows.table.items) ≡ true
   distinct_is = (fits []).distinct
 
@@ -133,7 +133,7 @@ module _ (rows : VolumeRows) (kept : AreKept rows) where
     same_frames : pages.frame_count p ≡ rows.params.frames
     same_frames = frames ∙ kept.held.entries
 
-    -- the state of the volume is the one that the rows spell
+    -- the state of the volume is what the rows spell
     state_is : (image : Image) → state_in rows (pages.coming p image) ≡ now_of (holding rows p) image
     unfolding now_of threads_in
     state_is image =
@@ -237,7 +237,7 @@ module _ (rows : VolumeRows) (kept : AreKept rows) (store : Store) (p : Pages) (
     unfolding IsSpelledBy
     spells = spelled_now
 
-    -- the state is the one that was read
+    -- the state is what was read
     now_is : now_of (holding rows p) now ≡ state_in rows read.replayed
     now_is =
         coming_kept (holding rows p) now spelled_now (state_in rows read.replayed)

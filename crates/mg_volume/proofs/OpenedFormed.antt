@@ -1,4 +1,4 @@
--- A volume with nothing staged is well formed, where it is sound and its disk gives bytes.
+-- A volume with nothing staged is well formed, if it is sound and its disk gives bytes.
 use Rattle.mg_volume.proofs.ObjectRemoved.{LiesBefore, apart_pairs}
 use Rattle.std.specs.Prelude.{◌≡◌, ◌≢◌, ◌+◌, ◌*◌, ◌^◌, ◌≤◌, ◌<◌, ◌==◌, ◌&&◌, nat_le, ℕ, zero, suc, true, false, All, AllPairs, List, [], ◌∷◌, find, if◌then◌else◌, length, map, sum_by, Some, None}
 use Rattle.std.specs.List.{list_all}

@@ -76,7 +76,7 @@ held_again v counters threads p kept few frames bound = record {
   inside = all-bound (λ page. has_page v page) (pages.table_in p) (λ x other is. ⊎_elim (λ has. has) (each-bound (λ page. has_page v page) x (pages.table_in v.pages) kept.inside other) (bound x other is));
 }
 
--- where the table stays
+-- when the table stays
 pub held_same : (v : VolumeHeld) (counters : Counters) (threads : List (ℕ × ThreadRow)) (p : Pages) → IsKept v → length threads ≤ thread_limit → pages.frame_count p ≡ pages.frame_count v.pages → pages.table_in p ≡ pages.table_in v.pages
     → IsKept (record v { counters = counters; threads = threads; pages = p })
 held_same v counters threads p kept few frames table = held_again v counters threads p kept few frames (λ x other is. inr (ap (λ t. list_any (λ entry. entry == x) t) (sym table) ∙ is))
@@ -120,7 +120,7 @@ word_now v image page index kept has within =
     ap (λ frames. slice_index (page_words (pages.coming v.pages image) frames (pages.table_in v.pages) page) index) kept.frames
     ∙ sym (word-spelled (pages.coming v.pages image) v.settings.frames (pages.table_in v.pages) page index v.objects kept.rows within has)
 
--- a word was put
+-- a word was written
 pub word_set : (v : VolumeHeld) (p : Pages) (image : Image) (page index value : ℕ) → IsKept v → index < 512 → pages.frame_count p ≡ pages.frame_count v.pages → pages.SetsWord v.pages p image page index value
     → now_of (with_pages v p) image ≡ record (now_of v image) { objects = with_word (now_of v image).objects (4096 * page + 8 * index) value }
 unfolding now_of threads_in
@@ -135,7 +135,7 @@ word_set v p image page index value kept within frames sets =
     in_old : (other : ℕ) → pages.page_now v.pages image other ≡ page_words (pages.coming v.pages image) v.settings.frames (pages.table_in v.pages) other
     in_old other = ap (λ n. page_words (pages.coming v.pages image) n (pages.table_in v.pages) other) kept.frames
 
--- the rows stay, whether it was put or not
+-- the rows stay, whether it was written or not
 pub rows_same : {T E D : Type 0} (r : Result T E) (facts : Ghosts D) (old : D) (v : VolumeHeld) (p : Pages) (page index value : ℕ)
     → OnOk r (ForSome (facts.seen old) (λ image. pages.SetsWord v.pages p image page index value)) → OnErr r (pages.Keeps v.pages p)
     → ForSome (facts.seen old) (λ image. (k : ℕ) → k < table_block → block_at (pages.coming p image) k ≡ block_at (pages.coming v.pages image) k)

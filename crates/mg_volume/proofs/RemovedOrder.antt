@@ -9,14 +9,14 @@ use Rattle.mg_volume.proofs.ObjectRemoved.{filter-all}
 use Rattle.mg_objects.specs.Held.{by_base, into_place}
 use Rattle.mg_volume.specs.RowLists.{ArePlaced, row_set}
 
--- no row at a place: all but the one that stands there
+-- no row at a place: all but the row that was there
 pub row_set_none : {R : Type 0} (low high p : ℕ) (rows : List (ℕ × R)) → ArePlaced low high rows → row_set p None rows ≡ filter (λ (y : ℕ × R). not (y.0 == p)) rows
 row_set_none low high p [] placed = refl
 row_set_none {R} low high p ((i, r) ∷ rows) placed =
     let same : p < i + 1 → filter (λ (y : ℕ × R). not (y.0 == p)) rows ≡ rows = λ low. filter-all (λ (y : ℕ × R). y.0) p rows (placed-none (i + 1) high p rows placed.2 low) in
     grind (arith, nat_tests, same, row_set_none (i + 1) high p rows placed.2)
 
--- no base stands before a smaller one
+-- no base is before a smaller one
 abbrev InOrder : List (ℕ × ObjectRow) → Type 0
 InOrder [] = Unit {0}
 InOrder (x ∷ xs) = All (λ (y : ℕ × ObjectRow). x.1.base ≤ y.1.base) xs × InOrder xs

@@ -59,7 +59,7 @@ row_parts r frames rows read =
     split frames (globals_read (block_of r globals_block)) (live_rows (λ i. account_read (account_row_bytes r i)) 0 account_limit) (live_rows (λ i. thread_read (thread_row_bytes r i)) 0 thread_limit)
     (live_rows (λ i. object_read (object_row_bytes r i)) 0 object_limit) (whole_table r frames) (are_zeros (drop frames (whole_table r frames))) rows refl read
 
--- the image that was read has as many blocks as its settings ask for
+-- the image that was read has as many blocks as its settings need
 pub read_set : (rows : VolumeRows) (image : Image) → IsReadAs rows image → IsSet rows.params image
 read_set rows image read = record { gated = read.gated; super = read.super; long = ⊎_elim (λ t. leb-true (total_blocks rows.params.frames) (length image) t) (λ f. absurd (short f)) (cases_Bool (nat_le (total_blocks rows.params.frames) (length image))) }
   where

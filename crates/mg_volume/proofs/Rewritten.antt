@@ -1,4 +1,4 @@
--- Words that are put into a block that is staged, one behind another.
+-- Words that are written into a block that is staged, one after another.
 use Rattle.std.specs.Prelude.{◌≡◌, ◌+◌, ℕ, List, true, is_some, IfSome, MatchOption, Option, Some, None}
 use Rattle.std.specs.List.{splice}
 use Rattle.std.proofs.Common.{refl, sym, ap, subst, ◌∙◌}
@@ -18,7 +18,7 @@ use Rattle.mg_volume.specs.Held.{VolumeHeld}
 use Rattle.mg_volume.specs.Meaning.{Spelled}
 use Rattle.mg_volume.specs.Standing.{RespellsCounters}
 
--- what stood in the block is staged there with a change
+-- what was in the block is staged there with a change
 pub record Rewrites (block : ℕ) (change : List ℕ → List ℕ) (old new : Pages) : Type 0 where
   pub was : List ℕ
   pub waited : (image : Image) → pages.IsSpelledBy old image → block_at (pages.coming old image) block ≡ was

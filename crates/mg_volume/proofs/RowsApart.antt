@@ -17,7 +17,7 @@ pub kept_rows : (v : VolumeHeld) → IsKept v → All IsObjectRow (objects_in v)
 unfolding objects_in
 kept_rows v kept = All-map IsObjectRow (λ (o : ℕ × ObjectRow). o.1) v.objects kept.rows
 
--- of the rows behind the first
+-- of the rows after the first
 pub apart_tail : (row : ObjectRow) (rows : List ObjectRow) → rows_apart (row ∷ rows) ≡ true → rows_apart rows ≡ true
 apart_tail row [] apart = refl
 apart_tail row (next ∷ rows) apart = grind (arith, apart)
@@ -37,7 +37,7 @@ apart_from row [] before apart = refl
 apart_from row (next ∷ rows) before apart =
     and_from (nat_le (page_behind row) (page_of next)) (rows_apart (next ∷ rows)) (le-leb (page_behind row) (page_of next) (All-head (λ other. page_behind row ≤ page_of other) next rows before)) apart
 
--- a row that is put before the next one, or behind it
+-- a row that is added before the next one, or after it
 pub new_row_cases : (F : List ObjectRow → Type 0) (new row : ObjectRow) (rows : List ObjectRow) → (new.base < row.base → F (new ∷ row ∷ rows)) → (row.base ≤ new.base → F (row ∷ with_new_row new rows)) → F (with_new_row new (row ∷ rows))
 new_row_cases F new row rows before behind = cond_both (nat_lt new.base row.base) (new ∷ row ∷ rows) (row ∷ with_new_row new rows) F (λ t. before (grind (arith, nat_tests, t))) (λ f. behind (grind (arith, nat_tests, f)))
 
@@ -90,7 +90,7 @@ module _ (new : ObjectRow) (is : IsObjectRow new) where
   page_apart [] page apart inside = refl
   page_apart (row ∷ rows) page apart inside = grind (arith, nat_tests, apart, inside, page_apart rows page)
 
--- where no row has a base
+-- when no row has a base
 pub no_base : (base : ℕ) (rows : List ObjectRow) → All (λ row. row.base ≢ base) rows → has_base base rows ≡ false
 no_base base [] none = refl
 no_base base (row ∷ rows) none = grind (arith, nat_tests, All-head (λ row. row.base ≢ base) row rows none, no_base base rows (All-tail (λ row. row.base ≢ base) row rows none))

@@ -3,7 +3,7 @@ use Rattle.std.proofs.lemmas.Grind.{common_steps}
 use Rattle.std.proofs.Common.{ℕ, zero, suc, ◌+◌, ◌<◌, ◌≡◌, ◌++◌, List, [], ◌∷◌, drop, get_or, length, refl, sym, take, ap, ◌∙◌, arith}
 use Rattle.std.specs.Prelude.{slice_set}
 
--- one more of the new items, where the others are as they were
+-- one more of the new items, if the others are as they were
 pub set-seam : (new old : List ℕ) (k d : ℕ) → k < length new → k < length old → slice_set (take k new ++ drop k old) k (get_or new k d) ≡ take (k + 1) new ++ drop (k + 1) old
 set-seam [] old k d below within = absurd (omega arith)
 set-seam (n ∷ ns) [] k d below within = absurd (omega arith)

@@ -58,7 +58,7 @@ module _ (v : VolumeHeld) (p : Pages) (image : Image) (s : Spelled v image) (low
   pub objects_stay : (table_block ≤ low) ⊎ (high ≤ first_object_block) → live_rows (λ i. object_read (object_row_bytes (pages.coming p image) i)) 0 object_limit ≡ Some s.objects
   objects_stay out = objects_within (pages.coming p image) (pages.coming v.pages image) (within first_object_block table_block out) ∙ s.objects_are
 
--- The words of pages lie behind.
+-- The words of pages follow.
 words_behind : (a b : Image) (frames : ℕ) (table : List ℕ) (page : ℕ) → ((k : ℕ) → table_block ≤ k → block_of a k ≡ block_of b k) → page_words a frames table page ≡ page_words b frames table page
 words_behind a b frames table page same = held (position (λ entry. entry == page) table)
   where

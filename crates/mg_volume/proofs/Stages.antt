@@ -35,7 +35,7 @@ stages_is v w most settings shape words more spelled = record {
   still = still_staged v w more.still;
 }
 
--- and so what it changes, also where it leaves the objects alone
+-- and so what it changes, also if it leaves the objects alone
 pub changes_is : (v w : VolumeHeld) (most : ℕ) (change : State → State) (rows : List ObjectRow → List ObjectRow) → w.settings ≡ v.settings → pages.SameShape v.pages w.pages → pages.words_in w.pages ≡ pages.words_in v.pages → pages.StagesMore most v.pages w.pages
     → ((image : Image) → IsSpelledBy v image → IsSpelledBy w image) → ((image : Image) → now_of w image ≡ change (now_of v image)) → objects_in w ≡ rows (objects_in v) → ObjectsStillStaged v w → Changes most change rows v w
 changes_is v w most change rows settings shape words more spelled now rows_are objects = record { now = now; rows = rows_are; stages = stages_is v w most settings shape words more spelled; objects = objects }

@@ -1,4 +1,4 @@
--- A volume whose pages changed stands where it stood.
+-- A volume whose pages changed stands on the disk as before.
 use Rattle.std.specs.Prelude.{◌≡◌, ◌<◌, ℕ, Some}
 use Rattle.std.specs.Option.{ForSome}
 use Rattle.std.proofs.Common.{sym, ap, ◌∙◌, arith}

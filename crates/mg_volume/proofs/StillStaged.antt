@@ -34,13 +34,13 @@ place_found base os o found = ap (λ r. option_map_or (λ (o : ℕ × ObjectRow)
 pub place_new : (base : ℕ) (os : List (ℕ × ObjectRow)) → has_base base (map (λ (o : ℕ × ObjectRow). o.1) os) ≡ false → place_for base os ≡ free_place os
 place_new base os none = ap (λ r. option_map_or (λ (o : ℕ × ObjectRow). o.0) r (free_place os)) (base_absent base os none)
 
--- which stays where it is found as before
+-- which stays if it is found as before
 pub place_same : (base : ℕ) (os os' : List (ℕ × ObjectRow)) → has_base base (map (λ (o : ℕ × ObjectRow). o.1) os) ≡ true → with_base base os' ≡ with_base base os → place_for base os' ≡ place_for base os
 place_same base os os' has same =
     let there = base_found base os has in
     place_found base os' there.0 (same ∙ there.1) ∙ sym (place_found base os there.0 there.1)
 
--- of volumes where each block that was staged is
+-- of volumes if each block that was staged is
 pub still_staged : (v w : VolumeHeld) → ((block : ℕ) → pages.is_staged v.pages block ≡ true → pages.is_staged w.pages block ≡ true) → StillStaged v w
 unfolding are_counters_staged is_thread_staged
 still_staged v w still = record { counters = still globals_block; thread = λ t. still (first_thread_block + t - 1) }
@@ -52,6 +52,6 @@ unfolding is_object_staged
 objects_still v w still places =
     λ base was is staged. ap (λ place. pages.is_staged w.pages (first_object_block + place / 4)) (places base was is) ∙ still (first_object_block + place_for base v.objects / 4) staged
 
--- where the objects are the same
+-- when the objects are the same
 pub objects_wait : (v w : VolumeHeld) → w.objects ≡ v.objects → ((block : ℕ) → pages.is_staged v.pages block ≡ true → pages.is_staged w.pages block ≡ true) → ObjectsStillStaged v w
 objects_wait v w same each = objects_still v w each (λ base was is. ap (place_for base) same)

@@ -1,4 +1,4 @@
--- Another row of a thread that lives, by a change of the one that it has.
+-- Another row of a thread that lives, by a change of the row that it has.
 use Rattle.std.specs.Prelude.{◌≡◌, ◌≢◌, ◌==◌, ℕ, Bool, true, false, All, List, [], ◌∷◌, find, if◌then◌else◌, map, IfSome, MatchOption, Option, Some, None}
 use Rattle.std.specs.List.{list_any}
 use Rattle.std.proofs.Common.{refl, sym, ap, subst, ◌∙◌, arith}
@@ -43,7 +43,7 @@ same-change t row change (thread ∷ threads) apart gives = by_test (thread.numb
         cc
     by_test false is gives later = let rest = later gives in cc
 
--- so the state is the one that the change gives
+-- so the state is what the change gives
 pub thread_changed : (v : VolumeHeld) (image : Image) (t : ℕ) (row : ThreadRow) (change : ThreadRow → ThreadRow) → DistinctBy (λ (x : Thread). x.number) (threads_in v) → list_any (λ (x : Thread). x.number == t) (threads_in v) ≡ true
     → IfSome (find (λ (x : Thread). x.number == t) (threads_in v)) (λ thread. change thread.row ≡ row) → record (now_of v image) { threads = threads_with t (Some row) (threads_in v) } ≡ with_thread (now_of v image) t change
 thread_changed v image t row change apart there gives =

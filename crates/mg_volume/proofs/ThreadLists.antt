@@ -31,7 +31,7 @@ pub threads_mapped : (t : ℕ) (new : Option ThreadRow) (rows : List (ℕ × Thr
 threads_mapped t None rows = filter_mapped as_thread (λ (thread : Thread). not (thread.number == t)) rows
 threads_mapped t (Some row) rows = grind (arith, any-mapped t rows, change-mapped t row rows, into-mapped (t, row) rows)
 
--- where the numbers are the places of rows, each behind the one before
+-- when the numbers are the places of rows, each after the one before
 none-number : (low high p : ℕ) (rows : List (ℕ × ThreadRow)) → ArePlaced low high rows → p < low → has_number (p + 1) (numbered rows) ≡ false
 none-number low high p [] placed before = refl
 none-number low high p ((i, r) ∷ rows) placed before = let above = placed.0 in grind (arith, nat_tests, none-number (i + 1) high p rows placed.2 (omega arith))
@@ -48,7 +48,7 @@ into-first : (low high p : ℕ) (row : ThreadRow) (rows : List (ℕ × ThreadRow
 into-first low high p row [] placed before = refl
 into-first low high p row ((i, r) ∷ rows) placed before = let above = placed.0 in grind (arith, nat_tests)
 
--- put in front of rows that stand behind
+-- added in front of the rows that follow
 with-first : (low high p : ℕ) (new : Option ThreadRow) (rows : List (ℕ × ThreadRow)) → ArePlaced low high rows → p < low → numbered (with_live p new rows) ≡ rows_with (p + 1) new (numbered rows)
 with-first low high p None rows placed before = sym (filter-none (p + 1) (numbered rows) (none-number low high p rows placed before))
 with-first low high p (Some row) rows placed before = grind (arith, none-number low high p rows placed before, into-first low high p row rows placed before)
@@ -58,7 +58,7 @@ with-same : (high p : ℕ) (r : ThreadRow) (new : Option ThreadRow) (rows : List
 with-same high p r None rows placed = grind (arith, nat_tests, filter-none (p + 1) (numbered rows) (none-number (p + 1) high p rows placed (omega arith)))
 with-same high p r (Some row) rows placed = grind (arith, nat_tests, change-none (p + 1) row (numbered rows) (none-number (p + 1) high p rows placed (omega arith)))
 
--- behind the first
+-- after the first
 with-behind : (p i : ℕ) (r : ThreadRow) (new : Option ThreadRow) (rows : List (ℕ × ThreadRow)) → i < p → rows_with (p + 1) new ((i + 1, r) ∷ numbered rows) ≡ (i + 1, r) ∷ rows_with (p + 1) new (numbered rows)
 with-behind p i r None rows before = grind (arith, nat_tests)
 with-behind p i r (Some row) rows before = grind (arith, nat_tests)

@@ -1,4 +1,4 @@
--- A thread stands elsewhere, and the words of its block that was staged.
+-- A thread moves elsewhere, and the words of its block that was staged.
 use Rattle.std.specs.Prelude.{◌≡◌, ◌+◌, ◌-◌, ◌≤◌, ◌==◌, ℕ, List, find, option_map, IfSome, Option, Some, None}
 use Rattle.std.proofs.Common.{refl, sym, ap, ◌∙◌, arith}
 use Rattle.std.proofs.lemmas.Option.{same_Some}

@@ -30,7 +30,7 @@ free-from i (Some r ∷ rows) =
     ∙ free-from (i + 1) rows
     ∙ omega arith
 
--- how many there are: as many as places where each place has one, and else fewer
+-- how many there are: as many as places if each place has one, and else fewer
 pub taken-few : (i : ℕ) (rows : List (Option ThreadRow)) → length (numbered (live_from i rows)) ≤ length rows
 taken-few i [] = omega arith
 taken-few i (None ∷ rows) = let few = taken-few (i + 1) rows in omega arith

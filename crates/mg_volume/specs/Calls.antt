@@ -17,7 +17,7 @@ use Rattle.mg_volume.specs.Held.{VolumeHeld}
 use Rattle.mg_volume.specs.Meaning.{IsSpelledBy, Keeps, SameShape, StandsOn, is_live, now_of, objects_in, staged_of, words_in}
 use Rattle.mg_volume.specs.Staging.{StillStaged}
 
--- At most so many blocks more are staged, and none fewer, without the disk: the volume is spelled where it was, and what waited
+-- At most `most` blocks more are staged, and none fewer, without the disk: the volume is spelled where it was, and what waited
 -- waits still.
 pub record Stages (most : ℕ) (old new : VolumeHeld) : Type 0 where
   pub shape : SameShape old new
@@ -30,13 +30,13 @@ pub record Stages (most : ℕ) (old new : VolumeHeld) : Type 0 where
 abbrev pub Answers : (State → Answer) → VolumeHeld → VolumeHeld → Reply → Type 0
 Answers call old new reply = (image : Image) → IsSpelledBy old image → IsWellFormed (now_of old image) → call (now_of old image) ≡ (now_of new image, reply)
 
--- the same of a call on an object, where an address names the object and the thread has the right to it
+-- the same of a call on an object, if an address names the object and the thread has the right to it
 abbrev pub Acts : (State → ℕ → ℕ → Answer) → Right → ObjectRow → VolumeHeld → VolumeHeld → Reply → Type 0
 Acts call right object old new reply =
     (image : Image) (t a : ℕ) → IsSpelledBy old image → IsWellFormed (now_of old image) → row_at (now_of old image) a ≡ object → allowed (now_of old image) t a right ≡ true → call (now_of old image) t a ≡ (now_of new image, reply)
 
--- What a call without the disk does: the state and the reply are those of its row, at most so many blocks more are staged, and
--- where it is refused the volume stays.
+-- What a call without the disk does: the state and the reply are those of its row, at most `most` blocks more are staged, and
+-- when it is refused the volume stays.
 pub record CallStages (Row : VolumeHeld → VolumeHeld → Reply → Type 0) (most : ℕ) (old new : VolumeHeld) (reply : Reply) : Type 0 where
   pub answers : Row old new reply
   pub stages : Stages most old new
@@ -61,7 +61,7 @@ pub record Reads {D : Type 0} (facts : Ghosts D) (old new : VolumeHeld) (before 
   pub count : CountGoes facts before after
   pub blocks : facts.block_count after ≡ facts.block_count before
 
--- Words were read, and perhaps blocks staged: at most so many more and none fewer, and what waited waits still. Nothing was
+-- Words were read, and perhaps blocks staged: at most `most` more and none fewer, and what waited waits still. Nothing was
 -- written.
 pub record Serves {D : Type 0} (most : ℕ) (facts : Ghosts D) (old new : VolumeHeld) (before after : D) (steps steps' : ℕ) : Type 0 where
   pub stands : StandsOn facts new after

@@ -9,7 +9,7 @@ use Rattle.mg_volume.specs.Held.{VolumeHeld}
 use Rattle.mg_volume.specs.Meaning.{now_of, objects_in}
 use Rattle.mg_volume.specs.Staging.{ObjectsStillStaged}
 
--- at most so many blocks more are staged; the state and the objects' rows are what these changes make of them
+-- at most `most` blocks more are staged; the state and the objects' rows are what these changes make of them
 pub record Changes (most : ℕ) (change : State → State) (of_rows : List ObjectRow → List ObjectRow) (old new : VolumeHeld) : Type 0 where
   pub now : (image : Image) → now_of new image ≡ change (now_of old image)
   pub rows : objects_in new ≡ of_rows (objects_in old)

@@ -1,4 +1,4 @@
--- What the volume of an image rests on once its journal is replayed: the blocks behind the journal, and the first two.
+-- What the volume of an image rests on once its journal is replayed: the blocks after the journal, and the first two.
 use Rattle.std.specs.Prelude.{◌≡◌, ℕ, zero, suc, ◌+◌, ◌/◌, ◌%◌, ◌<◌, ◌≤◌, ◌==◌, ◌&&◌, nat_le, Bool, true, List, [], ◌∷◌, ◌++◌, if◌then◌else◌, length, replicate, slice_index, Option, Some, None, position}
 use Rattle.std.specs.Option.{option_map_or}
 use Rattle.std.proofs.Common.{refl, sym, ap, subst, ◌∙◌, arith}
@@ -21,7 +21,7 @@ use Rattle.mg_pages.specs.ComingLemmas.{length_replay, replay_low}
 use Rattle.mg_pages.specs.Committing.{HasContents}
 use Rattle.mg_rows.specs.Blocks.{account_in, object_in}
 
--- two images with the same blocks behind the journal and below n
+-- two images with the same blocks after the journal and below n
 pub record AgreeBehind (n : ℕ) (a b : Image) : Type 0 where
   pub each : (k : ℕ) → globals_block ≤ k → k < n → block_of a k ≡ block_of b k
 
@@ -29,7 +29,7 @@ pub record AgreeBehind (n : ℕ) (a b : Image) : Type 0 where
 pub record AgreeIn (low high : ℕ) (a b : Image) : Type 0 where
   pub each : (k : ℕ) → low ≤ k → k < high → block_of a k ≡ block_of b k
 
--- an image with an open gate, a superblock that spells these settings, and as many blocks as they ask for
+-- an image with an open gate, a superblock that spells these settings, and as many blocks as they need
 pub record IsSet (settings : Settings) (image : Image) : Type 0 where
   pub gated : has_open_gate image ≡ true
   pub super : super_read (block_of image super_block) ≡ Spells settings
@@ -126,7 +126,7 @@ spelled_behind : (settings : Settings) (a b : Image) (rows : Rows) → AgreeBehi
 spelled_behind settings a b rows same few =
     ap (λ objects. fitting rows (state_with settings rows objects)) (objects_spelled_behind settings.frames a b rows.table rows.objects same few)
 
--- Two images that agree behind the journal spell the same.
+-- Two images that agree after the journal spell the same.
 pub replayed_same : (settings : Settings) (a b : Image) → AgreeBehind (total_blocks settings.frames) a b → replayed_volume settings a ≡ replayed_volume settings b
 replayed_same settings a b same =
     let frames = settings.frames in
@@ -148,7 +148,7 @@ volume_of_replay settings image r is replayed =
     ∙ ap (λ t. if t then option_map_or (λ replayed. replayed_volume settings replayed) (replay image (total_blocks settings.frames)) Damaged else Damaged) (le-leb (total_blocks settings.frames) (length image) is.long)
     ∙ ap (λ replayed. option_map_or (λ replayed. replayed_volume settings replayed) replayed Damaged) replayed
 
--- it has the same settings where an image has the same first two blocks
+-- it has the same settings if an image has the same first two blocks
 pub set_as : (settings : Settings) (a b : Image) → length b ≡ length a → ((k : ℕ) → k < 2 → block_of b k ≡ block_of a k) → IsSet settings a → IsSet settings b
 set_as settings a b long low is = record {
   gated = ap (λ n. nat_le 2 n && gate_byte b == gate_open) long ∙ ap (λ (block : List ℕ). nat_le 2 (length a) && slice_index block 0 == gate_open) (low gate_block (omega arith)) ∙ is.gated;
@@ -159,7 +159,7 @@ set_as settings a b long low is = record {
 outside : (k : ℕ) → k < 2 → InJournal k → ⊥
 outside k low inside = let above = inside.0 in omega arith
 
--- where the replay of c is r, but for the journal, c has the settings of r
+-- when the replay of c is r, but for the journal, c has the settings of r
 pub contents_set : (settings : Settings) (r c : Image) → IsSet settings r → HasContents (total_blocks settings.frames) r c → IsSet settings c
 contents_set settings r c is has = at (replay c (total_blocks settings.frames)) refl has
   where
@@ -184,7 +184,7 @@ pub replay_set : (settings : Settings) (image r : Image) → IsSet settings imag
 replay_set settings image r is replayed =
     set_as settings image r (length_replay (total_blocks settings.frames) image r replayed) (λ k few. replay_low (total_blocks settings.frames) image r k replayed (omega arith)) is
 
--- The same contents are the same volume, where the journal of one can be replayed.
+-- The same contents are the same volume, if the journal of one can be replayed.
 pub volume_contents : (settings : Settings) (image r c : Image) → IsSet settings image → replay image (total_blocks settings.frames) ≡ Some r → SameContents (total_blocks settings.frames) image c → volume c ≡ volume image
 volume_contents settings image r c is replayed same =
     let has : HasContents (total_blocks settings.frames) r c = (let P : Option Image → Type 0 = λ o. SeenBut InJournal o (replay c (total_blocks settings.frames)) in subst P replayed same) in

@@ -54,7 +54,7 @@ births-sound (thread ∷ threads) distinct =
     (not_from_false (list_any (λ b. thread.row.birth == b) (map (λ (thread : Thread). thread.row.birth) threads)) (births-apart thread.row.birth threads (AllPairs-head (λ (x y : Thread). x.row.birth ≢ y.row.birth) thread threads distinct)))
     (births-sound threads (AllPairs-tail (λ (x y : Thread). x.row.birth ≢ y.row.birth) thread threads distinct))
 
--- no thread behind the first has number 1
+-- no thread after the first has number 1
 none-first : (n : ℕ) (threads : List Thread) → 1 ≤ n → All (λ (thread : Thread). n < thread.number) threads → find (λ (thread : Thread). thread.number == 1) threads ≡ None
 none-first n [] from all = refl
 none-first n (thread ∷ threads) from all =

@@ -63,7 +63,8 @@ unfoldable pub now_of : VolumeHeld → Image → State
 now_of v image = record {
   settings = v.settings;
   counters = v.counters;
-  objects = map (λ (o : ℕ × ObjectRow). object_spelled (pages.coming v.pages image) v.settings.frames (pages.table_in v.pages) o.1) v.objects;
+  objects = map
+      (λ (o : ℕ × ObjectRow). object_spelled (pages.coming v.pages image) v.settings.frames (pages.table_in v.pages) o.1) v.objects;
   accounts = v.accounts;
   threads = threads_in v;
 }
@@ -86,7 +87,7 @@ rows_apart [] = true
 rows_apart (row ∷ []) = true
 rows_apart (row ∷ next ∷ rows) = nat_le (page_behind row) (page_of next) && rows_apart (next ∷ rows)
 
--- what every value keeps, wherever it stands: rows in their ranges and places, as few as a volume has room for, objects that
+-- what every value keeps, on every disk: rows in their ranges and places, as few as a volume has room for, objects that
 -- lie apart, each bound page in an object, and a treasury
 pub record IsKept (v : VolumeHeld) : Type 0 where
   pub frames : pages.frame_count v.pages ≡ v.settings.frames
@@ -112,7 +113,8 @@ pub record Spelled (v : VolumeHeld) (image : Image) : Type 0 where
   pub gated : has_open_gate image ≡ true
   pub super : super_read (block_of image super_block) ≡ Spells v.settings
   pub counters_are : globals_read (block_of (pages.coming v.pages image) globals_block) ≡ Some v.counters
-  pub accounts_are : live_rows (λ i. account_read (account_row_bytes (pages.coming v.pages image) i)) 0 account_limit ≡ Some (placed_from 0 v.accounts)
+  pub accounts_are : live_rows (λ i. account_read (account_row_bytes (pages.coming v.pages image) i)) 0 account_limit
+      ≡ Some (placed_from 0 v.accounts)
   pub threads : List (ℕ × ThreadRow)
   pub threads_are : live_rows (λ i. thread_read (thread_row_bytes (pages.coming v.pages image) i)) 0 thread_limit ≡ Some threads
   pub numbered : map (λ (t : ℕ × ThreadRow). (t.0 + 1, t.1)) threads ≡ v.threads

@@ -50,6 +50,6 @@ pub record AreListed (rows : List (Option ThreadRow)) (taken : List Bool) (ready
   pub taken_are : taken ≡ map is_taken rows
   pub ready_are : ready ≡ map turn_mark rows
 
--- the lowest number, from 1 on, that none of these threads has: there is one where there are fewer than 256
+-- the lowest number, from 1 on, that none of these threads has: there is one if there are fewer than 256
 abbrev pub IsFreeNumber : List (ℕ × ThreadRow) → Option ℕ → Type 0
 IsFreeNumber rows found = MatchOption found (256 ≤ length rows) (λ n. (length rows < 256) × (n ≡ free_number (threads_of rows)) × (has_number n rows ≡ false))

@@ -23,6 +23,6 @@ pub record Opens (before : VolumeRead) (v : VolumeHeld) (told : Option Image) : 
   pub is : before ≡ Is state
   pub holds : Holds state v told
 
--- where reads gave no volume, nothing was written
+-- when reads gave no volume, nothing was written
 abbrev pub WritesOnlyVolumes : {D : Type 0} → Ghosts D → D → D → Type 0
 WritesOnlyVolumes facts old new = ForSome (facts.seen old) (λ image. IsNoState (volume image) → WritesNothing facts old new)

@@ -70,7 +70,7 @@ pages-set r r' frames frames' table table' page (suc n) (suc k) i value few with
     ∙ ap (λ j. page_words r frames table page ++ slice_set (pages_words r frames table (page + 1) n) j value) (sym place)
     ∙ sym (set-append_right (page_words r frames table page) (pages_words r frames table (page + 1) n) 512 (512 * suc k + i) value (length-page r frames table page) (omega arith))
 
--- an address is in an object where its page is
+-- an address is in an object if its page is
 pub covers-page : (row : ObjectRow) (page index : ℕ) → IsObjectRow row → index < 512 → covers row (4096 * page + 8 * index) ≡ is_page_in page row
 covers-page row page index is within =
     let aligned = is.place.aligned in
@@ -119,7 +119,7 @@ word-spelled r frames table page index (o ∷ os) kept within has =
     (sym (ap (λ t. t || list_any (λ row. is_page_in page row) (map (λ (o : ℕ × ObjectRow). o.1) os)) outside) ∙ has))
     (cases_Bool (is_page_in page o.1))
 
--- with another word of one page, an object has it where it has that page
+-- with another word of one page, an object has it if it has that page
 object-set : (r r' : Image) (frames : ℕ) (table table' : List ℕ) (page index value : ℕ) (row : ObjectRow) → IsObjectRow row → index < 512
     → page_words r' frames table' page ≡ slice_set (page_words r frames table page) index value
     → ((other : ℕ) → other ≢ 0 → other ≢ page → page_words r' frames table' other ≡ page_words r frames table other)

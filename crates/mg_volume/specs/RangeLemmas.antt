@@ -1,4 +1,4 @@
--- The rows of objects that a volume holds keep their ranges, since a row is read only where it does.
+-- The rows of objects that a volume holds keep their ranges, since a row is read only if it does.
 use Rattle.std.specs.Prelude.{◌≡◌, ℕ, zero, suc, ◌+◌, ◌&&◌, Bool, true, false, List, [], ◌∷◌, if◌then◌else◌, map, nat_lt, Option, Some, None}
 use Rattle.std.specs.List.{list_all}
 use Rattle.std.proofs.Common.{refl, ap, ◌∙◌, subst}

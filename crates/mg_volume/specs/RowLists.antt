@@ -1,4 +1,4 @@
--- Live rows with their places, as a list: what stands at a place, and the list with another row there.
+-- Live rows with their places, as a list: what is at a place, and the list with another row there.
 use Rattle.std.proofs.lemmas.Bool.Decides.{nat_tests}
 use Rattle.std.specs.Prelude.{◌≡◌, ◌≢◌, ◌+◌, ◌≤◌, ◌<◌, ◌==◌, nat_lt, ℕ, zero, suc, All, List, [], ◌∷◌, if◌then◌else◌, Option, Some, None}
 use Rattle.std.proofs.Common.{refl, sym, ap, subst, ◌∙◌, ⊎_elim, arith}
@@ -27,7 +27,7 @@ abbrev pub row_set : {R : Type 0} → ℕ → Option R → List (ℕ × R) → L
 row_set p new [] = with_live p new []
 row_set p new ((i, r) ∷ rows) = if nat_lt p i then with_live p new ((i, r) ∷ rows) else if p == i then with_live p new rows else (i, r) ∷ row_set p new rows
 
--- what live rows tell
+-- what live rows say
 pub record AreTold {R : Type 0} (f : ℕ → Read R) (i n : ℕ) (rows : List (ℕ × R)) : Type 0 where
   pub placed : ArePlaced i (i + n) rows
   pub each : (j : ℕ) → i ≤ j → j < i + n → f j ≡ Some (row_at j rows)
@@ -39,7 +39,7 @@ placed_wider low low' high high' ((i, r) ∷ rows) wide same placed =
     let below = placed.1 in
     (omega arith, omega arith, placed_wider (i + 1) (i + 1) high high' rows (omega arith) same placed.2)
 
--- no row stands before the first
+-- no row is before the first
 pub row_before : {R : Type 0} (low high j : ℕ) (rows : List (ℕ × R)) → ArePlaced low high rows → j < low → row_at j rows ≡ None
 row_before low high j [] placed before = refl
 row_before low high j ((i, r) ∷ rows) placed before = let above = placed.0 in grind (arith, nat_tests, row_before (i + 1) high j rows placed.2 (omega arith))

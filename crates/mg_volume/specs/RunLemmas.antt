@@ -1,4 +1,4 @@
--- Lemmas on what calls do to a volume: how runs of reads and stagings compose, and what is told behind one.
+-- Lemmas on what calls do to a volume: how runs of reads and stagings compose, and what is told after one.
 use Rattle.std.specs.Prelude.{◌≡◌, ◌+◌, ◌%◌, ◌^◌, ◌≤◌, ◌==◌, ℕ, Bool, find, map, Option}
 use Rattle.std.specs.Option.{ForSome}
 use Rattle.std.proofs.Common.{arith, refl, sym, ap, subst, ◌∙◌}

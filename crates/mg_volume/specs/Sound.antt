@@ -1,4 +1,4 @@
--- What is coming of an image is the state, where accounts, objects and threads keep the rules between them.
+-- What is coming of an image is the state, if accounts, objects and threads keep the rules between them.
 use Rattle.std.specs.Prelude.{◌≡◌, ◌+◌, ◌==◌, ◌&&◌, ◌||◌, nat_le, ℕ, Bool, true, false, List, [], ◌∷◌, if◌then◌else◌, drop, length, map, sum_by, Some}
 use Rattle.std.specs.List.{list_all, list_any}
 use Rattle.std.specs.Option.{option_map_or}
@@ -44,7 +44,7 @@ are_sound settings counters objects accounts threads =
 abbrev pub is_sound_held : VolumeHeld → Bool
 is_sound_held v = are_sound v.settings v.counters v.objects v.accounts v.threads
 
--- what an image spells where it has a state
+-- what an image spells if it has a state
 abbrev made : VolumeHeld → List Object → List AccRow → List Thread → State
 made v objects accounts threads = record { settings = v.settings; counters = v.counters; objects = objects; accounts = accounts; threads = threads }
 
@@ -157,7 +157,7 @@ module _ (v : VolumeHeld) (image : Image) (s : Spelled v image) where
       ap (λ rows. option_map_or (λ rows. fitting rows (state_spelled (pages.coming v.pages image) v.settings rows)) rows Damaged) rows-are
       ∙ ap (fitting rows-held) state-is
 
-  -- what is coming spells the state, where it is sound
+  -- what is coming spells the state, if it is sound
   pub coming_volume : IsKept v → is_sound (now_of v image) ≡ true → replayed_volume v.settings (pages.coming v.pages image) ≡ Is (now_of v image)
   unfolding rows-held now_of objects_in
   coming_volume kept sound = coming-fits ∙ ap (λ b. if b then Is (now_of v image) else Damaged) fits
@@ -181,6 +181,6 @@ module _ (v : VolumeHeld) (image : Image) (s : Spelled v image) where
           (and_from (g && a && o) t (and_from (g && a) o (and_from g a (no-gap 0 v.accounts) each.0) each.1) both.1)
           (and_from i d inside (laws.no_page_twice v.pages image s.fitting))
 
-  -- what is coming spells the state, where it spells any
+  -- what is coming spells the state, if it spells any
   pub coming_kept : (kept : State) → replayed_volume v.settings (pages.coming v.pages image) ≡ Is kept → now_of v image ≡ kept
   coming_kept kept spelled = fitting-is rows-held (now_of v image) kept (sym coming-fits ∙ spelled)

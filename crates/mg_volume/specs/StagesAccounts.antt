@@ -19,7 +19,7 @@ HasAccounts rows k bytes = (j : ℕ) → j < 64 → account_in bytes j ≡ Some 
 abbrev pub IsBeside : ℕ → Type 0
 IsBeside block = (block < first_account_block) ⊎ (first_thread_block ≤ block)
 
--- The blocks of the table that a test names, at most so many, are staged as the rows say. Every other block is as it was.
+-- The blocks of the table that a test names, at most `most` blocks, are staged as the rows say. Every other block is as it was.
 pub record StagesAccounts (most : ℕ) (named : ℕ → Bool) (rows : List AccRow) (old new : Pages) : Type 0 where
   pub table : pages.table_in new ≡ pages.table_in old
   pub shape : pages.SameShape old new

@@ -27,7 +27,7 @@ lives v t = list_any (λ (thread : Thread). thread.number == t) (threads_in v)
 abbrev pub has_base : ℕ → List ObjectRow → Bool
 has_base base rows = list_any (λ (row : ObjectRow). row.base == base) rows
 
--- the lowest of so many places, from this one on, that no row has; the one behind them where there is none
+-- the lowest of this many places, from this one on, that no row has; the place after them if there is none
 abbrev pub free_from : List (ℕ × ObjectRow) → ℕ → ℕ → ℕ
 free_from objects place zero = place
 free_from objects place (suc n) = if list_any (λ (o : ℕ × ObjectRow). o.0 == place) objects then free_from objects (place + 1) n else place
@@ -35,7 +35,7 @@ free_from objects place (suc n) = if list_any (λ (o : ℕ × ObjectRow). o.0 ==
 abbrev pub free_place : List (ℕ × ObjectRow) → ℕ
 free_place objects = free_from objects 0 object_limit
 
--- the place of the row of the object with this base, or of the row that it will have where it is not there
+-- the place of the row of the object with this base, or of the row that it will have if it is not there
 abbrev pub place_for : ℕ → List (ℕ × ObjectRow) → ℕ
 place_for base objects = option_map_or (λ (o : ℕ × ObjectRow). o.0) (find (λ (o : ℕ × ObjectRow). o.1.base == base) objects) (free_place objects)
 
@@ -54,7 +54,7 @@ pub record StillStaged (old new : VolumeHeld) : Type 0 where
   pub counters : are_counters_staged old ≡ true → are_counters_staged new ≡ true
   pub thread : (t : ℕ) → is_thread_staged old t ≡ true → is_thread_staged new t ≡ true
 
--- and so are the objects that were, where they are there still
+-- and so are the objects that were, if they are there still
 abbrev pub ObjectsStillStaged : VolumeHeld → VolumeHeld → Type 0
 ObjectsStillStaged old new = (base : ℕ) → has_base base (objects_in old) ≡ true → has_base base (objects_in new) ≡ true → is_object_staged old base ≡ true → is_object_staged new base ≡ true
 
@@ -99,7 +99,7 @@ abbrev pub objects_with : ℕ → Option ObjectRow → List Object → List Obje
 objects_with base None objects = without_object base objects
 objects_with base (Some row) objects = if has_base base (map (λ (object : Object). object.row) objects) then with_row base (λ old. row) objects else with_object (blank row) objects
 
--- what may be staged for the object with a base: another row where it is there, a first one where it is not, or that it goes
+-- what may be staged for the object with a base: another row if it is there, a first one if it is not, or that it goes
 abbrev pub MayStage : List ObjectRow → ℕ → ℕ → Option ObjectRow → Type 0
 MayStage rows frames base None = has_base base rows ≡ true
 MayStage rows frames base (Some row) = (row.base ≡ base) × (has_base base rows ≡ true → MayChange rows row) × (has_base base rows ≡ false → MayJoin rows frames row)

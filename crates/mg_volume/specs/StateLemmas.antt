@@ -14,7 +14,7 @@ use Rattle.mg_volume.specs.Held.{VolumeHeld}
 use Rattle.mg_volume.specs.Meaning.{IsSpelledBy, SameShape, Spelled, StandsOn, accounts_in, counters_in, now_of, objects_in, settings_in, staged_of, threads_in}
 use Rattle.mg_volume.specs.Sound.{coming_kept, rows-spelled}
 
--- it has the settings, and as many blocks as they ask for
+-- it has the settings, and as many blocks as they need
 pub set_of : (v : VolumeHeld) (image : Image) → Spelled v image → IsSet v.settings image
 set_of v image s = record {
   gated = s.gated;
@@ -22,7 +22,7 @@ set_of v image s = record {
   long = let total = laws.size_of v.pages image s.fitting in let long = laws.long_of v.pages image s.fitting in let frames = ap total_blocks s.frames in omega arith;
 }
 
--- where nothing is staged the state is the one that is kept
+-- when nothing is staged the state is what is kept
 pub now_kept : (v : VolumeHeld) (image : Image) → IsSpelledBy v image → staged_of v ≡ 0 → volume image ≡ Is (now_of v image)
 unfolding IsSpelledBy staged_of
 now_kept v image held unstaged =
@@ -54,7 +54,7 @@ pub now_rows : (v : VolumeHeld) (image : Image) → map (λ (object : Object). o
 unfolding now_of objects_in
 now_rows v image = rows-spelled (pages.coming v.pages image) v.settings.frames (pages.table_in v.pages) v.objects
 
--- after a call that stages, a volume stands where it stood
+-- after a call that stages, a volume stands on the disk as before
 pub staged_stands : {D : Type 0} (facts : Ghosts D) (old new : VolumeHeld) (disk : D) → StandsOn facts old disk → SameShape old new → ((image : Image) → IsSpelledBy old image → IsSpelledBy new image) → StandsOn facts new disk
 staged_stands facts old new disk stands shape spelled = record {
   room = subst (λ n. n ≤ facts.block_count disk) (sym shape.total) stands.room;

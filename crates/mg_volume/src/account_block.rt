@@ -19,7 +19,7 @@ fn row_at(rows: &[AccRow], place: u64) -> Option<&AccRow>
     rows.get(place as usize)
 }
 
-/// Block k of the table, k below 16: the rows of the accounts from place `64 * k` on. Behind the last account they are free.
+/// Block k of the table, k below 16: the rows of the accounts from place `64 * k` on. After the last account they are free.
 pub(crate) fn account_block(rows: &[AccRow], k: u64) -> Block
     requires { k < 16 }
     ensures { (j : ℕ) → j < 64 → account_in result j ≡ Some (slice_get rows.now (64 * k + j)) }
@@ -52,13 +52,13 @@ pub(crate) fn stage_both(pages: &mut Pages, rows: &[AccRow], j: u64, k: u64)
     stage_accounts(pages, rows, k);
 }
 
-/// Stages the first n blocks of the table, at most 16.
-pub(crate) fn stage_first(pages: &mut Pages, rows: &[AccRow], n: u64)
-    requires n_at_most_16 { n ≤ 16 }
+/// Stages the first `count` blocks of the table, at most 16.
+pub(crate) fn stage_first(pages: &mut Pages, rows: &[AccRow], count: u64)
+    requires n_at_most_16 { count ≤ 16 }
     requires at_most_144_staged { staged_of pages.old ≤ 144 }
-    ensures { StagesAccounts 16 (λ k. nat_lt k n) rows.now pages.old pages.new }
+    ensures { StagesAccounts 16 (λ k. nat_lt k count) rows.now pages.old pages.new }
 {
-    for k in 0..n {
+    for k in 0..count {
         stage_accounts(pages, rows, k);
     }
 }

@@ -17,19 +17,19 @@ use mg_bank::Bank;
 use mg_model::Refusal;
 use mg_rent::{charge_all, may_collect, rate};
 
-// The block of the table that has the row of account n, which is there.
-fn block_of(bank: &Bank, n: u64) -> u64
-    requires there { is_some (account_of bank.now.accounts n) ≡ true }
-    ensures block { result ≡ (n - 1) / 64 }
+// The block of the table that has the row of this account, which is there.
+fn block_of(bank: &Bank, account: u64) -> u64
+    requires there { is_some (account_of bank.now.accounts account) ≡ true }
+    ensures block { result ≡ (account - 1) / 64 }
     ensures below_16 { result < 16 }
 {
-    match bank.row(n) {
-        Some(_) => (n - 1) / 64,
+    match bank.row(account) {
+        Some(_) => (account - 1) / 64,
         None => unreachable!(),
     }
 }
 
-// How many blocks of the table have rows of so many accounts.
+// How many blocks of the table have the rows of this number of accounts.
 fn block_count(accounts: u64) -> u64
     requires { accounts ≤ 1024 }
     ensures all { accounts ≤ 64 * result }
@@ -40,52 +40,58 @@ fn block_count(accounts: u64) -> u64
 
 #[tactic(auto, unfolding(crate::specs::Meaning::settings_in, crate::specs::Meaning::counters_in, crate::specs::Meaning::objects_in, crate::specs::Meaning::accounts_in, crate::specs::Meaning::threads_in, crate::specs::Meaning::now_of, crate::specs::Meaning::staged_of, crate::specs::Meaning::is_live, crate::specs::Meaning::total_of, crate::specs::Meaning::words_in))]
 impl Volume {
-    /// Stages one account more, with the password fresh and n credits of account acc, which pw opens; gives its number, the last.
-    /// It owes nothing. The refusals come in this order: no such account, or another password than its own (Account); fewer
-    /// credits than n (Credit); 1,024 accounts (Limit). Nothing changes then. At most 158 blocks are staged, and two more at most
+    /// Stages one more account, with the password `fresh` and these credits of `account`, which `password` opens; gives its number, the last.
+    /// It owes nothing. The refusals come in this order: no such account, or another password than its own (Account); too few
+    /// credits (Credit); 1,024 accounts (Limit). Nothing changes then. At most 158 blocks are staged, and two more at most
     /// then.
-    pub fn open_account(&mut self, acc: u64, pw: u64, n: u64, fresh: u64) -> Result<u64, Refusal>
+    pub fn open_account(
+        &mut self,
+        account: u64,
+        password: u64,
+        credits: u64,
+        fresh: u64,
+    ) -> Result<u64, Refusal>
         requires at_most_158_staged { staged_of self.old ≤ 158 }
-        ensures refusal { MatchResult result (λ _. opening_refusal (accounts_in self.old) acc pw n ≡ None) (λ word. opening_refusal (accounts_in self.old) acc pw n ≡ Some word) }
+        ensures refusal { MatchResult result (λ _. opening_refusal (accounts_in self.old) account password credits ≡ None) (λ word. opening_refusal (accounts_in self.old) account password credits ≡ Some word) }
         ensures number { IfOk result (λ number. number ≡ length (accounts_in self.old) + 1) }
-        ensures now { OnOk result ((image : List (List ℕ)) → now_of self.new image ≡ record (now_of self.old image) { accounts = taken_from (accounts_in self.old) acc n ++ record { password = fresh; balance = n; owed = 0 } ∷ [] }) }
+        ensures now { OnOk result ((image : List (List ℕ)) → now_of self.new image ≡ record (now_of self.old image) { accounts = taken_from (accounts_in self.old) account credits ++ record { password = fresh; balance = credits; owed = 0 } ∷ [] }) }
         ensures rows { OnOk result (objects_in self.new ≡ objects_in self.old) }
         ensures stages { OnOk result (Stages 2 self.old self.new) }
         ensures objects { OnOk result (ObjectsStillStaged self.old self.new) }
         ensures stays { OnErr result (self.new ≡ self.old) }
     {
-        match self.bank().opening(acc, pw, n) {
+        match self.bank().opening(account, password, credits) {
             Some(word) => Err(word),
             None => {
                 let number = self.bank.len() + 1;
-                self.add_account(acc, n, fresh);
+                self.add_account(account, credits, fresh);
                 Ok(number)
             }
         }
     }
 
-    /// Stages that n credits of account acc, which pw opens, go to account to, which may be the same. The refusals come in this
-    /// order: no such account, another password than its own, or no account to pay to (Account); fewer credits than n (Credit).
-    /// Nothing changes then. At most 158 blocks are staged, and two more at most then.
-    pub fn pay(&mut self, acc: u64, pw: u64, to: u64, n: u64) -> Result<(), Refusal>
+    /// Stages that these credits of account `from`, which `password` opens, go to account `to`, which may be the same. The
+    /// refusals come in this order: no such account, another password than its own, or no account to pay to (Account); too few
+    /// credits (Credit). Nothing changes then. At most 158 blocks are staged, and two more at most then.
+    pub fn pay(&mut self, from: u64, password: u64, to: u64, credits: u64) -> Result<(), Refusal>
         requires at_most_158_staged { staged_of self.old ≤ 158 }
-        ensures refusal { MatchResult result (λ _. paying_refusal (accounts_in self.old) acc pw to n ≡ None) (λ word. paying_refusal (accounts_in self.old) acc pw to n ≡ Some word) }
-        ensures now { OnOk result ((image : List (List ℕ)) → now_of self.new image ≡ record (now_of self.old image) { accounts = given_to (taken_from (accounts_in self.old) acc n) to n }) }
+        ensures refusal { MatchResult result (λ _. paying_refusal (accounts_in self.old) from password to credits ≡ None) (λ word. paying_refusal (accounts_in self.old) from password to credits ≡ Some word) }
+        ensures now { OnOk result ((image : List (List ℕ)) → now_of self.new image ≡ record (now_of self.old image) { accounts = given_to (taken_from (accounts_in self.old) from credits) to credits }) }
         ensures rows { OnOk result (objects_in self.new ≡ objects_in self.old) }
         ensures stages { OnOk result (Stages 2 self.old self.new) }
         ensures objects { OnOk result (ObjectsStillStaged self.old self.new) }
         ensures stays { OnErr result (self.new ≡ self.old) }
     {
-        match self.bank().paying(acc, pw, to, n) {
+        match self.bank().paying(from, password, to, credits) {
             Some(word) => Err(word),
             None => {
-                self.transfer(acc, to, n);
+                self.transfer(from, to, credits);
                 Ok(())
             }
         }
     }
 
-    // Stages one account more, the last, with this password and with credits of the payer, which is there and has as many.
+    // Stages one more account, the last, with this password and with credits of the payer, which is there and has that many.
     // There are fewer than 1,024 accounts. At most 158 blocks are staged, and two more at most then.
     fn add_account(&mut self, payer: u64, amount: u64, password: u64)
         requires payer { is_some (account_of (accounts_in self.old) payer) ≡ true }
@@ -103,7 +109,7 @@ impl Volume {
         stage_both(&mut self.pages, self.bank.rows(), first, count / 64);
     }
 
-    // Stages that credits of one account go to another, which may be the same. Both are there, and the first has as many. At
+    // Stages that credits of one account go to another, which may be the same. Both are there, and the first has that many. At
     // most 158 blocks are staged, and two more at most then.
     fn transfer(&mut self, from: u64, to: u64, amount: u64)
         requires from { is_some (account_of (accounts_in self.old) from) ≡ true }
@@ -130,11 +136,11 @@ impl Volume {
     }
 
     /// Stages the rent of a period: each account pays for its pages what it can, with what it owes already, and owes the rest;
-    /// account 1 receives the sum, which is the answer. The period stays: who collects begins the next one with
+    /// account 1 receives the sum, which is the answer. The period stays: the caller begins the next one with
     /// [`Volume::stage_globals`]. In the last period, `2^24 - 1`, it is refused (Calendar), and nothing changes. At most 144 blocks
     /// are staged, and 16 more at most then.
     ///
-    /// The sums are exact where no account owes more than `2^60`, as in every state that is well formed. Whatever accounts owe,
+    /// The sums are exact if no account owes more than `2^60`, as in every state that is well formed. Whatever accounts owe,
     /// nothing but the accounts changes, and no credit comes or goes.
     pub fn collect(&mut self) -> Result<u64, Refusal>
         requires at_most_144_staged { staged_of self.old ≤ 144 }
@@ -165,7 +171,7 @@ impl Volume {
         ensures stages { Stages 16 self.old self.new }
         ensures objects { ObjectsStillStaged self.old self.new }
     {
-        // It tells that the frames are in their range.
+        // This says that the frames are in their range.
         self.params.keep_rules();
         let count = self.bank.len();
         let paid = charge_all(&mut self.bank, rate);

@@ -13,7 +13,7 @@ use mg_faults::Failed;
 #[tactic(auto, unfolding(crate::specs::Meaning::settings_in, crate::specs::Meaning::counters_in, crate::specs::Meaning::objects_in, crate::specs::Meaning::accounts_in, crate::specs::Meaning::threads_in, crate::specs::Meaning::now_of, crate::specs::Meaning::staged_of, crate::specs::Meaning::is_live, crate::specs::Meaning::total_of, crate::specs::Meaning::words_in))]
 impl Volume {
     /// Makes what is staged durable. With nothing staged no call of the disk is made, and the answer is Ok. After [`Failed`],
-    /// which comes only where a call of the disk failed, the volume is not live: the disk has the old state or the new.
+    /// which comes only if a call of the disk failed, the volume is not live: the disk has the old state or the new.
     pub fn commit<D: Disk>(&mut self, disk: &mut D) -> Result<(), Failed>
         requires live { IsTrue (is_live self.old) }
         requires stands { StandsOn D.Disk self.old disk.old }

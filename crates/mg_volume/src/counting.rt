@@ -1,4 +1,4 @@
-// The block of the counters, where it is staged: its words.
+// The block of the counters, if it is staged: its words.
 ghost use Rattle.std.specs.Prelude.{◌≡◌, true, false};
 ghost use Rattle.mg_volume.specs.Standing.{RespellsCounters};
 
@@ -6,16 +6,16 @@ use mg_layout::GLOBALS_BLOCK;
 use mg_model::Globals;
 use mg_pages::Pages;
 
-/// Other counters: the words of their block change. Whether the block is staged; where it is not nothing changes.
-pub(crate) fn respell_counters(pages: &mut Pages, g: &Globals) -> bool
+/// Writes other counters into their block, if it is staged, and returns whether it is. If it is not, nothing changes.
+pub(crate) fn respell_counters(pages: &mut Pages, counters: &Globals) -> bool
     ensures not_staged { result ≡ false → pages.new ≡ pages.old }
-    ensures staged { result ≡ true → RespellsCounters g.now pages.old pages.new }
+    ensures staged { result ≡ true → RespellsCounters counters.now pages.old pages.new }
 {
-    if !pages.put(GLOBALS_BLOCK, 0, g.draws()) {
+    if !pages.put(GLOBALS_BLOCK, 0, counters.draws()) {
         return false;
     }
-    let _period = pages.put(GLOBALS_BLOCK, 8, g.period());
-    let _cursor = pages.put(GLOBALS_BLOCK, 16, g.cursor());
-    let _births = pages.put(GLOBALS_BLOCK, 24, g.births());
+    let _period = pages.put(GLOBALS_BLOCK, 8, counters.period());
+    let _cursor = pages.put(GLOBALS_BLOCK, 16, counters.cursor());
+    let _births = pages.put(GLOBALS_BLOCK, 24, counters.births());
     true
 }

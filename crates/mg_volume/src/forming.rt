@@ -1,4 +1,4 @@
-// A volume that was opened or committed is well formed. What is here does nothing but tell.
+// A volume that was opened or committed is well formed. What is here does nothing when it runs.
 ghost use Rattle.std.specs.Prelude.{List, ◌≡◌, ℕ, All, true};
 ghost use Rattle.mg_disk.specs.Disk.{AreBytes};
 ghost use Rattle.mg_model.specs.Ranges.{IsWord};
@@ -16,7 +16,7 @@ fn has_word(row: &AccRow)
     let _password = row.password;
 }
 
-// So have those of all accounts.
+// The passwords of all accounts have 64 bits.
 fn accounts_keep_rules(accounts: &[AccRow])
     ensures { All (λ (row : AccRow). IsWord row.password) accounts.now }
 {
@@ -27,9 +27,9 @@ fn accounts_keep_rules(accounts: &[AccRow])
 
 #[tactic(auto, unfolding(crate::specs::Meaning::settings_in, crate::specs::Meaning::counters_in, crate::specs::Meaning::objects_in, crate::specs::Meaning::accounts_in, crate::specs::Meaning::threads_in, crate::specs::Meaning::now_of, crate::specs::Meaning::staged_of, crate::specs::Meaning::is_live, crate::specs::Meaning::total_of, crate::specs::Meaning::words_in))]
 impl Volume {
-    /// With nothing staged the state is well formed, where it is sound: of each image that this volume fits. It asks for
-    /// an image of bytes, as every disk gives. This looks at no disk and changes nothing; a layer above calls it where it
-    /// has to know, behind an opening and a commit.
+    /// With nothing staged the state is well formed, if it is sound: of each image that this volume fits. It needs
+    /// an image of bytes, as every disk gives. This looks at no disk and changes nothing; a layer above calls it when it
+    /// has to know, after an opening and a commit.
     pub fn is_formed(&self)
         ensures { (image : List (List ℕ)) → AreBytes image → IsSpelledBy self.now image → staged_of self.now ≡ 0 → is_sound (now_of self.now image) ≡ true → IsWellFormed (now_of self.now image) }
     {

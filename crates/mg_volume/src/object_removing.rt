@@ -30,7 +30,7 @@ pub(crate) fn take_object(
     ensures accounts { bank.new.accounts ≡ bank.old.accounts }
     ensures rows { StagesRows objects.new result.0 pages.old pages.new }
 {
-    // It tells that each place is one of the table.
+    // This says that each place is one of the table.
     objects.objects().keep_rules();
     let taken = objects.remove(base, bank);
     stage_row(pages, objects, taken.0);

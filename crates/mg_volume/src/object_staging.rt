@@ -23,9 +23,9 @@ impl Volume {
         let _objects = &self.objects;
     }
 
-    /// Stages the row of the object with this base: in place of the one that it has, with as many pages; that of a new object, whose
-    /// words are all 0, where none has the base ([`Volume::insert`] says what it asks); or that there is no such object any more. At
-    /// most 30 blocks are staged where it goes, and at most 129 more then; else its block is staged already, or fewer than 160
+    /// Stages the row of the object with this base: in place of its row, with as many pages; the row of a new object, whose
+    /// words are all 0, if none has the base ([`Volume::insert`] says what it requires); or that there is no such object any more. At
+    /// most 30 blocks are staged if it goes, and at most 129 more then; else its block is staged already, or fewer than 160
     /// are, and one more is at most.
     ///
     /// A caller that knows which of the three it is calls [`Volume::change`], [`Volume::insert`] or [`Volume::remove`], which look
@@ -70,7 +70,7 @@ impl Volume {
     }
 
     /// Stages another row of an object that is there, with as many pages. Its block is staged already, or fewer than 160 are;
-    /// one more is at most. The state is the one that any change gives which makes this row of the old one.
+    /// one more is at most. The state is what any change gives that turns the old row into this one.
     pub fn change(&mut self, row: ObjRow)
         requires change { MayChange (objects_in self.old) row }
         requires staged_or_fewer_than_160 { (is_object_staged self.old row.base ≡ true) ⊎ (staged_of self.old < body_limit) }
@@ -81,7 +81,7 @@ impl Volume {
         ensures objects { ObjectsStillStaged self.old self.new }
         ensures here { is_object_staged self.new row.base ≡ true }
     {
-        // It tells that the row keeps its ranges.
+        // This says that the row keeps its ranges.
         row.keep_rules();
         let place = self.objects.update(row, &mut self.bank);
         stage_row(&mut self.pages, &self.objects, place);
@@ -99,7 +99,7 @@ impl Volume {
         ensures objects { ObjectsStillStaged self.old self.new }
         ensures here { is_object_staged self.new row.base ≡ true }
     {
-        // It tells that the row keeps its ranges.
+        // This says that the row keeps its ranges.
         row.keep_rules();
         let place = self.objects.insert(row, &mut self.bank);
         stage_row(&mut self.pages, &self.objects, place);

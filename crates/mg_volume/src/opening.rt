@@ -38,7 +38,8 @@ struct Lists {
     threads: Threads,
 }
 
-// These accounts, with the threads of these rows and the objects of a table, of which no two share a page. None where there is not enough memory.
+// These accounts, with the threads of these rows and the objects of a table, of which no two share a page. None if there is not
+// enough memory.
 fn lists_of(
     alloc: Global,
     table: Vec<Option<ObjRow>>,
@@ -135,7 +136,7 @@ pub(crate) fn open_rows<D: Disk>(
     ensures no_damaged { result ≢ Err OpenFault.Damaged }
     ensures calls { DiskCallsBy D.Disk disk.old disk.new (result ≡ Err OpenFault.Disk) }
 {
-    // It tells that the credits are in their range.
+    // This says that the credits are in their range.
     rows.params.keep_rules();
     let lists = match lists_of(alloc, rows.objects, rows.threads, rows.accounts) {
         Some(lists) => lists,

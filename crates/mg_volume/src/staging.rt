@@ -22,66 +22,67 @@ use mg_rows::{globals_start, rows_are_spelled_in_one_way};
 
 #[tactic(auto, unfolding(crate::specs::Meaning::settings_in, crate::specs::Meaning::counters_in, crate::specs::Meaning::objects_in, crate::specs::Meaning::accounts_in, crate::specs::Meaning::threads_in, crate::specs::Meaning::now_of, crate::specs::Meaning::staged_of, crate::specs::Meaning::is_live, crate::specs::Meaning::total_of, crate::specs::Meaning::words_in))]
 impl Volume {
-    /// Stages the counters, in place of those that the state has. Their block is staged already, or fewer than 160 blocks are; one
+    /// Stages the counters, in place of those of the state. Their block is staged already, or fewer than 160 blocks are; one
     /// more is at most.
-    pub fn stage_globals(&mut self, g: Globals)
+    pub fn stage_globals(&mut self, counters: Globals)
         requires staged_or_fewer_than_160 { (are_counters_staged self.old ≡ true) ⊎ (staged_of self.old < body_limit) }
-        ensures now { (image : List (List ℕ)) → now_of self.new image ≡ record (now_of self.old image) { counters = g } }
+        ensures now { (image : List (List ℕ)) → now_of self.new image ≡ record (now_of self.old image) { counters = counters } }
         ensures rows { objects_in self.new ≡ objects_in self.old }
         ensures stages { Stages 1 self.old self.new }
         ensures objects { ObjectsStillStaged self.old self.new }
         ensures here { are_counters_staged self.new ≡ true }
     {
-        if !self.put_counters(&g) {
-            self.spell_counters(g);
+        if !self.put_counters(&counters) {
+            self.spell_counters(counters);
         }
     }
 
-    // The same where their block is staged, and whether it is. Where it is not nothing changes.
-    fn put_counters(&mut self, g: &Globals) -> bool
+    // Writes the counters into their block, if it is staged, and returns whether it is. If it is not, nothing changes.
+    fn put_counters(&mut self, counters: &Globals) -> bool
         ensures not_staged { result ≡ false → self.new ≡ self.old }
-        ensures now { result ≡ true → (image : List (List ℕ)) → now_of self.new image ≡ record (now_of self.old image) { counters = g.now } }
+        ensures now { result ≡ true → (image : List (List ℕ)) → now_of self.new image ≡ record (now_of self.old image) { counters = counters.now } }
         ensures rows { result ≡ true → objects_in self.new ≡ objects_in self.old }
         ensures stages { result ≡ true → Stages 1 self.old self.new }
         ensures objects { result ≡ true → ObjectsStillStaged self.old self.new }
         ensures here { result ≡ true → are_counters_staged self.new ≡ true }
     {
         rows_are_spelled_in_one_way();
-        g.keep_rules();
-        if !respell_counters(&mut self.pages, g) {
+        counters.keep_rules();
+        if !respell_counters(&mut self.pages, counters) {
             return false;
         }
-        self.globals = *g;
+        self.globals = *counters;
         true
     }
 
-    // The same with their block spelled whole.
-    fn spell_counters(&mut self, g: Globals)
+    // Stages the counters with their block spelled whole.
+    fn spell_counters(&mut self, counters: Globals)
         requires staged_or_fewer_than_160 { (are_counters_staged self.old ≡ true) ⊎ (staged_of self.old < body_limit) }
-        ensures now { (image : List (List ℕ)) → now_of self.new image ≡ record (now_of self.old image) { counters = g } }
+        ensures now { (image : List (List ℕ)) → now_of self.new image ≡ record (now_of self.old image) { counters = counters } }
         ensures rows { objects_in self.new ≡ objects_in self.old }
         ensures stages { Stages 1 self.old self.new }
         ensures objects { ObjectsStillStaged self.old self.new }
         ensures here { are_counters_staged self.new ≡ true }
     {
-        self.pages.stage_start(GLOBALS_BLOCK, &globals_start(&g));
-        self.globals = g;
+        self.pages
+            .stage_start(GLOBALS_BLOCK, &globals_start(&counters));
+        self.globals = counters;
     }
 
-    /// Stages the row of thread t, 1 to 256, in place of the one that it has, or that there is no such thread. Its block is
+    /// Stages the row of the thread with this number, 1 to 256, in place of its row, or that there is no such thread. Its block is
     /// staged already, or fewer than 160 blocks are; one more is at most.
-    pub fn stage_thread(&mut self, t: u64, row: Option<ThrRow>)
-        requires t_at_least_1 { 1 ≤ t }
-        requires t_at_most_256 { t ≤ 256 }
-        requires staged_or_fewer_than_160 { (is_thread_staged self.old t ≡ true) ⊎ (staged_of self.old < body_limit) }
-        ensures now { (image : List (List ℕ)) → now_of self.new image ≡ record (now_of self.old image) { threads = threads_with t row (threads_in self.old) } }
+    pub fn stage_thread(&mut self, number: u64, row: Option<ThrRow>)
+        requires t_at_least_1 { 1 ≤ number }
+        requires t_at_most_256 { number ≤ 256 }
+        requires staged_or_fewer_than_160 { (is_thread_staged self.old number ≡ true) ⊎ (staged_of self.old < body_limit) }
+        ensures now { (image : List (List ℕ)) → now_of self.new image ≡ record (now_of self.old image) { threads = threads_with number row (threads_in self.old) } }
         ensures rows { objects_in self.new ≡ objects_in self.old }
         ensures stages { Stages 1 self.old self.new }
         ensures objects { ObjectsStillStaged self.old self.new }
-        ensures here { is_thread_staged self.new t ≡ true }
+        ensures here { is_thread_staged self.new number ≡ true }
     {
-        stage_any(&mut self.pages, FIRST_THREAD_BLOCK + t - 1, &row);
-        self.threads.put(t, row);
+        stage_any(&mut self.pages, FIRST_THREAD_BLOCK + number - 1, &row);
+        self.threads.put(number, row);
         self.threads.keep_rules();
     }
 
@@ -93,71 +94,71 @@ impl Volume {
     }
 
     // A thread that lives has a number from 1 to 256.
-    fn keep_number(&self, t: u64)
-        requires { lives self.now t ≡ true }
-        ensures at_least_1 { 1 ≤ t }
-        ensures at_most_256 { t ≤ 256 }
+    fn keep_number(&self, number: u64)
+        requires { lives self.now number ≡ true }
+        ensures at_least_1 { 1 ≤ number }
+        ensures at_most_256 { number ≤ 256 }
     {
-        let _frame = self.frame(t);
+        let _frame = self.frame(number);
     }
 
-    /// Stages another row of thread t, which lives. Its block is staged already, or fewer than 160 are; one more is at most. The
-    /// state is the one that any change gives which makes this row of the old one.
-    pub fn change_thread(&mut self, t: u64, row: ThrRow)
-        requires lives { lives self.old t ≡ true }
-        requires staged_or_fewer_than_160 { (is_thread_staged self.old t ≡ true) ⊎ (staged_of self.old < body_limit) }
-        ensures now { (change : ThreadRow → ThreadRow) → IfSome (find (λ thread. thread.number == t) (threads_in self.old)) (λ thread. change thread.row ≡ row)
-            → (image : List (List ℕ)) → now_of self.new image ≡ with_thread (now_of self.old image) t change }
+    /// Stages another row of this thread, which lives. Its block is staged already, or fewer than 160 are; one more is at most. The
+    /// state is what any change gives that turns the old row into this one.
+    pub fn change_thread(&mut self, number: u64, row: ThrRow)
+        requires lives { lives self.old number ≡ true }
+        requires staged_or_fewer_than_160 { (is_thread_staged self.old number ≡ true) ⊎ (staged_of self.old < body_limit) }
+        ensures now { (change : ThreadRow → ThreadRow) → IfSome (find (λ thread. thread.number == number) (threads_in self.old)) (λ thread. change thread.row ≡ row)
+            → (image : List (List ℕ)) → now_of self.new image ≡ with_thread (now_of self.old image) number change }
         ensures rows { objects_in self.new ≡ objects_in self.old }
         ensures stages { Stages 1 self.old self.new }
         ensures objects { ObjectsStillStaged self.old self.new }
-        ensures here { is_thread_staged self.new t ≡ true }
+        ensures here { is_thread_staged self.new number ≡ true }
     {
         self.numbers_differ();
-        self.keep_number(t);
-        self.stage_thread(t, Some(row));
+        self.keep_number(number);
+        self.stage_thread(number, Some(row));
     }
 
-    /// Thread t, which lives, stands elsewhere from now on: its pc, a multiple of 8, its state and its registers. Its block is
-    /// staged already, or fewer than 160 are; one more is at most. Where it is staged only the words that change are written. The
-    /// state is the one that any change gives which makes such a row of the old one.
-    pub fn move_thread(&mut self, t: u64, pc: u64, state: ThrState, regs: &[u64; 8])
-        requires lives { lives self.old t ≡ true }
+    /// This thread, which lives, is elsewhere from now on: its pc, a multiple of 8, its state and its registers. Its block is
+    /// staged already, or fewer than 160 are; one more is at most. If it is staged only the words that change are written. The
+    /// state is what any change gives that turns the old row into such a row.
+    pub fn move_thread(&mut self, number: u64, pc: u64, state: ThrState, regs: &[u64; 8])
+        requires lives { lives self.old number ≡ true }
         requires aligned { pc % 8 ≡ 0 }
-        requires staged_or_fewer_than_160 { (is_thread_staged self.old t ≡ true) ⊎ (staged_of self.old < body_limit) }
-        ensures now { (change : ThreadRow → ThreadRow) → IfSome (find (λ thread. thread.number == t) (threads_in self.old)) (λ thread. change thread.row ≡ stands_at pc state regs.now thread.row)
-            → (image : List (List ℕ)) → now_of self.new image ≡ with_thread (now_of self.old image) t change }
+        requires staged_or_fewer_than_160 { (is_thread_staged self.old number ≡ true) ⊎ (staged_of self.old < body_limit) }
+        ensures now { (change : ThreadRow → ThreadRow) → IfSome (find (λ thread. thread.number == number) (threads_in self.old)) (λ thread. change thread.row ≡ stands_at pc state regs.now thread.row)
+            → (image : List (List ℕ)) → now_of self.new image ≡ with_thread (now_of self.old image) number change }
         ensures rows { objects_in self.new ≡ objects_in self.old }
         ensures stages { Stages 1 self.old self.new }
         ensures objects { ObjectsStillStaged self.old self.new }
-        ensures here { is_thread_staged self.new t ≡ true }
+        ensures here { is_thread_staged self.new number ≡ true }
     {
-        if !self.move_staged(t, pc, state, regs) {
-            self.move_whole(t, pc, state, regs);
+        if !self.move_staged(number, pc, state, regs) {
+            self.move_whole(number, pc, state, regs);
         }
     }
 
-    // The same where its block is staged, and whether it is. Where it is not nothing changes.
-    fn move_staged(&mut self, t: u64, pc: u64, state: ThrState, regs: &[u64; 8]) -> bool
-        requires lives { lives self.old t ≡ true }
+    // Writes where the thread is into its block, if that is staged, and returns whether it is. If it is not, nothing changes.
+    fn move_staged(&mut self, number: u64, pc: u64, state: ThrState, regs: &[u64; 8]) -> bool
+        requires lives { lives self.old number ≡ true }
         requires aligned { pc % 8 ≡ 0 }
         ensures not_staged { result ≡ false → self.new ≡ self.old }
-        ensures now { result ≡ true → (change : ThreadRow → ThreadRow) → IfSome (find (λ thread. thread.number == t) (threads_in self.old)) (λ thread. change thread.row ≡ stands_at pc state regs.now thread.row)
-            → (image : List (List ℕ)) → now_of self.new image ≡ with_thread (now_of self.old image) t change }
+        ensures now { result ≡ true → (change : ThreadRow → ThreadRow) → IfSome (find (λ thread. thread.number == number) (threads_in self.old)) (λ thread. change thread.row ≡ stands_at pc state regs.now thread.row)
+            → (image : List (List ℕ)) → now_of self.new image ≡ with_thread (now_of self.old image) number change }
         ensures rows { result ≡ true → objects_in self.new ≡ objects_in self.old }
         ensures stages { result ≡ true → Stages 1 self.old self.new }
         ensures objects { result ≡ true → ObjectsStillStaged self.old self.new }
-        ensures here { result ≡ true → is_thread_staged self.new t ≡ true }
+        ensures here { result ≡ true → is_thread_staged self.new number ≡ true }
     {
         rows_are_spelled_in_one_way();
         self.numbers_differ();
-        self.keep_number(t);
-        let Some(row) = self.threads.get(t) else {
+        self.keep_number(number);
+        let Some(row) = self.threads.get(number) else {
             return false;
         };
         if !respell(
             &mut self.pages,
-            FIRST_THREAD_BLOCK + t - 1,
+            FIRST_THREAD_BLOCK + number - 1,
             row,
             pc,
             state,
@@ -165,30 +166,30 @@ impl Volume {
         ) {
             return false;
         }
-        self.threads.stand(t, pc, state, regs);
+        self.threads.stand(number, pc, state, regs);
         self.threads.keep_rules();
         true
     }
 
-    // The same with its block spelled whole.
-    fn move_whole(&mut self, t: u64, pc: u64, state: ThrState, regs: &[u64; 8])
-        requires lives { lives self.old t ≡ true }
+    // Moves the thread with its block spelled whole.
+    fn move_whole(&mut self, number: u64, pc: u64, state: ThrState, regs: &[u64; 8])
+        requires lives { lives self.old number ≡ true }
         requires aligned { pc % 8 ≡ 0 }
-        requires staged_or_fewer_than_160 { (is_thread_staged self.old t ≡ true) ⊎ (staged_of self.old < body_limit) }
-        ensures now { (change : ThreadRow → ThreadRow) → IfSome (find (λ thread. thread.number == t) (threads_in self.old)) (λ thread. change thread.row ≡ stands_at pc state regs.now thread.row)
-            → (image : List (List ℕ)) → now_of self.new image ≡ with_thread (now_of self.old image) t change }
+        requires staged_or_fewer_than_160 { (is_thread_staged self.old number ≡ true) ⊎ (staged_of self.old < body_limit) }
+        ensures now { (change : ThreadRow → ThreadRow) → IfSome (find (λ thread. thread.number == number) (threads_in self.old)) (λ thread. change thread.row ≡ stands_at pc state regs.now thread.row)
+            → (image : List (List ℕ)) → now_of self.new image ≡ with_thread (now_of self.old image) number change }
         ensures rows { objects_in self.new ≡ objects_in self.old }
         ensures stages { Stages 1 self.old self.new }
         ensures objects { ObjectsStillStaged self.old self.new }
-        ensures here { is_thread_staged self.new t ≡ true }
+        ensures here { is_thread_staged self.new number ≡ true }
     {
         self.numbers_differ();
-        self.keep_number(t);
-        match self.threads.get(t) {
+        self.keep_number(number);
+        match self.threads.get(number) {
             Some(_row) => {
-                self.threads.stand(t, pc, state, regs);
+                self.threads.stand(number, pc, state, regs);
                 self.threads.keep_rules();
-                stage_held(&mut self.pages, &self.threads, t);
+                stage_held(&mut self.pages, &self.threads, number);
             }
             None => unreachable!(),
         }

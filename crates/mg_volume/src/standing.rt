@@ -1,4 +1,4 @@
-// The block of a thread that stands elsewhere, where it is staged: the words of it that change.
+// The block of a thread that moves elsewhere, if it is staged: the words of it that change.
 ghost use Rattle.std.specs.Prelude.{◌≡◌, ◌≤◌, ◌<◌, true, false, length, slice_index_or, slice_set};
 ghost use Rattle.mg_model.specs.Layout.{globals_block, table_block};
 ghost use Rattle.mg_model.specs.State.{ThreadRow};
@@ -16,8 +16,8 @@ const STATE: usize = 32;
 
 const REGISTERS: usize = 64;
 
-/// The thread with this row stands elsewhere: the words of its block change that spell it. Whether the block is staged; where it
-/// is not nothing changes.
+/// The thread with this row moves elsewhere: the words of its block that spell where it is are written, if the block is staged.
+/// Returns whether it is. If it is not, nothing changes.
 pub(crate) fn respell(
     pages: &mut Pages,
     block: u64,
@@ -50,7 +50,7 @@ fn put_pc(pages: &mut Pages, block: u64, row: &ThrRow, pc: u64) -> bool
     pages.put(block, PC, pc)
 }
 
-// It goes on from a block that is staged.
+// It continues from a block that is staged.
 fn put_state(pages: &mut Pages, block: u64, old: ThrState, new: ThrState)
     requires low { globals_block ≤ block }
     requires high { block < table_block }
@@ -63,7 +63,7 @@ fn put_state(pages: &mut Pages, block: u64, old: ThrState, new: ThrState)
     let _staged = pages.put(block, STATE, state_number(new));
 }
 
-// And so do the registers.
+// The words of the registers that change are written too.
 fn put_registers(pages: &mut Pages, block: u64, old: &[u64; 8], new: &[u64; 8])
     requires low { globals_block ≤ block }
     requires high { block < table_block }

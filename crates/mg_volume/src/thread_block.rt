@@ -25,21 +25,21 @@ pub(crate) fn stage_any(pages: &mut Pages, block: u64, row: &Option<ThrRow>)
     }
 }
 
-/// The same of the row that thread t, 1 to 256, has.
-pub(crate) fn stage_held(pages: &mut Pages, threads: &Threads, t: u64)
-    requires t_at_least_1 { 1 ≤ t }
-    requires t_at_most_256 { t ≤ 256 }
-    requires there { is_some (option_map (λ thread. thread.1) (find (λ thread. thread.0 == t) threads.now)) ≡ true }
-    requires staged_or_fewer_than_160 { (is_staged pages.old (first_thread_block + t - 1) ≡ true) ⊎ (staged_of pages.old < body_limit) }
-    ensures { (row : ThreadRow) → option_map (λ thread. thread.1) (find (λ thread. thread.0 == t) threads.now) ≡ Some row → StagesThread (first_thread_block + t - 1) (Some row) pages.old pages.new }
+/// Stages the row that the thread with this number, 1 to 256, has.
+pub(crate) fn stage_held(pages: &mut Pages, threads: &Threads, number: u64)
+    requires t_at_least_1 { 1 ≤ number }
+    requires t_at_most_256 { number ≤ 256 }
+    requires there { is_some (option_map (λ thread. thread.1) (find (λ thread. thread.0 == number) threads.now)) ≡ true }
+    requires staged_or_fewer_than_160 { (is_staged pages.old (first_thread_block + number - 1) ≡ true) ⊎ (staged_of pages.old < body_limit) }
+    ensures { (row : ThreadRow) → option_map (λ thread. thread.1) (find (λ thread. thread.0 == number) threads.now) ≡ Some row → StagesThread (first_thread_block + number - 1) (Some row) pages.old pages.new }
 {
-    match threads.get(t) {
-        Some(row) => stage_row(pages, FIRST_THREAD_BLOCK + t - 1, row),
+    match threads.get(number) {
+        Some(row) => stage_row(pages, FIRST_THREAD_BLOCK + number - 1, row),
         None => unreachable!(),
     }
 }
 
-// The same of a row that is there. Where it has few frames no block is spelled whole.
+// Stages a row that is there. If it has few frames, no block is spelled whole.
 fn stage_row(pages: &mut Pages, block: u64, row: &ThrRow)
     requires low { globals_block ≤ block }
     requires high { block < table_block }
@@ -53,7 +53,7 @@ fn stage_row(pages: &mut Pages, block: u64, row: &ThrRow)
     }
 }
 
-// The same of one with few frames, whose bytes all lie in the start of its block. What each way needs is cleared where it is taken.
+// Stages a row with few frames, whose bytes all lie in the start of its block. Each of the two ways clears what it needs itself.
 fn stage_few(pages: &mut Pages, block: u64, row: &ThrRow)
     requires low { globals_block ≤ block }
     requires high { block < table_block }
@@ -64,7 +64,7 @@ fn stage_few(pages: &mut Pages, block: u64, row: &ThrRow)
     pages.stage_start(block, &thread_start(row));
 }
 
-// And of one with many.
+// Stages a row with many frames.
 fn stage_many(pages: &mut Pages, block: u64, row: &ThrRow)
     requires low { globals_block ≤ block }
     requires high { block < table_block }
@@ -74,7 +74,7 @@ fn stage_many(pages: &mut Pages, block: u64, row: &ThrRow)
     pages.stage(block, &thread_block(Some(row)));
 }
 
-// And that there is none.
+// Stages that there is no row.
 fn stage_none(pages: &mut Pages, block: u64)
     requires low { globals_block ≤ block }
     requires high { block < table_block }

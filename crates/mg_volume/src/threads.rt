@@ -69,50 +69,50 @@ impl Threads {
     }
 
     /// The thread with this number, 1 to 256.
-    pub(crate) fn get(&self, t: u64) -> Option<&ThrRow>
-        ensures found { option_copied result ≡ option_map (λ thread. thread.1) (find (λ thread. thread.0 == t) self.now) }
-        ensures t_at_least_1 { IfSome result (λ _. 1 ≤ t) }
-        ensures t_at_most_256 { IfSome result (λ _. t ≤ 256) }
+    pub(crate) fn get(&self, number: u64) -> Option<&ThrRow>
+        ensures found { option_copied result ≡ option_map (λ thread. thread.1) (find (λ thread. thread.0 == number) self.now) }
+        ensures t_at_least_1 { IfSome result (λ _. 1 ≤ number) }
+        ensures t_at_most_256 { IfSome result (λ _. number ≤ 256) }
     {
         let rows = &self.rows;
-        if t == 0 {
+        if number == 0 {
             return None;
         }
-        match rows.get(t as usize - 1) {
+        match rows.get(number as usize - 1) {
             Some(row) => row.as_ref(),
             None => None,
         }
     }
 
-    /// Another row for thread t, 1 to 256, or that there is no such thread.
-    pub(crate) fn put(&mut self, t: u64, row: Option<ThrRow>)
-        requires t_at_least_1 { 1 ≤ t }
-        requires t_at_most_256 { t ≤ 256 }
-        ensures { self.new ≡ rows_with t row self.old }
+    /// Another row for the thread with this number, 1 to 256, or that there is no such thread.
+    pub(crate) fn put(&mut self, number: u64, row: Option<ThrRow>)
+        requires t_at_least_1 { 1 ≤ number }
+        requires t_at_most_256 { number ≤ 256 }
+        ensures { self.new ≡ rows_with number row self.old }
     {
         keep_range(&row);
-        let place = t as usize - 1;
+        let place = number as usize - 1;
         self.taken[place] = row.is_some();
         self.ready[place] = turn_mark(&row);
         self.rows[place] = row;
     }
 
-    /// Where thread t, 1 to 256, stands from now on, if it is there: its pc, a multiple of 8, its state and its registers.
-    pub(crate) fn stand(&mut self, t: u64, pc: u64, state: ThrState, regs: &[u64; 8])
-        requires t_at_least_1 { 1 ≤ t }
-        requires t_at_most_256 { t ≤ 256 }
+    /// Where the thread with this number, 1 to 256, is from now on, if it is there: its pc, a multiple of 8, its state and its registers.
+    pub(crate) fn stand(&mut self, number: u64, pc: u64, state: ThrState, regs: &[u64; 8])
+        requires t_at_least_1 { 1 ≤ number }
+        requires t_at_most_256 { number ≤ 256 }
         requires aligned { pc % 8 ≡ 0 }
-        ensures stands { (row : ThreadRow) → option_map (λ thread. thread.1) (find (λ thread. thread.0 == t) self.old) ≡ Some row → self.new ≡ rows_with t (Some (stands_at pc state regs.now row)) self.old }
-        ensures there { (row : ThreadRow) → option_map (λ thread. thread.1) (find (λ thread. thread.0 == t) self.old) ≡ Some row → option_map (λ thread. thread.1) (find (λ thread. thread.0 == t) self.new) ≡ Some (stands_at pc state regs.now row) }
-        ensures kept { (row : ThreadRow) → option_map (λ thread. thread.1) (find (λ thread. thread.0 == t) self.old) ≡ Some row → IsThreadRow (stands_at pc state regs.now row) }
+        ensures stands { (row : ThreadRow) → option_map (λ thread. thread.1) (find (λ thread. thread.0 == number) self.old) ≡ Some row → self.new ≡ rows_with number (Some (stands_at pc state regs.now row)) self.old }
+        ensures there { (row : ThreadRow) → option_map (λ thread. thread.1) (find (λ thread. thread.0 == number) self.old) ≡ Some row → option_map (λ thread. thread.1) (find (λ thread. thread.0 == number) self.new) ≡ Some (stands_at pc state regs.now row) }
+        ensures kept { (row : ThreadRow) → option_map (λ thread. thread.1) (find (λ thread. thread.0 == number) self.old) ≡ Some row → IsThreadRow (stands_at pc state regs.now row) }
     {
-        let place = t as usize - 1;
+        let place = number as usize - 1;
         stand(&mut self.rows[place], pc, state, regs);
         self.taken[place] = self.rows[place].is_some();
         self.ready[place] = turn_mark(&self.rows[place]);
     }
 
-    /// The lowest number that no thread has; none where there are 256.
+    /// The lowest number that no thread has; none if there are 256.
     pub(crate) fn free(&self) -> Option<u64>
         ensures number { IsFreeNumber self.now result }
         ensures range { IfSome result (λ n. (1 ≤ n) × (n ≤ 256)) }
@@ -124,17 +124,17 @@ impl Threads {
     }
 
     /// The lowest number above this one, which is at most 256, of a thread that is Ready.
-    pub(crate) fn ready_above(&self, t: u64) -> Option<u64>
-        requires { t ≤ 256 }
-        ensures { result ≡ option_map (λ thread. thread.0) (find (λ thread. is_ready thread.1.state && nat_lt t thread.0) self.now) }
+    pub(crate) fn ready_above(&self, number: u64) -> Option<u64>
+        requires { number ≤ 256 }
+        ensures { result ≡ option_map (λ thread. thread.0) (find (λ thread. is_ready thread.1.state && nat_lt number thread.0) self.now) }
     {
-        match first_ready(&self.ready[t as usize..]) {
-            Some(at) => Some(t + at as u64 + 1),
+        match first_ready(&self.ready[number as usize..]) {
+            Some(at) => Some(number + at as u64 + 1),
             None => None,
         }
     }
 
-    /// There are 256 at most, no two have one number, and their rows keep their ranges. It does nothing but tell.
+    /// There are 256 at most, no two have one number, and their rows keep their ranges. It does nothing when it runs.
     pub(crate) fn keep_rules(&self)
         ensures at_most_256 { length self.now ≤ 256 }
         ensures apart { DistinctBy (λ thread. thread.0) self.now }
@@ -175,7 +175,7 @@ fn turn_mark(row: &Option<ThrRow>) -> u8
     if has_turn(row) { READY } else { 0 }
 }
 
-// A thread stands elsewhere, if there is one.
+// A thread moves elsewhere, if there is one.
 fn stand(row: &mut Option<ThrRow>, pc: u64, state: ThrState, regs: &[u64; 8])
     requires aligned { pc % 8 ≡ 0 }
     ensures stands { row.new ≡ option_map (stands_at pc state regs.now) row.old }
@@ -200,7 +200,7 @@ fn set_registers(row: &mut ThrRow, regs: &[u64; 8])
     row.keep_rules();
 }
 
-// A row keeps its ranges. It does nothing but tell.
+// A row keeps its ranges. It does nothing when it runs.
 fn keep_range(row: &Option<ThrRow>)
     ensures { ForSome row.now IsThreadRow }
 {

@@ -53,7 +53,14 @@ impl Model for Volume {
 
     ghost use Rattle.mg_volume.specs.Meaning.{IsVolume};
 
-    ghost view = { λ v. record { settings = v.params; counters = v.globals; objects = v.objects; accounts = v.bank.accounts; threads = v.threads; pages = v.pages } };
+    ghost view = { λ v. record {
+      settings = v.params;
+      counters = v.globals;
+      objects = v.objects;
+      accounts = v.bank.accounts;
+      threads = v.threads;
+      pages = v.pages;
+    } };
 
     ghost invariant = { λ v. IsVolume (record { settings = v.params; counters = v.globals; objects = v.objects; accounts = v.bank.accounts; threads = v.threads; pages = v.pages }) v.bank.pages };
 }
@@ -63,9 +70,12 @@ impl Volume {
     /// Opens the volume of a disk, whatever a stop left of a commit. Its rows are read once, before the first write, and are
     /// those that it holds. All memory that it will need is taken here.
     ///
-    /// [`OpenFault::Not`], [`OpenFault::Old`] and [`OpenFault::Damaged`] come exactly where the image that reads give is no
-    /// volume, an older one, or a damaged one, and then nothing is written, on every disk; [`OpenFault::Disk`] only where a
-    /// call of the disk failed. Where that image is no sound volume nothing is written, whatever the answer.
+    /// [`OpenFault::Not`], [`OpenFault::Old`] and [`OpenFault::Damaged`] come exactly if the image that reads give is no
+    /// volume, an older one, or a damaged one, and then nothing is written, on every disk; [`OpenFault::Disk`] only if a
+    /// call of the disk failed. If that image is no sound volume nothing is written, whatever the answer.
+    ///
+    /// [`OpenFault::Memory`] comes if out of memory. The rows take theirs before the first write. The pages take theirs after what a
+    /// stop left of a commit was made good; the volume is then the same as before.
     pub fn open<D: Disk>(alloc: Global, disk: &mut D) -> Result<Volume, OpenFault>
         ensures opens { IfOk result (λ v. ForSome (D.seen disk.old) (λ image. Opens (volume image) v (D.seen disk.new))) }
         ensures stands { IfOk result (λ v. StandsOn D.Disk v disk.new) }
@@ -103,27 +113,30 @@ impl Volume {
         self.globals
     }
 
-    /// The object that has an address. It is the one with its base. The one that [`Volume::base_at`] found last in the set of
+    /// The object that has an address. The object that [`Volume::base_at`] found last in the set of
     /// the address's page is looked at first.
-    pub fn covering(&self, a: u64) -> Option<ObjRow>
-        ensures found { result ≡ find (λ row. covers row a) (objects_in self.now) }
+    pub fn covering(&self, address: u64) -> Option<ObjRow>
+        ensures found { result ≡ find (λ row. covers row address) (objects_in self.now) }
         ensures own { IfSome result (λ row. find (λ other. other.base == row.base) (objects_in self.now) ≡ Some row) }
     {
         self.bases_differ();
-        let mut near = self.near[page_set(a)];
-        match self.objects.covering_near(a, &mut near) {
+        let mut near = self.near[page_set(address)];
+        match self.objects.covering_near(address, &mut near) {
             Some(row) => Some(*row),
             None => None,
         }
     }
 
-    /// The base of the object that has an address. The one that was found last in the set of the address's page is looked
+    /// The base of the object that has an address. The object that was found last in the set of the address's page is looked
     /// at first.
-    pub fn base_at(&mut self, a: u64) -> Option<u64>
-        ensures base { MatchOption result (find (λ row. covers row a) (objects_in self.old) ≡ None) (λ base. IsBaseAt self.old a base) }
+    pub fn base_at(&mut self, address: u64) -> Option<u64>
+        ensures base { MatchOption result (find (λ row. covers row address) (objects_in self.old) ≡ None) (λ base. IsBaseAt self.old address base) }
         ensures same { self.new ≡ self.old }
     {
-        match self.objects.covering_near(a, &mut self.near[page_set(a)]) {
+        match self
+            .objects
+            .covering_near(address, &mut self.near[page_set(address)])
+        {
             Some(row) => Some(row.base()),
             None => None,
         }
@@ -139,7 +152,7 @@ impl Volume {
         }
     }
 
-    /// As [`Volume::object`], and lends the row.
+    /// As [`Volume::object`], but borrows the row.
     pub fn object_ref(&self, base: u64) -> Option<&ObjRow>
         ensures { option_copied result ≡ find (λ row. row.base == base) (objects_in self.now) }
     {
@@ -168,14 +181,14 @@ impl Volume {
         self.objects.used()
     }
 
-    /// For how many pages account n pays: 0 where n is not from 1 to 1,024.
-    pub fn paid_by(&self, n: u64) -> u64
-        ensures { result ≡ sum_by (λ row. row.pages) (filter (λ row. row.account == n) (objects_in self.now)) }
+    /// For how many pages this account pays: 0 if its number is not from 1 to 1,024.
+    pub fn paid_by(&self, account: u64) -> u64
+        ensures { result ≡ sum_by (λ row. row.pages) (filter (λ row. row.account == account) (objects_in self.now)) }
     {
-        self.bank.pages(n)
+        self.bank.pages(account)
     }
 
-    /// The lowest page from which on so many pages, 1 to 1024, meet no object.
+    /// The lowest page from which on `pages` pages, 1 to 1024, meet no object.
     pub fn first(&self, pages: u64) -> u64
         requires at_least_1_page { 1 ≤ pages }
         requires at_most_1024_pages { pages ≤ 1024 }
@@ -196,34 +209,34 @@ impl Volume {
         &self.bank
     }
 
-    /// Account n, 1 to 1,024.
-    pub fn account(&self, n: u64) -> Option<AccRow>
-        ensures found { result ≡ account_of (accounts_in self.now) n }
-        ensures within_1_and_1024 { IfSome result (λ _. (1 ≤ n) × (n ≤ 1024)) }
+    /// The account with this number, 1 to 1,024.
+    pub fn account(&self, number: u64) -> Option<AccRow>
+        ensures found { result ≡ account_of (accounts_in self.now) number }
+        ensures within_1_and_1024 { IfSome result (λ _. (1 ≤ number) × (number ≤ 1024)) }
     {
-        self.bank.row(n)
+        self.bank.row(number)
     }
 
     /// The thread with this number, 1 to 256.
-    pub fn thread(&self, t: u64) -> Option<ThrRow>
-        ensures found { option_map (λ thread. thread.row) (find (λ thread. thread.number == t) (threads_in self.now)) ≡ result }
-        ensures within_1_and_256 { IfSome result (λ _. (1 ≤ t) × (t ≤ 256)) }
+    pub fn thread(&self, number: u64) -> Option<ThrRow>
+        ensures found { option_map (λ thread. thread.row) (find (λ thread. thread.number == number) (threads_in self.now)) ≡ result }
+        ensures within_1_and_256 { IfSome result (λ _. (1 ≤ number) × (number ≤ 256)) }
     {
-        match self.threads.get(t) {
+        match self.threads.get(number) {
             Some(row) => Some(*row),
             None => None,
         }
     }
 
     /// The row of the thread with this number, 1 to 256, in place.
-    pub fn thread_ref(&self, t: u64) -> Option<&ThrRow>
-        ensures found { option_map (λ thread. thread.row) (find (λ thread. thread.number == t) (threads_in self.now)) ≡ option_copied result }
-        ensures within_1_and_256 { IfSome result (λ _. (1 ≤ t) × (t ≤ 256)) }
+    pub fn thread_ref(&self, number: u64) -> Option<&ThrRow>
+        ensures found { option_map (λ thread. thread.row) (find (λ thread. thread.number == number) (threads_in self.now)) ≡ option_copied result }
+        ensures within_1_and_256 { IfSome result (λ _. (1 ≤ number) × (number ≤ 256)) }
     {
-        self.threads.get(t)
+        self.threads.get(number)
     }
 
-    /// The lowest number that no thread has, 1 to 256; none where there are 256 threads.
+    /// The lowest number that no thread has, 1 to 256; none if there are 256 threads.
     pub fn free_number(&self) -> Option<u64>
         ensures number { MatchOption result (256 ≤ length (threads_in self.now)) (λ n. (length (threads_in self.now) < 256) × (n ≡ free_number (threads_in self.now)) × (lives self.now n ≡ false)) }
         ensures range { IfSome result (λ n. (1 ≤ n) × (n ≤ 256)) }
@@ -242,12 +255,12 @@ impl Volume {
     }
 
     /// The present frame, the last one, of the thread with this number, 1 to 256: its slots, and where it returns to.
-    pub fn frame(&self, t: u64) -> Option<Frame>
-        ensures found { MatchOption result (find (λ thread. thread.number == t) (threads_in self.now) ≡ None)
-            (λ frame. (thread : Thread) × (find (λ thread. thread.number == t) (threads_in self.now) ≡ Some thread) × (slice_get thread.row.frames (length thread.row.frames - 1) ≡ Some frame)) }
-        ensures within_1_and_256 { IfSome result (λ _. (1 ≤ t) × (t ≤ 256)) }
+    pub fn frame(&self, number: u64) -> Option<Frame>
+        ensures found { MatchOption result (find (λ thread. thread.number == number) (threads_in self.now) ≡ None)
+            (λ frame. (thread : Thread) × (find (λ thread. thread.number == number) (threads_in self.now) ≡ Some thread) × (slice_get thread.row.frames (length thread.row.frames - 1) ≡ Some frame)) }
+        ensures within_1_and_256 { IfSome result (λ _. (1 ≤ number) × (number ≤ 256)) }
     {
-        match self.threads.get(t) {
+        match self.threads.get(number) {
             Some(row) => Some(row.last()),
             None => None,
         }
@@ -276,8 +289,8 @@ impl Volume {
 }
 
 // The set of an address's page.
-fn page_set(a: u64) -> usize
+fn page_set(address: u64) -> usize
     ensures below_256 { result < 256 }
 {
-    (a / PAGE_SIZE % PAGE_SETS as u64) as usize
+    (address / PAGE_SIZE % PAGE_SETS as u64) as usize
 }

@@ -113,7 +113,7 @@ module _ {D : Type 0} (facts : Ghosts D) where
       subst (λ (v : List Line). Counted facts first (seen image) v q) (sym (run-more are number at))
       (goes first (seen image) (run_lines number at) (omega (arith, length-run are number at)) (before image is))
 
--- what a run keeps whose counts were put, or could not be
+-- what a run keeps whose counts were printed, or could not be
 pub run_keeps : {K : Type 0} (to : sinks.Ghosts K) → CountsAreTold → (number count : ℕ) (result : Status) (k k' : K) (n n' : ℕ) (tally : List ℕ)
     → tally ≡ tally_of (replies_from (fresh run_settings) (run_lines number count))
     → n' ≤ n + cost (fresh run_settings) (run_lines number count)

@@ -1,4 +1,4 @@
--- The command that one of the readers gives is the one that the words spell.
+-- The command that one of the readers gives is what the words spell.
 use Rattle.std.proofs.Common.{◌≡◌, ℕ, ◌&&◌, Bool, true, false, nat_le, List, [], ◌∷◌, if◌then◌else◌, Option, Some, None, codes, option_map, refl}
 use Rattle.std.specs.Option.{option_or}
 use Rattle.mg_model.specs.Settings.{Settings}

@@ -1,4 +1,4 @@
--- What is told of the rows of a volume is told of the state that they spell.
+-- What is said of the rows of a volume is said of the state that they spell.
 use Rattle.std.specs.Prelude.{◌≡◌, [], Option, Some, None}
 use Rattle.std.specs.Option.{ForSome}
 use Rattle.std.proofs.Common.{refl, subst}

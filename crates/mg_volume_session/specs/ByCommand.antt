@@ -27,7 +27,7 @@ abbrev pub is_check : List (List ℕ) → Bool
 is_check (volume ∷ word ∷ []) = same_bytes word (codes "check")
 is_check words = false
 
--- a batch of so many replies, if it may have as many
+-- a batch of this many replies, if it may have as many
 abbrev pub batch_within : ℕ → Option ℕ
 batch_within batch = if nat_le 1 batch && nat_le batch 64 then Some batch else None
 
@@ -37,7 +37,7 @@ run_of (volume ∷ word ∷ []) = if same_bytes word (codes "run") then Some 1 e
 run_of (volume ∷ word ∷ batch ∷ []) = if same_bytes word (codes "run") then and_then (number_of batch) batch_within else None
 run_of words = None
 
--- a run of so many lines, if it may have as many
+-- a run of this many lines, if it may have as many
 abbrev pub lines_within : ℕ → ℕ → Option (ℕ × ℕ)
 lines_within number count = if nat_le count 1000000 then Some (number, count) else None
 

@@ -23,18 +23,18 @@ bytes_of (high ∷ low ∷ digits) = and_then (byte_of high low) (λ byte. and_t
 abbrev pub seed_of : List ℕ → Option (List ℕ)
 seed_of word = if length word == 64 then bytes_of word else None
 
--- `FRAMES SEED CREDITS`, with the tariff that goes with so many frames: the settings, if they are within the limits
+-- `FRAMES SEED CREDITS`, with the tariff for this number of frames: the settings, if they are within the limits
 abbrev pub settings_of : (ℕ → List (ℕ × ℕ)) → List ℕ → List ℕ → List ℕ → Option Settings
 settings_of tariff frames seed credits =
     and_then (number_of frames) (λ f. and_then (seed_of seed) (λ s. and_then (number_of credits) (λ c.
     if within_limits f c then Some record { frames = f; seed = s; credits = c; tariff = tariff f } else None)))
 
--- `F:R`: the number before the first colon, and the one behind it
+-- `F:R`: the number before the first colon, and the one after it
 abbrev pub step_parts : List ℕ → List ℕ → Option (ℕ × ℕ)
 step_parts from [] = None
 step_parts from (colon ∷ rate) = and_then (number_of from) (λ f. and_then (number_of rate) (λ r. Some (f, r)))
 
--- how many bytes stand before the first colon
+-- how many bytes are before the first colon
 abbrev pub before_colon : List ℕ → ℕ
 before_colon word = prefix_len (λ b. not (b == 58)) word
 
@@ -48,7 +48,7 @@ tariff_of a b c d =
     if is_tariff (p ∷ q ∷ r ∷ s ∷ []) then Some (p ∷ q ∷ r ∷ s ∷ []) else None))))
 
 -- The command that these words spell. They are `VOLUME check`, `VOLUME run`, `VOLUME run BATCH`, `VOLUME gen NUMBER LINES`, `VOLUME dry
--- FRAMES SEED CREDITS`, and `VOLUME format FRAMES SEED CREDITS` with nothing behind it or with `F:R F:R F:R F:R`.
+-- FRAMES SEED CREDITS`, and `VOLUME format FRAMES SEED CREDITS` with nothing after it or with `F:R F:R F:R F:R`.
 abbrev pub command_of : List (List ℕ) → Option Command
 command_of (volume ∷ word ∷ []) =
     if same_bytes word (codes "check") then Some Check

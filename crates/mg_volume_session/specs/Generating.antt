@@ -14,7 +14,7 @@ use Rattle.mg_model.specs.Step.{after}
 use Rattle.mg_model.specs.Warmth.{cost, events}
 use Rattle.mg_volume_session.specs.Headline.{replies_from}
 
--- a kernel on a disk that tells its reads, in the fresh state of these settings
+-- a kernel on a disk whose reads are told, in the fresh state of these settings
 pub record IsFresh {D : Type 0} (facts : Ghosts D) (settings : Settings) (disk : D) (k : Kernel) : Type 0 where
   pub image : Image
   pub is : facts.seen disk ≡ Some image
@@ -23,14 +23,14 @@ pub record IsFresh {D : Type 0} (facts : Ghosts D) (settings : Settings) (disk :
   pub staged : staged_of k ≡ 0
   pub live : IsTrue (is_live k)
 
--- where a run stands
+-- where a run is
 pub record At (D : Type 0) : Type 0 where
   pub kernel : Kernel
   pub disk : D
   pub counts : List ℕ
   pub steps : ℕ
 
--- from the state `s` on, with a counter of so many words, these lines were stepped and their replies counted
+-- from the state `s` on, with the counter at `first`, these lines were stepped and their replies counted
 pub record Counted {D : Type 0} (facts : Ghosts D) (first : ℕ) (s : State) (ls : List Line) (p : At D) : Type 0 where
   pub image : Image
   pub is : facts.seen p.disk ≡ Some image

@@ -1,5 +1,5 @@
 -- What the program promises: the words and the records of the clauses of `top` and of `serve`, in the order in which
--- docs/PROMISES.md tells them. An object that does not tell its content has None for it; a promise on content is then empty.
+-- docs/PROMISES.md states them. An object that does not tell its content has None for it; a promise on content is then empty.
 use Rattle.std.specs.Prelude.{ℕ, ◌+◌, ◌<◌, ◌≤◌, ◌≡◌, ◌≢◌, ◌⊎◌, List, [], ◌∷◌, ◌++◌, codes, filter_map, length, Option, IfSome, IsSomeAnd}
 use Rattle.std.specs.Fmt.{decimal}
 use Rattle.std.specs.Io.KnownBytes.{Appends}
@@ -53,7 +53,7 @@ session_of batch result disk source sink steps steps' =
 abbrev pub CostsAtMost : State → List Line → ℕ → ℕ → Type 0
 CostsAtMost s ls steps steps' = steps' ≤ steps + cost s ls
 
--- It rose by no more than the lines of the bytes that were taken may cost. Where the last of them was cut, it is not among them.
+-- It rose by no more than the lines of the bytes that were taken may cost. If the last of them was cut, it is not among them.
 abbrev pub IsWithinCost : State → Status → Option (List ℕ) → Option (List ℕ) → ℕ → ℕ → Type 0
 IsWithinCost s result left left' steps steps' =
     IfSome left (λ input. IsSomeAnd left' (λ rest. CostsAtMost s (lines (taken_of input rest)) steps steps'
@@ -61,7 +61,7 @@ IsWithinCost s result left left' steps steps' =
 
 -- `VOLUME run` and `VOLUME run BATCH`
 
--- a promise on the state of the volume that reads give, where they are told and give one
+-- a promise on the state of the volume that reads give, if they are told and give one
 abbrev pub OnVolume : Option Image → (State → Type 0) → Type 0
 OnVolume told P = ForSome told (λ image. (s : State) → volume image ≡ Is s → P s)
 
@@ -69,7 +69,7 @@ OnVolume told P = ForSome told (λ image. (s : State) → volume image ≡ Is s 
 abbrev pub OfState : {D : Type 0} → DiskUse D → (State → Type 0) → Type 0
 OfState d P = OnVolume (d.facts.seen d.old) P
 
--- where that image spells none
+-- when that image spells none
 abbrev pub OfNoState : {D : Type 0} → DiskUse D → Type 0 → Type 0
 OfNoState d P = ForSome (d.facts.seen d.old) (λ image. IsNoState (volume image) → P)
 
@@ -82,7 +82,7 @@ check_line (Is s) =
     ok_text (decimal s.settings.frames ∷ decimal (length s.objects) ∷ decimal (used s.objects) ∷ decimal (length s.accounts)
     ∷ decimal (length s.threads) ∷ decimal s.counters.period ∷ decimal s.settings.credits ∷ []) ++ 10 ∷ []
 
--- reads give a volume of this kind, or one of these kinds of none, and its line was put
+-- reads give a volume of this kind, or one of these kinds of none, and its line was printed
 pub record TellsLine (kind : VolumeRead → Type 0) (told : Option Image) (taken taken' : Option (List ℕ)) : Type 0 where
   pub read : VolumeRead
   pub is_kind : kind read
@@ -93,13 +93,13 @@ pub record TellsLine (kind : VolumeRead → Type 0) (told : Option Image) (taken
 abbrev pub EndsUnopened : Status → Type 0
 EndsUnopened result = (result ≡ status.NoVolume) ⊎ ((result ≡ status.Memory) ⊎ ((result ≡ status.Disk) ⊎ (result ≡ status.Sink)))
 
--- What a command that opens a volume does where there is none.
+-- What a command that opens a volume does if there is none.
 pub record TellsOfNone {D K : Type 0} (facts : disks.Ghosts D) (to : sinks.Ghosts K) (result : Status)
     (disk disk' : D) (sink sink' : K) : Type 0 where
-  -- It ends without a volume only where reads give none; the line says which kind of none, and nothing is written, on every disk.
+  -- It ends without a volume only if reads give none; the line says which kind of none, and nothing is written, on every disk.
   pub none : result ≡ status.NoVolume →
       TellsLine IsNoState (facts.seen disk) (to.taken sink) (to.taken sink') × WritesNothing facts disk disk'
-  -- Where reads give none it ends so, unless a call failed or memory was wanting, and what is put is a prefix of that line.
+  -- If reads give none it ends so, unless a call failed or there was not enough memory, and what is printed is a prefix of that line.
   pub not_opened : ForSome (facts.seen disk) (λ image. IsNoState (volume image) →
       EndsUnopened result × AppendsPrefix (to.taken sink) (to.taken sink') (check_line (volume image)))
 
@@ -120,14 +120,14 @@ pub record LinesKeep {D S K : Type 0} (said : State → List Line → List ℕ) 
   pub holds_exactly : OfState s.disk (λ state. HoldsExactly (kept_after state) s.result s.disk s.source s.sink)
   pub ends : Ends s.batch input_limit s.result s.source s.sink
   pub which : EndsRun s.result
-  -- The disk failed only where its count rose.
+  -- The disk failed only if its count rose.
   pub disk_failed : s.result ≡ status.Disk → DiskRose s.disk
   pub without : TellsOfNone s.disk.facts s.sink.facts s.result s.disk.old s.disk.new s.sink.old s.sink.new
-  -- Where there is no volume nothing is taken, and nothing is written at any status. Nothing is put there where the disk failed.
+  -- If there is no volume nothing is taken, and nothing is written at any status. Nothing is printed there if the disk failed.
   pub none_source : s.result ≡ status.NoVolume → s.source.new ≡ s.source.old
   pub untouched : OfNoState s.disk ((s.source.new ≡ s.source.old) × WritesNothing s.disk.facts s.disk.old s.disk.new
       × (s.result ≡ status.Disk → s.sink.new ≡ s.sink.old))
-  -- Where reads give a volume, no call failed and the input is not too long, all is done, or memory was wanting.
+  -- If reads give a volume, no call failed and the input is not too long, all is done, or there was not enough memory.
   pub complete : OfState s.disk (λ _. (DiskRose s.disk → ⊥) → (SourceRose s.source → ⊥) → (SinkRose s.sink → ⊥)
       → IfShort s.source (IsDoneOrMemory s.result))
 
@@ -136,7 +136,7 @@ pub record RunKeeps {D S K : Type 0} (s : Session D S K) : Type 0 where
   pub lines : LinesKeep text after s
   -- At each status the counter rose by no more than the lines that were read may cost.
   pub cost : OfState s.disk (λ state. IsWithinCost state s.result (left_at s.source) (left_now s.source) s.steps s.steps')
-  -- Where there is no volume it stands still.
+  -- If there is no volume it does not rise.
   pub none_steps : s.result ≡ status.NoVolume → s.steps' ≡ s.steps
   pub untouched_steps : OfNoState s.disk (s.steps' ≡ s.steps)
 
@@ -151,12 +151,12 @@ pub record DryKeeps {S K : Type 0} (settings : Settings) (result : Status) (i : 
   pub ends : Ends 64 input_limit result i o
   -- It needs no volume and no disk.
   pub others : (result ≢ status.Usage) × (result ≢ status.NoVolume) × (result ≢ status.Disk) × (result ≢ status.TooSmall)
-  -- Where no call failed and the input is not too long, all is done, or memory was wanting.
+  -- If no call failed and the input is not too long, all is done, or there was not enough memory.
   pub complete : (SourceRose i → ⊥) → (SinkRose o → ⊥) → IfShort i (IsDoneOrMemory result)
 
 -- `VOLUME gen NUMBER LINES`
 
--- so many lines of the run of a number, from its first on, as they are read
+-- the first `count` lines of the run of a number, as they are read
 abbrev pub run_lines : ℕ → ℕ → List Line
 run_lines number count = filter_map (λ k. line_of (line_text number k)) (range_with_len 0 count)
 
@@ -165,44 +165,44 @@ abbrev pub replies_from : State → List Line → List Reply
 replies_from s [] = []
 replies_from s (line ∷ more) = (step s line).1 ∷ replies_from (step s line).0 more
 
--- what is put of a run from the fresh state: a line for `ok` and one for each refusal, each with the number of replies that were so
+-- what is printed of a run from the fresh state: a line for `ok` and one for each refusal, each with the number of replies that were so
 abbrev pub run_text : ℕ → ℕ → List ℕ
 run_text number count = summary_text (replies_from (fresh run_settings) (run_lines number count))
 
 -- What `gen` keeps.
 pub record GenKeeps {K : Type 0} (number count : ℕ) (result : Status) (o : SinkUse K) (steps steps' : ℕ) : Type 0 where
-  -- At the end the counts of the machine's replies were put; at each status what was put is a prefix of that.
+  -- At the end the counts of the machine's replies were printed; at each status what was printed is a prefix of that.
   pub done : result ≡ status.Done → Puts o (run_text number count)
   pub prefix : PutsPrefix o (run_text number count)
   -- At each status the counter rose by no more than the generated lines may cost.
   pub cost : steps' ≤ steps + cost (fresh run_settings) (run_lines number count)
   pub which : (result ≡ status.Done) ⊎ ((result ≡ status.Memory) ⊎ (result ≡ status.Sink))
-  -- Where memory was wanting nothing was put; the sink failed only where its count rose.
+  -- If there was not enough memory nothing was printed; the sink failed only if its count rose.
   pub memory : result ≡ status.Memory → o.new ≡ o.old
   pub sink_failed : result ≡ status.Sink → SinkRose o
-  -- Where no call failed all is done, or memory was wanting.
+  -- If no call failed all is done, or there was not enough memory.
   pub complete : (SinkRose o → ⊥) → IsDoneOrMemory result
 
 -- `VOLUME check`
 
 -- What `check` keeps.
 pub record CheckKeeps {D K : Type 0} (result : Status) (d : DiskUse D) (o : SinkUse K) : Type 0 where
-  -- At the end the line of the volume was put.
+  -- At the end the line of the volume was printed.
   pub done : result ≡ status.Done →
       TellsLine (λ read. (s : State) × (read ≡ Is s)) (d.facts.seen d.old) (o.facts.taken o.old) (o.facts.taken o.new)
-  -- At each status what was put is a prefix of such a line, that of the image where reads are told.
+  -- At each status what was printed is a prefix of such a line, that of the image if reads are told.
   pub prefix : (read : VolumeRead) × ForSome (d.facts.seen d.old) (λ image. volume image ≡ read) × PutsPrefix o (check_line read)
   pub writes : WritesNothing d.facts d.old d.new
   pub without : TellsOfNone d.facts o.facts result d.old d.new o.old o.new
   pub which : (result ≡ status.Done) ⊎ EndsUnopened result
-  -- Where memory was wanting, or the disk failed, nothing was put; the disk and the sink failed only where their counts rose.
+  -- If there was not enough memory, or the disk failed, nothing was printed; the disk and the sink failed only if their counts rose.
   pub memory : result ≡ status.Memory → o.new ≡ o.old
   pub disk_failed : result ≡ status.Disk → DiskRose d × (o.new ≡ o.old)
   pub sink_failed : result ≡ status.Sink → SinkRose o
-  -- Of a volume, where no call failed, all is done, or memory was wanting.
+  -- Of a volume, if no call failed, all is done, or there was not enough memory.
   pub complete : OfState d (λ _. (DiskRose d → ⊥) → (SinkRose o → ⊥) → IsDoneOrMemory result)
 
--- `VOLUME format FRAMES SEED CREDITS`, with a tariff behind it or none
+-- `VOLUME format FRAMES SEED CREDITS`, with a tariff after it or none
 
 -- the line of a volume that was made: the base of the root object, the root's password, and the treasury's
 abbrev pub made_line : Settings → List ℕ
@@ -226,52 +226,52 @@ need_of settings = total_blocks settings.frames
 abbrev pub blocks_of : {D : Type 0} → DiskUse D → ℕ
 blocks_of d = d.facts.block_count d.old
 
--- What `format` keeps. It never wants memory.
+-- What `format` keeps. It never runs out of memory.
 pub record FormatKeeps {D K : Type 0} (settings : Settings) (result : Status) (d : DiskUse D) (o : SinkUse K) : Type 0 where
-  -- At each moment a stop leaves no volume, what the blocks behind the gate spelled before, or the fresh one.
+  -- At each moment a stop leaves no volume, what the blocks after the gate spelled before, or the fresh one.
   pub moments : NothingPending d.facts d.old →
       ForSome (d.facts.seen d.old) (λ image. AlwaysLeft d (MayFormat image settings))
-  -- At the end the fresh volume stands, and the line tells its passwords.
+  -- At the end the fresh volume stands, and the line gives its passwords.
   pub made : result ≡ status.Done → IsMade d.facts d.old d.new settings × Puts o (made_line settings)
-  -- Where the disk has enough blocks, that volume stands too where its line could not be put, and at each status what was put is a
+  -- If the disk has enough blocks, that volume stands also if its line could not be printed, and at each status what was printed is a
   -- prefix of that line.
   pub enough : need_of settings ≤ blocks_of d →
       (result ≡ status.Sink → IsMade d.facts d.old d.new settings) × PutsPrefix o (made_line settings)
-  -- The disk is too small exactly where the volume needs more blocks than it has; it is not called then.
+  -- The disk is too small exactly if the volume needs more blocks than it has; it is not called then.
   pub too_small : result ≡ status.TooSmall →
       (blocks_of d < need_of settings) × Puts o (small_line (need_of settings) (blocks_of d))
   pub small : blocks_of d < need_of settings →
       ((result ≡ status.TooSmall) ⊎ (result ≡ status.Sink)) × (d.new ≡ d.old) × PutsPrefix o (small_line (need_of settings) (blocks_of d))
   pub which : (result ≡ status.Done) ⊎ ((result ≡ status.Disk) ⊎ ((result ≡ status.Sink) ⊎ (result ≡ status.TooSmall)))
-  -- Where the disk failed nothing was put; the disk and the sink failed only where their counts rose.
+  -- If the disk failed nothing was printed; the disk and the sink failed only if their counts rose.
   pub disk_failed : result ≡ status.Disk → DiskRose d × (o.new ≡ o.old)
   pub sink_failed : result ≡ status.Sink → SinkRose o
-  -- Where no call failed and the disk has enough blocks, the volume is made.
+  -- If no call failed and the disk has enough blocks, the volume is made.
   pub complete : need_of settings ≤ blocks_of d → (DiskRose d → ⊥) → (SinkRose o → ⊥) → result ≡ status.Done
 
--- Lines behind the replies
+-- Lines after the replies
 
--- What is put behind the replies once lines ran and ended so, and how the whole ends.
+-- What is printed after the replies once lines ran and ended so, and how the whole ends.
 pub record PutsLast {K : Type 0} (to : sinks.Ghosts K) (ran : Status) (last : List ℕ) (result : Status)
     (replied sink' : K) : Type 0 where
-  -- At the end the last lines are put, or the sink fails in them.
+  -- At the end the last lines are printed, or the sink fails in them.
   pub done : ran ≡ status.Done → ((result ≡ status.Done) × Appends (to.taken replied) (to.taken sink') last)
       ⊎ ((result ≡ status.Sink) × AppendsPrefix (to.taken replied) (to.taken sink') last
       × Rose (to.faults replied) (to.faults sink') (to.is_spent sink'))
-  -- After lines that ended early nothing more is put.
+  -- After lines that ended early nothing more is printed.
   pub early : ran ≢ status.Done → (result ≡ ran) × (sink' ≡ replied)
 
 -- Words that spell no command
 
--- the line that is put
+-- the line that is printed
 abbrev pub usage_line : List ℕ
 usage_line = codes "usage" ++ 10 ∷ []
 
--- What is kept where the words spell no command.
+-- What is kept if the words spell no command.
 pub record UsageKeeps {D S K : Type 0} (to : sinks.Ghosts K) (result : Status)
     (disk disk' : D) (source source' : S) (sink sink' : K) : Type 0 where
   pub which : (result ≡ status.Usage) ⊎ (result ≡ status.Sink)
-  -- The line `usage` was put, or a prefix of it where the sink failed, which is only where its count rose.
+  -- The line `usage` was printed, or a prefix of it if the sink failed, which is only if its count rose.
   pub usage_text : result ≡ status.Usage → Appends (to.taken sink) (to.taken sink') usage_line
   pub usage_prefix : AppendsPrefix (to.taken sink) (to.taken sink') usage_line
   pub sink_failed : result ≡ status.Sink → Rose (to.faults sink) (to.faults sink') (to.is_spent sink')

@@ -1,4 +1,4 @@
--- What follows of how lines ended, and of the lines behind their replies.
+-- What follows of how lines ended, and of the lines after their replies.
 use Rattle.std.specs.Prelude.{ℕ, ◌≡◌, ◌≢◌, ◌⊎◌, List, [], ◌++◌, Option, Some, None, IfSome}
 use Rattle.std.specs.Io.KnownBytes.{Appends}
 use Rattle.std.proofs.Common.{refl, sym, ap, subst, ◌∙◌, inl, inr, ⊎_elim, append_assoc, append-nil}
@@ -60,7 +60,7 @@ module _ {K : Type 0} (to : sinks.Ghosts K) (ran : Status) (last : List ℕ) (re
       at_end : ran ≡ status.Done → EndsRun result
       at_end done = ⊎_elim (λ p. inr (inl p.0)) (λ p. inr (inr (inr (inr (inr (inl p.0)))))) (ends.done done)
 
-  -- the sink failed as replies were put, or the last line
+  -- the sink failed as replies were printed, or the last line
   pub sink_failed : (sink : K) → CountGoesOn (to.faults sink) (to.faults replied) (to.is_spent sink) (to.is_spent replied)
       → (ran ≡ status.Sink → Rose (to.faults sink) (to.faults replied) (to.is_spent replied)) → result ≡ status.Sink → Rose (to.faults sink) (to.faults sink') (to.is_spent sink')
   sink_failed sink goes rose is = ⊎_elim at_end early (is_done_or_not ran)
@@ -71,7 +71,7 @@ module _ {K : Type 0} (to : sinks.Ghosts K) (ran : Status) (last : List ℕ) (re
       early : ran ≢ status.Done → Rose (to.faults sink) (to.faults sink') (to.is_spent sink')
       early not = subst (λ k. Rose (to.faults sink) (to.faults k) (to.is_spent k)) (sym (ends.early not).1) (rose (sym (ends.early not).0 ∙ is))
 
-  -- where the sink did not fail, a run that is done or wants memory ends so
+  -- when the sink did not fail, a run that is done or runs out of memory ends so
   pub done_or_memory : (sink : K) → CountGoesOn (to.faults sink) (to.faults replied) (to.is_spent sink) (to.is_spent replied)
       → (Rose (to.faults sink) (to.faults sink') (to.is_spent sink') → ⊥) → IsDoneOrMemory ran → IsDoneOrMemory result
   done_or_memory sink goes none either = ⊎_elim at_end (λ not. subst IsDoneOrMemory (sym (ends.early not).0) either) (is_done_or_not ran)
@@ -79,7 +79,7 @@ module _ {K : Type 0} (to : sinks.Ghosts K) (ran : Status) (last : List ℕ) (re
       at_end : ran ≡ status.Done → IsDoneOrMemory result
       at_end done = ⊎_elim (λ p. inl p.0) (λ p. absurd (none (then_rose _ _ _ _ _ _ goes p.2))) (ends.done done)
 
-  -- `tail` is what the last lines are behind a whole input
+  -- `tail` is what the last lines are after a whole input
   module _ {S : Type 0} (said : List Line → List ℕ) (i : SourceUse S) (sink : K) (answers : Answers said ran i (sink_use to sink replied)) (tail : List ℕ → List ℕ) (same : ran ≡ status.Done → IfSome (left_at i) (λ bytes. last ≡ tail bytes)) where
     abbrev left : Option (List ℕ)
     left = left_at i
@@ -90,7 +90,7 @@ module _ {K : Type 0} (to : sinks.Ghosts K) (ran : Status) (last : List ℕ) (re
     abbrev taken : Option (List ℕ)
     taken = to.taken sink
 
-    -- what was put is a prefix of the replies and the last lines
+    -- what was printed is a prefix of the replies and the last lines
     pub put_prefix : IfSome left (λ bytes. AppendsPrefix taken (to.taken sink') (replies said bytes ++ tail bytes))
     put_prefix = ⊎_elim at_end early (is_done_or_not ran)
       where

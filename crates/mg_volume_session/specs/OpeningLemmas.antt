@@ -1,4 +1,4 @@
--- An opening and a session behind it: from what each of them keeps to the record of a command.
+-- An opening and a session after it: from what each of them keeps to the record of a command.
 use Rattle.std.specs.Prelude.{ℕ, ◌≡◌, ◌≢◌, ◌⊎◌, ◌<◌, ◌≤◌, ◌+◌, List, [], ◌++◌, length, take, Option, Some, None, IfSome, Result, Err}
 use Rattle.std.specs.Io.KnownBytes.{Appends}
 use Rattle.std.specs.Option.{ForSome}
@@ -83,7 +83,7 @@ opened_then k told told' P opens p = λ image is.
     let o = opens image is in
     state_is (volume image) o.state P o.is (subst P o.holds.now (p o.holds.image o.holds.is))
 
--- how a fault of an opening tells of the image
+-- what a fault of an opening says of the image
 pub fault_tells : {T : Type 0} (f : OpenFault) (told : Option Image)
     → (◌≡◌ {A = Result T OpenFault} (Err f) (Err fault.Not) → ForSome told (λ image. volume image ≡ NotVolume))
     → (◌≡◌ {A = Result T OpenFault} (Err f) (Err fault.Old) → ForSome told (λ image. volume image ≡ OldVolume))
@@ -94,7 +94,7 @@ fault_tells fault.Damaged told n o d = d refl
 fault_tells fault.Disk told n o d = tt
 fault_tells fault.Memory told n o d = tt
 
--- what holds of a state holds where a fault says that there is none
+-- what holds of a state holds if a fault says that there is none
 pub unopened : (f : OpenFault) (told : Option Image) (P : State → Type 0) → FaultTells f told → (TellsNothing f → (image : Image) → told ≡ Some image → (s : State) → volume image ≡ Is s → P s) → OnVolume told P
 unopened fault.Not told P tells p = λ image is s spelled. absurd (let e : NotVolume ≡ Is s = sym (tells image is) ∙ spelled in cc)
 unopened fault.Old told P tells p = λ image is s spelled. absurd (let e : OldVolume ≡ Is s = sym (tells image is) ∙ spelled in cc)
@@ -102,7 +102,7 @@ unopened fault.Damaged told P tells p = λ image is s spelled. absurd (let e : D
 unopened fault.Disk told P tells p = λ image is s spelled. p tt image is s spelled
 unopened fault.Memory told P tells p = λ image is s spelled. p tt image is s spelled
 
--- what the sink took where the volume was not opened
+-- what the sink took if the volume was not opened
 unopened_answers : {S K : Type 0} (from : sources.Ghosts S) (to : sinks.Ghosts K) (said : State → List Line → List ℕ) → ((s : State) → said s [] ≡ []) → (f : OpenFault) (told : Option Image) (result : Status) (source : S) (sink sink' : K)
     → FaultTells f told → EndsUnopenedBy f result → (TellsNothing f → sink' ≡ sink) → OnVolume told (λ s. Answers (said s) result (source_use from source source) (sink_use to sink sink'))
 unopened_answers from to said none f told result source sink sink' tells ends same =
@@ -128,11 +128,11 @@ unopened_exactly d i o kept f told result tells ends =
 some_image : (a b : Image) → Some a ≡ Some b → b ≡ a
 some_image a b is = cc
 
--- a line was put, or a part of it, that is the line of what reads give where they are told
+-- a line was printed, or a part of it, that is the line of what reads give if they are told
 abbrev pub PutsOf : Option Image → Option (List ℕ) → Option (List ℕ) → Type 0
 PutsOf told taken taken' = (read : VolumeRead) × ForSome told (λ image. volume image ≡ read) × AppendsPrefix taken taken' (check_line read)
 
--- nothing was put
+-- nothing was printed
 nothing_puts : (told : Option Image) (taken taken' : Option (List ℕ)) → AppendsPrefix taken taken' [] → PutsOf told taken taken'
 nothing_puts None taken taken' put = (NotVolume, (λ image is. absurd (cc)), AppendsPrefix-longer taken taken' [] (check_line NotVolume) put)
 nothing_puts (Some image) taken taken' put = (volume image, (λ one is. ap volume (some_image image one is)), AppendsPrefix-longer taken taken' [] (check_line (volume image)) put)
@@ -145,7 +145,7 @@ fault_may_tell fault.Damaged told taken taken' tells put = (Damaged, tells, put)
 fault_may_tell fault.Disk told taken taken' tells put = nothing_puts told taken taken' put
 fault_may_tell fault.Memory told taken taken' tells put = nothing_puts told taken taken' put
 
--- what is told of a volume is told of the state that the image spells
+-- what is said of a volume is said of the state that the image spells
 pub told_prefix : (summary : Summary) (told : Option Image) (taken taken' : Option (List ℕ)) → TellsState summary told → AppendsPrefix taken taken' (summary_line summary) → PutsOf told taken taken'
 told_prefix summary told taken taken' t put = (Is t.state, t.is, subst (λ (v : List ℕ). AppendsPrefix taken taken' v) (ap summary_line t.summed) put)
 
@@ -178,7 +178,7 @@ untouched fault.Damaged W n o d loud = d refl
 untouched fault.Disk W n o d loud = absurd (loud tt)
 untouched fault.Memory W n o d loud = absurd (loud tt)
 
--- what a session on a volume that was opened tells of none
+-- what a session on a volume that was opened says of none
 pub opened_without : {D K : Type 0} (facts : Ghosts D) (to : sinks.Ghosts K) (kernel : Kernel) (result : Status) (d mid d' : D) (k k' : K)
     → ForSome (facts.seen d) (λ image. Opens (volume image) kernel (facts.seen mid)) → EndsSession result → TellsOfNone facts to result d d' k k'
 opened_without facts to kernel result d mid d' k k' opens ends = record {
@@ -239,7 +239,7 @@ unopened_without facts to f result d d' k k' tells ends writes put prefix = reco
     line fault.Disk tells prefix image is = AppendsPrefix-longer (to.taken k) (to.taken k') [] (check_line (volume image)) prefix
     line fault.Memory tells prefix image is = AppendsPrefix-longer (to.taken k) (to.taken k') [] (check_line (volume image)) prefix
 
--- where nothing was taken or put, no line is answered
+-- when nothing was taken or printed, no line is answered
 none_answered : (taken : Option (List ℕ)) → AreAnswered taken taken 0
 none_answered None = tt
 none_answered (Some before) = omega (arith, ap answered (drop_all (length before) before (omega arith)))
@@ -251,7 +251,7 @@ none_held left_now kept (Some input) taken spelled = λ c left. (0, record { all
 no_lines : (kept : List Line → State) (ls : List Line) (c : Image) → volume c ≡ Is (kept []) → IsPrefix kept ls c
 no_lines kept ls c is = (0, omega arith, is)
 
--- what an opening may leave, where the session then leaves this
+-- what an opening may leave, if the session then leaves this
 module _ {D : Type 0} (facts : Ghosts D) (d mid : D) where
   prefix_yet : (left : Option (List ℕ)) (image : Image) (kept : List Line → State) → volume image ≡ Is (kept []) → Leaves facts d mid (λ c. volume c ≡ volume image)
       → IfSome left (λ input. Leaves facts d mid (IsPrefix kept (lines input)))
@@ -366,7 +366,7 @@ module _ {D S K : Type 0} (facts : Ghosts D) (from : sources.Ghosts S) (to : sin
       gone : (image : Image) → facts.seen d ≡ Some image → IsNoState (volume image) → ⊥
       gone image seen no_state = let o = opens image seen in subst IsNoState o.is no_state
 
-  -- no volume was opened, and the line of the fault was put, or a part of it
+  -- no volume was opened, and the line of the fault was printed, or a part of it
   pub lines_unopened : (f : OpenFault) (result : Status) (d d' : D) (source : S) (sink sink' : K) (steps : ℕ) → FaultTells f (facts.seen d) → EndsUnopenedBy f result → ((TellsNothing f → ⊥) → WritesNothing facts d d')
       → ForSome (facts.seen d) (λ image. IsNoState (volume image) → WritesNothing facts d d') → (TellsNothing f → sink' ≡ sink)
       → (result ≡ status.NoVolume → Appends (to.taken sink) (to.taken sink') (fault_line f)) → AppendsPrefix (to.taken sink) (to.taken sink') (fault_line f)
@@ -407,7 +407,7 @@ module _ {D S K : Type 0} (facts : Ghosts D) (from : sources.Ghosts S) (to : sin
       quiet_volume fault.Disk result q ends h = let e : result ≡ status.Disk = ends in cc
       quiet_volume fault.Memory result q ends h = let e : result ≡ status.Memory = ends in cc
 
--- what a session costs, where each step counts what its line may cost
+-- what a session costs, if each step counts what its line may cost
 pub traced_cost : {M : Type 0} (is : machines.Ghosts M) → PrefixesCostLess cost → (batch : ℕ) (result : Status) (m m' : M) (image : Image) (s : State) (left left' taken taken' : Option (List ℕ)) (steps steps' : ℕ)
     → ((ls : List Line) → is.Stepped m image ls steps steps' m' → steps' ≤ steps + cost s ls) → ((ls : List Line) → is.StoppedIn m image ls steps steps' m' → steps' ≤ steps + cost s ls)
     → Traces is batch result m image left left' taken taken' steps steps' m' → IsWithinCost s result left left' steps steps'

@@ -1,4 +1,4 @@
--- What a fault of the opening of a volume tells, and how a command ends with it; and what is told of a volume.
+-- What a fault of the opening of a volume says, and how a command ends with it; and what is reported of a volume.
 use Rattle.std.specs.Prelude.{ℕ, ◌≡◌, ◌⊎◌, List, [], ◌∷◌, ◌++◌, Option}
 use Rattle.std.specs.Fmt.{decimal}
 use Rattle.std.specs.Option.{ForSome}
@@ -22,7 +22,7 @@ fault_line fault.Damaged = check_line Damaged
 fault_line fault.Disk = []
 fault_line fault.Memory = []
 
--- what a fault tells of the image that reads give
+-- what a fault says of the image that reads give
 abbrev pub FaultTells : OpenFault → Option Image → Type 0
 FaultTells fault.Not told = ForSome told (λ image. volume image ≡ NotVolume)
 FaultTells fault.Old told = ForSome told (λ image. volume image ≡ OldVolume)
@@ -30,7 +30,7 @@ FaultTells fault.Damaged told = ForSome told (λ image. volume image ≡ Damaged
 FaultTells fault.Disk told = Unit {0}
 FaultTells fault.Memory told = Unit {0}
 
--- it tells nothing of the image
+-- it says nothing of the image
 abbrev pub TellsNothing : OpenFault → Type 0
 TellsNothing fault.Not = ⊥
 TellsNothing fault.Old = ⊥
@@ -46,12 +46,13 @@ EndsUnopenedBy fault.Damaged result = (result ≡ status.NoVolume) ⊎ (result �
 EndsUnopenedBy fault.Disk result = result ≡ status.Disk
 EndsUnopenedBy fault.Memory result = result ≡ status.Memory
 
--- the line of a volume of which this is told
+-- the line of a volume of which this is reported
 abbrev pub summary_line : Summary → List ℕ
 summary_line summary =
-    ok_text (decimal summary.frames ∷ decimal summary.objects ∷ decimal summary.pages ∷ decimal summary.accounts ∷ decimal summary.threads ∷ decimal summary.period ∷ decimal summary.credits ∷ []) ++ 10 ∷ []
+    ok_text (decimal summary.frames ∷ decimal summary.objects ∷ decimal summary.pages ∷ decimal summary.accounts
+    ∷ decimal summary.threads ∷ decimal summary.period ∷ decimal summary.credits ∷ []) ++ 10 ∷ []
 
--- this is told of a state, which is that of the image where reads are told
+-- this is reported of a state, which is that of the image if reads are told
 pub record TellsState (summary : Summary) (told : Option Image) : Type 0 where
   pub state : State
   pub is : ForSome told (λ image. volume image ≡ Is state)

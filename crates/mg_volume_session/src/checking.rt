@@ -20,14 +20,14 @@ use mg_serve::Status;
 use mg_text::print_numbers;
 use std::alloc::Global;
 
-/// Tells whether the disk holds a volume, and puts the line of it. It writes nothing.
+/// Reports whether the disk holds a volume, and prints the line of it. It writes nothing.
 pub fn check<D: Disk, K: Sink>(alloc: Global, disk: &mut D, sink: &mut K) -> Status
     ensures { CheckKeeps result (disk_use D.Disk disk.old disk.new) (sink_use K.Sink sink.old sink.new) }
 {
     tell(alloc, disk, sink)
 }
 
-/// Puts the line of what the disk holds.
+/// Prints the line of what the disk holds.
 fn tell<D: Disk, K: Sink>(alloc: Global, disk: &mut D, sink: &mut K) -> Status
     ensures which { (result ≡ Status.Done) ⊎ EndsUnopened result }
     ensures done { result ≡ Status.Done → TellsLine (λ read. (s : State) × (read ≡ Is s)) (D.seen disk.old) (K.taken sink.old) (K.taken sink.new) }
@@ -47,7 +47,7 @@ fn tell<D: Disk, K: Sink>(alloc: Global, disk: &mut D, sink: &mut K) -> Status
     }
 }
 
-/// What is told of the volume that the disk holds. What is counted is that of a state, also where reads are not told.
+/// What is reported of the volume that the disk holds. What is counted is that of a state, also if reads are not told.
 fn examined<D: Disk>(alloc: Global, disk: &mut D) -> Result<Summary, OpenFault>
     ensures tells { IfOk result (λ summary. TellsState summary (D.seen disk.old)) }
     ensures not { result ≡ Err OpenFault.Not → ForSome (D.seen disk.old) (λ image. volume image ≡ NotVolume) }
@@ -62,7 +62,7 @@ fn examined<D: Disk>(alloc: Global, disk: &mut D) -> Result<Summary, OpenFault>
     }
 }
 
-/// Puts the line of a volume.
+/// Prints the line of a volume.
 pub fn put_summary<K: Sink>(summary: &Summary, sink: &mut K) -> Status
     ensures ends { (result ≡ Status.Done) ⊎ (result ≡ Status.Sink) }
     ensures put { result ≡ Status.Done → Appends (K.taken sink.old) (K.taken sink.new) (summary_line summary.now) }

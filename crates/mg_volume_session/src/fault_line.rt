@@ -1,4 +1,4 @@
-// What is put of a disk that was not opened.
+// What is printed of a disk that was not opened.
 ghost use Rattle.std.specs.Prelude.{◌≡◌, ◌⊎◌};
 ghost use Rattle.std.specs.Io.KnownBytes.{Appends};
 ghost use Rattle.mg_faults.specs.Faults.{CountGoesOn, Rose};
@@ -9,7 +9,7 @@ use mg_check::OpenFault;
 use mg_io::{Sink, put_all};
 use mg_serve::Status;
 
-/// Puts the line of a fault of the opening; of a fault of the disk and of a want of memory nothing is put.
+/// Prints the line of a fault of the opening; for a fault of the disk, and without enough memory, nothing is printed.
 pub fn put_fault<K: Sink>(fault: OpenFault, sink: &mut K) -> Status
     ensures ends { EndsUnopenedBy fault result }
     ensures put { result ≡ Status.NoVolume → Appends (K.taken sink.old) (K.taken sink.new) (fault_line fault) }

@@ -1,4 +1,4 @@
-// The command `format`: a volume is made, and a line tells what became of it.
+// The command `format`: a volume is made, and a line says what came of it.
 ghost use Rattle.std.specs.Prelude.{OnErr, OnOk};
 ghost use Rattle.std.specs.Io.KnownBytes.{Appends};
 ghost use Rattle.mg_faults.specs.Faults.{Rose};
@@ -16,8 +16,8 @@ use mg_model::{Params, draw};
 use mg_serve::Status;
 use mg_text::{print_small, print_words};
 
-/// Makes a volume and puts the line that tells of it. Where the disk has too few blocks it is not called, and the line
-/// tells how many are needed and how many there are. Where a call of the disk failed nothing is put.
+/// Makes a volume and prints its line. If the disk has too few blocks it is not called, and the line
+/// says how many are needed and how many there are. If a call of the disk failed nothing is printed.
 pub fn make_volume<D: Disk, K: Sink>(params: &Params, disk: &mut D, sink: &mut K) -> Status
     ensures { FormatKeeps params.now result (disk_use D.Disk disk.old disk.new) (sink_use K.Sink sink.old sink.new) }
 {
@@ -34,7 +34,7 @@ pub fn make_volume<D: Disk, K: Sink>(params: &Params, disk: &mut D, sink: &mut K
     }
 }
 
-/// Puts the line of a volume that was made.
+/// Prints the line of a volume that was made.
 fn put_made<K: Sink>(params: &Params, sink: &mut K) -> Result<(), Failed>
     ensures line { OnOk result (Appends (K.taken sink.old) (K.taken sink.new) (made_line params.now)) }
     ensures prefix { AppendsPrefix (K.taken sink.old) (K.taken sink.new) (made_line params.now) }
@@ -46,7 +46,7 @@ fn put_made<K: Sink>(params: &Params, sink: &mut K) -> Result<(), Failed>
     put_all(sink, line.as_slice())
 }
 
-/// Puts the line that tells how many blocks are needed, and how many there are.
+/// Prints the line that says how many blocks are needed, and how many there are.
 pub fn put_small<K: Sink>(need: u64, have: u64, sink: &mut K) -> Result<(), Failed>
     ensures line { OnOk result (Appends (K.taken sink.old) (K.taken sink.new) (small_line need have)) }
     ensures prefix { AppendsPrefix (K.taken sink.old) (K.taken sink.new) (small_line need have) }

@@ -27,8 +27,8 @@ use mg_text::read_line;
 use std::alloc::Global;
 use std::sync::ledger::Ledger;
 
-/// Steps so many lines of the run of a number on a fresh machine in memory, and puts how many of the replies were ok and
-/// how many were refused with each word, all in one call of `put_all`. Where memory is wanting nothing is put.
+/// Steps `count` lines of the run of a number on a fresh machine in memory, and prints how many of the replies were ok and
+/// how many were refused with each word, all in one call of `put_all`. If there is not enough memory nothing is printed.
 pub fn count_run<K: Sink, L: Ledger>(
     alloc: Global,
     number: u64,
@@ -50,7 +50,7 @@ pub fn count_run<K: Sink, L: Ledger>(
     }
 }
 
-/// A fresh machine with these settings, on a volume in memory; None where memory is wanting.
+/// A fresh machine with these settings, on a volume in memory; None if there is not enough memory.
 fn fresh_machine(alloc: Global, params: &Params) -> Option<(ScratchDisk, Kernel)>
     ensures { IfSome result (λ machine. IsFresh ⟦<ScratchDisk as Disk>⟧ params.now machine.0 machine.1) }
 {
@@ -70,7 +70,7 @@ fn fresh_machine(alloc: Global, params: &Params) -> Option<(ScratchDisk, Kernel)
     }
 }
 
-/// Steps so many lines of the run of a number, and counts the replies. What the lines changed is committed where more than
+/// Steps `count` lines of the run of a number, and counts the replies. What the lines changed is committed if more than
 /// 28 blocks are staged, and at the end.
 fn tally_lines<D: Disk, L: Ledger>(
     kernel: &mut Kernel,
@@ -117,7 +117,7 @@ fn generated_line(number: u64, k: u64) -> Line
     }
 }
 
-/// One line is stepped, and its reply counted. Where more than 28 blocks are staged behind it they are committed.
+/// One line is stepped, and its reply counted. If more than 28 blocks are staged after it they are committed.
 fn count_line<D: Disk, L: Ledger>(
     kernel: &mut Kernel,
     disk: &mut D,
@@ -148,7 +148,7 @@ fn count_line<D: Disk, L: Ledger>(
     kernel.commit(disk)
 }
 
-/// Puts what was counted.
+/// Prints what was counted.
 fn put_tally<K: Sink>(tally: &Tally, sink: &mut K) -> Status
     ensures ends { (result ≡ Status.Done) ⊎ (result ≡ Status.Sink) }
     ensures put { result ≡ Status.Done → Appends (K.taken sink.old) (K.taken sink.new) (tally_text tally.now) }

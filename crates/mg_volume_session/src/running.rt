@@ -14,7 +14,7 @@ use mg_serve::Status;
 use std::alloc::Global;
 use std::sync::ledger::Ledger;
 
-/// Opens the volume of the disk and runs the source's lines on it, in batches of so many replies. Where the disk holds no
+/// Opens the volume of the disk and runs the source's lines on it, in batches of `batch` replies. If the disk holds no
 /// volume a line says so.
 pub fn run<D: Disk, S: Source, K: Sink, L: Ledger>(
     alloc: Global,

@@ -22,7 +22,7 @@ use mg_serve::Status;
 use std::alloc::Global;
 use std::sync::ledger::Ledger;
 
-/// Puts the line `usage`.
+/// Prints the line `usage`.
 pub fn put_usage<K: Sink>(sink: &mut K) -> Status
     ensures either { (result ≡ Status.Usage) ⊎ (result ≡ Status.Sink) }
     ensures text { result ≡ Status.Usage → Appends (K.taken sink.old) (K.taken sink.new) usage_line }
@@ -35,33 +35,33 @@ pub fn put_usage<K: Sink>(sink: &mut K) -> Status
     }
 }
 
-/// Carries out a command of `mungi`, every one but `migrate`, which stands in `mg_migrate_session`. The words are those behind the
+/// Carries out a command of `mungi`: each of them except `migrate`, which is in `mg_migrate_session`. The words are those after the
 /// program's name.
 ///
-/// - `VOLUME dry FRAMES SEED CREDITS` runs the source's lines on a fresh machine that is kept nowhere, and puts the reply to
+/// - `VOLUME dry FRAMES SEED CREDITS` runs the source's lines on a fresh machine that is kept nowhere, and prints the reply to
 ///   each; the disk is not called.
-/// - `VOLUME format FRAMES SEED CREDITS`, with a tariff behind it or none, makes a volume on the disk, and puts `ok` with the
+/// - `VOLUME format FRAMES SEED CREDITS`, with a tariff after it or none, makes a volume on the disk, and prints `ok` with the
 ///   base of its root object and its two passwords; the source is left alone.
-/// - `VOLUME check` tells whether the disk is a volume, and puts `ok` with its frames, objects, pages, accounts, threads,
+/// - `VOLUME check` reports whether the disk is a volume, and prints `ok` with its frames, objects, pages, accounts, threads,
 ///   period and credits; it writes nothing, and the source is left alone.
-/// - `VOLUME run` and `VOLUME run BATCH` run the source's lines on the volume of the disk, so many replies to a batch, 1 where
-///   none is given. A batch is committed, and then its replies are put.
-/// - `VOLUME gen NUMBER LINES` runs so many lines of the run of a number on a fresh machine that is kept nowhere, and puts how
+/// - `VOLUME run` and `VOLUME run BATCH` run the source's lines on the volume of the disk, BATCH replies to a batch, 1 if
+///   none is given. A batch is committed, and then its replies are printed.
+/// - `VOLUME gen NUMBER LINES` runs that many lines of the run of a number on a fresh machine that is kept nowhere, and prints how
 ///   many replies were ok and how many were refused with each word; neither the disk nor the source is called.
 ///
 /// Other words get the line `usage` and [`Status::Usage`]; disk and source are then left alone.
 ///
-/// [`Status::NoVolume`] comes of `check` and `run` where the image that reads give is no volume, with the line `open not`,
+/// [`Status::NoVolume`] comes of `check` and `run` if the image that reads give is no volume, with the line `open not`,
 /// `open old` or `open damaged`, without a write, and with the source left alone. [`Status::Memory`] comes before the first
-/// byte is taken or put, and never where a volume is made. After [`Status::Disk`], [`Status::Source`], [`Status::Sink`] and
-/// [`Status::TooLong`] of `dry` and `run` what was put is a prefix of the replies; at each moment of `run` a stop leaves the
+/// byte is taken or printed, and never if a volume is made. After [`Status::Disk`], [`Status::Source`], [`Status::Sink`] and
+/// [`Status::TooLong`] of `dry` and `run` what was printed is a prefix of the replies; at each moment of `run` a stop leaves the
 /// volume's state after some first lines, and at its end all that are answered are among them. After [`Status::Disk`] of
-/// `format` and `check` nothing was put; after that of `format` the disk holds no volume, what its blocks spelled before, or
-/// the fresh one. [`Status::TooSmall`] comes with the line `small NEED HAVE`, in blocks, and without a call of the disk. Where
-/// the sink failed once a volume was made, that volume stands.
+/// `format` and `check` nothing was printed; after that of `format` the disk holds no volume, what its blocks spelled before, or
+/// the fresh one. [`Status::TooSmall`] comes with the line `small NEED HAVE`, in blocks, and without a call of the disk. If
+/// the sink failed once a volume was made, that volume stays.
 ///
 /// `steps` counts the words that are read and written, one each. Whatever the status of `dry`, `run` and `gen`, it rises by no
-/// more than the lines that were read, or the generated ones, may cost. Under all else it stands still, and under `run` where
+/// more than the lines that were read, or the generated ones, may cost. Under all else it does not rise, nor under `run` if
 /// there is no volume.
 pub fn top<D: Disk, S: Source, K: Sink, L: Ledger>(
     alloc: Global,

@@ -19,18 +19,18 @@ pub enum Command {
     Dry(Params),
     /// Make a volume.
     Format(Params),
-    /// Tell whether the disk is a volume.
+    /// Report whether the disk is a volume.
     Check,
-    /// Run the lines of the input on the volume, so many replies to a batch: 1 to 64.
+    /// Run the lines of the input on the volume, this many replies to a batch: 1 to 64.
     Run(u64),
     /// Run the lines of a generated run on a fresh machine that is kept nowhere, and count the replies: the run's number, and
     /// how many lines it has, at most 1,000,000.
     Gen(u64, u64),
 }
 
-/// The command that these words spell, which are those behind the program's name; None exactly where they spell none.
+/// The command that these words spell, which are those after the program's name; None exactly if they spell none.
 ///
-/// They are `VOLUME dry FRAMES SEED CREDITS`; `VOLUME format FRAMES SEED CREDITS` with nothing behind it (the usual tariff)
+/// They are `VOLUME dry FRAMES SEED CREDITS`; `VOLUME format FRAMES SEED CREDITS` with nothing after it (the usual tariff)
 /// or with a tariff, `F:R F:R F:R F:R`, whose steps keep the rule of [`Tariff`]; `VOLUME check`; `VOLUME run`, a batch
 /// being one reply, or `VOLUME run BATCH`; and `VOLUME gen NUMBER LINES`. FRAMES is 16 to 65,536, SEED has 64 hexadecimal
 /// digits of either case, CREDITS is at most `2^62`, BATCH is 1 to 64, NUMBER is below `2^64`, LINES is at most 1,000,000,
@@ -97,7 +97,7 @@ fn run_alone(word: &[u8]) -> Option<u64>
     if is_word(word, b"run") { Some(1) } else { None }
 }
 
-/// A batch of so many replies, if the first word is `run`.
+/// The number of replies that make a batch, if the first word is `run`.
 fn run_with(word: &[u8], batch: &[u8]) -> Option<u64>
     ensures batch { result ≡ run_with word.now batch.now }
     ensures within { IfSome result (λ batch. (1 ≤ batch) × (batch ≤ 64)) }
@@ -146,7 +146,7 @@ fn gen_with(word: &[u8], number: &[u8], lines: &[u8]) -> Option<(u64, u64)>
     }
 }
 
-/// A run of so many lines, if it may have as many.
+/// A run of `lines` lines, if a run may have that many.
 fn within_lines(number: u64, lines: u64) -> Option<(u64, u64)>
     ensures run { result ≡ lines_within number lines }
     ensures at_most_1000000_lines { IfSome result (λ run. run.1 ≤ 1000000) }
@@ -260,10 +260,10 @@ fn settings_with(tariff: Tariff, frames: &[u8], seed: &[u8], credits: &[u8]) -> 
 }
 
 /// The tariff that four words give, if it keeps the rule.
-fn tariff(a: &[u8], b: &[u8], c: &[u8], d: &[u8]) -> Option<Tariff>
-    ensures { result ≡ tariff_of a.now b.now c.now d.now }
+fn tariff(first: &[u8], second: &[u8], third: &[u8], fourth: &[u8]) -> Option<Tariff>
+    ensures { result ≡ tariff_of first.now second.now third.now fourth.now }
 {
-    Tariff::new([step(a)?, step(b)?, step(c)?, step(d)?])
+    Tariff::new([step(first)?, step(second)?, step(third)?, step(fourth)?])
 }
 
 /// The step that `F:R` gives.
@@ -274,7 +274,7 @@ fn step(word: &[u8]) -> Option<(u64, u64)>
     step_parts(from, rest)
 }
 
-/// The step of a number and what stands behind it, which begins with a colon.
+/// The step of a number and what follows it, which begins with a colon.
 fn step_parts(from: &[u8], rest: &[u8]) -> Option<(u64, u64)>
     ensures { result ≡ step_parts from.now rest.now }
 {
@@ -284,7 +284,7 @@ fn step_parts(from: &[u8], rest: &[u8]) -> Option<(u64, u64)>
     }
 }
 
-/// How many bytes stand before the first colon.
+/// How many bytes are before the first colon.
 fn before_colon(word: &[u8]) -> usize
     ensures count { result ≡ before_colon word.now }
     ensures within { result ≤ length word.now }

@@ -1,4 +1,4 @@
--- Lemmas: what is known of the devices of a list, where the list is read and changed.
+-- Lemmas: what is known of the devices of a list, if the list is read and changed.
 use Rattle.std.specs.Prelude.{◌≡◌, ◌+◌, ◌==◌, ◌&&◌, ◌||◌, ◌<◌, ◌∷◌, [], ℕ, Bool, true, false, nat_lt, cond, length, not, slice_index_or, slice_set, Result, Ok, Err, MatchResult, None, Some}
 use Rattle.std.specs.List.{position_or_len}
 use Rattle.std.proofs.Common.{refl, sym, ap, ◌∙◌, subst}
@@ -38,7 +38,7 @@ module _ {D : Type 0} (held : D → Held) where
       by_test true rest = refl
       by_test false rest = refl
 
-  -- the window at a place is known by the one that is read there
+  -- the window at a place is known by what is read there
   pub window_seen : (windows : Listed D) (i : ℕ) (window : ℕ × D) → i < length windows → slice_index_or windows i window ≡ window → window_at (seen held windows) i ≡ shown window
   window_seen windows i window below read = get_or-map shown windows i window (0, record { kind = 0; room = 0; tape = [] }) below ∙ ap shown read
 

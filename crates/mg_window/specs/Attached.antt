@@ -7,7 +7,7 @@ use Rattle.mg_window.specs.Devices.{Held}
 abbrev pub Listed : Type 0 → Type 0
 Listed D = List (ℕ × D)
 
--- The same, where all that is known of a device is its kind, its room and its tape.
+-- The same, if all that is known of a device is its kind, its room and its tape.
 abbrev pub Attached : Type 0
 Attached = Listed Held
 

@@ -12,7 +12,7 @@ pub record Held : Type 0 where
   pub room : ℕ
   pub tape : Tape
 
--- the value that was stored last at a place, 0 where none was
+-- the value that was stored last at a place, 0 if none was
 abbrev pub last_at : Tape → ℕ → ℕ
 last_at tape off = option_map_or (λ (entry : ℕ × ℕ). entry.1) (find (λ (entry : ℕ × ℕ). entry.0 == off) (reverse tape)) 0
 

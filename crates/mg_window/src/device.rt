@@ -32,11 +32,12 @@ pub trait Device: Drop {
         ensures { result ≡ reading (held self.now).kind (held self.now).tape off };
 
     /// Stores a value at a place, in bytes from the base: the tape gets that entry at its end. [`TapeFull`] comes exactly
-    /// where the tape holds as many as it has room for, and changes nothing. It takes no memory.
+    /// if the tape holds as many as it has room for, and changes nothing. It takes no memory.
     fn store(&mut self, off: u64, value: u64) -> Result<(), TapeFull>
         ensures { MatchResult result
             (λ _. (length (held self.old).tape < (held self.old).room) × (held self.new ≡ stored (held self.old) off value))
-            (λ full. (length (held self.old).tape ≡ (held self.old).room) × (full.room ≡ (held self.old).room) × (held self.new ≡ held self.old)) };
+            (λ full. (length (held self.old).tape ≡ (held self.old).room) × (full.room ≡ (held self.old).room)
+            × (held self.new ≡ held self.old)) };
 }
 
 impl Device for Box<dyn Device> {

@@ -5,14 +5,14 @@ use crate::device::{Device, TapeFull};
 use crate::tape::BoundedTape;
 use std::alloc::{AllocError, Global};
 
-/// A device of kind 1: a load is answered with the value that was stored last at that place, 0 where none was.
+/// A device of kind 1: a load is answered with the value that was stored last at that place, 0 if none was.
 #[derive(Drop)]
 pub struct Latch {
     tape: BoundedTape,
 }
 
 impl Latch {
-    /// A latch with an empty tape, which has room for so many stores. All memory that it will need is taken here.
+    /// A latch with an empty tape, which has room for `room` stores. All memory that it will need is taken here.
     pub fn new(alloc: Global, room: usize) -> Result<Latch, AllocError>
         ensures { IfOk result (λ device. ⟦<Latch as Device>⟧.held device ≡ record { kind = 1; room = room; tape = [] }) }
     {
@@ -48,7 +48,7 @@ pub struct Console {
 }
 
 impl Console {
-    /// A console with an empty tape, which has room for so many stores. All memory that it will need is taken here.
+    /// A console with an empty tape, which has room for `room` stores. All memory that it will need is taken here.
     pub fn new(alloc: Global, room: usize) -> Result<Console, AllocError>
         ensures { IfOk result (λ device. ⟦<Console as Device>⟧.held device ≡ record { kind = 2; room = room; tape = [] }) }
     {
@@ -84,7 +84,7 @@ pub struct Counter {
 }
 
 impl Counter {
-    /// A counter with an empty tape, which has room for so many stores. All memory that it will need is taken here.
+    /// A counter with an empty tape, which has room for `room` stores. All memory that it will need is taken here.
     pub fn new(alloc: Global, room: usize) -> Result<Counter, AllocError>
         ensures { IfOk result (λ device. ⟦<Counter as Device>⟧.held device ≡ record { kind = 3; room = room; tape = [] }) }
     {

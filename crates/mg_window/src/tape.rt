@@ -25,7 +25,7 @@ impl Model for BoundedTape {
 }
 
 impl BoundedTape {
-    /// An empty tape with room for so many stores. All memory that it will need is taken here.
+    /// An empty tape with room for `room` stores. All memory that it will need is taken here.
     pub(crate) fn new(alloc: Global, room: usize) -> Result<BoundedTape, AllocError>
         ensures { IfOk result (λ tape. tape ≡ (room, [])) }
     {
@@ -40,7 +40,7 @@ impl BoundedTape {
         self.list.len() as u64
     }
 
-    /// The value that was stored last at a place, 0 where none was.
+    /// The value that was stored last at a place, 0 if none was.
     pub(crate) fn last_at(&self, off: u64) -> u64
         ensures { result ≡ last_at self.now.1 off }
     {
@@ -54,7 +54,7 @@ impl BoundedTape {
         added(&self.list, off)
     }
 
-    /// Adds a store at the end. [`TapeFull`] comes exactly where it holds as many as it has room for, and changes nothing.
+    /// Adds a store at the end. [`TapeFull`] comes exactly if it holds as many as it has room for, and changes nothing.
     pub(crate) fn push(&mut self, off: u64, value: u64) -> Result<(), TapeFull>
         ensures { MatchResult result
             (λ _. (length self.old.1 < self.old.0) × (self.new ≡ (self.old.0, self.old.1 ++ (off, value) ∷ [])))

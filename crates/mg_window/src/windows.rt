@@ -10,7 +10,7 @@ use std::marker::Model;
 /// How many devices may be attached.
 pub const MOST_DEVICES: usize = 16;
 
-/// Up to 16 devices, each at a base of its own, in the order in which they were attached. Where they are of several types they
+/// Up to 16 devices, each at a base of its own, in the order in which they were attached. If they are of several types they
 /// are boxed, which is what `Windows` alone means; `Windows<D>` has those of one type.
 #[derive(Drop)]
 pub struct Windows<D: Drop = Box<dyn Device>> {
@@ -48,7 +48,7 @@ impl<D: Device> Windows<D> {
         self.list.len()
     }
 
-    /// The place of the device at a base. None exactly where none is there.
+    /// The place of the device at a base. None exactly if none is there.
     #[tactic(auto, using(crate::proofs::Seen::place_seen))]
     pub fn find(&self, base: u64) -> Option<usize>
         ensures { result ≡ place_at (seen D.held self.now) base }
@@ -56,7 +56,7 @@ impl<D: Device> Windows<D> {
         self.place(base)
     }
 
-    // The same, of the list itself.
+    // As [`Windows::find`], on the list itself.
     fn place(&self, base: u64) -> Option<usize>
         ensures { result ≡ place_at self.now base }
     {
@@ -70,7 +70,7 @@ impl<D: Device> Windows<D> {
         self.list.iter().any(|window| window.0 == base)
     }
 
-    /// Attaches a device at a base, behind the others. That very device is handed back, and nothing is changed, exactly where
+    /// Attaches a device at a base, after the others. That very device is handed back, and nothing is changed, exactly if
     /// one is there or 16 are attached.
     #[tactic(auto, using(crate::proofs::Apart::apart_more))]
     pub fn attach(&mut self, base: u64, device: D) -> Result<(), D>
@@ -120,7 +120,7 @@ impl<D: Device> Windows<D> {
     }
 
     /// Stores a value to the i-th device at a place, in bytes from its base. Its tape gets that entry at its end, and no
-    /// other device changes. [`TapeFull`] comes exactly where the tape holds as many as it has room for, and changes
+    /// other device changes. [`TapeFull`] comes exactly if the tape holds as many as it has room for, and changes
     /// nothing. It takes no memory.
     pub fn store(&mut self, i: usize, off: u64, value: u64) -> Result<(), TapeFull>
         requires { i < length self.old }

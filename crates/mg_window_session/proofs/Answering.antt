@@ -1,4 +1,4 @@
--- How calls of the kernel follow each other, and what a line is answered where it reaches a device or none.
+-- How calls of the kernel follow each other, and what a line is answered when it reaches a device or none.
 use Rattle.std.specs.Prelude.{ℕ, ◌≡◌, ◌+◌, ◌%◌, ◌^◌}
 use Rattle.std.specs.Option.{ForSome}
 use Rattle.std.proofs.Common.{arith, sym, ap, ◌∙◌}

@@ -6,7 +6,7 @@ use Rattle.mg_volume_session.specs.ByCommand.{words_of}
 use Rattle.mg_window.specs.Attached.{Attached}
 use Rattle.mg_window_session.specs.Commands.{Asked, are_those, is_that}
 
--- as many windows as are asked for, or none of both is left
+-- as many windows as are named, or none of both is left
 pub those_differ : (windows : Attached) (asked : List Asked) → (length windows ≡ length asked → ⊥) → are_those windows asked ≡ false
 those_differ [] [] h = absurd (h refl)
 those_differ [] (a ∷ asked) h = refl

@@ -1,4 +1,4 @@
--- What follows of how the lines ended, and of the lines of the devices behind the replies.
+-- What follows of how the lines ended, and of the lines of the devices after the replies.
 use Rattle.std.specs.Prelude.{ℕ, ◌≡◌, List, [], Option, Some, None, IfSome}
 use Rattle.mg_check.specs.declared.examining.OpenFault.TheVariants as fault
 use Rattle.std.proofs.Common.{ap, refl}
@@ -35,7 +35,7 @@ if_some_then (Some x) P Q then h = then x h
 on_volume_both : (told : Option Image) (P Q R : State → Type 0) → ((s : State) → P s → Q s → R s) → OnVolume told P → OnVolume told Q → OnVolume told R
 on_volume_both told P Q R then p q = λ image is s spelled. then s (p image is s spelled) (q image is s spelled)
 
--- what is kept once the lines of the devices are put
+-- what is kept once the lines of the devices are printed
 pub dev_keeps : {D S K : Type 0} (facts : disks.Ghosts D) (from : sources.Ghosts S) (to : sinks.Ghosts K) (ran result : Status) (windows windows' : Attached) (d d' : D) (source source' : S) (sink replied sink' : K) (steps steps' : ℕ)
     → DevicesKeep windows windows' (session_of 1 ran (disk_use facts d d') (source_use from source source') (sink_use to sink replied) steps steps') → PutsLast to ran (device_lines windows') result replied sink'
     → CountGoesOn (to.faults sink) (to.faults replied) (to.is_spent sink) (to.is_spent replied) → CountGoesOn (to.faults replied) (to.faults sink') (to.is_spent replied) (to.is_spent sink')
@@ -60,7 +60,7 @@ dev_keeps facts from to ran result windows windows' d d' source source' sink rep
       (promise no_disk no_source (λ rose. no_sink (rose_then _ _ _ _ _ rose after)))) keeps.lines.complete keeps.lines.complete;
 }
 
--- where memory is wanting before anything was begun
+-- when there is not enough memory before anything was begun
 pub not_begun : {D S K : Type 0} (facts : disks.Ghosts D) (from : sources.Ghosts S) (to : sinks.Ghosts K) (windows : Attached) (d : D) (source : S) (sink : K) (steps : ℕ) → facts.has_been d (facts.moment d)
     → DevKeeps windows windows (session_of 1 status.Memory (disk_use facts d d) (source_use from source source) (sink_use to sink sink) steps steps)
 not_begun facts from to windows d source sink steps been = dev_keeps facts from to status.Memory status.Memory windows windows d d source source sink sink sink steps steps

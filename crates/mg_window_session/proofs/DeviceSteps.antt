@@ -1,4 +1,4 @@
--- What a kernel with devices tells of lines, and what is left of its devices where a session ended.
+-- What a kernel with devices says of lines, and what is left of its devices when a session ended.
 use Rattle.std.specs.Prelude.{ℕ, ◌≡◌, ◌≢◌, ◌<◌, ◌≤◌, ◌+◌, List, [], ◌∷◌, ◌++◌, length, take, drop, Option, Some, None}
 use Rattle.std.proofs.Common.{refl, sym, ap, ◌∙◌, arith, length-append, subst, ⊎_elim}
 use Rattle.std.proofs.lemmas.List.{drop_all, length-take-le, take-append-le, take-append-drop, take_all}
@@ -63,7 +63,7 @@ commits windows s kernel' told h = record {
 
 -- The devices that are left
 
--- the devices after so many first lines
+-- the devices after this many first lines
 abbrev AreAfter : Equipped → List ℕ → ℕ → Attached → Type 0
 AreAfter m input k windows = windows ≡ (device_after m (take k (lines input))).windows
 
@@ -78,7 +78,7 @@ fewer_lines k all before last few split =
 
 module _ {W : Type 0} (held : W → Held) (is : machines.Ghosts (DeviceKernel W)) (result : Status) (old new : DeviceKernel W) (image : Image) (steps steps' : ℕ)
     (stepped : (ls : List Line) → is.Stepped old image ls steps steps' new → IsStepped held old image ls new) (stopped : (ls : List Line) → is.StoppedIn old image ls steps steps' new → IsStopped held old image ls new) where
-  -- at the end, or where the input failed, they are those after the answered lines
+  -- at the end, or if the input failed, they are those after the answered lines
   answered_devices : (input rest : List ℕ) (taken taken' : Option (List ℕ)) (t : IsTraced is 1 result old image input rest taken taken' steps steps' new) → result ≢ status.Disk → t.count ≡ t.stepped
       → AreAfterAnswered (machine_of held old image) (Some input) taken taken' (windows_in held new)
   answered_devices input rest None taken' t early same = tt
@@ -117,7 +117,7 @@ module _ {W : Type 0} (held : W → Held) (is : machines.Ghosts (DeviceKernel W)
     sink = λ h. one_more input rest taken taken' t t.stepped t.least t.most t.few (stepped (take t.stepped (lines input)) (t.after (λ e. cc)));
   }
 
--- Where no line ran the devices are those that were handed in.
+-- If no line ran the devices are those that were handed in.
 none_answered : (taken : List ℕ) → answered (drop (length taken) taken) ≡ 0
 none_answered taken = ap answered (drop_all (length taken) taken (omega arith))
 

@@ -18,7 +18,7 @@ is_in base bases = list_any (λ (b : ℕ). b == base) bases
 abbrev bases : Attached → List ℕ
 bases windows = map (λ (window : ℕ × Held). window.0) windows
 
--- whether a device stays where those at these bases are looked at
+-- whether a device stays when those at these bases are looked at
 abbrev stays : State → List ℕ → Window → Bool
 stays s those window = not (is_in window.0 those && not (is_base s window.0))
 
@@ -26,7 +26,7 @@ and_false : (b : Bool) → (b && false) ≡ false
 and_false true = refl
 and_false false = refl
 
--- where a base is looked at that has an object
+-- when a base is looked at that has an object
 same_there : (s : State) (b : ℕ) (those : List ℕ) (window : Window) → is_base s b ≡ true → stays s (b ∷ those) window ≡ stays s those window
 same_there s b those window there = by_base (b == window.0) refl
   where
@@ -37,7 +37,7 @@ same_there s b those window there = by_base (b == window.0) refl
     by_base true is = let here : is_base s window.0 ≡ true = ap (λ t. is_base s t) (sym (eqb-true b window.0 is)) ∙ there in both here true ∙ sym (both here (is_in window.0 those))
     by_base false is = refl
 
--- where it has none
+-- when it has none
 without_cases : (s : State) (b : ℕ) (those : List ℕ) (window : Window) (rest : Attached) → is_base s b ≡ false → filter (stays s those) (without rest b) ≡ filter (stays s (b ∷ those)) rest
     → filter (stays s those) (without (window ∷ rest) b) ≡ filter (stays s (b ∷ those)) (window ∷ rest)
 without_cases s b those window rest gone later = by_base (window.0 == b) refl

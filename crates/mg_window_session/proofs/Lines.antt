@@ -1,4 +1,4 @@
--- How the machine with devices goes on over lines.
+-- How the machine with devices runs over lines.
 use Rattle.std.specs.Prelude.{◌≡◌, List, [], ◌∷◌, ◌++◌}
 use Rattle.std.proofs.Common.{refl}
 use Rattle.mg_model.specs.declared.calls.Line.{Line}

@@ -1,4 +1,4 @@
--- The words that ask for a run with device windows.
+-- The words of a run with device windows.
 use Rattle.std.specs.Prelude.{ℕ, ◌==◌, ◌&&◌, nat_le, Bool, false, true, List, [], ◌∷◌, ◌++◌, drop, if◌then◌else◌, length, take, Option, Some, None, codes}
 use Rattle.std.specs.List.{list_any}
 use Rattle.std.specs.Option.{option_map_or}
@@ -16,11 +16,11 @@ kind_named word =
     else if same_bytes word (codes "counter") then Some 3
     else None
 
--- a kind and the base that a device of it is to stand at
+-- a kind and the base that a device of it is to be at
 abbrev pub Asked : Type 0
 Asked = ℕ × ℕ
 
--- `KIND:BASE`: the kind before the first colon, and the number behind it
+-- `KIND:BASE`: the kind before the first colon, and the number after it
 abbrev pub device_parts : List ℕ → List ℕ → Option Asked
 device_parts kind [] = None
 device_parts kind (colon ∷ base) = and_then (kind_named kind) (λ k. and_then (numbers.number_of base) (λ b. Some (k, b)))
@@ -28,7 +28,7 @@ device_parts kind (colon ∷ base) = and_then (kind_named kind) (λ k. and_then 
 abbrev pub device_named : List ℕ → Option Asked
 device_named word = device_parts (take (before_colon word) word) (drop (before_colon word) word)
 
--- whether one of these stands at the base
+-- whether one of these is at the base
 abbrev pub is_taken : ℕ → List Asked → Bool
 is_taken base devices = list_any (λ (device : Asked). device.1 == base) devices
 
@@ -49,21 +49,21 @@ devices_named words = if nat_le (length words) 16 then devices_from [] words els
 abbrev pub dev_words : List ℕ → List (List ℕ) → Option (List Asked)
 dev_words word devices = if same_bytes word (codes "dev") then devices_named devices else None
 
--- the devices that are asked for, if the words behind the program's name are `VOLUME dev KIND:BASE ..`
+-- the devices that are named, if the words after the program's name are `VOLUME dev KIND:BASE ..`
 abbrev pub dev_of : List (List ℕ) → Option (List Asked)
 dev_of (volume ∷ word ∷ devices) = dev_words word devices
 dev_of words = None
 
--- whether a window is the one that is asked for
+-- whether a window is the one named
 abbrev pub is_that : ℕ × Held → Asked → Bool
 is_that window asked = window.0 == asked.1 && window.1.kind == asked.0
 
--- whether the windows are those that are asked for, in their order
+-- whether the windows are those that are named, in their order
 abbrev pub are_those : Attached → List Asked → Bool
 are_those [] [] = true
 are_those (window ∷ windows) (asked ∷ more) = is_that window asked && are_those windows more
 are_those windows devices = false
 
--- whether the words ask for a run with these windows
+-- whether the words are those of a run with these windows
 abbrev pub asks_for : List (List ℕ) → Attached → Bool
 asks_for words windows = option_map_or (λ devices. are_those windows devices) (dev_of words) false

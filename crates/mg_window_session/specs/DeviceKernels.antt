@@ -1,4 +1,4 @@
--- A kernel with devices as a machine: what it tells of lines that it stepped. `held` is what is known of a device.
+-- A kernel with devices as a machine: what it says of lines that it stepped. `held` is what is known of a device.
 use Rattle.std.specs.Prelude.{◌≡◌, List, [], ◌∷◌, ◌++◌}
 use Rattle.mg_disk.specs.Disk.{Image}
 use Rattle.mg_kernel.specs.Meaning.{now_of}

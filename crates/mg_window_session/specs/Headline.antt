@@ -28,7 +28,7 @@ abbrev pub AreAfterAnswered : Equipped → Option (List ℕ) → Option (List �
 AreAfterAnswered m left taken taken' windows = IfSome left (λ input. IfSome taken (λ before. IsSomeAnd taken' (λ now.
     windows ≡ (device_after m (take (answered (drop (length before) now)) (lines input))).windows)))
 
--- so many first lines are those that are answered, or one more
+-- k is the number n of the answered lines, or one more
 pub record IsOneMore (n k : ℕ) : Type 0 where
   pub least : n ≤ k
   pub most : k ≤ n + 1
@@ -39,21 +39,21 @@ AreAfterOneMore m left taken taken' windows = IfSome left (λ input. IfSome take
     (k : ℕ) × IsOneMore (answered (drop (length before) now)) k × (k ≤ length (lines input))
     × (windows ≡ (device_after m (take k (lines input))).windows))))
 
--- The devices as they are where the lines ran and ended with this status.
+-- The devices as they are when the lines ran and ended with this status.
 pub record LeavesDevices (m : Equipped) (result : Status) (windows : Attached) (left taken taken' : Option (List ℕ)) : Type 0 where
   -- At the end they are those after all lines, and these are the answered ones.
   pub all : result ≡ status.Done → AreAfterAll m left windows
   pub done : result ≡ status.Done → AreAfterAnswered m left taken taken' windows
-  -- Where the source failed, or gave too much, they are those after the answered lines and no others.
+  -- If the source failed, or gave too much, they are those after the answered lines and no others.
   pub source : result ≡ status.Source → AreAfterAnswered m left taken taken' windows
   pub too_long : result ≡ status.TooLong → AreAfterAnswered m left taken taken' windows
-  -- Where the disk or the sink failed, they are those or those after one line more.
+  -- If the disk or the sink failed, they are those or those after one line more.
   pub disk : result ≡ status.Disk → AreAfterOneMore m left taken taken' windows
   pub sink : result ≡ status.Sink → AreAfterOneMore m left taken taken' windows
 
 -- The lines of the devices
 
--- the line of a device: the base that it stands at, the number of its kind, and how many stores its tape holds
+-- the line of a device: the base that it is at, the number of its kind, and how many stores its tape holds
 abbrev pub device_line : ℕ × Held → List ℕ
 device_line (base, device) = codes "dev" ++ spaced (hex_text base ∷ decimal device.kind ∷ decimal (length device.tape) ∷ []) ++ 10 ∷ []
 
@@ -62,7 +62,7 @@ abbrev pub device_lines : Attached → List ℕ
 device_lines [] = []
 device_lines (window ∷ windows) = device_line window ++ device_lines windows
 
--- the replies to a whole input, and the lines of the devices that are left behind it
+-- the replies to a whole input, and the lines of the devices that are left after it
 abbrev pub whole_text : Equipped → List ℕ → List ℕ
 whole_text m input = device_text m (lines input) ++ device_lines (device_after m (lines input)).windows
 
@@ -74,33 +74,33 @@ pub record DevicesKeep {D S K : Type 0} (windows windows' : Attached) (s : Sessi
   pub lines : LinesKeep (λ state. device_text (equipped windows state)) (λ state. device_state (equipped windows state)) s
   pub devices : OfState s.disk (λ state. LeavesDevices (equipped windows state) s.result windows' (left_at s.source)
       (s.sink.facts.taken s.sink.old) (s.sink.facts.taken s.sink.new))
-  -- Where there is no volume, whatever the status, or memory was wanting, the devices are as they were.
+  -- If there is no volume, whatever the status, or there was not enough memory, the devices are as they were.
   pub none_devices : s.result ≡ status.NoVolume → windows' ≡ windows
   pub untouched_devices : OfNoState s.disk (windows' ≡ windows)
   pub memory_devices : s.result ≡ status.Memory → windows' ≡ windows
 
--- What `VOLUME dev KIND:BASE ..` keeps, where the devices that were handed in are those that the words ask for.
+-- What `VOLUME dev KIND:BASE ..` keeps, when the devices that were handed in are those that the words name.
 pub record DevKeeps {D S K : Type 0} (windows windows' : Attached) (s : Session D S K) : Type 0 where
-  -- How the lines ended, and the sink once all replies were put: what is answered are the replies alone.
+  -- How the lines ended, and the sink once all replies were printed: what is answered are the replies alone.
   pub ran : Status
   pub replied : K
   pub keeps : DevicesKeep windows windows' (session_of s.batch ran s.disk s.source (sink_use s.sink.facts s.sink.old replied)
       s.steps s.steps')
-  -- Then the lines of the devices are put that are left.
+  -- Then the lines of the devices that are left are printed.
   pub ends : PutsLast s.sink.facts ran (device_lines windows') s.result replied s.sink.new
-  -- What was put is a prefix of the replies to the whole input and those lines; at the end it is all of them.
+  -- What was printed is a prefix of the replies to the whole input and those lines; at the end it is all of them.
   pub prefix : OfState s.disk (λ state. OfInput s.source (λ input. PutsPrefix s.sink (whole_text (equipped windows state) input)))
   pub done : s.result ≡ status.Done → OfState s.disk (λ state. OfInput s.source (λ input.
       (left_now s.source ≡ Some []) × Puts s.sink (whole_text (equipped windows state) input)))
-  -- It ends in one of the ways of `run`, and the disk and the sink failed only where their counts rose.
+  -- It ends in one of the ways of `run`, and the disk and the sink failed only if their counts rose.
   pub which : EndsRun s.result
   pub disk_failed : s.result ≡ status.Disk → DiskRose s.disk
   pub sink_failed : s.result ≡ status.Sink → SinkRose s.sink
-  -- Where reads give a volume, no call failed and the input is not too long, all is done, or memory was wanting.
+  -- If reads give a volume, no call failed and the input is not too long, all is done, or there was not enough memory.
   pub complete : OfState s.disk (λ _. (DiskRose s.disk → ⊥) → (SourceRose s.source → ⊥) → (SinkRose s.sink → ⊥)
       → IfShort s.source (IsDoneOrMemory s.result))
 
--- What is kept where the words are no such, or ask for other devices: the disk, the source and the devices are left alone.
+-- What is kept if the words are no such words, or name other devices: the disk, the source and the devices are left alone.
 pub record NoDevKeeps {D S K : Type 0} (to : sinks.Ghosts K) (result : Status) (windows windows' : Attached)
     (disk disk' : D) (source source' : S) (sink sink' : K) : Type 0 where
   pub usage : UsageKeeps to result disk disk' source source' sink sink'

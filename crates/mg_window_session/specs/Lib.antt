@@ -1,4 +1,4 @@
--- What the words ask for, the machine with devices, and what is promised; then how a session goes on.
+-- What the words spell, the machine with devices, and what is promised; then how a session proceeds.
 pub mod Commands
 pub mod Machine
 pub mod Headline

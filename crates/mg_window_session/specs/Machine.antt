@@ -26,7 +26,7 @@ pub record Equipped : Type 0 where
 abbrev pub Outcome : Type 0
 Outcome = Equipped × Reply
 
--- the base of the object that has the address, where the thread may reach it with the right
+-- the base of the object that has the address, if the thread may reach it with the right
 abbrev pub base_reached : State → ℕ → ℕ → Right → Option ℕ
 base_reached s t a right = if allowed s t a right then option_map (λ object. object.row.base) (at s.objects a) else None
 
@@ -61,7 +61,7 @@ load_step m line (Some (i, off)) = (m, reply.Value (reading (device_at m.windows
 abbrev pub has_room : Held → Bool
 has_room device = nat_lt (length device.tape) device.room
 
--- a store to a device: the devices behind it, and the reply
+-- a store to a device: the devices after it, and the reply
 abbrev pub stored_at : Attached → ℕ → ℕ → ℕ → Attached × Reply
 stored_at windows i off value =
     if has_room (device_at windows i) then (with_device windows i (stored (device_at windows i) off value), reply.Done)

@@ -31,7 +31,7 @@ dropped s (base ∷ bases) windows = dropped s bases (if is_base s base then win
 abbrev pub machine : Kernel → Attached → Image → Equipped
 machine k windows image = record { state = now_of k image; windows = windows }
 
--- where reads were told, the machine behind the call and the reply are those of this step
+-- when reads were told, the machine after the call and the reply are those of this step
 pub record IsAnswered {D : Type 0} (facts : Ghosts D) (does : Equipped → Outcome) (k k' : Kernel) (windows windows' : Attached) (disk : D) (answer : Reply) : Type 0 where
   pub told : ForSome (facts.seen disk) (λ image. (machine k' windows' image, answer) ≡ does (machine k windows image))
 

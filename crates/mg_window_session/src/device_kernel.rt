@@ -12,23 +12,23 @@ use mg_serve::Machine;
 use mg_window::{Device, Windows};
 use std::sync::ledger::Ledger;
 
-/// A kernel, and the devices that stand at the bases of its objects.
+/// A kernel, and the devices at the bases of its objects.
 #[derive(Drop)]
-pub struct DeviceKernel<T: Drop> {
+pub(crate) struct DeviceKernel<T: Drop> {
     kernel: Kernel,
     windows: Windows<T>,
 }
 
 impl<T: Device> DeviceKernel<T> {
     /// A kernel with these devices.
-    pub fn new(kernel: Kernel, windows: Windows<T>) -> DeviceKernel<T>
+    pub(crate) fn new(kernel: Kernel, windows: Windows<T>) -> DeviceKernel<T>
         ensures { result ≡ record { kernel = kernel; windows = windows } }
     {
         DeviceKernel { kernel, windows }
     }
 
     /// The devices that are left.
-    pub fn into_windows(self) -> Windows<T>
+    pub(crate) fn into_windows(self) -> Windows<T>
         ensures { seen T.held result ≡ windows_in T.held self }
     {
         self.windows

@@ -1,4 +1,4 @@
-// What is put besides the replies.
+// What is printed besides the replies.
 ghost use Rattle.std.specs.Prelude.{◌≡◌, ◌+◌, ◌<◌, ◌≤◌, ◌⊎◌, [], length};
 ghost use Rattle.std.specs.Io.KnownBytes.{Appends};
 ghost use Rattle.arrayvec.specs.ArrayVec.{array_vec_len};
@@ -17,7 +17,7 @@ use mg_window::{Device, Windows};
 /// Room for the lines of 16 devices.
 const ROOM: usize = 16 * 72;
 
-/// Puts the lines of the devices in one call of `put_all`, if the lines that ran are done.
+/// Prints the lines of the devices in one call of `put_all`, if the lines that ran are done.
 pub(crate) fn put_devices<T: Device, K: Sink>(
     ran: Status,
     windows: &Windows<T>,

@@ -1,11 +1,11 @@
 //! The session over a volume with device windows: from the words `VOLUME dev KIND:BASE ..` to the exit status.
 //!
-//! [`top_dev`] runs the source's lines on the volume of a disk, as `mg_volume_session` does, where a load or a store that falls into an
-//! object with a device reaches the device, and says at the end which devices are left. What the layer above learns stands on it,
+//! [`top_dev`] runs the source's lines on the volume of a disk, as `mg_volume_session` does, but a load or a store that falls into an
+//! object with a device reaches the device, and says at the end which devices are left. What the layer above learns is in its contract,
 //! for every disk, source and sink.
 //!
-//! The definitions stand in `specs/`: `Commands` (what the words spell), `Machine` (the machine with devices) and `Headline` (what
-//! is kept, in one record); for the layers below it `Sessions` (lines kept and answered, and the devices behind them), `Stepping`
+//! The definitions are in `specs/`: `Commands` (what the words spell), `Machine` (the machine with devices) and `Headline` (what
+//! is kept, in one record); for the layers below it `Sessions` (lines kept and answered, and the devices after them), `Stepping`
 //! (one line) and `Running` (lines on a volume that was opened).
 #![tactic(auto)]
 
@@ -16,6 +16,5 @@ mod stepping;
 mod top_call;
 mod words;
 
-pub use device_kernel::DeviceKernel;
 pub use top_call::{top_dev, top_dev_of};
 pub use words::{Asked, read_device, read_words};

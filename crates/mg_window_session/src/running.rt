@@ -25,8 +25,8 @@ struct Served<T: Drop> {
     windows: Windows<T>,
 }
 
-/// Runs the source's lines on the volume of the disk, and puts the lines of the devices that are left. An empty list stands in
-/// for the devices meanwhile, since the machine that runs the lines owns them.
+/// Runs the source's lines on the volume of the disk, and prints the lines of the devices that are left. An empty list takes
+/// the place of the devices meanwhile, since the machine that runs the lines owns them.
 pub(crate) fn run_and_tell<T: Device, D: Disk, S: Source, K: Sink, L: Ledger>(
     alloc: Global,
     windows: &mut Windows<T>,
@@ -49,7 +49,7 @@ pub(crate) fn run_and_tell<T: Device, D: Disk, S: Source, K: Sink, L: Ledger>(
     }
 }
 
-/// Opens the volume of the disk and runs the source's lines on it, each of them a batch. Where the disk holds no volume a line
+/// Opens the volume of the disk and runs the source's lines on it, each of them a batch. If the disk holds no volume a line
 /// says so.
 fn run<T: Device, D: Disk, S: Source, K: Sink, L: Ledger>(
     alloc: Global,

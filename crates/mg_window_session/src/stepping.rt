@@ -48,19 +48,19 @@ fn load<T: Device, D: Disk, L: Ledger>(
     windows: &mut Windows<T>,
     disk: &mut D,
     line: &Line,
-    a: u64,
+    address: u64,
     steps: &mut Steps<L>,
 ) -> Result<Reply, Failed>
     requires live { IsTrue (is_live kernel.old) }
     requires at_most_28_staged { staged_of kernel.old ≤ 28 }
     requires stands { StandsOn D.Disk kernel.old disk.old }
-    ensures answers { IfOk result (λ answer. IsAnswered D.Disk (λ m. load_step m line.now (reached m line.now.thread a R)) kernel.old kernel.new (seen T.held windows.old) (seen T.held windows.new) disk.old answer) }
+    ensures answers { IfOk result (λ answer. IsAnswered D.Disk (λ m. load_step m line.now (reached m line.now.thread address R)) kernel.old kernel.new (seen T.held windows.old) (seen T.held windows.new) disk.old answer) }
     ensures serves { Serves D.Disk kernel.old kernel.new disk.old disk.new steps.old steps.new }
     ensures failed { OnErr result (seen T.held windows.new ≡ seen T.held windows.old) }
     ensures slots { IfOk result HasFewSlots }
     ensures calls { DiskCalls D.Disk disk.old disk.new result }
 {
-    match reach(kernel, windows, disk, line.thread, a, Right::R, steps) {
+    match reach(kernel, windows, disk, line.thread, address, Right::R, steps) {
         Ok(Some((i, off))) => Ok(Reply::Value(windows.load(i, off))),
         Ok(None) => step(kernel, windows, disk, line, steps),
         Err(Failed) => Err(Failed),
@@ -73,27 +73,27 @@ fn store<T: Device, D: Disk, L: Ledger>(
     windows: &mut Windows<T>,
     disk: &mut D,
     line: &Line,
-    a: u64,
+    address: u64,
     value: u64,
     steps: &mut Steps<L>,
 ) -> Result<Reply, Failed>
     requires live { IsTrue (is_live kernel.old) }
     requires at_most_28_staged { staged_of kernel.old ≤ 28 }
     requires stands { StandsOn D.Disk kernel.old disk.old }
-    ensures answers { IfOk result (λ answer. IsAnswered D.Disk (λ m. store_step m line.now value (reached m line.now.thread a W)) kernel.old kernel.new (seen T.held windows.old) (seen T.held windows.new) disk.old answer) }
+    ensures answers { IfOk result (λ answer. IsAnswered D.Disk (λ m. store_step m line.now value (reached m line.now.thread address W)) kernel.old kernel.new (seen T.held windows.old) (seen T.held windows.new) disk.old answer) }
     ensures serves { Serves D.Disk kernel.old kernel.new disk.old disk.new steps.old steps.new }
     ensures failed { OnErr result (seen T.held windows.new ≡ seen T.held windows.old) }
     ensures slots { IfOk result HasFewSlots }
     ensures calls { DiskCalls D.Disk disk.old disk.new result }
 {
-    match reach(kernel, windows, disk, line.thread, a, Right::W, steps) {
+    match reach(kernel, windows, disk, line.thread, address, Right::W, steps) {
         Ok(Some((i, off))) => Ok(store_at(windows, i, off, value)),
         Ok(None) => step(kernel, windows, disk, line, steps),
         Err(Failed) => Err(Failed),
     }
 }
 
-/// Stores a value to the i-th device, where its tape has room.
+/// Stores a value to the i-th device, if its tape has room.
 fn store_at<T: Device>(windows: &mut Windows<T>, i: usize, off: u64, value: u64) -> Reply
     requires { i < length windows.old }
     ensures { (seen T.held windows.new, result) ≡ stored_at (seen T.held windows.old) i off value }
@@ -109,36 +109,40 @@ fn reach<T: Device, D: Disk, L: Ledger>(
     kernel: &mut Kernel,
     windows: &Windows<T>,
     disk: &mut D,
-    t: u64,
-    a: u64,
-    r: Right,
+    thread: u64,
+    address: u64,
+    right: Right,
     steps: &mut Steps<L>,
 ) -> Result<Option<(usize, u64)>, Failed>
     requires live { IsTrue (is_live kernel.old) }
     requires at_most_28_staged { staged_of kernel.old ≤ 28 }
     requires stands { StandsOn D.Disk kernel.old disk.old }
-    ensures window { IfOk result (λ window. ForSome (D.seen disk.old) (λ image. window ≡ reached (machine kernel.old (seen T.held windows.now) image) t a r)) }
+    ensures window { IfOk result (λ window. ForSome (D.seen disk.old) (λ image. window ≡ reached (machine kernel.old (seen T.held windows.now) image) thread address right)) }
     ensures place { IfOk result (λ window. IfSome window (λ w. w.0 < length windows.now)) }
     ensures looks { Looks D.Disk kernel.old kernel.new disk.old disk.new steps.old steps.new }
     ensures calls { DiskCalls D.Disk disk.old disk.new result }
 {
-    if a % 8 != 0 {
+    if address % 8 != 0 {
         return Ok(None);
     }
-    match kernel.probe(disk, t, a, r, steps) {
-        Ok(base) => Ok(window_of(windows, a, base)),
+    match kernel.probe(disk, thread, address, right, steps) {
+        Ok(base) => Ok(window_of(windows, address, base)),
         Err(Failed) => Err(Failed),
     }
 }
 
 /// The device at a base, if one is there: its place, and an address from the base on.
-fn window_of<T: Device>(windows: &Windows<T>, a: u64, base: Option<u64>) -> Option<(usize, u64)>
-    ensures window { result ≡ window_of (seen T.held windows.now) a base }
+fn window_of<T: Device>(
+    windows: &Windows<T>,
+    address: u64,
+    base: Option<u64>,
+) -> Option<(usize, u64)>
+    ensures window { result ≡ window_of (seen T.held windows.now) address base }
     ensures place { IfSome result (λ w. w.0 < length windows.now) }
 {
     match base {
         Some(base) => match windows.find(base) {
-            Some(i) => Some((i, a.saturating_sub(base))),
+            Some(i) => Some((i, address.saturating_sub(base))),
             None => None,
         },
         None => None,

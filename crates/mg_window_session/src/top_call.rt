@@ -18,24 +18,24 @@ use mg_window::{Device, Windows};
 use std::alloc::Global;
 use std::sync::ledger::Ledger;
 
-/// All that the program does with device windows. The words, which are those behind its name, are `VOLUME dev` and up to 16
+/// All that the program does with device windows. The words, which are those after its name, are `VOLUME dev` and up to 16
 /// words `KIND:BASE`, all bases different, and the devices that are handed in have the kinds and the bases of those words, in
 /// their order.
 ///
-/// It runs the source's lines on the volume of the disk, a reply a batch, as `VOLUME run` does, where a `load` or a `store` line
+/// It runs the source's lines on the volume of the disk, a reply a batch, as `VOLUME run` does, but a `load` or a `store` line
 /// that is allowed and falls into an object with a device reaches the device in place of the object's words. A device whose
-/// object a line deletes is dropped. Once all lines are answered a line `dev` is put for each device that is left, in order: its
+/// object a line deletes is dropped. Once all lines are answered a line `dev` is printed for each device that is left, in order: its
 /// base in hexadecimal, the number of its kind, 1 to 3, and how many stores its tape holds. `windows` then has the devices that
 /// are left.
 ///
-/// Other words, and other devices than those that the words ask for, get the line `usage` and [`Status::Usage`]; the disk, the
+/// Other words, and other devices than those that the words name, get the line `usage` and [`Status::Usage`]; the disk, the
 /// source and the devices are then left alone.
 ///
-/// [`Status::Usage`], [`Status::NoVolume`] and [`Status::Memory`] leave the devices as they were, and so does every status where
+/// [`Status::Usage`], [`Status::NoVolume`] and [`Status::Memory`] leave the devices as they were, and so does every status when
 /// the disk holds no volume. After [`Status::Done`],
 /// [`Status::Source`] and [`Status::TooLong`] they are those after the answered lines and no others, after [`Status::Disk`] and
 /// [`Status::Sink`] those or those after one line more. The statuses are those of `VOLUME run`; and [`Status::Sink`] comes too
-/// where the lines of the devices could not be put.
+/// if the lines of the devices could not be printed.
 ///
 /// Neither the devices nor their tapes are kept on the volume.
 ///
@@ -67,7 +67,7 @@ pub fn top_dev<D: Disk, S: Source, K: Sink, L: Ledger>(
     top_dev_of(alloc, words, disk, source, sink, windows, steps)
 }
 
-/// The same with devices of any one type, so that a contract can speak of them where boxed devices are made.
+/// As [`top_dev`], with devices of any one type, so that a contract can speak of them when boxed devices are made.
 pub fn top_dev_of<T: Device, D: Disk, S: Source, K: Sink, L: Ledger>(
     alloc: Global,
     words: &[String],

@@ -11,11 +11,11 @@ use arrayvec::ArrayVec;
 use mg_text::read_number;
 use mg_window::{Device, Windows};
 
-/// The devices that words ask for: the number of the kind of each, and the base that it is to stand at, in bytes.
+/// The devices that words name: the number of the kind of each, and the base that it is to be at, in bytes.
 pub type Asked = ArrayVec<(u64, u64), 16>;
 
-/// The device that a word `KIND:BASE` asks for: the number of its kind, and the base that it is to stand at, in bytes. KIND is
-/// `latch` (1), `console` (2) or `counter` (3), and BASE is a number as in a line. None exactly where the word is not of this form.
+/// The device that a word `KIND:BASE` names: the number of its kind, and the base that it is to be at, in bytes. KIND is
+/// `latch` (1), `console` (2) or `counter` (3), and BASE is a number as in a line. None exactly if the word is not of this form.
 pub fn read_device(word: &String) -> Option<(u64, u64)>
     ensures { result ≡ device_named (string_bytes word.now) }
 {
@@ -29,7 +29,7 @@ fn device(word: &[u8]) -> Option<(u64, u64)>
     device_parts(kind, rest)
 }
 
-/// The device of a kind and what stands behind it, which begins with a colon.
+/// The device of a kind and what follows it, which begins with a colon.
 fn device_parts(kind: &[u8], rest: &[u8]) -> Option<(u64, u64)>
     ensures { result ≡ device_parts kind.now rest.now }
 {
@@ -39,7 +39,7 @@ fn device_parts(kind: &[u8], rest: &[u8]) -> Option<(u64, u64)>
     }
 }
 
-/// How many bytes stand before the first colon.
+/// How many bytes are before the first colon.
 fn before_colon(word: &[u8]) -> usize
     ensures count { result ≡ before_colon word.now }
     ensures within { result ≤ length word.now }
@@ -68,8 +68,8 @@ fn is_word(word: &[u8], known: &[u8]) -> bool
     word == known
 }
 
-/// The devices that are asked for, if the words, which are those behind the program's name, are `VOLUME dev` and up to 16 words
-/// `KIND:BASE`, all bases different. None exactly where they are not.
+/// The devices that are named, if the words, which are those after the program's name, are `VOLUME dev` and up to 16 words
+/// `KIND:BASE`, all bases different. None exactly if they are not.
 pub fn read_words(words: &[String]) -> Option<Asked>
     ensures { option_map (λ asked. asked.items) result ≡ dev_of (words_of words.now) }
 {
@@ -109,14 +109,14 @@ fn devices_named(words: &[String]) -> Option<Asked>
     Some(asked)
 }
 
-/// Whether one of these stands at the base.
+/// Whether one of these is at the base.
 fn is_taken(base: u64, devices: &[(u64, u64)]) -> bool
     ensures { result ≡ is_taken base devices.now }
 {
     devices.iter().any(|device| device.1 == base)
 }
 
-/// Whether the words ask for a run with these windows.
+/// Whether the words are those of a run with these windows.
 pub(crate) fn ask_for<T: Device>(words: &[String], windows: &Windows<T>) -> bool
     ensures { result ≡ asks_for (words_of words.now) (seen T.held windows.now) }
 {
@@ -126,7 +126,7 @@ pub(crate) fn ask_for<T: Device>(words: &[String], windows: &Windows<T>) -> bool
     }
 }
 
-/// Whether the windows are those that are asked for, in their order.
+/// Whether the windows are those that are named, in their order.
 fn are_those<T: Device>(windows: &Windows<T>, asked: &[(u64, u64)]) -> bool
     ensures { result ≡ are_those (seen T.held windows.now) asked.now }
 {

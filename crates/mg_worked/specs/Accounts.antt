@@ -2,7 +2,7 @@
 use Rattle.std.specs.Prelude.{[], ◌∷◌, ◌++◌, codes}
 use Rattle.mg_worked.specs.Sessions.{Session, linked}
 
--- rent takes what is there, and the rest is owed
+-- rent takes what the account has, and the account owes the rest
 abbrev pub rent_takes_what_is_there : Session
 rent_takes_what_is_there =
     (codes "1 account 1 0x28bd8653e56a5d40 10", codes "ok 2 0x1aed8da0b819d2bd")

@@ -1,8 +1,8 @@
--- Worked sessions: calls that scripts make. A script's words stand with what they do.
+-- Worked sessions: calls that scripts make. Each word of a script is beside what it does.
 use Rattle.std.specs.Prelude.{[], ◌∷◌, ◌++◌, codes, replicate}
 use Rattle.mg_worked.specs.Sessions.{Session, stores}
 
--- A script makes each call that it can, by its number, and stores what it learned from 0x100000800 on. Register 7 is 2^32.
+-- A script makes each call that it can, by its number, and stores the replies' values from 0x100000800 on. Register 7 is 2^32.
 abbrev pub calls_by_number : Session
 calls_by_number =
     stores 0x100000400 (
@@ -80,8 +80,8 @@ calls_by_number =
     ∷ (codes "3 apdlist", codes "no NoThread")
     ∷ []
 
--- What a script cannot ask for is Syntax, 1: a number that is no call's, rights that are none, and rights above 63. An until
--- that is not above the period, or is above the last, is Past, 22.
+-- What a script can't make is refused with Syntax, 1: a number that is no call's, rights that are none, and rights above 63.
+-- An until that is not above the period, or is above the last, is Past, 22.
 abbrev pub calls_that_are_none : Session
 calls_that_are_none =
     stores 0x100000400 (
@@ -116,8 +116,8 @@ calls_that_are_none =
     ∷ (codes "1 info 0x100000000", codes "ok 0x0000000100000000 1 1 2 0 0")
     ∷ []
 
--- A script sees refusals by their numbers; the root has 32 passwords before. The sessions of scripts and of instructions have
--- 1, 3, 4, 13, 14, 16 and 22; those of calls that no script makes are 18, 19 and 21.
+-- A script sees refusals by their numbers. Before the session the root has 32 passwords. The sessions of scripts and of
+-- instructions have 1, 3, 4, 13, 14, 16 and 22; those of calls that no script makes are 18, 19 and 21.
 abbrev pub refusals_by_number : Session
 refusals_by_number =
     ((codes "1 account 1 0x28bd8653e56a5d40 0", codes "ok 2 0x1aed8da0b819d2bd")

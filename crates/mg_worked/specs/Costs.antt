@@ -1,4 +1,4 @@
--- Worked costs: what the lines of a session may cost, from a fresh state or behind an earlier session. A whole search costs
+-- Worked costs: what the lines of a session may cost, from a fresh state or after an earlier session. A whole search costs
 -- 4,088 words.
 use Rattle.std.specs.Prelude.{◌≡◌, ℕ, zero, suc, ◌+◌, List, [], ◌∷◌, ◌++◌, codes, replicate}
 use Rattle.std.specs.Fmt.{decimal}
@@ -11,12 +11,12 @@ use Rattle.mg_model.specs.Warmth.{cost}
 use Rattle.mg_worked.specs.Drawn.{zero_seed}
 use Rattle.mg_worked.specs.Sessions.{IsAnswered, Session, input, linked, small, stores}
 
--- from this state the lines get these replies, and so many words are the most that they may cost
+-- from this state the lines get these replies, and this number of words is the most that they may cost
 pub record IsPaid (state : State) (session : Session) (words : ℕ) : Type 0 where
   pub answered : IsAnswered state session
   pub paid : cost state (lines (input session)) ≡ words
 
--- a fresh state behind an earlier session
+-- a fresh state after an earlier session
 abbrev pub behind : Session → State
 behind session = after (fresh small) (lines (input session))
 
@@ -32,7 +32,7 @@ words_of_one_object =
     ∷ (codes "1 load 0x100000008", codes "ok 0x0000000000000000")
     ∷ []
 
--- a store into a list makes all cold
+-- a store into a list makes every right cold
 abbrev pub store_between_loads : Session
 store_between_loads =
     (codes "1 load 0x100000000", codes "ok 0x0000000000000001")
@@ -47,8 +47,8 @@ info_twice =
     ∷ (codes "1 info 0x100000000", codes "ok 0x0000000100000000 1 1 1 0 0")
     ∷ []
 
--- What is refused disturbs nothing. An address of no object is searched for, one of no word is not, and a thread that does
--- not live asks for nothing.
+-- A refused line disturbs nothing. An address of no object is searched for, and an address of no word is not. A thread that
+-- does not live makes no access.
 abbrev pub refused_between_loads : Session
 refused_between_loads =
     (codes "1 load 0x100000000", codes "ok 0x0000000000000001")
@@ -77,7 +77,7 @@ turns_of_a_script =
 abbrev pub linked_threads : Session
 linked_threads = linked ++ made_threads 2 37
 
--- thread 1 in the second object and thread 38 in the first have one seat
+-- thread 1 in the second object and thread 38 in the first have the same seat
 abbrev pub one_seat : Session
 one_seat =
     (codes "1 load 0x100001000", codes "ok 0x0000000000000000")
@@ -85,7 +85,7 @@ one_seat =
     ∷ (codes "1 load 0x100001000", codes "ok 0x0000000000000000")
     ∷ []
 
--- thread 37 has another
+-- thread 37 has another seat
 abbrev pub two_seats : Session
 two_seats =
     (codes "1 load 0x100001000", codes "ok 0x0000000000000000")
@@ -93,7 +93,7 @@ two_seats =
     ∷ (codes "1 load 0x100001000", codes "ok 0x0000000000000000")
     ∷ []
 
--- what tells of rights, of slots or of an account leaves all warm
+-- calls that report rights, slots or an account leave every right warm
 abbrev pub calls_that_only_tell : Session
 calls_that_only_tell =
     (codes "1 load 0x100000000", codes "ok 0x0000000000000001")
@@ -113,7 +113,7 @@ stores_into_both_pages =
     ∷ (codes "1 load 0x100001ff8", codes "ok 0x0000000000000006")
     ∷ []
 
--- what is denied is searched for each time
+-- a right that is denied is searched for each time
 abbrev pub denied_twice : Session
 denied_twice =
     (codes "1 create 2 1 0x28bd8653e56a5d40", codes "ok 0x0000000100001000 0x1aed8da0b819d2bd")
@@ -121,7 +121,7 @@ denied_twice =
     ∷ (codes "1 load 0x100001000", codes "no Denied")
     ∷ []
 
--- a call that would change rights changes none where it is refused
+-- a call that would change rights changes none if it is refused
 abbrev pub refused_calls : Session
 refused_calls =
     (codes "1 load 0x100000000", codes "ok 0x0000000000000001")
@@ -130,7 +130,7 @@ refused_calls =
     ∷ (codes "1 load 0x100000000", codes "ok 0x0000000000000001")
     ∷ []
 
--- a domain that is left behind for a while
+-- a domain that is left for a while
 abbrev pub domain_and_back : Session
 domain_and_back =
     (codes "1 load 0x100000000", codes "ok 0x0000000000000001")
@@ -171,7 +171,7 @@ turns_that_load =
 abbrev pub making_script : Session
 making_script = stores 0x100000200 (0xd00000001 ∷ 0x100000102 ∷ 0xe ∷ []) ++ (codes "1 thread 0x100000200", codes "ok 2") ∷ []
 
--- where its line begins cold, a key that it tests twice is searched for twice
+-- if its line begins cold, a key that it tests twice is searched for twice
 abbrev pub one_key_twice : Session
 one_key_twice =
     (codes "2 turn", codes "ok Ready")
@@ -180,7 +180,7 @@ one_key_twice =
     ∷ (codes "2 turn", codes "ok Ready")
     ∷ []
 
--- each call on an object asks for one right there
+-- each call on an object tests one right there
 abbrev pub calls_on_an_object : Session
 calls_on_an_object =
     (codes "1 pwadd 0x100001000 R", codes "ok 0xc70d778bccef36a8")
@@ -191,8 +191,8 @@ calls_on_an_object =
     ∷ (codes "1 delete 0x100001000", codes "ok")
     ∷ []
 
--- A line behind others that leave all rights to an object warm but D and X. What is refused is asked for all the same, unless
--- its address is no word's.
+-- A line after others that leave all rights to an object warm but D and X. A refused call tests its right all the same,
+-- unless its address is not that of a word.
 abbrev pub behind_four_rights : List ℕ × List ℕ → Session
 behind_four_rights line =
     (codes "1 load 0x100001000", codes "ok 0x0000000000000000")
@@ -222,7 +222,7 @@ pwadd_then = behind_four_rights (codes "1 pwadd 0x100001000 R", codes "ok 0xc70d
 abbrev pub ext_then : Session
 ext_then = behind_four_rights (codes "1 ext 0x100001000 0x100000000 0x903df1a0ade0b876", codes "ok")
 
--- a script that asks for a domain with a mask above 255, and for one that it then leaves
+-- a script that makes a `pdx` with a mask above 255, and a `pdx` to a domain that it then leaves
 abbrev pub entering_script : Session
 entering_script =
     stores 0x100000200 (0xa0000000101 ∷ 0x100000102 ∷ 0x10000000201 ∷ 0x2010b ∷ 0x100000201 ∷ 0x2010b ∷ 0 ∷ [])
@@ -231,12 +231,12 @@ entering_script =
     ∷ (codes "1 thread 0x100000200", codes "ok 2")
     ∷ []
 
--- `pdx` and `ret` disturb, the one with the wide mask too, which asks for no right
+-- `pdx` and `ret` disturb, also the `pdx` with the wide mask, which tests no right
 abbrev pub turns_that_enter : Session
 turns_that_enter = replicate 7 (codes "2 turn", codes "ok Ready") ++ (codes "2 turn", codes "ok Stopped") ∷ []
 
--- Four scripts: a jump out of the object, a word that is no instruction, and stores into first pages, one to no word's address
--- and one into an object to which no right is given.
+-- Four scripts: a jump out of the object, a word that is no instruction, and two stores into first pages, one to an address
+-- that is no word's and one into an object on which the script has no right.
 abbrev pub faulting_scripts : Session
 faulting_scripts =
     (codes "1 create 2 1 0x28bd8653e56a5d40", codes "ok 0x0000000100001000 0x1aed8da0b819d2bd")
@@ -250,7 +250,8 @@ faulting_scripts =
     ∷ (codes "1 thread 0x100000500", codes "ok 5")
     ∷ []
 
--- a fetch that is denied counts no word, one of no instruction counts its own, and a store that faults disturbs nothing
+-- a fetch that is denied counts no word, a fetch of a word that is no instruction counts that word, and a store that faults
+-- disturbs nothing
 abbrev pub turns_that_fault : Session
 turns_that_fault =
     (codes "1 load 0x100000000", codes "ok 0x0000000000000001")
@@ -284,7 +285,7 @@ script_of_calls =
 abbrev pub turns_that_call : Session
 turns_that_call = replicate 6 (codes "2 turn", codes "ok Ready") ++ (codes "2 turn", codes "ok Stopped") ∷ []
 
--- thread 1 may do nothing with the second object but own it, and there are threads 2 to 31
+-- thread 1 has the right O alone on the second object, and there are threads 2 to 31
 abbrev pub owner_alone : Session
 owner_alone =
     linked
@@ -292,7 +293,7 @@ owner_alone =
     ∷ (codes "1 store 0x100000028 0xc70d778bccef36a8", codes "ok")
     ∷ made_threads 2 30
 
--- it asks for six rights in turn, of which the last is allowed; thread 31 in the root object has the seat of that one
+-- it tests six rights in turn, of which the last is allowed; thread 31 in the root object has the seat of that right
 abbrev pub six_rights_in_turn : Session
 six_rights_in_turn =
     (codes "1 info 0x100001000", codes "ok 0x0000000100001000 2 1 2 0 0")
@@ -300,7 +301,7 @@ six_rights_in_turn =
     ∷ (codes "1 info 0x100001000", codes "ok 0x0000000100001000 2 1 2 0 0")
     ∷ []
 
--- thread 30 has another
+-- thread 30 has another seat
 abbrev pub sixth_right_is_kept : Session
 sixth_right_is_kept =
     (codes "1 info 0x100001000", codes "ok 0x0000000100001000 2 1 2 0 0")
@@ -308,7 +309,7 @@ sixth_right_is_kept =
     ∷ (codes "1 info 0x100001000", codes "ok 0x0000000100001000 2 1 2 0 0")
     ∷ []
 
--- 128 frames, an object behind the first 65 pages, and a script that stores into its second page
+-- 128 frames, an object after the first 65 pages, and a script that stores into its second page
 abbrev pub far_object : State
 far_object = after (fresh record { frames = 128; seed = zero_seed; credits = 1000; tariff = usual_tariff 128 }) (lines (input far_lines))
   where
@@ -321,6 +322,6 @@ far_object = after (fresh record { frames = 128; seed = zero_seed; credits = 100
         ∷ (codes "1 store 0x100000000 2", codes "ok")
         ∷ stores 0x100000200 (0x100000102 ∷ 0x4200000010007 ∷ 0x4200000010007 ∷ []) ++ (codes "1 thread 0x100000200", codes "ok 2") ∷ []
 
--- the fetch and the store of a turn have one seat, so each takes it from the other
+-- the fetch and the store of a turn have the same seat, so each takes it from the other
 abbrev pub one_seat_in_a_turn : Session
 one_seat_in_a_turn = replicate 3 (codes "2 turn", codes "ok Ready") ++ (codes "2 turn", codes "ok Stopped") ∷ []

@@ -6,15 +6,15 @@ use Rattle.mg_model.specs.State.{State}
 use Rattle.mg_worked.specs.Drawn.{zero_seed}
 use Rattle.mg_worked.specs.Sessions.{Session, small, stores}
 
--- a fresh state with so many objects, all like the root
+-- a fresh state with this number of objects, all like the root
 abbrev pub with_objects : ℕ → State
 with_objects n = record (fresh small) { objects = replicate n (root_object (password_drawn zero_seed 0)) }
 
--- a fresh state in which so many threads were born
+-- a fresh state in which this number of threads were born
 abbrev pub with_births : ℕ → State
 with_births n = record (fresh small) { counters = record (fresh small).counters { births = n } }
 
--- Slots are added last, those of a mask's bits are kept in order, and the extension comes behind them: 8 slots, and no more.
+-- Slots are added last, those of a mask's bits are kept in order, and the extension comes after them: 8 slots, and no more.
 abbrev pub slots_in_order : Session
 slots_in_order =
     (codes "1 apdadd 1 0", codes "ok 1")
@@ -44,7 +44,7 @@ slots_in_order =
     ∷ (codes "1 load 0x100000000", codes "no Denied")
     ∷ []
 
--- Sixteen entries and no more; one that is there is answered again.
+-- Sixteen entries and no more; a call for an entry that is already there is answered ok again.
 abbrev pub sixteen_entries : Session
 sixteen_entries =
     (codes "1 entry 0x100000000 0", codes "ok 0x0000000100000000")
@@ -69,7 +69,7 @@ sixteen_entries =
     ∷ (codes "1 info 0x100000000", codes "ok 0x0000000100000000 1 1 1 16 0")
     ∷ []
 
--- What is refused where no object has the address, or where it is no word's.
+-- The refusals if no object has the address, or if it is not the address of a word.
 abbrev pub what_is_denied : Session
 what_is_denied =
     (codes "1 store 0x100000004 1", codes "no Align")
@@ -104,8 +104,8 @@ what_is_denied =
     ∷ (codes "1 info 0x100000000", codes "ok 0x0000000100000000 1 1 3 0 0")
     ∷ []
 
--- Another account pays for an object only where it is there, its password is right and it owes nothing. What is owed is paid
--- by the next rent, once there are credits.
+-- Another account pays for an object only if it is there, its password is right and it owes nothing. The next rent takes
+-- what an account owes, once it has credits.
 abbrev pub who_pays : Session
 who_pays =
     (codes "1 recharge 0x100000000 1 0", codes "no Account")
@@ -172,7 +172,7 @@ no_more_passwords =
     ∷ (codes "1 account 1 0x28bd8653e56a5d40 0", codes "no Limit")
     ∷ []
 
--- As many objects as there may be; and one less, which have too many pages.
+-- As many objects as there may be; and then one object less, with too many pages.
 abbrev pub no_more_objects : Session
 no_more_objects =
     (codes "1 create 1 1 0x28bd8653e56a5d40", codes "no Limit")
@@ -183,7 +183,7 @@ too_many_pages =
     (codes "1 create 1 1 0x28bd8653e56a5d40", codes "no Full")
     ∷ []
 
--- No birth is left; the last but one is given.
+-- No birth number is left; the last but one is given.
 abbrev pub no_more_births : Session
 no_more_births =
     (codes "1 thread 0x100000000", codes "ok 2")
@@ -206,7 +206,7 @@ without_until =
     ∷ (codes "rent", codes "no Calendar")
     ∷ []
 
--- A thread that ends itself in its turn; the cursor keeps its number, which the next thread gets again.
+-- A thread that ends itself in its turn; the cursor keeps its number, and the next thread gets that number again.
 abbrev pub ended_in_its_turn : Session
 ended_in_its_turn =
     stores 0x100000200 (0xe00000001 ∷ 0x200000101 ∷ 0xe ∷ [])

@@ -1,15 +1,15 @@
--- Worked sessions: instructions of scripts. A script's words stand with what they do.
+-- Worked sessions: instructions of scripts. Each word of a script is beside what it does.
 use Rattle.std.specs.Prelude.{[], ◌∷◌, ◌++◌, codes, replicate}
 use Rattle.mg_worked.specs.Sessions.{Session, stores}
 
 -- Sums, differences, jumps that are taken and that are not, a word that is stored and loaded, and a thread that ends itself.
--- Then a word that is no instruction, and an address that is no word's. A thread that faulted stays where it was.
+-- Then a word that is no instruction, and an address that is no word's. A thread that faulted stays at its pc.
 abbrev pub arithmetic_and_jumps : Session
 arithmetic_and_jumps =
     stores 0x100000200 (
     -- r1 = 3; r2 = r0 - r1, 3 below 2^64; r3 = 1, since r1 is below r2
     0x300000101 ∷ 0x1000204 ∷ 0x2010305 ∷
-    -- no jump where r3 is 0, and a jump over the halt where it is not
+    -- the jump on r3 = 0 is not taken, since r3 is 1; the jump on r3 not 0 goes over the halt
     0x500000309 ∷ 0x20000030a ∷ 0x0 ∷
     -- r4 = r2 + r1; r6 = 2^32
     0x1020403 ∷ 0x100000602 ∷
@@ -47,7 +47,8 @@ arithmetic_and_jumps =
     ∷ (codes "next", codes "no Idle")
     ∷ []
 
--- A sum above the last word begins again at 0. A jump on 0 is taken and one on a number is not, and what is not below is 0.
+-- A sum above the last word begins again at 0. A jump on 0 is taken, and a jump on another number is not. If a number is not
+-- below another, the result is 0.
 abbrev pub sums_wrap : Session
 sums_wrap =
     stores 0x100000200 (
@@ -74,8 +75,8 @@ sums_wrap =
     ∷ (codes "2 turn", codes "ok Stopped")
     ∷ []
 
--- A script enters an object and comes back. What refuses it stands in register 0: no frame is left to return from, a mask above
--- 255, an address that is no word's, one that is no entry, and one without the right.
+-- A script enters an object and comes back. The number of each refusal is in register 0: no frame is left to return from, a
+-- mask above 255, an address that is no word's, an address that is no entry, and an entry without the right.
 abbrev pub scripts_enter_and_return : Session
 scripts_enter_and_return =
     stores 0x100000200 (

@@ -8,15 +8,15 @@ use Rattle.mg_worked.specs.Sessions.{Session, small}
 abbrev pub counted : ℕ → ℕ → State
 counted draws period = record (fresh small) { counters = record { draws = draws; period = period; cursor = 0; births = 1 } }
 
--- a state whose root has so many passwords already
+-- a state whose root has n more passwords
 abbrev pub full_root : ℕ → State
 full_root n = record (fresh small) { objects = map (λ (object : Object). record object { row = record object.row { passwords = object.row.passwords ++ replicate n (record { password = 5; rights = 1; until = 1 }) } }) (fresh small).objects }
 
--- a state with so many accounts more
+-- a state with n more accounts
 abbrev pub more_accounts : ℕ → State
 more_accounts n = record (fresh small) { accounts = (fresh small).accounts ++ replicate n (record { password = 0; balance = 0; owed = 0 }) }
 
--- a state whose threads are so many, all with the first one's row
+-- a state with n more threads, all with the row of the first
 abbrev pub numbered : ℕ → ℕ → List Thread
 numbered first zero = []
 numbered first (suc n) = record { number = first; row = (first_thread 0).row } ∷ numbered (first + 1) n
@@ -50,14 +50,14 @@ refusals =
     ∷ (codes "rent", codes "ok 1 1 1")
     ∷ []
 
--- no period is behind the last
+-- no period comes after the last
 abbrev pub last_period : Session
 last_period =
     (codes "rent", codes "ok 16777215 1 1")
     ∷ (codes "rent", codes "no Calendar")
     ∷ []
 
--- no password is behind the last
+-- no password comes after the last
 abbrev pub last_password : Session
 last_password =
     (codes "1 pwadd 0x0000000100000000 R", codes "ok 0x238c84e8061ed4c7")

@@ -48,7 +48,7 @@ each_right_is_needed =
     ∷ (codes "1 delete 0x100001000", codes "ok")
     ∷ []
 
--- Passwords that give one right each: what needs another is denied. Each is enough for `info`.
+-- Passwords that give one right each: a call that needs another right is denied. Each is enough for `info`.
 abbrev pub each_right_alone : Session
 each_right_alone =
     linked
@@ -119,7 +119,7 @@ rights_by_their_bits =
     ∷ (codes "1 delete 0x100001000", codes "ok")
     ∷ []
 
--- The first and the last word of an object, and what lies beside it; any address of an object names it.
+-- The first and the last word of an object, and the words beside it; any address of an object names it.
 abbrev pub edges_of_an_object : Session
 edges_of_an_object =
     linked

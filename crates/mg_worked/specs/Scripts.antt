@@ -36,7 +36,7 @@ creators_are_births =
     ∷ (codes "3 end 3", codes "ok")
     ∷ []
 
--- a script calls `balance` and stores what it learned
+-- a script calls `balance` and stores the values of the reply
 abbrev pub script_asks_for_a_balance : Session
 script_asks_for_a_balance =
     (codes "1 store 0x100000200 0x0000001200000001", codes "ok")

@@ -2,9 +2,9 @@
 use Rattle.std.specs.Prelude.{[], ◌∷◌, ◌++◌, codes}
 use Rattle.mg_worked.specs.Sessions.{Session, stores}
 
--- A user's document, and code that reads it and that is entered: the reader and the sender run under the user's list alone,
--- which reads the document, and runs and enters the code object. The mailbox writes the document by its extension, for the
--- length of the call.
+-- A user's document, and code that reads it and that other threads enter. The reader and the sender run under the user's
+-- list alone, which reads the document, and runs and enters the code object. The mailbox writes the document by its
+-- extension, for the length of the call.
 abbrev pub documents_and_mailbox : Session
 documents_and_mailbox =
     ((codes "1 account 1 0x28bd8653e56a5d40 200", codes "ok 2 0x1aed8da0b819d2bd")

@@ -1,7 +1,7 @@
 //! Sessions of the machine that `mg_model` defines, computed: each clause is a theorem that these lines get these replies.
 //!
-//! The sessions stand in `specs/`, each line beside its reply. Their replies are worked by hand from what the calls are to
-//! do, and a check of this crate computes the definition on each. Nothing stands on this crate.
+//! The sessions are in `specs/`, each line beside its reply. The replies were worked out by hand from the rules of the
+//! calls, and a check of this crate computes the definition on each. No other crate depends on this one.
 #![tactic(auto)]
 
 ghost use Rattle.std.specs.Prelude.{◌≡◌, [], ◌∷◌, codes};
@@ -76,7 +76,7 @@ pub fn sessions_of_instructions()
     ensures each_field_is_looked_at { IsAnswered (fresh small) each_field_is_looked_at }
 {}
 
-/// Every call that a script can make, by its number, and what it cannot ask for.
+/// Every call that a script can make, by its number, and what it can't make.
 pub fn sessions_of_calls()
     ensures calls_by_number { IsAnswered (fresh small) calls_by_number }
     ensures calls_that_are_none { IsAnswered (fresh small) calls_that_are_none }
@@ -140,7 +140,7 @@ pub fn sessions_and_their_costs()
     ensures two_seats { IsPaid (behind linked_threads) two_seats 8179 }
 {}
 
-/// Which lines leave what is warm, and what a turn may cost.
+/// Which lines leave rights warm, and what a turn may cost.
 pub fn sessions_and_what_disturbs()
     ensures calls_that_only_tell { IsPaid (fresh small) calls_that_only_tell 4090 }
     ensures stores_into_both_pages { IsPaid (behind linked) stores_into_both_pages 12269 }
@@ -152,7 +152,7 @@ pub fn sessions_and_what_disturbs()
     ensures one_key_twice { IsPaid (behind making_script) one_key_twice 16356 }
 {}
 
-/// Which rights a line asks for, and which words it counts.
+/// Which rights a line tests, and which words it counts.
 pub fn sessions_and_what_they_ask_for()
     ensures calls_on_an_object { IsPaid (behind linked) calls_on_an_object 24528 }
     ensures delete_then { IsPaid (behind linked) delete_then 20444 }

@@ -19,4 +19,4 @@ taken rows n amount row there enough is =
 
 pub returns-clause-sum : goal.returns-clause-sum
 returns-clause-sum c =
-    taken c.args.rows.now c.args.n c.args.amount (get_or c.args.rows.now (c.args.n - 1) (record { password = 0; balance = 0; owed = 0 })) c.requires.there c.requires.enough refl
+    taken c.args.rows.now c.args.account c.args.amount (get_or c.args.rows.now (c.args.account - 1) (record { password = 0; balance = 0; owed = 0 })) c.requires.there c.requires.enough refl

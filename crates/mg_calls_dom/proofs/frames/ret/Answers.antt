@@ -16,7 +16,7 @@ returns-in-Ok-clause-does c =
     call_made _ _ _ _ _ (λ no. no) tt (λ image spelled formed.
     let v = c.args.volume.now in
     let row = c.row_of-row.result in
-    let now = c.change_frames.ensures.now leaving (change-gives (find (λ (thread : Thread). thread.number == c.args.thread) (threads_in v)) row c.leave.new.r leaving c.row_of-row.ensures (sym c.in-Ok.ensures.row)) image in
+    let now = c.change_frames.ensures.now leaving (change-gives (find (λ (thread : Thread). thread.number == c.args.thread) (threads_in v)) row c.leave.new.row leaving c.row_of-row.ensures (sym c.in-Ok.ensures.row)) image in
     ret-is (now_of v image) c.args.thread row (told-row v image c.args.thread row c.row_of-row.ensures) None (sym c.in-Ok.ensures.refusal)
     ∙ ap (λ s. (s, Count (length row.frames - 1))) (sym now)
     ∙ ap (λ n. (now_of c.change_frames.new.volume image, Count n)) (sym c.in-Ok.ensures.number)) (search rules)

@@ -19,7 +19,7 @@ returns-in-Ok-clause-does c =
     let t = c.args.thread in
     let row = c.row_of-row.result in
     let slots = last_slots row.frames ++ record { base = c.args.clist; password = c.args.password } ∷ [] in
-    let now = c.change_thread.ensures.now (slotted slots) (change-gives (find (λ (thread : Thread). thread.number == t) (threads_in v)) row c.push_slot.new.r (slotted slots) c.row_of-row.ensures (sym c.in-Ok.ensures.row)) image in
+    let now = c.change_thread.ensures.now (slotted slots) (change-gives (find (λ (thread : Thread). thread.number == t) (threads_in v)) row c.push_slot.new.row (slotted slots) c.row_of-row.ensures (sym c.in-Ok.ensures.row)) image in
     apdadd-is (now_of v image) t row (told-row v image t row c.row_of-row.ensures) c.args.clist c.args.password None c.in-Ok.ensures.refusal
     ∙ ap (λ s. (s, Count (length (last_slots row.frames)))) (sym now)
     ∙ ap (λ n. (now_of c.change_thread.new.self image, Count n)) (sym c.in-Ok.ensures.number)) (search rules)

@@ -19,7 +19,7 @@ returns-in-Ok-clause-does c =
     let t = c.args.thread in
     let row = c.row_of-row.result in
     let slots = take c.args.index (last_slots row.frames) ++ drop (suc c.args.index) (last_slots row.frames) in
-    let now = c.change_thread.ensures.now (slotted slots) (change-gives (find (λ (thread : Thread). thread.number == t) (threads_in v)) row c.drop_slot.new.r (slotted slots) c.row_of-row.ensures (sym c.in-Ok.ensures.row)) image in
+    let now = c.change_thread.ensures.now (slotted slots) (change-gives (find (λ (thread : Thread). thread.number == t) (threads_in v)) row c.drop_slot.new.row (slotted slots) c.row_of-row.ensures (sym c.in-Ok.ensures.row)) image in
     apddel-is (now_of v image) t row (told-row v image t row c.row_of-row.ensures) c.args.index None c.in-Ok.ensures.refusal
     ∙ ap (λ s. (s, Done)) (sym now)) (search rules)
 

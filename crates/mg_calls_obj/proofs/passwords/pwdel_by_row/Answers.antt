@@ -22,7 +22,7 @@ returns-in-Ok-clause-does c =
     call_made _ _ _ _ _ (λ no. no) tt (λ image t a spelled formed named may.
     let state = now_of c.args.volume.now image in
     let object : ObjectRow = c.args.object in
-    let new : ObjectRow = c.remove.new.r in
+    let new : ObjectRow = c.remove.new.row in
     let password = c.args.password in
     let has : list_any (λ pw. has_password password pw) object.passwords ≡ true = was_there (list_any (λ pw. has_password password pw) object.passwords) c.in-Ok.field-0 c.in-Ok.ensures.refused in
     let base : new.base ≡ object.base = ap (λ (r : ObjectRow). r.base) c.remove.ensures.list in
@@ -33,7 +33,7 @@ returns-in-Ok-clause-does c =
 pub returns-in-Ok-clause-others : goal.returns-in-Ok-clause-others
 returns-in-Ok-clause-others c = λ image.
     let object : ObjectRow = c.args.object in
-    let new : ObjectRow = c.remove.new.r in
+    let new : ObjectRow = c.remove.new.row in
     let password = c.args.password in
     let base : new.base ≡ object.base = ap (λ (r : ObjectRow). r.base) c.remove.ensures.list in
     let rows = objects_in c.args.volume.now in

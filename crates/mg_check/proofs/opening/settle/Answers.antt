@@ -12,7 +12,7 @@ pub returns-then-blocks-total-clause-damaged : goal.returns-then-blocks-total-cl
 returns-then-blocks-total-clause-damaged g c is image told =
     let counted = g.met.D.Disk.seen_count c.args.disk.now image told in
     let needed = c.of-total.ensures.total ∙ ap total_blocks c.frames.ensures.value in
-    settled-short c.args.p.now image (omega arith)
+    settled-short c.args.params.now image (omega arith)
 
 pub read_rows-requires-clause-can : goal.read_rows-requires-clause-can
 read_rows-requires-clause-can g c =
@@ -22,7 +22,7 @@ read_rows-requires-clause-can g c =
 
 pub returns-in-Ok-clause-told : goal.returns-in-Ok-clause-told
 returns-in-Ok-clause-told g c image told =
-    let p = c.args.p.now in
+    let p = c.args.params.now in
     let view = c.in_ok-view.view in
     let counted = g.met.D.Disk.seen_count c.args.disk.now image told in
     let needed : c.of-total.result.total ≡ total_blocks p.frames = c.of-total.ensures.total ∙ ap total_blocks c.frames.ensures.value in
@@ -34,7 +34,7 @@ returns-in-Ok-clause-told g c image told =
 pub returns-in-Err-clause-damaged : goal.returns-in-Err-clause-damaged
 returns-in-Err-clause-damaged g c is image told =
     let e : c.in-Err.fault ≡ fault.Damaged = cc in
-    let p = c.args.p.now in
+    let p = c.args.params.now in
     let view = c.in_ok-view.view in
     let counted = g.met.D.Disk.seen_count c.args.disk.now image told in
     let needed : c.of-total.result.total ≡ total_blocks p.frames = c.of-total.ensures.total ∙ ap total_blocks c.frames.ensures.value in

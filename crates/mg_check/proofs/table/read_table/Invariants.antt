@@ -4,7 +4,7 @@ use Rattle.mg_check.specs.Reads.{IsRun, OnlyRead, contents}
 use Rattle.mg_check.specs.TableTold.{AreEntries, table_entry}
 use Rattle.mg_check.proofs.table.read_table.Given as goal
 
--- the entries before this one are told, and what is at hand are blocks of the contents
+-- the entries before this one are read, and what is at hand are blocks of the contents
 abbrev pub invariant-loop-f : goal.invariant-loop-f
 invariant-loop-f g l = record {
   reads : OnlyRead g.D.Disk l.initial.disk l.disk;

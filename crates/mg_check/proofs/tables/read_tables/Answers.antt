@@ -30,7 +30,7 @@ returns-in_err-globals-clause-damaged g c is r told =
     let first = p.1 in
     let same = p.2 in
     let damaged : c.read_counters.result ≡ Err fault.Damaged = cc in
-    without-counters c.args.p.now r (c.read_counters.ensures.damaged damaged r told)
+    without-counters c.args.params.now r (c.read_counters.ensures.damaged damaged r told)
 
 pub returns-in_err-placed-clause-damaged : goal.returns-in_err-placed-clause-damaged
 returns-in_err-placed-clause-damaged g c is r told =
@@ -39,7 +39,7 @@ returns-in_err-placed-clause-damaged g c is r told =
     let first = p.1 in
     let same = p.2 in
     let damaged : c.read_all.result ≡ Err fault.Damaged = cc in
-    without-accounts c.args.p.now r (c.read_all.ensures.damaged damaged r (same_contents g.D.Disk (g.C.Contents.of c.args.view.now) c.args.disk.now c.read_counters.new.disk c.read_counters.ensures.reads ∙ told))
+    without-accounts c.args.params.now r (c.read_all.ensures.damaged damaged r (same_contents g.D.Disk (g.C.Contents.of c.args.view.now) c.args.disk.now c.read_counters.new.disk c.read_counters.ensures.reads ∙ told))
 
 pub returns-in_err-accounts-clause-damaged : goal.returns-in_err-accounts-clause-damaged
 returns-in_err-accounts-clause-damaged g c is r told =
@@ -48,7 +48,7 @@ returns-in_err-accounts-clause-damaged g c is r told =
     let first = p.1 in
     let same = p.2 in
     let damaged : c.without_places.result ≡ Err fault.Damaged = cc in
-    with-gap c.args.p.now r c.deref.result.now (subst (AreLive (λ i. account_read (account_row_bytes r i)) account_limit) (sym c.deref.ensures.value) (c.in_ok-placed.ensures.told r (same_contents g.D.Disk (g.C.Contents.of c.args.view.now) c.args.disk.now c.read_counters.new.disk c.read_counters.ensures.reads ∙ told))) (c.without_places.ensures.damaged damaged)
+    with-gap c.args.params.now r c.deref.result.now (subst (AreLive (λ i. account_read (account_row_bytes r i)) account_limit) (sym c.deref.ensures.value) (c.in_ok-placed.ensures.told r (same_contents g.D.Disk (g.C.Contents.of c.args.view.now) c.args.disk.now c.read_counters.new.disk c.read_counters.ensures.reads ∙ told))) (c.without_places.ensures.damaged damaged)
 
 pub returns-in_err-threads-clause-damaged : goal.returns-in_err-threads-clause-damaged
 returns-in_err-threads-clause-damaged g c is r told =
@@ -57,7 +57,7 @@ returns-in_err-threads-clause-damaged g c is r told =
     let first = p.1 in
     let same = p.2 in
     let damaged : c.read_all-2.result ≡ Err fault.Damaged = cc in
-    without-threads c.args.p.now r (c.read_all-2.ensures.damaged damaged r (same_contents g.D.Disk (g.C.Contents.of c.args.view.now) c.args.disk.now c.read_all.new.disk (only_then g.D.Disk c.args.disk.now c.read_counters.new.disk c.read_all.new.disk c.read_counters.ensures.reads c.read_all.ensures.reads) ∙ told))
+    without-threads c.args.params.now r (c.read_all-2.ensures.damaged damaged r (same_contents g.D.Disk (g.C.Contents.of c.args.view.now) c.args.disk.now c.read_all.new.disk (only_then g.D.Disk c.args.disk.now c.read_counters.new.disk c.read_all.new.disk c.read_counters.ensures.reads c.read_all.ensures.reads) ∙ told))
 
 pub returns-in_err-objects-clause-damaged : goal.returns-in_err-objects-clause-damaged
 returns-in_err-objects-clause-damaged g c is r told =
@@ -66,7 +66,7 @@ returns-in_err-objects-clause-damaged g c is r told =
     let first = p.1 in
     let same = p.2 in
     let damaged : c.read_places.result ≡ Err fault.Damaged = cc in
-    without-objects c.args.p.now r (c.read_places.ensures.damaged damaged r (same_contents g.D.Disk (g.C.Contents.of c.args.view.now) c.args.disk.now c.read_all-2.new.disk (only_then g.D.Disk c.args.disk.now c.read_all.new.disk c.read_all-2.new.disk (only_then g.D.Disk c.args.disk.now c.read_counters.new.disk c.read_all.new.disk c.read_counters.ensures.reads c.read_all.ensures.reads) c.read_all-2.ensures.reads) ∙ told))
+    without-objects c.args.params.now r (c.read_places.ensures.damaged damaged r (same_contents g.D.Disk (g.C.Contents.of c.args.view.now) c.args.disk.now c.read_all-2.new.disk (only_then g.D.Disk c.args.disk.now c.read_all.new.disk c.read_all-2.new.disk (only_then g.D.Disk c.args.disk.now c.read_counters.new.disk c.read_all.new.disk c.read_counters.ensures.reads c.read_all.ensures.reads) c.read_all-2.ensures.reads) ∙ told))
 
 pub returns-in_err-table-clause-damaged : goal.returns-in_err-table-clause-damaged
 returns-in_err-table-clause-damaged g c is r told =
@@ -75,7 +75,7 @@ returns-in_err-table-clause-damaged g c is r told =
     let first = p.1 in
     let same = p.2 in
     let damaged : c.read_table.result ≡ Err fault.Damaged = cc in
-    without-zeros c.args.p.now r (subst (HasRest r) c.frames-frames.ensures.value (c.read_table.ensures.damaged damaged r (same_contents g.D.Disk (g.C.Contents.of c.args.view.now) c.args.disk.now c.read_places.new.disk (only_then g.D.Disk c.args.disk.now c.read_all-2.new.disk c.read_places.new.disk (only_then g.D.Disk c.args.disk.now c.read_all.new.disk c.read_all-2.new.disk (only_then g.D.Disk c.args.disk.now c.read_counters.new.disk c.read_all.new.disk c.read_counters.ensures.reads c.read_all.ensures.reads) c.read_all-2.ensures.reads) c.read_places.ensures.reads) ∙ told)))
+    without-zeros c.args.params.now r (subst (HasRest r) c.frames-frames.ensures.value (c.read_table.ensures.damaged damaged r (same_contents g.D.Disk (g.C.Contents.of c.args.view.now) c.args.disk.now c.read_places.new.disk (only_then g.D.Disk c.args.disk.now c.read_all-2.new.disk c.read_places.new.disk (only_then g.D.Disk c.args.disk.now c.read_all.new.disk c.read_all-2.new.disk (only_then g.D.Disk c.args.disk.now c.read_counters.new.disk c.read_all.new.disk c.read_counters.ensures.reads c.read_all.ensures.reads) c.read_all-2.ensures.reads) c.read_places.ensures.reads) ∙ told)))
 
 pub returns-clause-told : goal.returns-clause-told
 returns-clause-told g c r told =

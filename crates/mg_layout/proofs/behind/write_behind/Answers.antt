@@ -11,13 +11,13 @@ loop-i-init g c =
     record {
       blocks = refl;
       count = search rules;
-      written = map_none c.args.p.now (g.D.Disk.seen disk);
+      written = map_none c.args.params.now (g.D.Disk.seen disk);
       tracks = λ pending image told. stands g.D.Disk (λ k. 1 ≤ k) image disk (SameBut (λ k. 1 ≤ k) image) (g.met.D.Disk.now_has_been disk) (record { told = told; settled = pending }) (λ c same. same);
     }
 
 pub loop-i-preserved : goal.loop-i-preserved
 loop-i-preserved g c =
-    let p = c.args.p.now in
+    let p = c.args.params.now in
     let i = c.loop-i.i in
     let inv = c.loop-i.invariant in
     record {

@@ -9,11 +9,11 @@ use Rattle.mg_layout.proofs.formatting.make.Goals as goal
 
 pub returns-in_err-write_firmly-clause-any_moment : goal.returns-in_err-write_firmly-clause-any_moment
 returns-in_err-write_firmly-clause-any_moment g c pending image told =
-    first_phase g.D.Disk c.args.p.now image c.args.disk.now c.write_firmly.new.disk (c.write_firmly.ensures.any_moment pending image told)
+    first_phase g.D.Disk c.args.params.now image c.args.disk.now c.write_firmly.new.disk (c.write_firmly.ensures.any_moment pending image told)
 
 pub returns-in_err-write_behind-clause-any_moment : goal.returns-in_err-write_behind-clause-any_moment
 returns-in_err-write_behind-clause-any_moment g c pending image told =
-    let p = c.args.p.now in
+    let p = c.args.params.now in
     let count = g.met.D.Disk.seen_count c.args.disk.now image told in
     let room = c.requires.within_disk in
     let closed : g.D.Disk.seen c.write_firmly.new.disk ≡ Some (with_closed image) = c.in_ok-write_firmly.ensures.written ∙ ap (option_map with_closed) told in
@@ -23,7 +23,7 @@ returns-in_err-write_behind-clause-any_moment g c pending image told =
 
 pub returns-clause-any_moment : goal.returns-clause-any_moment
 returns-clause-any_moment g c pending image told =
-    let p = c.args.p.now in
+    let p = c.args.params.now in
     let count = g.met.D.Disk.seen_count c.args.disk.now image told in
     let room : total_blocks p.frames ≤ length image = let r = c.requires.within_disk in omega arith in
     let closed : g.D.Disk.seen c.write_firmly.new.disk ≡ Some (with_closed image) = c.in_ok-write_firmly.ensures.written ∙ ap (option_map with_closed) told in
@@ -36,7 +36,7 @@ returns-clause-any_moment g c pending image told =
 
 pub returns-clause-made : goal.returns-clause-made
 returns-clause-made g c =
-    let p = c.args.p.now in
+    let p = c.args.params.now in
     on_ok_weaker c.write_firmly-2.result
     (λ last.
     all_made p c.keep_rules.ensures.rules (g.D.Disk.seen c.args.disk.now) (g.D.Disk.seen c.write_firmly.new.disk) (g.D.Disk.seen c.write_behind.new.disk) (g.D.Disk.seen c.write_firmly-2.new.disk) c.fresh_block.new.out

@@ -35,7 +35,7 @@ no_tariff fields rule = ⊎_elim kept broken (cases_Bool (is_tariff fields.tarif
 pub returns-in-Some : goal.returns-in-Some
 returns-in-Some c =
     c.new.ensures
-    ∙ some_tariff (super_fields c.args.b.now) c.number_at.result c.number_at-in-Some.result c.seed_in.result c.in-Some.tariff c.number_at.ensures c.seed_in.ensures c.number_at-in-Some.ensures c.in-Some.ensures
+    ∙ some_tariff (super_fields c.args.block.now) c.number_at.result c.number_at-in-Some.result c.seed_in.result c.in-Some.tariff c.number_at.ensures c.seed_in.ensures c.number_at-in-Some.ensures c.in-Some.ensures
 
 pub returns-in-None : goal.returns-in-None
-returns-in-None c = no_tariff (super_fields c.args.b.now) c.in-None.ensures
+returns-in-None c = no_tariff (super_fields c.args.block.now) c.in-None.ensures

@@ -49,23 +49,23 @@ module _ (bytes : List ℕ) (is : IsRecent bytes) where
         (and_right (are_settings (super_fields bytes)) (same_bytes (super_bytes (super_fields bytes)) bytes) (subst (λ (s : Settings). same_bytes (super_bytes s) bytes ≡ false) fields_are.same f))
 
 pub returns-then-ne : goal.returns-then-ne
-returns-then-ne c = super_read-not c.args.b.now (not-true (same_bytes magic (bytes_at c.args.b.now 0 8)) (sym c.ne.ensures ∙ c.if-ne.true))
+returns-then-ne c = super_read-not c.args.block.now (not-true (same_bytes magic (bytes_at c.args.block.now 0 8)) (sym c.ne.ensures ∙ c.if-ne.true))
 
 pub returns-then-number_at-lt-VERSION : goal.returns-then-number_at-lt-VERSION
 returns-then-number_at-lt-VERSION c =
-    let word : c.number_at.result ≡ number_at c.args.b.now 8 = c.number_at.ensures in
-    super_read-old c.args.b.now (not-false (same_bytes magic (bytes_at c.args.b.now 0 8)) (sym c.ne.ensures ∙ c.if-ne.false)) (omega arith)
+    let word : c.number_at.result ≡ number_at c.args.block.now 8 = c.number_at.ensures in
+    super_read-old c.args.block.now (not-false (same_bytes magic (bytes_at c.args.block.now 0 8)) (sym c.ne.ensures ∙ c.if-ne.false)) (omega arith)
 
-is_recent : (c : goal.Else-number_at-lt-VERSION) → IsRecent c.args.b.now
+is_recent : (c : goal.Else-number_at-lt-VERSION) → IsRecent c.args.block.now
 is_recent c =
-    let word : c.number_at.result ≡ number_at c.args.b.now 8 = c.number_at.ensures in
-    record { begins = not-false (same_bytes magic (bytes_at c.args.b.now 0 8)) (sym c.ne.ensures ∙ c.if-ne.false); recent = omega arith }
+    let word : c.number_at.result ≡ number_at c.args.block.now 8 = c.number_at.ensures in
+    record { begins = not-false (same_bytes magic (bytes_at c.args.block.now 0 8)) (sym c.ne.ensures ∙ c.if-ne.false); recent = omega arith }
 
 pub returns-then-is_spelling : goal.returns-then-is_spelling
-returns-then-is_spelling c = spelled c.args.b.now (is_recent (goal.at.returns-then-is_spelling c).Else-number_at-lt-VERSION) c.in-Some.p c.in-Some.ensures (sym c.is_spelling.ensures ∙ c.if-is_spelling.true)
+returns-then-is_spelling c = spelled c.args.block.now (is_recent (goal.at.returns-then-is_spelling c).Else-number_at-lt-VERSION) c.in-Some.params c.in-Some.ensures (sym c.is_spelling.ensures ∙ c.if-is_spelling.true)
 
 pub returns-else-is_spelling : goal.returns-else-is_spelling
-returns-else-is_spelling c = other c.args.b.now (is_recent (goal.at.returns-else-is_spelling c).Else-number_at-lt-VERSION) c.in-Some.p c.in-Some.ensures (sym c.is_spelling.ensures ∙ c.if-is_spelling.false)
+returns-else-is_spelling c = other c.args.block.now (is_recent (goal.at.returns-else-is_spelling c).Else-number_at-lt-VERSION) c.in-Some.params c.in-Some.ensures (sym c.is_spelling.ensures ∙ c.if-is_spelling.false)
 
 pub returns-in-None : goal.returns-in-None
-returns-in-None c = none c.args.b.now (is_recent (goal.at.returns-in-None c).Else-number_at-lt-VERSION) c.in-None.ensures
+returns-in-None c = none c.args.block.now (is_recent (goal.at.returns-in-None c).Else-number_at-lt-VERSION) c.in-None.ensures

@@ -7,22 +7,22 @@ use Rattle.mg_model.specs.SuperblockLemmas.{super_bytes-parts, super_read-back}
 use Rattle.mg_model.specs.Tariff.{is_tariff}
 use Rattle.mg_layout.proofs.superblock.write_super.Goals as goal
 
-keeps_rule : (c : goal.After-whole) → IsTrue (is_tariff c.args.p.now.tariff)
+keeps_rule : (c : goal.After-whole) → IsTrue (is_tariff c.args.params.now.tariff)
 keeps_rule c = subst (λ (t : List (ℕ × ℕ)). IsTrue (is_tariff t)) c.tariff.ensures c.steps-steps.ensures.rule
 
-is_spelled : (c : goal.After-whole) → c.whole.result ≡ super_bytes c.args.p.now
+is_spelled : (c : goal.After-whole) → c.whole.result ≡ super_bytes c.args.params.now
 is_spelled c =
     c.whole.ensures
     ∙ ap (padded_to 4096) c.add_words-2.ensures.value
     ∙ rw (c.add-2.ensures.value, c.add_words.ensures.value, c.add.ensures.value, c.new-filling.ensures, c.seed.ensures, c.frames.ensures.value, c.credits.ensures.value, c.steps-steps.ensures.value, c.tariff.ensures)
-    (super_bytes-parts c.args.p.now (0, 0) (keeps_rule c))
+    (super_bytes-parts c.args.params.now (0, 0) (keeps_rule c))
 
 pub returns-clause-spelled : goal.returns-clause-spelled
 returns-clause-spelled c = is_spelled c
 
 pub returns-clause-read_back : goal.returns-clause-read_back
 returns-clause-read_back c =
-    let p = c.args.p.now in
+    let p = c.args.params.now in
     let frames = c.frames.ensures in
     let credits = c.credits.ensures in
     let within : IsTrue (within_limits p.frames p.credits) = grind (arith, nat_tests) in

@@ -7,7 +7,7 @@ use Rattle.mg_disk.specs.Stops.{CountGoes, NothingPending}
 use Rattle.mg_migrate.proofs.CopySteps.{AreBefore}
 use Rattle.mg_migrate.proofs.copying.copy_behind.Given as goal
 
--- the blocks before this one are copied, and only blocks behind the gate differ
+-- the blocks before this one are copied, and only blocks after the gate differ
 abbrev pub invariant-loop-first : goal.invariant-loop-first
 invariant-loop-first g l = record {
   behind : 1 ≤ l.first;

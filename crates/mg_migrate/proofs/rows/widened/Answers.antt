@@ -6,7 +6,7 @@ use Rattle.mg_migrate.proofs.rows.widened.Goals as goal
 
 pub returns-clause-value : goal.returns-clause-value
 returns-clause-value c =
-    let b = c.args.b.now in
+    let b = c.args.bytes.now in
     let l1 = c.add_part.ensures.long in
     let l2 = c.add_part-2.ensures.long in
     let l3 = c.skip.ensures.long in

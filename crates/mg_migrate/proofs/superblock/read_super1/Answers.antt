@@ -8,23 +8,23 @@ use Rattle.mg_migrate.proofs.superblock.read_super1.Goals as goal
 
 pub returns-then-version : goal.returns-then-version
 returns-then-version c =
-    let word : c.number_at-version.result ≡ number_at c.args.b.now 8 = c.number_at-version.ensures in
-    super1-old c.args.b.now (not-false (same_bytes magic (bytes_at c.args.b.now 0 8)) (sym c.ne.ensures ∙ c.if-ne.false)) (omega arith)
+    let word : c.number_at-version.result ≡ number_at c.args.block.now 8 = c.number_at-version.ensures in
+    super1-old c.args.block.now (not-false (same_bytes magic (bytes_at c.args.block.now 0 8)) (sym c.ne.ensures ∙ c.if-ne.false)) (omega arith)
 
 pub returns-then-version-2 : goal.returns-then-version-2
 returns-then-version-2 c =
-    let word : c.number_at-version.result ≡ number_at c.args.b.now 8 = c.number_at-version.ensures in
-    super1-new c.args.b.now (not-false (same_bytes magic (bytes_at c.args.b.now 0 8)) (sym c.ne.ensures ∙ c.if-ne.false)) (omega arith)
+    let word : c.number_at-version.result ≡ number_at c.args.block.now 8 = c.number_at-version.ensures in
+    super1-new c.args.block.now (not-false (same_bytes magic (bytes_at c.args.block.now 0 8)) (sym c.ne.ensures ∙ c.if-ne.false)) (omega arith)
 
 pub settings_in-requires : goal.settings_in-requires
-settings_in-requires c = let word : c.number_at-version.result ≡ number_at c.args.b.now 8 = c.number_at-version.ensures in omega arith
+settings_in-requires c = let word : c.number_at-version.result ≡ number_at c.args.block.now 8 = c.number_at-version.ensures in omega arith
 
 pub returns-in-Some : goal.returns-in-Some
 returns-in-Some c =
-    let word : c.number_at-version.result ≡ number_at c.args.b.now 8 = c.number_at-version.ensures in
-    super1-is c.args.b.now c.in-Some.p (not-false (same_bytes magic (bytes_at c.args.b.now 0 8)) (sym c.ne.ensures ∙ c.if-ne.false)) (omega arith) c.in-Some.ensures
+    let word : c.number_at-version.result ≡ number_at c.args.block.now 8 = c.number_at-version.ensures in
+    super1-is c.args.block.now c.in-Some.p (not-false (same_bytes magic (bytes_at c.args.block.now 0 8)) (sym c.ne.ensures ∙ c.if-ne.false)) (omega arith) c.in-Some.ensures
 
 pub returns-in-None : goal.returns-in-None
 returns-in-None c =
-    let word : c.number_at-version.result ≡ number_at c.args.b.now 8 = c.number_at-version.ensures in
-    super1-bad c.args.b.now (not-false (same_bytes magic (bytes_at c.args.b.now 0 8)) (sym c.ne.ensures ∙ c.if-ne.false)) (omega arith) c.in-None.ensures
+    let word : c.number_at-version.result ≡ number_at c.args.block.now 8 = c.number_at-version.ensures in
+    super1-bad c.args.block.now (not-false (same_bytes magic (bytes_at c.args.block.now 0 8)) (sym c.ne.ensures ∙ c.if-ne.false)) (omega arith) c.in-None.ensures

@@ -4,7 +4,7 @@ use Rattle.mg_pages.specs.Held.{with_writes}
 use Rattle.mg_pages.specs.Parts.{StagesTable}
 use Rattle.mg_pages.proofs.releasing.release_pages.Given as goal
 
--- the blocks of the frame table before this one are staged where they change, and nothing else is done
+-- the blocks of the frame table before this one are staged if they change, and nothing else is done
 abbrev pub invariant-loop-k : goal.invariant-loop-k
 invariant-loop-k l = record {
   staged : StagesTable l.fn.frames (map (unless_within l.first l.pages) l.fn.frames) l.k l.fn.blocks.writes l.blocks.writes;

@@ -7,7 +7,7 @@ use Rattle.mg_model.specs.ObjectCalls.{has_password}
 use Rattle.mg_model.specs.State.{ObjectRow}
 use Rattle.mg_passwords.proofs.list.remove.Goals as goal
 
--- where no element passes, all are kept
+-- when no element passes, all are kept
 all_kept : {X : Type 0} (p : X → Bool) (xs : List X) → list_any p xs ≡ false → filter (λ x. not (p x)) xs ≡ xs
 all_kept p [] none = refl
 all_kept p (x ∷ xs) none =
@@ -16,6 +16,6 @@ all_kept p (x ∷ xs) none =
 
 pub returns-then-not-has_password-clause-list : goal.returns-then-not-has_password-clause-list
 returns-then-not-has_password-clause-list c =
-    let row : ObjectRow = c.args.r.now in
-    let none : list_any (λ pw. has_password c.args.p pw) row.passwords ≡ false = sym c.has_password.ensures ∙ c.if-not-has_password.true in
-    ap (λ (passwords : List Pw). record row { passwords = passwords }) (sym (all_kept (λ (pw : Pw). has_password c.args.p pw) row.passwords none))
+    let row : ObjectRow = c.args.row.now in
+    let none : list_any (λ pw. has_password c.args.password pw) row.passwords ≡ false = sym c.has_password.ensures ∙ c.if-not-has_password.true in
+    ap (λ (passwords : List Pw). record row { passwords = passwords }) (sym (all_kept (λ (pw : Pw). has_password c.args.password pw) row.passwords none))

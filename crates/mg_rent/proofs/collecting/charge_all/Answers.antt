@@ -7,44 +7,44 @@ use Rattle.mg_rent.proofs.collecting.charge_all.Goals as goal
 
 pub overflow_mul-rate : goal.overflow_mul-rate
 overflow_mul-rate c =
-    let most = due-at c.args.b.now.pages c.loop-i.b.pages c.args.rate c.pages-pages.result (c.loop-i.i + 1) c.requires.pages c.requires.rate c.loop-i.invariant.pages c.pages-pages.ensures in
+    let most = due-at c.args.bank.now.pages c.loop-i.bank.pages c.args.rate c.pages-pages.result (c.loop-i.i + 1) c.requires.pages c.requires.rate c.loop-i.invariant.pages c.pages-pages.ensures in
     omega arith
 
 pub loop-i-preserved : goal.loop-i-preserved
 loop-i-preserved c =
     let within = c.loop-i-test.true in
     let count = c.len-count.ensures.count in
-    let pages = c.args.b.now.pages in
-    let is : c.args.rate * c.pages-pages.result ≡ c.args.rate * pages_of (bare pages) (c.loop-i.i + 1) = ap (λ p. c.args.rate * p) (kept-at pages c.loop-i.b.pages c.pages-pages.result (c.loop-i.i + 1) c.loop-i.invariant.pages c.pages-pages.ensures ∙ sym (bare-pages pages (c.loop-i.i + 1))) in
-    let most = due-at pages c.loop-i.b.pages c.args.rate c.pages-pages.result (c.loop-i.i + 1) c.requires.pages c.requires.rate c.loop-i.invariant.pages c.pages-pages.ensures in
+    let pages = c.args.bank.now.pages in
+    let is : c.args.rate * c.pages-pages.result ≡ c.args.rate * pages_of (bare pages) (c.loop-i.i + 1) = ap (λ p. c.args.rate * p) (kept-at pages c.loop-i.bank.pages c.pages-pages.result (c.loop-i.i + 1) c.loop-i.invariant.pages c.pages-pages.ensures ∙ sym (bare-pages pages (c.loop-i.i + 1))) in
+    let most = due-at pages c.loop-i.bank.pages c.args.rate c.pages-pages.result (c.loop-i.i + 1) c.requires.pages c.requires.rate c.loop-i.invariant.pages c.pages-pages.ensures in
     record {
       charged = λ owed.
           let before = c.loop-i.invariant.charged owed in
-          let few = next-owes (bare pages) c.args.rate c.args.b.now.accounts c.loop-i.b.accounts c.loop-i.sum c.loop-i.i (2 ^ 60) (omega arith) owed before in
-          charged-more (bare pages) c.args.rate c.args.b.now.accounts c.loop-i.b.accounts c.charge-sum.new.b.accounts c.loop-i.sum c.charge-sum.result (c.args.rate * c.pages-pages.result) c.loop-i.i (omega arith) is before
+          let few = next-owes (bare pages) c.args.rate c.args.bank.now.accounts c.loop-i.bank.accounts c.loop-i.sum c.loop-i.i (2 ^ 60) (omega arith) owed before in
+          charged-more (bare pages) c.args.rate c.args.bank.now.accounts c.loop-i.bank.accounts c.charge-sum.new.bank.accounts c.loop-i.sum c.charge-sum.result (c.args.rate * c.pages-pages.result) c.loop-i.i (omega arith) is before
           (c.charge-sum.ensures.accounts (omega arith)) (c.charge-sum.ensures.paid (omega arith)) c.charge-sum.ensures.sum;
       count = c.charge-sum.ensures.count ∙ c.loop-i.invariant.count;
       credits = let sum = c.charge-sum.ensures.sum in let before = c.loop-i.invariant.credits in omega arith;
       pages = c.charge-sum.ensures.pages ∙ c.loop-i.invariant.pages;
     }
 
--- all are charged behind the loop
-all : (c : goal.After-give) → OweAtMost (2 ^ 60) c.args.b.now.accounts → AllCharged (bare c.args.b.now.pages) c.args.rate c.args.b.now.accounts c.loop-i.b.accounts c.loop-i.sum
+-- all are charged after the loop
+all : (c : goal.After-give) → OweAtMost (2 ^ 60) c.args.bank.now.accounts → AllCharged (bare c.args.bank.now.pages) c.args.rate c.args.bank.now.accounts c.loop-i.bank.accounts c.loop-i.sum
 all c owed =
     let end = c.loop-i-test.false in
     let few = c.loop-i.auto.i-end in
     let count = c.len-count.ensures.count in
-    charged-all (bare c.args.b.now.pages) c.args.rate c.args.b.now.accounts c.loop-i.b.accounts c.loop-i.sum c.loop-i.i (omega arith) (c.loop-i.invariant.charged owed)
+    charged-all (bare c.args.bank.now.pages) c.args.rate c.args.bank.now.accounts c.loop-i.bank.accounts c.loop-i.sum c.loop-i.i (omega arith) (c.loop-i.invariant.charged owed)
 
 pub returns-clause-accounts : goal.returns-clause-accounts
 returns-clause-accounts c owed objects same =
-    received objects c.args.rate c.args.b.now.accounts c.loop-i.b.accounts c.give.new.b.accounts c.loop-i.sum (charged-of objects c.args.b.now.pages c.args.rate c.args.b.now.accounts c.loop-i.b.accounts c.loop-i.sum same (all c owed)) c.give.ensures.accounts
+    received objects c.args.rate c.args.bank.now.accounts c.loop-i.bank.accounts c.give.new.bank.accounts c.loop-i.sum (charged-of objects c.args.bank.now.pages c.args.rate c.args.bank.now.accounts c.loop-i.bank.accounts c.loop-i.sum same (all c owed)) c.give.ensures.accounts
 
 pub returns-clause-paid : goal.returns-clause-paid
-returns-clause-paid c owed objects same = (charged-of objects c.args.b.now.pages c.args.rate c.args.b.now.accounts c.loop-i.b.accounts c.loop-i.sum same (all c owed)).paid_is
+returns-clause-paid c owed objects same = (charged-of objects c.args.bank.now.pages c.args.rate c.args.bank.now.accounts c.loop-i.bank.accounts c.loop-i.sum same (all c owed)).paid_is
 
 pub returns-clause-debts : goal.returns-clause-debts
-returns-clause-debts c few period owed = debts-grow c.args.b.now.pages c.args.rate period c.args.b.now.accounts c.loop-i.b.accounts c.give.new.b.accounts c.loop-i.sum c.requires.pages c.requires.rate (all c few) c.give.ensures.accounts owed
+returns-clause-debts c few period owed = debts-grow c.args.bank.now.pages c.args.rate period c.args.bank.now.accounts c.loop-i.bank.accounts c.give.new.bank.accounts c.loop-i.sum c.requires.pages c.requires.rate (all c few) c.give.ensures.accounts owed
 
 pub returns-clause-count : goal.returns-clause-count
-returns-clause-count c = ap length c.give.ensures.accounts ∙ length-given c.loop-i.b.accounts 1 c.loop-i.sum ∙ c.loop-i.invariant.count
+returns-clause-count c = ap length c.give.ensures.accounts ∙ length-given c.loop-i.bank.accounts 1 c.loop-i.sum ∙ c.loop-i.invariant.count

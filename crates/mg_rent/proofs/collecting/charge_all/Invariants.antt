@@ -6,8 +6,8 @@ use Rattle.mg_rent.proofs.collecting.charge_all.Given as goal
 
 abbrev pub invariant-loop-i : goal.invariant-loop-i
 invariant-loop-i l = record {
-  charged : OweAtMost (2 ^ 60) l.fn.b.accounts → AreCharged (bare l.fn.b.pages) l.rate l.fn.b.accounts l.b.accounts l.sum l.i;
-  count : length l.b.accounts ≡ length l.fn.b.accounts;
-  credits : credits_of l.b.accounts + l.sum ≡ credits_of l.fn.b.accounts;
-  pages : l.b.pages ≡ l.fn.b.pages;
+  charged : OweAtMost (2 ^ 60) l.fn.bank.accounts → AreCharged (bare l.fn.bank.pages) l.rate l.fn.bank.accounts l.bank.accounts l.sum l.i;
+  count : length l.bank.accounts ≡ length l.fn.bank.accounts;
+  credits : credits_of l.bank.accounts + l.sum ≡ credits_of l.fn.bank.accounts;
+  pages : l.bank.pages ≡ l.fn.bank.pages;
 }

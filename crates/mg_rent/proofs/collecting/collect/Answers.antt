@@ -6,8 +6,8 @@ use Rattle.mg_rent.specs.Charging.{OweAtMost}
 use Rattle.mg_rent.proofs.collecting.collect.Goals as goal
 
 -- no period is so late that an account may owe more
-few : (c : goal.After-charge_all) → OweAtMost (2 ^ 60) c.args.b.now.accounts
-few c = All-weaker (λ (row : AccRow). row.owed ≤ debt_limit c.args.period) (λ (row : AccRow). row.owed ≤ 2 ^ 60) (λ row owed. let last = c.requires.period in omega arith) c.args.b.now.accounts c.requires.owed
+few : (c : goal.After-charge_all) → OweAtMost (2 ^ 60) c.args.bank.now.accounts
+few c = All-weaker (λ (row : AccRow). row.owed ≤ debt_limit c.args.period) (λ (row : AccRow). row.owed ≤ 2 ^ 60) (λ row owed. let last = c.requires.period in omega arith) c.args.bank.now.accounts c.requires.owed
 
 pub returns-clause-accounts : goal.returns-clause-accounts
 returns-clause-accounts c objects same = rw (← c.rate.ensures.rate) (c.charge_all.ensures.accounts (few c) objects same)

@@ -13,7 +13,7 @@ loop-step-preserved c =
     let test = c.loop-step-test.true in
     let within : i < length steps = omega arith in
     record {
-      rate_is = step-taken c.loop-step.rate c.next_rate-rate.result steps i (0, 0) c.args.used (rate_from 0 c.args.t.now c.args.used) within c.next_rate-rate.ensures c.loop-step.invariant.rate_is;
+      rate_is = step-taken c.loop-step.rate c.next_rate-rate.result steps i (0, 0) c.args.used (rate_from 0 c.args.tariff.now c.args.used) within c.next_rate-rate.ensures c.loop-step.invariant.rate_is;
       few = step-few c.loop-step.rate (get_or steps i (0, 0)).1 c.next_rate-rate.result (nat_le (get_or steps i (0, 0)).0 c.args.used) c.next_rate-rate.ensures (are.few i test) c.loop-step.invariant.few;
     }
 
@@ -23,4 +23,4 @@ returns-clause-rate c =
     let are : AreSteps steps = tariff-steps steps (subst (λ (tariff : List (ℕ × ℕ)). is_tariff tariff ≡ true) (sym c.steps-steps.ensures.value) c.steps-steps.ensures.rule) in
     let four = are.four in
     let past = c.loop-step-test.false in
-    rate-found c.loop-step.rate c.loop-step.step-index c.args.used steps c.args.t.now (omega (arith, past)) c.loop-step.invariant.rate_is
+    rate-found c.loop-step.rate c.loop-step.step-index c.args.used steps c.args.tariff.now (omega (arith, past)) c.loop-step.invariant.rate_is

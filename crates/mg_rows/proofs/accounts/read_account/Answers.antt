@@ -8,7 +8,7 @@ use Rattle.mg_rows.proofs.accounts.read_account.Goals as goal
 
 pub returns-then-eq : goal.returns-then-eq
 returns-then-eq c =
-    let bytes = c.args.b.now in
+    let bytes = c.args.bytes.now in
     let row : AccRow = record { password = c.number_at.result; balance = c.number_at-2.result; owed = c.number_at-3.result } in
     let some : are_zeros bytes ≡ false = sym c.are_zeros.ensures ∙ c.if-are_zeros.false in
     let same : row ≡ account_fields bytes = cc (c.number_at.ensures, c.number_at-2.ensures, c.number_at-3.ensures) in
@@ -17,7 +17,7 @@ returns-then-eq c =
 
 pub returns-else-eq : goal.returns-else-eq
 returns-else-eq c =
-    let bytes = c.args.b.now in
+    let bytes = c.args.bytes.now in
     let row : AccRow = record { password = c.number_at.result; balance = c.number_at-2.result; owed = c.number_at-3.result } in
     let some : are_zeros bytes ≡ false = sym c.are_zeros.ensures ∙ c.if-are_zeros.false in
     let same : row ≡ account_fields bytes = cc (c.number_at.ensures, c.number_at-2.ensures, c.number_at-3.ensures) in

@@ -6,18 +6,18 @@ use Rattle.mg_rows.proofs.ObjectWhole.{all_read, bare_of_entries, fails, not_ent
 use Rattle.mg_rows.proofs.object_parts.fields.Goals as goal
 
 pub returns-in_err-row : goal.returns-in_err-row
-returns-in_err-row c = c.from_residual.ensures ∙ not_placed c.args.b.now c.in_err-row.ensures
+returns-in_err-row c = c.from_residual.ensures ∙ not_placed c.args.bytes.now c.in_err-row.ensures
 
 pub returns-then-not-read_passwords : goal.returns-then-not-read_passwords
 returns-then-not-read_passwords c =
-    let b = c.args.b.now in
+    let b = c.args.bytes.now in
     let placed = c.in_ok-row.row in
     let filled : ObjectRow = record placed { passwords = passwords_in b } in
     not_opened b placed c.in_ok-row.ensures (fails (are_passwords (passwords_in b)) filled c.if-not-read_passwords.ensures.kept)
 
 pub read_entries-requires-clause-bare : goal.read_entries-requires-clause-bare
 read_entries-requires-clause-bare c =
-    let b = c.args.b.now in
+    let b = c.args.bytes.now in
     let placed = c.in_ok-row.row in
     let opened = c.read_passwords.new.row in
     let filled : ObjectRow = record placed { passwords = passwords_in b } in
@@ -26,7 +26,7 @@ read_entries-requires-clause-bare c =
 
 pub returns-then-not-read_entries : goal.returns-then-not-read_entries
 returns-then-not-read_entries c =
-    let b = c.args.b.now in
+    let b = c.args.bytes.now in
     let placed = c.in_ok-row.row in
     let opened = c.read_passwords.new.row in
     let filled : ObjectRow = record placed { passwords = passwords_in b } in
@@ -36,7 +36,7 @@ returns-then-not-read_entries c =
 
 pub returns-then-not-read_extension : goal.returns-then-not-read_extension
 returns-then-not-read_extension c =
-    let b = c.args.b.now in
+    let b = c.args.bytes.now in
     let placed = c.in_ok-row.row in
     let opened = c.read_passwords.new.row in
     let filled : ObjectRow = record placed { passwords = passwords_in b } in
@@ -49,7 +49,7 @@ returns-then-not-read_extension c =
 
 pub returns : goal.returns
 returns c =
-    let b = c.args.b.now in
+    let b = c.args.bytes.now in
     let placed = c.in_ok-row.row in
     let opened = c.read_passwords.new.row in
     let filled : ObjectRow = record placed { passwords = passwords_in b } in

@@ -11,11 +11,11 @@ use Rattle.mg_rows.proofs.object_parts.read_entries.Goals as goal
 pub returns-then-count-gt-ENTRY_LIMIT-clause-kept : goal.returns-then-count-gt-ENTRY_LIMIT-clause-kept
 returns-then-count-gt-ENTRY_LIMIT-clause-kept c =
     let row = c.args.row.now in
-    sym (none_tells (are_entries row.base row.pages (entries_in c.args.b.now)) row (too_many_entries c.args.b.now row row c.number_at-count.result c.number_at-count.ensures c.if-count-gt-ENTRY_LIMIT.true))
+    sym (none_tells (are_entries row.base row.pages (entries_in c.args.bytes.now)) row (too_many_entries c.args.bytes.now row row c.number_at-count.result c.number_at-count.ensures c.if-count-gt-ENTRY_LIMIT.true))
 
 pub returns-then-not-may_be_entry-clause-kept : goal.returns-then-not-may_be_entry-clause-kept
 returns-then-not-may_be_entry-clause-kept c =
-    let bytes = c.args.b.now in
+    let bytes = c.args.bytes.now in
     let row = c.args.row.now in
     let k = c.loop-k.k in
     let fails = next-test c.loop-k.row row (numbers_at bytes 368 k) (number_at bytes (368 + 8 * k)) c.number_at-address.result false c.loop-k.invariant.value c.number_at-address.ensures c.if-not-may_be_entry.ensures in
@@ -25,14 +25,14 @@ returns-then-not-may_be_entry-clause-kept c =
 
 pub add_entry-requires-clause-fewer_than_16_entries : goal.add_entry-requires-clause-fewer_than_16_entries
 add_entry-requires-clause-fewer_than_16_entries c =
-    let long : length c.loop-k.row.entries ≡ c.loop-k.k = ap (λ (f : ObjectRow). length f.entries) c.loop-k.invariant.value ∙ length-numbers_at c.args.b.now 368 c.loop-k.k in
+    let long : length c.loop-k.row.entries ≡ c.loop-k.k = ap (λ (f : ObjectRow). length f.entries) c.loop-k.invariant.value ∙ length-numbers_at c.args.bytes.now 368 c.loop-k.k in
     let below = c.loop-k-test.true in
     let few = c.if-count-gt-ENTRY_LIMIT.false in
     omega arith
 
 pub loop-k-preserved : goal.loop-k-preserved
 loop-k-preserved c =
-    let bytes = c.args.b.now in
+    let bytes = c.args.bytes.now in
     let row = c.args.row.now in
     let k = c.loop-k.k in
     let a = number_at bytes (368 + 8 * k) in
@@ -52,7 +52,7 @@ returns-clause-kept c =
     let few = c.if-count-gt-ENTRY_LIMIT.false in
     let stop = c.loop-k-test.false in
     let within = c.loop-k.auto.k-end in
-    sym (good_entries c.args.b.now row row c.number_at-count.result c.number_at-count.ensures c.loop-k.k few (omega arith) c.loop-k.invariant.rule c.loop-k.invariant.distinct).1
+    sym (good_entries c.args.bytes.now row row c.number_at-count.result c.number_at-count.ensures c.loop-k.k few (omega arith) c.loop-k.invariant.rule c.loop-k.invariant.distinct).1
 
 pub returns-clause-row : goal.returns-clause-row
 returns-clause-row c _ =
@@ -60,5 +60,5 @@ returns-clause-row c _ =
     let few = c.if-count-gt-ENTRY_LIMIT.false in
     let stop = c.loop-k-test.false in
     let within = c.loop-k.auto.k-end in
-    let good = good_entries c.args.b.now row row c.number_at-count.result c.number_at-count.ensures c.loop-k.k few (omega arith) c.loop-k.invariant.rule c.loop-k.invariant.distinct in
+    let good = good_entries c.args.bytes.now row row c.number_at-count.result c.number_at-count.ensures c.loop-k.k few (omega arith) c.loop-k.invariant.rule c.loop-k.invariant.distinct in
     c.loop-k.invariant.value ∙ ap (λ v. record row { entries = v }) good.0

@@ -10,19 +10,19 @@ use Rattle.mg_rows.proofs.object_parts.read_passwords.Goals as goal
 pub returns-then-count-gt-PASSWORD_LIMIT-clause-kept : goal.returns-then-count-gt-PASSWORD_LIMIT-clause-kept
 returns-then-count-gt-PASSWORD_LIMIT-clause-kept c =
     let row = c.args.row.now in
-    sym (none_tells (are_passwords (passwords_in c.args.b.now)) row (too_many_passwords c.args.b.now row c.number_at-count.result c.number_at-count.ensures c.if-count-gt-PASSWORD_LIMIT.true))
+    sym (none_tells (are_passwords (passwords_in c.args.bytes.now)) row (too_many_passwords c.args.bytes.now row c.number_at-count.result c.number_at-count.ensures c.if-count-gt-PASSWORD_LIMIT.true))
 
 pub returns-in-None-clause-kept : goal.returns-in-None-clause-kept
 returns-in-None-clause-kept c =
     let row = c.args.row.now in
     sym
-    (none_tells (are_passwords (passwords_in c.args.b.now)) row
-    (bad_password c.args.b.now row c.number_at-count.result c.number_at-count.ensures c.loop-k.k c.if-count-gt-PASSWORD_LIMIT.false c.loop-k-test.true
-    (none_tells (is_password (password_at c.args.b.now c.loop-k.k)) (password_at c.args.b.now c.loop-k.k) c.in-None.ensures)))
+    (none_tells (are_passwords (passwords_in c.args.bytes.now)) row
+    (bad_password c.args.bytes.now row c.number_at-count.result c.number_at-count.ensures c.loop-k.k c.if-count-gt-PASSWORD_LIMIT.false c.loop-k-test.true
+    (none_tells (is_password (password_at c.args.bytes.now c.loop-k.k)) (password_at c.args.bytes.now c.loop-k.k) c.in-None.ensures)))
 
 pub loop-k-preserved : goal.loop-k-preserved
 loop-k-preserved c =
-    let bytes = c.args.b.now in
+    let bytes = c.args.bytes.now in
     let k = c.loop-k.k in
     let told = some_tells (is_password (password_at bytes k)) (password_at bytes k) c.in-Some.pw c.in-Some.ensures in
     record {
@@ -33,7 +33,7 @@ loop-k-preserved c =
 
 pub add_password-requires : goal.add_password-requires
 add_password-requires c =
-    let long : length c.loop-k.row.passwords ≡ c.loop-k.k = ap (λ (f : ObjectRow). length f.passwords) c.loop-k.invariant.value ∙ length-passwords_at c.args.b.now 0 c.loop-k.k in
+    let long : length c.loop-k.row.passwords ≡ c.loop-k.k = ap (λ (f : ObjectRow). length f.passwords) c.loop-k.invariant.value ∙ length-passwords_at c.args.bytes.now 0 c.loop-k.k in
     let below = c.loop-k-test.true in
     let few = c.if-count-gt-PASSWORD_LIMIT.false in
     omega arith
@@ -43,12 +43,12 @@ returns-clause-kept c =
     let few = c.if-count-gt-PASSWORD_LIMIT.false in
     let stop = c.loop-k-test.false in
     let within = c.loop-k.auto.k-end in
-    sym (good_passwords c.args.b.now c.args.row.now c.number_at-count.result c.number_at-count.ensures c.loop-k.k few (omega arith) c.loop-k.invariant.rule).1
+    sym (good_passwords c.args.bytes.now c.args.row.now c.number_at-count.result c.number_at-count.ensures c.loop-k.k few (omega arith) c.loop-k.invariant.rule).1
 
 pub returns-clause-row : goal.returns-clause-row
 returns-clause-row c _ =
     let few = c.if-count-gt-PASSWORD_LIMIT.false in
     let stop = c.loop-k-test.false in
     let within = c.loop-k.auto.k-end in
-    let good = good_passwords c.args.b.now c.args.row.now c.number_at-count.result c.number_at-count.ensures c.loop-k.k few (omega arith) c.loop-k.invariant.rule in
+    let good = good_passwords c.args.bytes.now c.args.row.now c.number_at-count.result c.number_at-count.ensures c.loop-k.k few (omega arith) c.loop-k.invariant.rule in
     c.loop-k.invariant.value ∙ ap (λ v. record c.args.row.now { passwords = v }) good.0

@@ -6,6 +6,6 @@ use Rattle.mg_rows.proofs.object_parts.read_passwords.Given as goal
 
 abbrev pub invariant-loop-k : goal.invariant-loop-k
 invariant-loop-k l = record {
-  value : l.row ≡ record l.initial.row { passwords = passwords_at l.b 0 l.k };
-  rule : list_all is_password (passwords_at l.b 0 l.k) ≡ true;
+  value : l.row ≡ record l.initial.row { passwords = passwords_at l.bytes 0 l.k };
+  rule : list_all is_password (passwords_at l.bytes 0 l.k) ≡ true;
 }

@@ -4,4 +4,4 @@ use Rattle.mg_rows.proofs.threads.add_slots_of.Given as goal
 
 -- the slots so far are those of the bytes
 abbrev pub invariant-loop-place : goal.invariant-loop-place
-invariant-loop-place l = l.frame ≡ record l.initial.frame { slots = slots_at l.b l.at l.place }
+invariant-loop-place l = l.frame ≡ record l.initial.frame { slots = slots_at l.block l.at l.place }

@@ -10,7 +10,7 @@ use Rattle.mg_rows.proofs.threads.begun.Goals.{then-creator-birth-via-then-creat
 
 pub returns-then-creator-birth : goal.returns-then-creator-birth
 returns-then-creator-birth c =
-    let bytes = c.args.b.now in
+    let bytes = c.args.block.now in
     let birth : c.number_at-birth.result ≡ number_at bytes 8 = c.number_at-birth.ensures in
     let creator : c.number_at-creator.result ≡ number_at bytes 16 = c.number_at-creator.ensures in
     none-if (begins bytes) (with_frames bytes 1)
@@ -21,14 +21,14 @@ returns-then-creator-birth c =
 
 pub returns-then-not-is_bottom : goal.returns-then-not-is_bottom
 returns-then-not-is_bottom c =
-    let bytes = c.args.b.now in
+    let bytes = c.args.block.now in
     let are : Are (is_call_frame (frame_at bytes 128)) c.in-Some.first (frame_at bytes 128) = some-are (is_call_frame (frame_at bytes 128)) c.in-Some.first (frame_at bytes 128) c.in-Some.ensures in
     none-if (begins bytes) (with_frames bytes 1)
     (begins-back bytes (ap (λ (f : CallFrame). f.back == 0) (sym are.same) ∙ sym c.is_bottom.ensures ∙ c.if-not-is_bottom.true))
 
 pub returns-else-not-is_bottom : goal.returns-else-not-is_bottom
 returns-else-not-is_bottom c =
-    let bytes = c.args.b.now in
+    let bytes = c.args.block.now in
     let are : Are (is_call_frame (frame_at bytes 128)) c.in-Some.first (frame_at bytes 128) = some-are (is_call_frame (frame_at bytes 128)) c.in-Some.first (frame_at bytes 128) c.in-Some.ensures in
     let birth : c.number_at-birth.result ≡ number_at bytes 8 = c.number_at-birth.ensures in
     let creator : c.number_at-creator.result ≡ number_at bytes 16 = c.number_at-creator.ensures in
@@ -42,5 +42,5 @@ returns-else-not-is_bottom c =
 
 pub returns-in-None : goal.returns-in-None
 returns-in-None c =
-    let bytes = c.args.b.now in
+    let bytes = c.args.block.now in
     none-if (begins bytes) (with_frames bytes 1) (begins-frame bytes (none-is (is_call_frame (frame_at bytes 128)) (frame_at bytes 128) c.in-None.ensures))

@@ -12,7 +12,7 @@ use Rattle.mg_rows.proofs.threads.fields.Goals.{then-count-lt1-via-then-count-lt
 
 pub returns-then-count-lt1 : goal.returns-then-count-lt1
 returns-then-count-lt1 c =
-    let bytes = c.args.b.now in
+    let bytes = c.args.block.now in
     let n = c.number_at-count.result in
     let m = min n 17 in
     none-if (is_thread_row (thread_fields bytes)) (thread_fields bytes)
@@ -23,20 +23,20 @@ returns-then-count-lt1 c =
     ]))
 
 pub with_frames-requires-clause-begun : goal.with_frames-requires-clause-begun
-with_frames-requires-clause-begun c = (some-are (begins c.args.b.now) c.in-Some.row (with_frames c.args.b.now 1) c.in-Some.ensures).same
+with_frames-requires-clause-begun c = (some-are (begins c.args.block.now) c.in-Some.row (with_frames c.args.block.now 1) c.in-Some.ensures).same
 
 pub with_frames-requires-clause-first : goal.with_frames-requires-clause-first
-with_frames-requires-clause-first c = begins-first c.args.b.now (some-are (begins c.args.b.now) c.in-Some.row (with_frames c.args.b.now 1) c.in-Some.ensures).kept
+with_frames-requires-clause-first c = begins-first c.args.block.now (some-are (begins c.args.block.now) c.in-Some.row (with_frames c.args.block.now 1) c.in-Some.ensures).kept
 
 pub returns-in-Some : goal.returns-in-Some
 returns-in-Some c =
-    let bytes = c.args.b.now in
+    let bytes = c.args.block.now in
     let count : c.number_at-count.result ≡ number_at bytes 40 = c.number_at-count.ensures in
     fields-found bytes c.number_at-count.result c.with_frames.result count (omega arith) (omega arith) (some-are (begins bytes) c.in-Some.row (with_frames bytes 1) c.in-Some.ensures).kept c.with_frames.ensures
 
 pub returns-in-None : goal.returns-in-None
 returns-in-None c =
-    let bytes = c.args.b.now in
+    let bytes = c.args.block.now in
     let n = c.number_at-count.result in
     let count : n ≡ number_at bytes 40 = c.number_at-count.ensures in
     none-if (is_thread_row (thread_fields bytes)) (thread_fields bytes)

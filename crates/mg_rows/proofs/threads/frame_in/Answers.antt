@@ -7,7 +7,7 @@ use Rattle.mg_rows.proofs.threads.frame_in.Goals as goal
 
 pub returns : goal.returns
 returns c =
-    let bytes = c.args.b.now in
+    let bytes = c.args.block.now in
     let at = c.args.at in
     let back : c.number_at-back.result ≡ number_at bytes at = c.number_at-back.ensures in
     let count : c.number_at-count.result ≡ number_at bytes (at + 8) = c.number_at-count.ensures in

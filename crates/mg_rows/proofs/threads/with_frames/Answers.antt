@@ -9,24 +9,24 @@ use Rattle.mg_rows.proofs.ThreadReads.{Are, frames-broken, frames-kept, length-f
 use Rattle.mg_rows.proofs.threads.with_frames.Goals as goal
 
 pub loop-place-init : goal.loop-place-init
-loop-place-init c = record { row = c.requires.begun; kept = and_from (is_call_frame (frame_at c.args.b.now 128)) true c.requires.first refl }
+loop-place-init c = record { row = c.requires.begun; kept = and_from (is_call_frame (frame_at c.args.block.now 128)) true c.requires.first refl }
 
 pub push_frame-requires : goal.push_frame-requires
 push_frame-requires c =
-    let long : length c.loop-place.row.frames ≡ c.loop-place.place = ap (λ (row : ThreadRow). length row.frames) c.loop-place.invariant.row ∙ length-frames_at c.args.b.now 128 c.loop-place.place in
+    let long : length c.loop-place.row.frames ≡ c.loop-place.place = ap (λ (row : ThreadRow). length row.frames) c.loop-place.invariant.row ∙ length-frames_at c.args.block.now 128 c.loop-place.place in
     let few = c.requires.count_at_most_16 in
     omega arith
 
 pub returns-in-None : goal.returns-in-None
 returns-in-None c =
-    let bytes = c.args.b.now in
+    let bytes = c.args.block.now in
     let o = 128 + 144 * c.loop-place.place in
     none-if (list_all is_call_frame (frames_at bytes 128 c.args.count)) (with_frames bytes c.args.count)
     (frames-broken bytes 128 c.args.count c.loop-place.place o c.loop-place-test.true refl (none-is (is_call_frame (frame_at bytes o)) (frame_at bytes o) c.in-None.ensures))
 
 pub loop-place-preserved : goal.loop-place-preserved
 loop-place-preserved c =
-    let bytes = c.args.b.now in
+    let bytes = c.args.block.now in
     let o = 128 + 144 * c.loop-place.place in
     let are : Are (is_call_frame (frame_at bytes o)) c.in-Some.frame (frame_at bytes o) = some-are (is_call_frame (frame_at bytes o)) c.in-Some.frame (frame_at bytes o) c.in-Some.ensures in
     record {
@@ -36,7 +36,7 @@ loop-place-preserved c =
 
 pub returns : goal.returns
 returns c =
-    let bytes = c.args.b.now in
+    let bytes = c.args.block.now in
     let some = c.requires.count_at_least_1 in
     let end = c.loop-place.auto.place-end in
     let is : c.loop-place.place ≡ c.args.count = omega arith in

@@ -4,7 +4,7 @@ use Rattle.mg_text.proofs.rights.read_rights.Given as goal
 
 abbrev pub invariant-loop-b : goal.invariant-loop-b
 invariant-loop-b l = record {
-  same : rights_from 0 l.w ≡ rights_from l.bits (drop l.b-index l.w);
+  same : rights_from 0 l.word ≡ rights_from l.bits (drop l.b-index l.word);
   few : l.bits < 64;
   some : l.b-index ≤ l.bits;
 }

@@ -20,6 +20,6 @@ loop-k-preserved c =
 
 pub returns : goal.returns
 returns c =
-    let all : c.loop-k.k ≡ c.args.n = omega (arith, c.loop-k-test, c.loop-k) in
+    let all : c.loop-k.k ≡ c.args.count = omega (arith, c.loop-k-test, c.loop-k) in
     let few = c.requires.n_at_most_16 in
     subst (λ n. StagesAccounts 16 (λ k. nat_lt k n) c.args.rows.now c.args.pages.now c.loop-k.pages) all (staged_wider c.args.pages.now c.loop-k.pages c.loop-k.k 16 (λ k. nat_lt k c.loop-k.k) c.args.rows.now (omega arith) c.loop-k.invariant)

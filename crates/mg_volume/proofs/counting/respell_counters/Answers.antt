@@ -14,4 +14,4 @@ returns-clause-staged c = λ _.
     let two = then_put globals_block 8 c.period.result draws p c.put.new.self c.put-period.new.self one c.put-period.ensures.put in
     let three = then_put globals_block 16 c.cursor.result period p c.put-period.new.self c.put-cursor.new.self two c.put-cursor.ensures.put in
     let four = then_put globals_block 24 c.births.result cursor p c.put-cursor.new.self c.put-births.new.self three c.put-births.ensures.put in
-    counters_respelled c.draws.result c.period.result c.cursor.result c.births.result c.args.g.now p c.put-births.new.self c.draws.ensures.value c.period.ensures c.cursor.ensures c.births.ensures four
+    counters_respelled c.draws.result c.period.result c.cursor.result c.births.result c.args.counters.now p c.put-births.new.self c.draws.ensures.value c.period.ensures c.cursor.ensures c.births.ensures four

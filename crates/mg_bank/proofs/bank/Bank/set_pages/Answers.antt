@@ -8,5 +8,5 @@ returns-clause-pages c =
     λ k.
     let long = c.self.invariant.places in
     let within = c.requires in
-    pages_set c.self.inside.pages.items c.args.n c.args.pages (omega arith) k
-    ∙ ap (λ (b : BankHeld). if c.args.n == k then c.args.pages else pages_at b.pages k) c.self.view_is
+    pages_set c.self.inside.pages.items c.args.account c.args.pages (omega arith) k
+    ∙ ap (λ (b : BankHeld). if c.args.account == k then c.args.pages else pages_at b.pages k) c.self.view_is

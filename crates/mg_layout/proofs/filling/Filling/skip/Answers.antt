@@ -30,19 +30,19 @@ pub invariant_of-self : goal.invariant_of-self
 invariant_of-self g c =
     let few = c.requires in
     let view = c.self.view_is in
-    filled g.row.N c.self.inside.bytes c.self.inside.count c.args.n c.self.invariant (Prim.grind arith)
+    filled g.row.N c.self.inside.bytes c.self.inside.count c.args.count c.self.invariant (Prim.grind arith)
 
 pub returns-clause-value : goal.returns-clause-value
 returns-clause-value g c =
     let few = c.requires in
     let view = c.self.view_is in
-    more g.row.N c.self.inside.bytes c.self.inside.count c.args.n c.self.invariant (Prim.grind arith) ∙ ap (λ v. v ++ replicate c.args.n 0) view
+    more g.row.N c.self.inside.bytes c.self.inside.count c.args.count c.self.invariant (Prim.grind arith) ∙ ap (λ v. v ++ replicate c.args.count 0) view
 
 pub returns-clause-long : goal.returns-clause-long
 returns-clause-long g c =
     let few = c.requires in
     let view = c.self.view_is in
     let short = length-filled 0 g.row.N c.self.inside.bytes c.self.inside.count c.self.invariant in
-    let is = filled g.row.N c.self.inside.bytes c.self.inside.count c.args.n c.self.invariant (Prim.grind arith) in
-    let short_2 = length-filled 0 g.row.N c.self.inside.bytes (c.self.inside.count + c.args.n) is in
+    let is = filled g.row.N c.self.inside.bytes c.self.inside.count c.args.count c.self.invariant (Prim.grind arith) in
+    let short_2 = length-filled 0 g.row.N c.self.inside.bytes (c.self.inside.count + c.args.count) is in
     Prim.grind arith

@@ -22,15 +22,15 @@ returns-clause-below c =
     let pairs = c.pairs.result.now in
     let n = c.partition_point.result in
     let point =
-    IsPartitionPoint-from_clause (λ (pair : ℕ × ℕ). leb pair.0 c.args.a) pairs n c.partition_point.ensures.partitioned
-    (IsPartitionedBy-leb (λ (pair : ℕ × ℕ). pair.0) pairs c.args.a (no-falls pairs c.pairs.ensures.ascending)) (λ a r q k. search rules) in
+    IsPartitionPoint-from_clause (λ (pair : ℕ × ℕ). leb pair.0 c.args.address) pairs n c.partition_point.ensures.partitioned
+    (IsPartitionedBy-leb (λ (pair : ℕ × ℕ). pair.0) pairs c.args.address (no-falls pairs c.pairs.ensures.ascending)) (λ a r q k. search rules) in
     λ k d low high.
     let e = ap length (keys rows bases c.self.invariant.held pairs c.pairs.ensures.ascending c.pairs.ensures.exact) in
     let m = length-map (objects_in rows) key_of in
     let under : k < length (objects_in rows) = omega (arith, c.partition_point.ensures.bound) in
     let rank = rank_is rows bases c.self.invariant.held pairs c.pairs.ensures.ascending c.pairs.ensures.exact k d under in
     let first = ap (λ (p : ℕ × ℕ). p.0) rank.0 in
-    let le = leb-true (get_or pairs k (0, 0)).0 c.args.a (point.0 k (0, 0) low high) in
+    let le = leb-true (get_or pairs k (0, 0)).0 c.args.address (point.0 k (0, 0) low high) in
     let now = ap (λ (objects : List (ℕ × ObjectRow)). (get_or objects k d).1.base) (whole-objects c.self.inside.rows.items ∙ c.self.view_is) in
     omega arith
 
@@ -41,14 +41,14 @@ returns-clause-above c =
     let pairs = c.pairs.result.now in
     let n = c.partition_point.result in
     let point =
-    IsPartitionPoint-from_clause (λ (pair : ℕ × ℕ). leb pair.0 c.args.a) pairs n c.partition_point.ensures.partitioned
-    (IsPartitionedBy-leb (λ (pair : ℕ × ℕ). pair.0) pairs c.args.a (no-falls pairs c.pairs.ensures.ascending)) (λ a r q k. search rules) in
+    IsPartitionPoint-from_clause (λ (pair : ℕ × ℕ). leb pair.0 c.args.address) pairs n c.partition_point.ensures.partitioned
+    (IsPartitionedBy-leb (λ (pair : ℕ × ℕ). pair.0) pairs c.args.address (no-falls pairs c.pairs.ensures.ascending)) (λ a r q k. search rules) in
     λ k d low high.
     let e = ap length (keys rows bases c.self.invariant.held pairs c.pairs.ensures.ascending c.pairs.ensures.exact) in
     let m = length-map (objects_in rows) key_of in
     let under : k < length (objects_in rows) = omega (arith, ap length (whole-objects c.self.inside.rows.items ∙ c.self.view_is)) in
     let rank = rank_is rows bases c.self.invariant.held pairs c.pairs.ensures.ascending c.pairs.ensures.exact k d under in
     let first = ap (λ (p : ℕ × ℕ). p.0) rank.0 in
-    let lt = leb-false (get_or pairs k (0, 0)).0 c.args.a (point.1 k (0, 0) low (omega arith)) in
+    let lt = leb-false (get_or pairs k (0, 0)).0 c.args.address (point.1 k (0, 0) low (omega arith)) in
     let now = ap (λ (objects : List (ℕ × ObjectRow)). (get_or objects k d).1.base) (whole-objects c.self.inside.rows.items ∙ c.self.view_is) in
     omega arith

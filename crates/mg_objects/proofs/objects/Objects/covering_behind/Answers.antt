@@ -13,14 +13,14 @@ blank = (0, record { base = 0; pages = 0; account = 0; passwords = []; entries =
 pub returns-then-count-eq0 : goal.returns-then-count-eq0
 returns-then-count-eq0 c =
     let now = c.args.self.now in
-    let a = c.args.a in
+    let a = c.args.address in
     let P : ℕ → Type 0 = λ n. AllWithin (λ (o : ℕ × ObjectRow). a < o.1.base) now n (length now) in
     sym (ap (option_map (λ (o : ℕ × ObjectRow). o.1)) (covers-none now a (subst P c.if-count-eq0.true c.requires.above)))
 
 pub returns-then-covers : goal.returns-then-covers
 returns-then-covers c =
     let now = c.args.self.now in
-    let a = c.args.a in
+    let a = c.args.address in
     let n = c.args.count in
     let last = get_or now (n - 1) blank in
     let row : c.nth_ref-row.result.now ≡ last.1 = c.nth_ref-row.ensures blank in
@@ -33,7 +33,7 @@ returns-then-covers c =
 pub returns-else-covers : goal.returns-else-covers
 returns-else-covers c =
     let now = c.args.self.now in
-    let a = c.args.a in
+    let a = c.args.address in
     let n = c.args.count in
     let last = get_or now (n - 1) blank in
     let row : c.nth_ref-row.result.now ≡ last.1 = c.nth_ref-row.ensures blank in

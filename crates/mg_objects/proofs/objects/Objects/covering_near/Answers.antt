@@ -11,7 +11,7 @@ blank = (0, record { base = 0; pages = 0; account = 0; passwords = []; entries =
 pub returns-then-covers : goal.returns-then-covers
 returns-then-covers c =
     let now = c.args.self.now in
-    let a = c.args.a in
+    let a = c.args.address in
     let near = c.args.near.now in
     let row : c.nth_ref-last.result.now ≡ (get_or now near blank).1 = c.nth_ref-last.ensures blank in
     let is : covers (get_or now near blank).1 a ≡ true = ap (λ (r : ObjectRow). covers r a) (sym row) ∙ sym c.covers.ensures ∙ c.if-covers.true in

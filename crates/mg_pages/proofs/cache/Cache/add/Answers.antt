@@ -5,7 +5,7 @@ use Rattle.mg_pages.proofs.Showing.{put-kept}
 use Rattle.mg_pages.specs.Kept.{KeepsThis, shown}
 use Rattle.mg_pages.proofs.cache.Cache.add.Goals as goal
 
--- what is kept once a box with these bytes is put
+-- what is kept once a box with these bytes is added
 in_box : (block : ℕ) (bytes : List ℕ) (kept : List (ℕ × List ℕ)) (was now : LruCache ℕ (Box (List ℕ) Global)) (boxed : Box (List ℕ) Global)
     → shown (λ b. b.value) was.entries ≡ kept → boxed.value ≡ bytes → now ≡ lru_cache (put_entries nat_eq was block boxed) was.cap
     → KeepsThis block bytes kept (shown (λ b. b.value) now.entries)

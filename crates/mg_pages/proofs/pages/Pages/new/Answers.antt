@@ -6,4 +6,4 @@ use Rattle.mg_pages.proofs.pages.Pages.new.Goals as goal
 
 pub returns-clause-unbound : goal.returns-clause-unbound
 unfolding table_in
-returns-clause-unbound c = ap are_zeros c.in_ok-frames.ensures ∙ are_zeros-replicate (c.args.g.total - c.args.g.first_frame)
+returns-clause-unbound c = ap are_zeros c.in_ok-frames.ensures ∙ are_zeros-replicate (c.args.geometry.total - c.args.geometry.first_frame)

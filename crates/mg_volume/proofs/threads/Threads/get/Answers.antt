@@ -7,18 +7,18 @@ use Rattle.mg_volume.specs.Numbered.{numbered}
 use Rattle.mg_volume.proofs.ByNumber.{thread_at, thread_zero}
 use Rattle.mg_volume.proofs.threads.Threads.get.Goals as goal
 
-pub returns-then-t-eq0-clause-found : goal.returns-then-t-eq0-clause-found
-returns-then-t-eq0-clause-found c =
+pub returns-then-number-eq0-clause-found : goal.returns-then-number-eq0-clause-found
+returns-then-number-eq0-clause-found c =
     let rows = c.self.inside.rows.items in
-    sym (ap (λ (threads : List (ℕ × ThreadRow)). option_map (λ (x : ℕ × ThreadRow). x.1) (find (λ (x : ℕ × ThreadRow). x.0 == c.args.t) threads)) (sym c.self.view_is)
-    ∙ ap (λ (n : ℕ). option_map (λ (x : ℕ × ThreadRow). x.1) (find (λ (x : ℕ × ThreadRow). x.0 == n) (numbered (live_from 0 rows)))) c.if-t-eq0.true
+    sym (ap (λ (threads : List (ℕ × ThreadRow)). option_map (λ (x : ℕ × ThreadRow). x.1) (find (λ (x : ℕ × ThreadRow). x.0 == c.args.number) threads)) (sym c.self.view_is)
+    ∙ ap (λ (n : ℕ). option_map (λ (x : ℕ × ThreadRow). x.1) (find (λ (x : ℕ × ThreadRow). x.0 == n) (numbered (live_from 0 rows)))) c.if-number-eq0.true
     ∙ thread_zero (live_from 0 rows))
 
 pub returns-in-Some-clause-found : goal.returns-in-Some-clause-found
 returns-in-Some-clause-found c =
     let rows = c.self.inside.rows.items in
-    let t = c.args.t in
-    let none = c.if-t-eq0.false in
+    let t = c.args.number in
+    let none = c.if-number-eq0.false in
     let some : 1 ≤ t = omega arith in
     c.as_ref.ensures.value
     ∙ c.in-Some.ensures.lookup.3.1 None
@@ -29,8 +29,8 @@ returns-in-Some-clause-found c =
 pub returns-in-None-clause-found : goal.returns-in-None-clause-found
 returns-in-None-clause-found c =
     let rows = c.self.inside.rows.items in
-    let t = c.args.t in
-    let none = c.if-t-eq0.false in
+    let t = c.args.number in
+    let none = c.if-number-eq0.false in
     let some : 1 ≤ t = omega arith in
     let long = ap length c.deref.ensures.value in
     let past = c.in-None.ensures.lookup.3 in

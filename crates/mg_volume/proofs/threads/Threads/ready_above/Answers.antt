@@ -13,10 +13,10 @@ marks ready now t is = ap (λ xs. position (λ mark. mark == 1) (drop t xs)) (sy
 
 pub returns-in-Some : goal.returns-in-Some
 returns-in-Some c =
-    subst (λ (threads : List (ℕ × ThreadRow)). Some (c.args.t + c.in-Some.at + 1) ≡ option_map (λ (x : ℕ × ThreadRow). x.0) (find (λ (x : ℕ × ThreadRow). is_ready x.1.state && nat_lt c.args.t x.0) threads)) c.self.view_is
-    (sym (ready_is c.self.inside.rows.items c.self.inside.taken.items c.self.inside.ready.items c.self.invariant c.args.t (Some c.in-Some.at) (marks c.self.inside.ready.items c.deref.result.now c.args.t c.deref.ensures.value ∙ sym c.first_ready.ensures ∙ c.in-Some.is)))
+    subst (λ (threads : List (ℕ × ThreadRow)). Some (c.args.number + c.in-Some.at + 1) ≡ option_map (λ (x : ℕ × ThreadRow). x.0) (find (λ (x : ℕ × ThreadRow). is_ready x.1.state && nat_lt c.args.number x.0) threads)) c.self.view_is
+    (sym (ready_is c.self.inside.rows.items c.self.inside.taken.items c.self.inside.ready.items c.self.invariant c.args.number (Some c.in-Some.at) (marks c.self.inside.ready.items c.deref.result.now c.args.number c.deref.ensures.value ∙ sym c.first_ready.ensures ∙ c.in-Some.is)))
 
 pub returns-in-None : goal.returns-in-None
 returns-in-None c =
-    subst (λ (threads : List (ℕ × ThreadRow)). None ≡ option_map (λ (x : ℕ × ThreadRow). x.0) (find (λ (x : ℕ × ThreadRow). is_ready x.1.state && nat_lt c.args.t x.0) threads)) c.self.view_is
-    (sym (ready_is c.self.inside.rows.items c.self.inside.taken.items c.self.inside.ready.items c.self.invariant c.args.t None (marks c.self.inside.ready.items c.deref.result.now c.args.t c.deref.ensures.value ∙ sym c.first_ready.ensures ∙ c.in-None.is)))
+    subst (λ (threads : List (ℕ × ThreadRow)). None ≡ option_map (λ (x : ℕ × ThreadRow). x.0) (find (λ (x : ℕ × ThreadRow). is_ready x.1.state && nat_lt c.args.number x.0) threads)) c.self.view_is
+    (sym (ready_is c.self.inside.rows.items c.self.inside.taken.items c.self.inside.ready.items c.self.invariant c.args.number None (marks c.self.inside.ready.items c.deref.result.now c.args.number c.deref.ensures.value ∙ sym c.first_ready.ensures ∙ c.in-None.is)))

@@ -9,7 +9,7 @@ use Rattle.mg_volume.specs.Numbered.{is_taken, rows_with, turn_mark}
 use Rattle.mg_volume.specs.Standing.{stands_at}
 use Rattle.mg_volume.proofs.threads.Threads.stand.Goals as goal
 
-within : (c : goal.After-self-3-1) → c.args.t - 1 < length c.self.inside.rows.items
+within : (c : goal.After-self-3-1) → c.args.number - 1 < length c.self.inside.rows.items
 within c =
     let some = c.requires.t_at_least_1 in
     let few = c.requires.t_at_most_256 in
@@ -19,32 +19,32 @@ within c =
 pub invariant_of-self : goal.invariant_of-self
 invariant_of-self c =
     let rows = c.self.inside.rows.items in
-    let k = c.args.t - 1 in
+    let k = c.args.number - 1 in
     let new = c.stand.new.row in
     let taken : c.is_some.result ≡ is_taken new = c.is_some.ensures ∙ ap is_some (c.index.ensures ∙ get_or-set_same rows k new c.index.result.now (within c)) in
     let turn : c.turn_mark.result ≡ turn_mark new = c.turn_mark.ensures ∙ ap turn_mark (c.index-2.ensures ∙ get_or-set_same rows k new c.index-2.result.now (within c)) in
     put_listed rows c.self.inside.taken.items c.self.inside.ready.items k new c.is_some.result c.turn_mark.result c.stand.ensures.kept taken turn c.self.invariant
 
 -- the row that was there
-was : (c : goal.After-self-3-1) (row : ThreadRow) → option_map (λ (x : ℕ × ThreadRow). x.1) (find (λ (x : ℕ × ThreadRow). x.0 == c.args.t) c.args.self.now) ≡ Some row → c.index_mut.result.now ≡ Some row
+was : (c : goal.After-self-3-1) (row : ThreadRow) → option_map (λ (x : ℕ × ThreadRow). x.1) (find (λ (x : ℕ × ThreadRow). x.0 == c.args.number) c.args.self.now) ≡ Some row → c.index_mut.result.now ≡ Some row
 was c row found =
     let rows = c.self.inside.rows.items in
     c.index_mut.ensures.value
-    ∙ get_or_default rows (c.args.t - 1) c.index_mut.result.now None (within c)
-    ∙ sym (thread_at rows c.args.t c.requires.t_at_least_1)
-    ∙ ap (λ (threads : List (ℕ × ThreadRow)). option_map (λ (x : ℕ × ThreadRow). x.1) (find (λ (x : ℕ × ThreadRow). x.0 == c.args.t) threads)) c.self.view_is
+    ∙ get_or_default rows (c.args.number - 1) c.index_mut.result.now None (within c)
+    ∙ sym (thread_at rows c.args.number c.requires.t_at_least_1)
+    ∙ ap (λ (threads : List (ℕ × ThreadRow)). option_map (λ (x : ℕ × ThreadRow). x.1) (find (λ (x : ℕ × ThreadRow). x.0 == c.args.number) threads)) c.self.view_is
     ∙ found
 
-is : (c : goal.After-self-3-1) (row : ThreadRow) → option_map (λ (x : ℕ × ThreadRow). x.1) (find (λ (x : ℕ × ThreadRow). x.0 == c.args.t) c.args.self.now) ≡ Some row → c.stand.new.row ≡ Some (stands_at c.args.pc c.args.state c.args.regs.now row)
+is : (c : goal.After-self-3-1) (row : ThreadRow) → option_map (λ (x : ℕ × ThreadRow). x.1) (find (λ (x : ℕ × ThreadRow). x.0 == c.args.number) c.args.self.now) ≡ Some row → c.stand.new.row ≡ Some (stands_at c.args.pc c.args.state c.args.regs.now row)
 is c row found = c.stand.ensures.stands ∙ ap (option_map (stands_at c.args.pc c.args.state c.args.regs.now)) (was c row found)
 
 pub returns-clause-stands : goal.returns-clause-stands
 returns-clause-stands c row found =
     let few = within c in
     let some = c.requires.t_at_least_1 in
-    put_is c.self.inside.rows.items c.args.t c.stand.new.row some (omega arith)
-    ∙ ap (rows_with c.args.t c.stand.new.row) c.self.view_is
-    ∙ ap (λ (o : Option ThreadRow). rows_with c.args.t o c.args.self.now) (is c row found)
+    put_is c.self.inside.rows.items c.args.number c.stand.new.row some (omega arith)
+    ∙ ap (rows_with c.args.number c.stand.new.row) c.self.view_is
+    ∙ ap (λ (o : Option ThreadRow). rows_with c.args.number o c.args.self.now) (is c row found)
 
 pub returns-clause-kept : goal.returns-clause-kept
 returns-clause-kept c row found = c.stand.ensures.kept (stands_at c.args.pc c.args.state c.args.regs.now row) (is c row found)
@@ -52,6 +52,6 @@ returns-clause-kept c row found = c.stand.ensures.kept (stands_at c.args.pc c.ar
 pub returns-clause-there : goal.returns-clause-there
 returns-clause-there c row found =
     let rows = c.self.inside.rows.items in
-    thread_at (slice_set rows (c.args.t - 1) c.stand.new.row) c.args.t c.requires.t_at_least_1
-    ∙ get_or-set_same rows (c.args.t - 1) c.stand.new.row None (within c)
+    thread_at (slice_set rows (c.args.number - 1) c.stand.new.row) c.args.number c.requires.t_at_least_1
+    ∙ get_or-set_same rows (c.args.number - 1) c.stand.new.row None (within c)
     ∙ is c row found

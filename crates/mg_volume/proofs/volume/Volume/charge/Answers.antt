@@ -13,11 +13,11 @@ charge_all-paid-requires-clause-pages c n =
     let fit = c.self.invariant.kept.used in
     few-pages c.self.inside.objects c.self.inside.bank.pages c.self.invariant.paid (omega (arith, c.keep_rules.ensures.at_most_65536_frames)) n
 
-changes : (c : goal.After-stage_first) → Changes 16 (λ state. record state { accounts = c.charge_all-paid.new.b.accounts }) (λ rows. rows) (the_view c.self.inside) (with_accounts (the_view c.self.inside) c.charge_all-paid.new.b.accounts c.stage_first.new.pages)
+changes : (c : goal.After-stage_first) → Changes 16 (λ state. record state { accounts = c.charge_all-paid.new.bank.accounts }) (λ rows. rows) (the_view c.self.inside) (with_accounts (the_view c.self.inside) c.charge_all-paid.new.bank.accounts c.stage_first.new.pages)
 changes c =
     let v = the_view c.self.inside in
     let blocks = c.block_count-blocks.result in
-    let rows = c.charge_all-paid.new.b.accounts in
+    let rows = c.charge_all-paid.new.bank.accounts in
     let was = c.self.invariant.kept.few_accounts in
     let same = c.charge_all-paid.ensures.count in
     let count = c.len-count.ensures.count in
@@ -32,7 +32,7 @@ pub returns-clause-accounts : goal.returns-clause-accounts
 unfolding accounts_in
 returns-clause-accounts c =
     rw (← c.self.view_is)
-    (λ few image. charged_are (the_view c.self.inside) c.charge_all-paid.new.b.accounts c.args.rate image (λ objects same. c.charge_all-paid.ensures.accounts few objects (pages-are objects c.self.inside.objects c.self.inside.bank.pages same c.self.invariant.paid)))
+    (λ few image. charged_are (the_view c.self.inside) c.charge_all-paid.new.bank.accounts c.args.rate image (λ objects same. c.charge_all-paid.ensures.accounts few objects (pages-are objects c.self.inside.objects c.self.inside.bank.pages same c.self.invariant.paid)))
 
 pub returns-clause-paid : goal.returns-clause-paid
 unfolding accounts_in

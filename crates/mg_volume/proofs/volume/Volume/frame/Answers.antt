@@ -9,13 +9,13 @@ use Rattle.mg_volume.proofs.volume.Volume.frame.Goals as goal
 
 pub returns-in-Some-clause-found : goal.returns-in-Some-clause-found
 returns-in-Some-clause-found c =
-    let thread = thread_some (the_view c.self.inside) c.args.t c.in-Some.row.now c.in-Some.ensures.found in (
+    let thread = thread_some (the_view c.self.inside) c.args.number c.in-Some.row.now c.in-Some.ensures.found in (
       thread.0,
-      subst (λ (v : VolumeHeld). find (λ (x : Thread). x.number == c.args.t) (threads_in v) ≡ Some thread.0) c.self.view_is thread.1,
+      subst (λ (v : VolumeHeld). find (λ (x : Thread). x.number == c.args.number) (threads_in v) ≡ Some thread.0) c.self.view_is thread.1,
       ap (λ (row : ThreadRow). slice_get row.frames (length row.frames - 1)) thread.2 ∙ c.last.ensures,
     )
 
 pub returns-in-None-clause-found : goal.returns-in-None-clause-found
 returns-in-None-clause-found c =
-    subst (λ (v : VolumeHeld). find (λ (x : Thread). x.number == c.args.t) (threads_in v) ≡ None) c.self.view_is
-    (thread_none (the_view c.self.inside) c.args.t c.in-None.ensures.found)
+    subst (λ (v : VolumeHeld). find (λ (x : Thread). x.number == c.args.number) (threads_in v) ≡ None) c.self.view_is
+    (thread_none (the_view c.self.inside) c.args.number c.in-None.ensures.found)

@@ -14,10 +14,10 @@ use Rattle.mg_volume.proofs.volume.Volume.move_whole.Goals as goal
 
 pub unreachable-requires : goal.unreachable-requires
 unreachable-requires c =
-    living (λ (x : ℕ). ⊥) ⊥ None c.args.t (threads_in c.args.self.now) (rw (← c.self.view_is) (thread_none (the_view c.self.inside) c.args.t c.in-None.ensures.found)) tt c.requires.lives
+    living (λ (x : ℕ). ⊥) ⊥ None c.args.number (threads_in c.args.self.now) (rw (← c.self.view_is) (thread_none (the_view c.self.inside) c.args.number c.in-None.ensures.found)) tt c.requires.lives
 
 pub stage_held-requires-clause-staged_or_fewer_than_160 : goal.stage_held-requires-clause-staged_or_fewer_than_160
-stage_held-requires-clause-staged_or_fewer_than_160 c = thread_room (the_view c.self.inside) c.args.t (rw (← c.self.view_is) at c.requires.staged_or_fewer_than_160)
+stage_held-requires-clause-staged_or_fewer_than_160 c = thread_room (the_view c.self.inside) c.args.number (rw (← c.self.view_is) at c.requires.staged_or_fewer_than_160)
 
 pub invariant_of-self : goal.invariant_of-self
 invariant_of-self c = record {
@@ -35,15 +35,15 @@ returns c =
     let stands = stands_at c.args.pc c.args.state c.args.regs.now in
     let found = c.in-Some.ensures.found in
     let held = c.stage_held.ensures (stands row) (c.stand.ensures.there row (sym found)) in
-    let all = thread_changes v c.stage_held.new.pages c.args.t (Some (stands row)) c.stand.new.self held.bytes c.keep_number.ensures.at_least_1 c.keep_number.ensures.at_most_256 (c.stand.ensures.stands row (sym found)) held.staged (λ image s. held.read) in
+    let all = thread_changes v c.stage_held.new.pages c.args.number (Some (stands row)) c.stand.new.self held.bytes c.keep_number.ensures.at_least_1 c.keep_number.ensures.at_most_256 (c.stand.ensures.stands row (sym found)) held.staged (λ image s. held.read) in
     let same = rw (← c.self.view_is) at c.numbers_differ.ensures in
     let lives = rw (← c.self.view_is) at c.requires.lives in
     rw (← c.self.view_is)
     (record {
       now = λ change gives image.
-          all.now image ∙ thread_changed v image c.args.t (stands row) change same lives (changes_found change stands (find (λ (thread : Thread). thread.number == c.args.t) (threads_in v)) row (thread_found v c.args.t (Some row) found) gives);
+          all.now image ∙ thread_changed v image c.args.number (stands row) change same lives (changes_found change stands (find (λ (thread : Thread). thread.number == c.args.number) (threads_in v)) row (thread_found v c.args.number (Some row) found) gives);
       rows = all.rows;
       stages = all.stages;
       objects = all.objects;
-      here = thread_here (with_threads v c.stand.new.self c.stage_held.new.pages) c.args.t held.staged.here;
+      here = thread_here (with_threads v c.stand.new.self c.stage_held.new.pages) c.args.number held.staged.here;
     })

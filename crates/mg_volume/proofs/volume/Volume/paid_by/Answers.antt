@@ -5,4 +5,4 @@ use Rattle.mg_volume.proofs.volume.Volume.paid_by.Goals as goal
 
 pub returns : goal.returns
 unfolding objects_in
-returns c = rw (← c.self.view_is) (c.pages.ensures ∙ c.self.invariant.paid c.args.n ∙ paid_bare c.args.n c.self.inside.objects)
+returns c = rw (← c.self.view_is) (c.pages.ensures ∙ c.self.invariant.paid c.args.account ∙ paid_bare c.args.account c.self.inside.objects)

@@ -13,7 +13,7 @@ pub invariant_of-self : goal.invariant_of-self
 invariant_of-self c = record {
   kept =
       let v = the_view c.self.inside in
-      held_same v c.args.g v.threads c.stage_start.new.self c.self.invariant.kept c.self.invariant.kept.few_threads c.stage_start.ensures.shape.frames c.stage_start.ensures.table;
+      held_same v c.args.counters v.threads c.stage_start.new.self c.self.invariant.kept c.self.invariant.kept.few_threads c.stage_start.ensures.shape.frames c.stage_start.ensures.table;
   paid = c.self.invariant.paid;
 }
 
@@ -23,7 +23,7 @@ returns c =
     let p = c.stage_start.new.self in
     let said = c.stage_start.ensures in
     let all =
-    counters_changes v p c.args.g (padded_to block_size c.globals_start.result)
+    counters_changes v p c.args.counters (padded_to block_size c.globals_start.result)
     (record { coming = said.coming; table = said.table; shape = said.shape; staged = said.staged; here = said.here; words = said.words; spelled = said.spelled })
     (λ image s. c.globals_start.ensures.read_back) in
-    rw (← c.self.view_is) (record { now = all.now; rows = all.rows; stages = all.stages; objects = all.objects; here = counters_here (with_counters v p c.args.g) said.here })
+    rw (← c.self.view_is) (record { now = all.now; rows = all.rows; stages = all.stages; objects = all.objects; here = counters_here (with_counters v p c.args.counters) said.here })

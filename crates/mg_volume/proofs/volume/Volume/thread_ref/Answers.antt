@@ -10,5 +10,5 @@ use Rattle.mg_volume.proofs.volume.Volume.thread_ref.Goals as goal
 
 pub returns-clause-found : goal.returns-clause-found
 returns-clause-found c =
-    subst (λ (v : VolumeHeld). option_map (λ (thread : Thread). thread.row) (find (λ (thread : Thread). thread.number == c.args.t) (threads_in v)) ≡ option_copied c.get.result) c.self.view_is
-    (thread_found (the_view c.self.inside) c.args.t (option_copied c.get.result) c.get.ensures.found)
+    subst (λ (v : VolumeHeld). option_map (λ (thread : Thread). thread.row) (find (λ (thread : Thread). thread.number == c.args.number) (threads_in v)) ≡ option_copied c.get.result) c.self.view_is
+    (thread_found (the_view c.self.inside) c.args.number (option_copied c.get.result) c.get.ensures.found)
