@@ -55,11 +55,8 @@ fn frame_entered(row: &ThrRow, mask: u8, ext: Option<Slot>) -> Option<Frame>
     ensures fits { MatchOption result (nat_lt slot_limit (length (entered_slots row.now mask ext)) ≡ true) (λ _. nat_lt slot_limit (length (entered_slots row.now mask ext)) ≡ false) }
     ensures frame { MatchOption result (Unit {0}) (λ frame. frame ≡ record { back = row.now.pc; slots = entered_slots row.now mask ext }) }
 {
-    // This says that the pc is a multiple of 8.
-    row.keep_rules();
     let last = present(row);
-    last.keep_rules();
-    let kept = frame_kept(last.slots(), mask, row.pc());
+    let kept = frame_kept(last.slots.as_slice(), mask, row.pc);
     match ext {
         Some(slot) => with_slot(kept, slot),
         None => Some(kept),
@@ -74,13 +71,13 @@ fn frame_kept(slots: &[Slot], mask: u8, back: u64) -> Frame
 {
     let mut frame = Frame::new(back);
     for place in 0..slots.len() {
-        keep(&mut frame, slots, mask, place);
+        keep_slot(&mut frame, slots, mask, place);
     }
     frame
 }
 
 // The slot with this number is kept too, if its bit of the mask is 1.
-fn keep(frame: &mut Frame, slots: &[Slot], mask: u8, place: usize)
+fn keep_slot(frame: &mut Frame, slots: &[Slot], mask: u8, place: usize)
     requires place { place < length slots.now }
     requires place_below_8 { place < 8 }
     requires place_behind_slots { length frame.old.slots ≤ place }

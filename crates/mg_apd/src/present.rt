@@ -18,7 +18,5 @@ pub(crate) fn put_present(row: &mut ThrRow, last: Frame)
     requires { last.back ≡ last_back row.old.frames }
     ensures { row.new ≡ record row.old { frames = with_last_slots row.old.frames last.slots } }
 {
-    // This says that there is a frame.
-    row.keep_rules();
     row.set_last(last);
 }

@@ -21,7 +21,7 @@ use mg_model::Params;
 use std::alloc::Global;
 
 // Reads the rows of a volume with these settings, through a view of its journal.
-fn settle<D: Disk>(
+fn read_through_view<D: Disk>(
     alloc: Global,
     disk: &mut D,
     params: &Params,
@@ -66,7 +66,7 @@ pub fn read_volume<D: Disk>(alloc: Global, disk: &mut D) -> Result<(View, Volume
     ensures calls { DiskCallsBy D.Disk disk.old disk.new (result ≡ Err OpenFault.Disk) }
 {
     let p = read_settings(disk)?;
-    match settle(alloc, disk, &p) {
+    match read_through_view(alloc, disk, &p) {
         Ok(read) => Ok(read),
         Err(ViewFault::Damaged) => Err(OpenFault::Damaged),
         Err(ViewFault::Disk) => Err(OpenFault::Disk),

@@ -104,18 +104,18 @@ pub(crate) fn read_block<C: Contents, D: Disk>(
 
 /// Blocks of the contents that were read together.
 #[derive(Drop)]
-pub(crate) struct Run {
+pub(crate) struct BlockRun {
     first: u64,
     count: u64,
     blocks: [Block; COPY_BLOCKS],
 }
 
-impl Run {
+impl BlockRun {
     /// No blocks.
-    pub(crate) fn new() -> Run
+    pub(crate) fn new() -> BlockRun
         ensures none { result.count ≡ 0 }
     {
-        Run {
+        BlockRun {
             first: 0,
             count: 0,
             blocks: [[0; BLOCK_SIZE]; COPY_BLOCKS],

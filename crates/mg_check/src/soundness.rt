@@ -43,8 +43,7 @@ fn owe_at_most(accounts: &[AccRow], most: u64) -> bool
 fn most_owed(globals: &Globals) -> u64
     ensures { result ≡ globals.now.period * 2 ^ 36 }
 {
-    globals.keep_rules();
-    globals.period() * DEBT_LIMIT
+    globals.period * DEBT_LIMIT
 }
 
 /// Whether there is a treasury, the balances sum to the credits, and no account owes more than it may by the period.
@@ -113,10 +112,7 @@ pub(crate) fn pages_in(row: &Option<ObjRow>) -> u64
     ensures at_most_1024 { result ≤ 1024 }
 {
     match row {
-        Some(row) => {
-            row.keep_rules();
-            row.pages()
-        }
+        Some(row) => row.pages,
         None => 0,
     }
 }

@@ -7,7 +7,7 @@ ghost use Rattle.mg_check.specs.Reads.{CanRead, OnlyRead, contents};
 ghost use Rattle.mg_check.specs.TableTold.{AreEntries, HasRest, IsTable, entry_in};
 
 use crate::lists::{add, with_room};
-use crate::reading::{Contents, Run};
+use crate::reading::{BlockRun, Contents};
 use mg_disk::{Block, Disk};
 use mg_faults::Failed;
 use mg_journal::ViewFault;
@@ -50,7 +50,7 @@ pub(crate) fn read_table<C: Contents, D: Disk>(
     ensures reads { OnlyRead D.Disk disk.old disk.new }
 {
     let mut table = with_room(alloc, frames as usize)?;
-    let mut run = Run::new();
+    let mut run = BlockRun::new();
     let blocks = (frames + BLOCK_WORDS - 1) / BLOCK_WORDS;
     let (all, end) = (BLOCK_WORDS * blocks, TABLE_BLOCK + blocks);
     for f in 0..all {

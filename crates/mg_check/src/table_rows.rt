@@ -11,7 +11,7 @@ ghost use Rattle.mg_check.specs.RowsRead.{ArePlaced, live_from};
 ghost use Rattle.mg_check.specs.TableRows.{AreLive, EachKeeps, NotSpelled};
 
 use crate::lists::{add, with_room};
-use crate::reading::{Contents, Run};
+use crate::reading::{BlockRun, Contents};
 use mg_disk::{Block, Disk};
 use mg_faults::Failed;
 use mg_journal::ViewFault;
@@ -91,7 +91,7 @@ pub(crate) fn read_all<R: TableRow, C: Contents, D: Disk>(
     ensures reads { OnlyRead D.Disk disk.old disk.new }
 {
     let mut rows = with_room(alloc, R::ROWS as usize)?;
-    let mut run = Run::new();
+    let mut run = BlockRun::new();
     for i in 0..R::ROWS {
         let block = R::block_at(i);
         match run.turn_to(view, disk, block, R::END) {
@@ -161,7 +161,7 @@ pub(crate) fn read_places<R: TableRow, C: Contents, D: Disk>(
     ensures reads { OnlyRead D.Disk disk.old disk.new }
 {
     let mut rows = with_room(alloc, R::ROWS as usize)?;
-    let mut run = Run::new();
+    let mut run = BlockRun::new();
     for i in 0..R::ROWS {
         let block = R::block_at(i);
         match run.turn_to(view, disk, block, R::END) {

@@ -1,6 +1,7 @@
 -- The fresh state.
 use Rattle.std.specs.Prelude.{ℕ, List, [], ◌∷◌, replicate}
 use Rattle.mg_model.specs.declared.threads.ThrState.TheVariants.{Stopped}
+use Rattle.mg_model.specs.declared.limits.TheConstants.{ROOT_BASE}
 use Rattle.mg_model.specs.Draw.{password_drawn}
 use Rattle.mg_model.specs.Objects.{new_object}
 use Rattle.mg_model.specs.Settings.{Settings}
@@ -9,7 +10,7 @@ use Rattle.mg_model.specs.Threads.{new_thread}
 
 -- the base of the root object
 abbrev pub root_base : ℕ
-root_base = 0x0000000100000000
+root_base = ROOT_BASE
 
 -- the root's words: a capability list with one entry, for the root itself
 abbrev pub root_words : ℕ → List ℕ

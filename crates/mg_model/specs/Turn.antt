@@ -145,38 +145,39 @@ unless_faulted state t address may done =
     else if not may then faulted state t fault.Denied
     else done
 
--- Runs the instruction at `here`; the row is the thread's, its pc advanced.
+-- Runs the instruction at `here`. `state` has the thread as it was before, and `moved` is its row with the pc advanced. An
+-- instruction that faults leaves the pc at `here`: the row of before gets the fault.
 abbrev pub run : State → ℕ → ℕ → ThreadRow → Instr → State
-run state t here thread op.Halt = put_row state t (record thread { state = Stopped })
-run state t here thread (op.Set a i) = put_row state t (with_register thread a i)
-run state t here thread (op.High a i) = put_row state t (with_register thread a (register thread a % 2 ^ 32 + i * 2 ^ 32))
-run state t here thread (op.Add a b c) = put_row state t (with_register thread a ((register thread b + register thread c) % word_end))
-run state t here thread (op.Sub a b c) =
-    put_row state t (with_register thread a ((register thread b + word_end - register thread c) % word_end))
-run state t here thread (op.Lt a b c) =
-    put_row state t (with_register thread a (if nat_lt (register thread b) (register thread c) then 1 else 0))
-run state t here thread (op.Load a b i) =
-    let address = operand thread b i in
-    unless_faulted state t address (allowed state t address R) (put_row state t (with_register thread a (word_at state.objects address)))
-run state t here thread (op.Store a b i) =
-    let address = operand thread b i in
+run state t here moved op.Halt = put_row state t (record moved { state = Stopped })
+run state t here moved (op.Set a i) = put_row state t (with_register moved a i)
+run state t here moved (op.High a i) = put_row state t (with_register moved a (register moved a % 2 ^ 32 + i * 2 ^ 32))
+run state t here moved (op.Add a b c) = put_row state t (with_register moved a ((register moved b + register moved c) % word_end))
+run state t here moved (op.Sub a b c) =
+    put_row state t (with_register moved a ((register moved b + word_end - register moved c) % word_end))
+run state t here moved (op.Lt a b c) =
+    put_row state t (with_register moved a (if nat_lt (register moved b) (register moved c) then 1 else 0))
+run state t here moved (op.Load a b i) =
+    let address = operand moved b i in
+    unless_faulted state t address (allowed state t address R) (put_row state t (with_register moved a (word_at state.objects address)))
+run state t here moved (op.Store a b i) =
+    let address = operand moved b i in
     unless_faulted state t address (allowed state t address W)
-    (put_row (record state { objects = with_word state.objects address (register thread a) }) t thread)
-run state t here thread (op.Jump i) = put_row state t (jumped thread here i)
-run state t here thread (op.Jz a i) = put_row state t (if register thread a == 0 then jumped thread here i else thread)
-run state t here thread (op.Jnz a i) = put_row state t (if register thread a == 0 then thread else jumped thread here i)
-run state t here thread (op.Pdx a b) =
-    let before = put_row state t thread in
-    let mask = register thread b in
+    (put_row (record state { objects = with_word state.objects address (register moved a) }) t moved)
+run state t here moved (op.Jump i) = put_row state t (jumped moved here i)
+run state t here moved (op.Jz a i) = put_row state t (if register moved a == 0 then jumped moved here i else moved)
+run state t here moved (op.Jnz a i) = put_row state t (if register moved a == 0 then moved else jumped moved here i)
+run state t here moved (op.Pdx a b) =
+    let advanced = put_row state t moved in
+    let mask = register moved b in
     seen t (λ _ entered. with_register entered 0 0)
-    (if nat_lt 255 mask then (before, reply.No refusal.Syntax) else pdx before t (register thread a) mask)
-run state t here thread op.Ret = seen t (λ _ returned. returned) (ret (put_row state t thread) t)
-run state t here thread op.Yield = put_row state t thread
-run state t here thread op.Sys =
+    (if nat_lt 255 mask then (advanced, reply.No refusal.Syntax) else pdx advanced t (register moved a) mask)
+run state t here moved op.Ret = seen t (λ _ returned. returned) (ret (put_row state t moved) t)
+run state t here moved op.Yield = put_row state t moved
+run state t here moved op.Sys =
     seen t (λ said caller. with_registers caller 0 (0 ∷ values_of said))
-    (thread_call (put_row state t thread) t (spelled thread))
+    (thread_call (put_row state t moved) t (spelled moved))
 
--- the pc is first advanced by the width of a word
+-- the pc is first advanced by the width of a word; a word that is no instruction faults, and the pc stays
 abbrev pub run_word : State → ℕ → ThreadRow → Option Instr → State
 run_word state t thread None = faulted state t fault.Opcode
 run_word state t thread (Some instr) = run state t thread.pc (record thread { pc = (thread.pc + 8) % word_end }) instr

@@ -52,13 +52,6 @@ impl Frame {
         }
     }
 
-    /// States that the frame keeps its rules, for proofs. It does nothing when it runs.
-    pub fn keep_rules(&self)
-        ensures { IsCallFrame self.now }
-    {
-        let _back = self.back;
-    }
-
     /// The address that the call returns to, a multiple of 8.
     pub fn back(&self) -> u64
         ensures value { result ≡ self.now.back }

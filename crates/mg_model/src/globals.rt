@@ -44,13 +44,6 @@ impl Globals {
         }
     }
 
-    /// States that the row keeps its rules, for proofs. It does nothing when it runs.
-    pub fn keep_rules(&self)
-        ensures { IsCounters self.now }
-    {
-        let _draws = self.draws;
-    }
-
     /// How many passwords were drawn.
     pub fn draws(&self) -> u64
         ensures value { result ≡ self.now.draws }

@@ -100,13 +100,6 @@ impl ObjRow {
         }
     }
 
-    /// States that the row keeps its rules, for proofs. It does nothing when it runs.
-    pub fn keep_rules(&self)
-        ensures { IsObjectRow self.now }
-    {
-        let _base = self.base;
-    }
-
     /// The address of its first byte.
     pub fn base(&self) -> u64
         ensures value { result ≡ self.now.base }
@@ -192,9 +185,8 @@ impl ObjRow {
         requires fewer_than_32_passwords { length self.old.passwords < 32 }
         ensures { self.new ≡ record self.old { passwords = self.old.passwords ++ pw ∷ [] } }
     {
-        // It states that the row keeps its ranges.
-        pw.keep_rules();
-        self.passwords.add(pw);
+        self.passwords
+            .add(Pw::new(pw.password, pw.rights, pw.until));
     }
 
     /// Removes every row with this password.

@@ -57,13 +57,6 @@ impl Pw {
         }
     }
 
-    /// States that the row keeps its rules, for proofs. It does nothing when it runs.
-    pub fn keep_rules(&self)
-        ensures { IsPassword self.now }
-    {
-        let _until = self.until;
-    }
-
     /// The password that it is for.
     pub fn password(&self) -> u64
         ensures { result ≡ self.now.password }

@@ -90,13 +90,6 @@ impl ThrRow {
         }
     }
 
-    /// States that the row keeps its rules, for proofs. It does nothing when it runs.
-    pub fn keep_rules(&self)
-        ensures { IsThreadRow self.now }
-    {
-        let _birth = self.birth;
-    }
-
     /// Its birth number, which no other thread ever has.
     pub fn birth(&self) -> u64
         ensures value { result ≡ self.now.birth }
@@ -170,6 +163,13 @@ impl ThrRow {
         self.regs[number] = value;
     }
 
+    /// Other registers.
+    pub fn set_regs(&mut self, regs: [u64; 8])
+        ensures { self.new ≡ record self.old { regs = regs } }
+    {
+        self.regs = regs;
+    }
+
     /// One frame more, which becomes the present one.
     pub fn push_frame(&mut self, frame: Frame)
         requires { length self.old.frames < 16 }
@@ -189,7 +189,8 @@ impl ThrRow {
     /// Another present frame, which returns to the same address as the present one.
     pub fn set_last(&mut self, last: Frame)
         requires { last.back ≡ last_back self.old.frames }
-        ensures { self.new ≡ record self.old { frames = take (length self.old.frames - 1) self.old.frames ++ last ∷ [] } }
+        ensures row { self.new ≡ record self.old { frames = take (length self.old.frames - 1) self.old.frames ++ last ∷ [] } }
+        ensures some_frame { 1 ≤ length self.old.frames }
     {
         self.frames.pop();
         self.frames.add(last);

@@ -41,8 +41,7 @@ pub enum Effect {
 pub(crate) fn advance(row: &mut ThrRow)
     ensures { row.new ≡ advanced row.old }
 {
-    row.keep_rules();
-    row.set_pc(row.pc().wrapping_add(8));
+    row.set_pc(row.pc.wrapping_add(8));
 }
 
 /// What the instruction at a thread's pc requires of the machine. The row is the thread's, and its pc is not yet advanced. The
@@ -54,8 +53,7 @@ pub fn effect_of(instr: &Instr, row: &ThrRow) -> Effect
     ensures frames { HasFrames row.now result }
     ensures call { made_by row.now result ≡ call_of row.now instr.now }
 {
-    row.keep_rules();
-    let here = row.pc();
+    let here = row.pc;
     let next = onward(row);
     match *instr {
         Instr::Halt => stop(next),
@@ -87,12 +85,13 @@ pub fn effect_of(instr: &Instr, row: &ThrRow) -> Effect
 
 /// The parts of this row that an instruction may change.
 pub(crate) fn here(row: &ThrRow) -> Standing
-    ensures { result ≡ standing row.now }
+    ensures value { result ≡ standing row.now }
+    ensures aligned { result.pc % 8 ≡ 0 }
 {
     Standing {
-        pc: row.pc(),
-        state: row.state(),
-        regs: row.regs(),
+        pc: row.pc,
+        state: row.state,
+        regs: row.regs,
     }
 }
 
@@ -101,11 +100,10 @@ pub(crate) fn onward(row: &ThrRow) -> Standing
     ensures value { result ≡ standing (advanced row.now) }
     ensures aligned { result.pc % 8 ≡ 0 }
 {
-    row.keep_rules();
     Standing {
-        pc: row.pc().wrapping_add(8),
-        state: row.state(),
-        regs: row.regs(),
+        pc: row.pc.wrapping_add(8),
+        state: row.state,
+        regs: row.regs,
     }
 }
 

@@ -23,7 +23,7 @@ pub use calls::spell;
 pub use costs::turns_search_as_calls;
 pub use effects::{Effect, Standing, effect_of};
 pub use mg_model::Instr;
-pub use resuming::{begin, call, resume, stand};
+pub use resuming::{begin, call, resume, standing_after};
 pub use settling::settle;
 pub use turns::turns_are_calls;
 pub use words::{decode, encode};

@@ -70,31 +70,31 @@ pub fn resume(row: ThrRow, effect: &Effect, reply: &Reply) -> ThrRow
 {
     match effect {
         Effect::Next(next) => moved(row, next),
-        Effect::Load { to, .. } => behind_load(row, *to, reply),
-        Effect::Store { .. } => behind_store(row, reply),
-        Effect::Pdx { .. } => behind_pdx(row, reply),
-        Effect::Ret => behind_ret(row, reply),
-        Effect::Sys => behind_sys(row, reply),
+        Effect::Load { to, .. } => after_load(row, *to, reply),
+        Effect::Store { .. } => after_store(row, reply),
+        Effect::Pdx { .. } => after_pdx(row, reply),
+        Effect::Ret => after_ret(row, reply),
+        Effect::Sys => after_sys(row, reply),
     }
 }
 
 /// The pc, the state and the registers of a thread after its turn. `row` is the row after the call of the turn's effect, and `reply`
 /// that call's reply. None if the turn may change more of the row: after a call that the registers spelled, and after `pdx` and
 /// `ret`. [`resume`] has the row then.
-pub fn stand(row: &ThrRow, effect: &Effect, reply: &Reply) -> Option<Standing>
+pub fn standing_after(row: &ThrRow, effect: &Effect, reply: &Reply) -> Option<Standing>
     requires { HasPlace effect.now }
     ensures value { IfSome result (λ stands. resumed effect.now reply.now row.now ≡ stood stands row.now) }
     ensures aligned { IfSome result (λ stands. stands.pc % 8 ≡ 0) }
 {
     match effect {
         Effect::Next(next) => Some(*next),
-        Effect::Load { to, .. } => Some(stand_behind_load(row, *to, reply)),
-        Effect::Store { .. } => Some(stand_behind_store(row, reply)),
+        Effect::Load { to, .. } => Some(standing_after_load(row, *to, reply)),
+        Effect::Store { .. } => Some(standing_after_store(row, reply)),
         Effect::Pdx { .. } | Effect::Ret | Effect::Sys => None,
     }
 }
 
-fn stand_behind_load(row: &ThrRow, to: u8, reply: &Reply) -> Standing
+fn standing_after_load(row: &ThrRow, to: u8, reply: &Reply) -> Standing
     requires { to < 8 }
     ensures value { result ≡ standing (loaded to reply.now row.now) }
     ensures aligned { result.pc % 8 ≡ 0 }
@@ -106,28 +106,19 @@ fn stand_behind_load(row: &ThrRow, to: u8, reply: &Reply) -> Standing
             stands
         }
         Reply::No(word) => faulting(row, fault(word)),
-        _ => still(row),
+        _ => here(row),
     }
 }
 
-fn stand_behind_store(row: &ThrRow, reply: &Reply) -> Standing
+fn standing_after_store(row: &ThrRow, reply: &Reply) -> Standing
     ensures value { result ≡ standing (stored reply.now row.now) }
     ensures aligned { result.pc % 8 ≡ 0 }
 {
     match *reply {
         Reply::Done => onward(row),
         Reply::No(word) => faulting(row, fault(word)),
-        _ => still(row),
+        _ => here(row),
     }
-}
-
-// The thread stays as it is.
-fn still(row: &ThrRow) -> Standing
-    ensures value { result ≡ standing row.now }
-    ensures aligned { result.pc % 8 ≡ 0 }
-{
-    row.keep_rules();
-    here(row)
 }
 
 // The thread faults, and its pc stays.
@@ -135,11 +126,10 @@ fn faulting(row: &ThrRow, kind: Fault) -> Standing
     ensures value { result ≡ standing (faulted_row kind row.now) }
     ensures aligned { result.pc % 8 ≡ 0 }
 {
-    row.keep_rules();
     Standing {
-        pc: row.pc(),
+        pc: row.pc,
         state: ThrState::Faulted(kind),
-        regs: row.regs(),
+        regs: row.regs,
     }
 }
 
@@ -150,21 +140,11 @@ pub(crate) fn moved(mut row: ThrRow, stands: &Standing) -> ThrRow
 {
     row.set_pc(stands.pc);
     row.set_state(stands.state);
-    set_registers(&mut row, &stands.regs);
+    row.set_regs(stands.regs);
     row
 }
 
-// Stores all eight registers.
-fn set_registers(row: &mut ThrRow, regs: &[u64; 8])
-    ensures { row.new ≡ record row.old { regs = regs.now } }
-{
-    row.keep_rules();
-    for k in 0..8 {
-        row.set_register(k, regs[k]);
-    }
-}
-
-fn behind_load(mut row: ThrRow, to: u8, reply: &Reply) -> ThrRow
+fn after_load(mut row: ThrRow, to: u8, reply: &Reply) -> ThrRow
     requires { to < 8 }
     ensures { result ≡ loaded to reply.now row }
 {
@@ -179,7 +159,7 @@ fn behind_load(mut row: ThrRow, to: u8, reply: &Reply) -> ThrRow
     }
 }
 
-fn behind_store(mut row: ThrRow, reply: &Reply) -> ThrRow
+fn after_store(mut row: ThrRow, reply: &Reply) -> ThrRow
     ensures { result ≡ stored reply.now row }
 {
     match *reply {
@@ -192,7 +172,7 @@ fn behind_store(mut row: ThrRow, reply: &Reply) -> ThrRow
     }
 }
 
-fn behind_pdx(row: ThrRow, reply: &Reply) -> ThrRow
+fn after_pdx(row: ThrRow, reply: &Reply) -> ThrRow
     ensures { result ≡ entered reply.now row }
 {
     match *reply {
@@ -201,7 +181,7 @@ fn behind_pdx(row: ThrRow, reply: &Reply) -> ThrRow
     }
 }
 
-fn behind_ret(row: ThrRow, reply: &Reply) -> ThrRow
+fn after_ret(row: ThrRow, reply: &Reply) -> ThrRow
     ensures { result ≡ returned reply.now row }
 {
     match *reply {
@@ -210,7 +190,7 @@ fn behind_ret(row: ThrRow, reply: &Reply) -> ThrRow
     }
 }
 
-fn behind_sys(mut row: ThrRow, reply: &Reply) -> ThrRow
+fn after_sys(mut row: ThrRow, reply: &Reply) -> ThrRow
     ensures { result ≡ resumed Effect.Sys reply.now row }
 {
     advance(&mut row);
@@ -231,9 +211,8 @@ fn in_frame(row: ThrRow) -> ThrRow
 fn returning(mut row: ThrRow) -> ThrRow
     ensures { result ≡ record row { frames = returning_on row.frames } }
 {
-    row.keep_rules();
     let mut last = row.last();
-    if row.frames().len() <= 1 {
+    if row.frames.as_slice().len() <= 1 {
         return row;
     }
     last.set_back(last.back().wrapping_add(8));

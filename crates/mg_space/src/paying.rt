@@ -1,6 +1,7 @@
 // For how many pages the payer of an object pays.
 ghost use Rattle.std.specs.Prelude.{◌≡◌, ◌≤◌, ◌<◌, ◌+◌, ◌^◌, ℕ};
 ghost use Rattle.mg_bank.specs.Bank.{pages_at};
+ghost use Rattle.mg_model.specs.Ranges.{IsObjectRow};
 ghost use Rattle.mg_space.specs.Space.{ArePaid, share};
 
 use mg_bank::Bank;
@@ -12,13 +13,10 @@ pub(crate) fn add(bank: &mut Bank, row: &ObjRow)
     requires { pages_at bank.old.pages row.now.account + row.now.pages < 2 ^ 64 }
     ensures pages { (n : ℕ) → pages_at bank.new.pages n ≡ pages_at bank.old.pages n + share row.now n }
     ensures accounts { bank.new.accounts ≡ bank.old.accounts }
+    ensures kept { IsObjectRow row.now }
 {
-    // This says that the row keeps its ranges.
-    row.keep_rules();
-    let account = row.account();
-    let more = row.pages();
-    let total = bank.pages(account);
-    bank.set_pages(account, total + more);
+    let total = bank.pages(row.account);
+    bank.set_pages(row.account, total + row.pages);
 }
 
 /// The payer of an object does not pay for its pages any more.
@@ -27,12 +25,8 @@ pub(crate) fn subtract(bank: &mut Bank, row: &ObjRow)
     ensures pages { (n : ℕ) → pages_at bank.old.pages n ≡ pages_at bank.new.pages n + share row.now n }
     ensures accounts { bank.new.accounts ≡ bank.old.accounts }
 {
-    // This says that the row keeps its ranges.
-    row.keep_rules();
-    let account = row.account();
-    let less = row.pages();
-    let total = bank.pages(account);
-    bank.set_pages(account, total - less);
+    let total = bank.pages(row.account);
+    bank.set_pages(row.account, total - row.pages);
 }
 
 /// Sets in a bank, which has none, for how many pages of these objects each account pays.

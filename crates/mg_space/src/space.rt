@@ -144,6 +144,7 @@ impl Space {
         ensures place { IsLowestFree result self.old }
         ensures paid { ArePaid bank.new.pages self.new }
         ensures accounts { bank.new.accounts ≡ bank.old.accounts }
+        ensures row { IsObjectRow row }
     {
         let (first, pages) = span_of(&row);
         let place = self.objects.put(row);
@@ -183,6 +184,7 @@ impl Space {
         ensures place { Some result ≡ option_map (λ o. o.0) (find (λ o. o.1.base == row.base) self.old) }
         ensures paid { ArePaid bank.new.pages self.new }
         ensures accounts { bank.new.accounts ≡ bank.old.accounts }
+        ensures row { IsObjectRow row }
     {
         self.objects.keep_rules();
         let old = replaced(&self.objects, &row);

@@ -6,4 +6,4 @@ use Rattle.mg_apd.proofs.present.put_present.Goals as goal
 pub returns : goal.returns
 returns c =
     let row : ThreadRow = c.args.row.now in
-    c.set_last.ensures ∙ ap (λ frames. record row { frames = frames }) (last_put row.frames c.args.last c.keep_rules.ensures.some_frame c.requires)
+    c.set_last.ensures.row ∙ ap (λ frames. record row { frames = frames }) (last_put row.frames c.args.last c.set_last.ensures.some_frame c.requires)

@@ -14,7 +14,7 @@ returns-in-Ok-clause-fits g c image told = c.in-Ok.ensures.fits image (c.read_se
 pub returns-in-Err-Damaged-clause-damaged : goal.returns-in-Err-Damaged-clause-damaged
 returns-in-Err-Damaged-clause-damaged g c is image told =
     let later = c.read_settings.ensures.reads.writes.same ∙ told in
-    volume-damaged c.in_ok-p.p image (c.in_ok-p.ensures.told image told) (c.settle.ensures.damaged (c.in-Err-Damaged.is ∙ ap Err c.in-Err-Damaged.field-0-is) image later)
+    volume-damaged c.in_ok-p.p image (c.in_ok-p.ensures.told image told) (c.read_through_view.ensures.damaged (c.in-Err-Damaged.is ∙ ap Err c.in-Err-Damaged.field-0-is) image later)
 
 pub returns-in-Ok-clause-writes : goal.returns-in-Ok-clause-writes
-returns-in-Ok-clause-writes g c = nothing_then g.D.Disk c.args.disk.now c.read_settings.new.disk c.settle.new.disk c.read_settings.ensures.reads.writes c.settle.ensures.reads.writes
+returns-in-Ok-clause-writes g c = nothing_then g.D.Disk c.args.disk.now c.read_settings.new.disk c.read_through_view.new.disk c.read_settings.ensures.reads.writes c.read_through_view.ensures.reads.writes

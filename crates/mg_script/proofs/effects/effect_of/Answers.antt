@@ -24,13 +24,13 @@ jumps_unless state t row here i false = refl
 pub returns-in-Jz-clause-turn : goal.returns-in-Jz-clause-turn
 returns-in-Jz-clause-turn c state t =
     let row = advanced c.args.row.now in
-    let here = c.args.row.now.pc in
+    let here = c.row.inside.pc in
     let asked : c.jump_if_zero.result ≡ (if register row c.in-Jz.a == 0 then there row here c.in-Jz.i else Next (standing row)) = cc in
-    ap (λ (i : Instr). run state t here row i) c.in-Jz.is ∙ jumps_if state t row here c.in-Jz.i (register row c.in-Jz.a == 0) ∙ sym (ap (λ (effect : Effect). finished state t row effect) asked)
+    ap (λ (old : ThreadRow). run state t old.pc row c.args.instr.now) (sym c.row.view_is) ∙ ap (λ (i : Instr). run state t here row i) c.in-Jz.is ∙ jumps_if state t row here c.in-Jz.i (register row c.in-Jz.a == 0) ∙ sym (ap (λ (effect : Effect). finished state t row effect) asked)
 
 pub returns-in-Jnz-clause-turn : goal.returns-in-Jnz-clause-turn
 returns-in-Jnz-clause-turn c state t =
     let row = advanced c.args.row.now in
-    let here = c.args.row.now.pc in
+    let here = c.row.inside.pc in
     let asked : c.jump_unless_zero.result ≡ (if register row c.in-Jnz.a == 0 then Next (standing row) else there row here c.in-Jnz.i) = cc in
-    ap (λ (i : Instr). run state t here row i) c.in-Jnz.is ∙ jumps_unless state t row here c.in-Jnz.i (register row c.in-Jnz.a == 0) ∙ sym (ap (λ (effect : Effect). finished state t row effect) asked)
+    ap (λ (old : ThreadRow). run state t old.pc row c.args.instr.now) (sym c.row.view_is) ∙ ap (λ (i : Instr). run state t here row i) c.in-Jnz.is ∙ jumps_unless state t row here c.in-Jnz.i (register row c.in-Jnz.a == 0) ∙ sym (ap (λ (effect : Effect). finished state t row effect) asked)

@@ -6,7 +6,7 @@ use Rattle.mg_check.specs.ReadRuns.{still_read, told_contents}
 use Rattle.mg_check.specs.Reads.{OnlyRead}
 use Rattle.mg_journal.specs.declared.faults.ViewFault.TheVariants as fault
 use Rattle.mg_check.proofs.SettledVolume.{settled-damaged, settled-short, settled-tells, some_in}
-use Rattle.mg_check.proofs.opening.settle.Goals as goal
+use Rattle.mg_check.proofs.opening.read_through_view.Goals as goal
 
 pub returns-then-blocks-total-clause-damaged : goal.returns-then-blocks-total-clause-damaged
 returns-then-blocks-total-clause-damaged g c is image told =
