@@ -1,47 +1,24 @@
 -- A table and its pairs: a look-up, a number that is bound, and numbers that are released.
-use Rattle.std.specs.Prelude.{◌≡◌, ◌≢◌, ◌+◌, ◌-◌, ◌<◌, ◌≤◌, ◌==◌, nat_lt, ℕ, zero, suc, Bool, true, false, List, [], ◌∷◌, Some, None, insert, length, replicate, slice_index, slice_set}
+use Rattle.std.specs.Prelude.{◌≡◌, ◌≢◌, ◌+◌, ◌-◌, ◌<◌, ◌≤◌, ◌==◌, nat_lt, ℕ, zero, suc, Bool, true, false, List, [], Some, None, insert, length, replicate, slice_index, slice_set}
 use Rattle.std.specs.List.{AllWithin, Contains, list_any, position, position_or_len}
-use Rattle.std.specs.List.Sorted.{IsNonDecreasingBy}
 use Rattle.std.proofs.Common.{refl, sym, ap, ◌∙◌, subst, cond, ⊎_elim, arith, get_or, drop, length-drop, length-set, get_or-set_other, get_or-set_same}
-use Rattle.std.proofs.lemmas.Bool.{cases_eq, cases_lt, eq-eqb, false≢true, ne_eqb, lt-ltb, or_from, or_parts}
-use Rattle.std.proofs.lemmas.List.{get_or-drop, get_or-replicate, get_or_default, length-replicate}
+use Rattle.std.proofs.lemmas.Bool.{both_ways, cases_eq, cases_lt, eq-eqb, false_from_ne_true, false≢true, ne_eqb, lt-ltb}
+use Rattle.std.proofs.lemmas.List.{get_or-drop, get_or-replicate, length-replicate}
 use Rattle.std.proofs.lemmas.List.Edits.{length-insert}
+use Rattle.std.proofs.lemmas.List.Elements.{All-from_get_or}
+use Rattle.std.proofs.lemmas.List.Folds.{list_any_at, list_any_none}
 use Rattle.std.proofs.lemmas.List.Quantifiers.{position-Some}
 use Rattle.std.proofs.lemmas.List.Sums.{position_or_len_is, sum_by-cons, sum_by-set}
 use Rattle.mg_index.specs.DistinctLemmas.{distinct-free, distinct-put}
+use Rattle.mg_index.specs.ListLemmas.{rises-once}
 use Rattle.mg_index.specs.PlaceLemmas.{nowhere_any}
 use Rattle.mg_index.specs.Pairs.{IsIndexed, Ascends, IsBound, IsExact, NoneFree, free_count}
 use Rattle.mg_index.proofs.Lists.{contains-at, insert-cases, insert-has, insert-keeps, insert-pairs}
 
-pub no-falls : (pairs : List (ℕ × ℕ)) → Ascends pairs → IsNonDecreasingBy (λ (pair : ℕ × ℕ). pair.0) pairs
-no-falls pairs up i j d order under =
-    ⊎_elim (λ before. let l = up i j d before under in omega arith)
-    (λ le. let e : i ≡ j = omega arith in let P : ℕ → Type 0 = λ n. (get_or pairs i d).0 ≤ (get_or pairs n d).0 in subst P e (omega arith))
-    (cases_lt i j)
-
--- when two pairs of a number are there, they are one
-one-pair : (pairs : List (ℕ × ℕ)) → Ascends pairs → (a b : ℕ) (x y : ℕ × ℕ) → b < length pairs → get_or pairs a x ≡ x → get_or pairs b y ≡ y → x.0 ≡ y.0 → a < b → ⊥
-one-pair pairs up a b x y under at_a at_b same before =
-    let rises : (get_or pairs a x).0 < (get_or pairs b x).0 = up a b x before under in
-    let first : (get_or pairs a x).0 ≡ x.0 = ap (λ (p : ℕ × ℕ). p.0) at_a in
-    let second : (get_or pairs b x).0 ≡ y.0 = ap (λ (p : ℕ × ℕ). p.0) (get_or_default pairs b x y under ∙ at_b) in
-    omega arith
-
 -- a number is in one place
 pub one-place : (numbers : List ℕ) (pairs : List (ℕ × ℕ)) → Ascends pairs → IsExact numbers pairs → (number f g : ℕ) → IsBound numbers (number, f) → IsBound numbers (number, g) → f ≡ g
 one-place numbers pairs up exact number f g at_f at_g =
-    ⊎_elim (λ l. absurd (one-pair pairs up u.0 w.0 (number, f) (number, g) w.1 u.2 w.2 refl l))
-    (λ le. ⊎_elim (λ l. absurd (one-pair pairs up w.0 u.0 (number, g) (number, f) u.1 w.2 u.2 refl l)) (λ ge. same (omega arith)) (cases_lt w.0 u.0))
-    (cases_lt u.0 w.0)
-  where
-    u : Contains pairs (number, f)
-    u = (exact (number, f)).1 at_f
-
-    w : Contains pairs (number, g)
-    w = (exact (number, g)).1 at_g
-
-    same : u.0 ≡ w.0 → f ≡ g
-    same e = ap (λ (p : ℕ × ℕ). p.1) (sym u.2 ∙ get_or_default pairs u.0 (number, f) (number, g) u.1 ∙ ap (λ k. get_or pairs k (number, g)) e ∙ w.2)
+    ap (λ (p : ℕ × ℕ). p.1) (rises-once (λ (p : ℕ × ℕ). p.0) pairs (number, f) (number, g) up ((exact (number, f)).1 at_f) ((exact (number, g)).1 at_g) refl)
 
 -- the place of a number that has one
 position-is : (p : ℕ → Bool) (xs : List ℕ) (i : ℕ) → i < length xs → p (get_or xs i 0) ≡ true → ((k : ℕ) → k < i → p (get_or xs k 0) ≡ false) → position p xs ≡ Some i
@@ -60,8 +37,7 @@ place-found numbers pairs up exact pair there =
 
 -- a number that has none
 none-there : (p : ℕ → Bool) (xs : List ℕ) → ((k : ℕ) → k < length xs → p (get_or xs k 0) ≡ false) → list_any p xs ≡ false
-none-there p [] none = refl
-none-there p (x ∷ xs) none = or_from (p x) (list_any p xs) (none 0 (omega arith)) (none-there p xs (λ k under. none (suc k) (omega arith)))
+none-there p xs none = list_any_none p xs (All-from_get_or (λ x. p x ≡ false) xs 0 none)
 
 pub place-not-found :
     (numbers : List ℕ) (pairs : List (ℕ × ℕ)) (number : ℕ) → number ≢ 0 → IsExact numbers pairs → ((k : ℕ) (d : ℕ × ℕ) → k < length pairs → (get_or pairs k d).0 ≢ number) → list_any (λ entry. entry == number) numbers ≡ false
@@ -110,7 +86,7 @@ exact-put numbers pairs place number i within under some free exact pair = (to, 
         (bound.0, omega (arith, long), get_or-set_other numbers place pair.1 number 0 other ∙ bound.2)
 
     to : Contains (insert pairs i (number, place)) pair → IsBound (slice_set numbers place number) pair
-    to there = ⊎_elim (λ old. kept ((exact pair).0 old)) (λ new. subst (λ (p : ℕ × ℕ). IsBound (slice_set numbers place number) p) new now) (insert-cases pairs i (number, place) pair within there)
+    to there = ⊎_elim (λ new. subst (λ (p : ℕ × ℕ). IsBound (slice_set numbers place number) p) new now) (λ old. kept ((exact pair).0 old)) (insert-cases pairs i (number, place) pair there)
 
     from : IsBound (slice_set numbers place number) pair → Contains (insert pairs i (number, place)) pair
     from bound =
@@ -118,17 +94,15 @@ exact-put numbers pairs place number i within under some free exact pair = (to, 
         (λ is.
         let e : number ≡ pair.0 = sym (get_or-set_same numbers place number 0 under) ∙ sym (ap (λ k. get_or (slice_set numbers place number) k 0) is) ∙ bound.2 in
         let new : (number, place) ≡ pair = ap (λ n. (n, place)) e ∙ ap (λ m. (pair.0, m)) (sym is) in
-        subst (λ (p : ℕ × ℕ). Contains (insert pairs i (number, place)) p) new (insert-has pairs i (number, place) within))
+        subst (λ (p : ℕ × ℕ). Contains (insert pairs i (number, place)) p) new (insert-has pairs i (number, place)))
         (λ other.
         let l = bound.1 in
-        insert-keeps pairs i (number, place) pair within ((exact pair).1 (bound.0, omega (arith, long), sym (get_or-set_other numbers place pair.1 number 0 other) ∙ bound.2)))
+        insert-keeps pairs i (number, place) pair ((exact pair).1 (bound.0, omega (arith, long), sym (get_or-set_other numbers place pair.1 number 0 other) ∙ bound.2)))
         (cases_eq pair.1 place)
 
 -- what is bound nowhere
 any-not : (p : ℕ → Bool) (xs : List ℕ) → list_any p xs ≡ false → (k : ℕ) → k < length xs → p (get_or xs k 0) ≡ false
-any-not p [] none k under = absurd (omega arith)
-any-not p (x ∷ xs) none zero under = (or_parts (p x) (list_any p xs) none).0
-any-not p (x ∷ xs) none (suc k) under = any-not p xs (or_parts (p x) (list_any p xs) none).1 k (omega arith)
+any-not p xs none k under = false_from_ne_true (p (get_or xs k 0)) (λ is. both_ways (list_any p xs) none (list_any_at p xs k 0 under is))
 
 unbound-not : (numbers : List ℕ) (number : ℕ) → list_any (λ entry. entry == number) numbers ≡ false → (pair : ℕ × ℕ) → IsBound numbers pair → pair.0 ≢ number
 unbound-not numbers number none pair bound is =

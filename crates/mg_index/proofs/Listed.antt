@@ -1,21 +1,27 @@
 -- The pairs of a table, listed place by place and then sorted by number.
-use Rattle.std.specs.Prelude.{◌≡◌, ◌≢◌, ◌+◌, ◌-◌, ◌<◌, ◌≤◌, ◌==◌, ◌||◌, if◌then◌else◌, ℕ, zero, suc, Bool, All, true, false, not, List, [], ◌∷◌, ◌++◌, length, map, slice_index, take, drop}
-use Rattle.std.specs.List.{Contains, list_any}
+use Rattle.std.specs.Prelude.{◌≡◌, ◌≢◌, ◌+◌, ◌-◌, ◌<◌, ◌≤◌, ◌==◌, if◌then◌else◌, ℕ, zero, suc, Bool, true, false, not, List, [], ◌∷◌, ◌++◌, length, map, slice_index, take}
+use Rattle.std.specs.List.{AllPairs, Contains}
 use Rattle.std.specs.List.Sorted.{IsNonDecreasingBy, IsPermutation}
-use Rattle.std.proofs.Common.{refl, sym, ap, ◌∙◌, subst, cond, ⊎_elim, arith, get_or, length-drop}
-use Rattle.std.proofs.lemmas.Bool.{and_from, and_parts, cases_Bool, cases_eq, eqb-true, eq-eqb, ne_eqb, not_from_false, not-true, or_parts}
-use Rattle.std.proofs.lemmas.List.{append-nil, get_or-take, get_or-drop, get_or_default, get_or-map, length-map, length-take-le, length_push, map-append, take_more}
-use Rattle.std.proofs.lemmas.List.Elements.{All-head, All-tail, Contains-append_left, Contains-push, Contains-push_cases, filter-append}
-use Rattle.std.proofs.lemmas.List.Sorted.{Contains-permutation, IsPermutation-map, IsPermutation-sym, length_permutation, sum_by-IsPermutation}
-use Rattle.std.proofs.lemmas.List.Sums.{get_or-le-sum_by, sum_by-cons, sum_by-take-drop}
+use Rattle.std.proofs.Common.{refl, sym, ap, ◌∙◌, subst, cond, ⊎_elim, arith, get_or}
+use Rattle.std.proofs.lemmas.Bool.{cases_Bool, cases_eq, cases_lt, eq-eqb, eqb-false, false_from_ne_true, ne_eqb}
+use Rattle.std.proofs.lemmas.Bool.Decides.{nat_tests}
+use Rattle.std.proofs.lemmas.List.{append-nil, get_or_default, get_or_past, length-map, length_push, map-append, take_more}
+use Rattle.std.proofs.lemmas.List.Elements.{Contains-append_left, Contains-get_or, Contains-push, Contains-push_cases, filter-append}
+use Rattle.std.proofs.lemmas.List.Quantifiers.{all_pairs_push}
+use Rattle.std.proofs.lemmas.List.Sorted.{Contains-permutation, IsPermutation-sym, length_permutation}
+use Rattle.std.proofs.lemmas.List.Sums.{sum_by-cons}
+use Rattle.std.proofs.lemmas.Map.Keys.{IsDistinct-IsPermutation, IsDistinct-from_apart, apart_from_distinct}
 use Rattle.mg_model.specs.Tests.{all_distinct}
+use Rattle.mg_index.specs.DistinctLemmas.{distinct-own, own-distinct}
 use Rattle.mg_index.specs.Words.{numbers_in}
-use Rattle.mg_index.specs.Pairs.{Ascends, HasTwice, IsExact, IsSortedTable, free_count, times}
+use Rattle.mg_index.specs.Pairs.{Ascends, HasTwice, IsExact, IsSortedTable, free_count}
+use Rattle.mg_index.proofs.Bound.{one-place}
 
 -- the bound numbers of the places below n are there with their places, and nothing else
 pub record IsListed (numbers : List ℕ) (n : ℕ) (pairs : List (ℕ × ℕ)) : Type 0 where
   pub had : (pair : ℕ × ℕ) → Contains pairs pair → (pair.0 ≢ 0) × (pair.1 < n) × (slice_index numbers pair.1 ≡ pair.0)
   pub has : (pair : ℕ × ℕ) → pair.0 ≢ 0 → pair.1 < n → slice_index numbers pair.1 ≡ pair.0 → Contains pairs pair
+  pub once : AllPairs (λ (a b : ℕ × ℕ). a.1 < b.1) pairs
   pub bound : map (λ (pair : ℕ × ℕ). pair.0) pairs ≡ numbers_in (take n numbers)
 
 -- one place more
@@ -27,6 +33,7 @@ listed-free numbers n pairs under free old =
     record {
       had = λ pair there. let was = old.had pair there in (was.0, omega (arith, was.1), was.2);
       has = λ pair some within is. ⊎_elim (λ here. absurd (some (sym is ∙ ap (λ k. get_or numbers k 0) here ∙ free))) (λ other. old.has pair some (omega arith) is) (cases_eq pair.1 n);
+      once = old.once;
       bound =
           old.bound
           ∙ sym (taken numbers n under ∙ ap (λ xs. numbers_in (take n numbers) ++ xs) (ap (λ (t : Bool). if not t then get_or numbers n 0 ∷ [] else []) (eq-eqb (get_or numbers n 0) 0 free)) ∙ append-nil (numbers_in (take n numbers)));
@@ -48,6 +55,7 @@ listed-number numbers n pairs under some old =
           let P : ℕ × ℕ → Type 0 = λ p. Contains (pairs ++ (get_or numbers n 0, n) ∷ []) p in
           subst P new (Contains-push pairs (get_or numbers n 0, n)))
           (λ other. Contains-append_left pairs ((get_or numbers n 0, n) ∷ []) pair (old.has pair number (omega arith) is)) (cases_eq pair.1 n);
+      once = all_pairs_push (λ (a b : ℕ × ℕ). a.1 < b.1) pairs (get_or numbers n 0, n) old.once (λ k d within. (old.had (get_or pairs k d) (Contains-get_or pairs k d within)).1);
       bound =
           map-append (λ (pair : ℕ × ℕ). pair.0) pairs ((get_or numbers n 0, n) ∷ [])
           ∙ ap (λ xs. xs ++ get_or numbers n 0 ∷ []) old.bound
@@ -59,6 +67,7 @@ listed-none numbers =
     record {
       had = λ pair there. absurd (let u = there.1 in omega arith);
       has = λ pair some within is. absurd (omega arith);
+      once = λ i j d before within. absurd (omega arith);
       bound = refl;
     }
 
@@ -91,175 +100,45 @@ listed-exact numbers n pairs all is pair = (
 -- the free places are those that are not bound
 free-and-bound : (numbers : List ℕ) → length (numbers_in numbers) + free_count numbers ≡ length numbers
 free-and-bound [] = refl
-free-and-bound (number ∷ numbers) = ⊎_elim (free (free-and-bound numbers)) (bound (free-and-bound numbers)) (cases_Bool (number == 0))
-  where
-    more : free_count (number ∷ numbers) ≡ cond {A = ℕ} (number == 0) 1 0 + free_count numbers
-    more = sum_by-cons (λ (x : ℕ). cond (x == 0) 1 0) number numbers
-
-    free : length (numbers_in numbers) + free_count numbers ≡ length numbers → (number == 0) ≡ true → length (numbers_in (number ∷ numbers)) + free_count (number ∷ numbers) ≡ length (number ∷ numbers)
-    free rest is =
-        let b = ap (λ (t : Bool). length (if not t then number ∷ numbers_in numbers else numbers_in numbers)) is in
-        let c : cond {A = ℕ} (number == 0) 1 0 ≡ 1 = ap (λ (t : Bool). cond {A = ℕ} t 1 0) is in
-        omega (arith, rest, more, b)
-
-    bound : length (numbers_in numbers) + free_count numbers ≡ length numbers → (number == 0) ≡ false → length (numbers_in (number ∷ numbers)) + free_count (number ∷ numbers) ≡ length (number ∷ numbers)
-    bound rest is =
-        let b = ap (λ (t : Bool). length (if not t then number ∷ numbers_in numbers else numbers_in numbers)) is in
-        let c : cond {A = ℕ} (number == 0) 1 0 ≡ 0 = ap (λ (t : Bool). cond {A = ℕ} t 1 0) is in
-        omega (arith, rest, more, b)
-
-times-none : (number : ℕ) (numbers : List ℕ) → list_any (λ x. number == x) numbers ≡ false → times number numbers ≡ 0
-times-none number [] none = refl
-times-none number (x ∷ xs) none =
-    let parts = or_parts (number == x) (list_any (λ y. number == y) xs) none in
-    let more = sum_by-cons (λ (y : ℕ). cond (number == y) 1 0) x xs in
-    let c : cond {A = ℕ} (number == x) 1 0 ≡ 0 = ap (λ (t : Bool). cond {A = ℕ} t 1 0) parts.0 in
-    let rest = times-none number xs parts.1 in
-    omega arith
-
-times-once : (number : ℕ) (numbers : List ℕ) → all_distinct numbers ≡ true → times number numbers ≤ 1
-times-once number [] distinct = omega arith
-times-once number (x ∷ xs) distinct = ⊎_elim here (other (times-once number xs parts.1)) (cases_Bool (number == x))
-  where
-    parts : (not (list_any (λ y. x == y) xs) ≡ true) × (all_distinct xs ≡ true)
-    parts = and_parts (not (list_any (λ y. x == y) xs)) (all_distinct xs) distinct
-
-    more : times number (x ∷ xs) ≡ cond {A = ℕ} (number == x) 1 0 + times number xs
-    more = sum_by-cons (λ (y : ℕ). cond (number == y) 1 0) x xs
-
-    here : (number == x) ≡ true → times number (x ∷ xs) ≤ 1
-    here is =
-        let c : cond {A = ℕ} (number == x) 1 0 ≡ 1 = ap (λ (t : Bool). cond {A = ℕ} t 1 0) is in
-        let same : number ≡ x = eqb-true number x is in
-        let none = times-none x xs (not-true (list_any (λ y. x == y) xs) parts.0) in
-        let moved = ap (λ p. times p xs) same in
-        omega (arith, more)
-
-    other : times number xs ≤ 1 → (number == x) ≡ false → times number (x ∷ xs) ≤ 1
-    other rest is =
-        let c : cond {A = ℕ} (number == x) 1 0 ≡ 0 = ap (λ (t : Bool). cond {A = ℕ} t 1 0) is in
-        omega (arith, more, rest)
-
--- numbers that occur once each, in order, rise
-rises-once : (numbers : List ℕ) (i j : ℕ) → i < j → j < length numbers → ((number : ℕ) → times number numbers ≤ 1) → get_or numbers i 0 ≢ get_or numbers j 0
-rises-once numbers i j before under once is =
-    let number = get_or numbers i 0 in
-    let f : ℕ → ℕ = λ x. cond (number == x) 1 0 in
-    let cut = sum_by-take-drop f numbers j in
-    let l = length-take-le j numbers (omega arith) in
-    let d = length-drop j numbers in
-    let first = get_or-le-sum_by f (take j numbers) i 0 (omega arith) in
-    let second = get_or-le-sum_by f (drop j numbers) 0 0 (omega arith) in
-    let one : f (get_or (take j numbers) i 0) ≡ 1 = ap (λ (t : Bool). cond {A = ℕ} t 1 0) (eq-eqb number (get_or (take j numbers) i 0) (sym (get_or-take j numbers i 0 before))) in
-    let e : j + 0 ≡ j = omega arith in
-    let two : f (get_or (drop j numbers) 0 0) ≡ 1 =
-    ap (λ (t : Bool). cond {A = ℕ} t 1 0) (eq-eqb number (get_or (drop j numbers) 0 0) (is ∙ sym (ap (λ k. get_or numbers k 0) e) ∙ sym (get_or-drop j numbers 0 0))) in
-    let most = once number in
-    omega arith
+free-and-bound (number ∷ numbers) =
+    let more = sum_by-cons (λ (x : ℕ). cond (x == 0) 1 0) number numbers in
+    let rest = free-and-bound numbers in
+    ⊎_elim (λ t. let m = rw t at more in rw t (omega arith)) (λ f. let m = rw f at more in rw f (omega arith)) (cases_Bool (number == 0))
 
 pub sorted-table :
-    (numbers : List ℕ) (pairs sorted : List (ℕ × ℕ)) (space : ℕ) → IsExact numbers pairs → map (λ (pair : ℕ × ℕ). pair.0) pairs ≡ numbers_in numbers
+    (numbers : List ℕ) (pairs sorted : List (ℕ × ℕ)) (space : ℕ) → IsExact numbers pairs → AllPairs (λ (a b : ℕ × ℕ). a.1 < b.1) pairs → map (λ (pair : ℕ × ℕ). pair.0) pairs ≡ numbers_in numbers
     → IsPermutation pairs sorted → IsNonDecreasingBy (λ (pair : ℕ × ℕ). pair.0) sorted → length numbers ≤ space → IsSortedTable numbers sorted space
-sorted-table numbers pairs sorted space exact bound moved order room =
-    record {
-      order = order;
-      same =
-          λ number.
-          let first = λ (pair : ℕ × ℕ). pair.0 in
-          sum_by-IsPermutation (λ (x : ℕ). cond (number == x) 1 0) (map first pairs) (map first sorted) (IsPermutation-map first pairs sorted moved) ∙ ap (times number) bound;
-      exact =
-          λ pair. (
-            λ there. (exact pair).0 (Contains-permutation sorted pairs pair (IsPermutation-sym pairs sorted moved) there),
-            λ is. Contains-permutation pairs sorted pair moved ((exact pair).1 is),
-          );
-      count =
-          let l = length_permutation pairs sorted moved in
-          let b = ap length bound in
-          let m = length-map pairs (λ (pair : ℕ × ℕ). pair.0) in
-          let f = free-and-bound numbers in
-          omega arith;
-      room = room;
-    }
+sorted-table numbers pairs sorted space exact places bound moved order room = record {
+  order = order;
+  once = IsDistinct-IsPermutation (λ (a b : ℕ × ℕ). a.1 == b.1) (λ a b. grind (arith, nat_tests)) pairs sorted moved
+      (IsDistinct-from_apart (λ (a b : ℕ × ℕ). a.1 == b.1) pairs (λ i j d before under. ne_eqb (get_or pairs i d).1 (get_or pairs j d).1 (λ same. let l = places i j d before under in omega arith)));
+  exact =
+      λ pair. (
+        λ there. (exact pair).0 (Contains-permutation sorted pairs pair (IsPermutation-sym pairs sorted moved) there),
+        λ is. Contains-permutation pairs sorted pair moved ((exact pair).1 is),
+      );
+  count = omega (arith, length_permutation pairs sorted moved, ap length bound, length-map pairs (λ (pair : ℕ × ℕ). pair.0), free-and-bound numbers);
+  room = room;
+}
 
 -- a number that is in two pairs is not distinct
 pub twice-not : (numbers : List ℕ) (pairs : List (ℕ × ℕ)) (space : ℕ) → IsSortedTable numbers pairs space → HasTwice pairs → all_distinct (numbers_in numbers) ≡ false
-twice-not numbers pairs space table twice = ⊎_elim (λ distinct. absurd (never distinct)) (λ is. is) (cases_Bool (all_distinct (numbers_in numbers)))
-  where
-    first : ℕ × ℕ → ℕ
-    first pair = pair.0
-
-    never : all_distinct (numbers_in numbers) ≡ true → ⊥
-    never distinct =
-        let k = twice.0 in
-        let l = length-map pairs (λ (pair : ℕ × ℕ). pair.0) in
-        let under : k + 1 < length pairs = twice.1 in
-        let once = λ (number : ℕ). let s = table.same number in let t = times-once number (numbers_in numbers) distinct in let P : ℕ → Type 0 = λ n. n ≤ 1 in subst P (sym s) t in
-        rises-once (map (λ (pair : ℕ × ℕ). pair.0) pairs) k (k + 1) (omega arith) (omega arith) once
-        (get_or-map (λ (pair : ℕ × ℕ). pair.0) pairs k (0, 0) 0 (omega arith) ∙ twice.2 ∙ sym (get_or-map (λ (pair : ℕ × ℕ). pair.0) pairs (k + 1) (0, 0) 0 under))
+twice-not numbers pairs space table twice =
+    false_from_ne_true (all_distinct (numbers_in numbers))
+    (λ distinct.
+    let k = twice.0 in
+    let a = (table.exact (get_or pairs k (0, 0))).0 (Contains-get_or pairs k (0, 0) (omega (arith, twice.1))) in
+    let b = (table.exact (get_or pairs (k + 1) (0, 0))).0 (Contains-get_or pairs (k + 1) (0, 0) twice.1) in
+    let other = apart_from_distinct (λ (a b : ℕ × ℕ). a.1 == b.1) pairs k (k + 1) (0, 0) table.once (omega arith) twice.1 in
+    distinct-own numbers (get_or pairs k (0, 0)).1 (get_or pairs (k + 1) (0, 0)).1 distinct (eqb-false (get_or pairs k (0, 0)).1 (get_or pairs (k + 1) (0, 0)).1 other)
+    (λ free. a.0 (sym a.2 ∙ free)) (a.2 ∙ twice.2 ∙ sym b.2))
 
 -- numbers that rise are distinct
-none-above : (number : ℕ) (pairs : List (ℕ × ℕ)) → All (λ (pair : ℕ × ℕ). number < pair.0) pairs → times number (map (λ (pair : ℕ × ℕ). pair.0) pairs) ≡ 0
-none-above number [] above = refl
-none-above number (pair ∷ pairs) above =
-    let rest = none-above number pairs (All-tail (λ (pair : ℕ × ℕ). number < pair.0) pair pairs above) in
-    let here = All-head (λ (pair : ℕ × ℕ). number < pair.0) pair pairs above in
-    let more = sum_by-cons (λ (y : ℕ). cond (number == y) 1 0) pair.0 (map (λ (pair : ℕ × ℕ). pair.0) pairs) in
-    let c : cond {A = ℕ} (number == pair.0) 1 0 ≡ 0 = ap (λ (t : Bool). cond {A = ℕ} t 1 0) (ne_eqb number pair.0 (omega arith)) in
-    omega arith
-
-rising-once : (number : ℕ) (pairs : List (ℕ × ℕ)) → Ascends pairs → times number (map (λ (pair : ℕ × ℕ). pair.0) pairs) ≤ 1
-rising-once number [] up = omega arith
-rising-once number (pair ∷ pairs) up = ⊎_elim here (other (rising-once number pairs (λ i j d before under. up (suc i) (suc j) d (omega arith) (omega arith)))) (cases_Bool (number == pair.0))
-  where
-    more : times number (map (λ (pair : ℕ × ℕ). pair.0) (pair ∷ pairs)) ≡ cond {A = ℕ} (number == pair.0) 1 0 + times number (map (λ (pair : ℕ × ℕ). pair.0) pairs)
-    more = sum_by-cons (λ (y : ℕ). cond (number == y) 1 0) pair.0 (map (λ (pair : ℕ × ℕ). pair.0) pairs)
-
-    here : (number == pair.0) ≡ true → times number (map (λ (pair : ℕ × ℕ). pair.0) (pair ∷ pairs)) ≤ 1
-    here is =
-        let same : number ≡ pair.0 = eqb-true number pair.0 is in
-        let none = none-above pair.0 pairs (λ k d under. up 0 (suc k) d (omega arith) (omega arith)) in
-        let moved = ap (λ n. times n (map (λ (pair : ℕ × ℕ). pair.0) pairs)) same in
-        let c : cond {A = ℕ} (number == pair.0) 1 0 ≡ 1 = ap (λ (t : Bool). cond {A = ℕ} t 1 0) is in
-        omega (arith, more)
-
-    other : times number (map (λ (pair : ℕ × ℕ). pair.0) pairs) ≤ 1 → (number == pair.0) ≡ false → times number (map (λ (pair : ℕ × ℕ). pair.0) (pair ∷ pairs)) ≤ 1
-    other rest is =
-        let c : cond {A = ℕ} (number == pair.0) 1 0 ≡ 0 = ap (λ (t : Bool). cond {A = ℕ} t 1 0) is in
-        omega (arith, more, rest)
-
-there-counts : (number : ℕ) (numbers : List ℕ) → list_any (λ x. number == x) numbers ≡ true → 1 ≤ times number numbers
-there-counts number [] is = absurd (cc)
-there-counts number (x ∷ xs) is = ⊎_elim here (later (there-counts number xs)) (cases_Bool (number == x))
-  where
-    more : times number (x ∷ xs) ≡ cond {A = ℕ} (number == x) 1 0 + times number xs
-    more = sum_by-cons (λ (y : ℕ). cond (number == y) 1 0) x xs
-
-    here : (number == x) ≡ true → 1 ≤ times number (x ∷ xs)
-    here t = let c : cond {A = ℕ} (number == x) 1 0 ≡ 1 = ap (λ (b : Bool). cond {A = ℕ} b 1 0) t in omega (arith, more)
-
-    later : (list_any (λ x. number == x) xs ≡ true → 1 ≤ times number xs) → (number == x) ≡ false → 1 ≤ times number (x ∷ xs)
-    later again f =
-        let rest : list_any (λ x. number == x) xs ≡ true = sym (ap (λ b. b || list_any (λ x. number == x) xs) f) ∙ is in
-        let a = again rest in
-        omega (arith, more)
-
-once-distinct : (numbers : List ℕ) → ((number : ℕ) → times number numbers ≤ 1) → all_distinct numbers ≡ true
-once-distinct [] once = refl
-once-distinct (x ∷ xs) once =
-    and_from (not (list_any (λ y. x == y) xs)) (all_distinct xs) (not_from_false (list_any (λ y. x == y) xs) (⊎_elim twice (λ f. f) (cases_Bool (list_any (λ y. x == y) xs))))
-    (once-distinct xs (λ n. let more = sum_by-cons (λ (y : ℕ). cond (n == y) 1 0) x xs in let o = once n in omega arith))
-  where
-    twice : list_any (λ y. x == y) xs ≡ true → list_any (λ y. x == y) xs ≡ false
-    twice t =
-        let more = sum_by-cons (λ (y : ℕ). cond (x == y) 1 0) x xs in
-        let c : cond {A = ℕ} (x == x) 1 0 ≡ 1 = ap (λ (b : Bool). cond {A = ℕ} b 1 0) (eq-eqb x x refl) in
-        let a = there-counts x xs t in
-        let o = once x in
-        absurd (omega arith)
-
 pub rising-distinct : (numbers : List ℕ) (pairs : List (ℕ × ℕ)) (space : ℕ) → IsSortedTable numbers pairs space → Ascends pairs → all_distinct (numbers_in numbers) ≡ true
-rising-distinct numbers pairs space table up =
-    once-distinct (numbers_in numbers) (λ number. let P : ℕ → Type 0 = λ n. n ≤ 1 in subst P (table.same number) (rising-once number pairs up))
+rising-distinct numbers pairs space table up = own-distinct numbers (λ j k other some same. other (one-place numbers pairs up table.exact (get_or numbers j 0) j k (some, within j some, refl) (some, within k (λ free. some (same ∙ free)), sym same)))
+  where
+    within : (k : ℕ) → get_or numbers k 0 ≢ 0 → k < length numbers
+    within k some = ⊎_elim (λ under. under) (λ past. absurd (some (get_or_past numbers k 0 past))) (cases_lt k (length numbers))
 
 -- neighbours that rise
 pub rising-all : (pairs : List (ℕ × ℕ)) → ((k : ℕ) → k + 1 < length pairs → (get_or pairs k (0, 0)).0 < (get_or pairs (k + 1) (0, 0)).0) → Ascends pairs

@@ -1,9 +1,11 @@
 -- Lists of which each two elements are in order, and what they contain, after an insertion and once a part is taken out.
-use Rattle.std.specs.Prelude.{◌≡◌, ◌+◌, ◌-◌, ◌<◌, ◌≤◌, ◌⊎◌, ℕ, List, ◌++◌, insert, length, drop, take}
+use Rattle.std.specs.Prelude.{◌≡◌, ◌+◌, ◌-◌, ◌<◌, ◌≤◌, ◌⊎◌, ℕ, List, ◌∷◌, ◌++◌, insert, length, drop, take}
 use Rattle.std.specs.List.{AllPairs, Contains, remove_range}
 use Rattle.std.proofs.Common.{sym, ap, ◌∙◌, subst, inl, inr, ⊎_elim, arith, get_or, length-append, length-drop}
 use Rattle.std.proofs.lemmas.Bool.{cases_eq, cases_lt}
 use Rattle.std.proofs.lemmas.List.{append-nil, drop_all, get_or-drop, get_or-take, get_or_append_left, get_or-append_right, get_or_default, length-take-le, take_all}
+use Rattle.std.proofs.lemmas.List.Sorted.{Contains-permutation, IsPermutation-insert, IsPermutation-sym}
+use Rattle.mg_index.specs.ListLemmas.{contains-behind, contains-cases, contains-here}
 use Rattle.std.proofs.lemmas.List.Edits.{get_or-insert_above, get_or-insert_at, get_or-insert_below, length-insert}
 
 -- what is at a place is contained
@@ -11,17 +13,14 @@ pub contains-at : {X : Type 0} (xs : List X) (k : ℕ) (d x : X) → k < length 
 contains-at xs k d x below is = (k, below, get_or_default xs k x d below ∙ is)
 
 -- an element that is added
-pub insert-has : {X : Type 0} (xs : List X) (i : ℕ) (y : X) → i ≤ length xs → Contains (insert xs i y) y
-insert-has xs i y within = contains-at (insert xs i y) i y y (let l = length-insert xs i y within in omega arith) (get_or-insert_at xs i y y within)
+pub insert-has : {X : Type 0} (xs : List X) (i : ℕ) (y : X) → Contains (insert xs i y) y
+insert-has xs i y = Contains-permutation (y ∷ xs) (insert xs i y) y (IsPermutation-insert xs i y) (contains-here y xs)
 
-pub insert-keeps : {X : Type 0} (xs : List X) (i : ℕ) (y x : X) → i ≤ length xs → Contains xs x → Contains (insert xs i y) x
-insert-keeps xs i y x within there =
-    let k = there.0 in
-    let l = length-insert xs i y within in
-    ⊎_elim
-    (λ below. contains-at (insert xs i y) k x x (omega arith) (get_or-insert_below xs i y x k below within ∙ there.2))
-    (λ above. contains-at (insert xs i y) (k + 1) x x (let b = there.1 in omega arith) (get_or-insert_above xs i y x k above within ∙ there.2))
-    (cases_lt k i)
+pub insert-keeps : {X : Type 0} (xs : List X) (i : ℕ) (y x : X) → Contains xs x → Contains (insert xs i y) x
+insert-keeps xs i y x there = Contains-permutation (y ∷ xs) (insert xs i y) x (IsPermutation-insert xs i y) (contains-behind y x xs there)
+
+pub insert-cases : {X : Type 0} (xs : List X) (i : ℕ) (y x : X) → Contains (insert xs i y) x → (y ≡ x) ⊎ Contains xs x
+insert-cases xs i y x there = contains-cases y x xs (Contains-permutation (insert xs i y) (y ∷ xs) x (IsPermutation-sym (y ∷ xs) (insert xs i y) (IsPermutation-insert xs i y)) there)
 
 -- a place after an insertion
 pub data Place (i j : ℕ) : Type 0 where
@@ -31,19 +30,6 @@ pub data Place (i j : ℕ) : Type 0 where
 
 pub place : (i j : ℕ) → Place i j
 place i j = ⊎_elim is_below (λ le. ⊎_elim is_at (λ other. is_above (j - 1) (omega arith) (omega arith)) (cases_eq j i)) (cases_lt j i)
-
-pub insert-cases : {X : Type 0} (xs : List X) (i : ℕ) (y x : X) → i ≤ length xs → Contains (insert xs i y) x → Contains xs x ⊎ (y ≡ x)
-insert-cases xs i y x within there = go (place i there.0)
-  where
-    l : length (insert xs i y) ≡ length xs + 1
-    l = length-insert xs i y within
-
-    go : Place i there.0 → Contains xs x ⊎ (y ≡ x)
-    go (is_below b) = inl (contains-at xs there.0 x x (omega (arith, l)) (sym (get_or-insert_below xs i y x there.0 b within) ∙ there.2))
-    go (is_at e) = inr (sym (get_or-insert_at xs i y x within) ∙ sym (ap (λ k. get_or (insert xs i y) k x) e) ∙ there.2)
-    go (is_above k a e) =
-        let b = there.1 in
-        inl (contains-at xs k x x (omega (arith, l)) (sym (get_or-insert_above xs i y x k a within) ∙ sym (ap (λ k. get_or (insert xs i y) k x) e) ∙ there.2))
 
 -- an element added between those that come before it and those that come after
 pub insert-pairs :

@@ -6,7 +6,7 @@ use Rattle.std.proofs.lemmas.Bool.{and_from, and_parts, cases_Bool, cases_eq, ca
 use Rattle.std.proofs.lemmas.List.{ext_get_or, get_or-map, length-map}
 use Rattle.std.proofs.lemmas.List.Edits.{get_or-between, length-between}
 use Rattle.std.proofs.lemmas.List.Elements.{All-head, All-tail}
-use Rattle.mg_index.specs.DistinctLemmas.{distinct-released, within_or_not}
+use Rattle.mg_index.specs.DistinctLemmas.{distinct-released, within_or_not, zero-stays}
 use Rattle.mg_index.specs.Pairs.{IsIndexed, Ascends, IsPart, IsBound, IsExact, NoneFree, free_count, freed}
 use Rattle.mg_index.specs.Words.{is_within, unless_within}
 use Rattle.mg_index.proofs.Bound.{free-count}
@@ -70,9 +70,6 @@ outside-same first numbers x out = ap (λ (t : Bool). if t then 0 else x) out
 
 inside-free : (first numbers x : ℕ) → is_within first numbers x ≡ true → unless_within first numbers x ≡ 0
 inside-free first numbers x inside = ap (λ (t : Bool). if t then 0 else x) inside
-
-zero-stays : (first numbers : ℕ) → unless_within first numbers 0 ≡ 0
-zero-stays first numbers = ⊎_elim (λ is. is) (λ is. is) (within_or_not first numbers 0)
 
 module _ (numbers : List ℕ) (pairs : List (ℕ × ℕ)) (up : Ascends pairs) (exact : IsExact numbers pairs) (first count from to : ℕ) (part : IsPart pairs first count from to) where
   pub in_part : (k : ℕ) (d : ℕ × ℕ) → from ≤ k → k < to → is_within first count (get_or pairs k d).0 ≡ true

@@ -1,94 +1,78 @@
 -- No number occurs twice in a table after a number is bound, or some are released.
-use Rattle.std.specs.Prelude.{◌≡◌, ◌≢◌, ◌⊎◌, ◌==◌, ℕ, zero, suc, true, false, not, List, [], ◌∷◌, map, replicate, slice_set}
+use Rattle.std.specs.Prelude.{◌≡◌, ◌≢◌, ◌⊎◌, ◌==◌, ℕ, zero, suc, true, false, not, List, [], ◌∷◌, map, replicate, slice_index, slice_set}
 use Rattle.std.specs.List.{list_any}
-use Rattle.std.proofs.Common.{refl, sym, ap, ◌∙◌, ⊎_elim}
-use Rattle.std.proofs.lemmas.Bool.{and_from, and_parts, cases_cond, cases_eq, eq-eqb, ne_eqb, not_from_false, not-true, or_from, or_parts}
-use Rattle.mg_index.specs.Words.{is_within, unless_within}
+use Rattle.std.proofs.Common.{refl, sym, ap, ◌∙◌, inl, inr, ⊎_elim, arith, get_or}
+use Rattle.std.proofs.lemmas.Bool.{and_from, and_parts, both_ways, cases_cond, cond_both, eq-eqb, eqb-false, ne_eqb, not-true, or_left, or_parts, or_right}
+use Rattle.std.proofs.lemmas.List.Elements.{All-filter, All-from_get_or}
+use Rattle.std.proofs.lemmas.List.Folds.{list_any_none}
+use Rattle.mg_index.specs.ListLemmas.{map-at}
+use Rattle.mg_index.specs.Words.{is_within, numbers_in, unless_within}
 use Rattle.mg_model.specs.Tests.{all_distinct}
-use Rattle.mg_index.specs.Words.{numbers_in}
 
--- a free entry joins no bound numbers, another does
-bound-free : (xs : List ℕ) (x : ℕ) → x ≡ 0 → numbers_in (x ∷ xs) ≡ numbers_in xs
-bound-free xs x is = rw (eq-eqb x 0 is) refl
+-- numbers are distinct if no two places have one number
+pub own-distinct : (xs : List ℕ) → ((j k : ℕ) → j ≢ k → slice_index xs j ≢ 0 → slice_index xs j ≢ slice_index xs k) → all_distinct (numbers_in xs) ≡ true
+own-distinct [] own = refl
+own-distinct (x ∷ xs) own =
+    cond_both (not (x == 0)) (x ∷ numbers_in xs) (numbers_in xs) (λ (ys : List ℕ). all_distinct ys ≡ true)
+    (λ t. and_from (not (list_any (λ y. x == y) (numbers_in xs))) (all_distinct (numbers_in xs))
+    (ap not (list_any_none (λ y. x == y) (numbers_in xs)
+    (All-filter (λ y. not (y == 0)) (λ y. (x == y) ≡ false) xs
+    (All-from_get_or (λ y. (x == y) ≡ false) xs 0 (λ k under. ne_eqb x (get_or xs k 0) (own 0 (suc k) (omega arith) (eqb-false x 0 (not-true (x == 0) t))))))))
+    (own-distinct xs (λ j k other. own (suc j) (suc k) (omega arith))))
+    (λ _. own-distinct xs (λ j k other. own (suc j) (suc k) (omega arith)))
 
-bound-number : (xs : List ℕ) (x : ℕ) → x ≢ 0 → numbers_in (x ∷ xs) ≡ x ∷ numbers_in xs
-bound-number xs x not_free = rw (ne_eqb x 0 not_free) refl
-
-distinct-cons : (xs : List ℕ) (x : ℕ) → list_any (λ y. x == y) xs ≡ false → all_distinct xs ≡ true → all_distinct (x ∷ xs) ≡ true
-distinct-cons xs x new rest = and_from (not (list_any (λ y. x == y) xs)) (all_distinct xs) (not_from_false (list_any (λ y. x == y) xs) new) rest
-
+-- and no two have one if they are
 pub distinct-parts : (xs : List ℕ) (x : ℕ) → all_distinct (x ∷ xs) ≡ true → (list_any (λ y. x == y) xs ≡ false) × (all_distinct xs ≡ true)
 distinct-parts xs x is =
     let parts = and_parts (not (list_any (λ y. x == y) xs)) (all_distinct xs) is in
     (not-true (list_any (λ y. x == y) xs) parts.0, parts.1)
 
--- the same test from the other side
-pub from_side : (xs : List ℕ) (number : ℕ) → list_any (λ entry. entry == number) xs ≡ false → list_any (λ y. number == y) xs ≡ false
-from_side [] number none = refl
-from_side (x ∷ xs) number none =
-    let parts = or_parts (x == number) (list_any (λ entry. entry == number) xs) none in
-    or_from (number == x) (list_any (λ y. number == y) xs) (ne_eqb number x (λ is. absurd (differs is parts.0))) (from_side xs number parts.1)
-  where
-    differs : number ≡ x → (x == number) ≡ false → ⊥
-    differs is not_same = let same = eq-eqb x number (sym is) in let bad : true ≡ false = sym same ∙ not_same in cc
+there : (xs : List ℕ) (k x : ℕ) → x ≢ 0 → x ≡ slice_index xs k → list_any (λ y. x == y) (numbers_in xs) ≡ true
+there [] k x some is = absurd (some is)
+there (y ∷ ys) zero x some is = rw (ne_eqb y 0 (λ free. some (is ∙ free))) (or_left (x == y) (list_any (λ z. x == z) (numbers_in ys)) (eq-eqb x y is))
+there (y ∷ ys) (suc k) x some is =
+    cond_both (not (y == 0)) (y ∷ numbers_in ys) (numbers_in ys) (λ (zs : List ℕ). list_any (λ z. x == z) zs ≡ true)
+    (λ _. or_right (x == y) (list_any (λ z. x == z) (numbers_in ys)) (there ys k x some is)) (λ _. there ys k x some is)
 
--- what is not in a table is not among its bound numbers
-unbound : (xs : List ℕ) (x : ℕ) → list_any (λ y. x == y) xs ≡ false → list_any (λ y. x == y) (numbers_in xs) ≡ false
-unbound [] x none = refl
-unbound (y ∷ ys) x none =
-    let parts = or_parts (x == y) (list_any (λ z. x == z) ys) none in
-    ⊎_elim
-    (λ free. ap (list_any (λ z. x == z)) (bound-free ys y free) ∙ unbound ys x parts.1)
-    (λ number. ap (list_any (λ z. x == z)) (bound-number ys y number) ∙ or_from (x == y) (list_any (λ z. x == z) (numbers_in ys)) parts.0 (unbound ys x parts.1)) (cases_eq y 0)
+first-own : (xs : List ℕ) (x k : ℕ) → all_distinct (numbers_in (x ∷ xs)) ≡ true → x ≢ 0 → x ≢ slice_index xs k
+first-own xs x k is some same =
+    let whole : all_distinct (x ∷ numbers_in xs) ≡ true = rw (ne_eqb x 0 some) at is in
+    both_ways (list_any (λ y. x == y) (numbers_in xs)) (distinct-parts (numbers_in xs) x whole).0 (there xs k x some same)
 
--- another number that is not there is still not there
-still_unbound : (xs : List ℕ) (i number x : ℕ) → x ≢ number → number ≢ 0 → list_any (λ y. x == y) (numbers_in xs) ≡ false → list_any (λ y. x == y) (numbers_in (slice_set xs i number)) ≡ false
-still_unbound [] i number x other some none = refl
-still_unbound (y ∷ ys) zero number x other some none =
-    ap (list_any (λ z. x == z)) (bound-number ys number some)
-    ∙ or_from (x == number) (list_any (λ z. x == z) (numbers_in ys)) (ne_eqb x number other)
-    (⊎_elim (λ free. sym (ap (list_any (λ z. x == z)) (bound-free ys y free)) ∙ none)
-    (λ bound. (or_parts (x == y) (list_any (λ z. x == z) (numbers_in ys)) (sym (ap (list_any (λ z. x == z)) (bound-number ys y bound)) ∙ none)).1) (cases_eq y 0))
-still_unbound (y ∷ ys) (suc i) number x other some none = ⊎_elim (free (λ rest. still_unbound ys i number x other some rest)) (bound (λ rest. still_unbound ys i number x other some rest)) (cases_eq y 0)
-  where
-    free : (list_any (λ z. x == z) (numbers_in ys) ≡ false → list_any (λ z. x == z) (numbers_in (slice_set ys i number)) ≡ false) → y ≡ 0 → list_any (λ z. x == z) (numbers_in (slice_set (y ∷ ys) (suc i) number)) ≡ false
-    free again is =
-        ap (list_any (λ z. x == z)) (bound-free (slice_set ys i number) y is)
-        ∙ again (sym (ap (list_any (λ z. x == z)) (bound-free ys y is)) ∙ none)
+rest-distinct : (xs : List ℕ) (x : ℕ) → all_distinct (numbers_in (x ∷ xs)) ≡ true → all_distinct (numbers_in xs) ≡ true
+rest-distinct xs x is =
+    cond_both (not (x == 0)) (x ∷ numbers_in xs) (numbers_in xs) (λ (ys : List ℕ). all_distinct ys ≡ true → all_distinct (numbers_in xs) ≡ true)
+    (λ _ whole. (distinct-parts (numbers_in xs) x whole).1) (λ _ whole. whole) is
 
-    bound : (list_any (λ z. x == z) (numbers_in ys) ≡ false → list_any (λ z. x == z) (numbers_in (slice_set ys i number)) ≡ false) → y ≢ 0 → list_any (λ z. x == z) (numbers_in (slice_set (y ∷ ys) (suc i) number)) ≡ false
-    bound again is =
-        let parts = or_parts (x == y) (list_any (λ z. x == z) (numbers_in ys)) (sym (ap (list_any (λ z. x == z)) (bound-number ys y is)) ∙ none) in
-        ap (list_any (λ z. x == z)) (bound-number (slice_set ys i number) y is)
-        ∙ or_from (x == y) (list_any (λ z. x == z) (numbers_in (slice_set ys i number))) parts.0 (again parts.1)
+pub distinct-own : (xs : List ℕ) (j k : ℕ) → all_distinct (numbers_in xs) ≡ true → j ≢ k → slice_index xs j ≢ 0 → slice_index xs j ≢ slice_index xs k
+distinct-own [] j k is other some same = some refl
+distinct-own (x ∷ xs) zero zero is other some same = other refl
+distinct-own (x ∷ xs) zero (suc k) is other some same = first-own xs x k is some same
+distinct-own (x ∷ xs) (suc j) zero is other some same = first-own xs x j is (λ free. some (same ∙ free)) (sym same)
+distinct-own (x ∷ xs) (suc j) (suc k) is other some same = distinct-own xs j k (rest-distinct xs x is) (λ e. other (ap suc e)) some same
 
 -- a number that is not there may be entered anywhere
-distinct_put : (xs : List ℕ) (i number : ℕ) → number ≢ 0 → list_any (λ y. number == y) xs ≡ false → all_distinct (numbers_in xs) ≡ true → all_distinct (numbers_in (slice_set xs i number)) ≡ true
-distinct_put [] i number some none is = refl
-distinct_put (y ∷ ys) zero number some none is =
-    let parts = or_parts (number == y) (list_any (λ z. number == z) ys) none in
-    ap all_distinct (bound-number ys number some)
-    ∙ distinct-cons (numbers_in ys) number (unbound ys number parts.1)
-    (⊎_elim (λ free. sym (ap all_distinct (bound-free ys y free)) ∙ is) (λ bound. (distinct-parts (numbers_in ys) y (sym (ap all_distinct (bound-number ys y bound)) ∙ is)).1) (cases_eq y 0))
-distinct_put (y ∷ ys) (suc i) number some none is =
-    ⊎_elim (free (λ new rest. distinct_put ys i number some new rest)) (bound (λ new rest. distinct_put ys i number some new rest)) (cases_eq y 0)
-  where
-    parts : ((number == y) ≡ false) × (list_any (λ z. number == z) ys ≡ false)
-    parts = or_parts (number == y) (list_any (λ z. number == z) ys) none
+set-cases : (xs : List ℕ) (i number k : ℕ) → (slice_index (slice_set xs i number) k ≡ slice_index xs k) ⊎ ((k ≡ i) × (slice_index (slice_set xs i number) k ≡ number))
+set-cases [] i number k = inl refl
+set-cases (x ∷ xs) zero number zero = inr (refl, refl)
+set-cases (x ∷ xs) zero number (suc k) = inl refl
+set-cases (x ∷ xs) (suc i) number zero = inl refl
+set-cases (x ∷ xs) (suc i) number (suc k) = ⊎_elim inl (λ here. inr (ap suc here.0, here.1)) (set-cases xs i number k)
 
-    free : (list_any (λ z. number == z) ys ≡ false → all_distinct (numbers_in ys) ≡ true → all_distinct (numbers_in (slice_set ys i number)) ≡ true) → y ≡ 0 → all_distinct (numbers_in (slice_set (y ∷ ys) (suc i) number)) ≡ true
-    free again at = ap all_distinct (bound-free (slice_set ys i number) y at) ∙ again parts.1 (sym (ap all_distinct (bound-free ys y at)) ∙ is)
-
-    bound : (list_any (λ z. number == z) ys ≡ false → all_distinct (numbers_in ys) ≡ true → all_distinct (numbers_in (slice_set ys i number)) ≡ true) → y ≢ 0 → all_distinct (numbers_in (slice_set (y ∷ ys) (suc i) number)) ≡ true
-    bound again at =
-        let those = distinct-parts (numbers_in ys) y (sym (ap all_distinct (bound-number ys y at)) ∙ is) in
-        ap all_distinct (bound-number (slice_set ys i number) y at)
-        ∙ distinct-cons (numbers_in (slice_set ys i number)) y
-        (still_unbound ys i number y (λ same. let e = eq-eqb number y (sym same) in let bad : true ≡ false = sym e ∙ parts.0 in cc) some those.0)
-        (again parts.1 those.1)
+unbound : (xs : List ℕ) (number k : ℕ) → number ≢ 0 → list_any (λ entry. entry == number) xs ≡ false → slice_index xs k ≢ number
+unbound [] number k some none is = some (sym is)
+unbound (x ∷ xs) number zero some none is = both_ways (x == number) (or_parts (x == number) (list_any (λ entry. entry == number) xs) none).0 (eq-eqb x number is)
+unbound (x ∷ xs) number (suc k) some none is = unbound xs number k some (or_parts (x == number) (list_any (λ entry. entry == number) xs) none).1 is
 
 pub distinct-put : (xs : List ℕ) (i number : ℕ) → number ≢ 0 → list_any (λ entry. entry == number) xs ≡ false → all_distinct (numbers_in xs) ≡ true → all_distinct (numbers_in (slice_set xs i number)) ≡ true
-distinct-put xs i number some none is = distinct_put xs i number some (from_side xs number none) is
+distinct-put xs i number some none is =
+    own-distinct (slice_set xs i number)
+    (λ j k other here same.
+    ⊎_elim
+    (λ a.
+    ⊎_elim (λ b. distinct-own xs j k is other (λ free. here (a ∙ free)) (sym a ∙ same ∙ b)) (λ b. unbound xs number j some none (sym a ∙ same ∙ b.1))
+    (set-cases xs i number k))
+    (λ a. ⊎_elim (λ b. unbound xs number k some none (sym b ∙ sym same ∙ a.1)) (λ b. other (a.0 ∙ sym b.0)) (set-cases xs i number k)) (set-cases xs i number j))
 
 -- free places
 pub distinct-free : (n : ℕ) → all_distinct (numbers_in (replicate n 0)) ≡ true
@@ -99,43 +83,17 @@ distinct-free (suc n) = distinct-free n
 pub within_or_not : (first count x : ℕ) → (unless_within first count x ≡ 0) ⊎ (unless_within first count x ≡ x)
 within_or_not first count x = cases_cond (is_within first count x) 0 x (unless_within first count x) refl
 
-released_unbound : (first count : ℕ) (xs : List ℕ) (x : ℕ) → list_any (λ y. x == y) (numbers_in xs) ≡ false → list_any (λ y. x == y) (numbers_in (map (unless_within first count) xs)) ≡ false
-released_unbound first count [] x none = refl
-released_unbound first count (y ∷ ys) x none = ⊎_elim (free (λ left. released_unbound first count ys x left)) (bound (λ left. released_unbound first count ys x left)) (cases_eq (unless_within first count y) 0)
-  where
-    rest : list_any (λ z. x == z) (numbers_in ys) ≡ false
-    rest =
-        ⊎_elim (λ at. sym (ap (list_any (λ z. x == z)) (bound-free ys y at)) ∙ none)
-        (λ at. (or_parts (x == y) (list_any (λ z. x == z) (numbers_in ys)) (sym (ap (list_any (λ z. x == z)) (bound-number ys y at)) ∙ none)).1) (cases_eq y 0)
-
-    free : (list_any (λ z. x == z) (numbers_in ys) ≡ false → list_any (λ z. x == z) (numbers_in (map (unless_within first count) ys)) ≡ false) → unless_within first count y ≡ 0 → list_any (λ z. x == z) (numbers_in (map (unless_within first count) (y ∷ ys))) ≡ false
-    free again at = ap (list_any (λ z. x == z)) (bound-free (map (unless_within first count) ys) (unless_within first count y) at) ∙ again rest
-
-    bound : (list_any (λ z. x == z) (numbers_in ys) ≡ false → list_any (λ z. x == z) (numbers_in (map (unless_within first count) ys)) ≡ false) → unless_within first count y ≢ 0 → list_any (λ z. x == z) (numbers_in (map (unless_within first count) (y ∷ ys))) ≡ false
-    bound again at =
-        let same : unless_within first count y ≡ y = ⊎_elim (λ is. absurd (at is)) (λ is. is) (within_or_not first count y) in
-        let there : y ≢ 0 = λ is. at (same ∙ is) in
-        let parts = or_parts (x == y) (list_any (λ z. x == z) (numbers_in ys)) (sym (ap (list_any (λ z. x == z)) (bound-number ys y there)) ∙ none) in
-        ap (list_any (λ z. x == z)) (bound-number (map (unless_within first count) ys) (unless_within first count y) at)
-        ∙ or_from (x == unless_within first count y) (list_any (λ z. x == z) (numbers_in (map (unless_within first count) ys))) (ap (λ v. x == v) same ∙ parts.0) (again rest)
+pub zero-stays : (first count : ℕ) → unless_within first count 0 ≡ 0
+zero-stays first count = ⊎_elim (λ is. is) (λ is. is) (within_or_not first count 0)
 
 pub distinct-released : (first count : ℕ) (xs : List ℕ) → all_distinct (numbers_in xs) ≡ true → all_distinct (numbers_in (map (unless_within first count) xs)) ≡ true
-distinct-released first count [] is = refl
-distinct-released first count (y ∷ ys) is = ⊎_elim (free (distinct-released first count ys)) (bound (distinct-released first count ys)) (cases_eq (unless_within first count y) 0)
+distinct-released first count xs is =
+    own-distinct (map (unless_within first count) xs)
+    (λ j k other here same.
+    let a = map-at (unless_within first count) (zero-stays first count) xs j in
+    let b = map-at (unless_within first count) (zero-stays first count) xs k in
+    let old = kept (slice_index xs j) (λ free. here (a ∙ free)) in
+    distinct-own xs j k is other (λ free. here (a ∙ old ∙ free)) (sym old ∙ sym a ∙ same ∙ b ∙ kept (slice_index xs k) (λ free. here (same ∙ b ∙ free))))
   where
-    rest : all_distinct (numbers_in ys) ≡ true
-    rest =
-        ⊎_elim (λ at. sym (ap all_distinct (bound-free ys y at)) ∙ is) (λ at. (distinct-parts (numbers_in ys) y (sym (ap all_distinct (bound-number ys y at)) ∙ is)).1) (cases_eq y 0)
-
-    free : (all_distinct (numbers_in ys) ≡ true → all_distinct (numbers_in (map (unless_within first count) ys)) ≡ true) → unless_within first count y ≡ 0 → all_distinct (numbers_in (map (unless_within first count) (y ∷ ys))) ≡ true
-    free again at = ap all_distinct (bound-free (map (unless_within first count) ys) (unless_within first count y) at) ∙ again rest
-
-    bound : (all_distinct (numbers_in ys) ≡ true → all_distinct (numbers_in (map (unless_within first count) ys)) ≡ true) → unless_within first count y ≢ 0 → all_distinct (numbers_in (map (unless_within first count) (y ∷ ys))) ≡ true
-    bound again at =
-        let same : unless_within first count y ≡ y = ⊎_elim (λ here. absurd (at here)) (λ here. here) (within_or_not first count y) in
-        let there : y ≢ 0 = λ here. at (same ∙ here) in
-        let parts = distinct-parts (numbers_in ys) y (sym (ap all_distinct (bound-number ys y there)) ∙ is) in
-        ap all_distinct (bound-number (map (unless_within first count) ys) (unless_within first count y) at)
-        ∙ distinct-cons (numbers_in (map (unless_within first count) ys)) (unless_within first count y)
-        (ap (λ v. list_any (λ z. v == z) (numbers_in (map (unless_within first count) ys))) same ∙ released_unbound first count ys y parts.0)
-        (again rest)
+    kept : (x : ℕ) → unless_within first count x ≢ 0 → unless_within first count x ≡ x
+    kept x some = ⊎_elim (λ free. absurd (some free)) (λ same. same) (within_or_not first count x)

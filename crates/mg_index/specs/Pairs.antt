@@ -1,6 +1,6 @@
 -- The numbers of a table with their places, as a list of pairs that ascends by number.
-use Rattle.std.specs.Prelude.{◌≡◌, ◌≢◌, ◌+◌, ◌<◌, ◌≤◌, ◌==◌, ◌↔◌, ℕ, true, List, length, count_by, fold, map, slice_index, slice_index_or, slice_set}
-use Rattle.std.specs.List.{AllPairs, AllWithin, Contains}
+use Rattle.std.specs.Prelude.{◌≡◌, ◌≢◌, ◌+◌, ◌<◌, ◌≤◌, ◌==◌, ◌↔◌, ℕ, true, List, length, count_by, fold, slice_index, slice_index_or, slice_set}
+use Rattle.std.specs.List.{AllPairs, AllWithin, Contains, IsDistinct}
 use Rattle.std.specs.List.Sorted.{IsNonDecreasingBy}
 use Rattle.mg_model.specs.Tests.{all_distinct}
 use Rattle.mg_index.specs.Words.{numbers_in}
@@ -28,14 +28,10 @@ NoneFree numbers low = (place : ℕ) → place < low → slice_index numbers pla
 abbrev pub HasTwice : List (ℕ × ℕ) → Type 0
 HasTwice pairs = (k : ℕ) × (k + 1 < length pairs) × ((slice_index_or pairs k (0, 0)).0 ≡ (slice_index_or pairs (k + 1) (0, 0)).0)
 
--- how often a number is in a list
-abbrev pub times : ℕ → List ℕ → ℕ
-times number numbers = count_by (λ x. number == x) numbers
-
 -- the pairs of a table, which may have a number more than once, in order, and the room for pairs
 pub record IsSortedTable (numbers : List ℕ) (pairs : List (ℕ × ℕ)) (space : ℕ) : Type 0 where
   pub order : IsNonDecreasingBy (λ (pair : ℕ × ℕ). pair.0) pairs
-  pub same : (number : ℕ) → times number (map (λ (pair : ℕ × ℕ). pair.0) pairs) ≡ times number (numbers_in numbers)
+  pub once : IsDistinct (λ (a b : ℕ × ℕ). a.1 == b.1) pairs
   pub exact : IsExact numbers pairs
   pub count : length pairs + free_count numbers ≡ length numbers
   pub room : length numbers ≤ space

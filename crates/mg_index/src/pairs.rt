@@ -1,6 +1,6 @@
 // A list of numbers and their places, which ascends by number.
 ghost use Rattle.std.specs.Prelude.{◌≡◌, ◌≤◌, ◌<◌, ◌+◌, [], All, IfOk, length, false, map, nat_lt, true};
-ghost use Rattle.std.specs.List.{AllWithin};
+ghost use Rattle.std.specs.List.{AllPairs, AllWithin};
 ghost use Rattle.std.specs.List.Sorted.{IsNonDecreasingBy};
 ghost use Rattle.std.specs.Vec.{vec_capacity};
 ghost use Rattle.mg_index.specs.Words.{numbers_in};
@@ -38,6 +38,7 @@ fn list_pairs(numbers: &[u64], pairs: &mut Vec<(u64, u64)>)
     requires has_capacity { length numbers.now ≤ vec_capacity pairs.old }
     ensures numbers { map (λ pair. pair.0) pairs.new.items ≡ numbers_in numbers.now }
     ensures exact { IsExact numbers.now pairs.new.items }
+    ensures places { AllPairs (λ a b. a.1 < b.1) pairs.new.items }
     ensures has_capacity { length numbers.now ≤ vec_capacity pairs.new }
 {
     for (place, number) in numbers.iter().enumerate() {

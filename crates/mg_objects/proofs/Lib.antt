@@ -1,6 +1,4 @@
 mod Apart
-mod Changes
 mod Keys
 mod Lists
 mod Rows
-mod Whole

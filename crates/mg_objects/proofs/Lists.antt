@@ -1,10 +1,12 @@
--- What a list contains, what a search in it gives, and two lists that rise.
-use Rattle.std.specs.Prelude.{◌≡◌, ◌<◌, ◌⊎◌, ◌||◌, ℕ, zero, suc, Bool, true, false, List, [], ◌∷◌, Option, None, Some, filter, find, length, map, cond, if◌then◌else◌}
+-- What a list contains, what a search in it gives, and lists that rise.
+use Rattle.std.specs.Prelude.{◌≡◌, ◌<◌, ◌⊎◌, ℕ, zero, suc, All, Bool, true, false, List, [], ◌∷◌, Option, None, Some, filter, find, if◌then◌else◌, map, slice_index}
 use Rattle.std.specs.List.{AllPairs, Contains, list_any}
-use Rattle.std.specs.Option.{option_map}
-use Rattle.std.proofs.Common.{refl, sym, ap, ◌∙◌, subst, inl, inr, ⊎_elim, arith, get_or}
-use Rattle.std.proofs.lemmas.Bool.{cases_Bool, false≢true, or_from, or_parts, or_right}
+use Rattle.std.specs.List.Sorted.{IsNonDecreasingBy}
+use Rattle.std.proofs.Common.{refl, sym, ap, ◌∙◌, inl, inr, subst, ⊎_elim, arith, get_or}
+use Rattle.std.proofs.lemmas.Bool.{both_ways, cases_Bool, cases_lt, cases_order, cond_both}
 use Rattle.std.proofs.lemmas.List.{get_or-map, get_or_default, length-map}
+use Rattle.std.proofs.lemmas.List.Elements.{All-contains, All-contains_itself, All-filter, Contains-get_or, filter_passes}
+use Rattle.mg_model.specs.KeptListLemmas.{AllPairs-head, AllPairs-tail}
 
 pub contains-here : {X : Type 0} (x : X) (xs : List X) → Contains (x ∷ xs) x
 contains-here x xs = (0, omega arith, refl)
@@ -19,13 +21,11 @@ contains-cases y x xs (suc k, under, is) = inr (k, omega arith, is)
 pub contains-none : {X : Type 0} (x : X) → Contains [] x → ⊥
 contains-none x there = absurd (omega (arith, there.1))
 
-pub contains-at : {X : Type 0} (xs : List X) (k : ℕ) (d x : X) → k < length xs → get_or xs k d ≡ x → Contains xs x
-contains-at xs k d x below is = (k, below, get_or_default xs k x d below ∙ is)
+pub all-from : {X : Type 0} (P : X → Type 0) (xs : List X) → ((x : X) → Contains xs x → P x) → All P xs
+all-from P xs each k d under = each (get_or xs k d) (Contains-get_or xs k d under)
 
-pub contains-map : {X Y : Type 0} (f : X → Y) (xs : List X) (x : X) → Contains xs x → Contains (map f xs) (f x)
-contains-map f xs x there =
-    let l = length-map xs f in
-    (there.0, omega (arith, there.1), get_or-map f xs there.0 x (f x) there.1 ∙ ap f there.2)
+pub map-has : {X Y : Type 0} (f : X → Y) (xs : List X) (x : X) → Contains xs x → Contains (map f xs) (f x)
+map-has f xs x there = (there.0, omega (arith, there.1, length-map xs f), get_or-map f xs there.0 x (f x) there.1 ∙ ap f there.2)
 
 pub map-had : {X Y : Type 0} (f : X → Y) (xs : List X) (y : Y) → Contains (map f xs) y → (x : X) × Contains xs x × (f x ≡ y)
 map-had f [] y there = absurd (contains-none y there)
@@ -33,114 +33,94 @@ map-had f (x ∷ xs) y there =
     ⊎_elim (λ here. (x, contains-here x xs, here))
     (λ behind. let old = map-had f xs y behind in (old.0, contains-behind x old.0 xs old.1, old.2)) (contains-cases (f x) y (map f xs) there)
 
+pub filter-has : {X : Type 0} (p : X → Bool) (xs : List X) (x : X) → Contains xs x → p x ≡ true → Contains (filter p xs) x
+filter-has p [] x there is = absurd (contains-none x there)
+filter-has {X} p (z ∷ zs) x there is =
+    cond_both (p z) (z ∷ filter p zs) (filter p zs) (λ (ys : List X). Contains ys x)
+    (λ _. ⊎_elim (λ here. let P : X → Type 0 = Contains (z ∷ filter p zs) in subst P here (contains-here z (filter p zs))) (λ behind. contains-behind z x (filter p zs) (filter-has p zs x behind is)) (contains-cases z x zs there))
+    (λ f. ⊎_elim (λ here. absurd (both_ways (p z) f (ap p here ∙ is))) (λ behind. filter-has p zs x behind is) (contains-cases z x zs there))
+
+pub filter-had : {X : Type 0} (p : X → Bool) (xs : List X) (x : X) → Contains (filter p xs) x → Contains xs x × (p x ≡ true)
+filter-had {X} p xs x there = (
+  All-contains (Contains xs) (filter p xs) x (All-filter p (Contains xs) xs (All-contains_itself xs)) there,
+  All-contains (λ (y : X). p y ≡ true) (filter p xs) x (filter_passes p xs) there,
+)
+
 -- the one element that passes a test
 pub find-only : {X : Type 0} (p : X → Bool) (xs : List X) (x : X) → Contains xs x → p x ≡ true → ((y : X) → Contains xs y → p y ≡ true → y ≡ x) → find p xs ≡ Some x
 find-only p [] x there is only = absurd (contains-none x there)
-find-only {X} p (z ∷ zs) x there is only = ⊎_elim passes (fails (λ rest. find-only p zs x rest is (λ y at t. only y (contains-behind z y zs at) t))) (cases_Bool (p z))
-  where
-    passes : p z ≡ true → find p (z ∷ zs) ≡ Some x
-    passes t = ap (λ b. cond b (Some z) (find p zs)) t ∙ ap Some (only z (contains-here z zs) t)
-
-    fails : (Contains zs x → find p zs ≡ Some x) → p z ≡ false → find p (z ∷ zs) ≡ Some x
-    fails again f =
-        let rest : Contains zs x = ⊎_elim (λ same. absurd (false≢true (sym f ∙ ap p same ∙ is))) (λ behind. behind) (contains-cases z x zs there) in
-        ap (λ b. cond b (Some z) (find p zs)) f ∙ again rest
+find-only {X} p (z ∷ zs) x there is only =
+    cond_both (p z) (Some z) (find p zs) (λ (found : Option X). found ≡ Some x) (λ t. ap Some (only z (contains-here z zs) t))
+    (λ f. find-only p zs x (⊎_elim (λ here. absurd (both_ways (p z) f (ap p here ∙ is))) (λ behind. behind) (contains-cases z x zs there)) is (λ y at t. only y (contains-behind z y zs at) t))
 
 pub find-none : {X : Type 0} (p : X → Bool) (xs : List X) → ((y : X) → Contains xs y → p y ≡ false) → find p xs ≡ None
 find-none p [] none = refl
-find-none p (z ∷ zs) none = ap (λ b. cond b (Some z) (find p zs)) (none z (contains-here z zs)) ∙ find-none p zs (λ y at. none y (contains-behind z y zs at))
+find-none p (z ∷ zs) none = rw (none z (contains-here z zs)) (find-none p zs (λ y at. none y (contains-behind z y zs at)))
 
-pub filter-all : {X : Type 0} (p : X → Bool) (xs : List X) → ((y : X) → Contains xs y → p y ≡ true) → filter p xs ≡ xs
-filter-all p [] all = refl
-filter-all p (z ∷ zs) all =
-    ap (λ b. cond b (z ∷ filter p zs) (filter p zs)) (all z (contains-here z zs)) ∙ ap (λ xs. z ∷ xs) (filter-all p zs (λ y at. all y (contains-behind z y zs at)))
+pub find-any : {X : Type 0} (p : X → Bool) (xs : List X) → None ≡ find p xs → list_any p xs ≡ true → ⊥
+find-any p [] none any = absurd (cc)
+find-any {X} p (z ∷ zs) none any = ⊎_elim (λ t. let e : None ≡ Some z = rw t at none in absurd (cc)) (λ f. find-any p zs (rw f at none) (rw f at any)) (cases_Bool (p z))
 
-pub map-same : {X : Type 0} (f : X → X) (xs : List X) → ((y : X) → Contains xs y → f y ≡ y) → map f xs ≡ xs
-map-same f [] all = refl
-map-same f (z ∷ zs) all = ap (λ x. x ∷ map f zs) (all z (contains-here z zs)) ∙ ap (λ xs. z ∷ xs) (map-same f zs (λ y at. all y (contains-behind z y zs at)))
+pub find-had : {X : Type 0} (p : X → Bool) (xs : List X) (x : X) → find p xs ≡ Some x → Contains xs x × (p x ≡ true)
+find-had p [] x is = absurd (cc)
+find-had {X} p (z ∷ zs) x is =
+    cond_both (p z) (Some z) (find p zs) (λ (found : Option X). found ≡ Some x → Contains (z ∷ zs) x × (p x ≡ true))
+    (λ t here. let same : z ≡ x = cc in ((0, omega arith, same), sym (ap p same) ∙ t)) (λ _ behind. let old = find-had p zs x behind in (contains-behind z x zs old.0, old.1)) is
 
--- two lists that rise and contain the same are one
+-- two elements of a list in order are one, or in order one way or the other
+pub pair-cases : {X : Type 0} (R : X → X → Type 0) (xs : List X) (x y : X) → AllPairs R xs → Contains xs x → Contains xs y → (x ≡ y) ⊎ (R x y ⊎ R y x)
+pair-cases {X} R xs x y each at_x at_y =
+    ⊎_elim (λ e. inl (sym at_x.2 ∙ get_or_default xs at_x.0 x y at_x.1 ∙ ap (λ k. get_or xs k y) e ∙ at_y.2))
+    (λ other. inr (⊎_elim (λ l. inl (go x y at_x at_y l)) (λ l. inr (go y x at_y at_x l)) other)) (cases_order at_x.0 at_y.0)
+  where
+    go : (u v : X) (a : Contains xs u) (b : Contains xs v) → a.0 < b.0 → R u v
+    go u v a b before =
+        let P : X → Type 0 = R u in
+        let Q : X → Type 0 = λ w. R w (get_or xs b.0 u) in
+        subst P (get_or_default xs b.0 u v b.1 ∙ b.2) (subst Q a.2 (each a.0 b.0 u before b.1))
+
+-- a list in which a number rises
 abbrev pub Rises : {X : Type 0} → (X → ℕ) → List X → Type 0
 Rises {X} key xs = AllPairs (λ (a b : X). key a < key b) xs
 
+-- no two of its elements have one number
+pub rises-once : {X : Type 0} (key : X → ℕ) (xs : List X) (x y : X) → Rises key xs → Contains xs x → Contains xs y → key x ≡ key y → x ≡ y
+rises-once {X} key xs x y up at_x at_y same =
+    ⊎_elim (λ e. e) (λ other. absurd (⊎_elim (λ l. omega arith) (λ l. omega arith) other)) (pair-cases (λ (a b : X). key a < key b) xs x y up at_x at_y)
+
+pub no-falls : {X : Type 0} (key : X → ℕ) (xs : List X) → Rises key xs → IsNonDecreasingBy key xs
+no-falls key xs up i j d order under =
+    ⊎_elim (λ before. let l = up i j d before under in omega arith) (λ le. let e : i ≡ j = omega arith in let same = ap (λ n. key (get_or xs n d)) e in omega arith) (cases_lt i j)
+
+-- two that rise and contain the same are one
 above-first : {X : Type 0} (key : X → ℕ) (x y : X) (xs : List X) → Rises key (x ∷ xs) → Contains xs y → key x < key y
-above-first key x y xs up there =
-    let step = up 0 (suc there.0) y (omega arith) (omega (arith, there.1)) in
-    let e = ap key there.2 in
-    omega arith
+above-first {X} key x y xs up there = All-contains (λ (b : X). key x < key b) xs y (AllPairs-head (λ (a b : X). key a < key b) x xs up) there
+
+rest-has : {X : Type 0} (key : X → ℕ) (x y : X) (xs ys : List X) → Rises key (x ∷ xs) → x ≡ y → ((z : X) → Contains (x ∷ xs) z → Contains (y ∷ ys) z) → (z : X) → Contains xs z → Contains ys z
+rest-has key x y xs ys up same to z there =
+    ⊎_elim (λ is. absurd (let e = ap key (same ∙ is) in omega (arith, above-first key x z xs up there))) (λ behind. behind)
+    (contains-cases y z ys (to z (contains-behind x z xs there)))
 
 pub same-rising : {X : Type 0} (key : X → ℕ) (xs ys : List X) → Rises key xs → Rises key ys → ((x : X) → Contains xs x → Contains ys x) → ((x : X) → Contains ys x → Contains xs x) → xs ≡ ys
 same-rising key [] [] up_x up_y to from = refl
 same-rising key [] (y ∷ ys) up_x up_y to from = absurd (contains-none y (from y (contains-here y ys)))
 same-rising key (x ∷ xs) [] up_x up_y to from = absurd (contains-none x (to x (contains-here x xs)))
-same-rising {X} key (x ∷ xs) (y ∷ ys) up_x up_y to from = ap (λ z. z ∷ xs) first ∙ ap (λ zs. y ∷ zs) (same-rising key xs ys rest_x rest_y to_rest from_rest)
+same-rising {X} key (x ∷ xs) (y ∷ ys) up_x up_y to from =
+    ap (λ z. z ∷ xs) first
+    ∙ ap (λ zs. y ∷ zs) (same-rising key xs ys (AllPairs-tail (λ (a b : X). key a < key b) x xs up_x) (AllPairs-tail (λ (a b : X). key a < key b) y ys up_y)
+    (rest-has key x y xs ys up_x first to) (rest-has key y x ys xs up_y (sym first) from))
   where
     first : x ≡ y
     first =
         ⊎_elim (λ is. sym is)
-        (λ behind. ⊎_elim (λ is. is)
-        (λ later. absurd (let a = above-first key y x ys up_y behind in let b = above-first key x y xs up_x later in omega arith))
-        (contains-cases x y xs (from y (contains-here y ys))))
+        (λ behind. ⊎_elim (λ is. is) (λ later. absurd (omega (arith, above-first key x y xs up_x later, above-first key y x ys up_y behind))) (contains-cases x y xs (from y (contains-here y ys))))
         (contains-cases y x ys (to x (contains-here x xs)))
 
-    rest_x : Rises key xs
-    rest_x i j d before under = up_x (suc i) (suc j) d (omega arith) (omega arith)
-
-    rest_y : Rises key ys
-    rest_y i j d before under = up_y (suc i) (suc j) d (omega arith) (omega arith)
-
-    to_rest : (z : X) → Contains xs z → Contains ys z
-    to_rest z there =
-        ⊎_elim (λ is. absurd (let a = above-first key x z xs up_x there in let e = ap key (first ∙ is) in omega arith)) (λ behind. behind)
-        (contains-cases y z ys (to z (contains-behind x z xs there)))
-
-    from_rest : (z : X) → Contains ys z → Contains xs z
-    from_rest z there =
-        ⊎_elim (λ is. absurd (let a = above-first key y z ys up_y there in let e = ap key (sym first ∙ is) in omega arith)) (λ behind. behind)
-        (contains-cases x z xs (from z (contains-behind y z ys there)))
-
--- whether some element passes
-pub any-from : {X : Type 0} (p : X → Bool) (xs : List X) (x : X) → Contains xs x → p x ≡ true → list_any p xs ≡ true
-any-from p [] x there is = absurd (contains-none x there)
-any-from p (z ∷ zs) x there is =
-    ⊎_elim (λ here. ap (λ b. b || list_any p zs) (ap p here ∙ is)) (λ behind. or_right (p z) (list_any p zs) (any-from p zs x behind is)) (contains-cases z x zs there)
-
-pub none-from : {X : Type 0} (p : X → Bool) (xs : List X) → ((y : X) → Contains xs y → p y ≡ false) → list_any p xs ≡ false
-none-from p [] none = refl
-none-from p (z ∷ zs) none = or_from (p z) (list_any p zs) (none z (contains-here z zs)) (none-from p zs (λ y at. none y (contains-behind z y zs at)))
-
-pub any-not : {X : Type 0} (p : X → Bool) (xs : List X) → list_any p xs ≡ false → (k : ℕ) (d : X) → k < length xs → p (get_or xs k d) ≡ false
-any-not p [] none k d under = absurd (omega arith)
-any-not p (x ∷ xs) none zero d under = (or_parts (p x) (list_any p xs) none).0
-any-not p (x ∷ xs) none (suc k) d under = any-not p xs (or_parts (p x) (list_any p xs) none).1 k d (omega arith)
-
-pub find-had : {X : Type 0} (p : X → Bool) (xs : List X) (x : X) → find p xs ≡ Some x → Contains xs x × (p x ≡ true)
-find-had p [] x is = absurd (cc)
-find-had {X} p (z ∷ zs) x is = ⊎_elim passes (fails (find-had p zs x)) (cases_Bool (p z))
-  where
-    passes : p z ≡ true → Contains (z ∷ zs) x × (p x ≡ true)
-    passes t =
-        let e : Some z ≡ Some x = sym (ap (λ b. cond b (Some z) (find p zs)) t) ∙ is in
-        let same : z ≡ x = cc in
-        let P : X → Type 0 = λ y. Contains (z ∷ zs) y × (p y ≡ true) in
-        subst P same (contains-here z zs, t)
-
-    fails : (find p zs ≡ Some x → Contains zs x × (p x ≡ true)) → p z ≡ false → Contains (z ∷ zs) x × (p x ≡ true)
-    fails again f = let old = again (sym (ap (λ b. cond b (Some z) (find p zs)) f) ∙ is) in (contains-behind z x zs old.0, old.1)
-
-pub none-found : {X : Type 0} (p : X → Bool) (xs : List X) → find p xs ≡ None → list_any p xs ≡ false
-none-found p [] is = refl
-none-found {X} p (z ∷ zs) is = ⊎_elim passes (λ f. or_from (p z) (list_any p zs) f (none-found p zs (sym (ap (λ b. cond b (Some z) (find p zs)) f) ∙ is))) (cases_Bool (p z))
-  where
-    passes : p z ≡ true → list_any p (z ∷ zs) ≡ false
-    passes t = let e : Some z ≡ None = sym (ap (λ b. cond b (Some z) (find p zs)) t) ∙ is in absurd (cc)
-
-pub none-mapped : {X Y : Type 0} (f : X → Y) (p : X → Bool) (xs : List X) → None ≡ option_map f (find p xs) → list_any p xs ≡ false
-none-mapped {X} {Y} f p xs is = go (find p xs) refl is
-  where
-    go : (found : Option X) → find p xs ≡ found → None ≡ option_map f found → list_any p xs ≡ false
-    go None at same = none-found p xs at
-    go (Some x) at same = absurd (cc)
+-- what an image of each number has in a place
+pub map-at : (f : ℕ → ℕ) → f 0 ≡ 0 → (xs : List ℕ) (k : ℕ) → slice_index (map f xs) k ≡ f (slice_index xs k)
+map-at f stays [] k = sym stays
+map-at f stays (x ∷ xs) zero = refl
+map-at f stays (x ∷ xs) (suc k) = map-at f stays xs k
 
 -- what a test chose
 pub some_of : {X : Type 0} (t : Bool) (x y : X) → Some x ≡ (if t then Some y else None) → x ≡ y

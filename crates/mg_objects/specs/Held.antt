@@ -1,7 +1,6 @@
 -- The objects of a volume as a list: each row with its place in the table, in the order of the bases.
-use Rattle.std.specs.Prelude.{◌≡◌, ◌+◌, ◌-◌, ◌≤◌, ◌<◌, ◌==◌, ◌⊎◌, ℕ, nat_lt, false, true, All, List, [], ◌∷◌, ◌++◌, Option, None, Some, if◌then◌else◌, length, map, replicate}
+use Rattle.std.specs.Prelude.{◌≡◌, ◌≢◌, ◌+◌, ◌≤◌, ◌<◌, ◌==◌, ◌⊎◌, ℕ, nat_lt, false, true, All, List, [], ◌∷◌, Option, None, Some, if◌then◌else◌, length, map, slice_index, slice_index_or}
 use Rattle.std.specs.List.{AllPairs, list_any}
-use Rattle.std.specs.Option.{ForSome}
 use Rattle.mg_model.specs.Objects.{page_behind, page_of}
 use Rattle.mg_model.specs.Ranges.{IsObjectRow}
 use Rattle.mg_model.specs.State.{ObjectRow}
@@ -42,22 +41,27 @@ base_of (Some row) = row.base
 abbrev pub key_of : ℕ × ObjectRow → ℕ × ℕ
 key_of o = (o.1.base, o.0)
 
--- a table of 4,096 rows, and the bases in its places
-pub record AreHeld (rows : List (Option ObjectRow)) (bases : List ℕ) : Type 0 where
-  pub long : length rows ≡ 4096
-  pub bases_are : bases ≡ map base_of rows
-  pub rows_are : All (λ (row : Option ObjectRow). ForSome row IsObjectRow) rows
-  pub apart : AreApart (objects_in rows)
+-- the rows of a table by place are those of objects, no two of which share a page
+pub record AreSound (at : ℕ → Option ObjectRow) : Type 0 where
+  pub rows_are : (k : ℕ) (row : ObjectRow) → at k ≡ Some row → IsObjectRow row
+  pub apart : (j k : ℕ) (a b : ObjectRow) → j ≢ k → at j ≡ Some a → at k ≡ Some b → a.base ≤ b.base → page_behind a ≤ page_of b
 
--- the table with free places after it, 4,096 in all
-abbrev pub whole : List (Option ObjectRow) → List (Option ObjectRow)
-whole rows = rows ++ replicate (4096 - length rows) None
+-- the base in each of 4,096 places
+pub record AreBases (at : ℕ → Option ObjectRow) (bases : List ℕ) : Type 0 where
+  pub long : length bases ≡ 4096
+  pub are : (k : ℕ) → slice_index bases k ≡ base_of (at k)
 
--- a table without places after the last that ever had a row, the room that it has, and the bases in all places
-pub record AreShort (rows : List (Option ObjectRow)) (space : ℕ) (bases : List ℕ) : Type 0 where
+-- a table of at most 4,096 rows, the room that it has, and the bases in all places
+pub record AreHeld (rows : List (Option ObjectRow)) (space : ℕ) (bases : List ℕ) : Type 0 where
   pub short : length rows ≤ 4096
   pub room : 4096 ≤ space
-  pub held : AreHeld (whole rows) bases
+  pub sound : AreSound (λ k. slice_index_or rows k None)
+  pub bases_are : AreBases (λ k. slice_index_or rows k None) bases
+
+-- another row in one place, or none
+pub record IsPut (old new : List (Option ObjectRow)) (place : ℕ) (row : Option ObjectRow) : Type 0 where
+  pub here : slice_index_or new place None ≡ row
+  pub others : (k : ℕ) → k ≢ place → slice_index_or new k None ≡ slice_index_or old k None
 
 -- a row that shares no page with any of these
 abbrev pub MeetsNone : ObjectRow → List (ℕ × ObjectRow) → Type 0

@@ -1,11 +1,12 @@
 // The objects of a volume, by place and by base.
-ghost use Rattle.std.specs.Prelude.{◌≡◌, ◌≤◌, ◌<◌, ◌==◌, [], ℕ, All, IfOk, MatchOption, Some, filter, find, length, not, true, vec_capacity};
+ghost use Rattle.std.specs.Prelude.{◌≡◌, ◌≤◌, ◌<◌, ◌==◌, [], ℕ, All, IfOk, MatchOption, Some, filter, find, length, map, not, true, vec_capacity};
 ghost use Rattle.std.specs.List.{AllWithin, HoldsAt, list_any};
 ghost use Rattle.std.specs.Option.{option_copied, option_map};
+ghost use Rattle.mg_index.specs.Pairs.{Ascends};
 ghost use Rattle.mg_model.specs.Access.{covers};
 ghost use Rattle.mg_model.specs.Limits.{object_limit};
 ghost use Rattle.mg_model.specs.Ranges.{IsObjectRow};
-ghost use Rattle.mg_objects.specs.Held.{AreApart, IsLowestFree, MeetsNone, into_place, objects_in, with_row};
+ghost use Rattle.mg_objects.specs.Held.{AreApart, IsLowestFree, MeetsNone, into_place, key_of, objects_in, with_row};
 
 use crate::table::{are_apart, bases_of, put_row, row_of};
 use mg_index::Index;
@@ -29,14 +30,14 @@ pub struct Objects {
 impl Model for Objects {
     ghost use Rattle.std.specs.Prelude.{ℕ, List};
     ghost use Rattle.mg_model.specs.State.{ObjectRow};
-    ghost use Rattle.mg_objects.specs.Held.{AreShort, objects_in};
+    ghost use Rattle.mg_objects.specs.Held.{AreHeld, objects_in};
     ghost use Rattle.std.specs.Vec.{vec_capacity};
 
     ghost Value = { List (ℕ × ObjectRow) };
 
     ghost view = { λ objects. objects_in objects.rows.items };
 
-    ghost invariant = { λ objects. AreShort objects.rows.items (vec_capacity objects.rows) objects.bases };
+    ghost invariant = { λ objects. AreHeld objects.rows.items (vec_capacity objects.rows) objects.bases };
 }
 
 impl Objects {
@@ -77,7 +78,16 @@ impl Objects {
         ensures places { All (λ o. o.0 < object_limit) self.now }
         ensures rows { All (λ o. IsObjectRow o.1) self.now }
     {
-        let _count = self.len();
+        let _rows = &self.rows;
+    }
+
+    // The base of each object with its place.
+    fn keys(&self) -> &[(u64, u64)]
+        ensures keys { map key_of self.now ≡ result.now }
+        ensures ascending { Ascends result.now }
+    {
+        let _rows = &self.rows;
+        self.bases.pairs()
     }
 
     /// How many objects there are, 4,096 at most. No two share a page, and each has a place of its own.
@@ -88,7 +98,8 @@ impl Objects {
         ensures places { All (λ o. o.0 < object_limit) self.now }
         ensures rows { All (λ o. IsObjectRow o.1) self.now }
     {
-        self.bases.pairs().len()
+        self.keep_rules();
+        self.keys().len()
     }
 
     /// The object of this rank in the order of the bases, 0 for the first.
@@ -104,18 +115,7 @@ impl Objects {
         requires { i < length self.now }
         ensures { HoldsAt (λ o. result.now ≡ o.1) self.now i }
     {
-        row_of(&self.rows, self.bases.pairs(), i)
-    }
-
-    // The place of the object with this base.
-    fn place(&self, base: u64) -> Option<u64>
-        ensures { result ≡ option_map (λ o. o.0) (find (λ o. o.1.base == base) self.now) }
-    {
-        let bases = &self.bases;
-        if base == 0 {
-            return None;
-        }
-        bases.place_of(base)
+        row_of(&self.rows, self.keys(), i)
     }
 
     /// The row in a place of the table.
@@ -140,9 +140,8 @@ impl Objects {
     pub fn get_ref(&self, base: u64) -> Option<&ObjRow>
         ensures { option_copied result ≡ option_map (λ o. o.1) (find (λ o. o.1.base == base) self.now) }
     {
-        self.keep_places(base);
-        match self.place(base) {
-            Some(place) => self.at(place),
+        match self.entry(base) {
+            Some((_, row)) => Some(row),
             None => None,
         }
     }
@@ -160,7 +159,6 @@ impl Objects {
     pub fn covering_near(&self, address: u64, near: &mut usize) -> Option<&ObjRow>
         ensures { option_copied result ≡ option_map (λ o. o.1) (find (λ o. covers o.1 address) self.now) }
     {
-        self.keep_rules();
         if *near < self.len() {
             let last = self.nth_ref(*near);
             if last.covers(address) {
@@ -225,7 +223,8 @@ impl Objects {
         ensures objects { self.new ≡ filter (λ o. not (o.1.base == base)) self.old }
         ensures gone { find (λ o. o.1.base == base) self.old ≡ Some result }
     {
-        let gone = self.found(base);
+        let (place, row) = self.found(base);
+        let gone = (place, *row);
         self.bases.release_range(base, 1);
         self.rows[gone.0 as usize] = None;
         gone
@@ -252,25 +251,30 @@ impl Objects {
         kept
     }
 
-    // States that the place of the object with this base has that object. It does nothing when it runs.
-    fn keep_places(&self, base: u64)
-        ensures { (place : ℕ) → Some place ≡ option_map (λ o. o.0) (find (λ o. o.1.base == base) self.now)
-            → option_map (λ o. o.1) (find (λ o. o.0 == place) self.now) ≡ option_map (λ o. o.1) (find (λ o. o.1.base == base) self.now) }
+    // The object with this base, with its place.
+    fn entry(&self, base: u64) -> Option<(u64, &ObjRow)>
+        ensures { option_map (λ o. (o.0, o.1.now)) result ≡ find (λ o. o.1.base == base) self.now }
     {
-        let _rows = &self.rows;
+        let rows = &self.rows;
+        if base == 0 {
+            return None;
+        }
+        match self.bases.place_of(base) {
+            Some(place) => match &rows[place as usize] {
+                Some(row) => Some((place, row)),
+                None => unreachable!(),
+            },
+            None => None,
+        }
     }
 
     // The object with this base, which is there, with its place.
-    fn found(&self, base: u64) -> (u64, ObjRow)
+    fn found(&self, base: u64) -> (u64, &ObjRow)
         requires { list_any (λ o. o.1.base == base) self.now ≡ true }
-        ensures { find (λ o. o.1.base == base) self.now ≡ Some result }
+        ensures { find (λ o. o.1.base == base) self.now ≡ Some (result.0, result.1.now) }
     {
-        self.keep_places(base);
-        match self.place(base) {
-            Some(place) => match self.at(place) {
-                Some(row) => (place, *row),
-                None => unreachable!(),
-            },
+        match self.entry(base) {
+            Some(found) => found,
             None => unreachable!(),
         }
     }
@@ -281,6 +285,6 @@ impl Objects {
         ensures below { AllWithin (λ o. o.1.base ≤ address) self.now 0 result }
         ensures above { AllWithin (λ o. address < o.1.base) self.now result (length self.now) }
     {
-        self.bases.pairs().partition_point(|pair| pair.0 <= address)
+        self.keys().partition_point(|pair| pair.0 <= address)
     }
 }

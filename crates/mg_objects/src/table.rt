@@ -1,10 +1,10 @@
 // A table of objects' rows, and the bases that its places have.
-ghost use Rattle.std.specs.Prelude.{◌≡◌, ◌<◌, ◌≤◌, ◌-◌, ◌++◌, [], All, IfOk, Some, false, length, map, replicate, slice_set, true, vec_capacity};
+ghost use Rattle.std.specs.Prelude.{◌≡◌, ◌<◌, ◌≤◌, All, IfOk, None, Some, false, length, map, slice_index_or, true, vec_capacity};
 ghost use Rattle.std.specs.List.{HoldsAt};
 ghost use Rattle.std.specs.Option.{ForSome};
 ghost use Rattle.mg_model.specs.Limits.{object_limit};
 ghost use Rattle.mg_model.specs.Ranges.{IsObjectRow};
-ghost use Rattle.mg_objects.specs.Held.{AreApart, base_of, key_of, objects_in, whole};
+ghost use Rattle.mg_objects.specs.Held.{AreApart, AreBases, IsPut, base_of, key_of, objects_in};
 
 use crate::objects::MOST_OBJECTS;
 use mg_model::ObjRow;
@@ -14,36 +14,14 @@ use std::alloc::{AllocError, Global};
 /// The base of the row in each of 4,096 places, 0 if there is none.
 pub(crate) fn bases_of(alloc: Global, table: &[Option<ObjRow>]) -> Result<Vec<u64>, AllocError>
     requires { length table.now ≤ object_limit }
-    ensures bases { IfOk result (λ bases. bases.items ≡ map base_of (whole table.now)) }
+    ensures bases { IfOk result (λ bases. AreBases (λ k. slice_index_or table.now k None) bases.items) }
     ensures ranges { IfOk result (λ _. All (λ row. ForSome row IsObjectRow) table.now) }
 {
-    let mut bases = Vec::with_capacity(alloc, MOST_OBJECTS as usize)?;
-    list_bases(table, &mut bases)?;
-    pad(&mut bases, MOST_OBJECTS)?;
+    let mut bases = vec![in alloc; 0; MOST_OBJECTS as usize]?;
+    for (place, row) in table.iter().enumerate() {
+        bases[place] = base_of(row);
+    }
     Ok(bases)
-}
-
-// Lists the base of the row in each place of a table.
-fn list_bases(table: &[Option<ObjRow>], bases: &mut Vec<u64>) -> Result<(), AllocError>
-    requires none { bases.old.items ≡ [] }
-    ensures bases { IfOk result (λ _. bases.new.items ≡ map base_of table.now) }
-    ensures ranges { IfOk result (λ _. All (λ row. ForSome row IsObjectRow) table.now) }
-{
-    for row in table {
-        bases.push(base_of(row))?;
-    }
-    Ok(())
-}
-
-// Adds zeros after the numbers, until there are `places` numbers.
-fn pad(numbers: &mut Vec<u64>, places: u64) -> Result<(), AllocError>
-    requires { length numbers.old.items ≤ places }
-    ensures { IfOk result (λ _. numbers.new.items ≡ numbers.old.items ++ replicate (places - length numbers.old.items) 0) }
-{
-    for _ in numbers.len() as u64..places {
-        numbers.push(0)?;
-    }
-    Ok(())
 }
 
 /// Writes a row into a place of the table, or after its last place.
@@ -52,7 +30,7 @@ pub(crate) fn put_row(table: &mut Vec<Option<ObjRow>>, place: u64, row: ObjRow)
     requires place { place < object_limit }
     requires at_most_4096_rows { length table.old.items ≤ object_limit }
     requires has_capacity { object_limit ≤ vec_capacity table.old }
-    ensures put { whole table.new.items ≡ slice_set (whole table.old.items) place (Some row) }
+    ensures put { IsPut table.old.items table.new.items place (Some row) }
     ensures at_most_4096_rows { length table.new.items ≤ object_limit }
     ensures has_capacity { object_limit ≤ vec_capacity table.new }
 {

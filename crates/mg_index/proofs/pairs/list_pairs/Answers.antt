@@ -39,3 +39,6 @@ returns-clause-exact c = listed-exact c.args.numbers.now c.loop-place.place c.lo
 
 pub returns-clause-has_capacity : goal.returns-clause-has_capacity
 returns-clause-has_capacity c = c.loop-place.invariant.room
+
+pub returns-clause-places : goal.returns-clause-places
+returns-clause-places c = c.loop-place.invariant.listed.once

@@ -12,4 +12,4 @@ returns c =
     let space = vec_capacity c.sort_unstable_by_key.new.self in
     let order = IsNonDecreasingBy-from_sort_by_key (λ (pair : ℕ × ℕ). pair.0) sorted c.sort_unstable_by_key.ensures.sorted (λ a r q k. search rules) in
     let P = λ (n : ℕ). length numbers ≤ n in
-    sorted-table numbers pairs sorted space c.list_pairs.ensures.exact c.list_pairs.ensures.numbers c.sort_unstable_by_key.ensures.permutation order (subst P (sym c.sort_unstable_by_key.ensures.capacity) c.list_pairs.ensures.has_capacity)
+    sorted-table numbers pairs sorted space c.list_pairs.ensures.exact c.list_pairs.ensures.places c.list_pairs.ensures.numbers c.sort_unstable_by_key.ensures.permutation order (subst P (sym c.sort_unstable_by_key.ensures.capacity) c.list_pairs.ensures.has_capacity)
